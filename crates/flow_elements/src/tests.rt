@@ -73,3 +73,12 @@ fn names(rt: HostRuntime) {
     );
     assert_eq!(rt; element_type(listed(58)), ElementType::Unsigned(Width::Two));
 }
+
+#[test]
+fn items(rt: HostRuntime) -> Result<(), Fail> {
+    let items = Items::from_vec(vec![in rt.alloc(); 1u8, 2, 3]?);
+    assert_eq!(rt; items.len(), 3);
+    assert!(rt; !items.is_empty());
+    assert_eq!(rt; items.into_vec().len(), 3);
+    Ok(())
+}
