@@ -1,0 +1,6 @@
+pub mod Cause
+pub mod Disk
+pub mod Files
+pub mod Laws
+pub mod Moments
+pub mod Printed

@@ -1,0 +1,20 @@
+-- What a stop may have left since a moment, and how it grows as calls run.
+use Rattle.std.specs.Prelude.{◌⊎◌, ℕ, ◌≤◌, List}
+use Rattle.flow_disk.specs.Disk.{Held, IsDiskImage}
+
+-- Time goes on: a stop since t might have left what it might have left before, or an image of `during`.
+pub record Elapses (before now : ℕ) (past since : ℕ → (ℕ → List ℕ) → Type 0) (during : ℕ → Held) : Type 0 where
+  pub later : before ≤ now
+  pub nothing_else : (t : ℕ) (image : ℕ → List ℕ) → t ≤ before → since t image → past t image ⊎ IsDiskImage during image
+  pub keeps : (t : ℕ) (image : ℕ → List ℕ) → t ≤ before → past t image → since t image
+
+-- A stop inside the call is among the moments: it might have left each image of `during`.
+abbrev pub Covers : ℕ → (ℕ → (ℕ → List ℕ) → Type 0) → (ℕ → Held) → Type 0
+Covers before since during = (t : ℕ) (image : ℕ → List ℕ) → t ≤ before → IsDiskImage during image → since t image
+
+-- A stop at any moment since old leaves what has P.
+pub record LeavesOnly {D : Type 0} (moment : D → ℕ) (left_since : D → ℕ → (ℕ → List ℕ) → Type 0) (old new : D) (P : (ℕ → List ℕ) → Type 0) : Type 0 where
+  pub later : moment old ≤ moment new
+  pub each : (image : ℕ → List ℕ) → left_since new (moment old) image → P image
+  -- for a run that began earlier
+  pub before : (t : ℕ) (image : ℕ → List ℕ) → t ≤ moment old → left_since new t image → left_since old t image ⊎ P image
