@@ -43,6 +43,7 @@ pub trait Disk: Drop {
         ensures marks { (n : ℕ) → n ≢ file → marks self.new n ≡ marks self.old n }
         ensures settled { (marks self.new file).settled ≡ (marks self.old file).settled }
         ensures frozen { (marks self.new file).frozen ≡ (marks self.old file).frozen }
+        ensures listed { (marks self.new file).listed ≡ (marks self.old file).listed }
         ensures held { IsTrue (honest self.old) → Stays (held self.old) (held self.new) }
         ensures time { IsTrue (honest self.old) → Elapses (moment self.old) (moment self.new) (left_since self.old) (left_since self.new) (held self.old) }
         ensures cause { FailsOnlyByFault (faults self.old) (faults self.new) result };
