@@ -1,0 +1,4 @@
+pub mod Gate
+pub mod Laws
+pub mod Scan
+pub mod Steps

@@ -1,0 +1,76 @@
+-- What a scan finds and tells.
+use Rattle.std.specs.Prelude.{◌≡◌, ℕ, ◌+◌, ◌≤◌, List, ◌++◌, length, get_or, map, Vec, codes, Result, Ok, Err}
+use Rattle.std.specs.Fmt.{decimal}
+use Rattle.std.specs.declared.alloc.Global.{Global}
+use Rattle.flow_disk.specs.declared.error.DiskError.{DiskError}
+use Rattle.flow_disk.specs.declared.error.DiskError.TheVariants as disk
+use Rattle.flow_gate.specs.declared.tail.Found.{Found}
+use Rattle.flow_gate.specs.declared.tail.Found.TheVariants.{Closed, Message, Damage}
+use Rattle.flow_gate.specs.declared.tail.Tail.{Tail}
+use Rattle.flow_gate.specs.declared.tail.ScanError.{ScanError}
+use Rattle.flow_gate.specs.declared.tail.ScanError.TheVariants.{Damaged, Fault, OutOfMemory}
+use Rattle.flow_gate.specs.Gate.{IsClosedAt, IsFaultyAt, IsGated, IsDamaged, length_field, octets_of}
+
+-- the octets of each message
+abbrev pub texts : List (Vec ℕ Global) → List (List ℕ)
+texts messages = map (λ (message : Vec ℕ Global). message.items) messages
+
+-- The list that stands from a place on, and where it ends.
+pub record IsTail (octets : List ℕ) (from end : ℕ) (messages : List (Vec ℕ Global)) : Type 0 where
+  pub gated : IsGated octets from (texts messages)
+  pub ends : end ≡ from + octets_of (texts messages)
+
+-- Damage is told of this file alone, at its place.
+abbrev pub IsTold : List ℕ → ℕ → ℕ → ScanError → Type 0
+IsTold octets file from (Damaged of at) = (of ≡ file) × IsDamaged octets from at
+IsTold octets file from Fault = Unit {0}
+IsTold octets file from OutOfMemory = Unit {0}
+
+-- Where this list stands it is given, and no damage is told.
+abbrev pub IsGiven : List (List ℕ) → ℕ → Result Tail ScanError → Type 0
+IsGiven list from (Ok tail) = (texts tail.messages.items ≡ list) × (tail.end ≡ from + octets_of list)
+IsGiven list from (Err (Damaged of at)) = ⊥
+IsGiven list from (Err Fault) = Unit {0}
+IsGiven list from (Err OutOfMemory) = Unit {0}
+
+-- Where there is damage its place is told, and no list is given.
+abbrev pub IsRefused : ℕ → ℕ → Result Tail ScanError → Type 0
+IsRefused file place (Ok tail) = ⊥
+IsRefused file place (Err (Damaged of at)) = (of ≡ file) × (at ≡ place)
+IsRefused file place (Err Fault) = Unit {0}
+IsRefused file place (Err OutOfMemory) = Unit {0}
+
+-- the same of octets that were read from place `from` on
+pub record IsTailRead (octets : List ℕ) (from end : ℕ) (messages : List (Vec ℕ Global)) : Type 0 where
+  pub gated : IsGated octets 0 (texts messages)
+  pub ends : end ≡ from + octets_of (texts messages)
+
+abbrev pub IsToldRead : List ℕ → ℕ → ℕ → ScanError → Type 0
+IsToldRead octets file from (Damaged of at) = (of ≡ file) × (place : ℕ) × (at ≡ from + place) × IsDamaged octets 0 place
+IsToldRead octets file from Fault = ⊥
+IsToldRead octets file from OutOfMemory = Unit {0}
+
+-- a message that fits, with 2 octets behind it
+pub record IsOpenAt (octets : List ℕ) (place count : ℕ) : Type 0 where
+  pub zero_octet : get_or octets place 0 ≡ 0
+  pub ten : get_or octets (place + 1) 0 ≡ 10
+  pub counted : length_field octets place ≡ count
+  pub long : 16 ≤ count
+  pub room : place + count + 2 ≤ length octets
+
+-- what stands at a place
+abbrev pub IsFoundAt : List ℕ → ℕ → Found → Type 0
+IsFoundAt octets place Closed = IsClosedAt octets place
+IsFoundAt octets place (Message count) = IsOpenAt octets place count
+IsFoundAt octets place Damage = IsFaultyAt octets place
+
+-- a disk's refusal, told of a scan
+abbrev pub scan_error : DiskError → ScanError
+scan_error disk.Fault = Fault
+scan_error disk.OutOfMemory = OutOfMemory
+
+-- how a refusal is printed: its number, its name, the file and the place
+abbrev pub printed : ScanError → List ℕ
+printed (Damaged file at) = codes "20 Damaged " ++ decimal file ++ codes " " ++ decimal at
+printed Fault = codes "30 Fault"
+printed OutOfMemory = codes "11 OutOfMemory"

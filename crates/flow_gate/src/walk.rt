@@ -1,0 +1,90 @@
+// The walk over a file's messages.
+ghost use Rattle.std.specs.Prelude.{◌≡◌, ◌≢◌, ℕ, ◌+◌, ◌^◌, ◌<◌, ◌≤◌, IsTrue, List, length, IfOk, IfErr, IsErrOf};
+ghost use Rattle.std.specs.List.{All};
+ghost use Rattle.flow_disk.specs.Disk.{IsDiskImage, Stays};
+ghost use Rattle.flow_disk.specs.Moments.{LeavesOnly};
+ghost use Rattle.flow_disk.specs.Cause.{HasRisen};
+ghost use Rattle.flow_gate.specs.Gate.{IsWhole, IsGated, IsDamaged, octets_of};
+ghost use Rattle.flow_gate.specs.Scan.{IsFoundAt, IsTail, IsTold, IsTailRead, IsToldRead, IsGiven, IsRefused, texts};
+
+use crate::tail::{Found, ScanError, Tail};
+use flow_disk::Disk;
+use std::alloc::Global;
+
+/// Reads the messages from a place on, up to a closed gate. The disk stays as it is. On an honest disk it is Ok exactly on a
+/// gated list, and tells damage at its place exactly where there is none; a `from` past the end is damage at `from`. A fault is
+/// told only where the disk's count of failures rose.
+pub fn scan<D: Disk>(alloc: Global, disk: &mut D, file: u64, from: u64) -> Result<Tail, ScanError>
+    // On every disk.
+    ensures honest { D.honest disk.new ≡ D.honest disk.old }
+    ensures clock { D.moment disk.old ≤ D.moment disk.new }
+    ensures other_marks { (n : ℕ) → n ≢ file → D.marks disk.new n ≡ D.marks disk.old n }
+    ensures settled { (D.marks disk.new file).settled ≡ (D.marks disk.old file).settled }
+    ensures frozen { (D.marks disk.new file).frozen ≡ (D.marks disk.old file).frozen }
+    ensures listed { (D.marks disk.new file).listed ≡ (D.marks disk.old file).listed }
+    ensures size { IfOk result (λ tail. tail.end + 2 ≤ (D.marks disk.new file).size) }
+    ensures ends { IfOk result (λ tail. tail.end ≡ from + octets_of (texts tail.messages.items)) }
+    ensures whole { IfOk result (λ tail. All IsWhole (texts tail.messages.items)) }
+    ensures faults { D.faults disk.old ≤ D.faults disk.new }
+    ensures cause { IsErrOf result ScanError.Fault → HasRisen (D.faults disk.old) (D.faults disk.new) }
+
+    // On an honest one.
+    ensures held { IsTrue (D.honest disk.old) → Stays (D.held disk.old) (D.held disk.new) }
+    ensures found { IsTrue (D.honest disk.old) → IfOk result (λ tail. IsTail (D.held disk.old file).reads from tail.end tail.messages.items) }
+    ensures damaged { IsTrue (D.honest disk.old) → IfErr result (λ e. IsTold (D.held disk.old file).reads file from e) }
+    ensures given { IsTrue (D.honest disk.old) → (list : List (List ℕ)) → IsGated (D.held disk.old file).reads from list → IsGiven list from result }
+    ensures refused { IsTrue (D.honest disk.old) → (at : ℕ) → IsDamaged (D.held disk.old file).reads from at → IsRefused file at result }
+    ensures any_moment { IsTrue (D.honest disk.old) → LeavesOnly D.moment D.left_since disk.old disk.new (IsDiskImage (D.held disk.old)) }
+{
+    let size = disk.length(file)?;
+    if from > size {
+        return Err(ScanError::Damaged(file, from));
+    }
+    let octets = disk.read(alloc, file, from, (size - from) as usize)?;
+    walk(alloc, &octets, file, from)
+}
+
+/// The messages of octets that were read from place `from` on.
+fn walk(alloc: Global, octets: &[u8], file: u64, from: u64) -> Result<Tail, ScanError>
+    requires { from + length octets.now < 2 ^ 64 }
+    ensures found { IfOk result (λ tail. IsTailRead octets.now from tail.end tail.messages.items) }
+    ensures told { IfErr result (λ e. IsToldRead octets.now file from e) }
+{
+    let mut messages = Vec::new(alloc);
+    let mut at = 0;
+    'messages: loop {
+        match found_at(octets, at) {
+            Found::Closed => {
+                return Ok(Tail {
+                    end: from + at as u64,
+                    messages,
+                });
+            }
+            Found::Message(count) => {
+                messages.push(octets[at..at + count].to_vec(alloc)?)?;
+                at += count;
+            }
+            Found::Damage => return Err(ScanError::Damaged(file, from + at as u64)),
+        }
+    }
+}
+
+fn found_at(octets: &[u8], at: usize) -> Found
+    ensures { IsFoundAt octets.now at result }
+{
+    if octets.len() < 2 || at > octets.len() - 2 || octets[at] != 0 {
+        return Found::Damage;
+    }
+    if octets[at + 1] != 10 {
+        return Found::Closed;
+    }
+    let left = octets.len() - at;
+    if left < 18 {
+        return Found::Damage;
+    }
+    let count = octets[at + 2] as usize * 256 + octets[at + 3] as usize;
+    if count < 16 || left - 2 < count {
+        return Found::Damage;
+    }
+    Found::Message(count)
+}
