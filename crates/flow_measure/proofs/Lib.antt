@@ -1,0 +1,9 @@
+pub mod Fitting
+pub mod Gathering
+pub mod Intervals
+pub mod Keys
+pub mod Merging
+pub mod Putting
+pub mod SumLaws
+pub mod Viewing
+pub mod Widening

@@ -1,0 +1,22 @@
+//! Laws of sums.
+
+ghost use Rattle.std.specs.Prelude.{◌≡◌, ℕ, ◌<◌, ◌%◌, List, ◌++◌, Option, map, filter};
+ghost use Rattle.std.specs.FinMap as finite;
+ghost use Rattle.flow_measure.specs.declared.flow.Flow.{Flow};
+ghost use Rattle.flow_measure.specs.declared.rows.Key.{Key};
+ghost use Rattle.flow_measure.specs.Sums.{sums_by, table_of, merged, widened, key_of, is_key, counted, some_total};
+
+/// The sums of flows have at each key the sum of the flows of that key, and nothing where there are none.
+pub fn sums_at_a_key()
+    ensures { (width : ℕ) (flows : List Flow) (key : Key) → finite.get (sums_by width flows) key ≡ some_total (map counted (filter (λ f. is_key key (key_of width f)) flows)) }
+{}
+
+/// The sums of some flows and those of others, merged, are the sums of all of them.
+pub fn merging()
+    ensures { (width : ℕ) (flows more : List Flow) → merged (table_of width flows) (table_of width more) ≡ table_of width (flows ++ more) }
+{}
+
+/// The sums of flows by a width, widened, are their sums by the wide width.
+pub fn widening()
+    ensures { (width wide : ℕ) (flows : List Flow) → 0 < width → wide % width ≡ 0 → widened wide (table_of width flows) ≡ table_of wide flows }
+{}
