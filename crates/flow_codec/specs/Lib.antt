@@ -1,0 +1,11 @@
+pub mod Layout
+pub mod Templates
+pub mod Working
+pub mod Fields
+pub mod Raw
+pub mod Plan
+pub mod Message
+pub mod Fault
+pub mod Reading
+pub mod Extent
+pub mod Walk

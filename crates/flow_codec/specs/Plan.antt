@@ -1,0 +1,97 @@
+-- What a definition's plan tells of each record before it is read.
+use Rattle.std.specs.Prelude.{◌≡◌, ℕ, ◌+◌, Bool, true, false, List, [], ◌∷◌, ◌++◌, length, take, drop, Option, Some, None, Result, Ok, Err, ◌&&◌, ◌==◌, nat_le, nat_lt, sum_by, if◌then◌else◌}
+use Rattle.std.specs.List.{flat_map, list_all}
+use Rattle.std.specs.Option.{is_none}
+use Rattle.flow_elements.specs.declared.element.ElementId.{ElementId}
+use Rattle.flow_codec.specs.declared.plan.Role.{Role}
+use Rattle.flow_codec.specs.declared.plan.Role.TheVariants.{Octets, Packets, Protocol, Seconds, Milliseconds}
+use Rattle.flow_codec.specs.declared.plan.Step.{Step}
+use Rattle.flow_codec.specs.declared.plan.Step.TheVariants.{Skip, Fixed, Variable}
+use Rattle.flow_codec.specs.declared.plan.Plan.{Plan}
+use Rattle.flow_codec.specs.declared.message.Field.{Field}
+use Rattle.flow_codec.specs.Layout.{least}
+use Rattle.flow_codec.specs.Fields.{value_of}
+
+-- the number of the element of a role, and the lengths in which it counts
+abbrev pub number_of : Role → ℕ
+number_of Octets = 1
+number_of Packets = 2
+number_of Protocol = 4
+number_of Seconds = 150
+number_of Milliseconds = 152
+
+abbrev pub least_of : Role → ℕ
+least_of Octets = 1
+least_of Packets = 1
+least_of Protocol = 1
+least_of Seconds = 4
+least_of Milliseconds = 8
+
+abbrev pub most_of : Role → ℕ
+most_of Octets = 8
+most_of Packets = 8
+most_of Protocol = 1
+most_of Seconds = 4
+most_of Milliseconds = 8
+
+-- a length in which an element of a role counts
+abbrev pub is_counted : Role → ℕ → Bool
+is_counted role len = nat_le (least_of role) len && nat_le len (most_of role)
+
+-- the role of an element, by IANA's numbers alone
+abbrev pub role_of : ElementId → Option Role
+role_of id = if is_none id.enterprise then (
+    if id.number == 1 then Some Octets else if id.number == 2 then Some Packets else if id.number == 4 then Some Protocol else
+    if id.number == 150 then Some Seconds else if id.number == 152 then Some Milliseconds else None) else None
+
+-- a field's value, where it counts
+abbrev pub counting : Option Role → List ℕ → List (Role × List ℕ)
+counting None value = []
+counting (Some role) value = if is_counted role (length value) then (role, value) ∷ [] else []
+
+-- the values that count among these fields, in their order
+abbrev pub values_of : List Field → List (Role × List ℕ)
+values_of fields = flat_map (λ x. counting (role_of x.id) x.octets) fields
+
+-- ---- the steps of a plan
+
+-- a skip of octets, where there is one
+abbrev pub skip_of : Option ℕ → List Step
+skip_of None = []
+skip_of (Some count) = Skip count ∷ []
+
+-- fixed octets that count for nothing, in front of steps
+abbrev pub skipped : ℕ → List Step → List Step
+skipped count [] = Skip count ∷ []
+skipped count (Skip more ∷ steps) = Skip (count + more) ∷ steps
+skipped count (Fixed role len ∷ steps) = Skip count ∷ Fixed role len ∷ steps
+skipped count (Variable role ∷ steps) = Skip count ∷ Variable role ∷ steps
+
+-- a step in front of steps: skips that meet are one
+abbrev pub before_steps : Step → List Step → List Step
+before_steps (Skip count) steps = skipped count steps
+before_steps (Fixed role len) steps = Fixed role len ∷ steps
+before_steps (Variable role) steps = Variable role ∷ steps
+
+abbrev pub fixed_step : Option Role → ℕ → Step
+fixed_step None len = Skip len
+fixed_step (Some role) len = if is_counted role len then Fixed role len else Skip len
+
+-- the step over a field
+abbrev pub step_of : ElementId → ℕ → Step
+step_of id len = if len == 65535 then Variable (role_of id) else fixed_step (role_of id) len
+
+unfoldable pub steps_of : List (ElementId × ℕ) → List Step
+steps_of [] = []
+steps_of (f ∷ fs) = before_steps (step_of f.0 f.1) (steps_of fs)
+
+abbrev pub plan_of : List (ElementId × ℕ) → Plan
+plan_of fields = record { smallest = sum_by (λ f. least f.1) fields; is_fixed = list_all (λ f. nat_lt f.1 65535) fields; steps = steps_of fields }
+
+-- ---- what the steps tell of a record
+
+unfoldable pub values_by : List Step → List ℕ → List (Role × List ℕ)
+values_by [] octets = []
+values_by (Skip count ∷ steps) octets = values_by steps (drop count octets)
+values_by (Fixed role count ∷ steps) octets = (role, take count octets) ∷ values_by steps (drop count octets)
+values_by (Variable role ∷ steps) octets = counting role (value_of 65535 octets).0 ++ values_by steps (value_of 65535 octets).1

@@ -1,0 +1,147 @@
+//! What is known of every record of a definition before it is read.
+
+ghost use Rattle.std.specs.Prelude.{◌≡◌, ◌<◌, ◌^◌, ◌++◌, length, sum_by, nat_lt, IfOk, OnOk};
+ghost use Rattle.std.specs.List.{list_all};
+ghost use Rattle.flow_codec.specs.Layout.{least};
+ghost use Rattle.flow_codec.specs.Plan.{role_of, is_counted, step_of, skip_of, steps_of, plan_of};
+
+use flow_elements::{ElementId, Items};
+use std::alloc::{AllocError, Global};
+
+/// The Field Length of a field of variable length.
+pub(crate) const VARIABLE: u16 = 65535;
+
+/// What a field is counted as in a flow: IANA's elements 1, 2, 4, 150 and 152 (RFC 7012).
+#[derive(Clone, Copy, Debug, PartialEq, Eq)]
+pub enum Role {
+    Octets,
+    Packets,
+    Protocol,
+    Seconds,
+    Milliseconds,
+}
+
+/// One step over the fields of a record.
+#[derive(Clone, Copy, Debug, PartialEq, Eq)]
+pub enum Step {
+    /// Fields of fixed lengths that count for nothing, by the octets of all of them.
+    Skip(usize),
+    /// A field of fixed length that counts, and its octets.
+    Fixed(Role, u16),
+    /// A field of variable length.
+    Variable(Option<Role>),
+}
+
+/// How each record of a definition is stepped over: no step but the skips is one of no octets, and no two skips are neighbours.
+#[derive(Clone, Debug, Drop)]
+pub struct Plan {
+    pub smallest: usize,
+    pub is_fixed: bool,
+    pub steps: Items<Step>,
+}
+
+impl Role {
+    /// The role of an element, by IANA's numbers alone.
+    pub fn of(id: &ElementId) -> Option<Role>
+        ensures { result ≡ role_of id.now }
+    {
+        if id.enterprise.is_some() {
+            return None;
+        }
+        match id.number {
+            1 => Some(Role::Octets),
+            2 => Some(Role::Packets),
+            4 => Some(Role::Protocol),
+            150 => Some(Role::Seconds),
+            152 => Some(Role::Milliseconds),
+            _ => None,
+        }
+    }
+
+    /// Whether an element of this role counts in a length, in octets.
+    pub fn is_counted(self, len: usize) -> bool
+        ensures { result ≡ is_counted self len }
+    {
+        match self {
+            Role::Octets | Role::Packets => 1 <= len && len <= 8,
+            Role::Protocol => len == 1,
+            Role::Seconds => len == 4,
+            Role::Milliseconds => len == 8,
+        }
+    }
+}
+
+/// The step over a field.
+fn step_of(id: &ElementId, len: u16) -> Step
+    ensures { result ≡ step_of id.now len }
+{
+    let role = Role::of(id);
+    if len == VARIABLE {
+        return Step::Variable(role);
+    }
+    match role {
+        Some(role) if role.is_counted(len as usize) => Step::Fixed(role, len),
+        _ => Step::Skip(len as usize),
+    }
+}
+
+/// Puts a skip of these octets behind the steps.
+fn push_skip(steps: &mut Vec<Step>, skipped: Option<usize>) -> Result<(), AllocError>
+    ensures { OnOk result (steps.new.items ≡ steps.old.items ++ skip_of skipped) }
+{
+    if let Some(count) = skipped {
+        steps.push(Step::Skip(count))?;
+    }
+    Ok(())
+}
+
+/// The steps over a record of these fields.
+fn steps_of(alloc: Global, fields: &[(ElementId, u16)]) -> Result<Vec<Step>, AllocError>
+    requires { length fields.now < 2 ^ 16 }
+    ensures { IfOk result (λ steps. steps.items ≡ steps_of fields.now) }
+{
+    let mut steps: Vec<Step> = Vec::new(alloc);
+    let mut skipped: Option<usize> = None;
+    for (id, len) in fields {
+        match step_of(id, *len) {
+            Step::Skip(count) => skipped = Some(skipped.unwrap_or(0) + count),
+            step => {
+                push_skip(&mut steps, skipped.take())?;
+                steps.push(step)?;
+            }
+        }
+    }
+    push_skip(&mut steps, skipped)?;
+    Ok(steps)
+}
+
+/// The octets of the smallest record of these fields.
+fn smallest_of(fields: &[(ElementId, u16)]) -> usize
+    requires { length fields.now < 2 ^ 16 }
+    ensures { result ≡ sum_by (λ f. least f.1) fields.now }
+{
+    let mut octets = 0;
+    for (_, len) in fields {
+        octets += if *len == VARIABLE { 1 } else { *len as usize };
+    }
+    octets
+}
+
+/// Whether no field is of variable length.
+fn are_fixed(fields: &[(ElementId, u16)]) -> bool
+    ensures { result ≡ list_all (λ f. nat_lt f.1 65535) fields.now }
+{
+    fields.iter().all(|(_, len)| *len < VARIABLE)
+}
+
+/// The plan of a definition's fields.
+pub(crate) fn plan_of(alloc: Global, fields: &[(ElementId, u16)]) -> Result<Plan, AllocError>
+    requires { length fields.now < 2 ^ 16 }
+    ensures { IfOk result (λ plan. plan ≡ plan_of fields.now) }
+{
+    Ok(Plan {
+        smallest: smallest_of(fields),
+        is_fixed: are_fixed(fields),
+        steps: Items::from_vec(steps_of(alloc, fields)?),
+    })
+}

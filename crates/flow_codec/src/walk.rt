@@ -1,0 +1,333 @@
+//! The walk over a message, from left to right: its data records go to a sink, its template records are applied.
+
+ghost use Rattle.std.specs.Prelude.{◌⊎◌, ◌≡◌, ◌+◌, ◌≤◌, ◌<◌, length, List, OnErr, IfOk, IfErr};
+ghost use Rattle.flow_codec.specs.Layout.{smallest};
+ghost use Rattle.flow_codec.specs.Raw.{RawRecord, RawMessage, Took, IsWhole};
+ghost use Rattle.flow_codec.specs.Templates.{AllTemplates};
+ghost use Rattle.flow_codec.specs.Working.{current};
+ghost use Rattle.flow_codec.specs.Reading.{Gives, Feeds, FeedsAlone, IsRefused, IsWalked, octets_at, counted_at, extent_at, records_of, content_at, kind_of, set_at, sets_at, header_at, message_at};
+ghost use Rattle.flow_codec.specs.Extent.{step_at, extent_by};
+ghost use Rattle.flow_codec.specs.Message.{IsAccepted};
+ghost use Rattle.flow_codec.specs.Fault.{IsFault};
+ghost use Rattle.flow_codec.specs.Walk.{IsWalkedBy, IsWalkOf, IsStopped, IsJudgementOf};
+
+use crate::count::Count;
+use crate::error::MessageError;
+use crate::kind::TemplateKind;
+use crate::message::Header;
+use crate::numbers::{u16_at, u32_at};
+use crate::plan::Step;
+use crate::sink::{RecordSink, WalkError};
+use crate::templates::{Definition, Templates};
+use crate::working::{Changed, find_in, keep_limits, put_in, templates_of};
+use std::alloc::Global;
+
+/// The octets of a message header.
+const HEADER: usize = 16;
+
+/// The version of IPFIX (RFC 7011, section 3.1).
+const VERSION: u16 = 10;
+
+/// The least ID of a Set of data records.
+const FIRST_DATA_SET: u16 = 256;
+
+/// The octets of a field of fixed length in the record at `at`, by their count.
+fn octets_of(at: usize, len: usize, octets: &[u8]) -> Result<(&[u8], &[u8]), MessageError>
+    ensures { Gives (λ x. (x.0.now, x.1.now)) result (octets_at at len octets.now) }
+{
+    if octets.len() < len {
+        return Err(MessageError::RecordCut(at));
+    }
+    Ok(octets.split_at(len))
+}
+
+/// The octets of a field of variable length with its length octets, in the record at `at` (RFC 7011, section 7), and those behind it.
+#[tactic(auto, unfolding(crate::specs::Reading::counted_at))]
+fn counted_of(at: usize, octets: &[u8]) -> Result<(&[u8], &[u8]), MessageError>
+    ensures { Gives (λ x. (x.0.now, x.1.now)) result (counted_at at octets.now) }
+{
+    let cut = MessageError::RecordCut(at);
+    let [first, rest @ ..] = octets else {
+        return Err(cut);
+    };
+    if *first < 255 {
+        return octets_of(at, 1 + *first as usize, octets);
+    }
+    let (len, _) = u16_at(cut, rest)?;
+    octets_of(at, 3 + len as usize, octets)
+}
+
+/// The octets that one step passes over in the record at `at`, and those behind them.
+fn step_over<'a>(
+    at: usize,
+    step: &Step,
+    octets: &'a [u8],
+) -> Result<(&'a [u8], &'a [u8]), MessageError>
+    ensures { Gives (λ x. (x.0.now, x.1.now)) result (step_at at step.now octets.now) }
+{
+    match step {
+        Step::Skip(count) => octets_of(at, *count, octets),
+        Step::Fixed(_, len) => octets_of(at, *len as usize, octets),
+        Step::Variable(_) => counted_of(at, octets),
+    }
+}
+
+/// The octets that these steps pass over in the record at `at`, and those behind them.
+fn stepped_over<'a>(
+    at: usize,
+    steps: &[Step],
+    octets: &'a [u8],
+) -> Result<(&'a [u8], &'a [u8]), MessageError>
+    ensures { Gives (λ x. (x.0.now, x.1.now)) result (extent_by at steps.now octets.now) }
+{
+    let mut rest = octets;
+    for step in steps {
+        let (_, after) = step_over(at, step, rest)?;
+        rest = after;
+    }
+    Ok(octets.split_at(octets.len() - rest.len()))
+}
+
+/// The octets of the whole record at `at`, and those behind it.
+fn extent_of<'a>(
+    at: usize,
+    definition: &Definition,
+    octets: &'a [u8],
+) -> Result<(&'a [u8], &'a [u8]), MessageError>
+    ensures exact { Gives (λ x. (x.0.now, x.1.now)) result (extent_at at definition.now.fields octets.now) }
+    ensures whole { IfOk result (λ x. IsWhole definition.now x.0.now × (length x.0.now + length x.1.now ≡ length octets.now) × (smallest definition.now ≤ length x.0.now)) }
+{
+    let plan = definition.plan();
+    if plan.is_fixed {
+        return octets_of(at, plan.smallest, octets);
+    }
+    stepped_over(at, plan.steps.as_slice(), octets)
+}
+
+/// Hands the records of a Set that ends at `end` to a sink; what is left of it is padding.
+fn records_of<S: RecordSink>(
+    end: usize,
+    header: &Header,
+    id: u16,
+    definition: &Definition,
+    octets: &[u8],
+    sink: &mut S,
+) -> Result<(), WalkError<S::Error>>
+    requires { length octets.now ≤ end }
+    ensures { FeedsAlone (λ records. Took S.holds header.now sink.old records sink.new × (length records ≤ length octets.now)) (IsRefused S.holds S.refuses header.now sink.old (length octets.now)) result (records_of end id definition.now octets.now) }
+{
+    let smallest = definition.plan().smallest;
+    if smallest == 0 {
+        return Ok(());
+    }
+    let mut rest = octets;
+    while rest.len() >= smallest {
+        let (whole, after) = extent_of(end - rest.len(), definition, rest)?;
+        if let Err(e) = sink.record(header, id, definition, whole) {
+            return Err(WalkError::Sink(e));
+        }
+        rest = after;
+    }
+    Ok(())
+}
+
+/// The kind of template records in Sets of this ID.
+fn kind_of(id: u16) -> Option<TemplateKind>
+    ensures { result ≡ kind_of id }
+{
+    match id {
+        2 => Some(TemplateKind::Plain),
+        3 => Some(TemplateKind::Options),
+        _ => None,
+    }
+}
+
+/// Hands the records of a Set that ends at `end` to a sink, or applies its template records.
+#[tactic(auto, unfolding(crate::specs::Reading::content_at, crate::specs::Reading::data_at))]
+fn content_of<S: RecordSink>(
+    alloc: Global,
+    end: usize,
+    before: &Templates,
+    header: &Header,
+    id: u16,
+    changed: &mut Option<Changed>,
+    octets: &[u8],
+    sink: &mut S,
+) -> Result<(), WalkError<S::Error>>
+    requires { length octets.now ≤ end }
+    ensures { Feeds (λ records. Took S.holds header.now sink.old records sink.new × (length records ≤ length octets.now)) (IsRefused S.holds S.refuses header.now sink.old (length octets.now)) (λ _. current header.now.domain before.now changed.new) result (content_at end header.now.domain id (current header.now.domain before.now changed.old) octets.now) }
+{
+    if let Some(kind) = kind_of(id) {
+        templates_of(alloc, end, before, header.domain, kind, changed, octets)?;
+        return Ok(());
+    }
+    if id < FIRST_DATA_SET {
+        return Ok(());
+    }
+    match find_in(before, header.domain, changed, id) {
+        None => Ok(()),
+        Some(definition) => records_of(end, header, id, definition, octets, sink),
+    }
+}
+
+/// The Set at `at`: its ID, what stands in it, and the octets behind it.
+#[tactic(auto, unfolding(crate::specs::Reading::set_at))]
+fn set_of(at: usize, octets: &[u8]) -> Result<(u16, &[u8], &[u8]), MessageError>
+    ensures exact { Gives (λ x. (x.0, x.1.now, x.2.now)) result (set_at at octets.now) }
+    ensures len { IfOk result (λ x. length x.1.now + length x.2.now + 4 ≡ length octets.now) }
+{
+    let cut = MessageError::SetLength(at);
+    let (id, rest) = u16_at(cut, octets)?;
+    let (len, rest) = u16_at(cut, rest)?;
+    let len = len as usize;
+    if len < 4 || octets.len() < len {
+        return Err(cut);
+    }
+    let (content, after) = rest.split_at(len - 4);
+    Ok((id, content, after))
+}
+
+/// Hands the records of all Sets to a sink, and applies their template records.
+fn sets_of<S: RecordSink>(
+    alloc: Global,
+    end: usize,
+    before: &Templates,
+    header: &Header,
+    changed: &mut Option<Changed>,
+    octets: &[u8],
+    sink: &mut S,
+) -> Result<(), WalkError<S::Error>>
+    requires { length octets.now ≤ end }
+    ensures { Feeds (λ records. Took S.holds header.now sink.old records sink.new × (length records ≤ length octets.now)) (IsRefused S.holds S.refuses header.now sink.old (length octets.now)) (λ _. current header.now.domain before.now changed.new) result (sets_at (length octets.now) end header.now.domain (current header.now.domain before.now changed.old) octets.now) }
+{
+    let mut rest = octets;
+    while !rest.is_empty() {
+        let (id, content, after) = set_of(end - rest.len(), rest)?;
+        content_of(
+            alloc,
+            end - after.len(),
+            before,
+            header,
+            id,
+            changed,
+            content,
+            sink,
+        )?;
+        rest = after;
+    }
+    Ok(())
+}
+
+/// The header of a message that these octets are, and the octets behind it.
+#[tactic(auto, unfolding(crate::specs::Reading::header_at))]
+fn header_of(octets: &[u8]) -> Result<(Header, &[u8]), MessageError>
+    ensures exact { Gives (λ x. (x.0, x.1.now)) result (header_at octets.now) }
+    ensures len { IfOk result (λ x. length x.1.now ≤ length octets.now) }
+{
+    if octets.len() < HEADER {
+        return Err(MessageError::Short);
+    }
+    let cut = MessageError::Short;
+    let (version, rest) = u16_at(cut, octets)?;
+    if version != VERSION {
+        return Err(MessageError::Version);
+    }
+    let (length, rest) = u16_at(cut, rest)?;
+    if length as usize != octets.len() {
+        return Err(MessageError::Length);
+    }
+    let (time, rest) = u32_at(cut, rest)?;
+    let (sequence, rest) = u32_at(cut, rest)?;
+    let (domain, rest) = u32_at(cut, rest)?;
+    let header = Header {
+        length,
+        time,
+        sequence,
+        domain,
+    };
+    Ok((header, rest))
+}
+
+/// Hands a message's data records to a sink. It gives the header, and what the message changes in the templates, which keep to their limits.
+fn divided<S: RecordSink>(
+    templates: &Templates,
+    alloc: Global,
+    octets: &[u8],
+    sink: &mut S,
+) -> Result<(Header, Option<Changed>), WalkError<S::Error>>
+    ensures { IsWalked S.holds (λ header. IsRefused S.holds S.refuses header sink.old (length octets.now)) (λ x. (x.0, current x.0.domain templates.now x.1)) sink.old sink.new result (message_at templates.now octets.now) }
+{
+    let (header, rest) = header_of(octets)?;
+    let mut changed = None;
+    sets_of(
+        alloc,
+        octets.len(),
+        templates,
+        &header,
+        &mut changed,
+        rest,
+        sink,
+    )?;
+    keep_limits(templates, &header, &changed)?;
+    Ok((header, changed))
+}
+
+fn message_of<S: RecordSink>(
+    templates: &mut Templates,
+    alloc: Global,
+    octets: &[u8],
+    sink: &mut S,
+) -> Result<Header, WalkError<S::Error>>
+    ensures exact { IsWalked S.holds (λ header. IsRefused S.holds S.refuses header sink.old (length octets.now)) (λ header. (header, templates.new)) sink.old sink.new result (message_at templates.old octets.now) }
+    ensures err { OnErr result (templates.new ≡ templates.old) }
+{
+    templates.are_in_force();
+    let (header, changed) = divided(templates, alloc, octets, sink)?;
+    if put_in(templates, header.domain, changed).is_err() {
+        return Err(WalkError::Message(MessageError::OutOfMemory));
+    }
+    Ok(header)
+}
+
+/// Hands a message's data records to a sink, in order, and takes its templates in. An `Err` leaves the templates as they were.
+///
+/// It takes time in proportion to the message's octets and, where it has template records, to those of its own domain's templates.
+pub fn walk_message<S: RecordSink>(
+    templates: &mut Templates,
+    alloc: Global,
+    octets: &[u8],
+    sink: &mut S,
+) -> Result<Header, WalkError<S::Error>>
+    // What is walked is an accepted message; its templates are taken in, and the sink took its records.
+    ensures found { IfOk result (λ header. IsWalkedBy S.holds octets.now templates.old templates.new sink.old sink.new header) }
+    // An accepted message is walked, unless memory runs out or the sink refuses a record.
+    ensures only { (m : RawMessage) (after : AllTemplates) → IsAccepted octets.now templates.old m after → IsWalkOf S.holds S.refuses (length octets.now) templates.new sink.old sink.new result m after }
+    // Other octets are refused by their first fault, or by the sink before it.
+    ensures fault { IfErr result (λ e. IsStopped S.holds S.refuses octets.now templates.old sink.old e) }
+    ensures err { OnErr result (templates.new ≡ templates.old) }
+{
+    message_of(templates, alloc, octets, sink)
+}
+
+/// Whether the octets are a message under these templates: its header, and no change.
+///
+/// It takes time in proportion to the message's octets and, where it has template records, to those of its own domain's templates.
+pub fn judge_message(
+    templates: &Templates,
+    alloc: Global,
+    octets: &[u8],
+) -> Result<Header, MessageError>
+    // What is accepted is a message within the limits.
+    ensures found { IfOk result (λ header. (records : List RawRecord) × (after : AllTemplates) × IsAccepted octets.now templates.now (record { header = header; records = records }) after) }
+    // A message is accepted, unless memory runs out.
+    ensures only { (m : RawMessage) (after : AllTemplates) → IsAccepted octets.now templates.now m after → IsJudgementOf result m }
+    // Other octets are refused by their first fault.
+    ensures fault { IfErr result (λ e. (e ≡ MessageError.OutOfMemory) ⊎ IsFault octets.now templates.now e) }
+{
+    let mut count = Count { records: 0 };
+    match divided(templates, alloc, octets, &mut count) {
+        Ok((header, _)) => Ok(header),
+        Err(WalkError::Message(fault)) => Err(fault),
+        Err(WalkError::Sink(never)) => match never {},
+    }
+}
