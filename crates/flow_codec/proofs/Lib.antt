@@ -26,3 +26,7 @@ pub mod FaultLaws
 pub mod Walking
 pub mod Kept
 pub mod KeyLaws
+pub mod FieldLoop
+pub mod Interpreting
+pub mod ChangeLaws
+pub mod Sizes

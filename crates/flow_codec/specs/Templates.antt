@@ -1,5 +1,5 @@
 -- The templates in force, as lists of domains and of definitions, and what a template record changes.
-use Rattle.std.specs.Prelude.{◌≡◌, ℕ, ◌+◌, ◌<◌, ◌≤◌, ◌^◌, List, [], ◌∷◌, ◌++◌, Option, Some, None, nat_eq, unwrap_or, Bool, true, false, ◌&&◌, ◌==◌, length, sum_by, if◌then◌else◌}
+use Rattle.std.specs.Prelude.{◌≡◌, ℕ, ◌+◌, ◌<◌, ◌≤◌, ◌^◌, List, [], ◌∷◌, ◌++◌, Option, Some, None, nat_eq, unwrap_or, Bool, true, false, not, ◌&&◌, ◌==◌, length, sum_by, if◌then◌else◌}
 use Rattle.std.specs.List.{AllByRecursion}
 use Rattle.std.specs.Int.{w16, to_be_bytes}
 use Rattle.std.specs.Map.{lookup}
@@ -43,6 +43,16 @@ changed Plain WithdrawAll here = record { templates = []; options = here.options
 changed Options (Define id layout) here = record { templates = without id here.templates; options = insert_entry nat_eq here.options id layout }
 changed Options (Withdraw id) here = record { templates = here.templates; options = without id here.options }
 changed Options WithdrawAll here = record { templates = here.templates; options = [] }
+
+-- a definition of this kind
+abbrev pub is_own : TemplateKind → Layout → Bool
+is_own Plain layout = not layout.options
+is_own Options layout = layout.options
+
+-- what a withdrawal leaves: a definition of the other kind stays
+abbrev pub unless_own : TemplateKind → Option Layout → Option Layout
+unless_own kind None = None
+unless_own kind (Some layout) = if is_own kind layout then None else Some layout
 
 -- A domain without definitions leaves the list at once; one with its first goes to the end.
 abbrev pub with_domain : ℕ → DomainTemplates → AllTemplates → AllTemplates

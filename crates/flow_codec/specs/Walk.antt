@@ -31,3 +31,8 @@ IsStopped holds refuses octets before old (Sink e) = (header : Header) × IsRefu
 abbrev pub IsJudgementOf : Result Header MessageError → RawMessage → Type 0
 IsJudgementOf (Ok header) m = header ≡ m.header
 IsJudgementOf (Err e) m = e ≡ OutOfMemory
+
+-- A fault stays what it is, and a sink that refuses for want of memory alone gives OutOfMemory.
+abbrev pub IsFaultOf : {E : Type 0} → WalkError E → MessageError → Type 0
+IsFaultOf (Message fault) e = e ≡ fault
+IsFaultOf (Sink refusal) e = e ≡ OutOfMemory

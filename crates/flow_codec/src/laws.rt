@@ -1,18 +1,22 @@
 //! Laws of the format: what its definitions say of all octets.
 
-ghost use Rattle.std.specs.Prelude.{◌≡◌, List, ◌++◌, ℕ};
+ghost use Rattle.std.specs.Prelude.{◌≡◌, ◌≢◌, ◌<◌, ◌≤◌, ◌+◌, ◌^◌, List, ◌++◌, length, ℕ, Some};
 ghost use Rattle.flow_elements.specs.declared.element.ElementId.{ElementId};
 ghost use Rattle.flow_codec.specs.Layout.{Layout};
 ghost use Rattle.flow_codec.specs.Fields.{AreFields, fields_in};
-ghost use Rattle.flow_codec.specs.Templates.{AllTemplates, AreTemplatesInForce};
+ghost use Rattle.flow_codec.specs.Templates.{AllTemplates, AreDefinitions, AreTemplatesInForce, IsOnce, applied, definition_of, definitions_of, unless_own};
 ghost use Rattle.flow_codec.specs.Raw.{RawMessage, IsWhole};
 ghost use Rattle.flow_codec.specs.Message.{IsAccepted};
 ghost use Rattle.flow_codec.specs.Fault.{IsFault, IsOctets, IsAnswered};
 ghost use Rattle.flow_codec.specs.declared.error.MessageError.{MessageError};
+ghost use Rattle.flow_codec.specs.declared.kind.TemplateKind.{TemplateKind};
 ghost use Rattle.flow_codec.specs.declared.message.Field.{Field};
+ghost use Rattle.flow_codec.specs.declared.templates.TemplateRecord.TheVariants.{Define, Withdraw, WithdrawAll};
+ghost use Rattle.flow_codec.specs.declared.templates.TemplateRecord.{TemplateRecord};
 
 /// Octets are one accepted message, or have one first fault, and never both.
-/// The message and the templates after it are a function of the octets and the templates before, and whatever holds of templates in force is kept.
+/// The message and the templates after it are a function of the octets and the templates before. What holds of templates in force is kept:
+/// each domain and each ID once, no domain without definitions, definitions that a template record can give, and both limits.
 pub fn one_answer()
     ensures some { (octets : List ℕ) (before : AllTemplates) → IsOctets octets → IsAnswered octets before }
     ensures one_message { (octets : List ℕ) (before after other : AllTemplates) (m n : RawMessage) → IsAccepted octets before m after → IsAccepted octets before n other → m ≡ n }
@@ -27,4 +31,25 @@ pub fn one_division()
     ensures fields { (layout : Layout) (octets : List ℕ) → IsWhole layout octets → AreFields layout.fields octets (fields_in layout.fields octets) }
     ensures one { (specifiers : List (ElementId × ℕ)) (octets : List ℕ) (xs ys : List Field) → AreFields specifiers octets xs → AreFields specifiers octets ys → xs ≡ ys }
     ensures front { (layout : Layout) (octets others rest back : List ℕ) → IsWhole layout octets → IsWhole layout others → octets ++ rest ≡ others ++ back → octets ≡ others }
+{}
+
+/// A message has fewer than 65,536 octets, one at least for each data record behind its header, and changes the templates of its own domain alone.
+pub fn message_bounds()
+    ensures size { (octets : List ℕ) (before after : AllTemplates) (m : RawMessage) → IsAccepted octets before m after → (m.header.length ≡ length octets) × (length octets < 2 ^ 16) }
+    ensures records { (octets : List ℕ) (before after : AllTemplates) (m : RawMessage) → IsAccepted octets before m after → 16 + length m.records ≤ length octets }
+    ensures domains { (octets : List ℕ) (before after : AllTemplates) (m : RawMessage) (other : ℕ) → IsAccepted octets before m after → other ≢ m.header.domain → definitions_of other after ≡ definitions_of other before }
+{}
+
+/// What a template record changes, where no domain and no ID of its domain is there twice, as they never are.
+pub fn template_changes()
+    // What is defined is in force, and other IDs are as before.
+    ensures defined { (domain id : ℕ) (kind : TemplateKind) (layout : Layout) (all : AllTemplates) → IsOnce all → AreDefinitions (definitions_of domain all) → definition_of id (definitions_of domain (applied domain kind (Define id layout) all)) ≡ Some layout }
+    ensures not_defined { (domain id other : ℕ) (kind : TemplateKind) (layout : Layout) (all : AllTemplates) → IsOnce all → other ≢ id → definition_of other (definitions_of domain (applied domain kind (Define id layout) all)) ≡ definition_of other (definitions_of domain all) }
+    // A withdrawal takes away the definition of the ID where it is of its own kind, and leaves other IDs.
+    ensures withdrawn { (domain id : ℕ) (kind : TemplateKind) (all : AllTemplates) → IsOnce all → AreDefinitions (definitions_of domain all) → definition_of id (definitions_of domain (applied domain kind (Withdraw id) all)) ≡ unless_own kind (definition_of id (definitions_of domain all)) }
+    ensures not_withdrawn { (domain id other : ℕ) (kind : TemplateKind) (all : AllTemplates) → IsOnce all → other ≢ id → definition_of other (definitions_of domain (applied domain kind (Withdraw id) all)) ≡ definition_of other (definitions_of domain all) }
+    // A withdrawal of all takes away each definition of its own kind, and no other.
+    ensures all_withdrawn { (domain id : ℕ) (kind : TemplateKind) (all : AllTemplates) → IsOnce all → AreDefinitions (definitions_of domain all) → definition_of id (definitions_of domain (applied domain kind WithdrawAll all)) ≡ unless_own kind (definition_of id (definitions_of domain all)) }
+    // Other domains keep their definitions.
+    ensures domains { (domain other : ℕ) (kind : TemplateKind) (change : TemplateRecord) (all : AllTemplates) → other ≢ domain → definitions_of other (applied domain kind change all) ≡ definitions_of other all }
 {}

@@ -3,6 +3,7 @@
 
 mod count;
 mod error;
+mod fields;
 mod kind;
 mod laws;
 mod message;
@@ -17,8 +18,9 @@ mod working;
 
 pub use count::Count;
 pub use error::MessageError;
+pub use fields::{read_message, split_field};
 pub use kind::TemplateKind;
-pub use laws::{one_answer, one_division};
+pub use laws::{message_bounds, one_answer, one_division, template_changes};
 pub use message::{DataRecord, Field, Header, Message};
 pub use plan::{Plan, Role, Step};
 pub use sink::{RecordSink, WalkError};

@@ -51,3 +51,16 @@ impl<E> From<MessageError> for WalkError<E> {
         WalkError::Message(fault)
     }
 }
+
+impl From<WalkError<AllocError>> for MessageError {
+    ghost use Rattle.flow_codec.specs.Walk.{IsFaultOf};
+
+    ghost from_gives = { λ w e. IsFaultOf w e };
+
+    fn from(stop: WalkError<AllocError>) -> Self {
+        match stop {
+            WalkError::Message(fault) => fault,
+            WalkError::Sink(_) => MessageError::OutOfMemory,
+        }
+    }
+}
