@@ -5,6 +5,7 @@ use Rattle.std.specs.List.{AllByRecursion}
 use Rattle.std.specs.Map.{lookup}
 use Rattle.std.specs.Option.{option_or}
 use Rattle.std.proofs.lemmas.Bool.{eq-eqb, eqb-true}
+use Rattle.std.proofs.lemmas.Bool.Decides.{nat_tests}
 use Rattle.indexmap.specs.IndexMap.{insert_entry, shift_remove_entry}
 use Rattle.flow_codec.specs.Templates.{IsOnce}
 use Rattle.flow_codec.proofs.Steps.{by_bool}
@@ -19,7 +20,7 @@ module _ {V : Type 0} where
   abbrev pub with_entry : List (ℕ × V) → ℕ → V → List (ℕ × V)
   with_entry es k v = insert_entry nat_eq es k v
 
-same : (k : ℕ) → nat_eq k k ≡ true
+pub same : (k : ℕ) → nat_eq k k ≡ true
 same k = eq-eqb k k refl
 
 module _ {V : Type 0} (k : ℕ) where
@@ -73,6 +74,45 @@ module _ {V : Type 0} (k : ℕ) where
         let there : x.1 ≡ v = cc in
         rw (w, ← there) refl
     | inr w ↦ let more = rw w at e in rw w (ap (λ (t : List (ℕ × V)). x ∷ t) (insert-present xs v more))
+  ]
+
+  -- ---- no number twice
+
+  found-insert-other : (q : ℕ) (es : List (ℕ × V)) (v : V) → nat_eq q k ≡ false → found q (with_entry es k v) ≡ found q es
+  found-insert-other q [] v apart = rw apart refl
+  found-insert-other q (e ∷ es) v apart = elim (by_bool (nat_eq k e.0)) [
+    | inl w ↦
+        let other : nat_eq q e.0 ≡ false = subst (λ (n : ℕ). nat_eq q n ≡ false) (eqb-true _ _ w) apart in
+        rw (w, other) refl
+    | inr w ↦ rw w (ap (cond (nat_eq q e.0) (Some e.1)) (found-insert-other q es v apart))
+  ]
+
+  found-remove-none : (q : ℕ) (es : List (ℕ × V)) → found q es ≡ None → found q (without k es) ≡ None
+  found-remove-none q [] none = refl
+  found-remove-none q (e ∷ es) none = elim (by_bool (nat_eq q e.0)) [
+    | inl t ↦ let h = rw t at none in absurd cc
+    | inr t ↦
+        let h = rw t at none in
+        elim (by_bool (nat_eq k e.0)) [
+          | inl w ↦ rw w h
+          | inr w ↦ rw (w, t) (found-remove-none q es h)
+        ]
+  ]
+
+  pub once_insert : (es : List (ℕ × V)) (v : V) → IsOnce es → IsOnce (with_entry es k v)
+  once_insert [] v once = (refl, tt)
+  once_insert (e ∷ es) v once = elim (by_bool (nat_eq k e.0)) [
+    | inl w ↦ rw w once
+    | inr w ↦
+        let apart : nat_eq e.0 k ≡ false = grind (arith, nat_tests) in
+        rw w (found-insert-other e.0 es v apart ∙ once.0, once_insert es v once.1)
+  ]
+
+  pub once_remove : (es : List (ℕ × V)) → IsOnce es → IsOnce (without k es)
+  once_remove [] once = tt
+  once_remove (e ∷ es) once = elim (by_bool (nat_eq k e.0)) [
+    | inl w ↦ rw w once.1
+    | inr w ↦ rw w (found-remove-none e.0 es once.0, once_remove es once.1)
   ]
 
   -- ---- lengths

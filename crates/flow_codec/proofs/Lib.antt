@@ -30,3 +30,8 @@ pub mod FieldLoop
 pub mod Interpreting
 pub mod ChangeLaws
 pub mod Sizes
+pub mod SlotLaws
+pub mod Dividing
+pub mod Fronts
+pub mod Streaming
+pub mod Following

@@ -61,6 +61,10 @@ module _ (d : ℕ) (all : AllTemplates) (once : IsOnce all) where
   pub put_none_length : (left : Bool) (here : DomainTemplates) → is_empty here ≡ true → length (put_back d left here all) ≤ length all
   put_none_length left here w = rw (put_none left here w) (length-remove d all)
 
+  -- a domain without definitions is taken out
+  pub taken_out : (left : Bool) (here : DomainTemplates) (now new : AllTemplates) → is_empty here ≡ true → all ≡ now → new ≡ without d all → new ≡ put_back d left here now
+  taken_out left here now new w same is = is ∙ sym (put_none left here w) ∙ ap (put_back d left here) same
+
   module _ (kind : TemplateKind) (change : TemplateRecord) where
     -- over definitions that stand
     over : (base : AllTemplates) (here : DomainTemplates) → is_empty here ≡ false → applied d kind change (with_domain d here base) ≡ with_domain d (changed kind change here) base

@@ -9,3 +9,7 @@ pub mod Fault
 pub mod Reading
 pub mod Extent
 pub mod Walk
+pub mod Slots
+pub mod Cutting
+pub mod File
+pub mod Stream

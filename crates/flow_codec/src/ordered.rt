@@ -2,12 +2,10 @@
 
 ghost use Rattle.std.specs.Prelude.{◌≡◌, OnOk, OnErr, IfOk, [], length, ◌==◌};
 ghost use Rattle.indexmap.specs.IndexMap.{insert_entry, shift_remove_entry};
-ghost use Rattle.std.specs.Map.{lookup, values_of};
-ghost use Rattle.std.specs.Map.Iter.{ShowsInOrder, deref};
+ghost use Rattle.std.specs.Map.{lookup};
 ghost use Rattle.std.specs.Option.{option_copied};
 
 use indexmap::IndexMap;
-use indexmap::map::Values;
 use std::alloc::{AllocError, AllocFailed, Global};
 use std::hash::Hash;
 use std::marker::Model;
@@ -70,20 +68,6 @@ impl<K: Eq + Hash + Drop, V: Drop> Ordered<K, V> {
         ensures { result ≡ length self.now }
     {
         self.map.len()
-    }
-
-    /// The values, in the entries' order.
-    pub fn values(&self) -> Values<'_, K, V>
-        ensures rest { result ≡ values_of self.now }
-        ensures runs { ShowsInOrder (deref {X = V}) }
-    {
-        self.map.values()
-    }
-
-    pub fn clear(&mut self)
-        ensures { self.new ≡ [] }
-    {
-        self.map.clear();
     }
 
     pub fn take(&mut self, key: &K)

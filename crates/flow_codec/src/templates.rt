@@ -4,12 +4,13 @@ ghost use Rattle.std.specs.Prelude.{◌≡◌, false, [], OnOk, OnErr, IfOk, ◌
 ghost use Rattle.std.specs.Option.{option_copied};
 ghost use Rattle.flow_codec.specs.Layout.{Layout, IsLayout, is_options, definition_size};
 ghost use Rattle.flow_codec.specs.Plan.{plan_of};
-ghost use Rattle.flow_codec.specs.Templates.{changed, definition_of, definitions_of, domain_size, entries_size, is_empty, no_definitions, AreTemplatesInForce};
+ghost use Rattle.flow_codec.specs.Templates.{changed, definition_of, definitions_of, domain_size, is_empty, no_definitions, AreTemplatesInForce};
 ghost use Rattle.flow_codec.specs.Working.{put_back};
 ghost use Rattle.std.specs.Prelude.{nat_eq};
 ghost use Rattle.indexmap.specs.IndexMap.{insert_entry};
 ghost use Rattle.flow_codec.specs.declared.templates.DomainTemplates.{DomainTemplates};
 
+use crate::definitions::Definitions;
 use crate::kind::TemplateKind;
 use crate::ordered::Ordered;
 use crate::plan::{Plan, plan_of};
@@ -24,7 +25,7 @@ const MOST_OCTETS: usize = 60000;
 const MOST_DOMAINS: usize = 64;
 
 /// What the records of one template ID hold (RFC 7011, section 3.4).
-#[derive(Clone, Debug, Drop)]
+#[derive(Debug, Drop)]
 pub struct Definition {
     options: bool,
     scope: u16,
@@ -42,6 +43,19 @@ impl Model for Definition {
     ghost view = { λ d. record { options = d.options; scope = d.scope; fields = d.fields } };
 
     ghost invariant = { λ d. (length d.fields < 2 ^ 16) × (d.plan ≡ plan_of d.fields) };
+}
+
+impl Clone for Definition {
+    ghost is_clone = { λ a b. b ≡ a };
+
+    fn clone(&self) -> Result<Self, AllocError> {
+        Ok(Definition {
+            options: self.options,
+            scope: self.scope,
+            fields: self.fields.clone()?,
+            plan: self.plan.clone()?,
+        })
+    }
 }
 
 impl Definition {
@@ -119,8 +133,8 @@ pub enum TemplateRecord {
 /// The definitions of one Observation Domain, in order.
 #[derive(Drop)]
 pub struct DomainTemplates {
-    templates: Ordered<u16, Definition>,
-    options: Ordered<u16, Definition>,
+    templates: Definitions,
+    options: Definitions,
 }
 
 impl Clone for DomainTemplates {
@@ -136,8 +150,8 @@ impl DomainTemplates {
         ensures { result ≡ no_definitions }
     {
         DomainTemplates {
-            templates: Ordered::new(alloc),
-            options: Ordered::new(alloc),
+            templates: Definitions::new(alloc),
+            options: Definitions::new(alloc),
         }
     }
 
@@ -151,9 +165,9 @@ impl DomainTemplates {
     pub(crate) fn find(&self, id: u16) -> Option<&Definition>
         ensures { option_copied result ≡ definition_of id self.now }
     {
-        match self.templates.get(&id) {
+        match self.templates.get(id) {
             Some(definition) => Some(definition),
-            None => self.options.get(&id),
+            None => self.options.get(id),
         }
     }
 
@@ -161,8 +175,8 @@ impl DomainTemplates {
         ensures { IfOk result (λ copy. copy ≡ self.now) }
     {
         Ok(DomainTemplates {
-            templates: self.templates.clone()?,
-            options: self.options.clone()?,
+            templates: self.templates.try_copy()?,
+            options: self.options.try_copy()?,
         })
     }
 
@@ -177,14 +191,14 @@ impl DomainTemplates {
         match (kind, change) {
             (TemplateKind::Plain, TemplateRecord::Define(id, definition)) => {
                 self.templates.put(id, definition)?;
-                self.options.take(&id);
+                self.options.take(id);
             }
             (TemplateKind::Options, TemplateRecord::Define(id, definition)) => {
                 self.options.put(id, definition)?;
-                self.templates.take(&id);
+                self.templates.take(id);
             }
-            (TemplateKind::Plain, TemplateRecord::Withdraw(id)) => self.templates.take(&id),
-            (TemplateKind::Options, TemplateRecord::Withdraw(id)) => self.options.take(&id),
+            (TemplateKind::Plain, TemplateRecord::Withdraw(id)) => self.templates.take(id),
+            (TemplateKind::Options, TemplateRecord::Withdraw(id)) => self.options.take(id),
             (TemplateKind::Plain, TemplateRecord::WithdrawAll) => self.templates.clear(),
             (TemplateKind::Options, TemplateRecord::WithdrawAll) => self.options.clear(),
         }
@@ -195,25 +209,9 @@ impl DomainTemplates {
     pub(crate) fn is_too_large(&self) -> bool
         ensures { result ≡ nat_lt 60000 (domain_size self.now) }
     {
-        size_with(size_with(0, &self.templates), &self.options) > MOST_OCTETS
+        let templates = self.templates.size_with(0, MOST_OCTETS);
+        self.options.size_with(templates, MOST_OCTETS) > MOST_OCTETS
     }
-}
-
-/// The octets of these template records and of `before`, counted until they pass the limit.
-fn size_with(before: usize, definitions: &Ordered<u16, Definition>) -> usize
-    requires { before < 2 ^ 32 }
-    ensures most { result ≤ before + entries_size definitions.now }
-    ensures exact { result ≤ 60000 → result ≡ before + entries_size definitions.now }
-    ensures bound { result < 2 ^ 32 }
-{
-    let mut size = before;
-    for definition in definitions.values() {
-        if size > MOST_OCTETS {
-            return size;
-        }
-        size += definition.size();
-    }
-    size
 }
 
 /// The definitions of all domains, in order.

@@ -1,0 +1,149 @@
+//! Files (RFC 5655): messages one after the other.
+
+ghost use Rattle.std.specs.Prelude.{◌≡◌, ◌⊎◌, ◌≤◌, ◌<◌, List, [], ℕ, length, take, IfOk, IfErr, MatchResult};
+ghost use Rattle.flow_codec.specs.declared.file.FileError.TheVariants.{OutOfMemory};
+ghost use Rattle.flow_codec.specs.Cutting.{IsCutOff, IsHeaderRefused, IsFileFault, IsDivided, HasOneDivision, spans_from, version_of, length_of};
+ghost use Rattle.flow_codec.specs.File.{HasOneFront};
+ghost use Rattle.flow_codec.specs.Fault.{IsOctets};
+ghost use Rattle.flow_codec.specs.Message.{joined};
+ghost use Rattle.flow_codec.specs.Templates.{AllTemplates};
+
+use flow_elements::Items;
+use std::alloc::{AllocError, AllocFailed, Global};
+use thiserror::Error;
+
+/// The octets of a message header.
+const HEADER: usize = 16;
+
+/// The version of IPFIX.
+const VERSION: u16 = 10;
+
+/// Why octets are no File. A place is in octets from the File's first.
+#[derive(Clone, Copy, Debug, PartialEq, Eq, Error)]
+pub enum FileError {
+    /// A message that passes the File's end.
+    #[error("15 Cut {0}")]
+    Cut(u64),
+    /// A Version other than 10.
+    #[error("16 Version {0}")]
+    Version(u64),
+    /// A Length below 16.
+    #[error("17 Length {0}")]
+    Length(u64),
+    /// A growth of memory was refused.
+    #[error("11 OutOfMemory")]
+    OutOfMemory,
+}
+
+impl From<AllocError> for FileError {
+    ghost from_gives = { λ _ e. e ≡ OutOfMemory };
+
+    fn from(_e: AllocError) -> FileError {
+        FileError::OutOfMemory
+    }
+}
+
+impl<T: Drop> From<AllocFailed<T>> for FileError {
+    ghost from_gives = { λ _ e. e ≡ OutOfMemory };
+
+    fn from(_e: AllocFailed<T>) -> FileError {
+        FileError::OutOfMemory
+    }
+}
+
+/// Where a message stands in a File, in octets.
+#[derive(Clone, Copy, Debug, PartialEq, Eq)]
+pub struct Span {
+    pub at: u64,
+    pub length: usize,
+}
+
+/// The places of a File's messages.
+pub fn split_file(alloc: Global, octets: &[u8]) -> Result<Items<Span>, FileError>
+    // The spans are those of messages that fill the octets.
+    ensures found { IfOk result (λ spans. (parts : List (List ℕ)) × IsDivided octets.now parts [] × (spans ≡ spans_from 0 parts)) }
+    // Other octets are refused by their first fault, behind messages.
+    ensures fault { IfErr result (λ e. (e ≡ OutOfMemory) ⊎ ((parts : List (List ℕ)) × (rest : List ℕ) × IsDivided octets.now parts rest × IsFileFault (length (joined parts)) rest e)) }
+    // Whatever messages fill the octets, theirs are the spans that are answered.
+    ensures only { (parts : List (List ℕ)) → IsDivided octets.now parts [] → MatchResult result (λ spans. spans ≡ spans_from 0 parts) (λ e. e ≡ OutOfMemory) }
+{
+    let mut spans = Vec::new(alloc);
+    let mut at = 0;
+    while at < octets.len() {
+        let length = front_of(at as u64, &octets[at..])?;
+        spans.push(Span {
+            at: at as u64,
+            length,
+        })?;
+        at += length;
+    }
+    Ok(Items::from_vec(spans))
+}
+
+/// Any octets divide in one way into messages, each cut off by its own header, and octets behind them that are none or have one fault.
+/// They have one accepted front, whatever templates are in force before it.
+pub fn one_front()
+    ensures divided { (octets : List ℕ) → HasOneDivision octets }
+    ensures accepted { (before : AllTemplates) (octets : List ℕ) → IsOctets octets → HasOneFront before 0 octets }
+{}
+
+/// The Length in the header of a message (RFC 7011, section 3.1), with that of the header itself. `at` is its place in the File.
+pub(crate) fn length_in(at: u64, header: &[u8]) -> Result<usize, FileError>
+    requires { 16 ≤ length header.now }
+    ensures found { IfOk result (λ n. (version_of header.now ≡ 10) × (n ≡ length_of header.now) × (16 ≤ n) × (n < 65536)) }
+    ensures fault { IfErr result (λ e. IsHeaderRefused at header.now e) }
+{
+    let (version, behind) = header.split_at(2);
+    let (length, _) = behind.split_at(2);
+    if u16::from_be_bytes([version[0], version[1]]) != VERSION {
+        return Err(FileError::Version(at));
+    }
+    let length = u16::from_be_bytes([length[0], length[1]]) as usize;
+    if length < HEADER {
+        return Err(FileError::Length(at));
+    }
+    Ok(length)
+}
+
+/// The length of the message that these octets begin with, cut off by its version and its Length. `at` is their place in the File.
+pub(crate) fn front_of(at: u64, octets: &[u8]) -> Result<usize, FileError>
+    requires { 0 < length octets.now }
+    ensures found { IfOk result (λ n. (n ≤ length octets.now) × IsCutOff (take n octets.now)) }
+    ensures fault { IfErr result (λ e. IsFileFault at octets.now e) }
+{
+    if octets.len() < HEADER {
+        return Err(FileError::Cut(at));
+    }
+    let length = length_in(at, octets)?;
+    if octets.len() < length {
+        return Err(FileError::Cut(at));
+    }
+    Ok(length)
+}
+
+#[cfg(test)]
+mod tests {
+    use super::{Span, one_front, split_file};
+    use std::test::Fail;
+
+    #[test]
+    fn spans_of_messages(rt: HostRuntime) -> Result<(), Fail> {
+        one_front();
+        let alloc = rt.alloc();
+        let mut file = Vec::new(alloc);
+        let none = split_file(alloc, file.as_slice())?;
+        assert!(rt; none.is_empty());
+        for length in [16u8, 20, 16] {
+            file.extend_from_slice([0, 10, 0, length].as_slice())?;
+            file.resize(file.len() - 4 + length as usize, 0)?;
+        }
+        let spans = split_file(alloc, file.as_slice())?;
+        let want = [
+            Span { at: 0, length: 16 },
+            Span { at: 16, length: 20 },
+            Span { at: 36, length: 16 },
+        ];
+        assert_eq!(rt; spans.as_slice(), want.as_slice());
+        Ok(())
+    }
+}

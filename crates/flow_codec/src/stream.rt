@@ -1,0 +1,382 @@
+//! A File from a reader, one message after the other.
+
+ghost use Rattle.std.specs.Prelude.{◌≡◌, ◌≤◌, ◌<◌, ◌^◌, ◌*◌, length, take, [], None, IfOk};
+ghost use Rattle.flow_codec.specs.declared.stream.StreamError.TheVariants.{File, Read as ReadStopped};
+ghost use Rattle.flow_codec.specs.Stream.{IsStep, IsTaken};
+
+use crate::file::{FileError, length_in};
+use crate::patient::{PatientReader, ReadFailed, fill};
+use std::alloc::{AllocError, Global};
+use std::io::{BufReader, Read};
+use std::marker::Model;
+use thiserror::Error;
+
+/// The octets of a message header.
+const HEADER: usize = 16;
+
+/// The most octets that a message has.
+const GREATEST_MESSAGE: usize = 65_535;
+
+/// The octets that are read at a time.
+const READ_AHEAD: usize = 65_536;
+
+/// The most messages that are read.
+const MOST_MESSAGES: u64 = 0xffff_ffff_ffff;
+
+/// Why reading a File stopped.
+#[derive(Clone, Copy, Debug, PartialEq, Eq, Error)]
+pub enum StreamError {
+    /// What stands behind the messages that were read is no message.
+    #[error("{0}")]
+    File(FileError),
+    /// Reading failed, so it is unknown what stands behind the messages that were read.
+    #[error("{0}")]
+    Read(ReadFailed),
+    /// One more message than 2^48 - 1.
+    #[error("25 NumbersSpent")]
+    NumbersSpent,
+}
+
+impl From<FileError> for StreamError {
+    ghost from_gives = { λ fault e. e ≡ File fault };
+
+    fn from(fault: FileError) -> StreamError {
+        StreamError::File(fault)
+    }
+}
+
+impl From<ReadFailed> for StreamError {
+    ghost from_gives = { λ failed e. e ≡ ReadStopped failed };
+
+    fn from(failed: ReadFailed) -> StreamError {
+        StreamError::Read(failed)
+    }
+}
+
+/// A reader of a File (RFC 5655, section 4) that holds one message. It takes memory once, where it is made.
+#[derive(Drop)]
+pub struct MessageReader<R: Read> {
+    input: BufReader<PatientReader<R>>,
+    /// Room for the longest message.
+    buffer: Vec<u8>,
+    /// The octets of the message that is held, 0 where there is none.
+    length: usize,
+    count: u64,
+    at: u64,
+    stopped: Option<StreamError>,
+}
+
+impl<R: Read> Model for MessageReader<R> {
+    ghost use Rattle.std.specs.Prelude.{◌≡◌, ◌≤◌, ◌<◌, ◌*◌, ◌^◌, take, vec_len};
+    ghost use Rattle.std.specs.Io.Buffered.{reader_remaining};
+    ghost use Rattle.flow_codec.specs.Stream.{Progress};
+
+    ghost Value = { Progress };
+
+    ghost view = { λ r. record { rest = reader_remaining (λ p. R.remaining p.inner) r.input; message = take r.length r.buffer.items; count = r.count; at = r.at; stopped = r.stopped } };
+
+    ghost invariant = { λ r. (vec_len r.buffer ≡ 65535) × (r.length ≤ 65535) × (r.count < 2 ^ 48) × (r.at ≤ 65535 * r.count) };
+}
+
+impl<R: Read> MessageReader<R> {
+    /// A reader of the File that begins where `input` stands.
+    pub fn new(alloc: Global, input: R) -> Result<Self, AllocError>
+    where
+        R: Drop,
+        ensures { IfOk result (λ reader. reader ≡ record { rest = R.remaining input; message = []; count = 0; at = 0; stopped = None }) }
+    {
+        let buffer = Vec::from_elem(alloc, 0u8, GREATEST_MESSAGE)?;
+        let Ok(input) = BufReader::with_capacity(alloc, READ_AHEAD, PatientReader::new(input))
+        else {
+            return Err(AllocError);
+        };
+        Ok(MessageReader {
+            input,
+            buffer,
+            length: 0,
+            count: 0,
+            at: 0,
+            stopped: None,
+        })
+    }
+
+    /// Reads the next message and holds it; `false` at the File's end. After an error it answers that error from then on.
+    pub fn advance(&mut self) -> Result<bool, StreamError>
+        ensures { IsStep self.old result self.new }
+    {
+        self.length = 0;
+        if let Some(error) = self.stopped {
+            return Err(error);
+        }
+        match take_message(&mut self.input, self.at, self.buffer.as_mut_slice()) {
+            Ok(None) => Ok(false),
+            Ok(Some(length)) if self.count < MOST_MESSAGES => {
+                self.length = length;
+                self.count += 1;
+                self.at += length as u64;
+                Ok(true)
+            }
+            Ok(Some(_)) => {
+                self.stopped = Some(StreamError::NumbersSpent);
+                Err(StreamError::NumbersSpent)
+            }
+            Err(error) => {
+                self.stopped = Some(error);
+                Err(error)
+            }
+        }
+    }
+
+    /// The octets of the message that is held; none before the first step, at the end, and after an error.
+    pub fn message(&self) -> &[u8]
+        ensures { result.now ≡ self.now.message }
+    {
+        &self.buffer[..self.length]
+    }
+
+    /// The messages that were read.
+    pub fn count(&self) -> u64
+        ensures value { result ≡ self.now.count }
+        ensures most { result < 2 ^ 48 }
+    {
+        self.count
+    }
+
+    /// The place behind the messages that were read, in octets from the File's first.
+    pub fn at(&self) -> u64
+        ensures value { result ≡ self.now.at }
+        ensures most { result ≤ 65535 * self.now.count }
+    {
+        self.at
+    }
+}
+
+/// Reads the message that stands next, at the place `at` of a File, into the buffer's front. It answers its length, or None at the end.
+fn take_message<R: Read>(
+    input: &mut R,
+    at: u64,
+    buffer: &mut [u8],
+) -> Result<Option<usize>, StreamError>
+    requires { length buffer.now ≡ 65535 }
+    ensures taken { IsTaken at (R.remaining input.old) (R.remaining input.new) buffer.new result }
+{
+    let got = fill(input, &mut buffer[..HEADER])?;
+    if got == 0 {
+        return Ok(None);
+    }
+    if got < HEADER {
+        return Err(StreamError::File(FileError::Cut(at)));
+    }
+    let length = length_in(at, &buffer[..HEADER])?;
+    let more = fill(input, &mut buffer[HEADER..length])?;
+    if more < length - HEADER {
+        return Err(StreamError::File(FileError::Cut(at)));
+    }
+    Ok(Some(length))
+}
+
+#[cfg(test)]
+mod tests {
+    use super::{MessageReader, StreamError};
+    use crate::file::split_file;
+    use std::alloc::Global;
+    use std::io;
+    use std::io::{ErrorKind, Read};
+    use std::test::Fail;
+
+    /// A template of four elements and a flow: 57 octets.
+    const FLOW: [u8; 57] = [
+        0x00, 0x0a, 0x00, 0x39, 0x65, 0x53, 0xf1, 0x00, 0, 0, 0, 0, 0, 0, 0, 7, 0, 2, 0, 0x18, 1,
+        0, 0, 4, 0, 0x96, 0, 4, 0, 4, 0, 1, 0, 1, 0, 4, 0, 2, 0, 4, 1, 0, 0, 0x11, 0x65, 0x53,
+        0xf1, 0, 6, 0, 0, 5, 0xdc, 0, 0, 0, 0x0a,
+    ];
+
+    /// The header of a message of this version and Length.
+    fn header(version: u8, length: u16) -> [u8; 16] {
+        let [high, low] = length.to_be_bytes();
+        [
+            0, version, high, low, 0x65, 0x53, 0xf1, 0, 0, 0, 0, 0, 0, 0, 0, 7,
+        ]
+    }
+
+    /// Gives its octets in pieces, each after as many interrupted calls; the call behind the last piece that it gives fails.
+    #[derive(Drop)]
+    struct Pieces<'a> {
+        octets: &'a [u8],
+        piece: usize,
+        interrupts: u32,
+        interrupts_left: u32,
+        pieces_left: usize,
+    }
+
+    impl<'a> Pieces<'a> {
+        fn of(octets: &'a [u8], piece: usize, interrupts: u32) -> Self {
+            Pieces {
+                octets,
+                piece,
+                interrupts,
+                interrupts_left: interrupts,
+                pieces_left: 1_000_000,
+            }
+        }
+    }
+
+    impl Read for Pieces<'_> {
+        fn read(&mut self, buf: &mut [u8]) -> io::Result<usize> {
+            if self.interrupts_left > 0 {
+                self.interrupts_left -= 1;
+                return Err(io::Error::from(ErrorKind::Interrupted));
+            }
+            self.interrupts_left = self.interrupts;
+            if self.pieces_left == 0 {
+                return Err(io::Error::from(ErrorKind::OutOfMemory));
+            }
+            self.pieces_left -= 1;
+            let count = self.octets.len().min(self.piece).min(buf.len());
+            let (front, rest) = self.octets.split_at(count);
+            buf[..count].copy_from_slice(front);
+            self.octets = rest;
+            Ok(count)
+        }
+    }
+
+    /// All that was read, the messages one after the other, and what it ended by.
+    fn read_all<R: Read + Drop>(
+        alloc: Global,
+        input: R,
+        octets: &mut Vec<u8>,
+    ) -> Result<(u64, Option<StreamError>), Fail> {
+        let mut reader = MessageReader::new(alloc, input)?;
+        for _ in 0..1_000 {
+            match reader.advance() {
+                Ok(true) => octets.extend_from_slice(reader.message())?,
+                Ok(false) => return Ok((reader.count(), None)),
+                Err(error) => {
+                    if reader.advance() != Err(error) || !reader.message().is_empty() {
+                        return Ok((0, None));
+                    }
+                    return Ok((reader.count(), Some(error)));
+                }
+            }
+        }
+        Ok((0, None))
+    }
+
+    #[test]
+    fn reads_in_pieces(rt: HostRuntime) -> Result<(), Fail> {
+        let alloc = rt.alloc();
+        let mut file = Vec::new(alloc);
+        file.extend_from_slice(header(10, 65_535).as_slice())?;
+        file.resize(65_535, 3)?;
+        file.extend_from_slice(FLOW.as_slice())?;
+        file.extend_from_slice(header(10, 16).as_slice())?;
+        file.extend_from_slice(FLOW.as_slice())?;
+        for piece in [1, 7, 65_536] {
+            for interrupts in [0, 1] {
+                let mut octets = Vec::new(alloc);
+                let input = Pieces::of(file.as_slice(), piece, interrupts);
+                let ended = read_all(alloc, input, &mut octets)?;
+                assert_eq!(rt; ended, (4, None), "in pieces of {piece}");
+                assert_eq!(rt; octets.as_slice(), file.as_slice());
+            }
+        }
+        Ok(())
+    }
+
+    #[test]
+    fn reads_a_borrowed_reader(rt: HostRuntime) -> Result<(), Fail> {
+        let alloc = rt.alloc();
+        let mut input = FLOW.as_slice();
+        let mut reader = MessageReader::new(alloc, &mut input)?;
+        assert_eq!(rt; reader.advance(), Ok(true));
+        assert_eq!(rt; reader.message(), FLOW.as_slice());
+        assert_eq!(rt; (reader.count(), reader.at()), (1, 57));
+        assert_eq!(rt; reader.advance(), Ok(false));
+        Ok(())
+    }
+
+    #[test]
+    fn a_failed_read_stands_for_a_cut(rt: HostRuntime) -> Result<(), Fail> {
+        let alloc = rt.alloc();
+        let mut file = Vec::new(alloc);
+        file.extend_from_slice(FLOW.as_slice())?;
+        file.extend_from_slice(header(10, 16).as_slice())?;
+        for pieces_left in 0..12 {
+            let mut octets = Vec::new(alloc);
+            let mut input = Pieces::of(file.as_slice(), 7, 1);
+            input.pieces_left = pieces_left;
+            let (count, error) = read_all(alloc, input, &mut octets)?;
+            // Of 7 octets a piece, 9 pieces hold the first message, and 11 both.
+            let whole = if pieces_left < 9 {
+                0
+            } else if pieces_left < 11 {
+                1
+            } else {
+                2
+            };
+            assert_eq!(rt; count, whole, "{pieces_left} pieces");
+            let Some(error) = error else {
+                assert!(rt; false, "{pieces_left} pieces");
+                return Ok(());
+            };
+            assert_eq!(rt; format!(in alloc; "{error}")?.as_str(), "31 Read");
+        }
+        Ok(())
+    }
+
+    #[test]
+    fn gives_up_at_the_millionth_interrupt(rt: HostRuntime) -> Result<(), Fail> {
+        let alloc = rt.alloc();
+        for (interrupts_left, want) in [(999_999, 1), (1_000_000, 0)] {
+            let mut octets = Vec::new(alloc);
+            let mut input = Pieces::of(FLOW.as_slice(), 57, 0);
+            input.interrupts_left = interrupts_left;
+            let (count, error) = read_all(alloc, input, &mut octets)?;
+            assert_eq!(rt; count, want);
+            assert_eq!(rt; error.is_some(), want == 0);
+        }
+        Ok(())
+    }
+
+    #[test]
+    fn faults_stand_behind_the_messages(rt: HostRuntime) -> Result<(), Fail> {
+        let alloc = rt.alloc();
+        let other_version = header(9, 16);
+        let short_length = header(10, 15);
+        let past_the_end = header(10, 17);
+        for (front, back, want) in [
+            (&FLOW[..56], [].as_slice(), "15 Cut 0"),
+            (FLOW.as_slice(), [0].as_slice(), "15 Cut 57"),
+            (FLOW.as_slice(), other_version.as_slice(), "16 Version 57"),
+            (FLOW.as_slice(), short_length.as_slice(), "17 Length 57"),
+            (FLOW.as_slice(), past_the_end.as_slice(), "15 Cut 57"),
+        ] {
+            let mut file = Vec::new(alloc);
+            file.extend_from_slice(front)?;
+            file.extend_from_slice(back)?;
+            if want == "16 Version 57" {
+                file.push(0)?;
+            }
+            for piece in [1, 7, 65_536] {
+                let mut octets = Vec::new(alloc);
+                let input = Pieces::of(file.as_slice(), piece, 0);
+                let (_, error) = read_all(alloc, input, &mut octets)?;
+                let Some(error) = error else {
+                    assert!(rt; false, "{want}");
+                    return Ok(());
+                };
+                assert_eq!(rt; format!(in alloc; "{error}")?.as_str(), want);
+            }
+            let Err(fault) = split_file(alloc, file.as_slice()) else {
+                assert!(rt; false, "{want}");
+                return Ok(());
+            };
+            assert_eq!(rt; format!(in alloc; "{fault}")?.as_str(), want);
+        }
+        assert_eq!(rt;
+            format!(in alloc; "{}", StreamError::NumbersSpent)?.as_str(),
+            "25 NumbersSpent"
+        );
+        Ok(())
+    }
+}
