@@ -1,9 +1,11 @@
+pub mod CountLoop
 pub mod Fitting
 pub mod Gathering
 pub mod Intervals
 pub mod Keys
 pub mod Merging
 pub mod Putting
+pub mod SinkSteps
 pub mod SumLaws
 pub mod Viewing
 pub mod Widening

@@ -1,9 +1,12 @@
-//! Laws of sums.
+//! Laws of flows and of their sums.
 
 ghost use Rattle.std.specs.Prelude.{◌≡◌, ℕ, ◌<◌, ◌%◌, List, ◌++◌, Option, map, filter};
 ghost use Rattle.std.specs.FinMap as finite;
 ghost use Rattle.flow_measure.specs.declared.flow.Flow.{Flow};
 ghost use Rattle.flow_measure.specs.declared.rows.Key.{Key};
+ghost use Rattle.flow_codec.specs.Message.{in_fields};
+ghost use Rattle.flow_codec.specs.Raw.{RawMessage, under};
+ghost use Rattle.flow_measure.specs.Flows.{flows_of, flows_in};
 ghost use Rattle.flow_measure.specs.Sums.{sums_by, table_of, merged, widened, key_of, is_key, counted, some_total};
 
 /// The sums of flows have at each key the sum of the flows of that key, and nothing where there are none.
@@ -19,4 +22,9 @@ pub fn merging()
 /// The sums of flows by a width, widened, are their sums by the wide width.
 pub fn widening()
     ensures { (width wide : ℕ) (flows : List Flow) → 0 < width → wide % width ≡ 0 → widened wide (table_of width flows) ≡ table_of wide flows }
+{}
+
+/// The flows of a message's records in octets are those of the same message in fields.
+pub fn flows_either_way()
+    ensures { (m : RawMessage) → flows_of (in_fields m) ≡ flows_in (under m.header m.records) }
 {}

@@ -1,4 +1,6 @@
 use super::*;
+use flow_codec::{DataRecord, Field, Header, Message, Templates, walk_message};
+use flow_elements::{ElementId, Items};
 use std::test::*;
 
 fn flow(start: u32, protocol: Option<u8>) -> Flow {
@@ -101,5 +103,168 @@ fn errors(rt: HostRuntime) -> Result<(), Fail> {
     assert_eq!(rt; spent.as_str(), "14 SumSpent");
     let memory = format!(in rt.alloc(); "{}", SumError::OutOfMemory)?;
     assert_eq!(rt; memory.as_str(), "11 OutOfMemory");
+    Ok(())
+}
+
+/// One template and one record of it.
+const PLAIN: [u8; 57] = [
+    0x00, 0x0A, 0x00, 0x39, 0x65, 0x53, 0xF1, 0x00, 0, 0, 0, 0, 0, 0, 0, 7, 0x00, 0x02, 0x00, 0x18,
+    0x01, 0x00, 0x00, 0x04, 0x00, 0x96, 0x00, 0x04, 0x00, 0x04, 0x00, 0x01, 0x00, 0x01, 0x00, 0x04,
+    0x00, 0x02, 0x00, 0x04, 0x01, 0x00, 0x00, 0x11, 0x65, 0x53, 0xF1, 0x00, 0x06, 0x00, 0x00, 0x05,
+    0xDC, 0x00, 0x00, 0x00, 0x0A,
+];
+
+/// The same template with octets in 8 octets, and one record of it, a minute later.
+const REDEFINED: [u8; 61] = [
+    0x00, 0x0A, 0x00, 0x3D, 0x65, 0x53, 0xF1, 0x3C, 0, 0, 0, 1, 0, 0, 0, 7, 0x00, 0x02, 0x00, 0x18,
+    0x01, 0x00, 0x00, 0x04, 0x00, 0x96, 0x00, 0x04, 0x00, 0x04, 0x00, 0x01, 0x00, 0x01, 0x00, 0x08,
+    0x00, 0x02, 0x00, 0x04, 0x01, 0x00, 0x00, 0x15, 0x65, 0x53, 0xF1, 0x3C, 0x06, 0, 0, 0, 0, 0, 0,
+    0x05, 0xDC, 0x00, 0x00, 0x00, 0x0A,
+];
+
+/// Two records with a field of variable length, its length in one octet and in three.
+const SPELLINGS: [u8; 54] = [
+    0x00, 0x0A, 0x00, 0x36, 0x65, 0x53, 0xF1, 0x00, 0, 0, 0, 0, 0, 0, 0, 7, 0x00, 0x02, 0x00, 0x10,
+    0x01, 0x2C, 0x00, 0x02, 0x00, 0x01, 0x00, 0x04, 0x00, 0xD2, 0xFF, 0xFF, 0x01, 0x2C, 0x00, 0x16,
+    0x00, 0x00, 0x00, 0x64, 0x03, 0xAA, 0xBB, 0xCC, 0x00, 0x00, 0x00, 0x64, 0xFF, 0x00, 0x03, 0xAA,
+    0xBB, 0xCC,
+];
+
+/// Two records of the greatest count of octets.
+const GREATEST: [u8; 48] = [
+    0x00, 0x0A, 0x00, 0x30, 0x65, 0x53, 0xF1, 0x00, 0, 0, 0, 0, 0, 0, 0, 7, 0x00, 0x02, 0x00, 0x0C,
+    0x01, 0x00, 0x00, 0x01, 0x00, 0x01, 0x00, 0x08, 0x01, 0x00, 0x00, 0x14, 0xFF, 0xFF, 0xFF, 0xFF,
+    0xFF, 0xFF, 0xFF, 0xFF, 0xFF, 0xFF, 0xFF, 0xFF, 0xFF, 0xFF, 0xFF, 0xFF,
+];
+
+/// A record whose start in milliseconds is a second too late for 32 bits.
+const LATE: [u8; 48] = [
+    0x00, 0x0A, 0x00, 0x30, 0x65, 0x53, 0xF1, 0x00, 0, 0, 0, 0, 0, 0, 0, 7, 0x00, 0x02, 0x00, 0x10,
+    0x01, 0x00, 0x00, 0x02, 0x00, 0x98, 0x00, 0x08, 0x00, 0x01, 0x00, 0x04, 0x01, 0x00, 0x00, 0x10,
+    0x00, 0x00, 0x03, 0xE8, 0x00, 0x00, 0x00, 0x00, 0x00, 0x00, 0x00, 0x01,
+];
+
+/// The last start in milliseconds that 32 bits of seconds have.
+const LAST: [u8; 48] = [
+    0x00, 0x0A, 0x00, 0x30, 0x65, 0x53, 0xF1, 0x00, 0, 0, 0, 0, 0, 0, 0, 7, 0x00, 0x02, 0x00, 0x10,
+    0x01, 0x00, 0x00, 0x02, 0x00, 0x98, 0x00, 0x08, 0x00, 0x01, 0x00, 0x04, 0x01, 0x00, 0x00, 0x10,
+    0x00, 0x00, 0x03, 0xE7, 0xFF, 0xFF, 0xFF, 0xFF, 0x00, 0x00, 0x00, 0x01,
+];
+
+/// The rows of messages, by intervals of 300 seconds.
+fn rows_of(rt: &HostRuntime, messages: &[&[u8]]) -> Result<Vec<Row>, Fail> {
+    let mut templates = Templates::new(rt.alloc());
+    let mut totals = Totals {
+        rows: Rows::new(rt.alloc(), 300),
+    };
+    for octets in messages {
+        if walk_message(&mut templates, rt.alloc(), octets, &mut totals).is_err() {
+            return Err(Fail::new("the message is refused"));
+        }
+    }
+    Ok(totals.rows.in_span(rt.alloc(), 0, 1 << 32)?)
+}
+
+fn row(start: u32, protocol: Option<u8>, flows: u64, octets: u128, packets: u128) -> Row {
+    Row {
+        key: Key {
+            start,
+            domain: 7,
+            protocol,
+        },
+        sums: Sums {
+            flows,
+            octets,
+            packets,
+        },
+        width: 300,
+    }
+}
+
+#[test]
+fn totals(rt: HostRuntime) -> Result<(), Fail> {
+    let plain = rows_of(&rt, &[&PLAIN])?;
+    assert_eq!(rt;
+        plain.as_slice(),
+        [row(1699999800, Some(6), 1, 1500, 10)].as_slice()
+    );
+    let redefined = rows_of(&rt, &[&PLAIN, &REDEFINED])?;
+    assert_eq!(rt;
+        redefined.as_slice(),
+        [row(1699999800, Some(6), 2, 3000, 20)].as_slice()
+    );
+    let spellings = rows_of(&rt, &[&SPELLINGS])?;
+    assert_eq!(rt;
+        spellings.as_slice(),
+        [row(1699999800, None, 2, 200, 0)].as_slice()
+    );
+    let greatest = rows_of(&rt, &[&GREATEST])?;
+    assert_eq!(rt;
+        greatest.as_slice(),
+        [row(1699999800, None, 2, 36893488147419103230, 0)].as_slice()
+    );
+    let late = rows_of(&rt, &[&LATE])?;
+    assert_eq!(rt;
+        late.as_slice(),
+        [row(1699999800, None, 1, 1, 0)].as_slice()
+    );
+    let last = rows_of(&rt, &[&LAST])?;
+    assert_eq!(rt;
+        last.as_slice(),
+        [row(4294967100, None, 1, 1, 0)].as_slice()
+    );
+    Ok(())
+}
+
+#[test]
+fn flows(rt: HostRuntime) -> Result<(), Fail> {
+    let mut templates = Templates::new(rt.alloc());
+    let mut flows = Flows::new(rt.alloc());
+    if walk_message(&mut templates, rt.alloc(), &PLAIN, &mut flows).is_err() {
+        return Err(Fail::new("the message is refused"));
+    }
+    let wanted = [flow(1700000000, Some(6))];
+    assert_eq!(rt; flows.flows.as_slice(), wanted.as_slice());
+    Ok(())
+}
+
+fn field(rt: &HostRuntime, number: u16, octets: &[u8]) -> Result<Field, Fail> {
+    Ok(Field {
+        id: ElementId {
+            enterprise: None,
+            number,
+        },
+        octets: Items::from_vec(Vec::from_slice(rt.alloc(), octets)?),
+    })
+}
+
+/// A message in fields: elements that come twice, and one of a length that doesn't count.
+#[test]
+fn flows_by_fields(rt: HostRuntime) -> Result<(), Fail> {
+    let mut fields = Vec::new(rt.alloc());
+    fields.push(field(&rt, 152, &[0; 7])?)?;
+    fields.push(field(&rt, 1, &[0x05, 0xDC])?)?;
+    fields.push(field(&rt, 4, &[6])?)?;
+    fields.push(field(&rt, 2, &[10])?)?;
+    fields.push(field(&rt, 1, &[9])?)?;
+    fields.push(field(&rt, 4, &[17])?)?;
+    let mut records = Vec::new(rt.alloc());
+    records.push(DataRecord {
+        template: 256,
+        options: false,
+        fields: Items::from_vec(fields),
+    })?;
+    let message = Message {
+        header: Header {
+            length: 0,
+            time: 1700000000,
+            sequence: 0,
+            domain: 7,
+        },
+        records: Items::from_vec(records),
+    };
+    let flows = flows_of_message(rt.alloc(), &message)?;
+    let wanted = [flow(1700000000, Some(6))];
+    assert_eq!(rt; flows.as_slice(), wanted.as_slice());
     Ok(())
 }

@@ -1,0 +1,86 @@
+//! What takes the flows of the data records that a walk over messages hands over.
+
+ghost use Rattle.std.specs.Prelude.{◌≡◌, []};
+
+use crate::counts::flow_of;
+use crate::error::SumError;
+use crate::flow::Flow;
+use crate::rows::Rows;
+use flow_codec::{Definition, Header, RecordSink};
+use flow_elements::Items;
+use std::alloc::{AllocError, Global};
+
+/// Takes flows one behind the other.
+#[derive(Debug, Drop)]
+pub struct Flows {
+    /// The flows of the records taken, in their order.
+    pub flows: Vec<Flow>,
+}
+
+impl Flows {
+    /// No flows.
+    pub fn new(alloc: Global) -> Self
+        ensures { result.flows.items ≡ [] }
+    {
+        Flows {
+            flows: Vec::new(alloc),
+        }
+    }
+}
+
+impl RecordSink for Flows {
+    ghost use Rattle.std.specs.Prelude.{◌≡◌, ◌++◌};
+    ghost use Rattle.flow_measure.specs.Flows.{flows_in};
+
+    type Error = AllocError;
+
+    ghost holds = { λ start taken now. now.flows.items ≡ start.flows.items ++ flows_in taken };
+
+    ghost refuses = { λ start taken x e. Unit {0} };
+
+    fn record(
+        &mut self,
+        header: &Header,
+        _id: u16,
+        definition: &Definition,
+        octets: &[u8],
+    ) -> Result<(), AllocError> {
+        if !definition.options() {
+            self.flows.push(flow_of(header, definition, octets))?;
+        }
+        Ok(())
+    }
+}
+
+/// Adds flows to rows.
+#[derive(Drop)]
+pub struct Totals {
+    /// The sums, with the flows of the records taken.
+    pub rows: Rows,
+}
+
+impl RecordSink for Totals {
+    ghost use Rattle.std.specs.Prelude.{◌≡◌, ◌++◌, ◌∷◌, [], List};
+    ghost use Rattle.flow_measure.specs.declared.flow.Flow.{Flow};
+    ghost use Rattle.flow_measure.specs.Flows.{flows_in};
+    ghost use Rattle.flow_measure.specs.Sums.{AreSums, IsRefused, table_of};
+
+    type Error = SumError;
+
+    ghost holds = { λ start taken now. (now.rows.width ≡ start.rows.width) × ((flows : List Flow) → AreSums start.rows flows → AreSums now.rows (flows ++ flows_in taken)) };
+
+    ghost refuses = { λ start taken x e. (flows : List Flow) → AreSums start.rows flows → IsRefused e (table_of start.rows.width (flows ++ flows_in (taken ++ x ∷ []))) };
+
+    fn record(
+        &mut self,
+        header: &Header,
+        _id: u16,
+        definition: &Definition,
+        octets: &[u8],
+    ) -> Result<(), SumError> {
+        if !definition.options() {
+            self.rows.add(&flow_of(header, definition, octets))?;
+        }
+        Ok(())
+    }
+}
