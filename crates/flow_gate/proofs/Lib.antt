@@ -1,7 +1,8 @@
+pub mod Adding
 pub mod Exact
-pub mod Opening
-mod Reading
+mod Opening
 mod Placing
+mod Reading
 pub mod Rows
 mod Walking
-mod Written
+pub mod Written

@@ -10,7 +10,7 @@ use Rattle.flow_disk.proofs.Moments.{started, goes_on}
 use Rattle.flow_gate.specs.declared.tail.Tail.{Tail}
 use Rattle.flow_gate.specs.declared.tail.ScanError.{ScanError}
 use Rattle.flow_gate.specs.declared.tail.ScanError.TheVariants.{Damaged, Fault, OutOfMemory}
-use Rattle.flow_gate.specs.Scan.{IsTail, IsTold, IsTailRead, IsToldRead, IsGiven, IsRefused, texts}
+use Rattle.flow_gate.specs.Scan.{IsTail, IsTold, IsTailRead, IsToldRead, IsGiven, IsRefused, IsNamed, texts}
 use Rattle.flow_gate.proofs.Exact.{one_list, never_both, one_place}
 use Rattle.flow_gate.specs.Gate.{IsWhole, IsClosedAt, IsFaultyAt, StandsAt, StandInRow, IsGated, IsDamaged, length_field, octets_of}
 
@@ -120,3 +120,12 @@ module _ {D : Type 0} (moment : D → ℕ) (left_since : D → ℕ → (ℕ → 
 
   pub looked_again : (new : D) → Stays (held start) (held mid) → Elapses (moment mid) (moment new) (left_since mid) (left_since new) (held mid) → LeavesOnly moment left_since start new (IsDiskImage (held start))
   looked_again new same second = goes_on moment left_since start mid new (IsDiskImage (held start)) (held mid) looked second (λ image is n. subst (λ (f : Held). IsImage f (image n)) (same n) (is n))
+
+named_of : (octets : List ℕ) (file from : ℕ) (e : ScanError) → IsToldRead octets file from e → IsNamed file from e
+named_of octets file from (Damaged of at) is = (is.0, omega (arith, is.2))
+named_of octets file from Fault is = tt
+named_of octets file from OutOfMemory is = tt
+
+pub named_in : (octets : List ℕ) (file from : ℕ) (result : Result Tail ScanError) → IfErr result (λ e. IsToldRead octets file from e) → IfErr result (λ e. IsNamed file from e)
+named_in octets file from (Ok tail) is = tt
+named_in octets file from (Err e) is = named_of octets file from e is

@@ -10,11 +10,11 @@ shorter few many a b le same = sym (take-take few many a le) ∙ ap (λ (l : Lis
 pub same_octet : (bound place : ℕ) (a b : List ℕ) → place < bound → take bound a ≡ take bound b → get_or a place 0 ≡ get_or b place 0
 same_octet bound place a b lt same = sym (get_or-take bound a place 0 lt) ∙ ap (λ (l : List ℕ). get_or l place 0) same ∙ get_or-take bound b place 0 lt
 
-stands_front : (bound place : ℕ) (a b part : List ℕ) → place + length part ≤ bound → take bound a ≡ take bound b → StandsAt a place part → StandsAt b place part
+pub stands_front : (bound place : ℕ) (a b part : List ℕ) → place + length part ≤ bound → take bound a ≡ take bound b → StandsAt a place part → StandsAt b place part
 stands_front bound place a b part le same stands =
     sym (drop-take place (length part) b) ∙ ap (λ (l : List ℕ). drop place l) (sym (shorter (place + length part) bound a b le same)) ∙ drop-take place (length part) a ∙ stands
 
-row_front : (bound place : ℕ) (a b : List ℕ) (list : List (List ℕ)) → place + octets_of list ≤ bound → take bound a ≡ take bound b → StandInRow a place list → StandInRow b place list
+pub row_front : (bound place : ℕ) (a b : List ℕ) (list : List (List ℕ)) → place + octets_of list ≤ bound → take bound a ≡ take bound b → StandInRow a place list → StandInRow b place list
 row_front bound place a b [] le same row = row
 row_front bound place a b (message ∷ list) le same row =
     (row.0, stands_front bound place a b message (omega arith) same row.1, row_front bound (place + length message) a b list (omega arith) same row.2)
@@ -47,7 +47,7 @@ row_push octets place (first ∷ list) message row whole stands =
     (row.0, row.1, row_push octets (place + length first) list message row.2 whole (subst (λ (p : ℕ). StandsAt octets p message) (omega arith) stands))
 
 -- two rows, one behind the other
-row_join : (octets : List ℕ) (place : ℕ) (list more : List (List ℕ)) → StandInRow octets place list → StandInRow octets (place + octets_of list) more → StandInRow octets place (list ++ more)
+pub row_join : (octets : List ℕ) (place : ℕ) (list more : List (List ℕ)) → StandInRow octets place list → StandInRow octets (place + octets_of list) more → StandInRow octets place (list ++ more)
 row_join octets place [] more row rest = subst (λ (p : ℕ). StandInRow octets p more) (omega arith) rest
 row_join octets place (first ∷ list) more row rest =
     (row.0, row.1, row_join octets (place + length first) list more row.2 (subst (λ (p : ℕ). StandInRow octets p more) (omega arith) rest))
@@ -89,3 +89,13 @@ row_octets octets place (message ∷ list) row =
     ∙ ap (λ l. l ++ take (octets_of list) (drop (length message) (drop place octets))) row.1
     ∙ ap (λ l. message ++ take (octets_of list) l) (drop-drop (length message) place octets)
     ∙ ap (λ l. message ++ l) (row_octets octets (place + length message) list row.2)
+
+-- a row, parted
+pub row_first : (octets : List ℕ) (place : ℕ) (list more : List (List ℕ)) → StandInRow octets place (list ++ more) → StandInRow octets place list
+row_first octets place [] more row = tt
+row_first octets place (first ∷ list) more row = (row.0, row.1, row_first octets (place + length first) list more row.2)
+
+pub row_rest : (octets : List ℕ) (place : ℕ) (list more : List (List ℕ)) → StandInRow octets place (list ++ more) → StandInRow octets (place + octets_of list) more
+row_rest octets place [] more row = subst (λ (p : ℕ). StandInRow octets p more) (omega arith) row
+row_rest octets place (first ∷ list) more row =
+    subst (λ (p : ℕ). StandInRow octets p more) (omega arith) (row_rest octets (place + length first) list more row.2)

@@ -119,12 +119,12 @@ message_of before after message list whole row = (whole, stands, rest)
         (subst (λ (n : ℕ). StandInRow ((before ++ message) ++ (concat list ++ after)) n list) (length-append before message) row)
 
 -- whole messages stand in a row
-row_of : (before after : List ℕ) (list : List (List ℕ)) → All IsWhole list → StandInRow (before ++ (concat list ++ after)) (length before) list
+pub row_of : (before after : List ℕ) (list : List (List ℕ)) → All IsWhole list → StandInRow (before ++ (concat list ++ after)) (length before) list
 row_of before after [] whole = tt
 row_of before after (message ∷ list) whole =
     message_of before after message list (All-head IsWhole message list whole) (row_of (before ++ message) after list (All-tail IsWhole message list whole))
 
-gated_of : (before after : List ℕ) (list : List (List ℕ)) → All IsWhole list → IsGated (before ++ (concat list ++ (0 ∷ 0 ∷ after))) (length before) list
+pub gated_of : (before after : List ℕ) (list : List (List ℕ)) → All IsWhole list → IsGated (before ++ (concat list ++ (0 ∷ 0 ∷ after))) (length before) list
 gated_of before after list whole = record {
   row = row_of before (0 ∷ 0 ∷ after) list whole;
   closed = record {

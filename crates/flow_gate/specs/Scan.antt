@@ -26,6 +26,12 @@ IsTold octets file from (Damaged of at) = (of ≡ file) × IsDamaged octets from
 IsTold octets file from Fault = Unit {0}
 IsTold octets file from OutOfMemory = Unit {0}
 
+-- Damage names this file, and no place before the first one that was looked at.
+abbrev pub IsNamed : ℕ → ℕ → ScanError → Type 0
+IsNamed file from (Damaged of at) = (of ≡ file) × (from ≤ at)
+IsNamed file from Fault = Unit {0}
+IsNamed file from OutOfMemory = Unit {0}
+
 -- Where this list stands it is given, and no damage is told.
 abbrev pub IsGiven : List (List ℕ) → ℕ → Result Tail ScanError → Type 0
 IsGiven list from (Ok tail) = (texts tail.messages.items ≡ list) × (tail.end ≡ from + octets_of list)

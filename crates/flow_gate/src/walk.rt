@@ -5,7 +5,7 @@ ghost use Rattle.flow_disk.specs.Disk.{IsDiskImage, Stays};
 ghost use Rattle.flow_disk.specs.Moments.{LeavesOnly};
 ghost use Rattle.flow_disk.specs.Cause.{HasRisen};
 ghost use Rattle.flow_gate.specs.Gate.{IsWhole, IsGated, IsDamaged, octets_of};
-ghost use Rattle.flow_gate.specs.Scan.{IsFoundAt, IsTail, IsTold, IsTailRead, IsToldRead, IsGiven, IsRefused, texts};
+ghost use Rattle.flow_gate.specs.Scan.{IsFoundAt, IsTail, IsTold, IsTailRead, IsToldRead, IsGiven, IsRefused, IsNamed, texts};
 
 use crate::tail::{Found, ScanError, Tail};
 use flow_disk::Disk;
@@ -25,6 +25,7 @@ pub fn scan<D: Disk>(alloc: Global, disk: &mut D, file: u64, from: u64) -> Resul
     ensures size { IfOk result (λ tail. tail.end + 2 ≤ (D.marks disk.new file).size) }
     ensures ends { IfOk result (λ tail. tail.end ≡ from + octets_of (texts tail.messages.items)) }
     ensures whole { IfOk result (λ tail. All IsWhole (texts tail.messages.items)) }
+    ensures names { IfErr result (λ e. IsNamed file from e) }
     ensures faults { D.faults disk.old ≤ D.faults disk.new }
     ensures cause { IsErrOf result ScanError.Fault → HasRisen (D.faults disk.old) (D.faults disk.new) }
 

@@ -1,11 +1,14 @@
 use Rattle.std.proofs.Common.{◌≡◌, ◌-◌, ◌≤◌, length, take, drop, IsTrue, sym, ◌∙◌, ap, subst, arith}
 use Rattle.std.proofs.lemmas.List.{take_rest}
 use Rattle.flow_disk.specs.Disk.{Held}
-use Rattle.flow_gate.proofs.Reading.{found_in, told_in, given_in, refused_in, whole_in, looked_again}
+use Rattle.flow_gate.proofs.Reading.{found_in, told_in, given_in, refused_in, whole_in, named_in, looked_again}
 use Rattle.flow_gate.proofs.walk.scan.Goals as goal
 
 pub returns-clause-whole : goal.returns-clause-whole
 returns-clause-whole g c = whole_in c.deref.result.now c.args.from c.walk.result c.walk.ensures.found
+
+pub returns-clause-names : goal.returns-clause-names
+returns-clause-names g c = named_in c.deref.result.now c.args.file c.args.from c.walk.result c.walk.ensures.told
 
 pub returns-clause-found : goal.returns-clause-found
 returns-clause-found g c h =
