@@ -2,4 +2,8 @@ pub mod Numbers
 pub mod Heads
 pub mod Bodies
 pub mod Faults
-pub mod Reading
+pub mod Decoded
+pub mod Gates
+pub mod Swaps
+pub mod Openings
+pub mod OneInForce

@@ -1,2 +1,4 @@
 pub mod Manifest
 pub mod Fault
+pub mod Slots
+pub mod Opening

@@ -2,8 +2,9 @@
 
 ghost use Rattle.std.specs.Prelude.{◌≡◌};
 ghost use Rattle.flow_manifest.specs.declared.error.ManifestError.TheVariants as manifest;
-ghost use Rattle.flow_manifest.specs.declared.error.OpenError.TheVariants as opening;
+ghost use Rattle.flow_manifest.specs.Opening.{told};
 
+use flow_disk::DiskError;
 use std::alloc::{AllocError, AllocFailed};
 use thiserror::Error;
 
@@ -64,4 +65,15 @@ pub enum OpenError {
     /// A growth was refused.
     #[error("11 OutOfMemory")]
     OutOfMemory,
+}
+
+impl From<DiskError> for OpenError {
+    ghost from_gives = { λ e told_as. told_as ≡ told e };
+
+    fn from(e: DiskError) -> OpenError {
+        match e {
+            DiskError::Fault => OpenError::Fault,
+            DiskError::OutOfMemory => OpenError::OutOfMemory,
+        }
+    }
 }

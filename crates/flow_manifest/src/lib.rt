@@ -1,7 +1,10 @@
-//! The manifest of an archive: which files it consists of, in which order, and what each of them counts.
+//! The manifest of an archive, and the two slots that it stands in by turns: which files the archive consists of, in which order,
+//! and what each of them counts.
 //!
-//! To the layers above: `encode` gives the octets of a valid manifest, `decode` takes exactly those octets, of this format or
-//! of the one before it, and names the first fault of all others.
+//! To the layers above: `encode` gives the octets of a valid manifest, and `decode` takes exactly those octets, of this format
+//! or of the one before it, and names the first fault of all others. Through `prepare` and `commit` the manifest in force of
+//! every image of every moment is the old one or the new one: the old one until `commit` begins, the new one after its Ok.
+//! `read_slots` tells which one it is.
 #![tactic(auto)]
 
 mod checks;
@@ -11,12 +14,18 @@ mod error;
 mod head;
 mod laws;
 mod manifest;
+mod reading;
+mod slots;
+mod swap;
 
 pub use decoding::decode;
 pub use encoding::encode;
 pub use error::{ManifestError, OpenError};
-pub use laws::{one_answer, read_back};
+pub use laws::{one_answer, one_in_force, read_back};
 pub use manifest::{Entries, Entry, Kind, Manifest};
+pub use reading::read_slots;
+pub use slots::{Slot, Slots, commit, prepare};
+pub use swap::{open_slot, prepare_slot};
 
 #[cfg(test)]
 mod tests;

@@ -1,5 +1,5 @@
 use Rattle.flow_manifest.specs.Manifest.{format_1, format_2}
-use Rattle.flow_manifest.proofs.Reading.{answer, answer_short, found_behind, known_format}
+use Rattle.flow_manifest.proofs.Decoded.{answer, answer_short, found_behind, known_format}
 use Rattle.flow_manifest.proofs.decoding.decode.Goals as goal
 
 pub returns-then-octets-lt-HEAD_LENGTH_1-clause-only : goal.returns-then-octets-lt-HEAD_LENGTH_1-clause-only

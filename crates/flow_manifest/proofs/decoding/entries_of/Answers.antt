@@ -2,7 +2,7 @@ use Rattle.std.proofs.Common.{◌≤◌, length, inr, refl, ap, sym, ◌∙◌, 
 use Rattle.std.proofs.lemmas.Bool.{eqb-false}
 use Rattle.std.specs.List.{flat_map, AllByRecursion}
 use Rattle.flow_manifest.specs.Manifest.{entry_octets, FitsEntry}
-use Rattle.flow_manifest.proofs.Reading.{first_entry, others_left, one_more_read}
+use Rattle.flow_manifest.proofs.Decoded.{first_entry, others_left, one_more_read}
 use Rattle.flow_manifest.proofs.Bodies.{entry_long, all_more}
 use Rattle.flow_manifest.proofs.decoding.entries_of.Goals as goal
 

@@ -4,7 +4,7 @@ use Rattle.flow_manifest.specs.declared.manifest.Entry.{Entry}
 use Rattle.flow_manifest.specs.declared.head.Head.{Head}
 use Rattle.flow_manifest.specs.declared.manifest.Manifest.{Manifest}
 use Rattle.flow_manifest.specs.Manifest.{Fits, FitsEntry, IsInRange, IsValidManifest, head_of, entry_octets}
-use Rattle.flow_manifest.proofs.Reading.{counted}
+use Rattle.flow_manifest.proofs.Decoded.{counted}
 use Rattle.flow_manifest.proofs.Bodies.{same_valid}
 use Rattle.flow_manifest.proofs.decoding.manifest_of.Goals as goal
 

@@ -1,0 +1,81 @@
+-- Which manifest is in force while one slot changes.
+use Rattle.std.proofs.Common.{◌≡◌, ◌≢◌, ◌⊎◌, inl, inr, ⊎_elim, ℕ, ◌+◌, true, false, List, ◌∷◌, drop, get_or, refl, sym, ◌∙◌, ap, subst, arith}
+use Rattle.flow_disk.specs.Disk.{InFile}
+use Rattle.flow_manifest.specs.declared.manifest.Manifest.{Manifest}
+use Rattle.flow_manifest.specs.declared.slots.Slot.{Slot}
+use Rattle.flow_manifest.specs.declared.slots.Slot.TheVariants.{First, Second}
+use Rattle.flow_manifest.specs.declared.slots.Slots.{Slots}
+use Rattle.flow_manifest.specs.Manifest.{IsValidManifest, manifest_octets, format_2}
+use Rattle.flow_manifest.specs.Slots.{file_of, other, IsClosed, Holds, IsOlder, AreSlots, IsReady, IsInForce, MayClose, IsPrepared, MayOpen, Opens}
+
+pub apart : (slot : Slot) → file_of slot ≢ file_of (other slot)
+apart First is = absurd (omega arith)
+apart Second is = absurd (omega arith)
+
+pub other_other : (slot : Slot) → other (other slot) ≡ slot
+other_other First = refl
+other_other Second = refl
+
+-- the same slots are as the same value says
+pub same_slots : (slots : Slots) (a b : ℕ → List ℕ) → AreSlots slots a → b (file_of slots.current_slot) ≡ a (file_of slots.current_slot) → b (file_of (other slots.current_slot)) ≡ a (file_of (other slots.current_slot)) → AreSlots slots b
+same_slots slots a b are current beside = record {
+  current = subst (λ (l : List ℕ). Holds l slots.current) (sym current) are.current;
+  beside = subst (IsOlder slots.other_open slots.current) (sym beside) are.beside;
+}
+
+pub same_ready : (slots : Slots) (m : Manifest) (a b : ℕ → List ℕ) → IsReady slots m a → b (file_of slots.current_slot) ≡ a (file_of slots.current_slot) → b (file_of (other slots.current_slot)) ≡ a (file_of (other slots.current_slot)) → IsReady slots m b
+same_ready slots m a b are current beside = record {
+  current = subst (λ (l : List ℕ). Holds l slots.current) (sym current) are.current;
+  closed = subst IsClosed (sym beside) are.closed;
+  behind = ap (λ (l : List ℕ). drop 1 l) beside ∙ are.behind;
+  valid = are.valid;
+  follows = are.follows;
+}
+
+-- what stands in the slot that counts stays
+kept : (slots : Slots) (a b : ℕ → List ℕ) (Q : List ℕ → List ℕ → Type 0) → Holds (a (file_of slots.current_slot)) slots.current → InFile (file_of (other slots.current_slot)) Q a b → Holds (b (file_of slots.current_slot)) slots.current
+kept slots a b Q holds step = subst (λ (l : List ℕ). Holds l slots.current) (sym (step.others (file_of slots.current_slot) (apart slots.current_slot))) holds
+
+with_closed : Slots → Slots
+with_closed slots = record slots { other_open = false }
+
+-- while the other slot is closed the current manifest is in force
+pub still_in_force : (slots : Slots) (a b : ℕ → List ℕ) → AreSlots slots a → InFile (file_of (other slots.current_slot)) MayClose a b → IsInForce b slots.current
+still_in_force slots a b are step = ⊎_elim
+    (λ same. (slots, refl, same_slots slots a b are (step.others (file_of slots.current_slot) (apart slots.current_slot)) same))
+    (λ closed. (record slots { other_open = false }, refl, record { current = kept slots a b MayClose are.current step; beside = closed }))
+    step.here
+
+pub prepared_slots : (slots : Slots) (body : List ℕ) (a b : ℕ → List ℕ) → AreSlots slots a → InFile (file_of (other slots.current_slot)) (IsPrepared body) a b → AreSlots (record slots { other_open = false }) b
+prepared_slots slots body a b are step = record { current = kept slots a b (IsPrepared body) are.current step; beside = (step.here).closed }
+
+pub prepared_ready : (slots : Slots) (m : Manifest) (body : List ℕ) (a b : ℕ → List ℕ) → AreSlots slots a → InFile (file_of (other slots.current_slot)) (IsPrepared body) a b
+    → IsValidManifest m → m.generation ≡ slots.current.generation + 1 → body ≡ manifest_octets m → IsReady (record slots { other_open = false }) m b
+prepared_ready slots m body a b are step valid follows is = record {
+  current = kept slots a b (IsPrepared body) are.current step;
+  closed = (step.here).closed;
+  behind = (step.here).behind ∙ is;
+  valid = valid;
+  follows = follows;
+}
+
+-- an opened slot holds the manifest that stood behind its gate
+opened : (m : Manifest) (before after : List ℕ) → IsValidManifest m → drop 1 before ≡ manifest_octets m → after ≡ 165 ∷ drop 1 before → Holds after m
+opened m before after valid behind is = record {
+  gate = ap (λ (l : List ℕ). get_or l 0 0) is;
+  body = record { valid = valid; format = format_2; said = tt; is = ap (λ (l : List ℕ). drop 1 l) is ∙ behind };
+}
+
+pub new_slots : (slots : Slots) (m : Manifest) (a b : ℕ → List ℕ) → IsReady slots m a → InFile (file_of (other slots.current_slot)) Opens a b
+    → AreSlots (record { current = m; current_slot = other slots.current_slot; other_open = true }) b
+new_slots slots m a b are step = record {
+  current = opened m (a (file_of (other slots.current_slot))) (b (file_of (other slots.current_slot))) are.valid are.behind step.here;
+  beside = (slots.current, subst (λ (s : Slot). Holds (b (file_of s)) slots.current) (sym (other_other slots.current_slot)) (kept slots a b Opens are.current step), omega (arith, are.follows));
+}
+
+-- while the other slot is opened the current manifest is in force, or the one that stood behind the gate
+pub old_or_new : (slots : Slots) (m : Manifest) (a b : ℕ → List ℕ) → IsReady slots m a → InFile (file_of (other slots.current_slot)) MayOpen a b → IsInForce b slots.current ⊎ IsInForce b m
+old_or_new slots m a b are step = ⊎_elim
+    (λ closed. inl (record slots { other_open = false }, refl, record { current = kept slots a b MayOpen are.current step; beside = closed }))
+    (λ is. inr (record { current = m; current_slot = other slots.current_slot; other_open = true }, refl, new_slots slots m a b are (record { others = step.others; here = is })))
+    step.here

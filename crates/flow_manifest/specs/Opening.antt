@@ -1,0 +1,55 @@
+-- What the two slots hold, and why they may hold nothing that counts.
+use Rattle.std.specs.Prelude.{◌≡◌, ◌⊎◌, ℕ, ◌<◌, ◌≤◌, true, List, length, drop, Option, Some, None, Result, IsErrOf}
+use Rattle.flow_disk.specs.declared.error.DiskError.{DiskError}
+use Rattle.flow_disk.specs.declared.error.DiskError.TheVariants as disk
+use Rattle.flow_disk.specs.Cause.{HasRisen}
+use Rattle.flow_manifest.specs.declared.manifest.Manifest.{Manifest}
+use Rattle.flow_manifest.specs.declared.error.ManifestError.{ManifestError}
+use Rattle.flow_manifest.specs.declared.error.ManifestError.TheVariants as manifest
+use Rattle.flow_manifest.specs.declared.error.OpenError.{OpenError}
+use Rattle.flow_manifest.specs.declared.error.OpenError.TheVariants.{Damaged, Format, Entries, Cut, NoArchive, Fault, OutOfMemory}
+use Rattle.flow_manifest.specs.declared.slots.Slot.{Slot}
+use Rattle.flow_manifest.specs.declared.slots.Slot.TheVariants.{First, Second}
+use Rattle.flow_manifest.specs.declared.slots.Slots.{Slots}
+use Rattle.flow_manifest.specs.Fault.{IsFault}
+use Rattle.flow_manifest.specs.Slots.{file_of, IsOpen, IsClosed, Holds}
+
+-- a disk's refusal, told of an opening
+abbrev pub told : DiskError → OpenError
+told disk.Fault = Fault
+told disk.OutOfMemory = OutOfMemory
+
+-- the fault of a manifest, told of its slot
+abbrev pub in_slot : Slot → ManifestError → OpenError
+in_slot slot manifest.Format = Format (file_of slot)
+in_slot slot manifest.Entries = Entries (file_of slot)
+in_slot slot manifest.Cut = Cut (file_of slot)
+in_slot slot manifest.OutOfMemory = OutOfMemory
+
+-- what a slot with a gate holds
+abbrev pub IsHeld : List ℕ → Option Manifest → Type 0
+IsHeld octets (Some m) = Holds octets m
+IsHeld octets None = IsClosed octets
+
+-- of two open slots the one of the greater generation counts
+pub record IsNewerOf (one two : Manifest) (slots : Slots) : Type 0 where
+  pub beside : slots.other_open ≡ true
+  pub current : ((slots.current_slot ≡ First) × (slots.current ≡ one) × (two.generation < one.generation))
+      ⊎ ((slots.current_slot ≡ Second) × (slots.current ≡ two) × (one.generation < two.generation))
+
+-- a slot without octets, or an open one whose body has this first fault
+abbrev pub IsSlotFault : Slot → List ℕ → OpenError → Type 0
+IsSlotFault slot octets fault = ((length octets ≡ 0) × (fault ≡ Cut (file_of slot))) ⊎ (IsOpen octets × (f : ManifestError) × IsFault (drop 1 octets) f × (fault ≡ in_slot slot f))
+
+-- No slot is open; else the fault of slot 1; else that of slot 2; else both are open with one generation.
+abbrev pub IsOpenFault : (ℕ → List ℕ) → OpenError → Type 0
+IsOpenFault image fault =
+    ((IsOpen (image 1) → ⊥) × (IsOpen (image 2) → ⊥) × (fault ≡ NoArchive))
+    ⊎ ((IsOpen (image 1) ⊎ IsOpen (image 2)) × IsSlotFault First (image 1) fault)
+    ⊎ ((IsOpen (image 1) ⊎ IsOpen (image 2)) × (held : Option Manifest) × IsHeld (image 1) held × IsSlotFault Second (image 2) fault)
+    ⊎ ((m : Manifest) × (n : Manifest) × Holds (image 1) m × Holds (image 2) n × (m.generation ≡ n.generation) × (fault ≡ Damaged 2 3))
+
+-- a fault of the device is told only where it has failed in this call
+pub record HasCause {T : Type 0} (before now : ℕ) (result : Result T OpenError) : Type 0 where
+  pub later : before ≤ now
+  pub fault : IsErrOf result Fault → HasRisen before now
