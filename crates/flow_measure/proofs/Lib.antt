@@ -1,4 +1,5 @@
 pub mod CountLoop
+pub mod FewFlows
 pub mod Fitting
 pub mod Gathering
 pub mod Intervals

@@ -1,5 +1,5 @@
 -- The flows of data records.
-use Rattle.std.specs.Prelude.{ℕ, ◌/◌, ◌==◌, List, Option, Some, None, option_map, unwrap_or, nat_le, find, if◌then◌else◌}
+use Rattle.std.specs.Prelude.{◌<◌, ◌^◌, ℕ, ◌/◌, ◌==◌, List, Option, Some, None, option_map, unwrap_or, nat_le, find, if◌then◌else◌}
 use Rattle.std.specs.List.{filter_map}
 use Rattle.flow_elements.specs.Values.{number_of}
 use Rattle.flow_codec.specs.declared.message.Header.{Header}
@@ -43,5 +43,9 @@ flows_of m = filter_map (flow_of_record m.header) m.records
 abbrev pub flow_of : Placed → Option Flow
 flow_of x = flow_of_record x.0 (interpreted x.1)
 
-abbrev pub flows_in : List Placed → List Flow
-flows_in taken = filter_map flow_of taken
+abbrev pub flows_among : List Placed → List Flow
+flows_among taken = filter_map flow_of taken
+
+-- a flow's counts fit their types
+abbrev pub FlowFits : Flow → Type 0
+FlowFits f = (f.octets < 2 ^ 64) × (f.packets < 2 ^ 64)

@@ -1,13 +1,14 @@
 //! Laws of flows and of their sums.
 
-ghost use Rattle.std.specs.Prelude.{◌≡◌, ℕ, ◌<◌, ◌%◌, List, ◌++◌, Option, map, filter};
+ghost use Rattle.std.specs.Prelude.{◌≡◌, ℕ, ◌<◌, ◌^◌, ◌%◌, List, ◌++◌, length, Option, map, filter};
 ghost use Rattle.std.specs.FinMap as finite;
+ghost use Rattle.std.specs.List.{AllByRecursion};
 ghost use Rattle.flow_measure.specs.declared.flow.Flow.{Flow};
 ghost use Rattle.flow_measure.specs.declared.rows.Key.{Key};
 ghost use Rattle.flow_codec.specs.Message.{in_fields};
 ghost use Rattle.flow_codec.specs.Raw.{RawMessage, under};
-ghost use Rattle.flow_measure.specs.Flows.{flows_of, flows_in};
-ghost use Rattle.flow_measure.specs.Sums.{sums_by, table_of, merged, widened, key_of, is_key, counted, some_total};
+ghost use Rattle.flow_measure.specs.Flows.{FlowFits, flows_of, flows_among};
+ghost use Rattle.flow_measure.specs.Sums.{AllFit, sums_by, table_of, merged, widened, key_of, is_key, counted, some_total};
 
 /// The sums of flows have at each key the sum of the flows of that key, and nothing where there are none.
 pub fn sums_at_a_key()
@@ -26,5 +27,10 @@ pub fn widening()
 
 /// The flows of a message's records in octets are those of the same message in fields.
 pub fn flows_either_way()
-    ensures { (m : RawMessage) → flows_of (in_fields m) ≡ flows_in (under m.header m.records) }
+    ensures { (m : RawMessage) → flows_of (in_fields m) ≡ flows_among (under m.header m.records) }
+{}
+
+/// Fewer than 2^64 flows whose counts fit their types have sums that fit theirs: their addition is never refused for that.
+pub fn few_flows_fit()
+    ensures { (width : ℕ) (flows : List Flow) → AllByRecursion FlowFits flows → length flows < 2 ^ 64 → AllFit (table_of width flows) }
 {}
