@@ -1,0 +1,6 @@
+pub mod Recorded
+pub mod Looked
+pub mod Stories
+pub mod Noted
+pub mod Told
+pub mod Read

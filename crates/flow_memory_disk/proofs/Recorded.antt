@@ -1,0 +1,32 @@
+-- One call more in the record.
+use Rattle.std.proofs.Common.{◌≡◌, ℕ, ◌+◌, ◌≤◌, List, [], ◌∷◌, ◌++◌, length, drop, refl, ◌∙◌, ap, arith, length-drop}
+use Rattle.std.proofs.lemmas.List.{take-append-le, drop-append-le}
+use Rattle.flow_memory_disk.specs.declared.deed.Deed.{Deed}
+use Rattle.flow_memory_disk.specs.declared.deed.Deed.TheVariants.{Wrote, Cut, Synced, Abandoned, Removed}
+use Rattle.flow_memory_disk.specs.Calls.{Call, written}
+use Rattle.flow_memory_disk.specs.Record.{call_of, calls_of, count_of, octets_of}
+
+pub octets_push : (deeds : List Deed) (deed : Deed) → octets_of (deeds ++ deed ∷ []) ≡ octets_of deeds + count_of deed
+octets_push [] deed = omega arith
+octets_push (first ∷ deeds) deed = omega (arith, octets_push deeds deed)
+
+call_front : (deed : Deed) (octets more : List ℕ) → count_of deed ≤ length octets → call_of deed (octets ++ more) ≡ call_of deed octets
+call_front (Wrote file at count) octets more le = ap (written file at) (take-append-le count octets more le)
+call_front (Cut file count) octets more le = refl
+call_front (Synced file) octets more le = refl
+call_front (Abandoned file) octets more le = refl
+call_front (Removed file) octets more le = refl
+
+no_octets : (octets : List ℕ) → 0 ≡ length octets → octets ≡ []
+no_octets [] is = refl
+no_octets (x ∷ octets) is = absurd (omega (arith, is))
+
+pub calls_push : (deeds : List Deed) (deed : Deed) (octets more : List ℕ) → octets_of deeds ≡ length octets
+    → calls_of (deeds ++ deed ∷ []) (octets ++ more) ≡ calls_of deeds octets ++ call_of deed more ∷ []
+calls_push [] deed octets more whole = ap (λ (l : List ℕ). call_of deed (l ++ more) ∷ []) (no_octets octets whole)
+calls_push (first ∷ deeds) deed octets more whole =
+    let rest = calls_push deeds deed (drop (count_of first) octets) more (omega (arith, whole, length-drop (count_of first) octets)) in
+    let same : call_of first (octets ++ more) ≡ call_of first octets = call_front first octets more (omega (arith, whole)) in
+    let behind : drop (count_of first) (octets ++ more) ≡ drop (count_of first) octets ++ more = drop-append-le (count_of first) octets more (omega (arith, whole)) in
+    ap (λ (c : Call). c ∷ calls_of (deeds ++ deed ∷ []) (drop (count_of first) (octets ++ more))) same
+    ∙ ap (λ (l : List ℕ). call_of first octets ∷ calls_of (deeds ++ deed ∷ []) l) behind ∙ ap (λ (l : List Call). call_of first octets ∷ l) rest

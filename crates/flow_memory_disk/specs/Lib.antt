@@ -1,0 +1,6 @@
+pub mod Calls
+pub mod Memory
+pub mod Record
+pub mod Sound
+pub mod Stored
+pub mod Laws

@@ -1,0 +1,14 @@
+-- What the fields of a memory disk tell.
+use Rattle.std.specs.Prelude.{List, []}
+use Rattle.flow_memory_disk.specs.declared.disk.MemoryDisk.{MemoryDisk}
+use Rattle.flow_memory_disk.specs.declared.record.Record.{Record}
+use Rattle.flow_memory_disk.specs.declared.stored.StoredFile.{StoredFile}
+use Rattle.flow_memory_disk.specs.Calls.{Story}
+use Rattle.flow_memory_disk.specs.Record.{calls_of}
+use Rattle.flow_memory_disk.specs.Stored.{looked, first_in, marks_in, unwritten}
+
+unfoldable pub story_in : List StoredFile → Record → Story
+story_in files log = record { base = looked first_in [] files; calls = calls_of log.deeds.items log.octets.items; marks = looked marks_in unwritten files }
+
+abbrev pub story_of : MemoryDisk → Story
+story_of disk = story_in disk.files.items disk.log

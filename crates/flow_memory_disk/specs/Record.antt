@@ -1,0 +1,34 @@
+-- The record: what is kept of a write is how many octets it has; the octets of all writes stand one behind the other.
+use Rattle.std.specs.Prelude.{ℕ, ◌+◌, List, [], ◌∷◌, take, drop}
+use Rattle.flow_memory_disk.specs.declared.deed.Deed.{Deed}
+use Rattle.flow_memory_disk.specs.declared.deed.Deed.TheVariants.{Wrote, Cut, Synced, Abandoned, Removed}
+use Rattle.flow_memory_disk.specs.Calls.{Call, written, shortened, settled, abandoned, removed}
+
+abbrev pub file_of_deed : Deed → ℕ
+file_of_deed (Wrote file at count) = file
+file_of_deed (Cut file count) = file
+file_of_deed (Synced file) = file
+file_of_deed (Abandoned file) = file
+file_of_deed (Removed file) = file
+
+abbrev pub count_of : Deed → ℕ
+count_of (Wrote file at count) = count
+count_of (Cut file count) = 0
+count_of (Synced file) = 0
+count_of (Abandoned file) = 0
+count_of (Removed file) = 0
+
+abbrev pub octets_of : List Deed → ℕ
+octets_of [] = 0
+octets_of (deed ∷ deeds) = count_of deed + octets_of deeds
+
+abbrev pub call_of : Deed → List ℕ → Call
+call_of (Wrote file at count) octets = written file at (take count octets)
+call_of (Cut file count) octets = shortened file count
+call_of (Synced file) octets = settled file
+call_of (Abandoned file) octets = abandoned file
+call_of (Removed file) octets = removed file
+
+abbrev pub calls_of : List Deed → List ℕ → List Call
+calls_of [] octets = []
+calls_of (deed ∷ deeds) octets = call_of deed octets ∷ calls_of deeds (drop (count_of deed) octets)

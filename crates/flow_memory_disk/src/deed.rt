@@ -1,0 +1,40 @@
+// A call that changed what a file holds.
+
+/// A call that changed what a file holds. The octets of a write stand in the record beside it.
+#[derive(Drop)]
+pub(crate) enum Deed {
+    Wrote(u64, u64, usize),
+    Cut(u64, u64),
+    Synced(u64),
+    /// The begin of a removal: a stop may leave anything of the file.
+    Abandoned(u64),
+    Removed(u64),
+}
+
+impl Deed {
+    ghost use Rattle.std.specs.Prelude.{◌≡◌};
+    ghost use Rattle.flow_memory_disk.specs.Record.{file_of_deed, count_of};
+
+    /// The number of its file.
+    pub(crate) fn file(&self) -> u64
+        ensures { result ≡ file_of_deed self.now }
+    {
+        match self {
+            Deed::Wrote(file, _, _) => *file,
+            Deed::Cut(file, _) => *file,
+            Deed::Synced(file) => *file,
+            Deed::Abandoned(file) => *file,
+            Deed::Removed(file) => *file,
+        }
+    }
+
+    /// How many octets it wrote.
+    pub(crate) fn count(&self) -> usize
+        ensures { result ≡ count_of self.now }
+    {
+        match self {
+            Deed::Wrote(_, _, count) => *count,
+            _ => 0,
+        }
+    }
+}

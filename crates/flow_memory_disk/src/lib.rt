@@ -1,0 +1,19 @@
+//! Disks in memory, for tests. `MemoryDisk` keeps a record of its calls, so that a stop can leave any image its files may
+//! have; all its room is made at once.
+#![tactic(auto)]
+
+mod deed;
+mod device;
+mod disk;
+mod record;
+mod reserved;
+mod room;
+mod sealed;
+mod stored;
+
+pub use disk::MemoryDisk;
+pub use room::Room;
+pub use sealed::MemorySealed;
+
+#[cfg(test)]
+mod tests;

@@ -1,0 +1,57 @@
+// A frozen file of a memory disk.
+ghost use Rattle.std.specs.Prelude.{◌≡◌, true, length};
+ghost use Rattle.std.specs.Arc.{arc_value};
+
+use flow_disk::{DiskError, Faults, SealedFile};
+use std::alloc::Global;
+use std::sync::Arc;
+
+/// A frozen file of a memory disk. Its reads can't fail but for want of memory.
+#[derive(Drop)]
+pub struct MemorySealed {
+    pub(crate) number: u64,
+    octets: Arc<Vec<u8>>,
+}
+
+impl MemorySealed {
+    pub(crate) fn new(number: u64, octets: Arc<Vec<u8>>) -> Self
+        ensures { result ≡ record { number = number; octets = octets } }
+    {
+        MemorySealed { number, octets }
+    }
+}
+
+impl SealedFile for MemorySealed {
+    ghost use Rattle.std.specs.Prelude.{refl};
+
+    ghost octets = { λ s. (arc_value s.octets).items };
+
+    ghost number = { λ s. s.number };
+
+    ghost size = { λ s. length (arc_value s.octets).items };
+
+    ghost honest = { λ _. true };
+
+    ghost can_fail = { λ _. ⊥ };
+
+    ghost whole = { λ s h. refl };
+
+    fn file(&self) -> u64 {
+        self.number
+    }
+
+    fn length(&self) -> u64 {
+        self.octets.len() as u64
+    }
+
+    fn read(
+        &self,
+        alloc: Global,
+        _faults: &mut Faults,
+        at: u64,
+        count: usize,
+    ) -> Result<Vec<u8>, DiskError> {
+        let at = at as usize;
+        Ok(self.octets[at..at + count].to_vec(alloc)?)
+    }
+}
