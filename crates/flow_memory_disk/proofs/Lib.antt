@@ -4,3 +4,6 @@ pub mod Stories
 pub mod Noted
 pub mod Told
 pub mod Read
+pub mod Filling
+pub mod Stops
+pub mod StoppedFiles

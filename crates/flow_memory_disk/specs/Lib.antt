@@ -4,3 +4,5 @@ pub mod Record
 pub mod Sound
 pub mod Stored
 pub mod Laws
+pub mod Stopped
+pub mod Stopping

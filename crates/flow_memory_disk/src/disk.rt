@@ -5,9 +5,11 @@ ghost use Rattle.flow_memory_disk.specs.Calls.{replayed};
 ghost use Rattle.flow_memory_disk.specs.Record.{calls_of};
 ghost use Rattle.flow_memory_disk.specs.Stored.{looked, held_in, first_in};
 
+use crate::choice::Choice;
 use crate::deed::Deed;
 use crate::record::Record;
 use crate::room::Room;
+use crate::stop::stop_all;
 use crate::stored::StoredFile;
 use flow_disk::DiskError;
 use std::alloc::{AllocError, Global};
@@ -28,8 +30,11 @@ pub struct MemoryDisk {
 }
 
 impl MemoryDisk {
-    ghost use Rattle.std.specs.Prelude.{◌<◌, ◌≤◌, ◌==◌, None, vec_len, vec_capacity, ◌+◌, ◌^◌, ◌++◌, true, false, max, length, take, IfOk, OnOk, OnErr};
-    ghost use Rattle.std.specs.List.{position};
+    ghost use Rattle.std.specs.Prelude.{◌<◌, ◌≤◌, ◌==◌, None, vec_len, vec_capacity, ◌+◌, ◌^◌, ◌++◌, true, false, max, length, take, IsTrue, ◌↔◌, IfOk, OnOk, OnErr};
+    ghost use Rattle.std.specs.List.{All, position};
+    ghost use Rattle.flow_memory_disk.specs.Stopped.{stopped};
+    ghost use Rattle.flow_memory_disk.specs.Stopping.{CanStop};
+    ghost use Rattle.flow_disk.specs.Disk.{IsDiskImage};
     ghost use Rattle.std.specs.Arc.{arc_value};
     ghost use Rattle.std.specs.Ordering.{nat_cmp};
     ghost use Rattle.std.specs.BTreeSet.{contains};
@@ -206,5 +211,50 @@ impl MemoryDisk {
             }
         }
         Ok(numbers)
+    }
+
+    /// Whether a stop may leave this: whether the octets that it asks for are there, and fit the room.
+    pub fn can_crash(&self, choice: Choice<'_>) -> bool
+        ensures { IsTrue result ↔ All (λ file. CanStop file choice.entry) self.now.files.items }
+    {
+        for stored in &self.files {
+            if !stored.can_stop(choice) {
+                return false;
+            }
+        }
+        true
+    }
+
+    /// The disk after a stop that left this image: it is settled, nothing is frozen, and the record begins anew in the
+    /// same room. Takes no memory. Values of frozen files are to be dropped first, since they hold room.
+    pub fn crash(self, choice: Choice<'_>) -> MemoryDisk
+        requires { All (λ file. CanStop file choice) self.files.items }
+        ensures story { story_of result ≡ stopped (story_of self) choice.entry }
+        ensures image { IsDiskImage (held_of (story_of self)) (λ n. (held_of (story_of result) n).reads) }
+        ensures faults { result.faults ≡ self.faults }
+    {
+        let MemoryDisk {
+            mut files,
+            spare,
+            mut log,
+            faults,
+        } = self;
+        stop_all(&mut files, choice);
+        log.clear();
+        MemoryDisk {
+            files,
+            spare,
+            log,
+            faults,
+        }
+    }
+
+    /// The disk as a program finds it that was given up without a stop: each file reads as before, nothing is frozen,
+    /// and the record begins anew in the same room.
+    pub fn restart(self) -> MemoryDisk
+        ensures story { story_of result ≡ stopped (story_of self) Choice.Kept }
+        ensures faults { result.faults ≡ self.faults }
+    {
+        self.crash(Choice::Kept)
     }
 }

@@ -2,15 +2,19 @@
 //! have; all its room is made at once.
 #![tactic(auto)]
 
+mod choice;
 mod deed;
 mod device;
 mod disk;
+mod fill;
 mod record;
 mod reserved;
 mod room;
 mod sealed;
+mod stop;
 mod stored;
 
+pub use choice::Choice;
 pub use disk::MemoryDisk;
 pub use room::Room;
 pub use sealed::MemorySealed;

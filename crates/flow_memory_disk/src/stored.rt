@@ -1,7 +1,8 @@
 // A file of the disk, with what a stop may leave of it.
 ghost use Rattle.std.specs.Prelude.{◌≡◌, ◌<◌, ◌≤◌, ◌^◌, true, false, [], length, vec_len, vec_capacity};
 
-use crate::deed::Deed;
+use crate::choice::Choice;
+use crate::fill::fill;
 use crate::reserved::{append, replace};
 use std::alloc::{AllocError, Global};
 use std::sync::Arc;
@@ -25,6 +26,7 @@ pub(crate) struct StoredFile {
     ghost octets_fit: { vec_len octets ≤ room },
     ghost last_fits: { vec_len last ≤ room },
     ghost limit: { room ≤ 2 ^ 62 },
+    ghost fast_within: { fast ≤ vec_len last },
     ghost octets_room: { room ≤ vec_capacity octets },
     ghost last_room: { room ≤ vec_capacity last },
     ghost first_room: { room ≤ vec_capacity first },
@@ -35,10 +37,12 @@ pub(crate) struct StoredFile {
 }
 
 impl StoredFile {
-    ghost use Rattle.std.specs.Prelude.{◌+◌, ◌++◌, ◌∷◌, IfOk, IfSome, IfNone, OnSome, IsTrue, take, max};
+    ghost use Rattle.std.specs.Prelude.{◌+◌, ◌++◌, ◌∷◌, IfOk, IfSome, IfNone, OnSome, IsTrue, ◌↔◌, take, max};
     ghost use Rattle.std.specs.Arc.{arc_value};
     ghost use Rattle.flow_disk.specs.Disk.{put_at, touched_at, loosened_at, settled_at, given_up};
     ghost use Rattle.flow_memory_disk.specs.Stored.{held_in, marks_in};
+    ghost use Rattle.flow_memory_disk.specs.Stopped.{image_of};
+    ghost use Rattle.flow_memory_disk.specs.Stopping.{CanStop};
 
     /// Makes a file no call has named yet, with room for so many octets and so many writes between two syncs.
     pub(crate) fn new(alloc: Global, room: usize, writes: usize) -> Result<Self, AllocError>
@@ -182,6 +186,61 @@ impl StoredFile {
         let shared = Arc::try_clone(&self.copy).ok()?;
         self.frozen = true;
         Some(shared)
+    }
+
+    /// Whether a stop may leave this of it: whether the octets that it asks for are there and fit.
+    pub(crate) fn can_stop(&self, choice: Choice<'_>) -> bool
+        ensures { IsTrue result ↔ CanStop self.now choice.entry }
+    {
+        match choice {
+            Choice::Kept => true,
+            Choice::Settled => true,
+            Choice::Filled(octets) => !octets.is_empty(),
+            Choice::Longer(octets) => {
+                !self.loose || octets.len() <= self.room && self.fast <= self.room - octets.len()
+            }
+        }
+    }
+
+    /// Leaves it as a stop does, settled and not frozen.
+    pub(crate) fn stop(&mut self, choice: Choice<'_>)
+        requires { CanStop self.old choice }
+        ensures held { held_in self.new ≡ settled_at (image_of choice.entry (held_in self.old)) }
+        ensures marks { marks_in self.new ≡ record { size = length (image_of choice.entry (held_in self.old)); settled = true; frozen = false; listed = self.old.listed } }
+        ensures first { self.new.first.items ≡ image_of choice.entry (held_in self.old) }
+        ensures number { self.new.number ≡ self.old.number }
+    {
+        self.settled = false;
+        match choice {
+            Choice::Kept => {}
+            Choice::Settled => replace(&mut self.octets, &self.last),
+            Choice::Filled(octets) => fill(&mut self.octets, self.fast, &self.touched, octets),
+            Choice::Longer(octets) => {
+                if self.loose {
+                    replace(&mut self.octets, &self.last[..self.fast]);
+                    append(&mut self.octets, octets);
+                } else {
+                    replace(&mut self.octets, &self.last);
+                }
+            }
+        }
+        self.settle();
+    }
+
+    /// Takes what it reads as for all that a stop may leave of it, and for what it read as when the record began.
+    fn settle(&mut self)
+        ensures held { held_in self.new ≡ settled_at self.old.octets.items }
+        ensures marks { marks_in self.new ≡ record { size = length self.old.octets.items; settled = true; frozen = false; listed = self.old.listed } }
+        ensures first { self.new.first.items ≡ self.old.octets.items }
+        ensures number { self.new.number ≡ self.old.number }
+    {
+        replace(&mut self.last, &self.octets);
+        replace(&mut self.first, &self.octets);
+        self.touched.clear();
+        self.fast = self.octets.len();
+        self.loose = false;
+        self.settled = true;
+        self.frozen = false;
     }
 }
 

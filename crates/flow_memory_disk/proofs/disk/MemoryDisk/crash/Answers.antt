@@ -1,0 +1,41 @@
+use Rattle.std.proofs.Common.{◌≡◌, List, ◌++◌, length, take, drop, sym, ◌∙◌, ap, subst}
+use Rattle.flow_disk.specs.Disk.{IsImage}
+use Rattle.flow_memory_disk.specs.declared.stored.StoredFile.{StoredFile}
+use Rattle.flow_memory_disk.specs.Calls.{Story, held_of}
+use Rattle.flow_memory_disk.specs.Memory.{story_in, story_of}
+use Rattle.flow_memory_disk.specs.Sound.{sound}
+use Rattle.flow_memory_disk.specs.Stopped.{stopped}
+use Rattle.flow_memory_disk.proofs.Noted.{Replays}
+use Rattle.flow_memory_disk.proofs.Stops.{stop_image}
+use Rattle.flow_memory_disk.proofs.StoppedFiles.{replays_after, story_after, all_of}
+use Rattle.flow_memory_disk.specs.Record.{calls_of}
+use Rattle.flow_memory_disk.specs.Stopping.{AllStopped}
+use Rattle.flow_memory_disk.proofs.disk.MemoryDisk.crash.Goals as goal
+use Rattle.flow_memory_disk.proofs.disk.MemoryDisk.crash.Goals.{After-clear}
+
+all_stopped : (c : After-clear) → AllStopped c.args.choice c.args.self.files.items c.stop_all.new.files
+all_stopped c = subst (λ (l : List StoredFile). AllStopped c.args.choice l c.stop_all.new.files) c.deref_mut.ensures.value c.stop_all.ensures
+
+same_files : (c : After-clear) → take c.args.self.files.len (c.stop_all.new.files ++ drop (length c.stop_all.new.files) c.args.self.files.items) ≡ c.stop_all.new.files
+same_files c = all_of c.args.self.files.items c.stop_all.new.files c.args.self.files.len (all_stopped c).long c.args.self.files.ok.0
+
+story_is : (c : After-clear) → story_in (take c.args.self.files.len (c.stop_all.new.files ++ drop (length c.stop_all.new.files) c.args.self.files.items)) c.clear.new.self ≡ stopped (story_of c.args.self) c.args.choice
+story_is c = ap (λ (l : List StoredFile). story_in l c.clear.new.self) (same_files c)
+    ∙ story_after c.args.choice c.args.self.files.items c.stop_all.new.files (all_stopped c) c.args.self.log c.clear.new.self c.args.self.replays c.clear.ensures
+
+pub invariant_of-result : goal.invariant_of-result
+invariant_of-result c =
+    let new = c.stop_all.new.files in
+    let cleared = c.clear.new.self in
+    record {
+      replays = subst (λ (l : List StoredFile). Replays l (calls_of cleared.deeds.items cleared.octets.items)) (sym (same_files c))
+          (subst (Replays new) (sym c.clear.ensures) (replays_after c.args.choice c.args.self.files.items new (all_stopped c)));
+    }
+
+pub returns-clause-story : goal.returns-clause-story
+returns-clause-story c = story_is (goal.at.returns-clause-story c).After-clear
+
+pub returns-clause-image : goal.returns-clause-image
+returns-clause-image c n =
+    let old = story_of c.args.self in
+    subst (λ (s : Story). IsImage (held_of old n) (held_of s n).reads) (sym (story_is (goal.at.returns-clause-image c).After-clear)) (stop_image c.args.choice (held_of old n) (sound old n))

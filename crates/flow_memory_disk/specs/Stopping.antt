@@ -1,0 +1,26 @@
+-- A stop of stored files.
+use Rattle.std.specs.Prelude.{◌≡◌, ℕ, ◌+◌, ◌<◌, ◌≤◌, true, false, List, length, get_or}
+use Rattle.flow_disk.specs.Disk.{settled_at}
+use Rattle.flow_memory_disk.specs.declared.choice.Choice.{Choice}
+use Rattle.flow_memory_disk.specs.declared.choice.Choice.TheVariants.{Kept, Settled, Filled, Longer}
+use Rattle.flow_memory_disk.specs.declared.stored.StoredFile.{StoredFile}
+use Rattle.flow_memory_disk.specs.Stored.{held_in, first_in, marks_in}
+use Rattle.flow_memory_disk.specs.Stopped.{image_of}
+
+-- a stop may leave this of the file: the octets that it asks for are there, and fit the file's room
+abbrev pub CanStop : StoredFile → Choice → Type 0
+CanStop file Kept = Unit {0}
+CanStop file Settled = Unit {0}
+CanStop file (Filled octets) = 0 < length octets.now
+CanStop file (Longer octets) = file.loose ≡ true → file.fast + length octets.now ≤ file.room
+
+-- the file as a stop left it
+pub record IsStopped (choice : Choice) (was to : StoredFile) : Type 0 where
+  pub number : to.number ≡ was.number
+  pub held : held_in to ≡ settled_at (image_of choice (held_in was))
+  pub first : first_in to ≡ image_of choice (held_in was)
+  pub marks : marks_in to ≡ record { size = length (image_of choice (held_in was)); settled = true; frozen = false; listed = was.listed }
+
+pub record AllStopped (choice : Choice) (old new : List StoredFile) : Type 0 where
+  pub long : length new ≡ length old
+  pub each : (k : ℕ) (d : StoredFile) → k < length old → IsStopped choice (get_or old k d) (get_or new k d)
