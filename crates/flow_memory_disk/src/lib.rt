@@ -2,11 +2,14 @@
 //! have; all its room is made at once.
 #![tactic(auto)]
 
+mod bad_reads;
 mod choice;
 mod deed;
 mod device;
 mod disk;
 mod fill;
+mod fused;
+mod one_fault;
 mod record;
 mod reserved;
 mod room;
@@ -14,8 +17,11 @@ mod sealed;
 mod stop;
 mod stored;
 
+pub use bad_reads::FusedFile;
 pub use choice::Choice;
 pub use disk::MemoryDisk;
+pub use fused::FusedDisk;
+pub use one_fault::OneFaultDisk;
 pub use room::Room;
 pub use sealed::MemorySealed;
 

@@ -1,0 +1,201 @@
+// A disk of which one call fails.
+ghost use Rattle.std.specs.Prelude.{◌≡◌, ◌+◌};
+
+use crate::choice::Choice;
+use crate::disk::MemoryDisk;
+use flow_disk::{Disk, DiskError};
+use std::alloc::Global;
+
+/// A disk of which one call fails, once; later ones go on. A failed write has written the first half of its octets,
+/// rounded down; any other failed call leaves the file as it was. Reads of frozen files are no calls of the disk.
+#[derive(Drop)]
+pub struct OneFaultDisk<D: Disk> {
+    pub(crate) disk: D,
+    until: u64,
+    failed: u64,
+}
+
+impl<D: Disk> OneFaultDisk<D> {
+    /// Of the calls, counted from 1, this one fails; with 0 none does.
+    pub fn new(disk: D, call: u64) -> Self
+        ensures { result ≡ record { disk = disk; until = call; failed = 0 } }
+    {
+        OneFaultDisk {
+            disk,
+            until: call,
+            failed: 0,
+        }
+    }
+}
+
+impl OneFaultDisk<MemoryDisk> {
+    ghost use Rattle.std.specs.Prelude.{IsTrue, ◌↔◌};
+    ghost use Rattle.std.specs.List.{All};
+    ghost use Rattle.flow_disk.specs.Disk.{IsDiskImage};
+    ghost use Rattle.flow_memory_disk.specs.Calls.{held_of};
+    ghost use Rattle.flow_memory_disk.specs.Stopped.{stopped};
+    ghost use Rattle.flow_memory_disk.specs.Stopping.{CanStop};
+    ghost use Rattle.flow_memory_disk.specs.Memory.{story_of};
+
+    /// Whether a stop may leave this, as `MemoryDisk::can_crash`.
+    pub fn can_crash(&self, choice: Choice<'_>) -> bool
+        ensures { IsTrue result ↔ All (λ file. CanStop file choice.entry) self.now.disk.files.items }
+    {
+        self.disk.can_crash(choice)
+    }
+
+    /// The disk after a stop that left this image, as `MemoryDisk::crash`. All its calls pass.
+    pub fn crash(self, choice: Choice<'_>) -> MemoryDisk
+        requires { All (λ file. CanStop file choice) self.disk.files.items }
+        ensures story { story_of result ≡ stopped (story_of self.disk) choice.entry }
+        ensures image { IsDiskImage (held_of (story_of self.disk)) (λ n. (held_of (story_of result) n).reads) }
+    {
+        let OneFaultDisk {
+            disk,
+            until: _,
+            failed: _,
+        } = self;
+        disk.crash(choice)
+    }
+
+    /// The disk given up without a stop, as `MemoryDisk::restart`. All its calls pass.
+    pub fn restart(self) -> MemoryDisk
+        ensures { story_of result ≡ stopped (story_of self.disk) Choice.Kept }
+    {
+        let OneFaultDisk {
+            disk,
+            until: _,
+            failed: _,
+        } = self;
+        disk.restart()
+    }
+}
+
+impl<D: Disk> Disk for OneFaultDisk<D> {
+    type Sealed = D::Sealed;
+
+    ghost honest = { λ f. D.honest f.disk };
+
+    ghost marks = { λ f. D.marks f.disk };
+
+    ghost held = { λ f. D.held f.disk };
+
+    ghost moment = { λ f. D.moment f.disk };
+
+    ghost left_since = { λ f. D.left_since f.disk };
+
+    ghost faults = { λ f. f.failed + D.faults f.disk };
+
+    ghost reads_image = { λ f. D.reads_image f.disk };
+
+    ghost fast_within = { λ f. D.fast_within f.disk };
+
+    ghost fast_whole = { λ f. D.fast_whole f.disk };
+
+    ghost settled_alone = { λ f. D.settled_alone f.disk };
+
+    ghost has_size = { λ f. D.has_size f.disk };
+
+    ghost within_limit = { λ f. D.within_limit f.disk };
+
+    ghost counts_now = { λ f. D.counts_now f.disk };
+
+    ghost only_now = { λ f. D.only_now f.disk };
+
+    fn length(&mut self, file: u64) -> Result<u64, DiskError> {
+        if self.until == 1 {
+            self.until = 0;
+            self.failed = self.failed.saturating_add(1);
+            return Err(DiskError::Fault);
+        }
+        self.until = self.until.saturating_sub(1);
+        self.disk.length(file)
+    }
+
+    fn read(
+        &mut self,
+        alloc: Global,
+        file: u64,
+        at: u64,
+        count: usize,
+    ) -> Result<Vec<u8>, DiskError> {
+        if self.until == 1 {
+            self.until = 0;
+            self.failed = self.failed.saturating_add(1);
+            return Err(DiskError::Fault);
+        }
+        self.until = self.until.saturating_sub(1);
+        self.disk.read(alloc, file, at, count)
+    }
+
+    fn write_at(&mut self, file: u64, at: u64, octets: &[u8]) -> Result<(), DiskError> {
+        if self.until == 1 {
+            let _ = self.disk.write_at(file, at, &octets[..octets.len() / 2]);
+            self.until = 0;
+            self.failed = self.failed.saturating_add(1);
+            return Err(DiskError::Fault);
+        }
+        self.until = self.until.saturating_sub(1);
+        self.disk.write_at(file, at, octets)
+    }
+
+    fn cut(&mut self, file: u64, count: u64) -> Result<(), DiskError> {
+        if self.until == 1 {
+            self.until = 0;
+            self.failed = self.failed.saturating_add(1);
+            return Err(DiskError::Fault);
+        }
+        self.until = self.until.saturating_sub(1);
+        self.disk.cut(file, count)
+    }
+
+    fn sync(&mut self, file: u64) -> Result<(), DiskError> {
+        if self.until == 1 {
+            self.until = 0;
+            self.failed = self.failed.saturating_add(1);
+            return Err(DiskError::Fault);
+        }
+        self.until = self.until.saturating_sub(1);
+        self.disk.sync(file)
+    }
+
+    fn remove(&mut self, file: u64) -> Result<(), DiskError> {
+        if self.until == 1 {
+            self.until = 0;
+            self.failed = self.failed.saturating_add(1);
+            return Err(DiskError::Fault);
+        }
+        self.until = self.until.saturating_sub(1);
+        self.disk.remove(file)
+    }
+
+    fn files(&mut self, alloc: Global) -> Result<Vec<u64>, DiskError> {
+        if self.until == 1 {
+            self.until = 0;
+            self.failed = self.failed.saturating_add(1);
+            return Err(DiskError::Fault);
+        }
+        self.until = self.until.saturating_sub(1);
+        self.disk.files(alloc)
+    }
+
+    fn freeze(&mut self, file: u64) -> Result<D::Sealed, DiskError> {
+        if self.until == 1 {
+            self.until = 0;
+            self.failed = self.failed.saturating_add(1);
+            return Err(DiskError::Fault);
+        }
+        self.until = self.until.saturating_sub(1);
+        self.disk.freeze(file)
+    }
+
+    fn retire(&mut self, sealed: D::Sealed) -> Result<(), DiskError> {
+        if self.until == 1 {
+            self.until = 0;
+            self.failed = self.failed.saturating_add(1);
+            return Err(DiskError::Fault);
+        }
+        self.until = self.until.saturating_sub(1);
+        self.disk.retire(sealed)
+    }
+}
