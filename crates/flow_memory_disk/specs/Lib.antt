@@ -6,3 +6,4 @@ pub mod Stored
 pub mod Laws
 pub mod Stopped
 pub mod Stopping
+pub mod Lying
