@@ -231,6 +231,7 @@ impl MemoryDisk {
         requires { All (λ file. CanStop file choice) self.files.items }
         ensures story { story_of result ≡ stopped (story_of self) choice.entry }
         ensures image { IsDiskImage (held_of (story_of self)) (λ n. (held_of (story_of result) n).reads) }
+        ensures thawed { (n : ℕ) → ((story_of result).marks n).frozen ≡ false }
         ensures faults { result.faults ≡ self.faults }
     {
         let MemoryDisk {
@@ -253,6 +254,7 @@ impl MemoryDisk {
     /// and the record begins anew in the same room.
     pub fn restart(self) -> MemoryDisk
         ensures story { story_of result ≡ stopped (story_of self) Choice.Kept }
+        ensures thawed { (n : ℕ) → ((story_of result).marks n).frozen ≡ false }
         ensures faults { result.faults ≡ self.faults }
     {
         self.crash(Choice::Kept)

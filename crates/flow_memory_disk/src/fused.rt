@@ -4,6 +4,7 @@ ghost use Rattle.std.specs.Prelude.{◌≡◌, ◌+◌};
 use crate::bad_reads::{BadReads, FusedFile};
 use crate::choice::Choice;
 use crate::disk::MemoryDisk;
+use crate::fuse::Fuse;
 use flow_disk::{Disk, DiskError};
 use std::alloc::Global;
 
@@ -12,7 +13,7 @@ use std::alloc::Global;
 #[derive(Drop)]
 pub struct FusedDisk<D: Disk> {
     pub(crate) disk: D,
-    left: u64,
+    fuse: Fuse,
     bad: Option<BadReads>,
     blown: u64,
 }
@@ -22,11 +23,11 @@ impl<D: Disk> FusedDisk<D> {
 
     /// Passes so many calls.
     pub fn new(disk: D, calls: u64) -> Self
-        ensures { result ≡ record { disk = disk; left = calls; bad = None; blown = 0 } }
+        ensures { result ≡ record { disk = disk; fuse = record { left = calls }; bad = None; blown = 0 } }
     {
         FusedDisk {
             disk,
-            left: calls,
+            fuse: Fuse::new(calls),
             bad: None,
             blown: 0,
         }
@@ -34,11 +35,11 @@ impl<D: Disk> FusedDisk<D> {
 
     /// The same, and each read of this file once frozen fails that reaches octet `from`.
     pub fn with_bad_reads(disk: D, calls: u64, file: u64, from: u64) -> Self
-        ensures { result ≡ record { disk = disk; left = calls; bad = Some (record { file = file; from = from }); blown = 0 } }
+        ensures { result ≡ record { disk = disk; fuse = record { left = calls }; bad = Some (record { file = file; from = from }); blown = 0 } }
     {
         FusedDisk {
             disk,
-            left: calls,
+            fuse: Fuse::new(calls),
             bad: Some(BadReads { file, from }),
             blown: 0,
         }
@@ -46,7 +47,7 @@ impl<D: Disk> FusedDisk<D> {
 }
 
 impl FusedDisk<MemoryDisk> {
-    ghost use Rattle.std.specs.Prelude.{IsTrue, ◌↔◌};
+    ghost use Rattle.std.specs.Prelude.{ℕ, false, IsTrue, ◌↔◌};
     ghost use Rattle.std.specs.List.{All};
     ghost use Rattle.flow_disk.specs.Disk.{IsDiskImage};
     ghost use Rattle.flow_memory_disk.specs.Calls.{held_of};
@@ -66,10 +67,11 @@ impl FusedDisk<MemoryDisk> {
         requires { All (λ file. CanStop file choice) self.disk.files.items }
         ensures story { story_of result ≡ stopped (story_of self.disk) choice.entry }
         ensures image { IsDiskImage (held_of (story_of self.disk)) (λ n. (held_of (story_of result) n).reads) }
+        ensures thawed { (n : ℕ) → ((story_of result).marks n).frozen ≡ false }
     {
         let FusedDisk {
             disk,
-            left: _,
+            fuse: _,
             bad: _,
             blown: _,
         } = self;
@@ -78,11 +80,12 @@ impl FusedDisk<MemoryDisk> {
 
     /// The disk given up without a stop, as `MemoryDisk::restart`. All its calls pass.
     pub fn restart(self) -> MemoryDisk
-        ensures { story_of result ≡ stopped (story_of self.disk) Choice.Kept }
+        ensures story { story_of result ≡ stopped (story_of self.disk) Choice.Kept }
+        ensures thawed { (n : ℕ) → ((story_of result).marks n).frozen ≡ false }
     {
         let FusedDisk {
             disk,
-            left: _,
+            fuse: _,
             bad: _,
             blown: _,
         } = self;
@@ -122,11 +125,10 @@ impl<D: Disk> Disk for FusedDisk<D> {
     ghost only_now = { λ f. D.only_now f.disk };
 
     fn length(&mut self, file: u64) -> Result<u64, DiskError> {
-        if self.left == 0 {
+        if self.fuse.fails() {
             self.blown = self.blown.saturating_add(1);
             return Err(DiskError::Fault);
         }
-        self.left -= 1;
         self.disk.length(file)
     }
 
@@ -137,66 +139,59 @@ impl<D: Disk> Disk for FusedDisk<D> {
         at: u64,
         count: usize,
     ) -> Result<Vec<u8>, DiskError> {
-        if self.left == 0 {
+        if self.fuse.fails() {
             self.blown = self.blown.saturating_add(1);
             return Err(DiskError::Fault);
         }
-        self.left -= 1;
         self.disk.read(alloc, file, at, count)
     }
 
     fn write_at(&mut self, file: u64, at: u64, octets: &[u8]) -> Result<(), DiskError> {
-        if self.left == 0 {
+        if self.fuse.fails() {
             let _ = self.disk.write_at(file, at, &octets[..octets.len() / 2]);
             self.blown = self.blown.saturating_add(1);
             return Err(DiskError::Fault);
         }
-        self.left -= 1;
         self.disk.write_at(file, at, octets)
     }
 
     fn cut(&mut self, file: u64, count: u64) -> Result<(), DiskError> {
-        if self.left == 0 {
+        if self.fuse.fails() {
             self.blown = self.blown.saturating_add(1);
             return Err(DiskError::Fault);
         }
-        self.left -= 1;
         self.disk.cut(file, count)
     }
 
     fn sync(&mut self, file: u64) -> Result<(), DiskError> {
-        if self.left == 0 {
+        if self.fuse.fails() {
             self.blown = self.blown.saturating_add(1);
             return Err(DiskError::Fault);
         }
-        self.left -= 1;
         self.disk.sync(file)
     }
 
     fn remove(&mut self, file: u64) -> Result<(), DiskError> {
-        if self.left == 0 {
+        if self.fuse.fails() {
             self.blown = self.blown.saturating_add(1);
             return Err(DiskError::Fault);
         }
-        self.left -= 1;
         self.disk.remove(file)
     }
 
     fn files(&mut self, alloc: Global) -> Result<Vec<u64>, DiskError> {
-        if self.left == 0 {
+        if self.fuse.fails() {
             self.blown = self.blown.saturating_add(1);
             return Err(DiskError::Fault);
         }
-        self.left -= 1;
         self.disk.files(alloc)
     }
 
     fn freeze(&mut self, file: u64) -> Result<FusedFile<D::Sealed>, DiskError> {
-        if self.left == 0 {
+        if self.fuse.fails() {
             self.blown = self.blown.saturating_add(1);
             return Err(DiskError::Fault);
         }
-        self.left -= 1;
         let sealed = self.disk.freeze(file)?;
         let bad = match self.bad {
             Some(bad) if bad.file == file => Some(bad.from),
@@ -206,11 +201,10 @@ impl<D: Disk> Disk for FusedDisk<D> {
     }
 
     fn retire(&mut self, sealed: FusedFile<D::Sealed>) -> Result<(), DiskError> {
-        if self.left == 0 {
+        if self.fuse.fails() {
             self.blown = self.blown.saturating_add(1);
             return Err(DiskError::Fault);
         }
-        self.left -= 1;
         let FusedFile { sealed, bad: _ } = sealed;
         self.disk.retire(sealed)
     }

@@ -8,6 +8,7 @@ mod deed;
 mod device;
 mod disk;
 mod fill;
+mod fuse;
 mod fused;
 mod lying;
 mod one_fault;

@@ -3,6 +3,7 @@ ghost use Rattle.std.specs.Prelude.{◌≡◌, ◌+◌};
 
 use crate::choice::Choice;
 use crate::disk::MemoryDisk;
+use crate::fuse::Countdown;
 use flow_disk::{Disk, DiskError};
 use std::alloc::Global;
 
@@ -11,25 +12,25 @@ use std::alloc::Global;
 #[derive(Drop)]
 pub struct OneFaultDisk<D: Disk> {
     pub(crate) disk: D,
-    until: u64,
+    countdown: Countdown,
     failed: u64,
 }
 
 impl<D: Disk> OneFaultDisk<D> {
     /// Of the calls, counted from 1, this one fails; with 0 none does.
     pub fn new(disk: D, call: u64) -> Self
-        ensures { result ≡ record { disk = disk; until = call; failed = 0 } }
+        ensures { result ≡ record { disk = disk; countdown = record { until = call }; failed = 0 } }
     {
         OneFaultDisk {
             disk,
-            until: call,
+            countdown: Countdown::new(call),
             failed: 0,
         }
     }
 }
 
 impl OneFaultDisk<MemoryDisk> {
-    ghost use Rattle.std.specs.Prelude.{IsTrue, ◌↔◌};
+    ghost use Rattle.std.specs.Prelude.{ℕ, false, IsTrue, ◌↔◌};
     ghost use Rattle.std.specs.List.{All};
     ghost use Rattle.flow_disk.specs.Disk.{IsDiskImage};
     ghost use Rattle.flow_memory_disk.specs.Calls.{held_of};
@@ -49,10 +50,11 @@ impl OneFaultDisk<MemoryDisk> {
         requires { All (λ file. CanStop file choice) self.disk.files.items }
         ensures story { story_of result ≡ stopped (story_of self.disk) choice.entry }
         ensures image { IsDiskImage (held_of (story_of self.disk)) (λ n. (held_of (story_of result) n).reads) }
+        ensures thawed { (n : ℕ) → ((story_of result).marks n).frozen ≡ false }
     {
         let OneFaultDisk {
             disk,
-            until: _,
+            countdown: _,
             failed: _,
         } = self;
         disk.crash(choice)
@@ -60,11 +62,12 @@ impl OneFaultDisk<MemoryDisk> {
 
     /// The disk given up without a stop, as `MemoryDisk::restart`. All its calls pass.
     pub fn restart(self) -> MemoryDisk
-        ensures { story_of result ≡ stopped (story_of self.disk) Choice.Kept }
+        ensures story { story_of result ≡ stopped (story_of self.disk) Choice.Kept }
+        ensures thawed { (n : ℕ) → ((story_of result).marks n).frozen ≡ false }
     {
         let OneFaultDisk {
             disk,
-            until: _,
+            countdown: _,
             failed: _,
         } = self;
         disk.restart()
@@ -103,12 +106,10 @@ impl<D: Disk> Disk for OneFaultDisk<D> {
     ghost only_now = { λ f. D.only_now f.disk };
 
     fn length(&mut self, file: u64) -> Result<u64, DiskError> {
-        if self.until == 1 {
-            self.until = 0;
+        if self.countdown.fails() {
             self.failed = self.failed.saturating_add(1);
             return Err(DiskError::Fault);
         }
-        self.until = self.until.saturating_sub(1);
         self.disk.length(file)
     }
 
@@ -119,83 +120,67 @@ impl<D: Disk> Disk for OneFaultDisk<D> {
         at: u64,
         count: usize,
     ) -> Result<Vec<u8>, DiskError> {
-        if self.until == 1 {
-            self.until = 0;
+        if self.countdown.fails() {
             self.failed = self.failed.saturating_add(1);
             return Err(DiskError::Fault);
         }
-        self.until = self.until.saturating_sub(1);
         self.disk.read(alloc, file, at, count)
     }
 
     fn write_at(&mut self, file: u64, at: u64, octets: &[u8]) -> Result<(), DiskError> {
-        if self.until == 1 {
+        if self.countdown.fails() {
             let _ = self.disk.write_at(file, at, &octets[..octets.len() / 2]);
-            self.until = 0;
             self.failed = self.failed.saturating_add(1);
             return Err(DiskError::Fault);
         }
-        self.until = self.until.saturating_sub(1);
         self.disk.write_at(file, at, octets)
     }
 
     fn cut(&mut self, file: u64, count: u64) -> Result<(), DiskError> {
-        if self.until == 1 {
-            self.until = 0;
+        if self.countdown.fails() {
             self.failed = self.failed.saturating_add(1);
             return Err(DiskError::Fault);
         }
-        self.until = self.until.saturating_sub(1);
         self.disk.cut(file, count)
     }
 
     fn sync(&mut self, file: u64) -> Result<(), DiskError> {
-        if self.until == 1 {
-            self.until = 0;
+        if self.countdown.fails() {
             self.failed = self.failed.saturating_add(1);
             return Err(DiskError::Fault);
         }
-        self.until = self.until.saturating_sub(1);
         self.disk.sync(file)
     }
 
     fn remove(&mut self, file: u64) -> Result<(), DiskError> {
-        if self.until == 1 {
-            self.until = 0;
+        if self.countdown.fails() {
             self.failed = self.failed.saturating_add(1);
             return Err(DiskError::Fault);
         }
-        self.until = self.until.saturating_sub(1);
         self.disk.remove(file)
     }
 
     fn files(&mut self, alloc: Global) -> Result<Vec<u64>, DiskError> {
-        if self.until == 1 {
-            self.until = 0;
+        if self.countdown.fails() {
             self.failed = self.failed.saturating_add(1);
             return Err(DiskError::Fault);
         }
-        self.until = self.until.saturating_sub(1);
         self.disk.files(alloc)
     }
 
     fn freeze(&mut self, file: u64) -> Result<D::Sealed, DiskError> {
-        if self.until == 1 {
-            self.until = 0;
+        if self.countdown.fails() {
             self.failed = self.failed.saturating_add(1);
             return Err(DiskError::Fault);
         }
-        self.until = self.until.saturating_sub(1);
         self.disk.freeze(file)
     }
 
     fn retire(&mut self, sealed: D::Sealed) -> Result<(), DiskError> {
-        if self.until == 1 {
-            self.until = 0;
+        if self.countdown.fails() {
             self.failed = self.failed.saturating_add(1);
             return Err(DiskError::Fault);
         }
-        self.until = self.until.saturating_sub(1);
         self.disk.retire(sealed)
     }
 }

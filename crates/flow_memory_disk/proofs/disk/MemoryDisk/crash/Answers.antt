@@ -39,3 +39,6 @@ pub returns-clause-image : goal.returns-clause-image
 returns-clause-image c n =
     let old = story_of c.args.self in
     subst (λ (s : Story). IsImage (held_of old n) (held_of s n).reads) (sym (story_is (goal.at.returns-clause-image c).After-clear)) (stop_image c.args.choice (held_of old n) (sound old n))
+
+pub returns-clause-thawed : goal.returns-clause-thawed
+returns-clause-thawed c n = ap (λ (s : Story). (s.marks n).frozen) (story_is (goal.at.returns-clause-thawed c).After-clear)
