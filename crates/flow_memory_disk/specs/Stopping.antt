@@ -1,5 +1,6 @@
 -- A stop of stored files.
 use Rattle.std.specs.Prelude.{◌≡◌, ℕ, ◌+◌, ◌<◌, ◌≤◌, true, false, List, length, get_or}
+use Rattle.std.specs.List.{All}
 use Rattle.flow_disk.specs.Disk.{settled_at}
 use Rattle.flow_memory_disk.specs.declared.choice.Choice.{Choice}
 use Rattle.flow_memory_disk.specs.declared.choice.Choice.TheVariants.{Kept, Settled, Filled, Longer}
@@ -13,6 +14,10 @@ CanStop file Kept = Unit {0}
 CanStop file Settled = Unit {0}
 CanStop file (Filled octets) = 0 < length octets.now
 CanStop file (Longer octets) = file.loose ≡ true → file.fast + length octets.now ≤ file.room
+
+-- a stop may leave this of each file
+pub record CanCrash (files : List StoredFile) (choice : Choice) : Type 0 where
+  pub each : All (λ file. CanStop file choice) files
 
 -- the file as a stop left it
 pub record IsStopped (choice : Choice) (was to : StoredFile) : Type 0 where

@@ -31,9 +31,9 @@ pub struct MemoryDisk {
 
 impl MemoryDisk {
     ghost use Rattle.std.specs.Prelude.{◌<◌, ◌≤◌, ◌==◌, None, vec_len, vec_capacity, ◌+◌, ◌^◌, ◌++◌, true, false, max, length, take, IsTrue, ◌↔◌, IfOk, OnOk, OnErr};
-    ghost use Rattle.std.specs.List.{All, position};
+    ghost use Rattle.std.specs.List.{position};
     ghost use Rattle.flow_memory_disk.specs.Stopped.{stopped};
-    ghost use Rattle.flow_memory_disk.specs.Stopping.{CanStop};
+    ghost use Rattle.flow_memory_disk.specs.Stopping.{CanCrash};
     ghost use Rattle.flow_disk.specs.Disk.{IsDiskImage};
     ghost use Rattle.std.specs.Arc.{arc_value};
     ghost use Rattle.std.specs.Ordering.{nat_cmp};
@@ -215,7 +215,7 @@ impl MemoryDisk {
 
     /// Whether a stop may leave this: whether the octets that it asks for are there, and fit the room.
     pub fn can_crash(&self, choice: Choice<'_>) -> bool
-        ensures { IsTrue result ↔ All (λ file. CanStop file choice.entry) self.now.files.items }
+        ensures { IsTrue result ↔ CanCrash self.now.files.items choice.entry }
     {
         for stored in &self.files {
             if !stored.can_stop(choice) {
@@ -228,7 +228,7 @@ impl MemoryDisk {
     /// The disk after a stop that left this image: it is settled, nothing is frozen, and the record begins anew in the
     /// same room. Takes no memory. Values of frozen files are to be dropped first, since they hold room.
     pub fn crash(self, choice: Choice<'_>) -> MemoryDisk
-        requires { All (λ file. CanStop file choice) self.files.items }
+        requires { CanCrash self.files.items choice }
         ensures story { story_of result ≡ stopped (story_of self) choice.entry }
         ensures image { IsDiskImage (held_of (story_of self)) (λ n. (held_of (story_of result) n).reads) }
         ensures thawed { (n : ℕ) → ((story_of result).marks n).frozen ≡ false }

@@ -48,23 +48,22 @@ impl<D: Disk> FusedDisk<D> {
 
 impl FusedDisk<MemoryDisk> {
     ghost use Rattle.std.specs.Prelude.{ℕ, false, IsTrue, ◌↔◌};
-    ghost use Rattle.std.specs.List.{All};
     ghost use Rattle.flow_disk.specs.Disk.{IsDiskImage};
     ghost use Rattle.flow_memory_disk.specs.Calls.{held_of};
     ghost use Rattle.flow_memory_disk.specs.Stopped.{stopped};
-    ghost use Rattle.flow_memory_disk.specs.Stopping.{CanStop};
+    ghost use Rattle.flow_memory_disk.specs.Stopping.{CanCrash};
     ghost use Rattle.flow_memory_disk.specs.Memory.{story_of};
 
     /// Whether a stop may leave this, as `MemoryDisk::can_crash`.
     pub fn can_crash(&self, choice: Choice<'_>) -> bool
-        ensures { IsTrue result ↔ All (λ file. CanStop file choice.entry) self.now.disk.files.items }
+        ensures { IsTrue result ↔ CanCrash self.now.disk.files.items choice.entry }
     {
         self.disk.can_crash(choice)
     }
 
     /// The disk after a stop that left this image, as `MemoryDisk::crash`. All its calls pass.
     pub fn crash(self, choice: Choice<'_>) -> MemoryDisk
-        requires { All (λ file. CanStop file choice) self.disk.files.items }
+        requires { CanCrash self.disk.files.items choice }
         ensures story { story_of result ≡ stopped (story_of self.disk) choice.entry }
         ensures image { IsDiskImage (held_of (story_of self.disk)) (λ n. (held_of (story_of result) n).reads) }
         ensures thawed { (n : ℕ) → ((story_of result).marks n).frozen ≡ false }

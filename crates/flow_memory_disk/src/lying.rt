@@ -1,4 +1,6 @@
 // A disk that lies.
+ghost use Rattle.std.specs.Prelude.{◌≡◌};
+
 use flow_disk::{Disk, DiskError, Faults, SealedFile};
 use std::alloc::Global;
 
@@ -47,7 +49,9 @@ pub struct LyingFile<S: SealedFile> {
 
 impl<D: Disk> LyingDisk<D> {
     /// Lies as this seed chooses.
-    pub fn new(disk: D, seed: u64) -> Self {
+    pub fn new(disk: D, seed: u64) -> Self
+        ensures { result ≡ record { disk = disk; seed = seed } }
+    {
         LyingDisk { disk, seed }
     }
 }

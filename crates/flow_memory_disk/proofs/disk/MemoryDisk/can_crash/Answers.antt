@@ -1,4 +1,4 @@
-use Rattle.std.proofs.Common.{◌≡◌, ℕ, ◌<◌, List, length, get_or, below_more, refl, sym, ◌∙◌, ap, subst}
+use Rattle.std.proofs.Common.{arith, ◌≡◌, ℕ, ◌<◌, ◌≤◌, List, length, get_or, below_more, refl, sym, ◌∙◌, ap, subst}
 use Rattle.std.proofs.lemmas.Bool.{false≢true}
 use Rattle.std.proofs.lemmas.List.{get_or_read_under}
 use Rattle.flow_memory_disk.specs.declared.stored.StoredFile.{StoredFile}
@@ -12,7 +12,7 @@ returns-then-not-can_stop c =
     let files = c.args.self.now.files.items in
     let is : item ≡ get_or files i item = c.stored-item.is ∙ ap (λ (l : List StoredFile). get_or l i item) c.deref-stored-items.ensures.value in
     let lt : i < length files = subst (λ (l : List StoredFile). i < length l) c.deref-stored-items.ensures.value c.loop-stored-test.true in
-    (λ never. absurd (false≢true never), λ all. c.if-not-can_stop.ensures.1 (subst (λ (f : StoredFile). CanStop f c.args.choice) (sym is) (all i item lt)))
+    (λ never. absurd (false≢true never), λ all. c.if-not-can_stop.ensures.1 (subst (λ (f : StoredFile). CanStop f c.args.choice) (sym is) (all.each i item lt)))
 
 pub loop-stored-preserved : goal.loop-stored-preserved
 loop-stored-preserved c =
@@ -24,3 +24,9 @@ loop-stored-preserved c =
     let can : CanStop item c.args.choice = c.if-not-can_stop.ensures.0 refl in
     λ k d less. below_more (λ (m : ℕ). CanStop (get_or files m d) c.args.choice) i (λ m under. c.loop-stored.invariant m d under)
     (subst (λ (f : StoredFile). CanStop f c.args.choice) (get_or_read_under files i (length files) item d is lt refl) can) k less
+
+pub returns : goal.returns
+returns c =
+    let files = c.args.self.now.files.items in
+    let all : length files ≤ c.loop-stored.stored-index = subst (λ (l : List StoredFile). length l ≤ c.loop-stored.stored-index) c.deref-stored-items.ensures.value c.loop-stored-test.false in
+    (λ is. record { each = λ k d less. c.loop-stored.invariant k d (omega (arith, less, all)) }, λ can. refl)
