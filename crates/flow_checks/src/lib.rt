@@ -1,0 +1,8 @@
+//! Tests of the gate over the disks in memory: what is read after a stop at each device call, what counts as damage, and
+//! a disk that lies.
+#![tactic(auto)]
+
+#[cfg(test)]
+mod segment;
+#[cfg(test)]
+mod tests;
