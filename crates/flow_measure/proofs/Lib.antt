@@ -8,5 +8,6 @@ pub mod Merging
 pub mod Putting
 pub mod SinkSteps
 pub mod SumLaws
+pub mod ViewLaws
 pub mod Viewing
 pub mod Widening

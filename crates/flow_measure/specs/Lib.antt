@@ -1,3 +1,6 @@
 pub mod Sums
 pub mod Flows
 pub mod Counting
+pub mod History
+pub mod View
+pub mod Query

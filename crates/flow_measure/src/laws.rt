@@ -8,6 +8,9 @@ ghost use Rattle.flow_measure.specs.declared.rows.Key.{Key};
 ghost use Rattle.flow_codec.specs.Message.{in_fields};
 ghost use Rattle.flow_codec.specs.Raw.{RawMessage, under};
 ghost use Rattle.flow_measure.specs.Flows.{FlowFits, flows_of, flows_in};
+ghost use Rattle.flow_measure.specs.History.{History, IsHistory};
+ghost use Rattle.flow_measure.specs.View.{AreCountsOf, view_of};
+ghost use Rattle.flow_measure.specs.Query.{totals_between, totals_in_view, flows_between, flows_in_view, message_at, message_in_view};
 ghost use Rattle.flow_measure.specs.Sums.{AllFit, sums_by, table_of, merged, widened, key_of, is_key, counted, some_total};
 
 /// The sums of flows have at each key the sum of the flows of that key, and nothing where there are none.
@@ -33,4 +36,11 @@ pub fn flows_either_way()
 /// Fewer than 2^64 flows whose counts fit their types have sums that fit theirs: their addition is never refused for that.
 pub fn few_flows_fit()
     ensures { (width : ℕ) (flows : List Flow) → AllByRecursion FlowFits flows → length flows < 2 ^ 64 → AllFit (table_of width flows) }
+{}
+
+/// What is asked of a history is answered by its view alone, however its rolled messages are parted into entries.
+pub fn queries_by_view()
+    ensures totals { (h : History) (counts : List ℕ) (from to : ℕ) → IsHistory h → AreCountsOf h counts → totals_in_view from to (view_of h counts) ≡ totals_between from to h }
+    ensures flows { (h : History) (counts : List ℕ) (from to : ℕ) → IsHistory h → AreCountsOf h counts → flows_in_view from to (view_of h counts) ≡ flows_between from to h }
+    ensures message { (h : History) (counts : List ℕ) (n : ℕ) → IsHistory h → AreCountsOf h counts → message_in_view n (view_of h counts) ≡ message_at n h }
 {}
