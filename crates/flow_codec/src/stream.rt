@@ -129,7 +129,8 @@ impl<R: Read> MessageReader<R> {
 
     /// The octets of the message that is held; none before the first step, at the end, and after an error.
     pub fn message(&self) -> &[u8]
-        ensures { result.now ≡ self.now.message }
+        ensures value { result.now ≡ self.now.message }
+        ensures most { length result.now ≤ 65535 }
     {
         &self.buffer[..self.length]
     }
