@@ -39,3 +39,6 @@ pub use sink::{RecordSink, WalkError};
 pub use stream::{MessageReader, StreamError};
 pub use templates::{Definition, Templates};
 pub use walk::{judge_message, walk_message};
+
+#[cfg(test)]
+mod tests;

@@ -1,0 +1,251 @@
+//! Messages whose reading was worked out by hand, octet by octet.
+
+use super::*;
+use std::alloc::AllocError;
+use std::fmt::Write;
+use std::test::*;
+
+/// A template and a record of it.
+const PLAIN: &str =
+    "000A 0039 6553F100 00000000 00000007 | 0002 0018 0100 0004 0096 0004 0004 0001 0001 0004 0002 0004 | 0100 0011 6553F100 06 000005DC 0000000A";
+
+/// The octets that hexadecimal digits tell; other characters part them.
+fn octets_of(rt: HostRuntime, text: &str) -> Result<Vec<u8>, AllocError> {
+    let mut octets = Vec::new(rt.alloc());
+    let mut high: Option<u8> = None;
+    for c in text.chars() {
+        let Some(digit) = c.to_digit(16) else {
+            continue;
+        };
+        match high.take() {
+            None => high = Some(digit as u8),
+            Some(first) => octets.push(first.wrapping_mul(16).wrapping_add(digit as u8))?,
+        }
+    }
+    Ok(octets)
+}
+
+/// A message's records, each by its ID and its fields.
+fn text_of(rt: HostRuntime, message: &Message) -> Result<String, AllocError> {
+    let mut text = String::new(rt.alloc());
+    for record in message.records.as_slice() {
+        write!(text, "[{}", record.template)?;
+        for field in record.fields.as_slice() {
+            write!(text, " {}=", field.id.number)?;
+            for octet in field.octets.as_slice() {
+                write!(text, "{octet:02x}")?;
+            }
+        }
+        text.push(']')?;
+    }
+    Ok(text)
+}
+
+/// What reading answers, as text.
+fn read(rt: HostRuntime, templates: &mut Templates, text: &str) -> Result<String, AllocError> {
+    let octets = octets_of(rt, text)?;
+    match read_message(templates, rt.alloc(), &octets) {
+        Ok(message) => text_of(rt, &message),
+        Err(fault) => format!(in rt.alloc(); "{fault}"),
+    }
+}
+
+/// Each message after the ones before it, and what reading it answers.
+#[test]
+fn messages(rt: HostRuntime) -> Result<(), Fail> {
+    let mut templates = Templates::new(rt.alloc());
+    for (text, want) in [
+        (PLAIN, "[256 150=6553f100 4=06 1=000005dc 2=0000000a]"),
+        // Twelve octets are padding, thirteen are a record.
+        (
+            "000A 002D 6553F100 00000000 00000007 | 0100 001D 6553F100 06 000005DC 0000000A FFFFFFFFFFFFFFFFFFFFFFFF",
+            "[256 150=6553f100 4=06 1=000005dc 2=0000000a]",
+        ),
+        (
+            "000A 002E 6553F100 00000000 00000007 | 0100 001E 6553F100 06 000005DC 0000000A 00000000000000000000000000",
+            "[256 150=6553f100 4=06 1=000005dc 2=0000000a][256 150=00000000 4=00 1=00000000 2=00000000]",
+        ),
+        // Both spellings of a length.
+        (
+            "000A 0036 6553F100 00000000 00000007 | 0002 0010 012C 0002 0001 0004 00D2 FFFF | 012C 0016 00000064 03 AABBCC 00000064 FF 0003 AABBCC",
+            "[300 1=00000064 210=aabbcc][300 1=00000064 210=aabbcc]",
+        ),
+        // No Set.
+        ("000A 0010 6553F100 00000000 00000007", ""),
+        (
+            "000A 001C 6553F100 00000000 00000007 | 0002 000C 0003 0001 0001 0004",
+            "6 TemplateId 20",
+        ),
+        (
+            "000A 0018 6553F100 00000000 00000007 | 0002 0008 0100 0001",
+            "5 TemplateCut 20",
+        ),
+        (
+            "000A 001E 6553F100 00000000 00000007 | 0003 000E 0102 0001 0000 0091 0002",
+            "7 ScopeCount 20",
+        ),
+        (
+            "000A 0024 6553F100 00000000 00000007 | 0002 000C 012C 0001 00D2 FFFF | 012C 0008 05AABBCC",
+            "8 RecordCut 32",
+        ),
+        // All Templates of the domain are withdrawn, and their data Sets have no records.
+        (
+            "000A 0018 6553F100 00000001 00000007 | 0002 0008 0002 0000",
+            "",
+        ),
+        (
+            "000A 0021 6553F100 00000000 00000007 | 0100 0011 6553F100 06 000005DC 0000000A",
+            "",
+        ),
+    ] {
+        assert!(rt;
+            read(rt, &mut templates, text)?.as_str() == want,
+            "at {text}"
+        );
+    }
+    Ok(())
+}
+
+/// The front of a message, of each length, with the Length of the whole and with its own.
+#[test]
+fn cuts(rt: HostRuntime) -> Result<(), Fail> {
+    let mut front = octets_of(rt, PLAIN)?;
+    let alloc = rt.alloc();
+    for cut in 1..42 {
+        let n = 57 - cut;
+        front.truncate(n as usize);
+        assert_eq!(rt;
+            judge_message(&Templates::new(alloc), alloc, &front),
+            Err(MessageError::Length)
+        );
+        front[3] = n;
+        let want = match n {
+            16 | 40 => Ok(()),
+            17..=39 => Err(MessageError::SetLength(16)),
+            _ => Err(MessageError::SetLength(40)),
+        };
+        assert_eq!(rt;
+            judge_message(&Templates::new(alloc), alloc, &front).map(|_| ()),
+            want,
+            "at {n}"
+        );
+        front[3] = 57;
+    }
+    for n in 0..16 {
+        front.truncate(15 - n);
+        assert_eq!(rt;
+            judge_message(&Templates::new(alloc), alloc, &front),
+            Err(MessageError::Short)
+        );
+    }
+    Ok(())
+}
+
+/// A definition, or that there is none.
+fn definition_text(rt: HostRuntime, definition: Option<&Definition>) -> Result<String, AllocError> {
+    let mut text = String::new(rt.alloc());
+    if let Some(definition) = definition {
+        write!(text, "{} {}", definition.options(), definition.scope())?;
+        for (id, len) in definition.fields() {
+            write!(text, " {}/{len}", id.number)?;
+        }
+    }
+    Ok(text)
+}
+
+#[test]
+fn definitions(rt: HostRuntime) -> Result<(), Fail> {
+    let mut templates = Templates::new(rt.alloc());
+    let mut count = Count { records: 0 };
+    let plain = octets_of(rt, PLAIN)?;
+    assert!(rt; walk_message(&mut templates, rt.alloc(), &plain, &mut count).is_ok());
+    assert_eq!(rt; count.records, 1);
+    let copy = templates.try_copy()?;
+    for templates in [&templates, &copy] {
+        assert!(rt;
+            definition_text(rt, templates.find(7, 256))?.as_str() == "false 0 150/4 4/1 1/4 2/4"
+        );
+        assert!(rt; definition_text(rt, templates.find(7, 257))?.as_str() == "");
+    }
+    Ok(())
+}
+
+/// A message of this domain with one Set of templates, each of one field, from this ID on.
+fn templates_of(
+    rt: HostRuntime,
+    domain: u32,
+    first: u16,
+    count: u16,
+) -> Result<Vec<u8>, AllocError> {
+    let set = count.wrapping_mul(8).wrapping_add(4);
+    let mut octets = Vec::new(rt.alloc());
+    octets.extend_from_slice(&[0, 10])?;
+    octets.extend_from_slice(&set.wrapping_add(16).to_be_bytes())?;
+    octets.extend_from_slice(&[0; 8])?;
+    octets.extend_from_slice(&domain.to_be_bytes())?;
+    octets.extend_from_slice(&[0, 2])?;
+    octets.extend_from_slice(&set.to_be_bytes())?;
+    for i in 0..count {
+        octets.extend_from_slice(&first.wrapping_add(i).to_be_bytes())?;
+        octets.extend_from_slice(&[0, 1, 0, 1, 0, 4])?;
+    }
+    Ok(octets)
+}
+
+/// What a message of these templates is refused by.
+fn refusal(
+    rt: HostRuntime,
+    templates: &mut Templates,
+    domain: u32,
+    first: u16,
+    count: u16,
+) -> Result<Option<MessageError>, AllocError> {
+    let octets = templates_of(rt, domain, first, count)?;
+    Ok(
+        walk_message(templates, rt.alloc(), &octets, &mut Count { records: 0 })
+            .err()
+            .map(|e| match e {
+                WalkError::Message(fault) => fault,
+                WalkError::Sink(never) => match never {},
+            }),
+    )
+}
+
+#[test]
+fn limits(rt: HostRuntime) -> Result<(), Fail> {
+    let mut templates = Templates::new(rt.alloc());
+    // 60,000 octets of template records
+    assert_eq!(rt; refusal(rt, &mut templates, 7, 256, 7500)?, None);
+    assert_eq!(rt;
+        refusal(rt, &mut templates, 7, 7756, 1)?,
+        Some(MessageError::TemplatesFull(7))
+    );
+    assert!(rt; templates.find(7, 7755).is_some() && templates.find(7, 7756).is_none());
+    // 64 domains
+    for domain in 8..71 {
+        assert_eq!(rt; refusal(rt, &mut templates, domain, 256, 1)?, None);
+    }
+    assert_eq!(rt;
+        refusal(rt, &mut templates, 71, 256, 1)?,
+        Some(MessageError::DomainsFull)
+    );
+    assert!(rt; templates.find(70, 256).is_some() && templates.find(71, 256).is_none());
+    Ok(())
+}
+
+#[test]
+fn fields(rt: HostRuntime) {
+    for (octets, len, value, rest) in [
+        (
+            &[3, 170, 187, 204, 5][..],
+            65535,
+            &[170, 187, 204][..],
+            &[5][..],
+        ),
+        (&[255, 0, 3, 7, 8], 65535, &[7, 8], &[]),
+        (&[1, 2, 3, 4, 5], 3, &[1, 2, 3], &[4, 5]),
+    ] {
+        let split = split_field(len, octets);
+        assert!(rt; split.0 == value && split.1 == rest);
+    }
+}
