@@ -7,3 +7,4 @@ pub mod Laws
 pub mod Stopped
 pub mod Stopping
 pub mod Lying
+pub mod Room

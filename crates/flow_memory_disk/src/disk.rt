@@ -30,7 +30,7 @@ pub struct MemoryDisk {
 }
 
 impl MemoryDisk {
-    ghost use Rattle.std.specs.Prelude.{◌<◌, ◌≤◌, ◌==◌, None, vec_len, vec_capacity, ◌+◌, ◌^◌, ◌++◌, true, false, max, length, take, IsTrue, ◌↔◌, IfOk, OnOk, OnErr};
+    ghost use Rattle.std.specs.Prelude.{◌⊎◌, ◌<◌, ◌≤◌, ◌==◌, None, vec_len, vec_capacity, ◌+◌, ◌^◌, ◌++◌, true, false, max, length, take, IsTrue, ◌↔◌, IfOk, OnOk, OnErr};
     ghost use Rattle.std.specs.List.{position};
     ghost use Rattle.flow_memory_disk.specs.Stopped.{stopped};
     ghost use Rattle.flow_memory_disk.specs.Stopping.{CanCrash};
@@ -42,6 +42,7 @@ impl MemoryDisk {
     ghost use Rattle.flow_memory_disk.specs.Calls.{held_of, told, frozen_in, written, shortened, settled, abandoned, removed};
     ghost use Rattle.flow_memory_disk.specs.Stored.{IsPlace, unwritten};
     ghost use Rattle.flow_memory_disk.specs.Memory.{story_of};
+    ghost use Rattle.flow_memory_disk.specs.Room.{LacksFile, LacksRecord, LacksWrite};
 
     /// A disk with no files. All its room is made here.
     ///
@@ -65,6 +66,7 @@ impl MemoryDisk {
     pub(crate) fn fault(&mut self) -> DiskError
         ensures is { result ≡ DiskError.Fault }
         ensures story { story_of self.new ≡ story_of self.old }
+        ensures log { self.new.log ≡ self.old.log }
         ensures risen { HasRisen self.old.faults self.new.faults }
         ensures later { self.old.faults ≤ self.new.faults }
     {
@@ -82,6 +84,8 @@ impl MemoryDisk {
     /// The place of a file, for a call that changes it; none where there is no room for one file more.
     pub(crate) fn place_for(&mut self, file: u64) -> Result<usize, DiskError>
         ensures place { IfOk result (λ i. IsPlace self.new.files.items file i) }
+        ensures lacks { OnErr result (LacksFile self.old) }
+        ensures log { self.new.log ≡ self.old.log }
         ensures story { story_of self.new ≡ story_of self.old }
         ensures cause { FailsOnlyByFault self.old.faults self.new.faults result }
     {
@@ -103,6 +107,7 @@ impl MemoryDisk {
         requires room { vec_len self.old.files < vec_capacity self.old.files }
         ensures place { IsPlace self.new.files.items file result }
         ensures story { story_of self.new ≡ story_of self.old }
+        ensures log { self.new.log ≡ self.old.log }
         ensures faults { self.new.faults ≡ self.old.faults }
     {
         stored.begin(file);
@@ -116,10 +121,14 @@ impl MemoryDisk {
         requires { at ≤ ((story_of self.old).marks file).size }
         ensures ok { OnOk result (story_of self.new ≡ told (story_of self.old) (written file at octets.now)) }
         ensures err { OnErr result (story_of self.new ≡ story_of self.old) }
+        ensures lacks { OnErr result (LacksWrite self.old file at (length octets.now)) }
         ensures cause { FailsOnlyByFault self.old.faults self.new.faults result }
     {
         let index = self.place_for(file)?;
-        if !self.files[index].has_room(at, octets.len()) || !self.log.has_room(1, octets.len()) {
+        if !self.files[index].has_room(at, octets.len()) {
+            return Err(self.fault());
+        }
+        if !self.log.has_room(1, octets.len()) {
             return Err(self.fault());
         }
         self.files[index].write(at, octets);
@@ -131,6 +140,7 @@ impl MemoryDisk {
         requires { count ≤ ((story_of self.old).marks file).size }
         ensures ok { OnOk result (story_of self.new ≡ told (story_of self.old) (shortened file count)) }
         ensures err { OnErr result (story_of self.new ≡ story_of self.old) }
+        ensures lacks { OnErr result (LacksFile self.old ⊎ LacksRecord self.old.log 1 0) }
         ensures cause { FailsOnlyByFault self.old.faults self.new.faults result }
     {
         let index = self.place_for(file)?;
@@ -145,6 +155,7 @@ impl MemoryDisk {
     pub(crate) fn try_sync(&mut self, file: u64) -> Result<(), DiskError>
         ensures ok { OnOk result (story_of self.new ≡ told (story_of self.old) (settled file)) }
         ensures err { OnErr result (story_of self.new ≡ story_of self.old) }
+        ensures lacks { OnErr result (LacksFile self.old ⊎ LacksRecord self.old.log 1 0) }
         ensures cause { FailsOnlyByFault self.old.faults self.new.faults result }
     {
         let index = self.place_for(file)?;
@@ -159,6 +170,7 @@ impl MemoryDisk {
     pub(crate) fn try_remove(&mut self, file: u64) -> Result<(), DiskError>
         ensures ok { OnOk result (story_of self.new ≡ told (told (story_of self.old) (abandoned file)) (removed file)) }
         ensures err { OnErr result (story_of self.new ≡ story_of self.old) }
+        ensures lacks { OnErr result (LacksFile self.old ⊎ LacksRecord self.old.log 2 0) }
         ensures cause { FailsOnlyByFault self.old.faults self.new.faults result }
     {
         let index = self.place_for(file)?;

@@ -1,5 +1,5 @@
 // The record of the calls that changed a file.
-ghost use Rattle.std.specs.Prelude.{◌≡◌, ◌+◌, ◌<◌, ◌≤◌, length, IsTrue, IfOk, vec_len, vec_capacity, [], ◌∷◌, ◌++◌};
+ghost use Rattle.std.specs.Prelude.{◌≡◌, ◌⊎◌, false, ◌+◌, ◌<◌, ◌≤◌, length, IsTrue, IfOk, vec_len, vec_capacity, [], ◌∷◌, ◌++◌};
 ghost use Rattle.flow_memory_disk.specs.Record.{octets_of, calls_of, call_of, count_of};
 
 use crate::deed::Deed;
@@ -30,6 +30,7 @@ impl Record {
         requires { calls ≤ 2 }
         ensures calls { IsTrue result → vec_len self.now.deeds + calls ≤ vec_capacity self.now.deeds }
         ensures octets { IsTrue result → vec_len self.now.octets + octets ≤ vec_capacity self.now.octets }
+        ensures lacks { result ≡ false → (vec_capacity self.now.deeds < vec_len self.now.deeds + calls) ⊎ (vec_capacity self.now.octets < vec_len self.now.octets + octets) }
     {
         calls <= self.deeds.capacity()
             && self.deeds.len() <= self.deeds.capacity() - calls

@@ -43,6 +43,7 @@ impl StoredFile {
     ghost use Rattle.flow_memory_disk.specs.Stored.{held_in, marks_in};
     ghost use Rattle.flow_memory_disk.specs.Stopped.{image_of};
     ghost use Rattle.flow_memory_disk.specs.Stopping.{CanStop};
+    ghost use Rattle.flow_memory_disk.specs.Room.{LacksOctets};
 
     /// Makes a file no call has named yet, with room for so many octets and so many writes between two syncs.
     pub(crate) fn new(alloc: Global, room: usize, writes: usize) -> Result<Self, AllocError>
@@ -87,6 +88,7 @@ impl StoredFile {
     pub(crate) fn has_room(&self, at: u64, count: usize) -> bool
         ensures octets { IsTrue result → at + count ≤ self.now.room }
         ensures touched { IsTrue result → vec_len self.now.touched < vec_capacity self.now.touched }
+        ensures lacks { result ≡ false → LacksOctets self.now at count }
     {
         at <= self.room as u64
             && count <= self.room - at as usize

@@ -1,8 +1,9 @@
-use Rattle.std.proofs.Common.{arith, ℕ, length, ◌≡◌, List, ◌++◌, ◌∷◌, [], ap, sym, ◌∙◌, subst}
+use Rattle.std.proofs.Common.{inr, arith, ℕ, length, ◌≡◌, List, ◌++◌, ◌∷◌, [], ap, sym, ◌∙◌, subst}
 use Rattle.std.proofs.lemmas.List.{take_all}
-use Rattle.flow_memory_disk.specs.Calls.{Call, Story, told, written}
+use Rattle.flow_memory_disk.specs.Calls.{held_of, Call, Story, told, written}
 use Rattle.flow_memory_disk.specs.Record.{calls_of}
 use Rattle.flow_memory_disk.proofs.Noted.{IsMadeBy, Replays, replays_on, story_told, size_there}
+use Rattle.flow_memory_disk.proofs.Read.{held_there}
 use Rattle.flow_memory_disk.proofs.disk.MemoryDisk.try_write.Goals as goal
 use Rattle.flow_memory_disk.proofs.disk.MemoryDisk.try_write.Goals.{After-push}
 
@@ -31,3 +32,9 @@ pub write-requires-clause-place : goal.write-requires-clause-place
 write-requires-clause-place c =
     let size = size_there c.place_for.new.self.files.items c.place_for.new.self.log c.args.file c.in_ok-index.index c.index_mut.result.now c.in_ok-index.ensures.place c.index_mut.ensures.value in
     omega (arith, c.requires, ap (λ (s : Story). (s.marks c.args.file).size) c.in_ok-index.ensures.story, size)
+
+pub returns-then-not-has_room-clause-lacks : goal.returns-then-not-has_room-clause-lacks
+returns-then-not-has_room-clause-lacks c =
+    let stored = c.index.result.now in
+    let held = held_there c.place_for.new.self c.args.file c.in_ok-index.index stored c.in_ok-index.ensures.place c.index.ensures in
+    inr (inr (stored, sym held ∙ ap (λ (s : Story). held_of s c.args.file) c.in_ok-index.ensures.story, c.has_room.ensures.lacks c.if-not-has_room.true))
