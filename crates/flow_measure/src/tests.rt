@@ -182,27 +182,47 @@ fn row(start: u32, protocol: Option<u8>, flows: u64, octets: u128, packets: u128
 }
 
 #[test]
-fn totals(rt: HostRuntime) -> Result<(), Fail> {
-    let plain = rows_of(&rt, &[&PLAIN])?;
+fn one_record(rt: HostRuntime) -> Result<(), Fail> {
+    let rows = rows_of(&rt, &[&PLAIN])?;
     assert_eq!(rt;
-        plain.as_slice(),
+        rows.as_slice(),
         [row(1699999800, Some(6), 1, 1500, 10)].as_slice()
     );
-    let redefined = rows_of(&rt, &[&PLAIN, &REDEFINED])?;
+    Ok(())
+}
+
+#[test]
+fn redefined(rt: HostRuntime) -> Result<(), Fail> {
+    let rows = rows_of(&rt, &[&PLAIN, &REDEFINED])?;
     assert_eq!(rt;
-        redefined.as_slice(),
+        rows.as_slice(),
         [row(1699999800, Some(6), 2, 3000, 20)].as_slice()
     );
-    let spellings = rows_of(&rt, &[&SPELLINGS])?;
+    Ok(())
+}
+
+#[test]
+fn both_spellings(rt: HostRuntime) -> Result<(), Fail> {
+    let rows = rows_of(&rt, &[&SPELLINGS])?;
     assert_eq!(rt;
-        spellings.as_slice(),
+        rows.as_slice(),
         [row(1699999800, None, 2, 200, 0)].as_slice()
     );
-    let greatest = rows_of(&rt, &[&GREATEST])?;
+    Ok(())
+}
+
+#[test]
+fn greatest_sums(rt: HostRuntime) -> Result<(), Fail> {
+    let rows = rows_of(&rt, &[&GREATEST])?;
     assert_eq!(rt;
-        greatest.as_slice(),
+        rows.as_slice(),
         [row(1699999800, None, 2, 36893488147419103230, 0)].as_slice()
     );
+    Ok(())
+}
+
+#[test]
+fn starts_in_milliseconds(rt: HostRuntime) -> Result<(), Fail> {
     let late = rows_of(&rt, &[&LATE])?;
     assert_eq!(rt;
         late.as_slice(),
@@ -228,32 +248,37 @@ fn flows(rt: HostRuntime) -> Result<(), Fail> {
     Ok(())
 }
 
-fn field(rt: &HostRuntime, number: u16, octets: &[u8]) -> Result<Field, Fail> {
-    Ok(Field {
-        id: ElementId {
+/// A record of these elements, each with its octets.
+fn record(rt: &HostRuntime, elements: &[(u16, &[u8])]) -> Result<DataRecord, Fail> {
+    let mut fields = Vec::new(rt.alloc());
+    for (number, octets) in elements {
+        let id = ElementId {
             enterprise: None,
-            number,
-        },
-        octets: Items::from_vec(Vec::from_slice(rt.alloc(), octets)?),
+            number: *number,
+        };
+        let octets = Items::from_vec(Vec::from_slice(rt.alloc(), octets)?);
+        fields.push(Field { id, octets })?;
+    }
+    Ok(DataRecord {
+        template: 256,
+        options: false,
+        fields: Items::from_vec(fields),
     })
 }
 
 /// A message in fields: elements that come twice, and one of a length that doesn't count.
 #[test]
 fn flows_by_fields(rt: HostRuntime) -> Result<(), Fail> {
-    let mut fields = Vec::new(rt.alloc());
-    fields.push(field(&rt, 152, &[0; 7])?)?;
-    fields.push(field(&rt, 1, &[0x05, 0xDC])?)?;
-    fields.push(field(&rt, 4, &[6])?)?;
-    fields.push(field(&rt, 2, &[10])?)?;
-    fields.push(field(&rt, 1, &[9])?)?;
-    fields.push(field(&rt, 4, &[17])?)?;
+    let elements: [(u16, &[u8]); 6] = [
+        (152, &[0; 7]),
+        (1, &[0x05, 0xDC]),
+        (4, &[6]),
+        (2, &[10]),
+        (1, &[9]),
+        (4, &[17]),
+    ];
     let mut records = Vec::new(rt.alloc());
-    records.push(DataRecord {
-        template: 256,
-        options: false,
-        fields: Items::from_vec(fields),
-    })?;
+    records.push(record(&rt, &elements)?)?;
     let message = Message {
         header: Header {
             length: 0,
