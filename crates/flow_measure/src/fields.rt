@@ -36,13 +36,13 @@ fn counts_of(fields: &[Field]) -> Counts
 }
 
 /// The flow of a record, if it stands under a Template.
-fn flow_of_record(header: &Header, record: &DataRecord) -> Option<Flow>
-    ensures { result ≡ flow_of_record header.now record.now }
+fn flow_of_record(header: &Header, whole: &DataRecord) -> Option<Flow>
+    ensures { result ≡ flow_of_record header.now whole.now }
 {
-    if record.options {
+    if whole.options {
         return None;
     }
-    Some(counts_of(record.fields.as_slice()).flow(header))
+    Some(counts_of(whole.fields.as_slice()).flow(header))
 }
 
 /// The flows of a message, in the order of its records.
