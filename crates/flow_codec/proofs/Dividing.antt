@@ -11,7 +11,7 @@ use Rattle.flow_codec.specs.declared.file.FileError.{FileError}
 use Rattle.flow_codec.specs.declared.file.FileError.TheVariants.{Cut, Version, Length, OutOfMemory}
 use Rattle.flow_codec.specs.declared.file.Span.{Span}
 use Rattle.flow_codec.specs.Message.{joined}
-use Rattle.flow_codec.specs.Cutting.{version_of, length_of, IsCutOff, IsHeaderRefused, IsFileFault, IsDivided, IsLast, HasOneDivision, spans_from}
+use Rattle.flow_codec.specs.Cutting.{version_of, length_of, IsCutOff, IsFileFault, IsDivided, IsLast, HasOneDivision, spans_from}
 
 -- ---- the header of a front
 

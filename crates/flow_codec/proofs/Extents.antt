@@ -1,10 +1,10 @@
 -- What a step passes over, and what all of them do, beside the fields of the definition.
-use Rattle.std.proofs.Common.{◌≡◌, ℕ, zero, suc, ◌+◌, ◌<◌, ◌≤◌, Bool, true, false, cond, ltb, eqb, List, [], ◌∷◌, ◌++◌, length, take, drop, ◌⊎◌, inl, inr, Option, Some, None, Result, Ok, Err, refl, sym, ap, ◌∙◌, append_assoc, arith}
+use Rattle.std.proofs.Common.{◌≡◌, ℕ, ◌+◌, ◌≤◌, Bool, true, false, cond, ltb, eqb, List, [], ◌∷◌, ◌++◌, length, take, drop, inl, inr, Option, Some, None, Result, Ok, Err, refl, sym, ap, ◌∙◌, append_assoc, arith}
 use Rattle.std.specs.Prelude.{sum_by, nat_lt, ◌&&◌}
 use Rattle.std.specs.List.{list_all}
 use Rattle.std.specs.Int.{w16, from_be_bytes}
 use Rattle.std.proofs.lemmas.Bool.{ltb-false, ltb-true, le-ltb, lt-ltb, ne_eqb, cases_lt}
-use Rattle.std.proofs.lemmas.List.{append-nil, take-append-drop, drop-drop, length-drop, length-take}
+use Rattle.std.proofs.lemmas.List.{take-append-drop, drop-drop, length-drop}
 use Rattle.std.proofs.lemmas.List.Sums.{sum_by-cons}
 use Rattle.std.proofs.Math.Seq.{take-add}
 use Rattle.flow_elements.specs.declared.element.ElementId.{ElementId}
@@ -14,7 +14,7 @@ use Rattle.flow_codec.specs.declared.plan.Role.{Role}
 use Rattle.flow_codec.specs.declared.plan.Step.{Step}
 use Rattle.flow_codec.specs.declared.plan.Step.TheVariants.{Skip, Fixed, Variable}
 use Rattle.flow_codec.specs.Layout.{least}
-use Rattle.flow_codec.specs.Plan.{role_of, is_counted, step_of, fixed_step, steps_of, skipped, before_steps}
+use Rattle.flow_codec.specs.Plan.{role_of, is_counted, step_of, fixed_step, steps_of, before_steps}
 use Rattle.flow_codec.specs.Reading.{◌>>=◌, behind, number_at, octets_at, counted_at, field_at, extent_at}
 use Rattle.flow_codec.specs.Extent.{step_at, extent_by}
 use Rattle.flow_codec.proofs.Steps.{bind_ok, guard_ok, ok_is}

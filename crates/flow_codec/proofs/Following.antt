@@ -1,5 +1,5 @@
 -- A reader of a File beside the templates that its messages leave: for those who read one message after the other.
-use Rattle.std.proofs.Common.{◌≡◌, ◌⊎◌, inl, inr, ℕ, zero, suc, ◌+◌, ◌<◌, ◌≤◌, Bool, true, false, List, [], ◌∷◌, ◌++◌, length, Option, None, Some, IfSome, Result, Ok, Err, refl, sym, ap, subst, ◌∙◌, append_assoc, arith}
+use Rattle.std.proofs.Common.{◌≡◌, ◌⊎◌, inl, inr, ℕ, ◌+◌, true, false, List, [], ◌∷◌, ◌++◌, length, Option, None, Some, IfSome, Ok, Err, refl, sym, ap, subst, ◌∙◌, append_assoc, arith}
 use Rattle.std.specs.Io.KnownBytes.{Consumes, IsAtEnd}
 use Rattle.std.proofs.lemmas.List.{append-nil, length-append}
 use Rattle.std.proofs.lemmas.List.Concat.{flat_map-append}
@@ -12,8 +12,8 @@ use Rattle.flow_codec.specs.Templates.{AllTemplates}
 use Rattle.flow_codec.specs.Message.{joined, IsAccepted}
 use Rattle.flow_codec.specs.Fault.{IsFault}
 use Rattle.flow_codec.specs.Cutting.{IsCutOff, IsFileFault}
-use Rattle.flow_codec.specs.File.{AreAccepted, Ending, whole, broken, refused, EndsIn, AcceptedFrom, AcceptedFront}
-use Rattle.flow_codec.specs.Stream.{Progress, IsFaultNext, IsStop, IsStep}
+use Rattle.flow_codec.specs.File.{AreAccepted, Ending, whole, broken, refused, EndsIn, AcceptedFront}
+use Rattle.flow_codec.specs.Stream.{Progress, IsStop, IsStep}
 
 -- these octets begin with these messages, accepted in turn, and `rest` stands behind them, at the place `at`
 pub record Followed (octets : List ℕ) (at : ℕ) (rest : List ℕ) (messages : List RawMessage) (after : AllTemplates) : Type 0 where

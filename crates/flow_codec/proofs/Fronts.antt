@@ -1,5 +1,5 @@
 -- Any octets have one accepted front: the messages that are accepted in turn, and what ends them.
-use Rattle.std.proofs.Common.{◌≡◌, ◌⊎◌, inl, inr, ℕ, ◌+◌, ◌<◌, ◌≤◌, List, [], ◌∷◌, ◌++◌, length, take, drop, refl, sym, ap, subst, ◌∙◌, append_assoc, arith}
+use Rattle.std.proofs.Common.{◌≡◌, inl, inr, ℕ, ◌+◌, List, [], ◌∷◌, ◌++◌, length, refl, sym, ap, subst, ◌∙◌, append_assoc, arith}
 use Rattle.std.specs.List.{AllByRecursion}
 use Rattle.std.proofs.lemmas.List.{length-append, take_at, drop_at}
 use Rattle.flow_codec.specs.declared.error.MessageError.{MessageError}
@@ -8,7 +8,7 @@ use Rattle.flow_codec.specs.Raw.{RawMessage}
 use Rattle.flow_codec.specs.Templates.{AllTemplates}
 use Rattle.flow_codec.specs.Message.{joined, IsAccepted}
 use Rattle.flow_codec.specs.Fault.{IsFault, IsAnswered}
-use Rattle.flow_codec.specs.Cutting.{IsCutOff, IsFileFault, IsLast, IsDivided, HasOneDivision}
+use Rattle.flow_codec.specs.Cutting.{IsCutOff, IsFileFault, IsLast}
 use Rattle.flow_codec.specs.File.{AreAccepted, Ending, whole, broken, refused, EndsIn, AcceptedFrom, HasOneFront}
 use Rattle.flow_codec.proofs.NumberLaws.{IsBytes, IsBytes-take, IsBytes-drop}
 use Rattle.flow_codec.proofs.FaultLaws.{answered, one_message as one_reading, one_state, one_fault as one_refusal, never_both}

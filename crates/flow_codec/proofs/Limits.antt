@@ -1,6 +1,6 @@
 -- The limits on templates, after a domain's changed definitions are put back.
-use Rattle.std.proofs.Common.{◌≡◌, ℕ, suc, ◌+◌, ◌<◌, ◌≤◌, Bool, true, false, cond, not, ltb, leb, List, length, Option, Some, None, Ok, Err, refl, sym, ap, subst, ◌∙◌, arith, inl, inr}
-use Rattle.std.specs.Prelude.{nat_eq, nat_lt, unwrap_or}
+use Rattle.std.proofs.Common.{◌≡◌, ℕ, ◌<◌, ◌≤◌, Bool, true, false, not, List, length, Option, Some, None, Ok, Err, refl, sym, ap, ◌∙◌, arith}
+use Rattle.std.specs.Prelude.{nat_lt, unwrap_or}
 use Rattle.std.specs.Option.{is_some, option_map}
 use Rattle.std.proofs.lemmas.Bool.{lt-ltb, le-ltb}
 use Rattle.flow_codec.specs.declared.error.MessageError.TheVariants.{TemplatesFull, DomainsFull}
@@ -9,7 +9,6 @@ use Rattle.flow_codec.specs.Raw.{RawMessage}
 use Rattle.flow_codec.specs.Templates.{AllTemplates, no_definitions, definitions_of, domain_size, is_empty, IsDomain, AreTemplatesInForce}
 use Rattle.flow_codec.specs.Working.{put_back}
 use Rattle.flow_codec.specs.Reading.{limited}
-use Rattle.flow_codec.proofs.Steps.{by_bool}
 use Rattle.flow_codec.proofs.Entries.{found, with_entry, holds-found, length-insert, length-replace}
 use Rattle.flow_codec.proofs.PuttingBack.{put_found, put_length, put_none_length}
 

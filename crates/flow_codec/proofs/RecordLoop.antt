@@ -1,12 +1,12 @@
 -- The data records of a Set, one after the other.
-use Rattle.std.proofs.Common.{◌≡◌, ℕ, zero, suc, ◌+◌, ◌-◌, ◌<◌, ◌≤◌, Bool, true, false, cond, ltb, eqb, List, [], ◌∷◌, ◌++◌, length, Result, Ok, Err, refl, sym, ap, ◌∙◌, append_assoc, arith}
-use Rattle.std.proofs.lemmas.Bool.{ltb-false, le-ltb, lt-ltb, ne_eqb}
+use Rattle.std.proofs.Common.{◌≡◌, ℕ, zero, suc, ◌+◌, ◌-◌, ◌<◌, ◌≤◌, true, false, ltb, eqb, List, [], ◌∷◌, ◌++◌, length, Result, Ok, Err, refl, sym, ap, ◌∙◌, append_assoc, arith}
+use Rattle.std.proofs.lemmas.Bool.{le-ltb, lt-ltb, ne_eqb}
 use Rattle.std.proofs.lemmas.List.{append-nil, length-append}
 use Rattle.flow_codec.specs.declared.error.MessageError.{MessageError}
 use Rattle.flow_codec.specs.declared.message.Header.{Header}
 use Rattle.flow_codec.specs.Raw.{RawRecord, Placed, raw, Took}
 use Rattle.flow_codec.specs.Layout.{Layout, smallest}
-use Rattle.flow_codec.specs.Reading.{◌>>=◌, Fails, FeedsAlone, IsRefused, extent_at, records_at, records_of}
+use Rattle.flow_codec.specs.Reading.{◌>>=◌, Fails, IsRefused, extent_at, records_at, records_of}
 use Rattle.flow_codec.proofs.Steps.{Fails-of}
 use Rattle.flow_codec.proofs.Taking.{takes_none, takes_then, refused_then, refused_here}
 

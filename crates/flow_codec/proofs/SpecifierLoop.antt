@@ -1,9 +1,9 @@
 -- The specifiers of a template, one after the other.
-use Rattle.std.proofs.Common.{◌≡◌, ℕ, suc, ◌-◌, ◌+◌, ◌≤◌, ◌<◌, List, [], ◌∷◌, ◌++◌, Result, Ok, Err, refl, sym, ap, ◌∙◌, arith}
+use Rattle.std.proofs.Common.{◌≡◌, ℕ, suc, ◌-◌, ◌+◌, ◌≤◌, ◌<◌, List, [], ◌∷◌, ◌++◌, Result, Ok, refl, sym, ap, ◌∙◌, arith}
 use Rattle.std.proofs.lemmas.List.{append-nil}
 use Rattle.flow_elements.specs.declared.element.ElementId.{ElementId}
 use Rattle.flow_codec.specs.declared.error.MessageError.{MessageError}
-use Rattle.flow_codec.specs.Reading.{◌>>=◌, Fails, specifier_at, specifiers_at}
+use Rattle.flow_codec.specs.Reading.{Fails, specifier_at, specifiers_at}
 use Rattle.flow_codec.proofs.Steps.{with_front, regroup, Fails-of}
 
 module _ (at count i : ℕ) (front : List (ElementId × ℕ)) (octets : List ℕ) (total : Result (List (ElementId × ℕ) × List ℕ) MessageError) where

@@ -3,7 +3,7 @@ use Rattle.std.proofs.Common.{◌≡◌, ℕ, ◌+◌, ◌-◌, ◌<◌, ◌≤�
 use Rattle.std.proofs.lemmas.List.{append-nil, drop_all, length-append, take_at, drop_at}
 use Rattle.flow_codec.specs.declared.error.MessageError.{MessageError}
 use Rattle.flow_codec.specs.declared.plan.Step.{Step}
-use Rattle.flow_codec.specs.Reading.{◌>>=◌, Fails, behind}
+use Rattle.flow_codec.specs.Reading.{Fails, behind}
 use Rattle.flow_codec.specs.Extent.{step_at, extent_by}
 use Rattle.flow_codec.proofs.Steps.{Fails-of}
 use Rattle.flow_codec.proofs.Extents.{step_parts, behind_behind}

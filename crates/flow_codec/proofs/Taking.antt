@@ -1,6 +1,5 @@
 -- A sink takes records one after the other, or refuses one.
-use Rattle.std.proofs.Common.{◌≡◌, ℕ, ◌+◌, ◌<◌, ◌≤◌, List, [], ◌∷◌, ◌++◌, length, refl, sym, ap, subst, ◌∙◌, append_assoc, arith}
-use Rattle.std.specs.Prelude.{map}
+use Rattle.std.proofs.Common.{◌≡◌, ℕ, ◌+◌, ◌<◌, ◌≤◌, List, [], ◌++◌, length, sym, ap, subst, ◌∙◌, append_assoc, arith}
 use Rattle.std.proofs.lemmas.List.{append-nil, map-append, length-append}
 use Rattle.flow_codec.specs.declared.message.Header.{Header}
 use Rattle.flow_codec.specs.Raw.{RawRecord, Placed, under, Took}

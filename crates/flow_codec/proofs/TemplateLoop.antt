@@ -1,11 +1,11 @@
 -- The template records of a Set, one after the other.
-use Rattle.std.proofs.Common.{◌≡◌, ℕ, zero, suc, ◌+◌, ◌-◌, ◌<◌, ◌≤◌, Bool, true, false, List, length, Result, Ok, Err, refl, sym, ap, ◌∙◌, arith}
+use Rattle.std.proofs.Common.{◌≡◌, ℕ, zero, suc, ◌+◌, ◌-◌, ◌<◌, ◌≤◌, true, false, List, length, Result, Ok, Err, refl, sym, ◌∙◌, arith}
 use Rattle.std.proofs.lemmas.Bool.Decides.{nat_tests}
 use Rattle.flow_codec.specs.declared.error.MessageError.{MessageError}
 use Rattle.flow_codec.specs.declared.kind.TemplateKind.{TemplateKind}
 use Rattle.flow_codec.specs.declared.templates.TemplateRecord.{TemplateRecord}
 use Rattle.flow_codec.specs.Templates.{AllTemplates, applied}
-use Rattle.flow_codec.specs.Reading.{◌>>=◌, Fails, template_at, is_ended, templates_at}
+use Rattle.flow_codec.specs.Reading.{Fails, template_at, is_ended, templates_at}
 use Rattle.flow_codec.proofs.Steps.{Fails-of}
 
 -- reading goes on at `rest`, with enough steps left

@@ -1,5 +1,5 @@
 -- A message by its header, its Sets and its limits, and what a walk over it answers.
-use Rattle.std.proofs.Common.{◌≡◌, ℕ, ◌+◌, ◌≤◌, List, [], ◌++◌, length, ◌⊎◌, inl, inr, Result, Ok, Err, refl, sym, ap, subst, ◌∙◌, arith}
+use Rattle.std.proofs.Common.{◌≡◌, ℕ, ◌≤◌, List, [], length, ◌⊎◌, inl, inr, Result, Ok, Err, refl, sym, ap, subst, ◌∙◌, arith}
 use Rattle.std.specs.Prelude.{IfOk, IfErr}
 use Rattle.flow_codec.specs.declared.error.MessageError.{MessageError}
 use Rattle.flow_codec.specs.declared.error.MessageError.TheVariants.{Short, Version, Length, SetLength, TemplateCut, TemplateId, ScopeCount, RecordCut, TemplatesFull, DomainsFull, OutOfMemory}
@@ -8,10 +8,10 @@ use Rattle.flow_codec.specs.declared.sink.WalkError.TheVariants.{Message, Sink}
 use Rattle.flow_codec.specs.declared.message.Header.{Header}
 use Rattle.flow_codec.specs.Raw.{RawRecord, RawMessage, Placed, Took}
 use Rattle.flow_codec.specs.Templates.{AllTemplates}
-use Rattle.flow_codec.specs.Reading.{◌>>=◌, Fails, Feeds, IsRefused, IsWalked, header_at, sets_at, limited, division_at, message_at}
+use Rattle.flow_codec.specs.Reading.{Fails, Feeds, IsRefused, IsWalked, header_at, sets_at, limited, division_at, message_at}
 use Rattle.flow_codec.specs.Message.{IsAccepted}
 use Rattle.flow_codec.specs.Fault.{IsFault}
-use Rattle.flow_codec.specs.Walk.{IsWalkedBy, IsWalkOf, IsStopped, IsJudgementOf}
+use Rattle.flow_codec.specs.Walk.{IsWalkedBy, IsWalkOf, IsStopped}
 use Rattle.flow_codec.proofs.Steps.{Fails-of, ok_is}
 use Rattle.flow_codec.proofs.NumberLaws.{IsBytes}
 use Rattle.flow_codec.proofs.MessageLaws.{message_takes, message_again}

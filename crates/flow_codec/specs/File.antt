@@ -5,7 +5,7 @@ use Rattle.flow_codec.specs.declared.file.FileError.{FileError}
 use Rattle.flow_codec.specs.Raw.{RawMessage}
 use Rattle.flow_codec.specs.Templates.{AllTemplates}
 use Rattle.flow_codec.specs.Message.{joined, IsMessage, IsAccepted}
-use Rattle.flow_codec.specs.Fault.{IsFault, IsOctets}
+use Rattle.flow_codec.specs.Fault.{IsFault}
 use Rattle.flow_codec.specs.Cutting.{IsCutOff, IsFileFault}
 
 -- the messages of a File in turn, each with the templates of those before it, limits aside

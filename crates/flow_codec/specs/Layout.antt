@@ -1,5 +1,5 @@
 -- Definitions: what the records of one template ID hold (RFC 7011, sections 3.2 and 3.4).
-use Rattle.std.specs.Prelude.{◌≡◌, ℕ, ◌+◌, ◌<◌, ◌≤◌, ◌^◌, Bool, true, false, List, [], ◌∷◌, ◌++◌, Option, Some, None, IfSome, length, sum_by, ◌==◌, if◌then◌else◌}
+use Rattle.std.specs.Prelude.{◌≡◌, ℕ, ◌+◌, ◌<◌, ◌≤◌, ◌^◌, Bool, true, false, List, ◌++◌, Option, Some, None, IfSome, length, sum_by, ◌==◌, if◌then◌else◌}
 use Rattle.std.specs.List.{flat_map, AllByRecursion}
 use Rattle.std.specs.Int.{w16, w32, to_be_bytes}
 use Rattle.flow_elements.specs.declared.element.ElementId.{ElementId}

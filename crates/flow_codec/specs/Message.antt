@@ -12,7 +12,7 @@ use Rattle.flow_codec.specs.declared.message.DataRecord.{DataRecord}
 use Rattle.flow_codec.specs.Layout.{Layout, smallest, set_id}
 use Rattle.flow_codec.specs.Templates.{AllTemplates, applied, definition_of, definitions_of, template, IsTemplateRecord, IsWithin}
 use Rattle.flow_codec.specs.Fields.{fields_in}
-use Rattle.flow_codec.specs.Raw.{RawRecord, RawMessage, Placed, Took, raw, IsWhole, under}
+use Rattle.flow_codec.specs.Raw.{RawRecord, RawMessage, raw, IsWhole}
 
 -- ---- data records
 

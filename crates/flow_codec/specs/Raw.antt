@@ -1,5 +1,5 @@
 -- Data records as a message holds them, in octets.
-use Rattle.std.specs.Prelude.{◌≡◌, ℕ, List, ◌∷◌, ◌++◌, [], map}
+use Rattle.std.specs.Prelude.{ℕ, List, ◌++◌, map}
 use Rattle.flow_codec.specs.declared.message.Header.{Header}
 use Rattle.flow_codec.specs.declared.message.Field.{Field}
 use Rattle.flow_codec.specs.Layout.{Layout}

@@ -1,5 +1,5 @@
 -- The templates in force, as lists of domains and of definitions, and what a template record changes.
-use Rattle.std.specs.Prelude.{◌≡◌, ℕ, ◌+◌, ◌<◌, ◌≤◌, ◌^◌, List, [], ◌∷◌, ◌++◌, Option, Some, None, nat_eq, unwrap_or, Bool, true, false, not, ◌&&◌, ◌==◌, length, sum_by, if◌then◌else◌}
+use Rattle.std.specs.Prelude.{◌≡◌, ℕ, ◌+◌, ◌<◌, ◌≤◌, ◌^◌, List, [], ◌∷◌, ◌++◌, Option, Some, None, nat_eq, unwrap_or, Bool, false, not, ◌&&◌, ◌==◌, length, sum_by, if◌then◌else◌}
 use Rattle.std.specs.List.{AllByRecursion}
 use Rattle.std.specs.Int.{w16, to_be_bytes}
 use Rattle.std.specs.Map.{lookup}

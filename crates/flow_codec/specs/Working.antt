@@ -1,5 +1,5 @@
 -- What is in force while a message is read: the templates from before it, or those with its domain's definitions put back.
-use Rattle.std.specs.Prelude.{◌≡◌, ℕ, Bool, false, Option, Some, None, nat_eq, if◌then◌else◌}
+use Rattle.std.specs.Prelude.{ℕ, Bool, Option, Some, None, nat_eq, if◌then◌else◌}
 use Rattle.indexmap.specs.IndexMap.{shift_remove_entry}
 use Rattle.flow_codec.specs.declared.templates.DomainTemplates.{DomainTemplates}
 use Rattle.flow_codec.specs.declared.working.Changed.{Changed}

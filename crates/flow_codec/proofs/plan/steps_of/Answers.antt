@@ -1,4 +1,4 @@
-use Rattle.std.proofs.Common.{◌≡◌, sym, ◌∙◌, arith, None}
+use Rattle.std.proofs.Common.{sym, ◌∙◌, arith, None}
 use Rattle.flow_codec.specs.Plan.{steps_of}
 use Rattle.flow_codec.proofs.PlanLoop.{skips, goes_on, is_done, is_other}
 use Rattle.flow_codec.proofs.plan.steps_of.Goals.{in-Skip, in_default+in_ok-push_skip-in_default+in_ok-push-in_default}

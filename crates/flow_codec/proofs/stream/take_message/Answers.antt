@@ -1,5 +1,5 @@
-use Rattle.std.proofs.Common.{◌≡◌, ℕ, ◌-◌, length, take, ◌++◌, drop, arith, subst, refl, ap, List}
-use Rattle.std.proofs.lemmas.List.{take_at, take_all, length-take-le, length-drop, length-append}
+use Rattle.std.proofs.Common.{◌≡◌, ℕ, ◌-◌, length, ◌++◌, drop, arith, ap, List}
+use Rattle.std.proofs.lemmas.List.{take_at, take_all, length-take-le}
 use borrow.Rule.Slice.PartMut.{put_mid, post_of}
 use Rattle.flow_codec.proofs.Streaming.{short_next, refused_next, cut_next, whole_next, stops_by, room_behind}
 use Rattle.flow_codec.proofs.stream.take_message.Goals as goal

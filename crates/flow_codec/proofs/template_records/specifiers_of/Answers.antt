@@ -1,4 +1,4 @@
-use Rattle.std.proofs.Common.{◌≡◌, arith}
+use Rattle.std.proofs.Common.{arith}
 use Rattle.std.proofs.lemmas.Result.{err_from_is_err_and}
 use Rattle.flow_codec.specs.Reading.{specifiers_at}
 use Rattle.flow_codec.proofs.SpecifierLoop.{goes_on, ends, is_done}

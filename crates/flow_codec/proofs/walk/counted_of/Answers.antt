@@ -1,4 +1,3 @@
-use Rattle.std.proofs.Common.{◌≡◌, arith}
 use Rattle.flow_codec.proofs.Extents.{counted_long}
 use Rattle.flow_codec.proofs.WholeRecords.{first_and_rest}
 use Rattle.flow_codec.proofs.walk.counted_of.Goals as goal

@@ -1,4 +1,3 @@
-use Rattle.std.proofs.Common.{◌≡◌, arith}
 use Rattle.std.proofs.lemmas.Result.{err_from_is_err_and}
 use Rattle.flow_codec.specs.Working.{current}
 use Rattle.flow_codec.proofs.Walking.{header_fails, sets_stop, limits_fail, message_is}

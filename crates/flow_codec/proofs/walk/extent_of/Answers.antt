@@ -1,4 +1,4 @@
-use Rattle.std.proofs.Common.{◌≡◌, sym, ap, ◌∙◌, arith}
+use Rattle.std.proofs.Common.{sym, ap, ◌∙◌, arith}
 use Rattle.flow_codec.specs.declared.plan.Plan.{Plan}
 use Rattle.flow_codec.proofs.Extents.{by_steps, all_fixed}
 use Rattle.flow_codec.proofs.WholeRecords.{whole_of}

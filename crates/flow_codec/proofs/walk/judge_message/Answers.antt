@@ -1,4 +1,4 @@
-use Rattle.std.proofs.Common.{◌≡◌, ap, arith}
+use Rattle.std.proofs.Common.{ap, arith}
 use Rattle.flow_codec.specs.Raw.{RawMessage}
 use Rattle.flow_codec.specs.Working.{current}
 use Rattle.flow_codec.proofs.MessageLaws.{message_takes}

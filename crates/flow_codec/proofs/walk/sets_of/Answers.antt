@@ -1,7 +1,6 @@
-use Rattle.std.proofs.Common.{◌≡◌, ◌<◌, [], length, refl, arith}
+use Rattle.std.proofs.Common.{refl}
 use Rattle.std.proofs.lemmas.Result.{err_from_is_err_and}
 use Rattle.flow_codec.specs.Working.{current}
-use Rattle.flow_codec.specs.Reading.{sets_at}
 use Rattle.flow_codec.proofs.SetLoop.{starts, goes_on, ends, stops, is_done, some_left, none_left}
 use Rattle.flow_codec.proofs.walk.sets_of.Goals as goal
 

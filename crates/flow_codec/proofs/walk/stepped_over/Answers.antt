@@ -1,4 +1,3 @@
-use Rattle.std.proofs.Common.{◌≡◌, arith}
 use Rattle.std.proofs.lemmas.Result.{err_from_is_err_and}
 use Rattle.flow_codec.proofs.StepLoop.{starts, goes_on, ends, shorter, is_done}
 use Rattle.flow_codec.proofs.walk.stepped_over.Goals as goal

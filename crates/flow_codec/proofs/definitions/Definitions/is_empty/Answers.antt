@@ -1,4 +1,3 @@
-use Rattle.std.proofs.Common.{◌≡◌, ap, length, ◌∙◌}
 use Rattle.flow_codec.proofs.SlotLaws.{empty-is}
 use Rattle.flow_codec.proofs.definitions.Definitions.is_empty.Goals as goal
 

@@ -1,8 +1,6 @@
-use Rattle.std.proofs.Common.{◌≡◌, ◌++◌, ◌∷◌, [], ℕ, Option, Some, None, cond, refl, length, sym, ap, subst, ◌∙◌, arith}
+use Rattle.std.proofs.Common.{◌≡◌, ◌++◌, ◌∷◌, [], ℕ, Some, None, cond, refl, length, sym, ap, ◌∙◌, arith}
 use Rattle.std.specs.Prelude.{nat_eq}
 use Rattle.std.specs.HashMap.{get}
-use Rattle.flow_codec.specs.Slots.{standing, AreSlots}
-use Rattle.flow_codec.proofs.Entries.{with_entry}
 use Rattle.flow_codec.proofs.SlotLaws.{within, replaced, pushed, standing-replaced, standing-pushed}
 use Rattle.flow_codec.proofs.definitions.Definitions.put.Goals as goal
 

@@ -1,8 +1,8 @@
-use Rattle.std.proofs.Common.{◌≡◌, Some, None, sym, ap, ◌∙◌, arith}
+use Rattle.std.proofs.Common.{None, sym, ap, ◌∙◌, arith}
 use Rattle.std.specs.Prelude.{nat_eq}
 use Rattle.std.specs.HashMap.{get}
 use Rattle.flow_codec.proofs.Entries.{without}
-use Rattle.flow_codec.proofs.SlotLaws.{within, taken, kept, standing-taken, standing-kept}
+use Rattle.flow_codec.proofs.SlotLaws.{within, taken, standing-taken, standing-kept}
 use Rattle.flow_codec.proofs.definitions.Definitions.take.Goals.{in-Some-1, in-None-1}
 use Rattle.flow_codec.proofs.definitions.Definitions.take.Goals as goal
 

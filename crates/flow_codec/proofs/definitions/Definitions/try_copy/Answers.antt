@@ -1,5 +1,3 @@
-use Rattle.std.proofs.Common.{◌≡◌, sym, subst, ◌∙◌}
-use Rattle.flow_codec.specs.Templates.{IsOnce}
 use Rattle.flow_codec.proofs.SlotLaws.{copied-none, copied-some}
 use Rattle.flow_codec.proofs.definitions.Definitions.try_copy.Goals.{in-Some+in_ok-clone+in_ok-put, in_default}
 use Rattle.flow_codec.proofs.definitions.Definitions.try_copy.Goals as goal

@@ -1,4 +1,4 @@
-use Rattle.std.proofs.Common.{◌≡◌, ◌∙◌, ap, refl}
+use Rattle.std.proofs.Common.{refl}
 use Rattle.flow_codec.proofs.Streaming.{prepend_none}
 use Rattle.flow_codec.proofs.stream.MessageReader.new.Goals as goal
 
