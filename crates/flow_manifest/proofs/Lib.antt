@@ -7,3 +7,4 @@ pub mod Gates
 pub mod Swaps
 pub mod Openings
 pub mod OneInForce
+pub mod Enough

@@ -53,3 +53,7 @@ IsOpenFault image fault =
 pub record HasCause {T : Type 0} (before now : ℕ) (result : Result T OpenError) : Type 0 where
   pub later : before ≤ now
   pub fault : IsErrOf result Fault → HasRisen before now
+
+-- one octet more than the longest slot has: a gate, a head, and 4,096 entries
+unfoldable pub enough : ℕ
+enough = 131124

@@ -1,11 +1,11 @@
 //! The two slots read, and judged.
 
-ghost use Rattle.std.specs.Prelude.{◌≡◌, ◌≢◌, ◌⊎◌, ◌↔◌, ℕ, ◌≤◌, List, true, IsTrue, OnOk, IfOk, IfErr, length, vec_len};
+ghost use Rattle.std.specs.Prelude.{◌≡◌, ◌≢◌, ◌⊎◌, ◌↔◌, ℕ, ◌≤◌, List, true, IsTrue, OnOk, IfOk, IfErr, length, take, vec_len};
 ghost use Rattle.flow_disk.specs.Disk.{IsDiskImage, AllImages, Stays};
 ghost use Rattle.flow_disk.specs.Moments.{LeavesOnly};
 ghost use Rattle.flow_manifest.specs.declared.slots.Slot.{Slot};
 ghost use Rattle.flow_manifest.specs.Slots.{file_of, reads_of, IsOpen, AreSlots, IsInForce};
-ghost use Rattle.flow_manifest.specs.Opening.{in_slot, IsHeld, IsSlotFault, IsOpenFault, IsNewerOf, HasCause};
+ghost use Rattle.flow_manifest.specs.Opening.{in_slot, IsHeld, IsSlotFault, IsOpenFault, IsNewerOf, HasCause, enough};
 
 use crate::decoding::decode;
 use crate::error::{ManifestError, OpenError};
@@ -44,21 +44,24 @@ pub fn read_slots<D: Disk>(alloc: Global, disk: &mut D) -> Result<Slots, OpenErr
     slots_of(alloc, &first, &second)
 }
 
-/// The octets of a file.
+/// One octet more than the longest slot has: a gate, a head, and 4,096 entries.
+const ENOUGH: u64 = 131_124;
+
+/// The octets of a slot, as many as show whether it holds a manifest.
 fn octets_of<D: Disk>(alloc: Global, disk: &mut D, file: u64) -> Result<Vec<u8>, OpenError>
     ensures honest { D.honest disk.new ≡ D.honest disk.old }
     ensures other_marks { (n : ℕ) → n ≢ file → D.marks disk.new n ≡ D.marks disk.old n }
     ensures settled { (D.marks disk.new file).settled ≡ (D.marks disk.old file).settled }
     ensures frozen { (D.marks disk.new file).frozen ≡ (D.marks disk.old file).frozen }
-    ensures size { IfOk result (λ octets. vec_len octets ≡ (D.marks disk.new file).size) }
-    ensures octets { IsTrue (D.honest disk.old) → IfOk result (λ octets. octets.items ≡ (D.held disk.old file).reads) }
+    ensures size { IfOk result (λ octets. vec_len octets ≤ (D.marks disk.new file).size) }
+    ensures octets { IsTrue (D.honest disk.old) → IfOk result (λ octets. octets.items ≡ take enough (D.held disk.old file).reads) }
     ensures held { IsTrue (D.honest disk.old) → Stays (D.held disk.old) (D.held disk.new) }
     ensures any_moment { IsTrue (D.honest disk.old) → LeavesOnly D.moment D.left_since disk.old disk.new (IsDiskImage (D.held disk.old)) }
     ensures refused { IfErr result (λ e. (e ≡ OpenError.OutOfMemory) ⊎ (e ≡ OpenError.Fault)) }
     ensures cause { HasCause (D.faults disk.old) (D.faults disk.new) result }
 {
     let count = disk.length(file)?;
-    let octets = disk.read(alloc, file, 0, count as usize)?;
+    let octets = disk.read(alloc, file, 0, count.min(ENOUGH) as usize)?;
     Ok(octets)
 }
 

@@ -1,11 +1,12 @@
-use Rattle.std.proofs.Common.{◌≡◌, ◌⊎◌, inl, inr, ⊎_elim, ℕ, ◌≤◌, List, IsTrue, refl, subst, sym, ◌∙◌, ap, arith}
+use Rattle.std.proofs.Common.{◌≡◌, ◌⊎◌, inl, inr, ⊎_elim, ℕ, ◌≤◌, List, length, take, IsTrue, refl, subst, sym, ◌∙◌, ap, arith}
 use Rattle.flow_disk.specs.Disk.{Held, Marks, IsImage, IsDiskImage, AllImages}
 use Rattle.flow_disk.proofs.Moments.{by}
 use Rattle.flow_manifest.specs.declared.error.OpenError.TheVariants as opening
 use Rattle.flow_manifest.specs.declared.slots.Slot.{Slot}
 use Rattle.flow_manifest.specs.Slots.{file_of, other, reads_of, AreSlots, IsInForce}
-use Rattle.flow_manifest.specs.Opening.{IsOpenFault}
+use Rattle.flow_manifest.specs.Opening.{IsOpenFault, enough}
 use Rattle.flow_manifest.proofs.Openings.{on_ok_by, if_ok_by, if_err_by, each_slot, one_run, not_the_device}
+use Rattle.flow_manifest.proofs.Enough.{slots_whole, open_fault_whole}
 use Rattle.flow_manifest.proofs.Swaps.{same_slots}
 use Rattle.flow_manifest.proofs.reading.read_slots.Goals as goal
 
@@ -13,10 +14,10 @@ pub returns-clause-room : goal.returns-clause-room
 returns-clause-room g c =
     let D = g.D.Disk in
     let new = c.octets_of-2.new.disk in
-    on_ok_by c.slots_of.result _ ((slot : Slot) → 1 ≤ (D.marks new (file_of slot)).size) (λ gates.
+    on_ok_by c.slots_of.result ((1 ≤ length c.deref.result.now) × (1 ≤ length c.deref-2.result.now)) ((slot : Slot) → 1 ≤ (D.marks new (file_of slot)).size) (λ gates.
     each_slot (λ n. 1 ≤ (D.marks new n).size)
-    (subst (λ (m : ℕ). 1 ≤ m) (c.deref.ensures.len ∙ c.in_ok-first.ensures.size ∙ sym (ap (λ (m : Marks). m.size) (c.octets_of-2.ensures.other_marks 1 (λ is. omega arith)))) gates.0)
-    (subst (λ (m : ℕ). 1 ≤ m) (c.deref-2.ensures.len ∙ c.in_ok-second.ensures.size) gates.1))
+    (omega (arith, gates.0, c.deref.ensures.len, c.in_ok-first.ensures.size, ap (λ (m : Marks). m.size) (c.octets_of-2.ensures.other_marks 1 (λ is. omega arith))))
+    (omega (arith, gates.1, c.deref-2.ensures.len, c.in_ok-second.ensures.size)))
     c.slots_of.ensures.gates
 
 pub returns-clause-any_moment : goal.returns-clause-any_moment
@@ -36,9 +37,9 @@ returns-clause-found g c h =
     let d = c.args.disk.now in
     let mid = c.octets_of.new.disk in
     let h1 = subst IsTrue (sym c.octets_of.ensures.honest) h in
-    let one : (D.held d 1).reads ≡ c.deref.result.now = sym (c.deref.ensures.value ∙ c.in_ok-first.ensures.octets h) in
-    let two : (D.held d 2).reads ≡ c.deref-2.result.now = sym (c.deref-2.ensures.value ∙ c.in_ok-second.ensures.octets h1 ∙ ap (λ (f : Held). f.reads) (c.octets_of.ensures.held h 2)) in
-    if_ok_by c.slots_of.result _ (λ slots. AreSlots slots (reads_of (D.held d))) (λ slots are. are (reads_of (D.held d)) one two) c.slots_of.ensures.found
+    let one : take enough (D.held d 1).reads ≡ c.deref.result.now = sym (c.deref.ensures.value ∙ c.in_ok-first.ensures.octets h) in
+    let two : take enough (D.held d 2).reads ≡ c.deref-2.result.now = sym (c.deref-2.ensures.value ∙ c.in_ok-second.ensures.octets h1 ∙ ap (λ (f : Held). take enough f.reads) (c.octets_of.ensures.held h 2)) in
+    if_ok_by c.slots_of.result _ (λ slots. AreSlots slots (reads_of (D.held d))) (λ slots are. slots_whole slots (reads_of (D.held d)) (are (λ n. take enough (D.held d n).reads) one two)) c.slots_of.ensures.found
 
 pub returns-clause-in_force : goal.returns-clause-in_force
 returns-clause-in_force g c h settled_1 settled_2 =
@@ -47,15 +48,15 @@ returns-clause-in_force g c h settled_1 settled_2 =
     let mid = c.octets_of.new.disk in
     let new = c.octets_of-2.new.disk in
     let h1 = subst IsTrue (sym c.octets_of.ensures.honest) h in
-    let one : (D.held d 1).reads ≡ c.deref.result.now = sym (c.deref.ensures.value ∙ c.in_ok-first.ensures.octets h) in
-    let two : (D.held d 2).reads ≡ c.deref-2.result.now = sym (c.deref-2.ensures.value ∙ c.in_ok-second.ensures.octets h1 ∙ ap (λ (f : Held). f.reads) (c.octets_of.ensures.held h 2)) in
+    let one : take enough (D.held d 1).reads ≡ c.deref.result.now = sym (c.deref.ensures.value ∙ c.in_ok-first.ensures.octets h) in
+    let two : take enough (D.held d 2).reads ≡ c.deref-2.result.now = sym (c.deref-2.ensures.value ∙ c.in_ok-second.ensures.octets h1 ∙ ap (λ (f : Held). take enough f.reads) (c.octets_of.ensures.held h 2)) in
     let same : (n : ℕ) → D.held new n ≡ D.held d n = λ n. c.octets_of-2.ensures.held h1 n ∙ c.octets_of.ensures.held h n in
     let read : (image : ℕ → List ℕ) → IsDiskImage (D.held new) image → (slot : Slot) → image (file_of slot) ≡ (D.held d (file_of slot)).reads = λ image is.
     each_slot (λ n. image n ≡ (D.held d n).reads)
     (g.met.D.Disk.settled_alone d 1 (image 1) h settled_1 (subst (λ (f : Held). IsImage f (image 1)) (same 1) (is 1)))
     (g.met.D.Disk.settled_alone d 2 (image 2) h settled_2 (subst (λ (f : Held). IsImage f (image 2)) (same 2) (is 2))) in
     if_ok_by c.slots_of.result _ (λ slots. AllImages (D.held new) (λ image. IsInForce image slots.current))
-    (λ slots are image is. (slots, refl, same_slots slots (reads_of (D.held d)) image (are (reads_of (D.held d)) one two) (read image is slots.current_slot) (read image is (other slots.current_slot))))
+    (λ slots are image is. (slots, refl, same_slots slots (reads_of (D.held d)) image (slots_whole slots (reads_of (D.held d)) (are (λ n. take enough (D.held d n).reads) one two)) (read image is slots.current_slot) (read image is (other slots.current_slot))))
     c.slots_of.ensures.found
 
 pub returns-clause-fault : goal.returns-clause-fault
@@ -63,10 +64,10 @@ returns-clause-fault g c h =
     let D = g.D.Disk in
     let d = c.args.disk.now in
     let h1 = subst IsTrue (sym c.octets_of.ensures.honest) h in
-    let one : (D.held d 1).reads ≡ c.deref.result.now = sym (c.deref.ensures.value ∙ c.in_ok-first.ensures.octets h) in
-    let two : (D.held d 2).reads ≡ c.deref-2.result.now = sym (c.deref-2.ensures.value ∙ c.in_ok-second.ensures.octets h1 ∙ ap (λ (f : Held). f.reads) (c.octets_of.ensures.held h 2)) in
+    let one : take enough (D.held d 1).reads ≡ c.deref.result.now = sym (c.deref.ensures.value ∙ c.in_ok-first.ensures.octets h) in
+    let two : take enough (D.held d 2).reads ≡ c.deref-2.result.now = sym (c.deref-2.ensures.value ∙ c.in_ok-second.ensures.octets h1 ∙ ap (λ (f : Held). take enough f.reads) (c.octets_of.ensures.held h 2)) in
     if_err_by c.slots_of.result _ (λ e. (e ≡ opening.OutOfMemory) ⊎ (e ≡ opening.Fault) ⊎ IsOpenFault (reads_of (D.held d)) e)
-    (λ e told. ⊎_elim (λ memory. inl memory) (λ fault. inr (inr (fault (reads_of (D.held d)) one two))) told) c.slots_of.ensures.fault
+    (λ e told. ⊎_elim (λ memory. inl memory) (λ fault. inr (inr (open_fault_whole (reads_of (D.held d)) e (fault (λ n. take enough (D.held d n).reads) one two)))) told) c.slots_of.ensures.fault
 
 pub returns-clause-cause : goal.returns-clause-cause
 returns-clause-cause g c = record {
