@@ -8,6 +8,7 @@
 #![tactic(auto)]
 
 mod checks;
+mod creating;
 mod decoding;
 mod encoding;
 mod error;
@@ -18,6 +19,7 @@ mod reading;
 mod slots;
 mod swap;
 
+pub use creating::create_slots;
 pub use decoding::decode;
 pub use encoding::encode;
 pub use error::{ManifestError, OpenError};

@@ -15,7 +15,7 @@ pub(crate) const OPEN: u8 = 0xA5;
 const CLOSED: u8 = 0;
 
 /// How many octets a gate has.
-const GATE_LENGTH: u64 = 1;
+pub(crate) const GATE_LENGTH: u64 = 1;
 
 /// Closes a slot where it is open, and settles it. A closed gate is not written.
 pub(crate) fn close_slot<D: Disk>(disk: &mut D, file: u64, was_open: bool) -> Result<(), DiskError>
