@@ -1,0 +1,41 @@
+#!/bin/sh
+# run.sh [OCTETS]: times `flowvault measure 300`, cat, wc -l and libfixbuf on one generated File, in one run; the best of five each.
+# libfixbuf takes part where Debian's libfixbuf-dev is installed. The File and the driver stand in built/.
+set -e
+top=$(dirname -- "$(readlink -f -- "$0")")/..
+octets=${1:-300000000}
+mkdir -p "$top/built"
+file=$top/built/bench-$octets.ipfix
+[ -s "$file" ] || python3 "$top/bench/generate.py" "$octets" >"$file"
+"$top/flowvault" --version >/dev/null
+program=$top/built/flowvault
+fixbuf=
+if pkg-config --exists libfixbuf 2>/dev/null; then
+    fixbuf=$top/built/fixbuf_measure
+    cc -O2 "$top/bench/fixbuf_measure.c" -o "$fixbuf" $(pkg-config --cflags --libs libfixbuf)
+    "$fixbuf" 300 "$file" >"$top/built/fixbuf.out"
+    "$program" measure 300 <"$file" | cmp - "$top/built/fixbuf.out" && echo "the same lines as libfixbuf"
+fi
+exec python3 - "$file" "$program" "$fixbuf" <<'PYTHON'
+import os, resource, subprocess, sys, time
+
+file, program, fixbuf = sys.argv[1:4]
+runs = [("measure 300", [program, "measure", "300"], True), ("cat", ["cat"], True), ("wc -l", ["wc", "-l"], True)]
+if fixbuf:
+    runs.append(("libfixbuf", [fixbuf, "300", file], False))
+best = {}
+for _ in range(5):
+    for name, command, piped in runs:
+        with open(file if piped else os.devnull, "rb") as given:
+            begun = time.perf_counter()
+            subprocess.run(command, stdin=given, stdout=subprocess.DEVNULL, check=True)
+            spent = time.perf_counter() - begun
+        best[name] = min(best.get(name, spent), spent)
+print("%d octets, %s" % (os.path.getsize(file), os.uname().machine))
+for name, spent in best.items():
+    print("%-12s %.3f s" % (name, spent))
+with open(file, "rb") as given:
+    child = subprocess.Popen([program, "measure", "300"], stdin=given, stdout=subprocess.DEVNULL)
+    _, _, used = os.wait4(child.pid, 0)
+print("resident    %.1f MiB" % (used.ru_maxrss / 1024))
+PYTHON

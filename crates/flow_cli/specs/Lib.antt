@@ -1,0 +1,6 @@
+pub mod Writing
+pub mod Numbers
+pub mod Lines
+pub mod Refusals
+pub mod Measure
+pub mod Run

@@ -1,0 +1,55 @@
+//! The program flowvault: reads an IPFIX File (RFC 5655) from standard input and writes lines.
+//!
+//! `measure` writes the totals lines of the whole File or nothing; a refusal is that of the first fault by place.
+#![tactic(auto)]
+
+mod measuring;
+mod numbers;
+mod patient;
+mod refusal;
+mod request;
+mod run;
+mod text;
+
+use run::run_line;
+use std::env;
+use std::io::ErrorKind;
+use std::process::ExitCode;
+
+/// The status where no memory was found.
+const NO_MEMORY: u8 = 4;
+
+/// The status where the words of the command line are not UTF-8.
+const WRONG_LINE: u8 = 2;
+
+fn main(rt: HostRuntime) -> ExitCode {
+    let alloc = rt.alloc();
+    let words: Vec<String> = match env::args(&rt) {
+        Ok(args) => match args.collect(alloc) {
+            Ok(words) => words,
+            Err(_) => return ExitCode::from(NO_MEMORY),
+        },
+        Err(e) => {
+            if e.kind() == ErrorKind::OutOfMemory {
+                let _ = rt.eprintln("flowvault: 11 OutOfMemory");
+                return ExitCode::from(NO_MEMORY);
+            }
+            let _ = rt.eprintln("flowvault: an argument is not UTF-8");
+            return ExitCode::from(WRONG_LINE);
+        }
+    };
+    let mut input = rt.stdin();
+    let mut output = rt.stdout();
+    let mut errors = rt.stderr();
+    let status = run_line(
+        alloc,
+        words.as_slice(),
+        &mut input,
+        &mut output,
+        &mut errors,
+    );
+    ExitCode::from(status)
+}
+
+#[cfg(test)]
+mod tests;
