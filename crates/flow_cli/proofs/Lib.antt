@@ -1,2 +1,6 @@
+pub mod Groups
 pub mod Runs
+pub mod Joining
+pub mod Holding
+pub mod Printing
 pub mod Summing

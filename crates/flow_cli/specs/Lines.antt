@@ -1,11 +1,16 @@
 -- The lines that the program writes, as octets of UTF-8.
-use Rattle.std.specs.Prelude.{ℕ, ◌+◌, ◌/◌, ◌%◌, ◌==◌, nat_lt, List, [], ◌∷◌, ◌++◌, map, Option, Some, None, if◌then◌else◌}
+use Rattle.std.specs.Prelude.{ℕ, ◌+◌, ◌/◌, ◌%◌, nat_lt, Bool, List, [], ◌∷◌, ◌++◌, map, codes, Option, Some, None, unwrap_or, if◌then◌else◌}
 use Rattle.std.specs.List.{flat_map, join_with_byte}
 use Rattle.std.specs.Fmt.{decimal}
 use Rattle.flow_elements.specs.declared.element.ElementId.{ElementId}
 use Rattle.flow_elements.specs.declared.value.Value.{Value}
 use Rattle.flow_elements.specs.declared.value.Value.TheVariants.{Unsigned, Address4, Address6, Mac, Octets}
 use Rattle.flow_elements.specs.Elements.{name_of}
+use Rattle.flow_elements.specs.Values.{value_of}
+use Rattle.flow_codec.specs.declared.message.Field.{Field}
+use Rattle.flow_codec.specs.declared.message.Header.{Header}
+use Rattle.flow_codec.specs.Fields.{fields_in}
+use Rattle.flow_codec.specs.Raw.{RawRecord, RawMessage}
 use Rattle.flow_measure.specs.declared.rows.Key.{Key}
 use Rattle.flow_measure.specs.declared.rows.Row.{Row}
 use Rattle.flow_measure.specs.declared.rows.Sums.{Sums}
@@ -57,3 +62,36 @@ value_text (Address4 octets) = join_with_byte 46 (map decimal octets)
 value_text (Address6 octets) = join_with_byte 58 (map octets_text (pairs octets))
 value_text (Mac octets) = join_with_byte 58 (map hex octets)
 value_text (Octets octets) = octets_text octets
+
+-- ---- messages and records
+
+-- an element that isn't listed: eNUMBER, or eENTERPRISE.NUMBER
+abbrev pub number_text : Option ℕ → ℕ → List ℕ
+number_text None number = 101 ∷ decimal number
+number_text (Some enterprise) number = 101 ∷ decimal enterprise ++ 46 ∷ decimal number
+
+unfoldable pub name_text : ElementId → List ℕ
+name_text id = unwrap_or (name_of id) (number_text id.enterprise id.number)
+
+-- NAME=VALUE, behind a space
+unfoldable pub field_text : Field → List ℕ
+field_text field = 32 ∷ name_text field.id ++ 61 ∷ value_text (value_of field.id field.octets)
+
+-- which kind of template a record stands under, and its ID
+unfoldable pub start_text : Bool → ℕ → List ℕ
+start_text options id = (if options then codes "options" else codes "record") ++ 32 ∷ decimal id
+
+-- record ID or options ID, then each field, with a line feed
+unfoldable pub record_line : RawRecord → List ℕ
+record_line r = start_text r.layout.options r.id ++ flat_map field_text (fields_in r.layout.fields r.octets) ++ 10 ∷ []
+
+-- message LENGTH TIME SEQUENCE DOMAIN, with a line feed
+unfoldable pub message_line : Header → List ℕ
+message_line h = codes "message" ++ 32 ∷ decimal h.length ++ 32 ∷ decimal h.time ++ 32 ∷ decimal h.sequence ++ 32 ∷ decimal h.domain ++ 10 ∷ []
+
+-- a message's line, and those of its records
+unfoldable pub message_text : RawMessage → List ℕ
+message_text m = message_line m.header ++ flat_map record_line m.records
+
+abbrev pub dump_text : List RawMessage → List ℕ
+dump_text messages = flat_map message_text messages

@@ -3,8 +3,9 @@ use Rattle.std.specs.Prelude.{◌≡◌, ◌⊎◌, ℕ, List, Option, IfSome}
 use Rattle.std.specs.Io.KnownBytes.{Appends}
 use Rattle.flow_cli.specs.declared.refusal.Refusal.{Refusal}
 use Rattle.flow_cli.specs.declared.request.Request.{Request}
-use Rattle.flow_cli.specs.declared.request.Request.TheVariants.{Measure}
+use Rattle.flow_cli.specs.declared.request.Request.TheVariants.{Measure, Dump}
 use Rattle.flow_cli.specs.Refusals.{status_of}
+use Rattle.flow_cli.specs.Dump.{IsDumped, IsDumpedUntil}
 use Rattle.flow_cli.specs.Measure.{HasTotals, IsRefusedBy, KeepsOrFront}
 
 -- Status 0 where the lines of the whole File were written, else that of the refusal.
@@ -12,3 +13,6 @@ abbrev pub Runs : Request → Option (List ℕ) → Option (List ℕ) → Option
 Runs (Measure width) input old new status =
     ((status ≡ 0) × IfSome input (λ octets. (lines : List ℕ) × HasTotals width octets lines × Appends old new lines))
     ⊎ ((e : Refusal) × (status ≡ status_of e) × IfSome input (λ octets. IsRefusedBy octets e) × KeepsOrFront width input old new e)
+Runs Dump input old new status =
+    ((status ≡ 0) × IfSome input (λ octets. IsDumped octets old new))
+    ⊎ ((e : Refusal) × (status ≡ status_of e) × IfSome input (λ octets. IsDumpedUntil octets old new e))

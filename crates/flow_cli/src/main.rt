@@ -1,8 +1,10 @@
 //! The program flowvault: reads an IPFIX File (RFC 5655) from standard input and writes lines.
 //!
-//! `measure` writes the totals lines of the whole File or nothing; a refusal is that of the first fault by place.
+//! `measure` writes the totals lines of the whole File or nothing, `dump` the lines of all messages before the first fault; a refusal is that of the
+//! first fault by place.
 #![tactic(auto)]
 
+mod dumping;
 mod measuring;
 mod numbers;
 mod patient;
@@ -53,3 +55,5 @@ fn main(rt: HostRuntime) -> ExitCode {
 
 #[cfg(test)]
 mod tests;
+#[cfg(test)]
+mod tests_dump;

@@ -50,6 +50,8 @@ impl Width {
 pub enum Request {
     /// Totals lines of the File on standard input.
     Measure { width: Width },
+    /// Message and record lines of the File on standard input.
+    Dump,
 }
 
 /// Why a command line asks for nothing.
@@ -75,11 +77,15 @@ fn command_line<'a>(alloc: Global) -> Result<Command<'a>, AllocError> {
             "Sums the flows of the IPFIX File on standard input, by interval, Observation Domain and protocol.\nEach line: START DOMAIN PROTOCOL FLOWS OCTETS PACKETS; nothing is written unless the whole File is read",
         )
         .arg(width)?;
+    let dump = Command::new(alloc, "dump").about(
+        "Writes the messages of the IPFIX File on standard input and their data records, a line each.\nmessage LENGTH TIME SEQUENCE DOMAIN; record ID NAME=VALUE ..; options ID NAME=VALUE ..",
+    );
     Command::new(alloc, "flowvault")
         .about("A crash-safe archive of IPFIX Files (RFC 5655)")
         .version("0.1.0")
         .subcommand_required(true)
-        .subcommand(measure)
+        .subcommand(measure)?
+        .subcommand(dump)
 }
 
 /// Reads the words, of which the first is the program's name.
@@ -93,6 +99,7 @@ pub fn parse<S: AsStr>(alloc: Global, words: &[S]) -> Result<Request, LineError>
             Some(width) => Ok(Request::Measure { width }),
             None => Err(LineError::Width),
         },
+        Some(("dump", _)) => Ok(Request::Dump),
         _ => Err(LineError::Unread),
     }
 }

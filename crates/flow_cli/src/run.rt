@@ -3,6 +3,7 @@
 ghost use Rattle.std.specs.Prelude.{◌≤◌};
 ghost use Rattle.flow_cli.specs.Run.{Runs};
 
+use crate::dumping::dump;
 use crate::measuring::measure;
 use crate::patient::{Patience, write_patiently};
 use crate::request::{LineError, Request, parse};
@@ -40,6 +41,7 @@ fn run<R: Read, W: Write, E: Write>(
 {
     let outcome = match request {
         Request::Measure { width } => measure(alloc, width, input, output),
+        Request::Dump => dump(alloc, input, output),
     };
     match outcome {
         Ok(()) => DONE,

@@ -1,10 +1,15 @@
 //! The program's lines.
 
-ghost use Rattle.std.specs.Prelude.{◌≡◌, ◌<◌, ◌∷◌, ◌++◌, IfOk, OnOk, string_bytes};
+ghost use Rattle.std.specs.Prelude.{◌≡◌, ◌<◌, ◌∷◌, ◌++◌, map, IfOk, OnOk, string_bytes};
 ghost use Rattle.std.specs.Fmt.{decimal};
-ghost use Rattle.flow_cli.specs.Lines.{hex, hex_digit, octets_text, key_text, protocol_text, sums_text, totals_line, totals_text};
+ghost use Rattle.std.specs.List.{join_with_byte};
+ghost use Rattle.flow_elements.specs.Values.{value_of};
+ghost use Rattle.flow_cli.specs.Lines.{hex, hex_digit, octets_text, pairs, value_text, number_text, name_text, field_text, start_text, message_line, key_text, protocol_text, sums_text, totals_line, totals_text};
 
+use flow_codec::Header;
+use flow_elements::{ElementId, Value, element_name, read_value};
 use flow_measure::{Key, Row, Sums};
+use itoa::Buffer;
 use std::alloc::{AllocError, Global};
 
 /// A protocol's number, or a minus for none.
@@ -99,10 +104,155 @@ fn push_octets(text: &mut Vec<u8>, octets: &[u8]) -> Result<(), AllocError>
 }
 
 /// A number in decimal.
-fn push_number(alloc: Global, text: &mut Vec<u8>, number: u64) -> Result<(), AllocError>
+fn push_number(text: &mut Vec<u8>, number: u64) -> Result<(), AllocError>
     ensures { OnOk result (text.new.items ≡ text.old.items ++ decimal number) }
 {
-    let digits = format!(in alloc; "{number}")?;
-    text.extend_from_slice(digits.as_bytes())?;
+    let mut digits = Buffer::new();
+    text.extend_from_slice(digits.format(number).as_bytes())?;
+    Ok(())
+}
+
+/// A dot, and a number in decimal.
+fn push_dotted(text: &mut Vec<u8>, number: u8) -> Result<(), AllocError>
+    ensures { OnOk result (text.new.items ≡ text.old.items ++ 46 ∷ decimal number) }
+{
+    text.push(b'.')?;
+    push_number(text, number as u64)
+}
+
+/// An IPv4 address in dotted decimal.
+fn push_address4(text: &mut Vec<u8>, octets: [u8; 4]) -> Result<(), AllocError>
+    ensures { OnOk result (text.new.items ≡ text.old.items ++ join_with_byte 46 (map decimal octets)) }
+{
+    let [a, b, c, d] = octets;
+    push_number(text, a as u64)?;
+    push_dotted(text, b)?;
+    push_dotted(text, c)?;
+    push_dotted(text, d)
+}
+
+/// A colon, and octets in hexadecimal.
+fn push_group(text: &mut Vec<u8>, octets: &[u8]) -> Result<(), AllocError>
+    ensures { OnOk result (text.new.items ≡ text.old.items ++ 58 ∷ octets_text octets.now) }
+{
+    text.push(b':')?;
+    push_octets(text, octets)
+}
+
+/// A MAC address: six groups of two digits with colons.
+fn push_mac(text: &mut Vec<u8>, octets: [u8; 6]) -> Result<(), AllocError>
+    ensures { OnOk result (text.new.items ≡ text.old.items ++ join_with_byte 58 (map hex octets)) }
+{
+    let [a, b, c, d, e, f] = octets;
+    push_octets(text, &[a])?;
+    push_group(text, &[b])?;
+    push_group(text, &[c])?;
+    push_group(text, &[d])?;
+    push_group(text, &[e])?;
+    push_group(text, &[f])
+}
+
+/// Groups of two octets in hexadecimal, with colons: an IPv6 address.
+#[tactic(auto, using(crate::proofs::Groups::grouped, crate::proofs::Groups::last_group))]
+fn push_groups(text: &mut Vec<u8>, octets: &[u8]) -> Result<(), AllocError>
+    ensures { OnOk result (text.new.items ≡ text.old.items ++ join_with_byte 58 (map octets_text (pairs octets.now))) }
+{
+    let mut rest = octets;
+    while rest.len() > 2 {
+        let (group, after) = rest.split_at(2);
+        push_octets(text, group)?;
+        text.push(b':')?;
+        rest = after;
+    }
+    push_octets(text, rest)
+}
+
+/// The value of an element's octets.
+fn push_value(
+    alloc: Global,
+    text: &mut Vec<u8>,
+    id: ElementId,
+    octets: &[u8],
+) -> Result<(), AllocError>
+    ensures { OnOk result (text.new.items ≡ text.old.items ++ value_text (value_of id octets.now)) }
+{
+    match read_value(alloc, id, octets)? {
+        Value::Unsigned(number) => push_number(text, number),
+        Value::Address4(address) => push_address4(text, address),
+        Value::Address6(address) => push_groups(text, address.as_slice()),
+        Value::Mac(address) => push_mac(text, address),
+        Value::Octets(octets) => push_octets(text, octets.as_slice()),
+    }
+}
+
+/// An element's number, behind that of its enterprise where it has one.
+fn push_element_number(text: &mut Vec<u8>, id: ElementId) -> Result<(), AllocError>
+    ensures { OnOk result (text.new.items ≡ text.old.items ++ number_text id.enterprise id.number) }
+{
+    text.push(b'e')?;
+    if let Some(enterprise) = id.enterprise {
+        push_number(text, enterprise as u64)?;
+        text.push(b'.')?;
+    }
+    push_number(text, id.number as u64)
+}
+
+/// An element's name, or its number where it isn't listed.
+#[tactic(auto, unfolding(crate::specs::Lines::name_text))]
+fn push_name(text: &mut Vec<u8>, id: ElementId) -> Result<(), AllocError>
+    ensures { OnOk result (text.new.items ≡ text.old.items ++ name_text id) }
+{
+    match element_name(id) {
+        Some(name) => text.extend_from_slice(name.as_bytes()),
+        None => push_element_number(text, id),
+    }
+}
+
+/// A field of a record: ` NAME=VALUE`.
+#[tactic(auto, unfolding(crate::specs::Lines::field_text))]
+pub fn push_field(
+    alloc: Global,
+    text: &mut Vec<u8>,
+    id: ElementId,
+    octets: &[u8],
+) -> Result<(), AllocError>
+    ensures { OnOk result (text.new.items ≡ text.old.items ++ field_text (record { id = id; octets = octets.now })) }
+{
+    text.push(b' ')?;
+    push_name(text, id)?;
+    text.push(b'=')?;
+    push_value(alloc, text, id, octets)
+}
+
+/// What a record's line begins with: `record ID` or `options ID`.
+#[tactic(auto, unfolding(crate::specs::Lines::start_text))]
+pub fn push_start(text: &mut Vec<u8>, options: bool, id: u16) -> Result<(), AllocError>
+    ensures { OnOk result (text.new.items ≡ text.old.items ++ start_text options id) }
+{
+    let kind = if options { "options" } else { "record" };
+    text.extend_from_slice(kind.as_bytes())?;
+    text.push(b' ')?;
+    push_number(text, id as u64)
+}
+
+/// A space, and a number in decimal.
+fn push_word(text: &mut Vec<u8>, number: u32) -> Result<(), AllocError>
+    ensures { OnOk result (text.new.items ≡ text.old.items ++ 32 ∷ decimal number) }
+{
+    text.push(b' ')?;
+    push_number(text, number as u64)
+}
+
+/// The line of a message: `message LENGTH TIME SEQUENCE DOMAIN`.
+#[tactic(auto, unfolding(crate::specs::Lines::message_line))]
+pub fn push_message_line(text: &mut Vec<u8>, header: &Header) -> Result<(), AllocError>
+    ensures { OnOk result (text.new.items ≡ text.old.items ++ message_line header.now) }
+{
+    text.extend_from_slice("message".as_bytes())?;
+    push_word(text, header.length as u32)?;
+    push_word(text, header.time)?;
+    push_word(text, header.sequence)?;
+    push_word(text, header.domain)?;
+    text.push(b'\n')?;
     Ok(())
 }

@@ -1,0 +1,134 @@
+-- How `dump` goes on, message by message.
+use Rattle.std.proofs.Common.{◌≡◌, ℕ, ◌+◌, ◌<◌, ◌^◌, List, [], ◌∷◌, ◌++◌, length, Option, Some, None, IfSome, Ok, Err, refl, sym, ap, ◌∙◌, subst, append-nil, arith}
+use Rattle.std.proofs.lemmas.List.Concat.{flat_map-append}
+use Rattle.std.proofs.lemmas.List.{take_all}
+use Rattle.std.specs.Io.KnownBytes.{Appends}
+use Rattle.std.proofs.KnownBytes.{Appends-nil}
+use Rattle.flow_codec.specs.Raw.{RawMessage}
+use Rattle.flow_codec.specs.Templates.{AllTemplates}
+use Rattle.flow_codec.specs.Message.{joined}
+use Rattle.flow_codec.specs.Stream.{Progress}
+use Rattle.flow_codec.specs.File.{AcceptedFront, whole}
+use Rattle.flow_cli.specs.declared.dumping.HeldMessage.{HeldMessage}
+use Rattle.flow_cli.specs.declared.refusal.Refusal.{Refusal}
+use Rattle.flow_cli.specs.declared.refusal.Refusal.TheVariants.{Message, File, OutOfMemory, SumSpent, NumbersSpent, Read, Write}
+use Rattle.flow_cli.specs.Lines.{message_text, dump_text}
+use Rattle.flow_cli.specs.Writing.{AppendsFront}
+use Rattle.flow_cli.specs.Telling.{Tells, TellsFront, IsCutShort, IsCutIn}
+use Rattle.flow_cli.specs.Dump.{message_of, IsNext, IsFront, IsDumped, IsDumpedUntil}
+use Rattle.flow_cli.proofs.Runs.{HasRun, starts, goes_on, ends, breaks, refuses}
+use Rattle.flow_cli.proofs.Joining.{tells_then, stops_then, holds_more, all_written, front_written}
+
+-- the messages that were accepted so far, and their lines, some of them held
+pub record IsDumping (input old : Option (List ℕ)) (reader : Progress) (here : AllTemplates) (now : Option (List ℕ)) (held : List ℕ) : Type 0 where
+  pub messages : List RawMessage
+  pub run : HasRun input reader.rest messages here reader.count reader.at
+  pub told : Tells old [] now held (dump_text messages)
+  pub fresh : reader.stopped ≡ None
+  pub few : reader.count < 2 ^ 48
+
+implied : (o : Option (List ℕ)) (P Q : List ℕ → Type 0) → ((x : List ℕ) → P x → Q x) → IfSome o P → IfSome o Q
+implied None P Q f p = tt
+implied (Some x) P Q f p = f x p
+
+fronts : (input now : Option (List ℕ)) (messages : List RawMessage) (here : AllTemplates) (count at : ℕ) → HasRun input now messages here count at → IfSome input (λ octets. IsFront octets messages)
+fronts None now messages here count at run = tt
+fronts (Some octets) None messages here count at run = absurd run.given
+fronts (Some octets) (Some rest) messages here count at run =
+    (joined run.parts, rest, run.given, here, record { parts = run.parts; rest = []; divided = sym (append-nil (joined run.parts)); accepted = run.accepted; end = refl })
+
+text_then : (messages : List RawMessage) (m : RawMessage) → dump_text (messages ++ m ∷ []) ≡ dump_text messages ++ message_text m
+text_then messages m = flat_map-append message_text messages (m ∷ []) ∙ ap (λ (t : List ℕ). dump_text messages ++ t) (append-nil (message_text m))
+
+pub begins : (input old : Option (List ℕ)) (reader : Progress) (here : AllTemplates) (held : List ℕ)
+    → reader ≡ record { rest = input; message = []; count = 0; at = 0; stopped = None } → here ≡ [] → held ≡ [] → IsDumping input old reader here old held
+begins input old reader here held is none nothing =
+    let P : Progress → AllTemplates → List ℕ → Type 0 = λ r t h. IsDumping input old r t old h in
+    let fresh : Progress = record { rest = input; message = []; count = 0; at = 0; stopped = None } in
+    let first : P fresh [] [] = record { messages = []; run = starts input; told = holds_more old [] [] [] refl; fresh = refl; few = omega arith } in
+    subst (λ (r : Progress). P r here held) (sym is) (subst (λ (t : AllTemplates). P fresh t held) (sym none) (subst (λ (h : List ℕ). P fresh [] h) (sym nothing) first))
+
+module _ (input old : Option (List ℕ)) (reader : Progress) (here : AllTemplates) (now : Option (List ℕ)) (held : List ℕ) (is : IsDumping input old reader here now held) where
+  -- an accepted message, with all its lines
+  pub dumps_next : (m : HeldMessage) (next : Progress) (after : AllTemplates) (then : Option (List ℕ)) (left : List ℕ)
+      → IsNext reader here (Ok (Some m)) next after → Tells now held then left (message_text (message_of m)) → IsDumping input old next after then left
+  dumps_next m next after then left step told =
+      let here_run = goes_on input reader.rest next.rest is.messages here reader.count reader.at step.0 (message_of m) after is.run step.1 step.2 step.3 in
+      let counted = subst (λ (n : ℕ). HasRun input next.rest (is.messages ++ message_of m ∷ []) after n (reader.at + length step.0)) (sym step.4) here_run in
+      record {
+        messages = is.messages ++ message_of m ∷ [];
+        run = subst (λ (n : ℕ). HasRun input next.rest (is.messages ++ message_of m ∷ []) after next.count n) (sym step.6) counted;
+        told =
+            subst (λ (t : List ℕ). Tells old [] then left t) (sym (text_then is.messages (message_of m))) (tells_then old now then [] held left (dump_text is.messages) (message_text (message_of m)) is.told told);
+        fresh = step.7;
+        few = step.5;
+      }
+
+  -- an accepted message, with a front of its lines
+  pub cuts_next : (m : HeldMessage) (next : Progress) (after : AllTemplates) (then : Option (List ℕ)) (e : Refusal)
+      → IsNext reader here (Ok (Some m)) next after → IsCutIn now held then (message_text (message_of m)) e → IfSome input (λ octets. IsDumpedUntil octets old then e)
+  cuts_next m next after then e step cut =
+      let here_run = goes_on input reader.rest next.rest is.messages here reader.count reader.at step.0 (message_of m) after is.run step.1 step.2 step.3 in
+      let ms : List RawMessage = is.messages ++ message_of m ∷ [] in
+      let front = stops_then old now then [] held (dump_text is.messages) (message_text (message_of m)) is.told cut.1 in
+      let written : AppendsFront old then (dump_text ms) = front_written old then (dump_text ms) (subst (λ (t : List ℕ). TellsFront old [] then t) (sym (text_then is.messages (message_of m))) front) in
+      implied input (λ octets. IsFront octets ms) (λ octets. IsDumpedUntil octets old then e) (λ octets f. cut_is octets ms then e f written cut.0) (fronts input next.rest ms after (reader.count + 1) (reader.at + length step.0) here_run)
+    where
+      cut_is : (octets : List ℕ) (ms : List RawMessage) (then : Option (List ℕ)) (e : Refusal) → IsFront octets ms → AppendsFront old then (dump_text ms) → IsCutShort e → IsDumpedUntil octets old then e
+      cut_is octets ms then OutOfMemory f w short = (ms, f, w)
+      cut_is octets ms then (Write failed) f w short = (ms, f, w)
+      cut_is octets ms then (Message fault number) f w short = absurd short
+      cut_is octets ms then (File fault) f w short = absurd short
+      cut_is octets ms then SumSpent f w short = absurd short
+      cut_is octets ms then NumbersSpent f w short = absurd short
+      cut_is octets ms then (Read failed) f w short = absurd short
+
+  -- what is held can't be written
+  pub cuts_held : (then : Option (List ℕ)) (e : Refusal) → (failed : _) × (e ≡ Write failed) → TellsFront now held then [] → IfSome input (λ octets. IsDumpedUntil octets old then e)
+  cuts_held then e write front =
+      let all = stops_then old now then [] held (dump_text is.messages) [] is.told front in
+      let written : AppendsFront old then (dump_text is.messages) = front_written old then (dump_text is.messages) (subst (λ (t : List ℕ). TellsFront old [] then t) (append-nil (dump_text is.messages)) all) in
+      subst (λ (r : Refusal). IfSome input (λ octets. IsDumpedUntil octets old then r)) (sym write.1)
+      (implied input (λ octets. IsFront octets is.messages) (λ octets. IsDumpedUntil octets old then (Write write.0)) (λ octets f. (is.messages, f, written)) (fronts input reader.rest is.messages here reader.count reader.at is.run))
+
+  all_told : (then : Option (List ℕ)) (left : List ℕ) → Tells now held then left [] → left ≡ [] → Appends old then (dump_text is.messages)
+  all_told then left told none =
+      let all = tells_then old now then [] held left (dump_text is.messages) [] is.told told in
+      all_written old then left (dump_text is.messages) (subst (λ (t : List ℕ). Tells old [] then left t) (append-nil (dump_text is.messages)) all) none
+
+  -- at the File's end
+  pub ends_whole : (next : Progress) (after : AllTemplates) (then : Option (List ℕ)) (left : List ℕ) → IsNext reader here (Ok None) next after → Tells now held then left [] → left ≡ []
+      → IfSome input (λ octets. IsDumped octets old then)
+  ends_whole next after then left step told none =
+      let written = all_told then left told none in
+      implied input (λ octets. AcceptedFront octets is.messages here whole) (λ octets. IsDumped octets old then) (λ octets f. (is.messages, here, f, written)) (ends input reader.rest is.messages here reader.count reader.at is.run step)
+
+  -- where the next message is refused, or can't be read
+  pub ends_refused : (e : Refusal) (next : Progress) (after : AllTemplates) (then : Option (List ℕ)) (left : List ℕ) → IsNext reader here (Err e) next after → Tells now held then left [] → left ≡ []
+      → IfSome input (λ octets. IsDumpedUntil octets old then e)
+  ends_refused e next after then left step told none = by_cause e step
+    where
+      written : Appends old then (dump_text is.messages)
+      written = all_told then left told none
+
+      front : IfSome input (λ octets. IsFront octets is.messages)
+      front = fronts input reader.rest is.messages here reader.count reader.at is.run
+
+      some : AppendsFront old then (dump_text is.messages)
+      some = (length (dump_text is.messages), omega arith, subst (λ (t : List ℕ). Appends old then t) (sym (take_all (length (dump_text is.messages)) (dump_text is.messages) (omega arith))) written)
+
+      by_cause : (e : Refusal) → IsNext reader here (Err e) next after → IfSome input (λ octets. IsDumpedUntil octets old then e)
+      by_cause (Message fault number) step =
+          implied input _ _ (λ octets f. (is.messages, here, f, step.4 ∙ ap (λ (n : ℕ). n + 1) is.run.counted, written)) (refuses input reader.rest next.rest is.messages here reader.count reader.at step.0 fault is.run step.1 step.3 step.2)
+      by_cause (File fault) step = implied input _ _ (λ octets f. (is.messages, here, f, written)) (breaks input reader.rest is.messages here reader.count reader.at fault is.run step)
+      by_cause OutOfMemory step = implied input _ _ (λ octets f. (is.messages, f, some)) front
+      by_cause SumSpent step = absurd step
+      by_cause NumbersSpent step = implied input _ _ (λ octets f. (is.messages, f, sym is.run.counted ∙ step, written)) front
+      by_cause (Read failed) step = implied input _ _ (λ octets f. (is.messages, f, written)) front
+      by_cause (Write failed) step = implied input _ _ (λ octets f. (is.messages, f, some)) front
+
+-- before anything is read
+pub ends_at_once : (input old : Option (List ℕ)) → IfSome input (λ octets. IsDumpedUntil octets old old OutOfMemory)
+ends_at_once None old = tt
+ends_at_once (Some octets) old =
+    ([], ([], octets, refl, [], record { parts = []; rest = []; divided = refl; accepted = refl; end = refl }), (0, omega arith, Appends-nil old))
