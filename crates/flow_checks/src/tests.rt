@@ -109,8 +109,14 @@ fn damage_is_told_at_its_place(rt: HostRuntime) -> Result<(), Fail> {
         (&[0], "one octet"),
         (&[1, 0], "another first octet"),
         (&[0, 10], "a gate without a message"),
-        (&[0, 10, 0, 15, 0, 0, 0, 0, 0, 0, 0, 0, 0, 0, 0, 0, 0], "a message of 15 octets"),
-        (&[0, 10, 0, 16, 0, 0, 0, 0, 0, 0, 0, 0, 0, 0, 0, 0, 0], "one octet behind a message"),
+        (
+            &[0, 10, 0, 15, 0, 0, 0, 0, 0, 0, 0, 0, 0, 0, 0, 0, 0],
+            "a message of 15 octets",
+        ),
+        (
+            &[0, 10, 0, 16, 0, 0, 0, 0, 0, 0, 0, 0, 0, 0, 0, 0, 0],
+            "one octet behind a message",
+        ),
     ];
     for (octets, name) in cases {
         let alone = scanned(alloc, octets, 0)?;
@@ -118,9 +124,16 @@ fn damage_is_told_at_its_place(rt: HostRuntime) -> Result<(), Fail> {
         let all = behind_first(alloc, octets)?;
         let behind = scanned(alloc, &all, 0)?;
         let at = if octets.len() < 2 { 0 } else { 57 };
-        assert_eq!(rt; behind.err(), Some(ScanError::Damaged(FILE, at)), "{name} behind a message");
+        assert_eq!(rt;
+            behind.err(),
+            Some(ScanError::Damaged(FILE, at)),
+            "{name} behind a message"
+        );
     }
-    assert_eq!(rt; scanned(alloc, &[0, 0], 3)?.err(), Some(ScanError::Damaged(FILE, 3)));
+    assert_eq!(rt;
+        scanned(alloc, &[0, 0], 3)?.err(),
+        Some(ScanError::Damaged(FILE, 3))
+    );
     let tail = scanned(alloc, &behind_first(alloc, &[0, 11])?, 0)??;
     assert_eq!(rt; tail.end, 57);
     let none = scanned(alloc, &[0, 11], 0)??;
@@ -145,6 +158,9 @@ fn a_disk_that_lies_is_answered(rt: HostRuntime) -> Result<(), Fail> {
             Err(error) => return Err(Fail::from(error)),
         }
     }
-    assert!(rt; lists > 20 && damaged > 20, "{lists} lists, {damaged} damaged");
+    assert!(rt;
+        lists > 20 && damaged > 20,
+        "{lists} lists, {damaged} damaged"
+    );
     Ok(())
 }
