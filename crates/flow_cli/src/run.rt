@@ -1,12 +1,15 @@
 //! One run of the program: words and an input in, lines and a status out.
 
-ghost use Rattle.std.specs.Prelude.{◌≤◌};
+ghost use Rattle.std.specs.Prelude.{◌≡◌, ◌≤◌};
+ghost use Rattle.flow_cli.specs.Refusals.{status_of};
 ghost use Rattle.flow_cli.specs.Run.{Runs};
 
 use crate::dumping::dump;
 use crate::measuring::measure;
 use crate::patient::{Patience, write_patiently};
+use crate::refusal::Refusal;
 use crate::request::{LineError, Request, parse};
+use clap::Error;
 use std::alloc::Global;
 use std::convert::AsStr;
 use std::fmt::Display;
@@ -18,14 +21,27 @@ const DONE: u8 = 0;
 /// The status of a run whose words ask for nothing.
 const WRONG_LINE: u8 = 2;
 
-/// The status of a run that found no memory.
-const NO_MEMORY: u8 = 4;
+/// What is told of a width that isn't one.
+const WRONG_WIDTH: &str =
+    "error: invalid value for '<WIDTH>': digits alone, from 1 to 86400\n\nFor more information, try '--help'.\n";
 
-/// Writes a text, or gives up in silence: the status tells the same.
-fn tell<W: Write, D: Display + Drop>(alloc: Global, to: &mut W, text: D) {
-    if let Ok(text) = format!(in alloc; "{text}") {
-        let _ = write_patiently(to, text.as_bytes(), &mut Patience::new());
-    }
+/// Writes a text.
+fn write_text<W: Write, D: Display + Drop>(
+    alloc: Global,
+    to: &mut W,
+    text: D,
+) -> Result<(), Refusal> {
+    let text = format!(in alloc; "{text}")?;
+    write_patiently(to, text.as_bytes(), &mut Patience::new())?;
+    Ok(())
+}
+
+/// Tells a refusal as `flowvault: NUMBER NAME ..`, or gives up in silence: the status tells the same. It answers the exit status.
+fn tell<E: Write>(alloc: Global, errors: &mut E, refusal: &Refusal) -> u8
+    ensures { result ≡ status_of refusal.now }
+{
+    let _ = write_text(alloc, errors, format_args!("flowvault: {refusal}\n"));
+    refusal.status()
 }
 
 /// Runs a command, and tells a refusal on `errors` as `flowvault: NUMBER NAME ..`. It answers the exit status.
@@ -45,11 +61,7 @@ fn run<R: Read, W: Write, E: Write>(
     };
     match outcome {
         Ok(()) => DONE,
-        Err(refusal) => {
-            let status = refusal.status();
-            tell(alloc, errors, format_args!("flowvault: {refusal}\n"));
-            status
-        }
+        Err(refusal) => tell(alloc, errors, &refusal),
     }
 }
 
@@ -65,27 +77,26 @@ pub fn run_line<S: AsStr, R: Read, W: Write, E: Write>(
 {
     match parse(alloc, words) {
         Ok(request) => run(alloc, request, input, output, errors),
-        Err(LineError::OutOfMemory) => {
-            tell(alloc, errors, "flowvault: 11 OutOfMemory\n");
-            NO_MEMORY
-        }
+        Err(LineError::OutOfMemory) => tell(alloc, errors, &Refusal::OutOfMemory),
         Err(LineError::Unread) => WRONG_LINE,
         Err(LineError::Width) => {
-            tell(
-                alloc,
-                errors,
-                "error: invalid value for '<WIDTH>': digits alone, from 1 to 86400\n\nFor more information, try '--help'.\n",
-            );
+            let _ = write_text(alloc, errors, WRONG_WIDTH);
             WRONG_LINE
         }
-        Err(LineError::Parser(error)) => {
-            if error.use_stderr() {
-                tell(alloc, errors, &error);
-                WRONG_LINE
-            } else {
-                tell(alloc, output, &error);
-                DONE
-            }
-        }
+        Err(LineError::Parser(error)) => show(alloc, &error, output, errors),
+    }
+}
+
+/// Shows what the parser of the command line has to say: help on `output`, else why the words ask for nothing on `errors`.
+fn show<W: Write, E: Write>(alloc: Global, error: &Error, output: &mut W, errors: &mut E) -> u8
+    ensures { result ≤ 4 }
+{
+    if error.use_stderr() {
+        let _ = write_text(alloc, errors, error);
+        return WRONG_LINE;
+    }
+    match write_text(alloc, output, error) {
+        Ok(()) => DONE,
+        Err(refusal) => tell(alloc, errors, &refusal),
     }
 }

@@ -277,3 +277,37 @@ fn a_reader_that_never_answers(rt: HostRuntime) -> Result<(), Fail> {
     assert_eq!(rt; errors.as_slice(), b"flowvault: 31 Read\n".as_slice());
     Ok(())
 }
+
+#[test]
+fn help_that_is_written_or_not(rt: HostRuntime) -> Result<(), Fail> {
+    let alloc = rt.alloc();
+    let words = ["flowvault", "--help"];
+    let mut output = Vec::new(alloc);
+    let mut errors = Vec::new(alloc);
+    let got = run_line(
+        alloc,
+        words.as_slice(),
+        &mut Interrupted,
+        &mut output,
+        &mut errors,
+    );
+    assert_eq!(rt; got, 0);
+    assert!(rt; output.len() > 100);
+    assert_eq!(rt; errors.len(), 0);
+    let mut output = Slow {
+        taken: Vec::new(alloc),
+        room: 10,
+        interrupted: false,
+    };
+    let got = run_line(
+        alloc,
+        words.as_slice(),
+        &mut Interrupted,
+        &mut output,
+        &mut errors,
+    );
+    assert_eq!(rt; got, 3);
+    assert_eq!(rt; output.taken.len(), 10);
+    assert_eq!(rt; errors.as_slice(), b"flowvault: 32 Write\n".as_slice());
+    Ok(())
+}
