@@ -1,0 +1,50 @@
+//! Why an archive refused a message.
+
+ghost use Rattle.std.specs.Prelude.{◌≡◌};
+ghost use Rattle.flow_archive.specs.Plain.{fault_refusal};
+ghost use Rattle.flow_archive.specs.declared.error.PlainError.TheVariants.{OutOfMemory};
+
+use flow_codec::MessageError;
+use std::alloc::{AllocError, AllocFailed};
+use thiserror::Error;
+
+/// Why a plain archive refused a message, printed as its number, its name and what it carries.
+#[derive(Clone, Copy, Debug, PartialEq, Eq, Error)]
+pub enum PlainError {
+    /// The first fault of the message, 1 to 10.
+    #[error("{0}")]
+    Message(MessageError),
+    /// The archive has 2^48 - 1 messages, and numbers for no more.
+    #[error("25 NumbersSpent")]
+    NumbersSpent,
+    /// A growth of memory was refused.
+    #[error("11 OutOfMemory")]
+    OutOfMemory,
+}
+
+impl From<AllocError> for PlainError {
+    ghost from_gives = { λ _ e. e ≡ OutOfMemory };
+
+    fn from(_e: AllocError) -> PlainError {
+        PlainError::OutOfMemory
+    }
+}
+
+impl<T: Drop> From<AllocFailed<T>> for PlainError {
+    ghost from_gives = { λ _ e. e ≡ OutOfMemory };
+
+    fn from(_e: AllocFailed<T>) -> PlainError {
+        PlainError::OutOfMemory
+    }
+}
+
+impl From<MessageError> for PlainError {
+    ghost from_gives = { λ fault e. e ≡ fault_refusal fault };
+
+    fn from(fault: MessageError) -> PlainError {
+        match fault {
+            MessageError::OutOfMemory => PlainError::OutOfMemory,
+            fault => PlainError::Message(fault),
+        }
+    }
+}

@@ -1,0 +1,152 @@
+use super::*;
+use flow_codec::MessageError;
+use flow_measure::{Key, Row, Sums};
+use std::test::*;
+
+/// A template of elements 150, 4, 1 and 2, and a flow.
+const PLAIN: [u8; 57] = [
+    0x00, 0x0A, 0x00, 0x39, 0x65, 0x53, 0xF1, 0x00, 0, 0, 0, 0, 0, 0, 0, 7, 0x00, 0x02, 0x00, 0x18,
+    0x01, 0x00, 0x00, 0x04, 0x00, 0x96, 0x00, 0x04, 0x00, 0x04, 0x00, 0x01, 0x00, 0x01, 0x00, 0x04,
+    0x00, 0x02, 0x00, 0x04, 0x01, 0x00, 0x00, 0x11, 0x65, 0x53, 0xF1, 0x00, 0x06, 0x00, 0x00, 0x05,
+    0xDC, 0x00, 0x00, 0x00, 0x0A,
+];
+
+/// The same template with octets in 8 octets, and a flow, a minute later.
+const REDEFINED: [u8; 61] = [
+    0x00, 0x0A, 0x00, 0x3D, 0x65, 0x53, 0xF1, 0x3C, 0, 0, 0, 1, 0, 0, 0, 7, 0x00, 0x02, 0x00, 0x18,
+    0x01, 0x00, 0x00, 0x04, 0x00, 0x96, 0x00, 0x04, 0x00, 0x04, 0x00, 0x01, 0x00, 0x01, 0x00, 0x08,
+    0x00, 0x02, 0x00, 0x04, 0x01, 0x00, 0x00, 0x15, 0x65, 0x53, 0xF1, 0x3C, 0x06, 0, 0, 0, 0, 0, 0,
+    0x05, 0xDC, 0x00, 0x00, 0x00, 0x0A,
+];
+
+/// A message without Sets.
+const NO_SET: [u8; 16] = [
+    0x00, 0x0A, 0x00, 0x10, 0x65, 0x53, 0xF1, 0x00, 0, 0, 0, 0, 0, 0, 0, 7,
+];
+
+/// The flow of the plain message, without its template.
+const RECORD: [u8; 33] = [
+    0x00, 0x0A, 0x00, 0x21, 0x65, 0x53, 0xF1, 0x00, 0, 0, 0, 0, 0, 0, 0, 7, 0x01, 0x00, 0x00, 0x11,
+    0x65, 0x53, 0xF1, 0x00, 0x06, 0x00, 0x00, 0x05, 0xDC, 0x00, 0x00, 0x00, 0x0A,
+];
+
+/// The template of the plain message alone.
+const TEMPLATE: [u8; 40] = [
+    0x00, 0x0A, 0x00, 0x28, 0x65, 0x53, 0xF1, 0x00, 0, 0, 0, 0, 0, 0, 0, 7, 0x00, 0x02, 0x00, 0x18,
+    0x01, 0x00, 0x00, 0x04, 0x00, 0x96, 0x00, 0x04, 0x00, 0x04, 0x00, 0x01, 0x00, 0x01, 0x00, 0x04,
+    0x00, 0x02, 0x00, 0x04,
+];
+
+/// The template of the plain message, and a Set whose Length is 3.
+const TEMPLATE_AND_FAULT: [u8; 44] = [
+    0x00, 0x0A, 0x00, 0x2C, 0x65, 0x53, 0xF1, 0x00, 0, 0, 0, 0, 0, 0, 0, 7, 0x00, 0x02, 0x00, 0x18,
+    0x01, 0x00, 0x00, 0x04, 0x00, 0x96, 0x00, 0x04, 0x00, 0x04, 0x00, 0x01, 0x00, 0x01, 0x00, 0x04,
+    0x00, 0x02, 0x00, 0x04, 0x00, 0x04, 0x00, 0x03,
+];
+
+/// The first second behind those that a flow can start in.
+const END_OF_TIME: u64 = 1 << 32;
+
+/// The row of so many flows like that of the plain message.
+fn row(flows: u64, octets: u128, packets: u128) -> Row {
+    Row {
+        key: Key {
+            start: 1699999800,
+            domain: 7,
+            protocol: Some(6),
+        },
+        sums: Sums {
+            flows,
+            octets,
+            packets,
+        },
+        width: 300,
+    }
+}
+
+#[test]
+fn one_message(rt: HostRuntime) -> Result<(), Fail> {
+    let mut archive = PlainArchive::new(rt.alloc(), 300);
+    assert_eq!(rt; archive.append(PLAIN.as_slice()), Ok(1));
+    let rows = archive.totals(rt.alloc(), 0, END_OF_TIME)?;
+    assert_eq!(rt; rows.as_slice(), [row(1, 1500, 10)].as_slice());
+    assert_eq!(rt;
+        archive.totals(rt.alloc(), 1699999800, 1699999801)?.len(),
+        1
+    );
+    assert_eq!(rt;
+        archive.totals(rt.alloc(), 1699999801, END_OF_TIME)?.len(),
+        0
+    );
+    assert_eq!(rt; archive.totals(rt.alloc(), 0, 1699999800)?.len(), 0);
+    Ok(())
+}
+
+#[test]
+fn no_set(rt: HostRuntime) -> Result<(), Fail> {
+    let mut archive = PlainArchive::new(rt.alloc(), 300);
+    assert_eq!(rt; archive.append(NO_SET.as_slice()), Ok(1));
+    assert_eq!(rt; archive.totals(rt.alloc(), 0, END_OF_TIME)?.len(), 0);
+    Ok(())
+}
+
+#[test]
+fn a_cut_message_changes_nothing(rt: HostRuntime) -> Result<(), Fail> {
+    let mut archive = PlainArchive::new(rt.alloc(), 300);
+    assert_eq!(rt;
+        archive.append(&PLAIN[..56]),
+        Err(PlainError::Message(MessageError::Length))
+    );
+    assert_eq!(rt; archive.totals(rt.alloc(), 0, END_OF_TIME)?.len(), 0);
+    assert_eq!(rt; archive.append(PLAIN.as_slice()), Ok(1));
+    assert_eq!(rt;
+        archive.append(&PLAIN[..56]),
+        Err(PlainError::Message(MessageError::Length))
+    );
+    let rows = archive.totals(rt.alloc(), 0, END_OF_TIME)?;
+    assert_eq!(rt; rows.as_slice(), [row(1, 1500, 10)].as_slice());
+    assert_eq!(rt; archive.append(RECORD.as_slice()), Ok(2));
+    let rows = archive.totals(rt.alloc(), 0, END_OF_TIME)?;
+    assert_eq!(rt; rows.as_slice(), [row(2, 3000, 20)].as_slice());
+    Ok(())
+}
+
+#[test]
+fn a_template_after_its_records(rt: HostRuntime) -> Result<(), Fail> {
+    let mut archive = PlainArchive::new(rt.alloc(), 300);
+    assert_eq!(rt; archive.append(RECORD.as_slice()), Ok(1));
+    assert_eq!(rt; archive.append(TEMPLATE.as_slice()), Ok(2));
+    assert_eq!(rt; archive.totals(rt.alloc(), 0, END_OF_TIME)?.len(), 0);
+    Ok(())
+}
+
+#[test]
+fn a_refused_template_is_not_in_force(rt: HostRuntime) -> Result<(), Fail> {
+    let mut archive = PlainArchive::new(rt.alloc(), 300);
+    let fault = PlainError::Message(MessageError::SetLength(40));
+    assert_eq!(rt; archive.append(TEMPLATE_AND_FAULT.as_slice()), Err(fault));
+    assert_eq!(rt; archive.append(RECORD.as_slice()), Ok(1));
+    assert_eq!(rt; archive.totals(rt.alloc(), 0, END_OF_TIME)?.len(), 0);
+    Ok(())
+}
+
+#[test]
+fn a_redefinition(rt: HostRuntime) -> Result<(), Fail> {
+    let mut archive = PlainArchive::new(rt.alloc(), 300);
+    assert_eq!(rt; archive.append(PLAIN.as_slice()), Ok(1));
+    assert_eq!(rt; archive.append(REDEFINED.as_slice()), Ok(2));
+    let rows = archive.totals(rt.alloc(), 0, END_OF_TIME)?;
+    assert_eq!(rt; rows.as_slice(), [row(2, 3000, 20)].as_slice());
+    Ok(())
+}
+
+#[test]
+fn errors(rt: HostRuntime) -> Result<(), Fail> {
+    let fault = format!(in rt.alloc(); "{}", PlainError::Message(MessageError::SetLength(40)))?;
+    assert_eq!(rt; fault.as_str(), "4 SetLength 40");
+    let spent = format!(in rt.alloc(); "{}", PlainError::NumbersSpent)?;
+    assert_eq!(rt; spent.as_str(), "25 NumbersSpent");
+    let memory = format!(in rt.alloc(); "{}", PlainError::OutOfMemory)?;
+    assert_eq!(rt; memory.as_str(), "11 OutOfMemory");
+    Ok(())
+}
