@@ -16,8 +16,8 @@ if pkg-config --exists libfixbuf 2>/dev/null; then
     "$fixbuf" 300 "$file" >"$top/built/fixbuf.out"
     "$program" measure 300 <"$file" | cmp - "$top/built/fixbuf.out" && echo "the same lines as libfixbuf"
 fi
-exec python3 - "$file" "$program" "$fixbuf" <<'PYTHON'
-import os, resource, subprocess, sys, time
+python3 - "$file" "$program" "$fixbuf" <<'PYTHON'
+import os, subprocess, sys, time
 
 file, program, fixbuf = sys.argv[1:4]
 runs = [("measure 300", [program, "measure", "300"], True), ("cat", ["cat"], True), ("wc -l", ["wc", "-l"], True)]
@@ -34,8 +34,7 @@ for _ in range(5):
 print("%d octets, %s" % (os.path.getsize(file), os.uname().machine))
 for name, spent in best.items():
     print("%-12s %.3f s" % (name, spent))
-with open(file, "rb") as given:
-    child = subprocess.Popen([program, "measure", "300"], stdin=given, stdout=subprocess.DEVNULL)
-    _, _, used = os.wait4(child.pid, 0)
-print("resident    %.1f MiB" % (used.ru_maxrss / 1024))
 PYTHON
+if [ -x /usr/bin/time ]; then
+    /usr/bin/time -f "resident     %M KiB" "$program" measure 300 <"$file" >/dev/null
+fi
