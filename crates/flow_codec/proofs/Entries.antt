@@ -78,7 +78,7 @@ module _ {V : Type 0} (k : ℕ) where
 
   -- ---- no number twice
 
-  found-insert-other : (q : ℕ) (es : List (ℕ × V)) (v : V) → nat_eq q k ≡ false → found q (with_entry es k v) ≡ found q es
+  pub found-insert-other : (q : ℕ) (es : List (ℕ × V)) (v : V) → nat_eq q k ≡ false → found q (with_entry es k v) ≡ found q es
   found-insert-other q [] v apart = rw apart refl
   found-insert-other q (e ∷ es) v apart = elim (by_bool (nat_eq k e.0)) [
     | inl w ↦
@@ -87,7 +87,16 @@ module _ {V : Type 0} (k : ℕ) where
     | inr w ↦ rw w (ap (cond (nat_eq q e.0) (Some e.1)) (found-insert-other q es v apart))
   ]
 
-  found-remove-none : (q : ℕ) (es : List (ℕ × V)) → found q es ≡ None → found q (without k es) ≡ None
+  pub found-remove-other : (q : ℕ) (es : List (ℕ × V)) → nat_eq q k ≡ false → found q (without k es) ≡ found q es
+  found-remove-other q [] apart = refl
+  found-remove-other q (e ∷ es) apart = elim (by_bool (nat_eq k e.0)) [
+    | inl w ↦
+        let other : nat_eq q e.0 ≡ false = subst (λ (n : ℕ). nat_eq q n ≡ false) (eqb-true _ _ w) apart in
+        rw (w, other) refl
+    | inr w ↦ rw w (ap (cond (nat_eq q e.0) (Some e.1)) (found-remove-other q es apart))
+  ]
+
+  pub found-remove-none : (q : ℕ) (es : List (ℕ × V)) → found q es ≡ None → found q (without k es) ≡ None
   found-remove-none q [] none = refl
   found-remove-none q (e ∷ es) none = elim (by_bool (nat_eq q e.0)) [
     | inl t ↦ let h = rw t at none in absurd cc

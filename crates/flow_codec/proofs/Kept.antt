@@ -2,9 +2,7 @@
 use Rattle.std.proofs.Common.{◌≡◌, ◌≢◌, ℕ, ◌≤◌, false, List, [], ◌∷◌, length, Option, Some, None, Ok, refl, sym, subst, arith, inl, inr}
 use Rattle.std.specs.Prelude.{nat_eq, unwrap_or}
 use Rattle.std.specs.List.{AllByRecursion}
-use Rattle.std.specs.Map.{lookup}
 use Rattle.std.proofs.lemmas.Bool.{eqb-true, eqb-false, cases_lt}
-use Rattle.indexmap.specs.IndexMap.{insert_entry}
 use Rattle.flow_codec.specs.declared.kind.TemplateKind.{TemplateKind}
 use Rattle.flow_codec.specs.declared.kind.TemplateKind.TheVariants.{Plain, Options}
 use Rattle.flow_codec.specs.declared.templates.DomainTemplates.{DomainTemplates}
@@ -16,7 +14,8 @@ use Rattle.flow_codec.specs.Reading.{sets_at, limited, division_at}
 use Rattle.flow_codec.specs.Message.{AreTemplates, Division, IsSet, AreSets, IsAccepted}
 use Rattle.flow_codec.proofs.Steps.{by_bool}
 use Rattle.flow_codec.proofs.NumberLaws.{IsBytes}
-use Rattle.flow_codec.proofs.KeyLaws.{find, take_out, once_left, once_put, Apart, apart_turned, first_once, second_once, are_apart, both_once, apart_put, apart_left, all_left, all_put, found_holds}
+use Rattle.flow_codec.proofs.Entries.{found, without, with_entry, once_insert, once_remove, holds-found}
+use Rattle.flow_codec.proofs.KeyLaws.{apart_turned, both_once, apart_put, apart_left, in_two, all_left, all_put}
 use Rattle.flow_codec.proofs.SetLaws.{by_kind, sets_take}
 use Rattle.flow_codec.proofs.MessageLaws.{division_takes, limits_hold}
 
@@ -25,27 +24,18 @@ use Rattle.flow_codec.proofs.MessageLaws.{division_takes, limits_hold}
 no_definitions_are : AreDefinitions no_definitions
 no_definitions_are = record { once = tt; templates = tt; options = tt }
 
--- with their two lists apart
-record InTwo (here : DomainTemplates) : Type 0 where
-  pub first : IsOnce here.templates
-  pub second : IsOnce here.options
-  pub apart : Apart here.templates here.options
-
-in_two : (here : DomainTemplates) → AreDefinitions here → InTwo here
-in_two here h = record { first = first_once here.templates here.options h.once; second = second_once here.templates here.options h.once; apart = are_apart here.templates here.options h.once }
-
 pub changed_are : (kind : TemplateKind) (change : TemplateRecord) (here : DomainTemplates) → IsTemplateRecord kind change → AreDefinitions here → AreDefinitions (changed kind change here)
 changed_are Plain (Define id layout) here is h =
     let two = in_two here h in
     record {
-      once = both_once (insert_entry nat_eq here.templates id layout) (take_out id here.options) (once_put id layout here.templates two.first) (once_left id here.options two.second) (apart_put id layout here.templates here.options two.second two.apart);
+      once = both_once (with_entry here.templates id layout) (without id here.options) (once_insert id here.templates layout two.first) (once_remove id here.options two.second) (apart_put id layout here.templates here.options two.second two.apart);
       templates = all_put (IsEntry Plain) id layout here.templates (record { id = is.0; layout = is.1 }) h.templates;
       options = all_left (IsEntry Options) id here.options h.options;
     }
 changed_are Plain (Withdraw id) here is h =
     let two = in_two here h in
     record {
-      once = both_once (take_out id here.templates) here.options (once_left id here.templates two.first) two.second (apart_left id here.templates here.options two.apart);
+      once = both_once (without id here.templates) here.options (once_remove id here.templates two.first) two.second (apart_left id here.templates here.options two.apart);
       templates = all_left (IsEntry Plain) id here.templates h.templates;
       options = h.options;
     }
@@ -54,15 +44,15 @@ changed_are Options (Define id layout) here is h =
     let two = in_two here h in
     let apart = apart_put id layout here.options here.templates two.first (apart_turned here.templates here.options two.apart) in
     record {
-      once = both_once (take_out id here.templates) (insert_entry nat_eq here.options id layout) (once_left id here.templates two.first) (once_put id layout here.options two.second) (apart_turned (insert_entry nat_eq here.options id layout) (take_out id here.templates) apart);
+      once = both_once (without id here.templates) (with_entry here.options id layout) (once_remove id here.templates two.first) (once_insert id here.options layout two.second) (apart_turned (with_entry here.options id layout) (without id here.templates) apart);
       templates = all_left (IsEntry Plain) id here.templates h.templates;
       options = all_put (IsEntry Options) id layout here.options (record { id = is.0; layout = is.1 }) h.options;
     }
 changed_are Options (Withdraw id) here is h =
     let two = in_two here h in
-    let apart = apart_turned (take_out id here.options) here.templates (apart_left id here.options here.templates (apart_turned here.templates here.options two.apart)) in
+    let apart = apart_turned (without id here.options) here.templates (apart_left id here.options here.templates (apart_turned here.templates here.options two.apart)) in
     record {
-      once = both_once here.templates (take_out id here.options) two.first (once_left id here.options two.second) apart;
+      once = both_once here.templates (without id here.options) two.first (once_remove id here.options two.second) apart;
       templates = h.templates;
       options = all_left (IsEntry Options) id here.options h.options;
     }
@@ -92,18 +82,18 @@ definitions_kept domain [] h = tt
 definitions_kept domain (e ∷ es) h = ((h.0).definitions, definitions_kept domain es h.1)
 
 pub definitions_are : (domain own : ℕ) (all : AllTemplates) → AreKept own all → AreDefinitions (definitions_of domain all)
-definitions_are domain own all h = by (lookup (nat_eq domain) all) refl
+definitions_are domain own all h = by (found domain all) refl
   where
-    by : (found : Option DomainTemplates) → lookup (nat_eq domain) all ≡ found → AreDefinitions (unwrap_or found no_definitions)
+    by : (o : Option DomainTemplates) → found domain all ≡ o → AreDefinitions (unwrap_or o no_definitions)
     by None e = no_definitions_are
-    by (Some here) e = found_holds AreDefinitions domain all here (definitions_kept own all h.domains) e
+    by (Some here) e = holds-found domain (λ entry. AreDefinitions entry.1) all here (definitions_kept own all h.domains) e
 
 pub with_domain_kept : (domain : ℕ) (here : DomainTemplates) (all : AllTemplates) → AreDefinitions here → AreKept domain all → AreKept domain (with_domain domain here all)
 with_domain_kept domain here all is h = elim (by_bool (is_empty here)) [
-  | inl w ↦ rw w (record { once = once_left domain all h.once; domains = all_left (IsKept domain) domain all h.domains })
+  | inl w ↦ rw w (record { once = once_remove domain all h.once; domains = all_left (IsKept domain) domain all h.domains })
   | inr w ↦
       let new : IsKept domain (domain, here) = record { some = w; definitions = is; size = λ other. absurd (other refl) } in
-      rw w (record { once = once_put domain here all h.once; domains = all_put (IsKept domain) domain here all new h.domains })
+      rw w (record { once = once_insert domain all here h.once; domains = all_put (IsKept domain) domain here all new h.domains })
 ]
 
 pub applied_kept : (domain : ℕ) (kind : TemplateKind) (change : TemplateRecord) (all : AllTemplates) → IsTemplateRecord kind change → AreKept domain all → AreKept domain (applied domain kind change all)
@@ -139,7 +129,7 @@ within_domains domain [] once h size = tt
 within_domains domain (e ∷ es) once h size = elim (by_bool (nat_eq domain e.0)) [
   | inl w ↦
       let own : domain_size e.1 ≤ 60000 = rw w at size in
-      let gone : find domain es ≡ None = subst (λ (k : ℕ). find k es ≡ None) (sym (eqb-true _ _ w)) once.0 in
+      let gone : found domain es ≡ None = subst (λ (k : ℕ). found k es ≡ None) (sym (eqb-true _ _ w)) once.0 in
       let none : domain_size (definitions_of domain es) ≤ 60000 = rw gone (omega arith) in
       (record { some = (h.0).some; definitions = (h.0).definitions; size = own }, within_domains domain es once.1 h.1 none)
   | inr w ↦
