@@ -12,6 +12,7 @@ pub mod PlanLoop
 pub mod Entries
 pub mod Limits
 pub mod PuttingBack
+pub mod Alike
 pub mod SpecifierLoop
 pub mod TemplateLoop
 pub mod Specifiers

@@ -1,6 +1,6 @@
 //! The definitions of one kind in an Observation Domain.
 
-ghost use Rattle.std.specs.Prelude.{◌≡◌, ◌+◌, ◌<◌, ◌≤◌, ◌^◌, [], ◌==◌, nat_eq, length, OnOk, IfOk};
+ghost use Rattle.std.specs.Prelude.{◌≡◌, IsTrue, Some, ◌+◌, ◌<◌, ◌≤◌, ◌^◌, [], ◌==◌, nat_eq, length, OnOk, IfOk};
 ghost use Rattle.std.specs.Map.{lookup};
 ghost use Rattle.std.specs.Option.{option_copied};
 ghost use Rattle.indexmap.specs.IndexMap.{insert_entry, shift_remove_entry};
@@ -56,6 +56,16 @@ impl Definitions {
         match &self.slots[place] {
             Some((_, definition)) => Some(definition),
             None => None,
+        }
+    }
+
+    /// Whether this definition is there under this ID.
+    pub(crate) fn has(&self, id: u16, definition: &Definition) -> bool
+        ensures { IsTrue result → lookup (nat_eq id) self.now ≡ Some definition.now }
+    {
+        match self.get(id) {
+            Some(here) => here.is_same(definition),
+            None => false,
         }
     }
 

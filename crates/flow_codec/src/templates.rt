@@ -1,10 +1,10 @@
 //! The templates in force.
 
-ghost use Rattle.std.specs.Prelude.{◌≡◌, false, [], OnOk, OnErr, IfOk, ◌<◌, ◌≤◌, ◌^◌, ◌+◌, length, nat_lt};
+ghost use Rattle.std.specs.Prelude.{◌≡◌, IsTrue, false, [], OnOk, OnErr, IfOk, ◌<◌, ◌≤◌, ◌^◌, ◌+◌, length, nat_lt};
 ghost use Rattle.std.specs.Option.{option_copied};
 ghost use Rattle.flow_codec.specs.Layout.{Layout, IsLayout, is_options, definition_size};
 ghost use Rattle.flow_codec.specs.Plan.{plan_of};
-ghost use Rattle.flow_codec.specs.Templates.{changed, definition_of, definitions_of, domain_size, is_empty, no_definitions, AreTemplatesInForce};
+ghost use Rattle.flow_codec.specs.Templates.{applied, changed, definition_of, definitions_of, domain_size, is_empty, no_definitions, AreTemplatesInForce};
 ghost use Rattle.flow_codec.specs.Working.{put_back};
 ghost use Rattle.std.specs.Prelude.{nat_eq};
 ghost use Rattle.indexmap.specs.IndexMap.{insert_entry};
@@ -99,6 +99,15 @@ impl Definition {
         self.fields.as_slice()
     }
 
+    /// Whether both define the same.
+    pub(crate) fn is_same(&self, other: &Definition) -> bool
+        ensures { IsTrue result → self.now ≡ other.now }
+    {
+        self.options == other.options
+            && self.scope == other.scope
+            && self.fields.as_slice() == other.fields.as_slice()
+    }
+
     /// The octets of its template record.
     pub(crate) fn size(&self) -> usize
         ensures exact { result ≡ definition_size self.now }
@@ -178,6 +187,22 @@ impl DomainTemplates {
             templates: self.templates.try_copy()?,
             options: self.options.try_copy()?,
         })
+    }
+
+    /// Whether a template record defines what is in force, and so changes nothing. It may miss one.
+    #[tactic(auto, using(crate::proofs::Alike::again_plain, crate::proofs::Alike::again_options))]
+    pub(crate) fn has(&self, kind: TemplateKind, change: &TemplateRecord) -> bool
+        ensures { IsTrue result → changed kind change.now self.now ≡ self.now }
+    {
+        match (kind, change) {
+            (TemplateKind::Plain, TemplateRecord::Define(id, definition)) => {
+                self.templates.has(*id, definition) && self.options.get(*id).is_none()
+            }
+            (TemplateKind::Options, TemplateRecord::Define(id, definition)) => {
+                self.options.has(*id, definition) && self.templates.get(*id).is_none()
+            }
+            _ => false,
+        }
     }
 
     /// Applies a template record. After an `Err` the definitions are of no use.
@@ -269,6 +294,16 @@ impl Templates {
         match self.domains.get(&domain) {
             None => Ok(DomainTemplates::new(alloc)),
             Some(here) => here.try_copy(),
+        }
+    }
+
+    /// Whether a template record defines what is in force in a domain, and so changes nothing. It may miss one.
+    pub(crate) fn has(&self, domain: u32, kind: TemplateKind, change: &TemplateRecord) -> bool
+        ensures { IsTrue result → applied domain kind change.now self.now ≡ self.now }
+    {
+        match self.domains.get(&domain) {
+            Some(here) => here.has(kind, change),
+            None => false,
         }
     }
 

@@ -291,7 +291,7 @@ fn message_of<S: RecordSink>(
 
 /// Hands a message's data records to a sink, in order, and takes its templates in. An `Err` leaves the templates as they were.
 ///
-/// It takes time in proportion to the message's octets and, where it has template records, to those of its own domain's templates.
+/// It takes time in proportion to the message's octets and, where it has template records beside those in force, to its domain's templates.
 pub fn walk_message<S: RecordSink>(
     templates: &mut Templates,
     alloc: Global,
@@ -311,7 +311,7 @@ pub fn walk_message<S: RecordSink>(
 
 /// Whether the octets are a message under these templates: its header, and no change.
 ///
-/// It takes time in proportion to the message's octets and, where it has template records, to those of its own domain's templates.
+/// It takes time in proportion to the message's octets and, where it has template records beside those in force, to its domain's templates.
 pub fn judge_message(
     templates: &Templates,
     alloc: Global,

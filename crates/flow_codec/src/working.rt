@@ -1,5 +1,5 @@
 //! The templates while a message is read. Its template records work on a copy of its own domain's definitions, made at the
-//! first of them and put back as the last step, so that a refusal leaves the templates as they were.
+//! first of them that may change any and put back as the last step, so that a refusal leaves the templates as they were.
 
 ghost use Rattle.std.specs.Prelude.{◌≡◌, ◌≤◌, List, length, OnOk, OnErr, IfOk};
 ghost use Rattle.std.specs.Option.{option_copied};
@@ -57,7 +57,7 @@ fn working_copy(
     }
 }
 
-/// Applies a template record. The first one copies the domain's definitions. After an `Err`, `changed` is to be thrown away.
+/// Applies a template record. The first one that defines anything new, or that withdraws, copies the domain's definitions. After an `Err`, `changed` is to be thrown away.
 pub(crate) fn apply_in(
     alloc: Global,
     before: &Templates,
@@ -69,6 +69,9 @@ pub(crate) fn apply_in(
     ensures { OnOk result (current domain before.now changed.new ≡ applied domain kind change (current domain before.now changed.old)) }
 {
     before.are_in_force();
+    if changed.is_none() && before.has(domain, kind, &change) {
+        return Ok(());
+    }
     let mut now = working_copy(alloc, before, domain, changed)?;
     now.left |= now.here.is_empty();
     now.here.apply(kind, change)?;
