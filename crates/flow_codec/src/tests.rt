@@ -41,10 +41,33 @@ fn text_of(rt: HostRuntime, message: &Message) -> Result<String, AllocError> {
     Ok(text)
 }
 
+/// What a call answered; a test ends where memory ran out.
+fn answered<T: Drop>(
+    answer: Result<T, MessageError>,
+) -> Result<Result<T, MessageError>, AllocError> {
+    match answer {
+        Err(MessageError::OutOfMemory) => Err(AllocError),
+        answer => Ok(answer),
+    }
+}
+
+/// What walking a message answers.
+fn walked(
+    rt: HostRuntime,
+    templates: &mut Templates,
+    octets: &[u8],
+    count: &mut Count,
+) -> Result<Result<Header, MessageError>, AllocError> {
+    answered(walk_message(templates, rt.alloc(), octets, count).map_err(|e| match e {
+        WalkError::Message(fault) => fault,
+        WalkError::Sink(never) => match never {},
+    }))
+}
+
 /// What reading answers, as text.
 fn read(rt: HostRuntime, templates: &mut Templates, text: &str) -> Result<String, AllocError> {
     let octets = octets_of(rt, text)?;
-    match read_message(templates, rt.alloc(), &octets) {
+    match answered(read_message(templates, rt.alloc(), &octets))? {
         Ok(message) => text_of(rt, &message),
         Err(fault) => format!(in rt.alloc(); "{fault}"),
     }
@@ -125,7 +148,7 @@ fn cuts(rt: HostRuntime) -> Result<(), Fail> {
             _ => Err(MessageError::SetLength(40)),
         };
         assert_eq!(rt;
-            judge_message(&Templates::new(alloc), alloc, &front).map(|_| ()),
+            answered(judge_message(&Templates::new(alloc), alloc, &front))?.map(|_| ()),
             want,
             "at {n}"
         );
@@ -158,7 +181,7 @@ fn definitions(rt: HostRuntime) -> Result<(), Fail> {
     let mut templates = Templates::new(rt.alloc());
     let mut count = Count { records: 0 };
     let plain = octets_of(rt, PLAIN)?;
-    assert!(rt; walk_message(&mut templates, rt.alloc(), &plain, &mut count).is_ok());
+    assert!(rt; walked(rt, &mut templates, &plain, &mut count)?.is_ok());
     assert_eq!(rt; count.records, 1);
     let copy = templates.try_copy()?;
     for templates in [&templates, &copy] {
@@ -201,14 +224,7 @@ fn refusal(
     count: u16,
 ) -> Result<Option<MessageError>, AllocError> {
     let octets = templates_of(rt, domain, first, count)?;
-    Ok(
-        walk_message(templates, rt.alloc(), &octets, &mut Count { records: 0 })
-            .err()
-            .map(|e| match e {
-                WalkError::Message(fault) => fault,
-                WalkError::Sink(never) => match never {},
-            }),
-    )
+    Ok(walked(rt, templates, &octets, &mut Count { records: 0 })?.err())
 }
 
 #[test]
@@ -248,4 +264,24 @@ fn fields(rt: HostRuntime) {
         let split = split_field(len, octets);
         assert!(rt; split.0 == value && split.1 == rest);
     }
+}
+
+#[test]
+fn texts_of_faults(rt: HostRuntime) -> Result<(), Fail> {
+    for (fault, want) in [
+        (MessageError::Short, "1 Short"),
+        (MessageError::Version, "2 Version"),
+        (MessageError::Length, "3 Length"),
+        (MessageError::SetLength(16), "4 SetLength 16"),
+        (MessageError::TemplateCut(20), "5 TemplateCut 20"),
+        (MessageError::TemplateId(20), "6 TemplateId 20"),
+        (MessageError::ScopeCount(20), "7 ScopeCount 20"),
+        (MessageError::RecordCut(32), "8 RecordCut 32"),
+        (MessageError::TemplatesFull(7), "9 TemplatesFull 7"),
+        (MessageError::DomainsFull, "10 DomainsFull"),
+        (MessageError::OutOfMemory, "11 OutOfMemory"),
+    ] {
+        assert_eq!(rt; format!(in rt.alloc(); "{fault}")?.as_str(), want);
+    }
+    Ok(())
 }
