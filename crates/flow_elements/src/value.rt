@@ -27,6 +27,20 @@ pub fn number_of(octets: &[u8]) -> u64
     requires { length octets.now ≤ 8 }
     ensures { result ≡ number_of octets.now }
 {
+    // The lengths that nearly all exporters use are read at once.
+    match octets {
+        [a, b, c, d, e, f, g, h] => u64::from_be_bytes([*a, *b, *c, *d, *e, *f, *g, *h]),
+        [a, b, c, d] => u64::from_be_bytes([0, 0, 0, 0, *a, *b, *c, *d]),
+        [a] => u64::from(*a),
+        _ => padded(octets),
+    }
+}
+
+/// A number in at most 8 octets, behind octets of 0 that fill it up to 8.
+fn padded(octets: &[u8]) -> u64
+    requires { length octets.now ≤ 8 }
+    ensures { result ≡ number_of octets.now }
+{
     let mut padded = [0u8; 8];
     padded[8 - octets.len()..].copy_from_slice(octets);
     u64::from_be_bytes(padded)

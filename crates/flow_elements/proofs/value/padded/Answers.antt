@@ -1,6 +1,6 @@
 use Rattle.std.proofs.Common.{◌≡◌, ℕ, ◌-◌, List, [], ◌∷◌, length, drop, take, arith, replicate}
 use Rattle.std.proofs.lemmas.List.{append-nil, drop_all, length-drop, take-replicate}
-use Rattle.flow_elements.proofs.value.number_of.Goals as goal
+use Rattle.flow_elements.proofs.value.padded.Goals as goal
 
 pub returns : goal.returns
 returns c =
