@@ -24,7 +24,7 @@ use Rattle.flow_measure.specs.declared.error.SumError.TheVariants as sum
 use Rattle.flow_measure.specs.declared.flow.Flow.{Flow}
 use Rattle.flow_measure.specs.declared.rows.Row.{Row}
 use Rattle.flow_measure.specs.declared.sinks.Totals.{Totals}
-use Rattle.flow_measure.specs.Flows.{flows_in as flows_of_records, flow_of, flows_of, FlowFits}
+use Rattle.flow_measure.specs.Flows.{flows_of_records, flow_of, flows_of, FlowFits}
 use Rattle.flow_measure.specs.History.{Accepted, AreAcceptedFrom, History, IsHistory, flows_in, templates_from, templates_of}
 use Rattle.flow_measure.specs.Query.{totals_between}
 use Rattle.flow_measure.specs.Sums.{Table, AreSums, IsRefused as SumRefused, empty_table, gathered, merged, rows_between, sums_by, table_of}

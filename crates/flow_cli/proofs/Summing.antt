@@ -26,7 +26,7 @@ use Rattle.flow_measure.specs.declared.sinks.Totals.{Totals}
 use Rattle.flow_measure.specs.declared.error.SumError.{SumError}
 use Rattle.flow_measure.specs.declared.error.SumError.TheVariants as sum
 use Rattle.flow_measure.specs.declared.flow.Flow.{Flow}
-use Rattle.flow_measure.specs.Flows.{flows_in, flow_of, flow_of_record, flows_of, FlowFits}
+use Rattle.flow_measure.specs.Flows.{flows_of_records, flow_of, flow_of_record, flows_of, FlowFits}
 use Rattle.flow_measure.specs.Sums.{Table, AreSums, AllFit, IsRefused as SumRefused, empty_table, sums_by, gathered, table_of}
 use Rattle.flow_measure.proofs.SinkSteps.{flows-in_fields, all_fit}
 use Rattle.flow_measure.proofs.FewFlows.{few_fit}
@@ -47,7 +47,7 @@ pub record HasSummed (width : ℕ) (old : Option (List ℕ)) (reader : Progress)
   pub few : length (flows_of_all messages) ≤ 65536 * reader.count
   pub fit : AllByRecursion FlowFits (flows_of_all messages)
 
-pub flows_then : (messages : List RawMessage) (m : RawMessage) → flows_of_all (messages ++ m ∷ []) ≡ flows_of_all messages ++ flows_in (under m.header m.records)
+pub flows_then : (messages : List RawMessage) (m : RawMessage) → flows_of_all (messages ++ m ∷ []) ≡ flows_of_all messages ++ flows_of_records (under m.header m.records)
 flows_then messages m =
     flat_map-append (λ x. flows_of (in_fields x)) messages (m ∷ []) ∙ ap (λ (t : List Flow). flows_of_all messages ++ t) (append-nil (flows_of (in_fields m)) ∙ flows-in_fields m)
 
@@ -79,16 +79,16 @@ begun width old reader here totals is none empty = subst (λ (r : Progress). Has
 
 -- what the sink of sums holds
 abbrev pub Holds : Totals → List Placed → Totals → Type 0
-Holds start taken now = (now.rows.width ≡ start.rows.width) × ((flows : List Flow) → AreSums start.rows flows → AreSums now.rows (flows ++ flows_in taken)) × AllByRecursion FlowFits (flows_in taken)
+Holds start taken now = (now.rows.width ≡ start.rows.width) × ((flows : List Flow) → AreSums start.rows flows → AreSums now.rows (flows ++ flows_of_records taken)) × AllByRecursion FlowFits (flows_of_records taken)
 
 nothing_taken : (t : Totals) → Holds t [] t
 nothing_taken t = (refl, λ flows h. subst (AreSums t.rows) (sym (append-nil flows)) h, tt)
 
-flows_few : (taken : List Placed) → length (flows_in taken) ≤ length taken
+flows_few : (taken : List Placed) → length (flows_of_records taken) ≤ length taken
 flows_few [] = omega arith
 flows_few (x ∷ xs) = let more = flows_few xs in by (flow_of x) more
   where
-    by : (o : Option Flow) → length (flows_in xs) ≤ length xs → length (cons_option o (flows_in xs)) ≤ suc (length xs)
+    by : (o : Option Flow) → length (flows_of_records xs) ≤ length xs → length (cons_option o (flows_of_records xs)) ≤ suc (length xs)
     by None more = omega (arith, more)
     by (Some f) more = omega (arith, more)
 
@@ -107,7 +107,7 @@ stepped width old r0 r1 h0 h1 t0 t1 header octets s step is walked =
     subst (λ (n : ℕ). HasRun old r1.rest (s.messages ++ m ∷ []) h1 n r1.at) (sym step.4) (subst (λ (n : ℕ). HasRun old r1.rest (s.messages ++ m ∷ []) h1 (r0.count + 1) n) (sym step.6) ran) in
     let took = walked.2 t0 [] (nothing_taken t0) in
     let more = flows_then s.messages m in
-    let len = ap length more ∙ length-append (flows_of_all s.messages) (flows_in (under header walked.0)) in
+    let len = ap length more ∙ length-append (flows_of_all s.messages) (flows_of_records (under header walked.0)) in
     let few = flows_few (under header walked.0) in
     let records = few_records r1.message h0 m h1 accepted.0 in
     let short = short_enough r1.message h0 m h1 accepted.0 in
@@ -118,7 +118,7 @@ stepped width old r0 r1 h0 h1 t0 t1 header octets s step is walked =
       across = took.0 ∙ s.across;
       sums = subst (AreSums t1.rows) (sym more) (took.1 (flows_of_all s.messages) s.sums);
       few = omega (arith, len, few, length-map {B = Placed} walked.0 (λ (r : RawRecord). (header, r)), records, short.1, s.few, step.4);
-      fit = subst (AllByRecursion FlowFits) (sym more) (fit_both (flows_of_all s.messages) (flows_in (under header walked.0)) s.fit took.2);
+      fit = subst (AllByRecursion FlowFits) (sym more) (fit_both (flows_of_all s.messages) (flows_of_records (under header walked.0)) s.fit took.2);
     }
 
 -- nothing is said where memory or a reader failed
@@ -145,7 +145,7 @@ as_message message.DomainsFull number octets h = h
 
 -- what the sink of sums refuses
 abbrev pub Refuses : Totals → List Placed → Placed → SumError → Type 0
-Refuses start taken x e = ((flows : List Flow) → AreSums start.rows flows → SumRefused e (table_of start.rows.width (flows ++ flows_in (taken ++ x ∷ [])))) × AllByRecursion FlowFits (flows_in (taken ++ x ∷ []))
+Refuses start taken x e = ((flows : List Flow) → AreSums start.rows flows → SumRefused e (table_of start.rows.width (flows ++ flows_of_records (taken ++ x ∷ [])))) × AllByRecursion FlowFits (flows_of_records (taken ++ x ∷ []))
 
 -- a message at which the run stops
 pub stopped_at : (width : ℕ) (old : Option (List ℕ)) (r0 r1 : Progress) (h0 : AllTemplates) (t0 : Totals) (octets : List ℕ) (stop : WalkError SumError)
@@ -157,11 +157,11 @@ stopped_at width old r0 r1 h0 t0 octets (walk.Sink sum.SumSpent) s step is short
     let r = (h.1).1 in
     let refused = (h.1).3 t0 [] (nothing_taken t0) in
     let taken = under h.0 front ++ (h.0, r) ∷ [] in
-    let whole = flows_of_all s.messages ++ flows_in taken in
-    let len = length-append (flows_of_all s.messages) (flows_in taken) in
+    let whole = flows_of_all s.messages ++ flows_of_records taken in
+    let len = length-append (flows_of_all s.messages) (flows_of_records taken) in
     let few = flows_few taken in
     let some = length-append (under h.0 front) ((h.0, r) ∷ []) in
-    absurd (refused.0 (flows_of_all s.messages) s.sums (few_fit t0.rows.width whole (fit_both (flows_of_all s.messages) (flows_in taken) s.fit refused.1)
+    absurd (refused.0 (flows_of_all s.messages) s.sums (few_fit t0.rows.width whole (fit_both (flows_of_all s.messages) (flows_of_records taken) s.fit refused.1)
     (omega (arith, len, few, some, length-map {B = Placed} front (λ (x : RawRecord). (h.0, x)), (h.1).2, short, s.few, step.4, step.5))))
 stopped_at width old r0 r1 h0 t0 octets (walk.Message fault) s step is short (inl none) =
     subst (λ (e : MessageError). IfSome old (λ file. IsRefusedBy file (message_refusal e r1.count))) (sym none) (always old)

@@ -70,15 +70,15 @@ gathered-same es fs is = same_sums (gathered es) (gathered fs) (λ q. get-gather
 
 -- ---- the entries of a map, gathered, are the map
 
-first : (a b : Bool) → T (a && b) → T a
+pub first : (a b : Bool) → T (a && b) → T a
 first true b p = tt
 first false b p = p
 
-second : (a b : Bool) → T (a && b) → T b
+pub second : (a b : Bool) → T (a && b) → T b
 second true b p = p
 second false b p = absurd p
 
-less : (o : Ordering) → T (is_lt o) → is_eq o ≡ false
+pub less : (o : Ordering) → T (is_lt o) → is_eq o ≡ false
 less Less p = refl
 less Equal p = absurd p
 less Greater p = absurd p

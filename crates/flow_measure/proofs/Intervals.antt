@@ -1,7 +1,12 @@
 -- Intervals of one width within those of another.
-use Rattle.std.proofs.Common.{◌≡◌, ℕ, ◌*◌, ◌/◌, ◌%◌, ◌<◌, sym, ap, subst, ◌∙◌, arith}
-use Rattle.std.proofs.Math.Nat.{div-mul-le_self, mod-eq-sub-div-mul, div-div-eq-div-mul, mul-div_cancel}
-use Rattle.flow_measure.specs.Sums.{interval_of}
+use Rattle.std.proofs.Common.{◌≡◌, ℕ, ◌*◌, ◌/◌, ◌%◌, ◌+◌, ◌-◌, ◌<◌, ◌≤◌, true, false, Option, Some, None, nat_eq, eqb-true, refl, sym, ap, subst, ◌∙◌, arith}
+use Rattle.std.specs.Prelude.{not}
+use Rattle.std.specs.Option.{option_eq}
+use Rattle.std.proofs.Math.Nat.{div-mul-le_self, mod-eq-sub-div-mul, div-div-eq-div-mul, mul-div_cancel, mod-add-div'}
+use Rattle.std.proofs.lemmas.Nat.{mod-mul-add}
+use Rattle.flow_measure.specs.declared.flow.Flow.{Flow}
+use Rattle.flow_measure.specs.declared.rows.Key.{Key}
+use Rattle.flow_measure.specs.Sums.{interval_of, key_of}
 
 pub interval_by : (t w : ℕ) → interval_of t w ≡ t / w * w
 interval_by t w = omega (arith, mod-eq-sub-div-mul t w, div-mul-le_self t w)
@@ -11,6 +16,26 @@ aligned t w h =
     let e : interval_of t w ≡ t / w * w = interval_by t w in
     let back : t / w * w / w ≡ t / w = mul-div_cancel (t / w) h in
     rw e (rw (mod-eq-sub-div-mul (t / w * w) w, back) (omega arith))
+
+-- a moment at less than a width behind the start of an interval is in that interval
+pub near_start : (near t w : ℕ) → near % w ≡ 0 → near ≤ t → t - near < w → near ≡ interval_of t w
+near_start near t w aligned le less =
+    let whole : near ≡ near / w * w = omega (arith, mod-add-div' near w, aligned) in
+    let parts : t ≡ near / w * w + (t - near) = omega (arith, whole, le) in
+    let rest : t % w ≡ t - near = ap (λ n. n % w) parts ∙ mod-mul-add (near / w) w (t - near) less in
+    omega (arith, rest, le)
+
+pub same_protocol : (a b : Option ℕ) → false ≡ not (option_eq nat_eq a b) → a ≡ b
+same_protocol None None h = refl
+same_protocol None (Some y) h = absurd cc
+same_protocol (Some x) None h = absurd cc
+same_protocol (Some x) (Some y) h = elim (nat_eq x y) as (λ b. nat_eq x y ≡ b → false ≡ not b → Some x ≡ Some y) [
+  | true ↦ λ w g. ap Some (eqb-true x y w)
+  | false ↦ λ w g. absurd cc
+] refl h
+
+pub falls_under : (k : Key) (f : Flow) (w : ℕ) → k.start % w ≡ 0 → k.domain ≡ f.domain → k.protocol ≡ f.protocol → k.start ≤ f.start → f.start - k.start < w → k ≡ key_of w f
+falls_under k f w aligned domain protocol le less = λ i. record { start = near_start k.start f.start w aligned le less i; domain = domain i; protocol = protocol i }
 
 -- an interval of a width lies in the wide interval that holds its start
 pub within_wide : (t w c : ℕ) → 0 < w → interval_of (interval_of t w) (w * c) ≡ interval_of t (w * c)

@@ -5,6 +5,7 @@ pub mod Gathering
 pub mod Intervals
 pub mod Keys
 pub mod Merging
+pub mod Places
 pub mod Putting
 pub mod SinkSteps
 pub mod SumLaws

@@ -1,25 +1,18 @@
 -- Adding the entries of a list to a table, one by one.
-use Rattle.std.proofs.Common.{◌≡◌, ℕ, ◌%◌, ◌<◌, List, [], ◌∷◌, ◌++◌, Some, sym, ap, subst, ◌∙◌, append_assoc}
-use Rattle.std.specs.Prelude.{IfSome, All, Result, Ok, Err, IsErrAnd, MatchResult}
+use Rattle.std.proofs.Common.{◌≡◌, ℕ, ◌%◌, ◌<◌, true, false, cond, T, List, [], ◌∷◌, ◌++◌, Some, None, refl, sym, ap, subst, ◌∙◌, append_assoc}
+use Rattle.std.specs.Prelude.{IfSome, Result, Ok, Err, IsErrAnd, MatchResult}
 use Rattle.std.specs.List.{AllByRecursion}
-use Rattle.std.specs.Map.{lookup, keys_of}
-use Rattle.std.specs.BTreeMap.{is_at}
-use Rattle.std.specs.List.Sorted.{IsStrictlySortedBy}
 use Rattle.std.proofs.lemmas.List.{append-nil}
-use Rattle.std.proofs.lemmas.List.Elements.{recursion_from_All}
-use Rattle.std.specs.FinMap.{entries, from_entries}
+use Rattle.std.specs.FinMap.{FinMap, entries, get-entries, entries_sorted}
+use Rattle.std.specs.FinMap.Entries.{find, is_sorted, below_all}
 use Rattle.flow_measure.specs.declared.error.SumError.{SumError}
 use Rattle.flow_measure.specs.declared.error.SumError.TheVariants.{SumSpent, OutOfMemory}
 use Rattle.flow_measure.specs.declared.rows.Key.{Key}
 use Rattle.flow_measure.specs.declared.rows.Sums.{Sums}
-use Rattle.flow_measure.specs.Sums.{Table, key_cmp, gathered, with_sums, AreSound, AllFit, IsRefused, Becomes}
-use Rattle.flow_measure.proofs.Gathering.{gathered-again, gathered-entries}
+use Rattle.flow_measure.specs.Sums.{Table, key_cmp, is_key, gathered, with_sums, AreSound, AllFit, IsRefused, Becomes}
+use Rattle.flow_measure.proofs.Gathering.{first, second, less, gathered-again, gathered-entries}
+use Rattle.flow_measure.proofs.Keys.{same_key, is_key-refl}
 use Rattle.flow_measure.proofs.Fitting.{front_fits}
-use Rattle.flow_measure.proofs.Viewing.{get_entry, entries_are}
-
--- the entries that a tree of rows has are those of the table that it is seen as
-pub entries_of : (w : ℕ) (es : List (Key × Sums)) (v : Table) → IsStrictlySortedBy key_cmp (keys_of es) → record { width = w; sums = from_entries {R = key_cmp} es } ≡ v → es ≡ entries v.sums
-entries_of w es v ordered is = sym (entries_are es ordered) ∙ ap (λ (t : Table). entries t.sums) is
 
 pub step_same : (sum new : Table) (k : Key) (s : Sums) (rest all : List (Key × Sums)) → new ≡ with_sums k s sum → gathered (entries sum.sums ++ (k, s) ∷ rest) ≡ gathered all → gathered (entries new.sums ++ rest) ≡ gathered all
 step_same sum new k s rest all e h =
@@ -34,13 +27,23 @@ refused_on SumSpent w sum k s rest all h spent = λ fit. spent (front_fits w sum
     (subst (λ m. AllFit (record { width = w; sums = m })) (sym (ap gathered (append_assoc (entries sum.sums) ((k, s) ∷ []) rest) ∙ h)) fit))
 refused_on OutOfMemory w sum k s rest all h spent = tt
 
--- each entry of sound rows is sound
-pub sound_entries : (w : ℕ) (es : List (Key × Sums)) → AreSound w (from_entries {R = key_cmp} es) → All (λ e. lookup (is_at (key_cmp e.0)) es ≡ Some e.1) es → AllByRecursion (λ (e : Key × Sums). (e.0.start % w ≡ 0) × (0 < e.1.flows)) es
-sound_entries w es sound found = part es (recursion_from_All (λ (e : Key × Sums). lookup (is_at (key_cmp e.0)) es ≡ Some e.1) es found)
+find_past : (q : Key) (es : List (Key × Sums)) → T (below_all key_cmp q es) → find key_cmp q es ≡ None
+find_past q [] h = refl
+find_past q (e ∷ es) h = rw (less (key_cmp q e.0) (first _ _ h)) (find_past q es (second _ _ h))
+
+-- what holds of the sums at each key of a map holds of each entry
+all_entries : (P : Key → Sums → Type 0) (es : List (Key × Sums)) → T (is_sorted key_cmp es) → ((q : Key) → IfSome (find key_cmp q es) (P q)) → AllByRecursion (λ (e : Key × Sums). P e.0 e.1) es
+all_entries P [] h f = tt
+all_entries P (e ∷ es) h f = (subst (λ o. IfSome o (P e.0)) (ap (λ b. cond b (Some e.1) (find key_cmp e.0 es)) (is_key-refl e.0)) (f e.0), all_entries P es (second _ _ h) rest)
   where
-    part : (fs : List (Key × Sums)) → AllByRecursion (λ (e : Key × Sums). lookup (is_at (key_cmp e.0)) es ≡ Some e.1) fs → AllByRecursion (λ (e : Key × Sums). (e.0.start % w ≡ 0) × (0 < e.1.flows)) fs
-    part [] h = tt
-    part (f ∷ fs) h = (subst (λ a. IfSome a (λ s. (f.0.start % w ≡ 0) × (0 < s.flows))) (get_entry es f.0 ∙ h.0) (sound f.0), part fs h.1)
+    rest : (q : Key) → IfSome (find key_cmp q es) (P q)
+    rest q = elim (is_key q e.0) as (λ b. is_key q e.0 ≡ b → IfSome (cond b (Some e.1) (find key_cmp q es)) (P q) → IfSome (find key_cmp q es) (P q)) [
+      | true ↦ λ w g. subst (λ o. IfSome o (P q)) (sym (find_past q es (subst (λ k. T (below_all key_cmp k es)) (sym (same_key q e.0 w)) (first _ _ h)))) tt
+      | false ↦ λ w g. g
+    ] refl (f q)
+
+pub sound_entries : (w : ℕ) (m : FinMap key_cmp Sums) → AreSound w m → AllByRecursion (λ (e : Key × Sums). (e.0.start % w ≡ 0) × (0 < e.1.flows)) (entries m)
+sound_entries w m sound = all_entries (λ k s. (k.start % w ≡ 0) × (0 < s.flows)) (entries m) (entries_sorted m) (λ q. subst (λ o. IfSome o (λ s. (q.start % w ≡ 0) × (0 < s.flows))) (get-entries m q) (sound q))
 
 -- a refusal is passed on
 pub passed_on : {X : Type 0} (r : Result X SumError) (e : SumError) (sums old new : Table) → IsErrAnd r (λ x. x ≡ e) → IsRefused e sums → new ≡ old → Becomes r sums old new

@@ -1,12 +1,16 @@
 -- A sum put in its place in rows.
-use Rattle.std.proofs.Common.{◌≡◌, ℕ, ◌%◌, ◌<◌, true, false, cond, [], ◌∷◌, ◌++◌, Some, None, refl, sym, ap, subst, ◌∙◌}
-use Rattle.std.specs.Prelude.{IfSome}
-use Rattle.std.specs.FinMap.{FinMap, entries, get, insert, get-insert}
+use Rattle.std.proofs.Common.{◌≡◌, ℕ, ◌%◌, ◌<◌, cond, [], ◌∷◌, ◌++◌, Some, None, refl, sym, ap, subst, ◌∙◌, arith}
+use Rattle.std.specs.Prelude.{IfSome, Option, Result, Ok, Err}
+use Rattle.std.specs.FinMap.{FinMap, entries, get, insert}
+use Rattle.flow_measure.specs.declared.error.SumError.{SumError}
+use Rattle.flow_measure.specs.declared.error.SumError.TheVariants.{SumSpent, OutOfMemory}
+use Rattle.flow_measure.specs.declared.flow.Flow.{Flow}
 use Rattle.flow_measure.specs.declared.rows.Key.{Key}
 use Rattle.flow_measure.specs.declared.rows.Sums.{Sums}
-use Rattle.flow_measure.specs.Sums.{key_cmp, is_key, plus, gathered, Fits, Table, AllFit, AreSound, with_sums}
-use Rattle.flow_measure.proofs.Keys.{keys_total, same_key, is_key-refl}
-use Rattle.flow_measure.proofs.Gathering.{joined, same_sums, with_one, put-is_gathered}
+use Rattle.flow_measure.specs.Sums.{key_cmp, gathered, Fits, Table, AllFit, AreSound, Becomes, with_sums, with_flow, key_of, counted}
+use Rattle.flow_measure.specs.Entries.{Adds, added_to}
+use Rattle.flow_measure.proofs.Keys.{is_key-refl}
+use Rattle.flow_measure.proofs.Gathering.{joined, with_one, put-is_gathered}
 use Rattle.flow_measure.proofs.Fitting.{kept}
 
 abbrev pub table : ℕ → FinMap key_cmp Sums → Table
@@ -20,15 +24,6 @@ pub well_put : (w : ℕ) (m n : FinMap key_cmp Sums) (k : Key) (t : Sums) → n 
 well_put w m n k t e aligned counted fits h = subst (AreWell w) (sym e)
     (h.0, kept (λ (q : Key) (s : Sums). (q.start % w ≡ 0) × (0 < s.flows)) m k t h.1 (aligned, counted), kept (λ (q : Key) (s : Sums). Fits s) m k t h.2 fits)
 
-pub put_same : (m : FinMap key_cmp Sums) (k : Key) (t : Sums) → get m k ≡ Some t → insert m k t ≡ m
-put_same m k t e = same_sums (insert m k t) m (λ q. get-insert keys_total m k t q ∙ here q)
-  where
-    here : (q : Key) → cond (is_key q k) (Some t) (get m q) ≡ get m q
-    here q = elim (is_key q k) as (λ b. is_key q k ≡ b → cond b (Some t) (get m q) ≡ get m q) [
-      | true ↦ λ h. sym e ∙ ap (get m) (sym (same_key q k h))
-      | false ↦ λ h. refl
-    ] refl
-
 -- rows after a sum is put in its place are those before, with one more
 pub became : (w : ℕ) (m n : FinMap key_cmp Sums) (k : Key) (s t : Sums) (v : Table) → table w m ≡ v → n ≡ insert m k t → joined (get m k) (Some s) ≡ Some t → Fits t → AreWell w m → AllFit (with_sums k s v) × (table w n ≡ with_sums k s v)
 became w m n k s t v is e sum fits h =
@@ -37,9 +32,33 @@ became w m n k s t v is e sum fits h =
     let fit : AllFit (table w n) = subst (λ x. AllFit (table w x)) (sym e) (kept (λ (q : Key) (x : Sums). Fits x) m k t h.2 fits) in
     (subst AllFit same fit, same)
 
--- where the sum doesn't fit, not all of the rows would
-pub passes : (w : ℕ) (m : FinMap key_cmp Sums) (k : Key) (s t : Sums) (v : Table) → table w m ≡ v → get m k ≡ Some t → (Fits (plus t s) → ⊥) → AllFit (with_sums k s v) → ⊥
-passes w m k s t v is here spent all =
-    let fit : AllFit (with_sums k s (table w m)) = subst (λ u. AllFit (with_sums k s u)) (sym is) all in
-    let sum : get (gathered (entries m ++ (k, s) ∷ [])) k ≡ Some (plus t s) = with_one m k s k ∙ ap (λ b. joined (get m k) (cond b (Some s) None)) (is_key-refl k) ∙ ap (λ a. joined a (Some s)) here in
-    spent (subst (λ a. IfSome a Fits) sum (fit k))
+sum_is : (o : Option Sums) (s : Sums) → joined o (Some s) ≡ Some (added_to o s)
+sum_is None s = refl
+sum_is (Some t) s = refl
+
+counts_more : (o : Option Sums) (s : Sums) → 0 < s.flows → 0 < (added_to o s).flows
+counts_more None s h = h
+counts_more (Some t) s h = omega (arith, h)
+
+-- the sums at the key, where all sums fit
+fits_there : (w : ℕ) (m : FinMap key_cmp Sums) (k : Key) (s : Sums) → AllFit (with_sums k s (table w m)) → Fits (added_to (get m k) s)
+fits_there w m k s all =
+    let sum : get (gathered (entries m ++ (k, s) ∷ [])) k ≡ Some (added_to (get m k) s) = with_one m k s k ∙ ap (λ b. joined (get m k) (cond b (Some s) None)) (is_key-refl k) ∙ sum_is (get m k) s in
+    subst (λ o. IfSome o Fits) sum (all k)
+
+module _ {X : Type 0} where
+  -- what was true of rows stays true once sums were added
+  pub adds_well : (r : Result X SumError) (w : ℕ) (m n : FinMap key_cmp Sums) (k : Key) (s : Sums) → k.start % w ≡ 0 → 0 < s.flows → AreWell w m → Adds r k s m n → AreWell w n
+  adds_well (Ok x) w m n k s aligned counted well h = well_put w m n k (added_to (get m k) s) h.1 aligned (counts_more (get m k) s counted) h.0 well
+  adds_well (Err SumSpent) w m n k s aligned counted well h = subst (AreWell w) (sym h.1) well
+  adds_well (Err OutOfMemory) w m n k s aligned counted well h = subst (AreWell w) (sym h) well
+
+  -- the table becomes that with the sums
+  pub gives : (r : Result X SumError) (w : ℕ) (m n : FinMap key_cmp Sums) (k : Key) (s : Sums) (v : Table) → table w m ≡ v → AreWell w m → Adds r k s m n → Becomes r (with_sums k s v) v (table w n)
+  gives (Ok x) w m n k s v is well h = became w m n k s (added_to (get m k) s) v is h.1 (sum_is (get m k) s) h.0 well
+  gives (Err SumSpent) w m n k s v is well h = (λ all. h.0 (fits_there w m k s (subst (λ u. AllFit (with_sums k s u)) (sym is) all)), ap (table w) h.1 ∙ is)
+  gives (Err OutOfMemory) w m n k s v is well h = (tt, ap (table w) h ∙ is)
+
+  -- the same of a flow
+  pub gives_flow : (r : Result X SumError) (w : ℕ) (m n : FinMap key_cmp Sums) (f : Flow) (v : Table) → table w m ≡ v → AreWell w m → Adds r (key_of w f) (counted f) m n → Becomes r (with_flow f v) v (table w n)
+  gives_flow r w m n f v is well h = subst (λ u. Becomes r (with_flow f u) u (table w n)) is (gives r w m n (key_of w f) (counted f) (table w m) refl well h)

@@ -12,18 +12,18 @@ use Rattle.flow_codec.specs.Raw.{Placed, RawRecord, RawMessage, raw, under}
 use Rattle.flow_codec.specs.Message.{interpreted, in_fields}
 use Rattle.flow_measure.specs.declared.error.SumError.{SumError}
 use Rattle.flow_measure.specs.declared.flow.Flow.{Flow}
-use Rattle.flow_measure.specs.Flows.{flow_of, flow_of_record, flow_from, flows_of, flows_in, FlowFits}
+use Rattle.flow_measure.specs.Flows.{flow_of, flow_of_record, flow_from, flows_of, flows_of_records, FlowFits}
 use Rattle.flow_measure.specs.Sums.{Table, AreSums, IsRefused, table_of, with_flow}
 use Rattle.flow_measure.proofs.SumLaws.{with_flow-table_of}
 
 module _ (taken : List Placed) (header : Header) (id : ℕ) (layout : Layout) (octets : List ℕ) where
   -- a record of a Template is one flow more
-  pub one_more : layout.options ≡ false → flows_in (taken ++ (header, raw id layout octets) ∷ []) ≡ flows_in taken ++ flow_from header (values_of (fields_in layout.fields octets)) ∷ []
+  pub one_more : layout.options ≡ false → flows_of_records (taken ++ (header, raw id layout octets) ∷ []) ≡ flows_of_records taken ++ flow_from header (values_of (fields_in layout.fields octets)) ∷ []
   one_more is = filter_map-append flow_of taken ((header, raw id layout octets) ∷ []) ∙ rw is refl
 
   -- one of an Options Template is none
-  pub none_more : layout.options ≡ true → flows_in (taken ++ (header, raw id layout octets) ∷ []) ≡ flows_in taken
-  none_more is = filter_map-append flow_of taken ((header, raw id layout octets) ∷ []) ∙ rw is (append-nil (flows_in taken))
+  pub none_more : layout.options ≡ true → flows_of_records (taken ++ (header, raw id layout octets) ∷ []) ≡ flows_of_records taken
+  none_more is = filter_map-append flow_of taken ((header, raw id layout octets) ∷ []) ∙ rw is (append-nil (flows_of_records taken))
 
 -- sums of flows and of one more behind them
 pub more_sums : (start old new : Table) (flows more : List Flow) (f : Flow) (all : List Flow) → all ≡ more ++ f ∷ [] → (AreSums start flows → AreSums old (flows ++ more)) → ((gs : List Flow) → AreSums old gs → AreSums new (gs ++ f ∷ [])) → AreSums start flows → AreSums new (flows ++ all)
@@ -42,11 +42,11 @@ on_error (Ok x) e P h p = tt
 on_error (Err x) e P h p = subst P (sym h) p
 
 -- the flows of a message in octets are those of the same message in fields
-either_way : (header : Header) (records : List RawRecord) → filter_map (flow_of_record header) (map interpreted records) ≡ flows_in (under header records)
+either_way : (header : Header) (records : List RawRecord) → filter_map (flow_of_record header) (map interpreted records) ≡ flows_of_records (under header records)
 either_way header [] = refl
 either_way header (r ∷ rs) = rw (either_way header rs) refl
 
-pub flows-in_fields : (m : RawMessage) → flows_of (in_fields m) ≡ flows_in (under m.header m.records)
+pub flows-in_fields : (m : RawMessage) → flows_of (in_fields m) ≡ flows_of_records (under m.header m.records)
 flows-in_fields m = either_way m.header m.records
 
 pub all_fit : (more all : List Flow) (f : Flow) → all ≡ more ++ f ∷ [] → AllByRecursion FlowFits more → FlowFits f → AllByRecursion FlowFits all

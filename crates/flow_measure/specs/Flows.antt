@@ -43,8 +43,8 @@ flows_of m = filter_map (flow_of_record m.header) m.records
 abbrev pub flow_of : Placed → Option Flow
 flow_of x = flow_of_record x.0 (interpreted x.1)
 
-abbrev pub flows_in : List Placed → List Flow
-flows_in taken = filter_map flow_of taken
+abbrev pub flows_of_records : List Placed → List Flow
+flows_of_records taken = filter_map flow_of taken
 
 -- a flow's counts fit their types
 abbrev pub FlowFits : Flow → Type 0

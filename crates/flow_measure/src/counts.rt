@@ -41,12 +41,13 @@ impl Counts {
         requires { length value.now ≤ most_of role }
         ensures { self.new ≡ with_value role value.now self.old }
     {
+        let number = number_of(value);
         match role {
-            Role::Octets => self.octets = self.octets.or(Some(number_of(value))),
-            Role::Packets => self.packets = self.packets.or(Some(number_of(value))),
-            Role::Protocol => self.protocol = self.protocol.or(Some(number_of(value) as u8)),
-            Role::Seconds => self.seconds = self.seconds.or(Some(number_of(value) as u32)),
-            Role::Milliseconds => self.milliseconds = self.milliseconds.or(Some(number_of(value))),
+            Role::Octets => self.octets = self.octets.or(Some(number)),
+            Role::Packets => self.packets = self.packets.or(Some(number)),
+            Role::Protocol => self.protocol = self.protocol.or(Some(number as u8)),
+            Role::Seconds => self.seconds = self.seconds.or(Some(number as u32)),
+            Role::Milliseconds => self.milliseconds = self.milliseconds.or(Some(number)),
         }
     }
 

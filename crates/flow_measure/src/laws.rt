@@ -7,7 +7,7 @@ ghost use Rattle.flow_measure.specs.declared.flow.Flow.{Flow};
 ghost use Rattle.flow_measure.specs.declared.rows.Key.{Key};
 ghost use Rattle.flow_codec.specs.Message.{in_fields};
 ghost use Rattle.flow_codec.specs.Raw.{RawMessage, under};
-ghost use Rattle.flow_measure.specs.Flows.{FlowFits, flows_of, flows_in};
+ghost use Rattle.flow_measure.specs.Flows.{FlowFits, flows_of, flows_of_records};
 ghost use Rattle.flow_measure.specs.History.{History, IsHistory};
 ghost use Rattle.flow_measure.specs.View.{AreCountsOf, view_of};
 ghost use Rattle.flow_measure.specs.Query.{totals_between, totals_in_view, flows_between, flows_in_view, message_at, message_in_view};
@@ -30,7 +30,7 @@ pub fn widening()
 
 /// The flows of a message's records in octets are those of the same message in fields.
 pub fn flows_either_way()
-    ensures { (m : RawMessage) → flows_of (in_fields m) ≡ flows_in (under m.header m.records) }
+    ensures { (m : RawMessage) → flows_of (in_fields m) ≡ flows_of_records (under m.header m.records) }
 {}
 
 /// Fewer than 2^64 flows whose counts fit their types have sums that fit theirs: their addition is never refused for that.

@@ -7,6 +7,7 @@
 #![tactic(auto)]
 
 mod counts;
+mod entries;
 mod error;
 mod fields;
 mod flow;

@@ -1,14 +1,14 @@
 //! Sums of flows by interval, domain and protocol.
 
-ghost use Rattle.std.specs.Prelude.{◌≡◌, ◌<◌, ◌≤◌, ◌%◌, List, [], ◌∷◌, ◌++◌, IfOk, OnOk, MatchResult};
+ghost use Rattle.std.specs.Prelude.{◌≡◌, ◌<◌, ◌≤◌, ◌%◌, true, List, [], ◌∷◌, ◌++◌, IfOk, OnOk, MatchResult};
 ghost use Rattle.std.specs.Option.{SomeIff};
-ghost use Rattle.flow_measure.specs.Sums.{plus, Fits, empty_table, with_flow, with_sums, merged, widened, rows_between, AreSound, AreSums, AllFit, Becomes, IsRefused};
+ghost use Rattle.flow_measure.specs.Sums.{key_of, plus, Fits, empty_table, with_flow, with_sums, merged, widened, rows_between, AreSound, AreSums, AllFit, Becomes, IsRefused};
 ghost use Rattle.flow_measure.specs.declared.flow.Flow.{Flow};
 
+use crate::entries::Entries;
 use crate::error::SumError;
 use crate::flow::{Flow, interval_of};
 use std::alloc::{AllocError, Global};
-use std::collections::BTreeMap;
 use std::marker::Model;
 
 /// What flows are summed by. Keys are in order by start, then domain, then protocol, none before 0.
@@ -32,7 +32,7 @@ pub struct Sums {
 
 impl Sums {
     /// The sums of both, where they fit their types.
-    fn plus(self, other: Sums) -> Option<Sums>
+    pub(crate) fn plus(self, other: Sums) -> Option<Sums>
         ensures { SomeIff result (Fits (plus self other)) (plus self other) }
     {
         Some(Sums {
@@ -55,21 +55,26 @@ pub struct Row {
 #[derive(Drop)]
 pub struct Rows {
     width: u32,
-    sums: BTreeMap<Key, Sums>,
+    entries: Entries,
+    /// For some domains and protocols each, the place of the key that their last flow fell under. It is looked at before it is used.
+    recent: [usize; RECENT],
 }
+
+/// How many places of keys are remembered.
+const RECENT: usize = 64;
 
 impl Model for Rows {
     ghost use Rattle.std.specs.Prelude.{◌<◌};
-    ghost use Rattle.std.specs.FinMap as map;
     ghost use Rattle.flow_measure.specs.Sums.{Table, AreSound, AllFit, coded_table};
+    ghost use Rattle.flow_measure.specs.Entries.{map_of};
 
     ghost Value = { Table };
 
     ghost coded = { coded_table };
 
-    ghost view = { λ r. record { width = r.width; sums = map.from_entries r.sums.entries } };
+    ghost view = { λ r. record { width = r.width; sums = map_of r.entries } };
 
-    ghost invariant = { λ r. (0 < r.width) × AreSound r.width (map.from_entries r.sums.entries) × AllFit (record { width = r.width; sums = map.from_entries r.sums.entries }) };
+    ghost invariant = { λ r. (0 < r.width) × AreSound r.width (map_of r.entries) × AllFit (record { width = r.width; sums = map_of r.entries }) };
 }
 
 impl Rows {
@@ -80,7 +85,8 @@ impl Rows {
     {
         Rows {
             width,
-            sums: BTreeMap::new(alloc),
+            entries: Entries::new(alloc),
+            recent: [0; RECENT],
         }
     }
 
@@ -100,17 +106,7 @@ impl Rows {
         requires counted { 0 < sums.flows }
         ensures { Becomes result (with_sums key sums self.old) self.old self.new }
     {
-        match self.sums.get_mut(&key) {
-            Some(total) => {
-                let Some(sum) = total.plus(sums) else {
-                    return Err(SumError::SumSpent);
-                };
-                *total = sum;
-            }
-            None => {
-                self.sums.insert(key, sums)?;
-            }
-        }
+        self.entries.put(key, sums)?;
         Ok(())
     }
 
@@ -119,17 +115,25 @@ impl Rows {
         ensures becomes { Becomes result (with_flow flow.now self.old) self.old self.new }
         ensures sums { OnOk result ((flows : List Flow) → AreSums self.old flows → AreSums self.new (flows ++ flow.now ∷ [])) }
     {
-        let key = Key {
-            start: interval_of(flow.start, self.width),
-            domain: flow.domain,
-            protocol: flow.protocol,
-        };
         let sums = Sums {
             flows: 1,
             octets: u128::from(flow.octets),
             packets: u128::from(flow.packets),
         };
-        self.put(key, sums)
+        let slot = recent_slot(flow);
+        let place = self.recent[slot];
+        if let Some((key, _)) = self.entries.get(place) {
+            if is_under(&key, flow, self.width) {
+                return self.entries.increase(place, key, sums);
+            }
+        }
+        let key = Key {
+            start: interval_of(flow.start, self.width),
+            domain: flow.domain,
+            protocol: flow.protocol,
+        };
+        self.recent[slot] = self.entries.put(key, sums)?;
+        Ok(())
     }
 
     /// A copy.
@@ -139,7 +143,8 @@ impl Rows {
     {
         Ok(Rows {
             width: self.width,
-            sums: self.sums.clone()?,
+            entries: self.entries.try_copy()?,
+            recent: self.recent,
         })
     }
 
@@ -150,8 +155,9 @@ impl Rows {
         ensures sums { OnOk result ((flows more : List Flow) → AreSums self.old flows → AreSums other.now more → AreSums self.new (flows ++ more)) }
     {
         let mut sum = self.try_copy()?;
-        for (key, sums) in other.sums.iter() {
-            sum.put(*key, *sums)?;
+        for entry in other.entries.in_order()?.iter() {
+            let (key, sums) = *entry;
+            sum.put(key, sums)?;
         }
         *self = sum;
         Ok(())
@@ -165,9 +171,10 @@ impl Rows {
         ensures sums { IfOk result (λ rows. (flows : List Flow) → AreSums self.now flows → AreSums rows flows) }
     {
         let mut rows = Rows::new(alloc, wide);
-        for (key, sums) in self.sums.iter() {
+        for entry in self.entries.in_order()?.iter() {
+            let (key, sums) = *entry;
             let start = interval_of(key.start, wide);
-            rows.put(Key { start, ..*key }, *sums)?;
+            rows.put(Key { start, ..key }, sums)?;
         }
         Ok(rows)
     }
@@ -178,7 +185,7 @@ impl Rows {
     {
         let width = self.width;
         let mut rows = Vec::new(alloc);
-        for (key, sums) in self.sums.iter() {
+        for (key, sums) in self.entries.in_order()?.iter() {
             let start = u64::from(key.start);
             if from <= start && start < to {
                 rows.push(Row {
@@ -190,4 +197,24 @@ impl Rows {
         }
         Ok(rows)
     }
+}
+
+/// Where the place of the key that a flow falls under may be remembered.
+fn recent_slot(flow: &Flow) -> usize
+    ensures { result < 64 }
+{
+    let protocol = flow.protocol.map_or(255, u32::from);
+    flow.domain.wrapping_mul(7).wrapping_add(protocol) as usize % RECENT
+}
+
+/// Whether a flow falls under a key.
+fn is_under(key: &Key, flow: &Flow, width: u32) -> bool
+    requires positive { 0 < width }
+    requires aligned { key.now.start % width ≡ 0 }
+    ensures { result ≡ true → key.now ≡ key_of width flow.now }
+{
+    if key.domain != flow.domain || key.protocol != flow.protocol || flow.start < key.start {
+        return false;
+    }
+    flow.start - key.start < width
 }

@@ -30,11 +30,11 @@ impl Flows {
 
 impl RecordSink for Flows {
     ghost use Rattle.std.specs.Prelude.{◌≡◌, ◌++◌};
-    ghost use Rattle.flow_measure.specs.Flows.{flows_in};
+    ghost use Rattle.flow_measure.specs.Flows.{flows_of_records};
 
     type Error = AllocError;
 
-    ghost holds = { λ start taken now. now.flows.items ≡ start.flows.items ++ flows_in taken };
+    ghost holds = { λ start taken now. now.flows.items ≡ start.flows.items ++ flows_of_records taken };
 
     ghost refuses = { λ start taken x e. Unit {0} };
 
@@ -63,14 +63,14 @@ impl RecordSink for Totals {
     ghost use Rattle.std.specs.Prelude.{◌≡◌, ◌++◌, ◌∷◌, [], List};
     ghost use Rattle.std.specs.List.{AllByRecursion};
     ghost use Rattle.flow_measure.specs.declared.flow.Flow.{Flow};
-    ghost use Rattle.flow_measure.specs.Flows.{flows_in, FlowFits};
+    ghost use Rattle.flow_measure.specs.Flows.{flows_of_records, FlowFits};
     ghost use Rattle.flow_measure.specs.Sums.{AreSums, IsRefused, table_of};
 
     type Error = SumError;
 
-    ghost holds = { λ start taken now. (now.rows.width ≡ start.rows.width) × ((flows : List Flow) → AreSums start.rows flows → AreSums now.rows (flows ++ flows_in taken)) × AllByRecursion FlowFits (flows_in taken) };
+    ghost holds = { λ start taken now. (now.rows.width ≡ start.rows.width) × ((flows : List Flow) → AreSums start.rows flows → AreSums now.rows (flows ++ flows_of_records taken)) × AllByRecursion FlowFits (flows_of_records taken) };
 
-    ghost refuses = { λ start taken x e. ((flows : List Flow) → AreSums start.rows flows → IsRefused e (table_of start.rows.width (flows ++ flows_in (taken ++ x ∷ [])))) × AllByRecursion FlowFits (flows_in (taken ++ x ∷ [])) };
+    ghost refuses = { λ start taken x e. ((flows : List Flow) → AreSums start.rows flows → IsRefused e (table_of start.rows.width (flows ++ flows_of_records (taken ++ x ∷ [])))) × AllByRecursion FlowFits (flows_of_records (taken ++ x ∷ [])) };
 
     fn record(
         &mut self,

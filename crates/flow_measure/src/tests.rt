@@ -44,6 +44,40 @@ fn sums(rt: HostRuntime) -> Result<(), Fail> {
     Ok(())
 }
 
+/// Flows of domains and of intervals that take turns, so that many keys share a remembered place.
+#[test]
+fn keys_take_turns(rt: HostRuntime) -> Result<(), Fail> {
+    let mut rows = Rows::new(rt.alloc(), 300);
+    for start in [1700000000, 1700000100, 1699999799, 1700000099] {
+        for domain in 0..130 {
+            for protocol in [None, Some(0), Some(255)] {
+                rows.add(&Flow {
+                    domain,
+                    ..flow(start, protocol)
+                })?;
+            }
+        }
+    }
+    let all = rows.in_span(rt.alloc(), 0, 1 << 32)?;
+    assert_eq!(rt; all.len(), 3 * 130 * 3);
+    let mut place = 0;
+    for (start, flows) in [(1699999500, 1), (1699999800, 2), (1700000100, 1)] {
+        for domain in 0..130 {
+            for protocol in [None, Some(0), Some(255)] {
+                let key = Key {
+                    start,
+                    domain,
+                    protocol,
+                };
+                let row = all.get(place).map(|row| (row.key, row.sums.flows));
+                assert_eq!(rt; row, Some((key, flows)));
+                place += 1;
+            }
+        }
+    }
+    Ok(())
+}
+
 #[test]
 fn widened(rt: HostRuntime) -> Result<(), Fail> {
     let mut rows = one_flow(&rt)?;

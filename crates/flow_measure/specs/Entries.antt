@@ -1,0 +1,36 @@
+-- Sums by key as a list, in the order in which their keys came.
+use Rattle.std.specs.Prelude.{◌≡◌, ℕ, suc, List, [], ◌∷◌, Option, Some, None, option_map, Result, Ok, Err, if◌then◌else◌}
+use Rattle.std.specs.FinMap.{FinMap, from_entries, get, insert}
+use Rattle.std.specs.Coded.{Coded, coded×, coded_list}
+use Rattle.flow_measure.specs.declared.error.SumError.{SumError}
+use Rattle.flow_measure.specs.declared.error.SumError.TheVariants.{SumSpent, OutOfMemory}
+use Rattle.flow_measure.specs.declared.rows.Key.{Key}
+use Rattle.flow_measure.specs.declared.rows.Sums.{Sums}
+use Rattle.flow_measure.specs.Sums.{key_cmp, is_key, plus, Fits, coded_key, coded_sums}
+
+-- the first place of a key, from 0
+unfoldable pub place_of : Key → List (Key × Sums) → Option ℕ
+place_of key [] = None
+place_of key (e ∷ es) = if is_key key e.0 then Some 0 else option_map suc (place_of key es)
+
+-- each key once
+unfoldable pub AreOnce : List (Key × Sums) → Type 0
+AreOnce [] = Unit {0}
+AreOnce (e ∷ es) = (place_of e.0 es ≡ None) × AreOnce es
+
+abbrev pub map_of : List (Key × Sums) → FinMap key_cmp Sums
+map_of es = from_entries es
+
+-- what a key has once sums were added to what it had, if anything
+abbrev pub added_to : Option Sums → Sums → Sums
+added_to None sums = sums
+added_to (Some total) sums = plus total sums
+
+-- sums are added under a key, or would not fit, or need memory that isn't there
+abbrev pub Adds : {X : Type 0} → Result X SumError → Key → Sums → FinMap key_cmp Sums → FinMap key_cmp Sums → Type 0
+Adds (Ok _) key sums old new = Fits (added_to (get old key) sums) × (new ≡ insert old key (added_to (get old key) sums))
+Adds (Err SumSpent) key sums old new = (Fits (added_to (get old key) sums) → ⊥) × (new ≡ old)
+Adds (Err OutOfMemory) key sums old new = new ≡ old
+
+abbrev pub coded_entries : Coded (List (Key × Sums))
+coded_entries = coded_list (coded× coded_key coded_sums)
