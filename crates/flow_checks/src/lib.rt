@@ -3,6 +3,8 @@
 #![tactic(auto)]
 
 #[cfg(test)]
+mod disks;
+#[cfg(test)]
 mod segment;
 #[cfg(test)]
 mod slots;

@@ -67,6 +67,8 @@ fn a_batch_is_there_whole_or_not_at_all(rt: HostRuntime) -> Result<(), Fail> {
     for calls in 0..9 {
         for choice in CHOICES {
             let (disk, result) = segment(alloc)?.fused(calls).add_both();
+            // two messages, a closed gate and a sync, then the gate and a sync
+            assert_eq!(rt; result.is_ok(), calls >= 6, "{calls} calls");
             assert!(rt; disk.can_crash(choice));
             let mut after = disk.crash(choice);
             let tail = scan(alloc, &mut after, FILE, 0)?;
