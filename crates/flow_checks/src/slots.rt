@@ -281,6 +281,7 @@ fn opened(
     }
     match read_slots(alloc, &mut disk) {
         Ok(slots) => Ok(Ok((slots.current_slot.file(), slots.current.generation))),
+        Err(OpenError::OutOfMemory) => Err(Fail::from(OpenError::OutOfMemory)),
         Err(error) => Ok(Err(error)),
     }
 }
@@ -445,8 +446,8 @@ fn slots_that_are_lied_about_are_answered(rt: HostRuntime) -> Result<(), Fail> {
         let mut disk = LyingDisk::new(swapped(alloc, created(alloc)?, &SEALED)?, seed);
         match read_slots(alloc, &mut disk) {
             Ok(_) => taken = taken.saturating_add(1),
-            Err(OpenError::Fault | OpenError::OutOfMemory) => {
-                return Err(Fail::from("a fault that no call had"));
+            Err(error @ (OpenError::Fault | OpenError::OutOfMemory)) => {
+                return Err(Fail::from(error));
             }
             Err(_) => refused = refused.saturating_add(1),
         }

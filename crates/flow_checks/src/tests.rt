@@ -93,7 +93,10 @@ fn a_batch_is_there_whole_or_not_at_all(rt: HostRuntime) -> Result<(), Fail> {
 fn scanned(alloc: Global, octets: &[u8], from: u64) -> Result<Result<Tail, ScanError>, Fail> {
     let mut disk = MemoryDisk::new(alloc, AMPLE)?;
     disk.write_at(FILE, 0, octets)?;
-    Ok(scan(alloc, &mut disk, FILE, from))
+    match scan(alloc, &mut disk, FILE, from) {
+        Err(ScanError::OutOfMemory) => Err(Fail::from(ScanError::OutOfMemory)),
+        told => Ok(told),
+    }
 }
 
 /// The first message and these octets behind it.

@@ -1,4 +1,6 @@
 // Frozen files of which some reads fail.
+ghost use Rattle.std.specs.Prelude.{◌+◌, ◌<◌};
+
 use flow_disk::{DiskError, Faults, SealedFile};
 use std::alloc::Global;
 
@@ -9,11 +11,16 @@ pub(crate) struct BadReads {
     pub(crate) from: u64,
 }
 
-/// What stands for the place of a file that can't be read: with it a failure is counted.
+/// A read that reaches an octet that can't be read: with it alone a failure is counted.
 #[derive(Drop)]
-struct Broken;
+struct BadRead {
+    from: u64,
+    at: u64,
+    count: usize,
+    ghost reaches: { from < at + count },
+}
 
-impl SealedFile for Broken {
+impl SealedFile for BadRead {
     ghost use Rattle.std.specs.Prelude.{[], true};
     ghost use Rattle.std.specs.Prelude.{refl};
 
@@ -56,6 +63,9 @@ pub struct FusedFile<S: SealedFile> {
 }
 
 impl<S: SealedFile> SealedFile for FusedFile<S> {
+    ghost use Rattle.std.specs.Prelude.{◌≡◌, ◌≤◌, IsTrue, IfOk, IfSome, IsErrOf, take, drop, vec_len};
+    ghost use Rattle.flow_disk.specs.Cause.{HasCause};
+
     ghost octets = { λ f. S.octets f.sealed };
 
     ghost number = { λ f. S.number f.sealed };
@@ -82,12 +92,19 @@ impl<S: SealedFile> SealedFile for FusedFile<S> {
         faults: &mut Faults,
         at: u64,
         count: usize,
-    ) -> Result<Vec<u8>, DiskError> {
+    ) -> Result<Vec<u8>, DiskError>
+        requires { at + count ≤ S.size self.now.sealed }
+        ensures count { IfOk result (λ got. vec_len got ≡ count) }
+        ensures octets { IfOk result (λ got. IsTrue (S.honest self.now.sealed) → got.items ≡ take count (drop at (S.octets self.now.sealed))) }
+        ensures cause { HasCause faults.old faults.new result }
+        // A read that reaches the octet fails.
+        ensures bad { IfSome self.now.bad (λ from. 1 ≤ count → from < at + count → IsErrOf result DiskError.Fault) }
+    {
         if let Some(from) = self.bad
             && count != 0
             && (at >= from || count as u64 > from - at)
         {
-            faults.raise(&Broken);
+            faults.raise(&BadRead { from, at, count });
             return Err(DiskError::Fault);
         }
         self.sealed.read(alloc, faults, at, count)

@@ -42,13 +42,14 @@ impl MemoryDisk {
     ghost use Rattle.flow_memory_disk.specs.Calls.{held_of, told, frozen_in, written, shortened, settled, abandoned, removed};
     ghost use Rattle.flow_memory_disk.specs.Stored.{IsPlace, unwritten};
     ghost use Rattle.flow_memory_disk.specs.Memory.{story_of};
-    ghost use Rattle.flow_memory_disk.specs.Room.{LacksFile, LacksRecord, LacksWrite};
+    ghost use Rattle.flow_memory_disk.specs.Room.{HasRoom, HasRecordRoom, LacksFile, LacksRecord, LacksWrite};
 
     /// A disk with no files. All its room is made here.
     ///
     /// Errors: `AllocError`, where the room can't be had.
     pub fn new(alloc: Global, room: Room) -> Result<Self, AllocError>
-        ensures { IfOk result (λ disk. story_of disk ≡ record { base = λ n. []; calls = []; marks = λ n. unwritten }) }
+        ensures story { IfOk result (λ disk. story_of disk ≡ record { base = λ n. []; calls = []; marks = λ n. unwritten }) }
+        ensures room { IfOk result (λ disk. HasRoom disk room) }
     {
         let mut spare = Vec::with_capacity(alloc, room.files)?;
         for _ in 0..room.files {
@@ -245,6 +246,8 @@ impl MemoryDisk {
         ensures image { IsDiskImage (held_of (story_of self)) (λ n. (held_of (story_of result) n).reads) }
         ensures thawed { (n : ℕ) → ((story_of result).marks n).frozen ≡ false }
         ensures faults { result.faults ≡ self.faults }
+        ensures spare { result.spare ≡ self.spare }
+        ensures room { HasRecordRoom result.log (vec_capacity self.log.deeds) (vec_capacity self.log.octets) }
     {
         let MemoryDisk {
             mut files,
@@ -268,6 +271,8 @@ impl MemoryDisk {
         ensures story { story_of result ≡ stopped (story_of self) Choice.Kept }
         ensures thawed { (n : ℕ) → ((story_of result).marks n).frozen ≡ false }
         ensures faults { result.faults ≡ self.faults }
+        ensures spare { result.spare ≡ self.spare }
+        ensures room { HasRecordRoom result.log (vec_capacity self.log.deeds) (vec_capacity self.log.octets) }
     {
         self.crash(Choice::Kept)
     }

@@ -27,6 +27,3 @@ pub use lying::{LyingDisk, LyingFile};
 pub use one_fault::OneFaultDisk;
 pub use room::Room;
 pub use sealed::MemorySealed;
-
-#[cfg(test)]
-mod tests;

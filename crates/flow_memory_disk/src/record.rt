@@ -15,9 +15,12 @@ pub(crate) struct Record {
 }
 
 impl Record {
+    ghost use Rattle.flow_memory_disk.specs.Room.{HasRecordRoom};
+
     /// An empty record with room for so many calls and octets.
     pub(crate) fn new(alloc: Global, calls: usize, octets: usize) -> Result<Self, AllocError>
-        ensures { IfOk result (λ made. calls_of made.deeds.items made.octets.items ≡ []) }
+        ensures calls { IfOk result (λ made. calls_of made.deeds.items made.octets.items ≡ []) }
+        ensures room { IfOk result (λ made. HasRecordRoom made calls octets) }
     {
         Ok(Record {
             deeds: Vec::with_capacity(alloc, calls)?,
@@ -53,7 +56,8 @@ impl Record {
 
     /// Forgets all calls.
     pub(crate) fn clear(&mut self)
-        ensures { calls_of self.new.deeds.items self.new.octets.items ≡ [] }
+        ensures calls { calls_of self.new.deeds.items self.new.octets.items ≡ [] }
+        ensures room { HasRecordRoom self.new (vec_capacity self.old.deeds) (vec_capacity self.old.octets) }
     {
         self.deeds.clear();
         self.octets.clear();

@@ -43,11 +43,12 @@ impl StoredFile {
     ghost use Rattle.flow_memory_disk.specs.Stored.{held_in, marks_in};
     ghost use Rattle.flow_memory_disk.specs.Stopped.{image_of};
     ghost use Rattle.flow_memory_disk.specs.Stopping.{CanStop};
-    ghost use Rattle.flow_memory_disk.specs.Room.{LacksOctets};
+    ghost use Rattle.flow_memory_disk.specs.Room.{IsSpare, LacksOctets};
 
     /// Makes a file no call has named yet, with room for so many octets and so many writes between two syncs.
     pub(crate) fn new(alloc: Global, room: usize, writes: usize) -> Result<Self, AllocError>
         requires { room ≤ 2 ^ 62 }
+        ensures { IfOk result (λ made. IsSpare made room writes) }
     {
         Ok(StoredFile {
             number: 0,

@@ -21,7 +21,7 @@ same_files c = all_of c.args.self.files.items c.stop_all.new.files c.args.self.f
 
 story_is : (c : After-clear) → story_in (take c.args.self.files.len (c.stop_all.new.files ++ drop (length c.stop_all.new.files) c.args.self.files.items)) c.clear.new.self ≡ stopped (story_of c.args.self) c.args.choice
 story_is c = ap (λ (l : List StoredFile). story_in l c.clear.new.self) (same_files c)
-    ∙ story_after c.args.choice c.args.self.files.items c.stop_all.new.files (all_stopped c) c.args.self.log c.clear.new.self c.args.self.replays c.clear.ensures
+    ∙ story_after c.args.choice c.args.self.files.items c.stop_all.new.files (all_stopped c) c.args.self.log c.clear.new.self c.args.self.replays c.clear.ensures.calls
 
 pub invariant_of-result : goal.invariant_of-result
 invariant_of-result c =
@@ -29,7 +29,7 @@ invariant_of-result c =
     let cleared = c.clear.new.self in
     record {
       replays = subst (λ (l : List StoredFile). Replays l (calls_of cleared.deeds.items cleared.octets.items)) (sym (same_files c))
-          (subst (Replays new) (sym c.clear.ensures) (replays_after c.args.choice c.args.self.files.items new (all_stopped c)));
+          (subst (Replays new) (sym c.clear.ensures.calls) (replays_after c.args.choice c.args.self.files.items new (all_stopped c)));
     }
 
 pub returns-clause-story : goal.returns-clause-story

@@ -1,8 +1,8 @@
-// Each call of each disk once, with ample room; a disk with no room; what each choice of a stop leaves.
-ghost use Rattle.std.specs.Prelude.{◌≡◌, ℕ, false};
+// What each choice of a stop leaves, what a failed call leaves, and a disk that lies.
+ghost use Rattle.std.specs.Prelude.{◌≡◌, ◌≤◌, ℕ, false, IfOk};
 
-use crate::{Choice, FusedDisk, LyingDisk, MemoryDisk, OneFaultDisk, Room};
-use flow_disk::{Disk, DiskError, Faults, SealedFile};
+use flow_disk::{Disk, DiskError, SealedFile};
+use flow_memory_disk::{Choice, FusedDisk, LyingDisk, MemoryDisk, OneFaultDisk, Room};
 use std::alloc::Global;
 use std::test::Fail;
 
@@ -11,13 +11,6 @@ const AMPLE: Room = Room {
     octets: 100,
     calls: 50,
     written: 500,
-};
-
-const NONE: Room = Room {
-    files: 0,
-    octets: 0,
-    calls: 0,
-    written: 0,
 };
 
 /// A disk on which nothing is frozen: its calls look first whether they may be made.
@@ -62,86 +55,6 @@ impl<D: Disk> Thawed<D> {
     fn files(&mut self, alloc: Global) -> Result<Vec<u64>, DiskError> {
         self.disk.files(alloc)
     }
-}
-
-#[test]
-fn a_memory_disk_keeps_what_is_written(rt: HostRuntime) -> Result<(), Fail> {
-    let alloc = rt.alloc();
-    let mut disk = Thawed {
-        disk: MemoryDisk::new(alloc, AMPLE)?,
-    };
-    disk.write(7, 0, &[1, 2, 3, 4])?;
-    disk.write(7, 2, &[5, 6, 7])?;
-    assert_eq!(rt; disk.length(7)?, 5);
-    disk.cut(7, 4)?;
-    disk.sync(7)?;
-    assert_eq!(rt; disk.read(alloc, 7)?.as_slice(), [1, 2, 5, 6].as_slice());
-    disk.write(3, 0, &[9])?;
-    assert_eq!(rt; disk.files(alloc)?.as_slice(), [3, 7].as_slice());
-    disk.remove(3)?;
-    assert_eq!(rt; disk.files(alloc)?.as_slice(), [7].as_slice());
-    assert_eq!(rt; disk.length(3)?, 0);
-    Ok(())
-}
-
-#[test]
-fn a_frozen_file_keeps_its_octets(rt: HostRuntime) -> Result<(), Fail> {
-    let alloc = rt.alloc();
-    let mut faults = Faults::new();
-    let mut disk = MemoryDisk::new(alloc, AMPLE)?;
-    disk.write_at(7, 0, &[1, 2, 3, 4])?;
-    disk.sync(7)?;
-    let sealed = disk.freeze(7)?;
-    assert_eq!(rt; sealed.file(), 7);
-    assert_eq!(rt; sealed.length(), 4);
-    assert_eq!(rt;
-        sealed.read(alloc, &mut faults, 2, 2)?.as_slice(),
-        [3, 4].as_slice()
-    );
-    disk.retire(sealed)?;
-    assert_eq!(rt; disk.length(7)?, 0);
-    Ok(())
-}
-
-#[test]
-fn a_read_that_reaches_a_bad_octet_fails(rt: HostRuntime) -> Result<(), Fail> {
-    let alloc = rt.alloc();
-    let mut faults = Faults::new();
-    let mut disk = FusedDisk::with_bad_reads(MemoryDisk::new(alloc, AMPLE)?, 9, 7, 2);
-    disk.write_at(7, 0, &[1, 2, 3, 4])?;
-    disk.sync(7)?;
-    let sealed = disk.freeze(7)?;
-    assert_eq!(rt; sealed.length(), 4);
-    assert_eq!(rt;
-        sealed.read(alloc, &mut faults, 0, 2)?.as_slice(),
-        [1, 2].as_slice()
-    );
-    assert_eq!(rt;
-        sealed.read(alloc, &mut faults, 1, 2),
-        Err(DiskError::Fault)
-    );
-    assert_eq!(rt;
-        sealed.read(alloc, &mut faults, 3, 1),
-        Err(DiskError::Fault)
-    );
-    disk.retire(sealed)?;
-    Ok(())
-}
-
-#[test]
-fn a_disk_with_no_room_answers_faults(rt: HostRuntime) -> Result<(), Fail> {
-    let alloc = rt.alloc();
-    let mut disk = Thawed {
-        disk: MemoryDisk::new(alloc, NONE)?,
-    };
-    assert_eq!(rt; disk.length(7)?, 0);
-    assert_eq!(rt; disk.files(alloc)?.len(), 0);
-    assert_eq!(rt; disk.read(alloc, 7)?.len(), 0);
-    assert_eq!(rt; disk.write(7, 0, &[1]), Err(DiskError::Fault));
-    assert_eq!(rt; disk.cut(8, 0), Err(DiskError::Fault));
-    assert_eq!(rt; disk.sync(9), Err(DiskError::Fault));
-    assert_eq!(rt; disk.remove(10), Err(DiskError::Fault));
-    Ok(())
 }
 
 /// A file that was settled as 1 2 3 4, then written over at its third octet and lengthened.
@@ -202,16 +115,27 @@ fn a_restarted_disk_reads_as_before(rt: HostRuntime) -> Result<(), Fail> {
     Ok(())
 }
 
+/// One for a call that answered Ok, none for one that met a fault.
+fn count<T: Drop>(answer: Result<T, DiskError>) -> Result<u8, DiskError>
+    ensures { IfOk result (λ count. count ≤ 1) }
+{
+    match answer {
+        Ok(_) => Ok(1),
+        Err(DiskError::Fault) => Ok(0),
+        Err(error) => Err(error),
+    }
+}
+
 /// How many of seven calls answered Ok.
-fn passed<D: Disk>(alloc: Global, disk: &mut Thawed<D>) -> u64 {
-    let write = disk.write(7, 0, &[1, 2, 3]).is_ok() as u64;
-    let cut = disk.cut(7, 0).is_ok() as u64;
-    let sync = disk.sync(7).is_ok() as u64;
-    let length = disk.length(7).is_ok() as u64;
-    let read = disk.read(alloc, 7).is_ok() as u64;
-    let files = disk.files(alloc).is_ok() as u64;
-    let remove = disk.remove(7).is_ok() as u64;
-    write + cut + sync + length + read + files + remove
+fn passed<D: Disk>(alloc: Global, disk: &mut Thawed<D>) -> Result<u8, DiskError> {
+    let write = count(disk.write(7, 0, &[1, 2, 3]))?;
+    let cut = count(disk.cut(7, 0))?;
+    let sync = count(disk.sync(7))?;
+    let length = count(disk.length(7))?;
+    let read = count(disk.read(alloc, 7))?;
+    let files = count(disk.files(alloc))?;
+    let remove = count(disk.remove(7))?;
+    Ok(write + cut + sync + length + read + files + remove)
 }
 
 #[test]
@@ -231,7 +155,7 @@ fn a_fuse_passes_so_many_calls(rt: HostRuntime) -> Result<(), Fail> {
         let mut disk = Thawed {
             disk: FusedDisk::new(MemoryDisk::new(alloc, AMPLE)?, calls),
         };
-        assert_eq!(rt; passed(alloc, &mut disk), wanted, "{calls} calls");
+        assert_eq!(rt; passed(alloc, &mut disk)?, wanted, "{calls} calls");
     }
     Ok(())
 }
@@ -244,7 +168,7 @@ fn one_call_fails(rt: HostRuntime) -> Result<(), Fail> {
             disk: OneFaultDisk::new(MemoryDisk::new(alloc, AMPLE)?, call),
         };
         let wanted = if call == 0 || call > 10 { 7 } else { 6 };
-        assert_eq!(rt; passed(alloc, &mut disk), wanted, "call {call}");
+        assert_eq!(rt; passed(alloc, &mut disk)?, wanted, "call {call}");
     }
     Ok(())
 }
@@ -266,6 +190,77 @@ fn a_failed_write_has_written_half(rt: HostRuntime) -> Result<(), Fail> {
     };
     assert_eq!(rt; once.write(7, 0, &[1, 2, 3, 4, 5]), Err(DiskError::Fault));
     assert_eq!(rt; once.read(alloc, 7)?.as_slice(), [1, 2].as_slice());
+    Ok(())
+}
+
+/// Writes file 7, and makes one call more that changes it.
+fn written_and<D: Disk>(disk: &mut Thawed<D>, last: &str) -> Result<(), DiskError> {
+    disk.write(7, 0, &[1, 2, 3])?;
+    match last {
+        "cut" => disk.cut(7, 1),
+        "sync" => disk.sync(7),
+        _ => disk.remove(7),
+    }
+}
+
+#[test]
+fn another_failed_call_leaves_the_file(rt: HostRuntime) -> Result<(), Fail> {
+    let alloc = rt.alloc();
+    // write and cut look up the length first
+    for (last, calls) in [("cut", 3), ("sync", 2), ("remove", 2)] {
+        let mut fused = Thawed {
+            disk: FusedDisk::new(MemoryDisk::new(alloc, AMPLE)?, calls),
+        };
+        assert_eq!(rt;
+            written_and(&mut fused, last),
+            Err(DiskError::Fault),
+            "{last}"
+        );
+        let Thawed { disk } = fused;
+        let mut after = Thawed {
+            disk: disk.restart(),
+        };
+        assert_eq!(rt;
+            after.read(alloc, 7)?.as_slice(),
+            [1, 2, 3].as_slice(),
+            "{last}"
+        );
+        let mut once = Thawed {
+            disk: OneFaultDisk::new(MemoryDisk::new(alloc, AMPLE)?, calls + 1),
+        };
+        assert_eq!(rt;
+            written_and(&mut once, last),
+            Err(DiskError::Fault),
+            "{last}"
+        );
+        assert_eq!(rt;
+            once.read(alloc, 7)?.as_slice(),
+            [1, 2, 3].as_slice(),
+            "{last}"
+        );
+    }
+    Ok(())
+}
+
+#[test]
+fn a_failed_call_leaves_a_frozen_file(rt: HostRuntime) -> Result<(), Fail> {
+    let alloc = rt.alloc();
+    // the third call freezes, and fails; the next one freezes
+    let mut disk = OneFaultDisk::new(MemoryDisk::new(alloc, AMPLE)?, 3);
+    disk.write_at(7, 0, &[1, 2, 3])?;
+    disk.sync(7)?;
+    assert!(rt; disk.freeze(7).is_err());
+    let sealed = disk.freeze(7)?;
+    assert_eq!(rt; sealed.length(), 3);
+    disk.retire(sealed)?;
+    assert_eq!(rt; disk.length(7)?, 0);
+    // the fourth call retires
+    let mut disk = FusedDisk::new(MemoryDisk::new(alloc, AMPLE)?, 3);
+    disk.write_at(7, 0, &[1, 2, 3])?;
+    disk.sync(7)?;
+    let sealed = disk.freeze(7)?;
+    assert_eq!(rt; disk.retire(sealed), Err(DiskError::Fault));
+    assert_eq!(rt; disk.restart().length(7)?, 3);
     Ok(())
 }
 
