@@ -1,10 +1,10 @@
 -- How a history goes on.
-use Rattle.std.proofs.Common.{◌≡◌, ℕ, zero, suc, ◌*◌, ◌<◌, ◌≤◌, ◌+◌, ◌^◌, ◌-◌, List, [], ◌∷◌, ◌++◌, length, refl, sym, ap, ◌∙◌, subst, append-nil, length-append, arith, inl, inr, ◌⊎◌}
+use Rattle.std.proofs.Common.{◌≡◌, ℕ, suc, ◌<◌, ◌≤◌, ◌+◌, ◌^◌, ◌-◌, List, [], ◌∷◌, ◌++◌, length, refl, sym, ap, ◌∙◌, subst, append-nil, length-append, arith, inl, inr, ◌⊎◌}
 use Rattle.std.specs.Prelude.{Result, Ok, Err, IfErr, IsErrAnd, ◌==◌, if◌then◌else◌}
 use Rattle.std.specs.Prelude.{Bool}
 use Rattle.std.proofs.Math.Nat.{mod_self}
 use Rattle.std.proofs.lemmas.Bool.{eq-eqb}
-use Rattle.std.specs.List.{AllByRecursion, filter_map, cons_option}
+use Rattle.std.specs.List.{AllByRecursion, cons_option}
 use Rattle.std.specs.Prelude.{Option, None, Some}
 use Rattle.std.proofs.lemmas.List.{length-map}
 use Rattle.std.proofs.lemmas.List.Concat.{flat_map-append}
@@ -31,7 +31,6 @@ use Rattle.flow_measure.specs.Sums.{Table, AreSums, IsRefused as SumRefused, emp
 use Rattle.flow_measure.proofs.FewFlows.{few_fit}
 use Rattle.flow_measure.proofs.SinkSteps.{flows-in_fields}
 use Rattle.flow_measure.proofs.SumLaws.{merged-table_of}
-use Rattle.flow_archive.specs.declared.error.PlainError.{PlainError}
 use Rattle.flow_archive.specs.Plain.{followed_by, read_from, history_of, no_messages, IsKept, IsAppended, IsRefusal, fault_refusal}
 
 -- ---- one message more
@@ -187,6 +186,17 @@ module _ (messages : List (List ℕ)) (here : AllTemplates) (t0 : Totals) (k : I
 
 pub is_history : (messages : List (List ℕ)) (here : AllTemplates) (rows : Table) → IsKept messages here rows → IsHistory (history_of rows.width messages)
 is_history messages here rows k = record { accepted = k.accepted; second = omega arith; cut = omega arith; width = k.width; wide = k.width; multiple = mod_self rows.width }
+
+-- a history with an accepted message behind it is one
+pub goes_on : (position : ℕ) (octets : List ℕ) (old new : History) → IsAppended position octets old new → IsHistory old → IsHistory new
+goes_on position octets old new (a, e, is, same, at) h = subst IsHistory (sym same) (record {
+  accepted = accepted_then [] old.all a h.accepted (subst (λ (o : List ℕ). IsAccepted o (templates_of old.all) a.message a.after) (sym e) is);
+  second = h.second;
+  cut = omega (arith, h.cut, length-append old.all (a ∷ []));
+  width = h.width;
+  wide = h.wide;
+  multiple = h.multiple;
+})
 
 -- the sums of all flows answer the history's query
 pub totals_same : (from to : ℕ) (messages : List (List ℕ)) (here : AllTemplates) (rows : Table) → IsKept messages here rows → rows_between from to rows ≡ totals_between from to (history_of rows.width messages)

@@ -59,6 +59,8 @@ impl PlainArchive {
         // Other octets are refused by their first fault, and an accepted message only where all numbers are spent or memory runs out.
         ensures refused { IfErr result (λ e. IsRefusal e octets.now self.old) }
         ensures kept { IfErr result (λ _. self.new ≡ self.old) }
+        // Whatever the answer, what is there afterwards is a history.
+        ensures history { IsHistory self.new }
     {
         let alloc = *self.messages.allocator();
         judge_message(&self.templates, alloc, octets)?;

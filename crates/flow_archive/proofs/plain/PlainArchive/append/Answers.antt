@@ -1,5 +1,5 @@
-use Rattle.std.proofs.Common.{ℕ, ◌+◌, length, ◌≡◌, sym, ◌∙◌, subst, ap, refl, arith, List, ◌∷◌, [], ◌++◌}
-use Rattle.flow_measure.specs.History.{History}
+use Rattle.std.proofs.Common.{ℕ, ◌+◌, length, ◌≡◌, sym, ◌∙◌, subst, ap, arith, List, ◌∷◌, [], ◌++◌}
+use Rattle.flow_measure.specs.History.{History, IsHistory}
 use Rattle.flow_codec.proofs.Sizes.{short_enough}
 use Rattle.flow_archive.specs.Plain.{history_of, IsKept, IsAppended, IsRefusal, fault_refusal}
 use Rattle.flow_archive.specs.declared.error.PlainError.TheVariants.{NumbersSpent}
@@ -8,7 +8,7 @@ use Rattle.flow_codec.specs.Walk.{IsStopped}
 use Rattle.flow_codec.specs.declared.sink.WalkError.{WalkError}
 use Rattle.flow_codec.specs.declared.sink.WalkError.TheVariants as walk
 use Rattle.flow_measure.specs.declared.error.SumError.{SumError}
-use Rattle.flow_archive.proofs.Appending.{Holds, Refuses, appended, copied, err_of, faulty, kept_then, never_spent, spent}
+use Rattle.flow_archive.proofs.Appending.{Holds, Refuses, appended, copied, err_of, faulty, goes_on, is_history, kept_then, never_spent, spent}
 use Rattle.flow_archive.proofs.plain.PlainArchive.append.Goals as goal
 
 pub returns-in_err-judge_message-clause-refused : goal.returns-in_err-judge_message-clause-refused
@@ -50,3 +50,16 @@ returns-clause-appended c =
     let told = subst (λ (n : ℕ). IsAppended n c.args.octets.now (history_of c.in_ok-try_copy.field-0.width c.self.inside.messages.items) (history_of c.walk_message.new.sink.rows.width (c.self.inside.messages.items ++ c.args.octets.now ∷ []))) count one in
     let there = subst (λ (ms : List (List ℕ)). IsAppended (c.len-count.result + 1) c.args.octets.now (history_of c.in_ok-try_copy.field-0.width c.self.inside.messages.items) (history_of c.walk_message.new.sink.rows.width ms)) (sym pushed) told in
     subst (λ (h : History). IsAppended (c.len-count.result + 1) c.args.octets.now h (history_of c.walk_message.new.sink.rows.width c.push.new.self.items)) same there
+
+pub returns-in_err-try_copy-clause-history : goal.returns-in_err-try_copy-clause-history
+returns-in_err-try_copy-clause-history c = subst IsHistory c.self.view_is (is_history _ _ _ c.self.invariant)
+
+pub returns-in-Err-clause-history : goal.returns-in-Err-clause-history
+returns-in-Err-clause-history c = subst IsHistory c.self.view_is (is_history _ _ _ c.self.invariant)
+
+pub returns-in_err-push-clause-history : goal.returns-in_err-push-clause-history
+returns-in_err-push-clause-history c =
+    subst (λ (ms : List (List ℕ)). IsHistory (history_of c.self.inside.rows.width ms)) (sym c.in_err-push.ensures.items) (is_history _ _ _ c.self.invariant)
+
+pub returns-clause-history : goal.returns-clause-history
+returns-clause-history c = goes_on _ _ _ _ (returns-clause-appended c) (subst IsHistory c.self.view_is (is_history _ _ _ c.self.invariant))

@@ -1,4 +1,3 @@
-use Rattle.std.proofs.Common.{refl}
 use Rattle.flow_archive.proofs.Appending.{begun}
 use Rattle.flow_archive.proofs.plain.PlainArchive.new.Goals as goal
 

@@ -1,6 +1,5 @@
-use Rattle.std.proofs.Common.{sym, ◌∙◌, subst, ap, ◌≡◌, List}
+use Rattle.std.proofs.Common.{◌∙◌, subst, ap, ◌≡◌, List}
 use Rattle.std.specs.Prelude.{IfOk}
-use Rattle.flow_measure.specs.History.{History}
 use Rattle.flow_measure.specs.declared.rows.Row.{Row}
 use Rattle.flow_measure.specs.Query.{totals_between}
 use Rattle.flow_archive.proofs.Appending.{totals_same}
