@@ -1,5 +1,5 @@
 -- The first octets of a slot, one more than a slot has that holds a manifest, show what it holds.
-use Rattle.std.proofs.Common.{◌≡◌, ◌≢◌, ◌⊎◌, inl, inr, ⊎_elim, ℕ, ◌+◌, ◌-◌, ◌*◌, ◌<◌, ◌≤◌, min, Bool, true, false, List, [], ◌∷◌, ◌++◌, length, take, drop, get_or, Option, Some, None, refl, sym, ◌∙◌, ap, subst, arith, append_assoc, length-append, length-drop}
+use Rattle.std.proofs.Common.{◌≡◌, ◌⊎◌, inl, inr, ⊎_elim, ℕ, ◌≤◌, min, Bool, true, false, List, ◌++◌, length, take, drop, get_or, Option, Some, None, refl, sym, ◌∙◌, ap, subst, arith, append_assoc, length-append, length-drop}
 use Rattle.std.specs.List.{flat_map}
 use Rattle.std.specs.Int.{w16, to_be_bytes}
 use Rattle.std.proofs.lemmas.List.{take_all, length-take, take-append-drop, get_or-take, drop-append-le, take_min}
@@ -14,9 +14,9 @@ use Rattle.flow_manifest.specs.declared.head.Head.{Head}
 use Rattle.flow_manifest.specs.Manifest.{Format, format_1, format_2, format_number, head_of, head_octets, head_length, entry_octets, IsBody}
 use Rattle.flow_manifest.specs.Fault.{IsFault, IsFaultIn, IsFaultBehind}
 use Rattle.flow_manifest.specs.Slots.{file_of, other, IsOpen, IsClosed, Holds, IsOlder, AreSlots}
-use Rattle.flow_manifest.specs.Opening.{in_slot, IsHeld, IsSlotFault, IsOpenFault, enough}
+use Rattle.flow_manifest.specs.Opening.{IsHeld, IsSlotFault, IsOpenFault, enough}
 use Rattle.flow_manifest.proofs.Bodies.{entries_long}
-use Rattle.flow_manifest.proofs.Faults.{two_long, whole_head}
+use Rattle.flow_manifest.proofs.Faults.{whole_head}
 
 head_to : (format : Format) → head_length format ≤ 50
 head_to format_1 = omega arith

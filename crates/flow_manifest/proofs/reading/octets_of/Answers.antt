@@ -1,5 +1,5 @@
-use Rattle.std.proofs.Common.{◌≡◌, ℕ, List, length, take, drop, min, IsTrue, refl, subst, sym, ◌∙◌, ap}
-use Rattle.flow_disk.specs.Disk.{Held, IsImage, IsDiskImage}
+use Rattle.std.proofs.Common.{ℕ, take, IsTrue, subst, sym, ◌∙◌, ap}
+use Rattle.flow_disk.specs.Disk.{Held}
 use Rattle.flow_manifest.specs.Opening.{enough}
 use Rattle.flow_manifest.proofs.Enough.{read_front}
 use Rattle.flow_manifest.proofs.reading.octets_of.Goals as goal
