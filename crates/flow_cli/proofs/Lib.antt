@@ -1,3 +1,4 @@
+pub mod Layouts
 pub mod Groups
 pub mod Runs
 pub mod Joining

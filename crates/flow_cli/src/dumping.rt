@@ -1,10 +1,9 @@
 //! The command `dump`.
 
-ghost use Rattle.std.specs.Prelude.{◌≡◌, [], IsTrue, None, List, map, OnOk, IfOk, IfErr, IfSome};
+ghost use Rattle.std.specs.Prelude.{◌≡◌, ◌↔◌, [], IsTrue, None, List, map, OnOk, IfOk, IfErr, IfSome};
 ghost use Rattle.std.specs.List.{flat_map};
 ghost use Rattle.flow_codec.specs.Fields.{fields_in};
 ghost use Rattle.flow_cli.specs.Lines.{field_text, record_line, message_text};
-ghost use Rattle.flow_cli.specs.Refusals.{message_refusal};
 ghost use Rattle.flow_cli.specs.Telling.{Tells, TellsFront, IsCutIn};
 ghost use Rattle.flow_cli.specs.Dump.{raw_of, message_of, IsNext, IsDumped, IsDumpedUntil};
 
@@ -12,8 +11,7 @@ use crate::patient::{Patience, WriteFailed, write_patiently};
 use crate::refusal::Refusal;
 use crate::text::{push_field, push_message_line, push_start};
 use flow_codec::{
-    Definition, Header, MessageError, MessageReader, RecordSink, Templates, WalkError, split_field,
-    walk_message,
+    Definition, Header, MessageReader, RecordSink, Templates, WalkError, split_field, walk_message,
 };
 use flow_elements::ElementId;
 use std::alloc::{AllocError, Global};
@@ -48,36 +46,14 @@ struct HeldMessage {
     records: Vec<HeldRecord>,
 }
 
-/// Whether two fields have the same element and Field Length.
-fn is_same_field(one: &(ElementId, u16), other: &(ElementId, u16)) -> bool
-    ensures { IsTrue result → one.now ≡ other.now }
-{
-    one.0 == other.0 && one.1 == other.1
-}
-
-/// Whether two lists have the same fields.
-fn are_same_fields(ones: &[(ElementId, u16)], others: &[(ElementId, u16)]) -> bool
-    ensures { IsTrue result → ones.now ≡ others.now }
-{
-    if ones.len() != others.len() {
-        return false;
-    }
-    for (i, one) in ones.iter().enumerate() {
-        if !is_same_field(one, &others[i]) {
-            return false;
-        }
-    }
-    true
-}
-
 /// Whether two definitions are the same.
 fn is_same(one: &Definition, other: &Definition) -> bool
-    ensures { IsTrue result → one.now ≡ other.now }
+    ensures { IsTrue result ↔ (one.now ≡ other.now) }
 {
     if one.options() != other.options() || one.scope() != other.scope() {
         return false;
     }
-    are_same_fields(one.fields(), other.fields())
+    one.fields() == other.fields()
 }
 
 impl HeldRecords {
@@ -153,17 +129,7 @@ fn next_message<R: Read>(
             records: held.records,
         })),
         Err(WalkError::Sink(_)) => Err(Refusal::OutOfMemory),
-        Err(WalkError::Message(fault)) => Err(message_refusal(fault, reader.count())),
-    }
-}
-
-/// Why a run stops at the message of this number.
-fn message_refusal(fault: MessageError, number: u64) -> Refusal
-    ensures { result ≡ message_refusal fault number }
-{
-    match fault {
-        MessageError::OutOfMemory => Refusal::OutOfMemory,
-        fault => Refusal::Message { fault, number },
+        Err(WalkError::Message(fault)) => Err(Refusal::of_message(fault, reader.count())),
     }
 }
 
@@ -234,12 +200,12 @@ impl Lines {
     }
 
     /// Takes the line of a record.
-    fn put_record<W: Write>(&mut self, output: &mut W, record: &HeldRecord) -> Result<(), Refusal>
-        ensures told { OnOk result (Tells (W.contents output.old) self.old.text.items (W.contents output.new) self.new.text.items (record_line (raw_of record.now))) }
-        ensures front { IfErr result (IsCutIn (W.contents output.old) self.old.text.items (W.contents output.new) (record_line (raw_of record.now))) }
+    fn put_record<W: Write>(&mut self, output: &mut W, held: &HeldRecord) -> Result<(), Refusal>
+        ensures told { OnOk result (Tells (W.contents output.old) self.old.text.items (W.contents output.new) self.new.text.items (record_line (raw_of held.now))) }
+        ensures front { IfErr result (IsCutIn (W.contents output.old) self.old.text.items (W.contents output.new) (record_line (raw_of held.now))) }
     {
-        push_start(&mut self.text, record.definition.options(), record.id)?;
-        self.put_fields(output, record.definition.fields(), record.octets.as_slice())?;
+        push_start(&mut self.text, held.definition.options(), held.id)?;
+        self.put_fields(output, held.definition.fields(), held.octets.as_slice())?;
         self.text.push(b'\n')?;
         Ok(())
     }

@@ -9,7 +9,7 @@ use crate::patient::{Patience, write_patiently};
 use crate::refusal::Refusal;
 use crate::request::Width;
 use crate::text::totals_text;
-use flow_codec::{MessageError, MessageReader, Templates, WalkError, walk_message};
+use flow_codec::{MessageReader, Templates, WalkError, walk_message};
 use flow_measure::{Rows, SumError, Totals};
 use std::alloc::Global;
 use std::io::{Read, Write};
@@ -42,8 +42,7 @@ fn refusal_of(stop: WalkError<SumError>, number: u64) -> Refusal
     ensures unwritten { IsOfInput result }
 {
     match stop {
-        WalkError::Message(MessageError::OutOfMemory) => Refusal::OutOfMemory,
-        WalkError::Message(fault) => Refusal::Message { fault, number },
+        WalkError::Message(fault) => Refusal::of_message(fault, number),
         WalkError::Sink(SumError::OutOfMemory) => Refusal::OutOfMemory,
         WalkError::Sink(SumError::SumSpent) => Refusal::SumSpent,
     }

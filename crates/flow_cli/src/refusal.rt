@@ -1,7 +1,7 @@
 //! Why a run ended before its work was done.
 
 ghost use Rattle.std.specs.Prelude.{◌≡◌};
-ghost use Rattle.flow_cli.specs.Refusals.{status_of, stream_refusal};
+ghost use Rattle.flow_cli.specs.Refusals.{status_of, stream_refusal, message_refusal, IsOfInput};
 ghost use Rattle.flow_cli.specs.declared.refusal.Refusal.TheVariants.{OutOfMemory, Write as WriteRefused};
 
 use crate::patient::WriteFailed;
@@ -35,6 +35,17 @@ pub enum Refusal {
 }
 
 impl Refusal {
+    /// Why a run stops at the message of this number, by this fault.
+    pub fn of_message(fault: MessageError, number: u64) -> Refusal
+        ensures value { result ≡ message_refusal fault number }
+        ensures unwritten { IsOfInput result }
+    {
+        match fault {
+            MessageError::OutOfMemory => Refusal::OutOfMemory,
+            fault => Refusal::Message { fault, number },
+        }
+    }
+
     /// The exit status: 1 for refused input, 3 for a device, 4 for memory.
     pub fn status(&self) -> u8
         ensures { result ≡ status_of self.now }

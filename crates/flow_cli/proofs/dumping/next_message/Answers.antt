@@ -12,5 +12,5 @@ returns-in-Ok g c = λ fresh.
 pub returns : goal.returns
 returns g c = λ fresh.
     let fault = rw c.in-Err-Message.field-0-is at c.in-Err-Message.ensures.fault in
-    rw c.message_refusal.ensures
+    rw c.of_message.ensures.value
     (refused_by c.args.reader.now c.advance.new.self c.args.templates.now c.walk_message.new.templates c.count.result c.message.result.now c.in_ok-advance.field-0 c.in_ok-advance.ensures c.if-not-branch.false c.message.ensures.value c.count.ensures.value c.in-Err-Message.fault fault)

@@ -1,0 +1,46 @@
+-- Two definitions with the same kind, scope and fields are one.
+use Rattle.std.proofs.Common.{◌≡◌, ℕ, List, Bool, Option, Some, None, true, false, refl, sym, ap, ◌∙◌}
+use Rattle.std.specs.Prelude.{◌&&◌, nat_eq, ◌==◌, ◌↔◌, IsTrue}
+use Rattle.std.specs.Bool.{Decides}
+use Rattle.std.specs.Option.{option_eq}
+use Rattle.std.proofs.lemmas.Bool.Decides.{Decides-eqb}
+use Rattle.std.proofs.lemmas.Slice.Eq.{slice_eq-Decides}
+use Rattle.std.specs.Cmp.Lexicographic.{pointwise}
+use Rattle.flow_elements.specs.declared.element.ElementId.{ElementId}
+use Rattle.flow_codec.specs.Layout.{Layout}
+
+both : {P Q : Type 0} (a b : Bool) → Decides a P → Decides b Q → Decides (a && b) (P × Q)
+both true true p q = ((λ e. (p.0 refl, q.0 refl)), λ h. refl)
+both true false p q = ((λ e. absurd (cc e)), λ h. absurd (cc (q.1 h.1)))
+both false b p q = ((λ e. absurd (cc e)), λ h. absurd (cc (p.1 h.0)))
+
+same_enterprise : (a b : Option ℕ) → Decides (option_eq nat_eq a b) (a ≡ b)
+same_enterprise None None = ((λ e. refl), λ e. refl)
+same_enterprise None (Some b) = ((λ e. absurd (cc e)), λ e. absurd (cc e))
+same_enterprise (Some a) None = ((λ e. absurd (cc e)), λ e. absurd (cc e))
+same_enterprise (Some a) (Some b) = let d = Decides-eqb a b in ((λ e. ap Some (d.0 e)), λ e. d.1 (cc e))
+
+abbrev is_same_field : ElementId × ℕ → ElementId × ℕ → Bool
+is_same_field a b = (option_eq nat_eq a.0.enterprise b.0.enterprise && nat_eq a.0.number b.0.number) && nat_eq a.1 b.1
+
+same_element : (a b : ElementId) → a.enterprise ≡ b.enterprise → a.number ≡ b.number → a ≡ b
+same_element a b enterprise number =
+    ap (λ (e : Option ℕ). record { enterprise = e; number = a.number }) enterprise ∙ ap (λ (n : ℕ). record { enterprise = b.enterprise; number = n }) number
+
+same_field : (a b : ElementId × ℕ) → Decides (is_same_field a b) (a ≡ b)
+same_field a b =
+    let d = both _ _ (both _ _ (same_enterprise a.0.enterprise b.0.enterprise) (Decides-eqb a.0.number b.0.number)) (Decides-eqb a.1 b.1) in (
+      (λ e. let h = d.0 e in ap (λ (x : ElementId). (x, a.1)) (same_element a.0 b.0 h.0.0 h.0.1) ∙ ap (λ (n : ℕ). (b.0, n)) h.1),
+      λ e. d.1 ((ap (λ (x : ElementId × ℕ). x.0.enterprise) e, ap (λ (x : ElementId × ℕ). x.0.number) e), ap (λ (x : ElementId × ℕ). x.1) e),
+    )
+
+pub same_fields : (ones others : List (ElementId × ℕ)) (r : Bool) → r ≡ pointwise is_same_field ones others → Decides r (ones ≡ others)
+same_fields = slice_eq-Decides same_field
+
+pub same_layout : (one other : Layout) (r : Bool) → one.options ≡ other.options → one.scope ≡ other.scope → r ≡ pointwise is_same_field one.fields other.fields → IsTrue r ↔ (one ≡ other)
+same_layout one other r options scope is =
+    let d = same_fields one.fields other.fields r is in (
+      (λ e. ap (λ (o : Bool). record { options = o; scope = one.scope; fields = one.fields }) options ∙ ap (λ (n : ℕ). record { options = other.options; scope = n; fields = one.fields }) scope
+          ∙ ap (λ (fs : List (ElementId × ℕ)). record { options = other.options; scope = other.scope; fields = fs }) (d.0 e)),
+      λ e. d.1 (ap (λ (x : Layout). x.fields) e),
+    )
