@@ -1,5 +1,5 @@
 -- What is held of a message and of its records.
-use Rattle.std.proofs.Common.{◌≡◌, ℕ, ◌+◌, ◌<◌, ◌≤◌, List, [], ◌∷◌, ◌++◌, length, drop, get_or, refl, sym, ap, ◌∙◌, drop-cons, add-one, Bool, true, false, subst, Some, None, Ok, Err, ◌⊎◌, ⊎_elim}
+use Rattle.std.proofs.Common.{◌≡◌, ℕ, ◌+◌, ◌<◌, ◌≤◌, ◌^◌, List, [], ◌∷◌, ◌++◌, length, drop, get_or, refl, sym, ap, ◌∙◌, drop-cons, add-one, Bool, true, false, subst, Some, None, Ok, Err, ◌⊎◌, ⊎_elim}
 use Rattle.std.specs.Prelude.{map}
 use Rattle.std.specs.List.{flat_map}
 use Rattle.std.proofs.lemmas.List.{append-nil, drop_all}
@@ -89,7 +89,7 @@ refused_next : (old new : Progress) (before after : AllTemplates) (fault : Messa
     → octets ≡ new.message → IsFault octets before fault → number ≡ new.count → IsNext old before (Err (Message fault number)) new after
 refused_next old new before after fault number octets false step is same faulty counted = absurd (cc (is))
 refused_next old new before after fault number octets true step is same faulty counted =
-    (new.message, step.2, subst (λ (o : List ℕ). IsFault o before fault) same faulty, step.3, counted ∙ step.4)
+    (new.message, step.2, subst (λ (o : List ℕ). IsFault o before fault) same faulty, step.3, counted ∙ step.4, subst (λ (n : ℕ). n < 2 ^ 48) (sym counted) step.5)
 
 module _ (old new : Progress) (before after : AllTemplates) (number : ℕ) (octets : List ℕ) (b : Bool) (step : IsStep old (Ok b) new) (is : b ≡ true) (same : octets ≡ new.message) (counted : number ≡ new.count) where
   -- a fault other than for want of memory

@@ -1,6 +1,6 @@
 -- Two definitions with the same kind, scope and fields are one.
-use Rattle.std.proofs.Common.{◌≡◌, ℕ, List, Bool, Option, Some, None, true, false, refl, sym, ap, ◌∙◌}
-use Rattle.std.specs.Prelude.{◌&&◌, nat_eq, ◌==◌, ◌↔◌, IsTrue}
+use Rattle.std.proofs.Common.{◌≡◌, ℕ, List, Bool, Option, Some, None, true, false, refl, ap, ◌∙◌}
+use Rattle.std.specs.Prelude.{◌&&◌, nat_eq, ◌↔◌, IsTrue}
 use Rattle.std.specs.Bool.{Decides}
 use Rattle.std.specs.Option.{option_eq}
 use Rattle.std.proofs.lemmas.Bool.Decides.{Decides-eqb}

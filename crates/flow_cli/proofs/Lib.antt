@@ -1,6 +1,6 @@
 pub mod Layouts
 pub mod Groups
-pub mod Runs
+pub mod Reached
 pub mod Joining
 pub mod Holding
 pub mod Printing

@@ -1,8 +1,8 @@
 -- How the sums of a run over a File go on.
-use Rattle.std.proofs.Common.{◌≡◌, ℕ, suc, ◌*◌, ◌<◌, ◌≤◌, ◌+◌, ◌^◌, ◌-◌, List, [], ◌∷◌, ◌++◌, length, Option, None, Some, IfSome, refl, sym, ap, ◌∙◌, subst, append_assoc, append-nil, length-append, take, drop, arith, inl, inr, ◌⊎◌}
-use Rattle.std.specs.Prelude.{Result, Ok, Err, Bool, true, false, ⊤, IfErr, IsErrAnd}
-use Rattle.std.specs.Io.KnownBytes.{Consumes, IsAtEnd, Keeps}
-use Rattle.std.specs.List.{AllByRecursion, filter_map, cons_option}
+use Rattle.std.proofs.Common.{◌≡◌, ℕ, suc, ◌*◌, ◌<◌, ◌≤◌, ◌+◌, ◌^◌, ◌-◌, List, [], ◌∷◌, ◌++◌, length, Option, None, Some, IfSome, refl, sym, ap, ◌∙◌, subst, append-nil, length-append, arith, inl, inr, ◌⊎◌}
+use Rattle.std.specs.Prelude.{Result, Ok, Err, true, false, ⊤, IfErr, IsErrAnd}
+use Rattle.std.specs.Io.KnownBytes.{Keeps}
+use Rattle.std.specs.List.{AllByRecursion, cons_option}
 use Rattle.std.proofs.lemmas.List.{length-map}
 use Rattle.std.proofs.lemmas.List.Concat.{flat_map-append}
 use Rattle.flow_codec.specs.declared.file.FileError.{FileError}
@@ -13,12 +13,10 @@ use Rattle.flow_codec.specs.declared.sink.WalkError.TheVariants as walk
 use Rattle.flow_codec.specs.declared.stream.StreamError.{StreamError}
 use Rattle.flow_codec.specs.declared.stream.StreamError.TheVariants as stream
 use Rattle.flow_codec.specs.declared.message.Header.{Header}
-use Rattle.flow_codec.specs.Raw.{RawMessage, RawRecord, Placed, Took, under}
-use Rattle.flow_codec.specs.Reading.{IsRefused}
+use Rattle.flow_codec.specs.Raw.{RawMessage, RawRecord, Placed, under}
 use Rattle.flow_codec.specs.Templates.{AllTemplates}
-use Rattle.flow_codec.specs.Message.{joined, IsAccepted, in_fields}
+use Rattle.flow_codec.specs.Message.{IsAccepted, in_fields}
 use Rattle.flow_codec.specs.Fault.{IsFault}
-use Rattle.flow_codec.specs.Cutting.{IsCutOff}
 use Rattle.flow_codec.specs.Stream.{Progress, IsStep, IsStop}
 use Rattle.flow_codec.specs.File.{AcceptedFront, whole, broken, refused}
 use Rattle.flow_codec.specs.Walk.{IsWalkedBy, IsStopped}
@@ -26,21 +24,24 @@ use Rattle.flow_measure.specs.declared.sinks.Totals.{Totals}
 use Rattle.flow_measure.specs.declared.error.SumError.{SumError}
 use Rattle.flow_measure.specs.declared.error.SumError.TheVariants as sum
 use Rattle.flow_measure.specs.declared.flow.Flow.{Flow}
-use Rattle.flow_measure.specs.Flows.{flows_of_records, flow_of, flow_of_record, flows_of, FlowFits}
-use Rattle.flow_measure.specs.Sums.{Table, AreSums, AllFit, IsRefused as SumRefused, empty_table, sums_by, gathered, table_of}
-use Rattle.flow_measure.proofs.SinkSteps.{flows-in_fields, all_fit}
+use Rattle.flow_measure.specs.Flows.{flows_of_records, flow_of, flows_of, FlowFits}
+use Rattle.flow_measure.specs.Sums.{Table, AreSums, IsRefused as SumRefused, empty_table, sums_by, gathered, table_of}
+use Rattle.flow_measure.proofs.SinkSteps.{flows-in_fields}
 use Rattle.flow_measure.proofs.FewFlows.{few_fit}
 use Rattle.flow_codec.proofs.Sizes.{few_records, short_enough}
 use Rattle.flow_cli.specs.declared.refusal.Refusal.{Refusal}
 use Rattle.flow_cli.specs.declared.refusal.Refusal.TheVariants as refusal
 use Rattle.flow_cli.specs.Refusals.{refusal_of, message_refusal, stream_refusal, IsOfInput}
-use Rattle.flow_cli.specs.Measure.{flows_of_all, table_of_all, HasSums, IsRefusedBy, KeepsOrFront}
-use Rattle.flow_cli.proofs.Runs.{HasRun, starts, goes_on, ends, breaks, refuses, spends}
+use Rattle.flow_cli.specs.Measure.{flows_of_all, HasSums, IsRefusedBy, KeepsOrFront}
+use Rattle.flow_codec.proofs.Following.{Follows, follows_none, follows_more, follows_end, follows_broken, follows_refused}
+use Rattle.flow_cli.specs.Fronts.{IsFront}
+use Rattle.flow_cli.proofs.Reached.{reached}
 
 -- the sums of the messages that a reader gave
 pub record HasSummed (width : ℕ) (old : Option (List ℕ)) (reader : Progress) (here : AllTemplates) (totals : Totals) : Type 0 where
   pub messages : List RawMessage
-  pub run : HasRun old reader.rest messages here reader.count reader.at
+  pub run : Follows old reader.rest reader.at messages here
+  pub counted : reader.count ≡ length messages
   pub going : reader.stopped ≡ None
   pub across : totals.rows.width ≡ width
   pub sums : AreSums totals.rows (flows_of_all messages)
@@ -52,9 +53,9 @@ flows_then messages m =
     flat_map-append (λ x. flows_of (in_fields x)) messages (m ∷ []) ∙ ap (λ (t : List Flow). flows_of_all messages ++ t) (append-nil (flows_of (in_fields m)) ∙ flows-in_fields m)
 
 -- at the File's end these are the sums of all
-pub summed : (width : ℕ) (old : Option (List ℕ)) (reader : Progress) (here : AllTemplates) (totals : Totals) → HasSummed width old reader here totals → IsAtEnd reader.rest
+pub summed : (width : ℕ) (old : Option (List ℕ)) (reader next : Progress) (here : AllTemplates) (totals : Totals) → HasSummed width old reader here totals → IsStep reader (Ok false) next
     → IfSome old (λ octets. HasSums width octets totals.rows)
-summed width old reader here totals h end = with_front old (ends old reader.rest h.messages here reader.count reader.at h.run end)
+summed width old reader next here totals h step = with_front old (follows_end old reader next h.messages here h.run step)
   where
     with_front : (o : Option (List ℕ)) → IfSome o (λ octets. AcceptedFront octets h.messages here whole) → IfSome o (λ octets. HasSums width octets totals.rows)
     with_front None f = tt
@@ -69,7 +70,8 @@ pub begun : (width : ℕ) (old : Option (List ℕ)) (reader : Progress) (here : 
     → reader ≡ record { rest = old; message = []; count = 0; at = 0; stopped = None } → here ≡ [] → totals.rows ≡ empty_table width → HasSummed width old reader here totals
 begun width old reader here totals is none empty = subst (λ (r : Progress). HasSummed width old r here totals) (sym is) (record {
   messages = [];
-  run = subst (λ (t : AllTemplates). HasRun old old [] t 0 0) (sym none) (starts old);
+  run = subst (λ (t : AllTemplates). Follows old old 0 [] t) (sym none) (follows_none old);
+  counted = refl;
   going = refl;
   across = ap (λ (t : Table). t.width) empty;
   sums = empty ∙ sym (none_summed width) ∙ ap (λ (w : ℕ). table_of w []) (sym (ap (λ (t : Table). t.width) empty));
@@ -102,9 +104,6 @@ pub stepped : (width : ℕ) (old : Option (List ℕ)) (r0 r1 : Progress) (h0 h1 
 stepped width old r0 r1 h0 h1 t0 t1 header octets s step is walked =
     let m : RawMessage = record { header = header; records = walked.0 } in
     let accepted : IsAccepted r1.message h0 m h1 = subst (λ (o : List ℕ). IsAccepted o h0 m h1) is walked.1 in
-    let ran = goes_on old r0.rest r1.rest s.messages h0 r0.count r0.at r1.message m h1 s.run step.2 accepted step.3 in
-    let run : HasRun old r1.rest (s.messages ++ m ∷ []) h1 r1.count r1.at =
-    subst (λ (n : ℕ). HasRun old r1.rest (s.messages ++ m ∷ []) h1 n r1.at) (sym step.4) (subst (λ (n : ℕ). HasRun old r1.rest (s.messages ++ m ∷ []) h1 (r0.count + 1) n) (sym step.6) ran) in
     let took = walked.2 t0 [] (nothing_taken t0) in
     let more = flows_then s.messages m in
     let len = ap length more ∙ length-append (flows_of_all s.messages) (flows_of_records (under header walked.0)) in
@@ -113,7 +112,8 @@ stepped width old r0 r1 h0 h1 t0 t1 header octets s step is walked =
     let short = short_enough r1.message h0 m h1 accepted.0 in
     record {
       messages = s.messages ++ m ∷ [];
-      run = run;
+      run = follows_more old r0 r1 s.messages h0 h1 m s.run step accepted;
+      counted = omega (arith, s.counted, step.4, length-append s.messages (m ∷ []));
       going = step.1;
       across = took.0 ∙ s.across;
       sums = subst (AreSums t1.rows) (sym more) (took.1 (flows_of_all s.messages) s.sums);
@@ -166,10 +166,10 @@ stopped_at width old r0 r1 h0 t0 octets (walk.Sink sum.SumSpent) s step is short
 stopped_at width old r0 r1 h0 t0 octets (walk.Message fault) s step is short (inl none) =
     subst (λ (e : MessageError). IfSome old (λ file. IsRefusedBy file (message_refusal e r1.count))) (sym none) (always old)
 stopped_at width old r0 r1 h0 t0 octets (walk.Message fault) s step is short (inr faulty) =
-    with_front old (refuses old r0.rest r1.rest s.messages h0 r0.count r0.at r1.message fault s.run step.2 step.3 (subst (λ (o : List ℕ). IsFault o h0 fault) is faulty))
+    with_front old (follows_refused old r0 r1 s.messages h0 fault s.run step (subst (λ (o : List ℕ). IsFault o h0 fault) is faulty))
   where
     number : r1.count ≡ length s.messages + 1
-    number = omega (arith, step.4, (s.run).counted)
+    number = omega (arith, step.4, s.counted)
 
     with_front : (o : Option (List ℕ)) → IfSome o (λ file. AcceptedFront file s.messages h0 (refused fault)) → IfSome o (λ file. IsRefusedBy file (message_refusal fault r1.count))
     with_front None f = tt
@@ -178,19 +178,24 @@ stopped_at width old r0 r1 h0 t0 octets (walk.Message fault) s step is short (in
 -- the reader stops
 pub ended_by : (width : ℕ) (old : Option (List ℕ)) (r0 r1 : Progress) (h0 : AllTemplates) (t0 : Totals) (e : StreamError)
     → HasSummed width old r0 h0 t0 → IsStep r0 (Err e) r1 → IfSome old (λ file. IsRefusedBy file (stream_refusal e))
-ended_by width old r0 r1 h0 t0 e s step = elim (step.0) [
-  | inl was ↦ let none = sym s.going ∙ was in absurd cc
-  | inr h ↦ by e h.1
-]
+ended_by width old r0 r1 h0 t0 e s step = by e step
   where
     broke : (o : Option (List ℕ)) (fault : FileError) → IfSome o (λ file. AcceptedFront file s.messages h0 (broken fault)) → IfSome o (λ file. IsRefusedBy file (stream_refusal (stream.File fault)))
     broke None fault f = tt
     broke (Some file) fault f = (s.messages, h0, f)
 
-    by : (e : StreamError) → IsStop r0.count r0.at r0.rest e → IfSome old (λ file. IsRefusedBy file (stream_refusal e))
-    by (stream.File fault) h = broke old fault (breaks old r0.rest s.messages h0 r0.count r0.at fault s.run h)
-    by (stream.Read failed) h = always old
-    by stream.NumbersSpent h = spends old r0.rest s.messages h0 r0.count r0.at s.run h.0
+    spent : (o : Option (List ℕ)) → r0.count ≡ 2 ^ 48 - 1 → IfSome o (λ file. IsFront file s.messages) → IfSome o (λ file. IsRefusedBy file (stream_refusal stream.NumbersSpent))
+    spent None full f = tt
+    spent (Some file) full f = (s.messages, f, sym s.counted ∙ full)
+
+    full : (r0.stopped ≡ Some stream.NumbersSpent) ⊎ ((r0.stopped ≡ None) × IsStop r0.count r0.at r0.rest stream.NumbersSpent) → r0.count ≡ 2 ^ 48 - 1
+    full (inl was) = let none = sym s.going ∙ was in absurd cc
+    full (inr h) = h.1.0
+
+    by : (e : StreamError) → IsStep r0 (Err e) r1 → IfSome old (λ file. IsRefusedBy file (stream_refusal e))
+    by (stream.File fault) step = broke old fault (follows_broken old r0 r1 s.messages h0 fault s.going s.run step)
+    by (stream.Read failed) step = always old
+    by stream.NumbersSpent step = spent old (full step.0) (reached old r0.rest r0.at s.messages h0 s.run)
 
 pub err_of : {X : Type 0} (r : Result X Refusal) (e : Refusal) (P : Refusal → Type 0) → IsErrAnd r (λ x. x ≡ e) → P e → IfErr r P
 err_of (Ok x) e P h p = tt

@@ -1,5 +1,5 @@
 -- What `dump` answers of a File, and what it writes.
-use Rattle.std.specs.Prelude.{◌≡◌, ℕ, ◌+◌, ◌-◌, ◌<◌, ◌^◌, List, ◌++◌, length, map, ⊤, Option, Some, None, Result, Ok, Err}
+use Rattle.std.specs.Prelude.{◌≡◌, ℕ, ◌+◌, ◌-◌, ◌<◌, ◌^◌, List, length, map, ⊤, Option, Some, None, Result, Ok, Err}
 use Rattle.std.specs.Io.KnownBytes.{Appends, Consumes, IsAtEnd}
 use Rattle.flow_codec.specs.Raw.{RawRecord, RawMessage, raw}
 use Rattle.flow_codec.specs.Templates.{AllTemplates}
@@ -13,6 +13,7 @@ use Rattle.flow_cli.specs.declared.dumping.HeldMessage.{HeldMessage}
 use Rattle.flow_cli.specs.declared.refusal.Refusal.{Refusal}
 use Rattle.flow_cli.specs.declared.refusal.Refusal.TheVariants.{Message, File, OutOfMemory, SumSpent, NumbersSpent, Read, Write}
 use Rattle.flow_cli.specs.Lines.{dump_text}
+use Rattle.flow_cli.specs.Fronts.{IsFront}
 use Rattle.flow_cli.specs.Writing.{AppendsFront}
 
 -- ---- one message
@@ -32,7 +33,7 @@ IsNext old before (Ok (Some m)) new after =
     × (new.count ≡ old.count + 1) × (new.count < 2 ^ 48) × (new.at ≡ old.at + length octets) × (new.stopped ≡ None)
 IsNext old before (Ok None) new after = IsAtEnd old.rest
 IsNext old before (Err (Message fault number)) new after =
-    (octets : List ℕ) × IsCutOff octets × IsFault octets before fault × Consumes old.rest new.rest octets × (number ≡ old.count + 1)
+    (octets : List ℕ) × IsCutOff octets × IsFault octets before fault × Consumes old.rest new.rest octets × (number ≡ old.count + 1) × (number < 2 ^ 48)
 IsNext old before (Err (File fault)) new after = IsFaultNext old.at old.rest fault
 IsNext old before (Err OutOfMemory) new after = ⊤
 IsNext old before (Err SumSpent) new after = ⊥
@@ -41,10 +42,6 @@ IsNext old before (Err (Read failed)) new after = ⊤
 IsNext old before (Err (Write failed)) new after = ⊤
 
 -- ---- a whole run
-
--- these messages are the accepted ones of a front of the octets
-abbrev pub IsFront : List ℕ → List RawMessage → Type 0
-IsFront octets messages = (front : List ℕ) × (rest : List ℕ) × (octets ≡ front ++ rest) × (after : AllTemplates) × AcceptedFront front messages after whole
 
 -- the octets are a whole File of accepted messages, and the writer took all their lines
 abbrev pub IsDumped : List ℕ → Option (List ℕ) → Option (List ℕ) → Type 0

@@ -2,6 +2,7 @@ pub mod Writing
 pub mod Numbers
 pub mod Lines
 pub mod Refusals
+pub mod Fronts
 pub mod Measure
 pub mod Telling
 pub mod Dump

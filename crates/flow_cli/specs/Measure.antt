@@ -1,18 +1,19 @@
 -- What `measure` answers of a File.
-use Rattle.std.specs.Prelude.{◌≡◌, ◌⊎◌, ℕ, ◌+◌, ◌-◌, ◌<◌, ◌≤◌, ◌^◌, List, [], ◌++◌, length, map, ⊤, Option, Some, Result, Ok, Err, IfSome}
-use Rattle.std.specs.Io.KnownBytes.{Appends, Keeps}
+use Rattle.std.specs.Prelude.{◌≡◌, ℕ, ◌+◌, ◌-◌, ◌^◌, List, length, ⊤, Option, IfSome}
+use Rattle.std.specs.Io.KnownBytes.{Keeps}
 use Rattle.std.specs.List.{flat_map}
 use Rattle.flow_codec.specs.Message.{in_fields}
 use Rattle.flow_measure.specs.declared.flow.Flow.{Flow}
 use Rattle.flow_codec.specs.Raw.{RawMessage}
 use Rattle.flow_codec.specs.Templates.{AllTemplates}
-use Rattle.flow_codec.specs.File.{AcceptedFront, Ending, whole, broken, refused}
+use Rattle.flow_codec.specs.File.{AcceptedFront, whole, broken, refused}
 use Rattle.flow_measure.specs.declared.rows.Row.{Row}
 use Rattle.flow_measure.specs.Sums.{Table, table_of, rows_between}
 use Rattle.flow_measure.specs.Flows.{flows_of}
 use Rattle.flow_cli.specs.declared.refusal.Refusal.{Refusal}
 use Rattle.flow_cli.specs.declared.refusal.Refusal.TheVariants.{Message, File, OutOfMemory, SumSpent, NumbersSpent, Read, Write}
 use Rattle.flow_cli.specs.Lines.{totals_text}
+use Rattle.flow_cli.specs.Fronts.{IsFront}
 use Rattle.flow_cli.specs.Writing.{AppendsFront}
 
 -- the flows of messages, in order
@@ -41,7 +42,7 @@ IsRefusedBy octets (Message fault number) = (messages : List RawMessage) × (aft
 IsRefusedBy octets (File fault) = (messages : List RawMessage) × (after : AllTemplates) × AcceptedFront octets messages after (broken fault)
 IsRefusedBy octets OutOfMemory = ⊤
 IsRefusedBy octets SumSpent = ⊥
-IsRefusedBy octets NumbersSpent = (front : List ℕ) × (rest : List ℕ) × (octets ≡ front ++ rest) × (messages : List RawMessage) × (after : AllTemplates) × AcceptedFront front messages after whole × (length messages ≡ 2 ^ 48 - 1)
+IsRefusedBy octets NumbersSpent = (messages : List RawMessage) × IsFront octets messages × (length messages ≡ 2 ^ 48 - 1)
 IsRefusedBy octets (Read failed) = ⊤
 IsRefusedBy octets (Write failed) = ⊤
 

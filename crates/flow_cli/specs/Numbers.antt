@@ -1,5 +1,5 @@
 -- Numbers on the command line: digits alone, leading zeros too.
-use Rattle.std.specs.Prelude.{◌≡◌, ℕ, ◌+◌, ◌*◌, ◌-◌, ◌<◌, ◌≤◌, List, [], ◌∷◌, fold, length, Bool, nat_le, ◌&&◌, ◌==◌, Option, Some, None, if◌then◌else◌}
+use Rattle.std.specs.Prelude.{ℕ, ◌+◌, ◌*◌, ◌-◌, List, fold, length, Bool, nat_le, ◌&&◌, Option, Some, None, if◌then◌else◌}
 use Rattle.std.specs.List.{list_all}
 
 abbrev pub is_digit : ℕ → Bool

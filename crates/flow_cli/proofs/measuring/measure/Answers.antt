@@ -1,4 +1,3 @@
-use Rattle.std.proofs.Common.{◌≡◌, sym, subst}
 use Rattle.std.proofs.KnownBytes.{Keeps-refl}
 use Rattle.flow_cli.proofs.Summing.{err_of, kept}
 use Rattle.flow_cli.proofs.measuring.measure.Goals as goal

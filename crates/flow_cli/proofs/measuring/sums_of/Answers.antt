@@ -1,6 +1,6 @@
-use Rattle.std.proofs.Common.{◌≡◌, refl, sym, ap, subst, ◌∙◌, rules, arith, true, false, List}
-use Rattle.std.specs.Prelude.{Result, Ok, Err, Bool}
-use Rattle.flow_codec.specs.Stream.{Progress, IsStep}
+use Rattle.std.proofs.Common.{ap, subst, ◌∙◌, arith}
+use Rattle.std.specs.Prelude.{Ok, Bool}
+use Rattle.flow_codec.specs.Stream.{IsStep}
 use Rattle.flow_measure.specs.Sums.{empty_table}
 use Rattle.flow_cli.proofs.Summing.{begun, stepped, stopped_at, ended_by, summed, err_of, of_input}
 use Rattle.flow_cli.proofs.measuring.sums_of.Goals as goal
@@ -29,7 +29,7 @@ returns-in-Err-clause-refused g c =
 pub returns-clause-sums : goal.returns-clause-sums
 returns-clause-sums g c =
     let step = subst (λ (b : Bool). IsStep c.messages.reader (Ok b) c.advance.new.self) c.if-branch.false c.in_ok-advance.ensures in
-    summed c.args.width (g.R.Read.remaining c.args.input.now) c.messages.reader c.messages.templates c.messages.totals c.messages.invariant step.3
+    summed c.args.width (g.R.Read.remaining c.args.input.now) c.messages.reader c.advance.new.self c.messages.templates c.messages.totals c.messages.invariant step
 
 pub returns-in_err-advance-clause-unwritten : goal.returns-in_err-advance-clause-unwritten
 returns-in_err-advance-clause-unwritten g c = err_of c.from_residual-in_err-advance.result _ _ c.from_residual-in_err-advance.ensures.1 (of_input c.in_err-advance.field-0.0)
