@@ -1,6 +1,8 @@
 -- What one run of a command answers.
 use Rattle.std.specs.Prelude.{◌≡◌, ◌⊎◌, ℕ, List, Option, IfSome}
 use Rattle.std.specs.Io.KnownBytes.{Appends}
+use Rattle.clap.specs.declared.error.kind.ErrorKind.{ErrorKind}
+use Rattle.clap.specs.declared.error.kind.ErrorKind.TheVariants.{DisplayHelp, DisplayVersion}
 use Rattle.flow_cli.specs.declared.refusal.Refusal.{Refusal}
 use Rattle.flow_cli.specs.declared.request.Request.{Request}
 use Rattle.flow_cli.specs.declared.request.Request.TheVariants.{Measure, Dump}
@@ -16,3 +18,7 @@ Runs (Measure width) input old new status =
 Runs Dump input old new status =
     ((status ≡ 0) × IfSome input (λ octets. IsDumped octets old new))
     ⊎ ((e : Refusal) × (status ≡ status_of e) × IfSome input (λ octets. IsDumpedUntil octets old new e))
+
+-- what was asked for is help, or the version
+abbrev pub IsHelp : ErrorKind → Type 0
+IsHelp kind = (kind ≡ DisplayHelp) ⊎ (kind ≡ DisplayVersion)

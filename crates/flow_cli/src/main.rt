@@ -29,7 +29,10 @@ fn main(rt: HostRuntime) -> ExitCode {
     let words: Vec<String> = match env::args(&rt) {
         Ok(args) => match args.collect(alloc) {
             Ok(words) => words,
-            Err(_) => return ExitCode::from(NO_MEMORY),
+            Err(_) => {
+                let _ = rt.eprintln("flowvault: 11 OutOfMemory");
+                return ExitCode::from(NO_MEMORY);
+            }
         },
         Err(e) => {
             if e.kind() == ErrorKind::OutOfMemory {

@@ -1,6 +1,6 @@
 //! Why a run ended before its work was done.
 
-ghost use Rattle.std.specs.Prelude.{◌≡◌};
+ghost use Rattle.std.specs.Prelude.{◌≡◌, ◌≢◌};
 ghost use Rattle.flow_cli.specs.Refusals.{status_of, stream_refusal, message_refusal, IsOfInput};
 ghost use Rattle.flow_cli.specs.declared.refusal.Refusal.TheVariants.{OutOfMemory, Write as WriteRefused};
 
@@ -48,7 +48,8 @@ impl Refusal {
 
     /// The exit status: 1 for refused input, 3 for a device, 4 for memory.
     pub fn status(&self) -> u8
-        ensures { result ≡ status_of self.now }
+        ensures value { result ≡ status_of self.now }
+        ensures other { result ≢ 2 }
     {
         match self {
             Refusal::Message { .. }

@@ -1,9 +1,13 @@
 //! What the words of a command line ask for.
 
-ghost use Rattle.std.specs.Prelude.{◌≡◌, ◌≤◌};
+ghost use Rattle.std.specs.Prelude.{◌≡◌, ◌≢◌, ◌≤◌};
+ghost use Rattle.clap.specs.Values.{kind_of};
+ghost use Rattle.clap.specs.declared.error.kind.ErrorKind.TheVariants as ErrorKind;
+ghost use Rattle.flow_cli.specs.declared.request.LineError.TheVariants as LineError;
 ghost use Rattle.flow_cli.specs.Numbers.{number_between};
 
 use crate::numbers::number_between;
+use clap::error::ErrorKind;
 use clap::{Arg, ArgAction, Command, Error};
 use std::alloc::{AllocError, Global};
 use std::convert::AsStr;
@@ -88,12 +92,21 @@ fn command_line<'a>(alloc: Global) -> Result<Command<'a>, AllocError> {
         .subcommand(dump)
 }
 
+/// Why the parser of the command line stopped.
+fn line_error(error: Error) -> LineError
+    ensures memory { kind_of error ≡ ErrorKind.OutOfMemory → result ≡ LineError.OutOfMemory }
+    ensures other { kind_of error ≢ ErrorKind.OutOfMemory → result ≡ LineError.Parser error }
+{
+    if error.kind() == ErrorKind::OutOfMemory {
+        return LineError::OutOfMemory;
+    }
+    LineError::Parser(error)
+}
+
 /// Reads the words, of which the first is the program's name.
 pub fn parse<S: AsStr>(alloc: Global, words: &[S]) -> Result<Request, LineError> {
     let command = command_line(alloc).map_err(|_| LineError::OutOfMemory)?;
-    let matches = command
-        .try_get_matches_from(words)
-        .map_err(LineError::Parser)?;
+    let matches = command.try_get_matches_from(words).map_err(line_error)?;
     match matches.subcommand() {
         Some(("measure", inner)) => match inner.get_str("WIDTH").and_then(Width::of) {
             Some(width) => Ok(Request::Measure { width }),

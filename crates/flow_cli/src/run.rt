@@ -1,8 +1,10 @@
 //! One run of the program: words and an input in, lines and a status out.
 
-ghost use Rattle.std.specs.Prelude.{◌≡◌, ◌≤◌};
+ghost use Rattle.std.specs.Prelude.{◌≡◌, ◌≢◌, ◌≤◌};
+ghost use Rattle.std.specs.Io.KnownBytes.{Keeps};
+ghost use Rattle.clap.specs.Values.{kind_of};
 ghost use Rattle.flow_cli.specs.Refusals.{status_of};
-ghost use Rattle.flow_cli.specs.Run.{Runs};
+ghost use Rattle.flow_cli.specs.Run.{Runs, IsHelp};
 
 use crate::dumping::dump;
 use crate::measuring::measure;
@@ -21,9 +23,18 @@ const DONE: u8 = 0;
 /// The status of a run whose words ask for nothing.
 const WRONG_LINE: u8 = 2;
 
+/// What is told where no memory was found.
+const NO_MEMORY: &str = "flowvault: 11 OutOfMemory\n";
+
 /// What is told of a width that isn't one.
 const WRONG_WIDTH: &str =
     "error: invalid value for '<WIDTH>': digits alone, from 1 to 86400\n\nFor more information, try '--help'.\n";
+
+/// Writes octets.
+fn write_octets<W: Write>(to: &mut W, octets: &[u8]) -> Result<(), Refusal> {
+    write_patiently(to, octets, &mut Patience::new())?;
+    Ok(())
+}
 
 /// Writes a text.
 fn write_text<W: Write, D: Display + Drop>(
@@ -32,15 +43,19 @@ fn write_text<W: Write, D: Display + Drop>(
     text: D,
 ) -> Result<(), Refusal> {
     let text = format!(in alloc; "{text}")?;
-    write_patiently(to, text.as_bytes(), &mut Patience::new())?;
-    Ok(())
+    write_octets(to, text.as_bytes())
 }
 
 /// Tells a refusal as `flowvault: NUMBER NAME ..`, or gives up in silence: the status tells the same. It answers the exit status.
+/// A want of memory is told without any.
 fn tell<E: Write>(alloc: Global, errors: &mut E, refusal: &Refusal) -> u8
-    ensures { result ≡ status_of refusal.now }
+    ensures status { result ≡ status_of refusal.now }
+    ensures other { result ≢ 2 }
 {
-    let _ = write_text(alloc, errors, format_args!("flowvault: {refusal}\n"));
+    let _ = match refusal {
+        Refusal::OutOfMemory => write_octets(errors, NO_MEMORY.as_bytes()),
+        _ => write_text(alloc, errors, format_args!("flowvault: {refusal}\n")),
+    };
     refusal.status()
 }
 
@@ -54,6 +69,7 @@ fn run<R: Read, W: Write, E: Write>(
 ) -> u8
     ensures runs { Runs request (R.remaining input.old) (W.contents output.old) (W.contents output.new) result }
     ensures status { result ≤ 4 }
+    ensures other { result ≢ 2 }
 {
     let outcome = match request {
         Request::Measure { width } => measure(alloc, width, input, output),
@@ -73,14 +89,16 @@ pub fn run_line<S: AsStr, R: Read, W: Write, E: Write>(
     output: &mut W,
     errors: &mut E,
 ) -> u8
-    ensures { result ≤ 4 }
+    ensures status { result ≤ 4 }
+    // Of words that ask for nothing nothing is written but why.
+    ensures wrong { result ≡ 2 → Keeps (W.contents output.old) (W.contents output.new) }
 {
     match parse(alloc, words) {
         Ok(request) => run(alloc, request, input, output, errors),
         Err(LineError::OutOfMemory) => tell(alloc, errors, &Refusal::OutOfMemory),
         Err(LineError::Unread) => WRONG_LINE,
         Err(LineError::Width) => {
-            let _ = write_text(alloc, errors, WRONG_WIDTH);
+            let _ = write_octets(errors, WRONG_WIDTH.as_bytes());
             WRONG_LINE
         }
         Err(LineError::Parser(error)) => show(alloc, &error, output, errors),
@@ -89,7 +107,10 @@ pub fn run_line<S: AsStr, R: Read, W: Write, E: Write>(
 
 /// Shows what the parser of the command line has to say: help on `output`, else why the words ask for nothing on `errors`.
 fn show<W: Write, E: Write>(alloc: Global, error: &Error, output: &mut W, errors: &mut E) -> u8
-    ensures { result ≤ 4 }
+    ensures status { result ≤ 4 }
+    ensures wrong { result ≡ 2 → Keeps (W.contents output.old) (W.contents output.new) }
+    ensures help { IsHelp (kind_of error.now) → result ≢ 2 }
+    ensures fault { (IsHelp (kind_of error.now) → ⊥) → result ≡ 2 }
 {
     if error.use_stderr() {
         let _ = write_text(alloc, errors, error);
