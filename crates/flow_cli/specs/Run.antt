@@ -1,9 +1,12 @@
 -- What one run of a command answers.
-use Rattle.std.specs.Prelude.{◌≡◌, ◌⊎◌, ℕ, List, Option, IfSome}
-use Rattle.std.specs.Io.KnownBytes.{Appends}
+use Rattle.std.specs.Prelude.{◌≡◌, ◌≢◌, ◌⊎◌, ℕ, List, Option, IfSome}
+use Rattle.std.specs.Io.KnownBytes.{Appends, Keeps}
 use Rattle.clap.specs.declared.error.kind.ErrorKind.{ErrorKind}
 use Rattle.clap.specs.declared.error.kind.ErrorKind.TheVariants.{DisplayHelp, DisplayVersion}
 use Rattle.flow_cli.specs.declared.refusal.Refusal.{Refusal}
+use Rattle.clap.specs.Values.{kind_of}
+use Rattle.flow_cli.specs.declared.request.LineError.{LineError}
+use Rattle.flow_cli.specs.declared.request.LineError.TheVariants.{Parser, Width, Unread, OutOfMemory}
 use Rattle.flow_cli.specs.declared.request.Request.{Request}
 use Rattle.flow_cli.specs.declared.request.Request.TheVariants.{Measure, Dump}
 use Rattle.flow_cli.specs.Refusals.{status_of}
@@ -22,3 +25,10 @@ Runs Dump input old new status =
 -- what was asked for is help, or the version
 abbrev pub IsHelp : ErrorKind → Type 0
 IsHelp kind = (kind ≡ DisplayHelp) ⊎ (kind ≡ DisplayVersion)
+
+-- What is answered of words that ask for nothing: why, with the output as it was; of those that ask for help, the help.
+abbrev pub IsTold : LineError → Option (List ℕ) → Option (List ℕ) → ℕ → Type 0
+IsTold (Parser error) old new status = (IsHelp (kind_of error) → status ≢ 2) × ((IsHelp (kind_of error) → ⊥) → (status ≡ 2) × Keeps old new)
+IsTold Width old new status = (status ≡ 2) × Keeps old new
+IsTold Unread old new status = (status ≡ 2) × Keeps old new
+IsTold OutOfMemory old new status = (status ≡ 4) × Keeps old new

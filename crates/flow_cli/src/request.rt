@@ -78,15 +78,25 @@ fn command_line<'a>(alloc: Global) -> Result<Command<'a>, AllocError> {
         .help("Interval width in seconds, from 1 to 86400: digits alone");
     let measure = Command::new(alloc, "measure")
         .about(
-            "Sums the flows of the IPFIX File on standard input, by interval, Observation Domain and protocol.\nEach line: START DOMAIN PROTOCOL FLOWS OCTETS PACKETS; nothing is written unless the whole File is read",
+            "Sums the flows of the IPFIX File on standard input, by interval, Observation Domain and protocol.\nEach line: START DOMAIN PROTOCOL FLOWS OCTETS PACKETS; nothing is written unless the whole File is accepted",
+        )
+        .after_help(
+            "START is in seconds since 1970-01-01 00:00 UTC; PROTOCOL is - where a flow has none.\nExample: flowvault measure 300 < FILE",
         )
         .arg(width)?;
-    let dump = Command::new(alloc, "dump").about(
-        "Writes the messages of the IPFIX File on standard input and their data records, a line each.\nmessage LENGTH TIME SEQUENCE DOMAIN; record ID NAME=VALUE ..; options ID NAME=VALUE ..",
-    );
+    let dump = Command::new(alloc, "dump")
+        .about(
+            "Writes the messages of the IPFIX File on standard input and their data records, a line each.\nmessage LENGTH TIME SEQUENCE DOMAIN; record ID NAME=VALUE ..; options ID NAME=VALUE ..",
+        )
+        .after_help(
+            "TIME and elements of seconds or milliseconds count from 1970-01-01 00:00 UTC. An element without a name here is eNUMBER, an enterprise's eENTERPRISE.NUMBER.\nThe lines before a refused message stay.\nExample: flowvault dump < FILE",
+        );
     Command::new(alloc, "flowvault")
         .about("A crash-safe archive of IPFIX Files (RFC 5655)")
         .version("0.1.0")
+        .after_help(
+            "A refusal is told on standard error as 'flowvault: NUMBER NAME ..'.\nExit status: 0 done, 1 input refused, 2 wrong command line, 3 reading or writing failed, 4 no memory",
+        )
         .subcommand_required(true)
         .subcommand(measure)?
         .subcommand(dump)

@@ -1,10 +1,10 @@
 //! One run of the program: words and an input in, lines and a status out.
 
-ghost use Rattle.std.specs.Prelude.{◌≡◌, ◌≢◌, ◌≤◌};
+ghost use Rattle.std.specs.Prelude.{◌≡◌, ◌≢◌, ◌≤◌, IfOk, IfErr};
 ghost use Rattle.std.specs.Io.KnownBytes.{Keeps};
 ghost use Rattle.clap.specs.Values.{kind_of};
 ghost use Rattle.flow_cli.specs.Refusals.{status_of};
-ghost use Rattle.flow_cli.specs.Run.{Runs, IsHelp};
+ghost use Rattle.flow_cli.specs.Run.{Runs, IsHelp, IsTold};
 
 use crate::dumping::dump;
 use crate::measuring::measure;
@@ -93,7 +93,23 @@ pub fn run_line<S: AsStr, R: Read, W: Write, E: Write>(
     // Of words that ask for nothing nothing is written but why.
     ensures wrong { result ≡ 2 → Keeps (W.contents output.old) (W.contents output.new) }
 {
-    match parse(alloc, words) {
+    answer(alloc, parse(alloc, words), input, output, errors)
+}
+
+/// Runs what a command line asks for, or tells why it asks for nothing. It answers the exit status.
+fn answer<R: Read, W: Write, E: Write>(
+    alloc: Global,
+    asked: Result<Request, LineError>,
+    input: &mut R,
+    output: &mut W,
+    errors: &mut E,
+) -> u8
+    ensures runs { IfOk asked (λ request. Runs request (R.remaining input.old) (W.contents output.old) (W.contents output.new) result) }
+    ensures told { IfErr asked (λ e. IsTold e (W.contents output.old) (W.contents output.new) result) }
+    ensures status { result ≤ 4 }
+    ensures wrong { result ≡ 2 → Keeps (W.contents output.old) (W.contents output.new) }
+{
+    match asked {
         Ok(request) => run(alloc, request, input, output, errors),
         Err(LineError::OutOfMemory) => tell(alloc, errors, &Refusal::OutOfMemory),
         Err(LineError::Unread) => WRONG_LINE,
