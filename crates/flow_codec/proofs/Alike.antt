@@ -1,11 +1,12 @@
 -- A definition that is in force, defined once more, changes nothing.
-use Rattle.std.proofs.Common.{◌≡◌, ℕ, eqb, Bool, true, List, [], ◌∷◌, Option, Some, None, refl, sym, ap, ◌∙◌}
-use Rattle.std.specs.Prelude.{◌&&◌, nat_eq}
-use lib.Pointwise.{pointwise}
-use Rattle.flow_codec.proofs.TemplateLaws.{and_true}
-use Rattle.std.proofs.lemmas.Bool.{eqb-true}
+use Rattle.std.proofs.Common.{◌≡◌, ℕ, Bool, true, false, List, Option, Some, None, refl, sym, ap, ◌∙◌}
+use Rattle.std.specs.Prelude.{◌&&◌, nat_eq, ◌↔◌, IsTrue}
+use Rattle.std.specs.Bool.{Decides}
+use Rattle.std.specs.Option.{option_eq}
+use Rattle.std.specs.Cmp.Lexicographic.{pointwise}
+use Rattle.std.proofs.lemmas.Bool.Decides.{Decides-eqb}
+use Rattle.std.proofs.lemmas.Slice.Eq.{slice_eq-Decides}
 use Rattle.flow_elements.specs.declared.element.ElementId.{ElementId}
-use Rattle.flow_elements.specs.contracts.element.ElementIdPartialEq.TheImpl.{ghosts}
 use Rattle.flow_codec.specs.declared.kind.TemplateKind.{TemplateKind}
 use Rattle.flow_codec.specs.declared.kind.TemplateKind.TheVariants.{Plain, Options}
 use Rattle.flow_codec.specs.declared.templates.DomainTemplates.{DomainTemplates}
@@ -18,32 +19,41 @@ use Rattle.flow_codec.proofs.PuttingBack.{unchanged}
 
 -- ---- equal definitions
 
-pub same_layout : (a b : Layout) → a.options ≡ b.options → a.scope ≡ b.scope → a.fields ≡ b.fields → a ≡ b
-same_layout a b o s f = rebuilt a.options b.options a.scope b.scope a.fields b.fields o s f
-  where
-    rebuilt : (o p : Bool) (s t : ℕ) (f g : List (ElementId × ℕ)) → o ≡ p → s ≡ t → f ≡ g → (let x : Layout = record { options = o; scope = s; fields = f } in let y : Layout = record { options = p; scope = t; fields = g } in x ≡ y)
-    rebuilt o p s t f g a b c = rw (a, b, c) refl
+both : {P Q : Type 0} (a b : Bool) → Decides a P → Decides b Q → Decides (a && b) (P × Q)
+both true true p q = ((λ e. (p.0 refl, q.0 refl)), λ h. refl)
+both true false p q = ((λ e. absurd (cc e)), λ h. absurd (cc (q.1 h.1)))
+both false b p q = ((λ e. absurd (cc e)), λ h. absurd (cc (p.1 h.0)))
 
-same_element : (x y : ElementId) → (ghosts).eq x y ≡ true → x ≡ y
-same_element x y h = by x.enterprise y.enterprise x.number y.number h
-  where
-    by : (a b : Option ℕ) (m n : ℕ) → (let x : ElementId = record { enterprise = a; number = m } in let y : ElementId = record { enterprise = b; number = n } in (ghosts).eq x y ≡ true → x ≡ y)
-    by None None m n h = rw (eqb-true m n h) refl
-    by None (Some b) m n h = absurd cc
-    by (Some a) None m n h = absurd cc
-    by (Some a) (Some b) m n h =
-        let both = and_true (eqb a b) (eqb m n) h in
-        rw (eqb-true a b both.0, eqb-true m n both.1) refl
+same_enterprise : (a b : Option ℕ) → Decides (option_eq nat_eq a b) (a ≡ b)
+same_enterprise None None = ((λ e. refl), λ e. refl)
+same_enterprise None (Some b) = ((λ e. absurd (cc e)), λ e. absurd (cc e))
+same_enterprise (Some a) None = ((λ e. absurd (cc e)), λ e. absurd (cc e))
+same_enterprise (Some a) (Some b) = let d = Decides-eqb a b in ((λ e. ap Some (d.0 e)), λ e. d.1 (cc e))
 
-pub same_specifiers : (xs ys : List (ElementId × ℕ)) → pointwise (λ x y. (ghosts).eq x.0 y.0 && nat_eq x.1 y.1) xs ys ≡ true → xs ≡ ys
-same_specifiers [] [] h = refl
-same_specifiers [] (y ∷ ys) h = absurd cc
-same_specifiers (x ∷ xs) [] h = absurd cc
-same_specifiers (x ∷ xs) (y ∷ ys) h =
-    let both = and_true ((ghosts).eq x.0 y.0 && nat_eq x.1 y.1) (pointwise (λ x y. (ghosts).eq x.0 y.0 && nat_eq x.1 y.1) xs ys) h in
-    let front = and_true ((ghosts).eq x.0 y.0) (nat_eq x.1 y.1) both.0 in
-    let first : x ≡ y = ap (λ (e : ElementId). (e, x.1)) (same_element x.0 y.0 front.0) ∙ ap (λ (n : ℕ). (y.0, n)) (eqb-true x.1 y.1 front.1) in
-    ap (λ (e : ElementId × ℕ). e ∷ xs) first ∙ ap (λ (es : List (ElementId × ℕ)). y ∷ es) (same_specifiers xs ys both.1)
+abbrev is_same_field : ElementId × ℕ → ElementId × ℕ → Bool
+is_same_field a b = (option_eq nat_eq a.0.enterprise b.0.enterprise && nat_eq a.0.number b.0.number) && nat_eq a.1 b.1
+
+same_element : (a b : ElementId) → a.enterprise ≡ b.enterprise → a.number ≡ b.number → a ≡ b
+same_element a b enterprise number =
+    ap (λ (e : Option ℕ). record { enterprise = e; number = a.number }) enterprise ∙ ap (λ (n : ℕ). record { enterprise = b.enterprise; number = n }) number
+
+same_field : (a b : ElementId × ℕ) → Decides (is_same_field a b) (a ≡ b)
+same_field a b =
+    let d = both _ _ (both _ _ (same_enterprise a.0.enterprise b.0.enterprise) (Decides-eqb a.0.number b.0.number)) (Decides-eqb a.1 b.1) in (
+      (λ e. let h = d.0 e in ap (λ (x : ElementId). (x, a.1)) (same_element a.0 b.0 h.0.0 h.0.1) ∙ ap (λ (n : ℕ). (b.0, n)) h.1),
+      λ e. d.1 ((ap (λ (x : ElementId × ℕ). x.0.enterprise) e, ap (λ (x : ElementId × ℕ). x.0.number) e), ap (λ (x : ElementId × ℕ). x.1) e),
+    )
+
+pub same_fields : (ones others : List (ElementId × ℕ)) (r : Bool) → r ≡ pointwise is_same_field ones others → Decides r (ones ≡ others)
+same_fields = slice_eq-Decides same_field
+
+pub same_layout : (one other : Layout) (r : Bool) → one.options ≡ other.options → one.scope ≡ other.scope → r ≡ pointwise is_same_field one.fields other.fields → IsTrue r ↔ (one ≡ other)
+same_layout one other r options scope is =
+    let d = same_fields one.fields other.fields r is in (
+      (λ e. ap (λ (o : Bool). record { options = o; scope = one.scope; fields = one.fields }) options ∙ ap (λ (n : ℕ). record { options = other.options; scope = n; fields = one.fields }) scope
+          ∙ ap (λ (fs : List (ElementId × ℕ)). record { options = other.options; scope = other.scope; fields = fs }) (d.0 e)),
+      λ e. d.1 (ap (λ (x : Layout). x.fields) e),
+    )
 
 -- ---- a definition that is in force
 

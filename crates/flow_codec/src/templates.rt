@@ -1,6 +1,6 @@
 //! The templates in force.
 
-ghost use Rattle.std.specs.Prelude.{◌≡◌, IsTrue, false, [], OnOk, OnErr, IfOk, ◌<◌, ◌≤◌, ◌^◌, ◌+◌, length, nat_lt};
+ghost use Rattle.std.specs.Prelude.{◌≡◌, ◌↔◌, IsTrue, false, [], OnOk, OnErr, IfOk, ◌<◌, ◌≤◌, ◌^◌, ◌+◌, length, nat_lt};
 ghost use Rattle.std.specs.Option.{option_copied};
 ghost use Rattle.flow_codec.specs.Layout.{Layout, IsLayout, is_options, definition_size};
 ghost use Rattle.flow_codec.specs.Plan.{plan_of};
@@ -99,13 +99,14 @@ impl Definition {
         self.fields.as_slice()
     }
 
-    /// Whether both define the same.
-    pub(crate) fn is_same(&self, other: &Definition) -> bool
-        ensures { IsTrue result → self.now ≡ other.now }
+    /// Whether both define the same: kind, scope fields, and each field's element and Field Length.
+    pub fn is_same(&self, other: &Definition) -> bool
+        ensures { IsTrue result ↔ (self.now ≡ other.now) }
     {
-        self.options == other.options
-            && self.scope == other.scope
-            && self.fields.as_slice() == other.fields.as_slice()
+        if self.options != other.options || self.scope != other.scope {
+            return false;
+        }
+        self.fields.as_slice() == other.fields.as_slice()
     }
 
     /// The octets of its template record.
