@@ -1,4 +1,3 @@
-pub mod Layouts
 pub mod Groups
 pub mod Reached
 pub mod Joining

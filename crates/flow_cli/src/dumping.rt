@@ -1,6 +1,6 @@
 //! The command `dump`.
 
-ghost use Rattle.std.specs.Prelude.{◌≡◌, ◌↔◌, [], IsTrue, None, List, map, OnOk, IfOk, IfErr, IfSome};
+ghost use Rattle.std.specs.Prelude.{◌≡◌, [], None, List, map, OnOk, IfOk, IfErr, IfSome};
 ghost use Rattle.std.specs.List.{flat_map};
 ghost use Rattle.flow_codec.specs.Fields.{fields_in};
 ghost use Rattle.flow_cli.specs.Lines.{field_text, record_line, message_text};
@@ -46,16 +46,6 @@ struct HeldMessage {
     records: Vec<HeldRecord>,
 }
 
-/// Whether two definitions are the same.
-fn is_same(one: &Definition, other: &Definition) -> bool
-    ensures { IsTrue result ↔ (one.now ≡ other.now) }
-{
-    if one.options() != other.options() || one.scope() != other.scope() {
-        return false;
-    }
-    one.fields() == other.fields()
-}
-
 impl HeldRecords {
     fn new(alloc: Global) -> Self
         ensures { result.records.items ≡ [] }
@@ -73,7 +63,7 @@ impl HeldRecords {
         ensures records { self.new.records ≡ self.old.records }
     {
         if let Some(held) = self.latest.get(&id) {
-            if is_same(held, definition) {
+            if held.is_same(definition) {
                 return held.clone();
             }
         }
