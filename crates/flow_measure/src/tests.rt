@@ -1,5 +1,7 @@
 use super::*;
-use flow_codec::{DataRecord, Field, Header, Message, Templates, walk_message};
+use flow_codec::{
+    DataRecord, Field, Header, Message, MessageError, Templates, WalkError, walk_message,
+};
 use flow_elements::{ElementId, Items};
 use std::test::*;
 
@@ -117,7 +119,7 @@ fn spent(rt: HostRuntime) -> Result<(), Fail> {
             b.merge(&a)
         };
         if turn < 92 {
-            assert!(rt; added.is_ok());
+            added?;
         } else {
             assert_eq!(rt; added, Err(SumError::SumSpent));
         }
@@ -192,8 +194,10 @@ fn rows_of(rt: &HostRuntime, messages: &[&[u8]]) -> Result<Vec<Row>, Fail> {
         rows: Rows::new(rt.alloc(), 300),
     };
     for octets in messages {
-        if walk_message(&mut templates, rt.alloc(), octets, &mut totals).is_err() {
-            return Err(Fail::new("the message is refused"));
+        match walk_message(&mut templates, rt.alloc(), octets, &mut totals) {
+            Ok(_) => {}
+            Err(WalkError::Message(fault)) => return Err(fault)?,
+            Err(WalkError::Sink(error)) => return Err(error)?,
         }
     }
     Ok(totals.rows.in_span(rt.alloc(), 0, 1 << 32)?)
@@ -274,9 +278,7 @@ fn starts_in_milliseconds(rt: HostRuntime) -> Result<(), Fail> {
 fn flows(rt: HostRuntime) -> Result<(), Fail> {
     let mut templates = Templates::new(rt.alloc());
     let mut flows = Flows::new(rt.alloc());
-    if walk_message(&mut templates, rt.alloc(), &PLAIN, &mut flows).is_err() {
-        return Err(Fail::new("the message is refused"));
-    }
+    walk_message(&mut templates, rt.alloc(), &PLAIN, &mut flows).map_err(MessageError::from)?;
     let wanted = [flow(1700000000, Some(6))];
     assert_eq!(rt; flows.flows.as_slice(), wanted.as_slice());
     Ok(())
