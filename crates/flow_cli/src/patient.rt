@@ -26,7 +26,9 @@ pub struct Patience {
 
 impl Patience {
     /// That of a whole run.
-    pub fn new() -> Patience {
+    pub fn new() -> Patience
+        ensures { result.left ≡ 1000000 }
+    {
         Patience {
             left: MOST_INTERRUPTS,
         }

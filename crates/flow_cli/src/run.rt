@@ -1,9 +1,10 @@
 //! One run of the program: words and an input in, lines and a status out.
 
-ghost use Rattle.std.specs.Prelude.{◌≡◌, ◌≢◌, ◌≤◌, IfOk, IfErr};
-ghost use Rattle.std.specs.Io.KnownBytes.{Keeps};
+ghost use Rattle.std.specs.Prelude.{◌≡◌, ◌≢◌, ◌≤◌, OnOk, OnErr, IfOk, IfErr};
+ghost use Rattle.std.specs.Io.KnownBytes.{Appends, Keeps};
 ghost use Rattle.clap.specs.Values.{kind_of};
 ghost use Rattle.flow_cli.specs.Refusals.{status_of};
+ghost use Rattle.flow_cli.specs.Writing.{AppendsFront};
 ghost use Rattle.flow_cli.specs.Run.{Runs, IsHelp, IsTold};
 
 use crate::dumping::dump;
@@ -31,7 +32,10 @@ const WRONG_WIDTH: &str =
     "error: invalid value for '<WIDTH>': digits alone, from 1 to 86400\n\nFor more information, try '--help'.\n";
 
 /// Writes octets.
-fn write_octets<W: Write>(to: &mut W, octets: &[u8]) -> Result<(), Refusal> {
+fn write_octets<W: Write>(to: &mut W, octets: &[u8]) -> Result<(), Refusal>
+    ensures all { OnOk result (Appends (W.contents to.old) (W.contents to.new) octets.now) }
+    ensures front { OnErr result (AppendsFront (W.contents to.old) (W.contents to.new) octets.now) }
+{
     write_patiently(to, octets, &mut Patience::new())?;
     Ok(())
 }
