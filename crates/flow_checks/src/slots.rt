@@ -1,13 +1,14 @@
 // The two slots by their octets: after a creation and after swaps, forged, after a stop at each device call, and on a disk that lies.
-ghost use Rattle.std.specs.Prelude.{◌≡◌, ℕ, true, false, IfOk};
+ghost use Rattle.std.specs.Prelude.{◌≡◌, ◌+◌, ℕ, true, false, IfOk};
+ghost use Rattle.flow_disk.specs.Cause.{HasCause};
 ghost use Rattle.flow_manifest.specs.declared.slots.Slot.{Slot};
 ghost use Rattle.flow_manifest.specs.Slots.{file_of};
 ghost use Rattle.flow_memory_disk.specs.Memory.{story_of};
 
 use crate::swap::swapped_to;
 use flow_disk::{Disk, DiskError};
-use flow_manifest::{OpenError, Slot, create_slots, decode, encode, read_slots};
-use flow_memory_disk::{Choice, LyingDisk, MemoryDisk, Room};
+use flow_manifest::{OpenError, Slot, Slots, create_slots, decode, encode, read_slots};
+use flow_memory_disk::{Choice, FusedDisk, LyingDisk, MemoryDisk, Room};
 use std::alloc::Global;
 use std::test::Fail;
 
@@ -434,6 +435,32 @@ fn a_slot_torn_again_is_the_old_or_the_new_one(rt: HostRuntime) -> Result<(), Fa
         old > 1000 && new > 300,
         "{old} times the old one, {new} times the new one"
     );
+    Ok(())
+}
+
+/// Reads the slots of a disk behind a fuse: its failures are counted exactly where the answer is a fault.
+fn read_fused(alloc: Global, disk: &mut FusedDisk<MemoryDisk>) -> Result<Slots, OpenError>
+    ensures { HasCause OpenError.Fault (disk.old.failed + disk.old.disk.faults)
+        (disk.new.failed + disk.new.disk.faults) result }
+{
+    read_slots(alloc, disk)
+}
+
+#[test]
+fn reading_the_slots_answers_the_fault_of_each_call(rt: HostRuntime) -> Result<(), Fail> {
+    let alloc = rt.alloc();
+    for calls in 0..6 {
+        let disk = swapped(alloc, created(alloc)?, &SEALED)?;
+        let mut disk = FusedDisk::new(disk, calls);
+        // a length and a read of each slot
+        match read_fused(alloc, &mut disk) {
+            Ok(slots) => assert!(rt;
+                calls >= 4 && slots.current.generation == 2,
+                "{calls} calls"
+            ),
+            Err(error) => assert_eq!(rt; (error, calls < 4), (OpenError::Fault, true)),
+        }
+    }
     Ok(())
 }
 

@@ -1,8 +1,11 @@
 // What is read after a stop at each device call, what counts as damage, and a disk that lies.
+ghost use Rattle.std.specs.Prelude.{◌+◌};
+ghost use Rattle.flow_disk.specs.Cause.{HasCause};
+
 use crate::segment::{FILE, FIRST, SECOND, Segment, begin};
 use flow_disk::{Disk, DiskError};
 use flow_gate::{ScanError, Tail, scan};
-use flow_memory_disk::{Choice, MemoryDisk, Room};
+use flow_memory_disk::{Choice, FusedDisk, MemoryDisk, Room};
 use std::alloc::{AllocError, Global};
 use std::test::Fail;
 
@@ -143,6 +146,30 @@ fn damage_is_told_at_its_place(rt: HostRuntime) -> Result<(), Fail> {
     assert_eq!(rt; tail.end, 57);
     let none = scanned(alloc, &[0, 11], 0)??;
     assert_eq!(rt; none.end, 0);
+    Ok(())
+}
+
+/// Scans a disk behind a fuse: its failures are counted exactly where the answer is a fault.
+fn scan_fused(alloc: Global, disk: &mut FusedDisk<MemoryDisk>) -> Result<Tail, ScanError>
+    ensures { HasCause ScanError.Fault (disk.old.failed + disk.old.disk.faults)
+        (disk.new.failed + disk.new.disk.faults) result }
+{
+    scan(alloc, disk, FILE, 0)
+}
+
+#[test]
+fn a_scan_answers_the_fault_of_each_call(rt: HostRuntime) -> Result<(), Fail> {
+    let alloc = rt.alloc();
+    for calls in 0..4 {
+        let (disk, result) = segment(alloc)?.add_first();
+        result?;
+        let mut disk = FusedDisk::new(disk, calls);
+        // a length and a read
+        match scan_fused(alloc, &mut disk) {
+            Ok(tail) => assert!(rt; calls >= 2 && tail.end == 57, "{calls} calls"),
+            Err(error) => assert_eq!(rt; (error, calls < 2), (ScanError::Fault, true)),
+        }
+    }
     Ok(())
 }
 

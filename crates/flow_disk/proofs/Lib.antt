@@ -1,3 +1,4 @@
 pub mod Calls
 pub mod Images
 pub mod Moments
+pub mod Results

@@ -1,8 +1,10 @@
 -- What a disk holds, and what a stop may leave of it.
-use Rattle.std.specs.Prelude.{◌≡◌, ◌≢◌, ◌⊎◌, ℕ, ◌+◌, ◌<◌, ◌≤◌, min, Bool, true, false, ◌||◌, nat_lt, List, [], ◌∷◌, ◌++◌, length, take, drop, get_or, ◌==◌, if◌then◌else◌}
+use Rattle.std.specs.Prelude.{◌≡◌, ◌≢◌, ◌⊎◌, ℕ, ◌+◌, ◌<◌, ◌≤◌, min, Bool, true, false, ◌||◌, nat_lt, List, [], ◌∷◌}
+use Rattle.std.specs.Prelude.{◌++◌, length, take, drop, get_or, ◌==◌, if◌then◌else◌}
 
 -- What a file reads as, and what a stop may leave of it. `last` is what it held when it was last settled. Below `fast`,
--- places outside the ranges in `touched` hold these octets whatever happens. With `loose` its end may lie anywhere from `fast` on.
+-- places outside the ranges in `touched` hold these octets whatever happens. With `loose` its end may lie anywhere from
+-- `fast` on.
 pub record Held : Type 0 where
   pub reads : List ℕ
   pub last : List ℕ
@@ -26,7 +28,8 @@ IsOutside (range ∷ ranges) place = ((place < range.0) ⊎ (range.0 + range.1 �
 pub record IsImage (file : Held) (octets : List ℕ) : Type 0 where
   pub long : file.fast ≤ length octets
   pub end : file.loose ≡ false → length octets ≡ file.fast
-  pub same : (place : ℕ) → place < file.fast → IsOutside file.touched place → get_or octets place 0 ≡ get_or file.last place 0
+  pub same : (place : ℕ) → place < file.fast → IsOutside file.touched place
+      → get_or octets place 0 ≡ get_or file.last place 0
 
 -- what a stop may leave of the whole disk: an image of each file
 abbrev pub IsDiskImage : (ℕ → Held) → (ℕ → List ℕ) → Type 0
@@ -38,11 +41,26 @@ settled_at octets = record { reads = octets; last = octets; fast = length octets
 
 -- after a write of `count` octets at a place that a stop may still undo or cut short
 abbrev pub touched_at : Held → ℕ → ℕ → List ℕ → Held
-touched_at file at count reads = record { reads = reads; last = file.last; fast = file.fast; touched = (at, count) ∷ file.touched; loose = file.loose || nat_lt file.fast (at + count) }
+touched_at file at count reads =
+    record {
+      reads = reads;
+      last = file.last;
+      fast = file.fast;
+      touched = (at, count) ∷ file.touched;
+      loose =
+          file.loose || nat_lt file.fast (at + count);
+    }
 
 -- after a cut that a stop may still undo
 abbrev pub loosened_at : Held → ℕ → List ℕ → Held
-loosened_at file count reads = record { reads = reads; last = file.last; fast = min file.fast count; touched = file.touched; loose = true }
+loosened_at file count reads = record {
+  reads = reads;
+  last = file.last;
+  fast = min file.fast count;
+  touched =
+      file.touched;
+  loose = true;
+}
 
 -- while a removal runs: anything
 abbrev pub given_up : Held → List ℕ → Held

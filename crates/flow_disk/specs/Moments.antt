@@ -8,12 +8,17 @@ pub record Elapses (before now : ℕ) (past since : ℕ → (ℕ → List ℕ) �
   pub nothing_else : (t : ℕ) (image : ℕ → List ℕ) → t ≤ before → since t image → past t image ⊎ IsDiskImage during image
   pub keeps : (t : ℕ) (image : ℕ → List ℕ) → t ≤ before → past t image → since t image
 
+-- the same, of a disk before a call and after it
+abbrev pub Passes : {D : Type 0} → (D → ℕ) → (D → ℕ → (ℕ → List ℕ) → Type 0) → D → D → (ℕ → Held) → Type 0
+Passes moment left_since old new during = Elapses (moment old) (moment new) (left_since old) (left_since new) during
+
 -- A stop inside the call is among the moments: it might have left each image of `during`.
 abbrev pub Covers : ℕ → (ℕ → (ℕ → List ℕ) → Type 0) → (ℕ → Held) → Type 0
 Covers before since during = (t : ℕ) (image : ℕ → List ℕ) → t ≤ before → IsDiskImage during image → since t image
 
 -- A stop at any moment since old leaves what has P.
-pub record LeavesOnly {D : Type 0} (moment : D → ℕ) (left_since : D → ℕ → (ℕ → List ℕ) → Type 0) (old new : D) (P : (ℕ → List ℕ) → Type 0) : Type 0 where
+pub record LeavesOnly {D : Type 0} (moment : D → ℕ) (left_since : D → ℕ → (ℕ → List ℕ)
+    → Type 0) (old new : D) (P : (ℕ → List ℕ) → Type 0) : Type 0 where
   pub later : moment old ≤ moment new
   pub each : (image : ℕ → List ℕ) → left_since new (moment old) image → P image
   -- for a run that began earlier

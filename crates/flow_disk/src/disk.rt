@@ -1,9 +1,11 @@
 // A disk of files, named by numbers.
-ghost use Rattle.std.specs.Prelude.{◌≡◌, ◌≢◌, ◌⊎◌, ℕ, ◌+◌, ◌<◌, ◌≤◌, ◌^◌, ◌↔◌, max, Bool, true, false, IsTrue, List, Contains, length, take, drop, Result, OnOk, OnErr, IfOk, vec_len};
+ghost use Rattle.std.specs.Prelude.{◌≡◌, ◌≢◌, ◌⊎◌, ℕ, ◌+◌, ◌<◌, ◌≤◌, ◌^◌, ◌↔◌, max, Bool, true, false, IsTrue, List};
+ghost use Rattle.std.specs.Prelude.{Contains, length, take, drop, Result, OnOk, OnErr, IfOk, vec_len};
 ghost use Rattle.std.specs.List.Sorted.{IsStrictlyIncreasing};
-ghost use Rattle.flow_disk.specs.Disk.{Held, Marks, IsImage, IsDiskImage, Changes, Stays, changed, touched_at, loosened_at, given_up};
-ghost use Rattle.flow_disk.specs.Moments.{Elapses, Covers};
-ghost use Rattle.flow_disk.specs.Files.{Writes, Cuts, Syncs, Removes, MarkedByWrite, MarkedBySync, MarkedByRemoval};
+ghost use Rattle.flow_disk.specs.Disk.{Held, Marks, IsImage, IsDiskImage, Changes, Stays};
+ghost use Rattle.flow_disk.specs.Moments.{Passes, Covers};
+ghost use Rattle.flow_disk.specs.Files.{Writes, Cuts, Syncs, Removes, while_writing, while_cutting, while_removing};
+ghost use Rattle.flow_disk.specs.Files.{MarkedByWrite, MarkedBySync, MarkedByRemoval, frozen_as};
 ghost use Rattle.flow_disk.specs.Cause.{HasCause, FailsOnlyByFault};
 
 use crate::{DiskError, SealedFile};
@@ -45,7 +47,7 @@ pub trait Disk: Drop {
         ensures frozen { (marks self.new file).frozen ≡ (marks self.old file).frozen }
         ensures listed { (marks self.new file).listed ≡ (marks self.old file).listed }
         ensures held { IsTrue (honest self.old) → Stays (held self.old) (held self.new) }
-        ensures time { IsTrue (honest self.old) → Elapses (moment self.old) (moment self.new) (left_since self.old) (left_since self.new) (held self.old) }
+        ensures time { IsTrue (honest self.old) → Passes moment left_since self.old self.new (held self.old) }
         ensures cause { FailsOnlyByFault (faults self.old) (faults self.new) result };
 
     /// Reads `count` octets of a file from place `at` on.
@@ -60,11 +62,12 @@ pub trait Disk: Drop {
         ensures honest { honest self.new ≡ honest self.old }
         ensures clock { moment self.old ≤ moment self.new }
         ensures count { IfOk result (λ octets. vec_len octets ≡ count) }
-        ensures octets { IsTrue (honest self.old) → IfOk result (λ octets. octets.items ≡ take count (drop at (held self.old file).reads)) }
+        ensures octets { IsTrue (honest self.old)
+            → IfOk result (λ octets. octets.items ≡ take count (drop at (held self.old file).reads)) }
         ensures marks { Stays (marks self.old) (marks self.new) }
         ensures held { IsTrue (honest self.old) → Stays (held self.old) (held self.new) }
-        ensures time { IsTrue (honest self.old) → Elapses (moment self.old) (moment self.new) (left_since self.old) (left_since self.new) (held self.old) }
-        ensures cause { HasCause (faults self.old) (faults self.new) result };
+        ensures time { IsTrue (honest self.old) → Passes moment left_since self.old self.new (held self.old) }
+        ensures cause { HasCause DiskError.Fault (faults self.old) (faults self.new) result };
 
     /// Writes octets over what stands at place `at`, and past the end. Until the next sync a stop may leave anything in
     /// their range, and anything past the end that was last settled where the range passes that end.
@@ -73,10 +76,14 @@ pub trait Disk: Drop {
         requires thawed { (marks self.old file).frozen ≡ false }
         ensures honest { honest self.new ≡ honest self.old }
         ensures clock { moment self.old ≤ moment self.new }
-        ensures marks { MarkedByWrite (marks self.old) (marks self.new) file (max (marks self.old file).size (at + length octets.now)) result }
+        ensures marks { MarkedByWrite (marks self.old) (marks self.new) file
+            (max (marks self.old file).size (at + length octets.now)) result }
         ensures held { IsTrue (honest self.old) → Writes (held self.old) (held self.new) file at octets.now result }
-        ensures time { IsTrue (honest self.old) → Elapses (moment self.old) (moment self.new) (left_since self.old) (left_since self.new) (changed (held self.old) file (touched_at (held self.old file) at (length octets.now) (held self.old file).reads)) }
-        ensures covered { IsTrue (honest self.old) → OnOk result (Covers (moment self.old) (left_since self.new) (changed (held self.old) file (touched_at (held self.old file) at (length octets.now) (held self.old file).reads))) }
+        ensures time { IsTrue (honest self.old)
+            → Passes moment left_since self.old self.new (while_writing (held self.old) file at octets.now) }
+        ensures covered { IsTrue (honest self.old)
+            → OnOk result (Covers (moment self.old) (left_since self.new)
+            (while_writing (held self.old) file at octets.now)) }
         ensures cause { FailsOnlyByFault (faults self.old) (faults self.new) result };
 
     /// Cuts a file to `count` octets. Until the next sync a stop may leave anything behind these.
@@ -87,8 +94,10 @@ pub trait Disk: Drop {
         ensures clock { moment self.old ≤ moment self.new }
         ensures marks { MarkedByWrite (marks self.old) (marks self.new) file count result }
         ensures held { IsTrue (honest self.old) → Cuts (held self.old) (held self.new) file count result }
-        ensures time { IsTrue (honest self.old) → Elapses (moment self.old) (moment self.new) (left_since self.old) (left_since self.new) (changed (held self.old) file (loosened_at (held self.old file) count (held self.old file).reads)) }
-        ensures covered { IsTrue (honest self.old) → OnOk result (Covers (moment self.old) (left_since self.new) (changed (held self.old) file (loosened_at (held self.old file) count (held self.old file).reads))) }
+        ensures time { IsTrue (honest self.old)
+            → Passes moment left_since self.old self.new (while_cutting (held self.old) file count) }
+        ensures covered { IsTrue (honest self.old)
+            → OnOk result (Covers (moment self.old) (left_since self.new) (while_cutting (held self.old) file count)) }
         ensures cause { FailsOnlyByFault (faults self.old) (faults self.new) result };
 
     /// Settles a file and its name: after Ok a stop leaves what the file reads as.
@@ -97,7 +106,7 @@ pub trait Disk: Drop {
         ensures clock { moment self.old ≤ moment self.new }
         ensures marks { MarkedBySync (marks self.old) (marks self.new) file result }
         ensures held { IsTrue (honest self.old) → Syncs (held self.old) (held self.new) file result }
-        ensures time { IsTrue (honest self.old) → Elapses (moment self.old) (moment self.new) (left_since self.old) (left_since self.new) (held self.old) }
+        ensures time { IsTrue (honest self.old) → Passes moment left_since self.old self.new (held self.old) }
         ensures cause { FailsOnlyByFault (faults self.old) (faults self.new) result };
 
     /// Removes a file. Until Ok a stop may leave anything of it; after Ok it is empty and not listed.
@@ -107,8 +116,10 @@ pub trait Disk: Drop {
         ensures clock { moment self.old ≤ moment self.new }
         ensures marks { MarkedByRemoval (marks self.old) (marks self.new) file result }
         ensures held { IsTrue (honest self.old) → Removes (held self.old) (held self.new) file result }
-        ensures time { IsTrue (honest self.old) → Elapses (moment self.old) (moment self.new) (left_since self.old) (left_since self.new) (changed (held self.old) file (given_up (held self.old file) (held self.old file).reads)) }
-        ensures covered { IsTrue (honest self.old) → OnOk result (Covers (moment self.old) (left_since self.new) (changed (held self.old) file (given_up (held self.old file) (held self.old file).reads))) }
+        ensures time { IsTrue (honest self.old)
+            → Passes moment left_since self.old self.new (while_removing (held self.old) file) }
+        ensures covered { IsTrue (honest self.old)
+            → OnOk result (Covers (moment self.old) (left_since self.new) (while_removing (held self.old) file)) }
         ensures cause { FailsOnlyByFault (faults self.old) (faults self.new) result };
 
     /// The files' numbers, ascending.
@@ -116,11 +127,12 @@ pub trait Disk: Drop {
         ensures honest { honest self.new ≡ honest self.old }
         ensures clock { moment self.old ≤ moment self.new }
         ensures ascending { IfOk result (λ files. IsStrictlyIncreasing files.items) }
-        ensures listed { IsTrue (honest self.old) → IfOk result (λ files. (n : ℕ) → Contains files.items n ↔ ((marks self.new n).listed ≡ true)) }
+        ensures listed { IsTrue (honest self.old)
+            → IfOk result (λ files. (n : ℕ) → Contains files.items n ↔ ((marks self.new n).listed ≡ true)) }
         ensures marks { Stays (marks self.old) (marks self.new) }
         ensures held { IsTrue (honest self.old) → Stays (held self.old) (held self.new) }
-        ensures time { IsTrue (honest self.old) → Elapses (moment self.old) (moment self.new) (left_since self.old) (left_since self.new) (held self.old) }
-        ensures cause { HasCause (faults self.old) (faults self.new) result };
+        ensures time { IsTrue (honest self.old) → Passes moment left_since self.old self.new (held self.old) }
+        ensures cause { HasCause DiskError.Fault (faults self.old) (faults self.new) result };
 
     /// Takes a settled file out of reach of every change but `retire`, and gives the value that reads it.
     fn freeze(&mut self, file: u64) -> Result<Self::Sealed, DiskError>
@@ -128,12 +140,15 @@ pub trait Disk: Drop {
         requires thawed { (marks self.old file).frozen ≡ false }
         ensures honest { honest self.new ≡ honest self.old }
         ensures clock { moment self.old ≤ moment self.new }
-        ensures sealed { IfOk result (λ sealed. (Self.Sealed.number sealed ≡ file) × (Self.Sealed.size sealed ≡ (marks self.old file).size) × (Self.Sealed.honest sealed ≡ honest self.old)) }
-        ensures octets { IsTrue (honest self.old) → IfOk result (λ sealed. Self.Sealed.octets sealed ≡ (held self.old file).reads) }
-        ensures frozen { OnOk result (Changes (marks self.old) (marks self.new) file (record { size = (marks self.old file).size; settled = true; frozen = true; listed = (marks self.old file).listed })) }
+        ensures sealed { IfOk result (λ sealed. (Self.Sealed.number sealed ≡ file)
+            × (Self.Sealed.size sealed ≡ (marks self.old file).size) × (Self.Sealed.honest sealed ≡ honest self.old)) }
+        ensures octets { IsTrue (honest self.old)
+            → IfOk result (λ sealed. Self.Sealed.octets sealed ≡ (held self.old file).reads) }
+        ensures frozen { OnOk result
+            (Changes (marks self.old) (marks self.new) file (frozen_as (marks self.old file))) }
         ensures thawed { OnErr result (Stays (marks self.old) (marks self.new)) }
         ensures held { IsTrue (honest self.old) → Stays (held self.old) (held self.new) }
-        ensures time { IsTrue (honest self.old) → Elapses (moment self.old) (moment self.new) (left_since self.old) (left_since self.new) (held self.old) }
+        ensures time { IsTrue (honest self.old) → Passes moment left_since self.old self.new (held self.old) }
         ensures cause { FailsOnlyByFault (faults self.old) (faults self.new) result };
 
     /// Removes a frozen file, in exchange for its value.
@@ -142,32 +157,43 @@ pub trait Disk: Drop {
         ensures honest { honest self.new ≡ honest self.old }
         ensures clock { moment self.old ≤ moment self.new }
         ensures marks { MarkedByRemoval (marks self.old) (marks self.new) (Self.Sealed.number sealed) result }
-        ensures held { IsTrue (honest self.old) → Removes (held self.old) (held self.new) (Self.Sealed.number sealed) result }
-        ensures time { IsTrue (honest self.old) → Elapses (moment self.old) (moment self.new) (left_since self.old) (left_since self.new) (changed (held self.old) (Self.Sealed.number sealed) (given_up (held self.old (Self.Sealed.number sealed)) (held self.old (Self.Sealed.number sealed)).reads)) }
-        ensures covered { IsTrue (honest self.old) → OnOk result (Covers (moment self.old) (left_since self.new) (changed (held self.old) (Self.Sealed.number sealed) (given_up (held self.old (Self.Sealed.number sealed)) (held self.old (Self.Sealed.number sealed)).reads))) }
+        ensures held { IsTrue (honest self.old)
+            → Removes (held self.old) (held self.new) (Self.Sealed.number sealed) result }
+        ensures time { IsTrue (honest self.old)
+            → Passes moment left_since self.old self.new (while_removing (held self.old) (Self.Sealed.number sealed)) }
+        ensures covered { IsTrue (honest self.old)
+            → OnOk result (Covers (moment self.old) (left_since self.new)
+            (while_removing (held self.old) (Self.Sealed.number sealed))) }
         ensures cause { FailsOnlyByFault (faults self.old) (faults self.new) result };
 
     /// What is read is an image.
-    ghost reads_image: { (disk : Self) (file : ℕ) → IsTrue (honest disk) → IsImage (held disk file) (held disk file).reads };
+    ghost reads_image: { (disk : Self) (file : ℕ) → IsTrue (honest disk)
+        → IsImage (held disk file) (held disk file).reads };
 
     /// The places that a stop can't reach had octets when the file was last settled.
-    ghost fast_within: { (disk : Self) (file : ℕ) → IsTrue (honest disk) → (held disk file).fast ≤ length (held disk file).last };
+    ghost fast_within: { (disk : Self) (file : ℕ) → IsTrue (honest disk)
+        → (held disk file).fast ≤ length (held disk file).last };
 
     /// A fast end is where the file ended when it was last settled.
-    ghost fast_whole: { (disk : Self) (file : ℕ) → IsTrue (honest disk) → (held disk file).loose ≡ false → length (held disk file).last ≡ (held disk file).fast };
+    ghost fast_whole: { (disk : Self) (file : ℕ) → IsTrue (honest disk) → (held disk file).loose ≡ false
+        → length (held disk file).last ≡ (held disk file).fast };
 
     /// A settled file has one image: what it reads as.
-    ghost settled_alone: { (disk : Self) (file : ℕ) (image : List ℕ) → IsTrue (honest disk) → (marks disk file).settled ≡ true → IsImage (held disk file) image → image ≡ (held disk file).reads };
+    ghost settled_alone: { (disk : Self) (file : ℕ) (image : List ℕ) → IsTrue (honest disk)
+        → (marks disk file).settled ≡ true → IsImage (held disk file) image → image ≡ (held disk file).reads };
 
     /// A file's length is that of what it reads as.
-    ghost has_size: { (disk : Self) (file : ℕ) → IsTrue (honest disk) → (marks disk file).size ≡ length (held disk file).reads };
+    ghost has_size: { (disk : Self) (file : ℕ) → IsTrue (honest disk)
+        → (marks disk file).size ≡ length (held disk file).reads };
 
     /// No file passes 2^62 octets; a write past them is a fault.
     ghost within_limit: { (disk : Self) (file : ℕ) → (marks disk file).size ≤ 2 ^ 62 };
 
     /// This moment is one of those since an earlier one.
-    ghost counts_now: { (disk : Self) (t : ℕ) (image : ℕ → List ℕ) → IsTrue (honest disk) → t ≤ moment disk → IsDiskImage (held disk) image → left_since disk t image };
+    ghost counts_now: { (disk : Self) (t : ℕ) (image : ℕ → List ℕ) → IsTrue (honest disk) → t ≤ moment disk
+        → IsDiskImage (held disk) image → left_since disk t image };
 
     /// From this moment on there is no other.
-    ghost only_now: { (disk : Self) (image : ℕ → List ℕ) → IsTrue (honest disk) → left_since disk (moment disk) image → IsDiskImage (held disk) image };
+    ghost only_now: { (disk : Self) (image : ℕ → List ℕ) → IsTrue (honest disk) → left_since disk (moment disk) image
+        → IsDiskImage (held disk) image };
 }

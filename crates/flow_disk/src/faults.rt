@@ -2,33 +2,36 @@
 ghost use Rattle.std.specs.Prelude.{◌≡◌, ℕ, ◌≤◌};
 ghost use Rattle.flow_disk.specs.Cause.{HasRisen};
 
-use crate::SealedFile;
-use std::marker::Model;
+use crate::MayFail;
+use std::marker::{Model, PhantomData};
 
-/// How often reads of sealed files have failed, up to 2^64 - 1, where the count stays. Contracts alone see it.
+/// How often reads of sealed files of one kind have failed, up to 2^64 - 1, where the count stays. Contracts alone see
+/// it. A count belongs to its kind of file: no layer above a device can raise it, not even through a kind of its own.
 #[derive(Drop)]
-pub struct Faults {
+pub struct Faults<S> {
     count: u64,
+    kind: PhantomData<S>,
 }
 
-impl Model for Faults {
+impl<S> Model for Faults<S> {
     ghost Value = { ℕ };
 
     ghost view = { λ f. f.count };
 }
 
-impl Faults {
+impl<S: MayFail> Faults<S> {
     /// No failure yet.
     pub fn new() -> Self
         ensures { result ≡ 0 }
     {
-        Faults { count: 0 }
+        Faults {
+            count: 0,
+            kind: PhantomData,
+        }
     }
 
-    /// Counts one failure more, for a device whose read has failed. Only the code of a device can show that its file
-    /// can fail, so no layer above makes up a fault.
-    pub fn raise<S: SealedFile>(&mut self, file: &S)
-        requires { S.can_fail file.now }
+    /// Counts one failure more. It takes what only the code of such a file's device can make, where its read failed.
+    pub fn raise(&mut self, _failure: &S::Failure)
         ensures risen { HasRisen self.old self.new }
         ensures later { self.old ≤ self.new }
     {

@@ -14,5 +14,5 @@ mod sealed;
 pub use disk::Disk;
 pub use error::DiskError;
 pub use faults::Faults;
-pub use laws::{laws_of_images, laws_of_moments};
-pub use sealed::SealedFile;
+pub use laws::{Step, law_of_quiet_calls, law_of_runs, laws_of_images};
+pub use sealed::{MayFail, SealedFile};

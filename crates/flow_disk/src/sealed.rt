@@ -1,12 +1,20 @@
 // A frozen file.
-ghost use Rattle.std.specs.Prelude.{◌≡◌, ℕ, ◌+◌, ◌≤◌, Bool, IsTrue, List, length, take, drop, IfOk, vec_len};
+ghost use Rattle.std.specs.Prelude.{◌≡◌, ℕ, ◌+◌, ◌≤◌, Bool, IsTrue, List, length, take, drop, IfOk, IsErrOf, vec_len};
 ghost use Rattle.flow_disk.specs.Cause.{HasCause};
 
 use crate::{DiskError, Faults};
 use std::alloc::Global;
 
+/// What a frozen file's read answers a fault by. It stands apart from `SealedFile`, so that the read itself can raise a
+/// count of its own kind.
+pub trait MayFail {
+    /// What shows that a read of such a file has failed. The code of its device alone makes one, so nothing above it
+    /// can make up a failure. Of a file whose reads can't fail it is a type without values.
+    type Failure;
+}
+
 /// A file that no call changes for as long as this value is there. Its meaning is its octets.
-pub trait SealedFile: Drop {
+pub trait SealedFile: MayFail + Drop {
     /// On an honest disk, the octets of the file.
     ghost octets: { Self → List ℕ };
 
@@ -19,8 +27,8 @@ pub trait SealedFile: Drop {
     /// Whether reads give the file's octets.
     ghost honest: { Self → Bool };
 
-    /// That a read of this file can fail: known to the code of its device alone, which may then count a failure.
-    ghost can_fail: { Self → Type 0 };
+    /// Where a read at this place of so many octets may answer a fault.
+    ghost can_fail: { Self → ℕ → ℕ → Type 0 };
 
     /// The file's number on its disk.
     fn file(&self) -> u64
@@ -30,19 +38,21 @@ pub trait SealedFile: Drop {
     fn length(&self) -> u64
         ensures { result ≡ size self.now };
 
-    /// Reads `count` octets from place `at` on. Answers `OutOfMemory`, or `Fault` where this read failed and has raised
-    /// `faults`.
+    /// Reads `count` octets from place `at` on. Answers `OutOfMemory`, or `Fault` exactly where this read failed and
+    /// has raised `faults`.
     fn read(
         &self,
         alloc: Global,
-        faults: &mut Faults,
+        faults: &mut Faults<Self>,
         at: u64,
         count: usize,
     ) -> Result<Vec<u8>, DiskError>
         requires { at + count ≤ size self.now }
         ensures count { IfOk result (λ got. vec_len got ≡ count) }
-        ensures octets { IfOk result (λ got. IsTrue (honest self.now) → got.items ≡ take count (drop at (octets self.now))) }
-        ensures cause { HasCause faults.old faults.new result };
+        ensures octets { IfOk result (λ got. IsTrue (honest self.now)
+            → got.items ≡ take count (drop at (octets self.now))) }
+        ensures cause { HasCause DiskError.Fault faults.old faults.new result }
+        ensures able { IsErrOf result DiskError.Fault → can_fail self.now at count };
 
     /// An honest file has its octets.
     ghost whole: { (file : Self) → IsTrue (honest file) → length (octets file) ≡ size file };

@@ -9,23 +9,28 @@ front_shorter end before after kept = shorter end (end + 2) after before (omega 
 
 -- lists that are kept may be added to later
 pub kept_may_add : (end : ℕ) (messages : List (List ℕ)) (a b : List ℕ) → KeepsLists end a b → MayAdd end messages a b
-kept_may_add end messages a b kept = record { front = front_shorter end a b kept; lists = λ from list gated ends. inl (kept.lists from list gated ends) }
+kept_may_add end messages a b kept =
+    record { front = front_shorter end a b kept; lists = λ from list gated ends. inl (kept.lists from list gated ends) }
 
-pub kept_then_may_add : (end : ℕ) (messages : List (List ℕ)) (a b c : List ℕ) → KeepsLists end a b → MayAdd end messages b c → MayAdd end messages a c
+pub kept_then_may_add : (end : ℕ) (messages : List (List ℕ)) (a b c : List ℕ) → KeepsLists end a b
+    → MayAdd end messages b c → MayAdd end messages a c
 kept_then_may_add end messages a b c kept opens = record {
   front = opens.front ∙ front_shorter end a b kept;
   lists = λ from list gated ends. opens.lists from list (kept.lists from list gated ends) ends;
 }
 
-pub kept_then_adds : (end : ℕ) (messages : List (List ℕ)) (a b c : List ℕ) → KeepsLists end a b → Adds end messages b c → Adds end messages a c
+pub kept_then_adds : (end : ℕ) (messages : List (List ℕ)) (a b c : List ℕ) → KeepsLists end a b → Adds end messages b c
+    → Adds end messages a c
 kept_then_adds end messages a b c kept opens = record {
   front = opens.front ∙ front_shorter end a b kept;
   lists = λ from list gated ends. opens.lists from list (kept.lists from list gated ends) ends;
 }
 
 -- the closed gate behind the batch, where the next one goes
-pub closed_behind : (end : ℕ) (messages : List (List ℕ)) (before after : List ℕ) → IsClosedAt before end → Adds end messages before after → IsClosedAt after (end + octets_of messages)
+pub closed_behind : (end : ℕ) (messages : List (List ℕ)) (before after : List ℕ) → IsClosedAt before end
+    → Adds end messages before after → IsClosedAt after (end + octets_of messages)
 closed_behind end messages before after closed adds =
-    let here : IsGated before end [] = record { row = tt; closed = subst (λ (p : ℕ). IsClosedAt before p) (omega arith) closed } in
+    let here : IsGated before end [] =
+    record { row = tt; closed = subst (λ (p : ℕ). IsClosedAt before p) (omega arith) closed } in
     let gated = adds.lists end [] here (omega arith) in
     gated.closed

@@ -4,5 +4,5 @@ mod Opening
 mod Placing
 mod Reading
 pub mod Rows
-mod Walking
+pub mod Walking
 pub mod Written

@@ -1,5 +1,6 @@
 -- A file of one image whose gate is opened.
-use Rattle.std.proofs.Common.{◌≡◌, ◌≢◌, inl, inr, ⊎_elim, ℕ, ◌+◌, List, [], ◌∷◌, get_or, set, take, refl, sym, ◌∙◌, ap, subst, arith, length-set}
+use Rattle.std.proofs.Common.{◌≡◌, ◌≢◌, inl, inr, ⊎_elim, ℕ, ◌+◌, List, [], ◌∷◌, get_or, set, take, refl, sym, ◌∙◌, ap}
+use Rattle.std.proofs.Common.{subst, arith, length-set}
 use Rattle.std.proofs.lemmas.List.{take-set-le, get_or-set_same, get_or-set_other}
 use Rattle.std.proofs.lemmas.Bool.{cases_eq}
 use Rattle.flow_disk.specs.Disk.{Held, IsImage, IsDiskImage, ComesOf, InFile, changed, touched_at, settled_at, put_at}
@@ -29,7 +30,8 @@ module _ (before : List ℕ) (end octet : ℕ) (messages : List (List ℕ)) (pla
   is_put = set_is_put before (end + 1) octet (omega (arith, placed.closed.room))
 
   now_open : octet ≡ 10 → IsGated after end messages
-  now_open ten = subst (λ (l : List ℕ). IsGated l end messages) (sym (is_put ∙ ap (λ (n : ℕ). put_at before (end + 1) (n ∷ [])) ten)) placed.once_open
+  now_open ten = subst (λ (l : List ℕ). IsGated l end messages)
+      (sym (is_put ∙ ap (λ (n : ℕ). put_at before (end + 1) (n ∷ [])) ten)) placed.once_open
 
   -- whatever stands at the gate
   may_add_set : MayAdd end messages before after
@@ -50,45 +52,62 @@ module _ (before : List ℕ) (end octet : ℕ) (messages : List (List ℕ)) (pla
     lists = λ from list gated ends. gated_join end from before after list messages same_front ends gated (now_open ten);
   }
 
-pub adds : (before : List ℕ) (end : ℕ) (messages : List (List ℕ)) → IsPlaced before end messages → Adds end messages before (opened before end)
-adds before end messages placed = subst (λ l. Adds end messages before l) (is_put before end 10 messages placed) (adds_set before end 10 messages placed refl)
+pub adds : (before : List ℕ) (end : ℕ) (messages : List (List ℕ)) → IsPlaced before end messages
+    → Adds end messages before (opened before end)
+adds before end messages placed =
+    subst (λ l. Adds end messages before l) (is_put before end 10 messages placed)
+    (adds_set before end 10 messages placed refl)
 
 pub may_add_same : (end : ℕ) (messages : List (List ℕ)) (octets : List ℕ) → MayAdd end messages octets octets
 may_add_same end messages octets = record { front = refl; lists = λ from list gated ends. inl gated }
 
 -- on a file with one image
-module _ (file : Held) (end : ℕ) (messages : List (List ℕ)) (alone : IsAlone file) (placed : IsPlaced file.reads end messages) where
+module _ (file : Held) (end : ℕ) (messages : List (List ℕ)) (alone : IsAlone file)
+    (placed : IsPlaced file.reads end messages) where
   -- while the gate is written
-  pub while_opened : (reads : List ℕ) (image : List ℕ) → IsImage (touched_at file (end + 1) 1 reads) image → (before : List ℕ) × IsImage file before × MayAdd end messages before image
+  pub while_opened : (reads : List ℕ) (image : List ℕ) → IsImage (touched_at file (end + 1) 1 reads) image
+      → (before : List ℕ) × IsImage file before × MayAdd end messages before image
   while_opened reads image is = (
     file.reads,
     alone.reads,
-    subst (λ l. MayAdd end messages file.reads l) (sym (one_octet file (end + 1) reads image alone (omega (arith, placed.closed.room)) is))
+    subst (λ l. MayAdd end messages file.reads l)
+        (sym (one_octet file (end + 1) reads image alone (omega (arith, placed.closed.room)) is))
         (may_add file.reads end (get_or image (end + 1) 0) messages placed),
   )
 
   -- once it is settled
-  pub once_opened : (now : Held) → now ≡ settled_at (opened file.reads end) → (image : List ℕ) → IsImage now image → (before : List ℕ) × IsImage file before × Adds end messages before image
+  pub once_opened : (now : Held) → now ≡ settled_at (opened file.reads end) → (image : List ℕ) → IsImage now image
+      → (before : List ℕ) × IsImage file before × Adds end messages before image
   once_opened now settled image is = (
     file.reads,
     alone.reads,
-    subst (λ l. Adds end messages file.reads l) (sym (settled_one (opened file.reads end) image (subst (λ (f : Held). IsImage f image) settled is))) (adds file.reads end messages placed),
+    subst (λ l. Adds end messages file.reads l)
+        (sym (settled_one (opened file.reads end) image (subst (λ (f : Held). IsImage f image) settled is)))
+        (adds file.reads end messages placed),
   )
 
 -- the calls of `open_gate`, one behind the other
-module _ {D : Type 0} (moment : D → ℕ) (left_since : D → ℕ → (ℕ → List ℕ) → Type 0) (held : D → ℕ → Held) (start : D) (file end : ℕ) (messages : List (List ℕ))
+module _ {D : Type 0} (moment : D → ℕ) (left_since : D → ℕ → (ℕ → List ℕ) → Type 0) (held : D → ℕ
+    → Held) (start : D) (file end : ℕ) (messages : List (List ℕ))
     (alone : IsAlone (held start file)) (placed : IsPlaced (held start file).reads end messages)
     (only_now : (image : ℕ → List ℕ) → left_since start (moment start) image → IsDiskImage (held start) image) where
   abbrev Opens : D → Type 0
   Opens now = LeavesOnly moment left_since start now (ComesOf (held start) (InFile file (MayAdd end messages)))
 
   pub inside_write : (mid : D) (reads : List ℕ)
-      → Elapses (moment start) (moment mid) (left_since start) (left_since mid) (changed (held start) file (touched_at (held start file) (end + 1) 1 reads)) → Opens mid
-  inside_write mid reads time = changes moment left_since held start start mid file (MayAdd end messages) (touched_at (held start file) (end + 1) 1 reads)
+      → Elapses (moment start) (moment mid) (left_since start) (left_since mid)
+      (changed (held start) file (touched_at (held start file) (end + 1) 1 reads)) → Opens mid
+  inside_write mid reads time =
+      changes moment left_since held start start mid file (MayAdd end messages)
+      (touched_at (held start file) (end + 1) 1 reads)
       (starts moment left_since held start file (MayAdd end messages) only_now (λ a is. may_add_same end messages a))
       (λ n differs. refl) time (while_opened (held start file) end messages alone placed reads)
 
-  pub inside_sync : (mid new : D) (reads : List ℕ) → Opens mid → held mid file ≡ touched_at (held start file) (end + 1) 1 reads → ((n : ℕ) → n ≢ file → held mid n ≡ held start n)
+  pub inside_sync : (mid new : D) (reads : List ℕ) → Opens mid
+      → held mid file ≡ touched_at (held start file) (end + 1) 1 reads
+      → ((n : ℕ) → n ≢ file → held mid n ≡ held start n)
       → Elapses (moment mid) (moment new) (left_since mid) (left_since new) (held mid) → Opens new
-  inside_sync mid new reads so_far wrote others time = stays moment left_since held start mid new file (MayAdd end messages) so_far others time
-      (λ image is. while_opened (held start file) end messages alone placed reads image (subst (λ (f : Held). IsImage f image) wrote is))
+  inside_sync mid new reads so_far wrote others time =
+      stays moment left_since held start mid new file (MayAdd end messages) so_far others time
+      (λ image is. while_opened (held start file) end messages alone placed reads image
+      (subst (λ (f : Held). IsImage f image) wrote is))

@@ -27,12 +27,26 @@ pub record IsClosedAt (octets : List ℕ) (place : ℕ) : Type 0 where
 -- whole messages one behind the other
 abbrev pub StandInRow : List ℕ → ℕ → List (List ℕ) → Type 0
 StandInRow octets place [] = Unit {0}
-StandInRow octets place (message ∷ list) = IsWhole message × StandsAt octets place message × StandInRow octets (place + length message) list
+StandInRow octets place (message ∷ list) = IsWhole message × StandsAt octets place message
+    × StandInRow octets (place + length message) list
 
 -- how many octets they have
 abbrev pub octets_of : List (List ℕ) → ℕ
 octets_of [] = 0
 octets_of (message ∷ list) = length message + octets_of list
+
+-- A whole message of so many octets stands at a place, as far as the gate looks.
+pub record IsMessageAt (octets : List ℕ) (place count : ℕ) : Type 0 where
+  pub zero_octet : get_or octets place 0 ≡ 0
+  pub ten : get_or octets (place + 1) 0 ≡ 10
+  pub counted : length_field octets place ≡ count
+  pub long : 16 ≤ count
+  pub room : place + count ≤ length octets
+
+-- Whole messages stand from a place on, up to the end: a list without a gate behind it.
+pub record IsRow (octets : List ℕ) (from : ℕ) (list : List (List ℕ)) : Type 0 where
+  pub row : StandInRow octets from list
+  pub ends : from + octets_of list ≡ length octets
 
 -- The gated list: these messages from a place on, and then a closed gate.
 pub record IsGated (octets : List ℕ) (place : ℕ) (list : List (List ℕ)) : Type 0 where
@@ -42,7 +56,8 @@ pub record IsGated (octets : List ℕ) (place : ℕ) (list : List (List ℕ)) : 
 -- neither a closed gate nor a message that fits with 2 octets behind it
 abbrev pub IsFaultyAt : List ℕ → ℕ → Type 0
 IsFaultyAt octets place = (length octets < place + 2) ⊎ (get_or octets place 0 ≢ 0)
-    ⊎ ((get_or octets (place + 1) 0 ≡ 10) × ((length_field octets place < 16) ⊎ (length octets < place + length_field octets place + 2)))
+    ⊎ ((get_or octets (place + 1) 0 ≡ 10)
+    × ((length_field octets place < 16) ⊎ (length octets < place + length_field octets place + 2)))
 
 -- whole messages that leave 2 octets more, and then a fault
 pub record IsDamaged (octets : List ℕ) (from at : ℕ) : Type 0 where

@@ -9,11 +9,13 @@ OneListFits = (octets : List ℕ) (from : ℕ) (a b : List (List ℕ)) → IsGat
 
 -- Octets have a gated list from a place on, or damage,
 abbrev pub ListOrDamage : Type 0
-ListOrDamage = (octets : List ℕ) (from : ℕ) → ((list : List (List ℕ)) × IsGated octets from list) ⊎ ((at : ℕ) × IsDamaged octets from at)
+ListOrDamage = (octets : List ℕ) (from : ℕ) → ((list : List (List ℕ)) × IsGated octets from list)
+    ⊎ ((at : ℕ) × IsDamaged octets from at)
 
 -- never both,
 abbrev pub NeverBoth : Type 0
-NeverBoth = (octets : List ℕ) (from at : ℕ) (list : List (List ℕ)) → IsGated octets from list → IsDamaged octets from at → ⊥
+NeverBoth = (octets : List ℕ) (from at : ℕ) (list : List (List ℕ)) → IsGated octets from list
+    → IsDamaged octets from at → ⊥
 
 -- and damage has one place.
 abbrev pub OnePlaceDamaged : Type 0
@@ -21,16 +23,20 @@ OnePlaceDamaged = (octets : List ℕ) (from a b : ℕ) → IsDamaged octets from
 
 -- A row is its messages' octets,
 abbrev pub RowIsItsOctets : Type 0
-RowIsItsOctets = (octets : List ℕ) (from : ℕ) (list : List (List ℕ)) → StandInRow octets from list → take (octets_of list) (drop from octets) ≡ concat list
+RowIsItsOctets = (octets : List ℕ) (from : ℕ) (list : List (List ℕ)) → StandInRow octets from list
+    → take (octets_of list) (drop from octets) ≡ concat list
 
 -- stays where the file is cut behind it,
 abbrev pub RowStaysInCut : Type 0
-RowStaysInCut = (octets : List ℕ) (from count : ℕ) (list : List (List ℕ)) → from + octets_of list ≤ count → StandInRow octets from list → StandInRow (take count octets) from list
+RowStaysInCut = (octets : List ℕ) (from count : ℕ) (list : List (List ℕ)) → from + octets_of list ≤ count
+    → StandInRow octets from list → StandInRow (take count octets) from list
 
 -- and no other one has as many octets.
 abbrev pub OneRowFits : Type 0
-OneRowFits = (octets : List ℕ) (from : ℕ) (a b : List (List ℕ)) → StandInRow octets from a → StandInRow octets from b → octets_of a ≡ octets_of b → a ≡ b
+OneRowFits = (octets : List ℕ) (from : ℕ) (a b : List (List ℕ)) → StandInRow octets from a → StandInRow octets from b
+    → octets_of a ≡ octets_of b → a ≡ b
 
 -- A gated list stays where the file is cut behind its gate.
 abbrev pub ListStaysInCut : Type 0
-ListStaysInCut = (octets : List ℕ) (from count : ℕ) (list : List (List ℕ)) → from + octets_of list + 2 ≤ count → IsGated octets from list → IsGated (take count octets) from list
+ListStaysInCut = (octets : List ℕ) (from count : ℕ) (list : List (List ℕ)) → from + octets_of list + 2 ≤ count
+    → IsGated octets from list → IsGated (take count octets) from list

@@ -1,5 +1,5 @@
 -- What a scan finds and tells.
-use Rattle.std.specs.Prelude.{◌≡◌, ℕ, ◌+◌, ◌≤◌, List, ◌++◌, length, get_or, map, Vec, codes, Result, Ok, Err}
+use Rattle.std.specs.Prelude.{◌≡◌, ℕ, ◌+◌, ◌≤◌, List, ◌++◌, length, map, Vec, codes, Result, Ok, Err}
 use Rattle.std.specs.Fmt.{decimal}
 use Rattle.std.specs.declared.alloc.Global.{Global}
 use Rattle.flow_disk.specs.declared.error.DiskError.{DiskError}
@@ -9,7 +9,7 @@ use Rattle.flow_gate.specs.declared.tail.Found.TheVariants.{Closed, Message, Dam
 use Rattle.flow_gate.specs.declared.tail.Tail.{Tail}
 use Rattle.flow_gate.specs.declared.tail.ScanError.{ScanError}
 use Rattle.flow_gate.specs.declared.tail.ScanError.TheVariants.{Damaged, Fault, OutOfMemory}
-use Rattle.flow_gate.specs.Gate.{IsClosedAt, IsFaultyAt, IsGated, IsDamaged, length_field, octets_of}
+use Rattle.flow_gate.specs.Gate.{IsClosedAt, IsFaultyAt, IsMessageAt, IsGated, IsDamaged, octets_of}
 
 -- the octets of each message
 abbrev pub texts : List (Vec ℕ Global) → List (List ℕ)
@@ -58,10 +58,7 @@ IsToldRead octets file from OutOfMemory = Unit {0}
 
 -- a message that fits, with 2 octets behind it
 pub record IsOpenAt (octets : List ℕ) (place count : ℕ) : Type 0 where
-  pub zero_octet : get_or octets place 0 ≡ 0
-  pub ten : get_or octets (place + 1) 0 ≡ 10
-  pub counted : length_field octets place ≡ count
-  pub long : 16 ≤ count
+  pub message : IsMessageAt octets place count
   pub room : place + count + 2 ≤ length octets
 
 -- what stands at a place

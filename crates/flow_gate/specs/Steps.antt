@@ -20,7 +20,8 @@ put_batch octets end messages = put_at octets (end + 2) (drop 2 (concat messages
 -- What stands up to the gate at `end` is as it was, and so is each list that ends there.
 pub record KeepsLists (end : ℕ) (before after : List ℕ) : Type 0 where
   pub front : take (end + 2) after ≡ take (end + 2) before
-  pub lists : (from : ℕ) (list : List (List ℕ)) → IsGated before from list → from + octets_of list ≡ end → IsGated after from list
+  pub lists : (from : ℕ) (list : List (List ℕ)) → IsGated before from list → from + octets_of list ≡ end
+      → IsGated after from list
 
 -- The same, and the messages stand behind the gate.
 pub record Places (end : ℕ) (messages : List (List ℕ)) (before after : List ℕ) : Type 0 where
@@ -36,4 +37,5 @@ pub record MayAdd (end : ℕ) (messages : List (List ℕ)) (before after : List 
 -- Each list that ended at `end` has all these messages more.
 pub record Adds (end : ℕ) (messages : List (List ℕ)) (before after : List ℕ) : Type 0 where
   pub front : take end after ≡ take end before
-  pub lists : (from : ℕ) (list : List (List ℕ)) → IsGated before from list → from + octets_of list ≡ end → IsGated after from (list ++ messages)
+  pub lists : (from : ℕ) (list : List (List ℕ)) → IsGated before from list → from + octets_of list ≡ end
+      → IsGated after from (list ++ messages)

@@ -23,7 +23,8 @@ pub fn place_batch<D: Disk>(
     requires messages { All IsWhole (slices messages.now) }
     requires room { end + 2 ≤ (D.marks disk.old file).size }
     requires thawed { (D.marks disk.old file).frozen ≡ false }
-    requires gated { IsTrue (D.honest disk.old) → (image : List ℕ) → IsImage (D.held disk.old file) image → IsClosedAt image end }
+    requires gated { IsTrue (D.honest disk.old) → (image : List ℕ) → IsImage (D.held disk.old file) image
+        → IsClosedAt image end }
 
     // On every disk.
     ensures honest { D.honest disk.new ≡ D.honest disk.old }
@@ -32,14 +33,18 @@ pub fn place_batch<D: Disk>(
     ensures thawed { (D.marks disk.new file).frozen ≡ false }
     ensures settled { OnOk result ((D.marks disk.new file).settled ≡ true) }
     ensures listed { OnOk result ((D.marks disk.new file).listed ≡ true) }
-    ensures size { OnOk result ((D.marks disk.new file).size ≡ max (D.marks disk.old file).size (end + octets_of (slices messages.now) + 2)) }
+    ensures size { OnOk result
+        ((D.marks disk.new file).size ≡ max (D.marks disk.old file).size (end + octets_of (slices messages.now) + 2)) }
     ensures cause { FailsOnlyByFault (D.faults disk.old) (D.faults disk.new) result }
 
     // On an honest one: what the file reads as, and that each of its images holds the lists that were there, with the
     // batch behind their gate.
     ensures other_files { IsTrue (D.honest disk.old) → (n : ℕ) → n ≢ file → D.held disk.new n ≡ D.held disk.old n }
-    ensures octets { IsTrue (D.honest disk.old) → OnOk result ((D.held disk.new file).reads ≡ put_batch (D.held disk.old file).reads end (slices messages.now)) }
-    ensures placed { IsTrue (D.honest disk.old) → OnOk result (IsPlaced (D.held disk.new file).reads end (slices messages.now)) }
+    ensures octets { IsTrue (D.honest disk.old)
+        → OnOk result ((D.held disk.new file).reads ≡ put_batch (D.held disk.old file).reads end
+        (slices messages.now)) }
+    ensures placed { IsTrue (D.honest disk.old)
+        → OnOk result (IsPlaced (D.held disk.new file).reads end (slices messages.now)) }
     ensures after { IsTrue (D.honest disk.old) → OnOk result
         (AllImages (D.held disk.new) (ComesOf (D.held disk.old) (InFile file (Places end (slices messages.now))))) }
 
@@ -63,7 +68,8 @@ pub fn place<D: Disk>(disk: &mut D, file: u64, end: u64, message: &[u8]) -> Resu
     requires message { IsWhole message.now }
     requires room { end + 2 ≤ (D.marks disk.old file).size }
     requires thawed { (D.marks disk.old file).frozen ≡ false }
-    requires gated { IsTrue (D.honest disk.old) → (image : List ℕ) → IsImage (D.held disk.old file) image → IsClosedAt image end }
+    requires gated { IsTrue (D.honest disk.old) → (image : List ℕ) → IsImage (D.held disk.old file) image
+        → IsClosedAt image end }
 
     // On every disk.
     ensures honest { D.honest disk.new ≡ D.honest disk.old }
@@ -72,13 +78,16 @@ pub fn place<D: Disk>(disk: &mut D, file: u64, end: u64, message: &[u8]) -> Resu
     ensures thawed { (D.marks disk.new file).frozen ≡ false }
     ensures settled { OnOk result ((D.marks disk.new file).settled ≡ true) }
     ensures listed { OnOk result ((D.marks disk.new file).listed ≡ true) }
-    ensures size { OnOk result ((D.marks disk.new file).size ≡ max (D.marks disk.old file).size (end + length message.now + 2)) }
+    ensures size { OnOk result
+        ((D.marks disk.new file).size ≡ max (D.marks disk.old file).size (end + length message.now + 2)) }
     ensures cause { FailsOnlyByFault (D.faults disk.old) (D.faults disk.new) result }
 
     // On an honest one.
     ensures other_files { IsTrue (D.honest disk.old) → (n : ℕ) → n ≢ file → D.held disk.new n ≡ D.held disk.old n }
-    ensures octets { IsTrue (D.honest disk.old) → OnOk result ((D.held disk.new file).reads ≡ put_batch (D.held disk.old file).reads end (message.now ∷ [])) }
-    ensures placed { IsTrue (D.honest disk.old) → OnOk result (IsPlaced (D.held disk.new file).reads end (message.now ∷ [])) }
+    ensures octets { IsTrue (D.honest disk.old)
+        → OnOk result ((D.held disk.new file).reads ≡ put_batch (D.held disk.old file).reads end (message.now ∷ [])) }
+    ensures placed { IsTrue (D.honest disk.old)
+        → OnOk result (IsPlaced (D.held disk.new file).reads end (message.now ∷ [])) }
     ensures after { IsTrue (D.honest disk.old) → OnOk result
         (AllImages (D.held disk.new) (ComesOf (D.held disk.old) (InFile file (Places end (message.now ∷ []))))) }
     ensures any_moment { IsTrue (D.honest disk.old) → LeavesOnly D.moment D.left_since disk.old disk.new
@@ -93,7 +102,8 @@ pub fn open_gate<D: Disk>(disk: &mut D, file: u64, end: u64) -> Result<(), DiskE
     requires room { end + 2 ≤ (D.marks disk.old file).size }
     requires thawed { (D.marks disk.old file).frozen ≡ false }
     requires settled { (D.marks disk.old file).settled ≡ true }
-    requires placed { IsTrue (D.honest disk.old) → (messages : List (List ℕ)) × IsPlaced (D.held disk.old file).reads end messages }
+    requires placed { IsTrue (D.honest disk.old)
+        → (messages : List (List ℕ)) × IsPlaced (D.held disk.old file).reads end messages }
 
     // On every disk.
     ensures honest { D.honest disk.new ≡ D.honest disk.old }
@@ -108,13 +118,17 @@ pub fn open_gate<D: Disk>(disk: &mut D, file: u64, end: u64) -> Result<(), DiskE
     // On an honest one: what the file reads as, and that each of its images holds the lists that were there, with all
     // messages of the batch.
     ensures other_files { IsTrue (D.honest disk.old) → (n : ℕ) → n ≢ file → D.held disk.new n ≡ D.held disk.old n }
-    ensures octets { IsTrue (D.honest disk.old) → OnOk result ((D.held disk.new file).reads ≡ opened (D.held disk.old file).reads end) }
-    ensures after { IsTrue (D.honest disk.old) → (messages : List (List ℕ)) → IsPlaced (D.held disk.old file).reads end messages → OnOk result
+    ensures octets { IsTrue (D.honest disk.old)
+        → OnOk result ((D.held disk.new file).reads ≡ opened (D.held disk.old file).reads end) }
+    ensures after { IsTrue (D.honest disk.old) → (messages : List (List ℕ))
+        → IsPlaced (D.held disk.old file).reads end messages → OnOk result
         (AllImages (D.held disk.new) (ComesOf (D.held disk.old) (InFile file (Adds end messages)))) }
 
     // A stop at any moment leaves the lists that were there, with all messages of the batch or with none.
-    ensures any_moment { IsTrue (D.honest disk.old) → (messages : List (List ℕ)) → IsPlaced (D.held disk.old file).reads end messages
-        → LeavesOnly D.moment D.left_since disk.old disk.new (ComesOf (D.held disk.old) (InFile file (MayAdd end messages))) }
+    ensures any_moment { IsTrue (D.honest disk.old) → (messages : List (List ℕ))
+        → IsPlaced (D.held disk.old file).reads end messages
+        → LeavesOnly D.moment D.left_since disk.old disk.new
+        (ComesOf (D.held disk.old) (InFile file (MayAdd end messages))) }
 {
     disk.write_at(file, end + 1, &[10])?;
     disk.sync(file)?;

@@ -1,5 +1,6 @@
 // Laws of gated lists, each the contract of a call that does nothing.
-ghost use Rattle.flow_gate.specs.Laws.{OneListFits, ListOrDamage, NeverBoth, OnePlaceDamaged, RowIsItsOctets, RowStaysInCut, OneRowFits, ListStaysInCut};
+ghost use Rattle.flow_gate.specs.Laws.{OneListFits, ListOrDamage, NeverBoth, OnePlaceDamaged, RowIsItsOctets};
+ghost use Rattle.flow_gate.specs.Laws.{RowStaysInCut, OneRowFits, ListStaysInCut};
 
 /// Octets have one gated list from a place on, or damage at one place, and never both; and what stays of a list in a
 /// file that is cut behind it.

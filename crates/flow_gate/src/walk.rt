@@ -1,19 +1,21 @@
 // The walk over a file's messages.
-ghost use Rattle.std.specs.Prelude.{◌≡◌, ◌≢◌, ℕ, ◌+◌, ◌^◌, ◌<◌, ◌≤◌, IsTrue, List, length, IfOk, IfErr, IsErrOf};
+ghost use Rattle.std.specs.Prelude.{◌≡◌, ◌≢◌, ℕ, ◌+◌, ◌^◌, ◌<◌, ◌≤◌, IsTrue, List, length, IfOk, IfErr};
 ghost use Rattle.std.specs.List.{All};
 ghost use Rattle.flow_disk.specs.Disk.{IsDiskImage, Stays};
 ghost use Rattle.flow_disk.specs.Moments.{LeavesOnly};
-ghost use Rattle.flow_disk.specs.Cause.{HasRisen};
+ghost use Rattle.flow_disk.specs.Cause.{HasCause};
 ghost use Rattle.flow_gate.specs.Gate.{IsWhole, IsGated, IsDamaged, octets_of};
-ghost use Rattle.flow_gate.specs.Scan.{IsFoundAt, IsTail, IsTold, IsTailRead, IsToldRead, IsGiven, IsRefused, IsNamed, texts};
+ghost use Rattle.flow_gate.specs.Scan.{IsFoundAt, IsTail, IsTold, IsTailRead, IsToldRead, IsGiven, IsRefused, IsNamed};
+ghost use Rattle.flow_gate.specs.Scan.{texts};
 
+use crate::messages::{TRAILER, VERSION, message_at};
 use crate::tail::{Found, ScanError, Tail};
 use flow_disk::Disk;
 use std::alloc::Global;
 
-/// Reads the messages from a place on, up to a closed gate. The disk stays as it is. On an honest disk it is Ok exactly on a
-/// gated list, and tells damage at its place exactly where there is none; a `from` past the end is damage at `from`. A fault is
-/// told only where the disk's count of failures rose.
+/// Reads the messages from a place on, up to a closed gate. The disk stays as it is. On an honest disk it is Ok exactly
+/// on a gated list, and tells damage at its place exactly where there is none; a `from` past the end is damage at
+/// `from`. A fault is told exactly where the disk's count of failures rose.
 pub fn scan<D: Disk>(alloc: Global, disk: &mut D, file: u64, from: u64) -> Result<Tail, ScanError>
     // On every disk.
     ensures honest { D.honest disk.new ≡ D.honest disk.old }
@@ -26,16 +28,19 @@ pub fn scan<D: Disk>(alloc: Global, disk: &mut D, file: u64, from: u64) -> Resul
     ensures ends { IfOk result (λ tail. tail.end ≡ from + octets_of (texts tail.messages.items)) }
     ensures whole { IfOk result (λ tail. All IsWhole (texts tail.messages.items)) }
     ensures names { IfErr result (λ e. IsNamed file from e) }
-    ensures faults { D.faults disk.old ≤ D.faults disk.new }
-    ensures cause { IsErrOf result ScanError.Fault → HasRisen (D.faults disk.old) (D.faults disk.new) }
+    ensures cause { HasCause ScanError.Fault (D.faults disk.old) (D.faults disk.new) result }
 
     // On an honest one.
     ensures held { IsTrue (D.honest disk.old) → Stays (D.held disk.old) (D.held disk.new) }
-    ensures found { IsTrue (D.honest disk.old) → IfOk result (λ tail. IsTail (D.held disk.old file).reads from tail.end tail.messages.items) }
+    ensures found { IsTrue (D.honest disk.old)
+        → IfOk result (λ tail. IsTail (D.held disk.old file).reads from tail.end tail.messages.items) }
     ensures damaged { IsTrue (D.honest disk.old) → IfErr result (λ e. IsTold (D.held disk.old file).reads file from e) }
-    ensures given { IsTrue (D.honest disk.old) → (list : List (List ℕ)) → IsGated (D.held disk.old file).reads from list → IsGiven list from result }
-    ensures refused { IsTrue (D.honest disk.old) → (at : ℕ) → IsDamaged (D.held disk.old file).reads from at → IsRefused file at result }
-    ensures any_moment { IsTrue (D.honest disk.old) → LeavesOnly D.moment D.left_since disk.old disk.new (IsDiskImage (D.held disk.old)) }
+    ensures given { IsTrue (D.honest disk.old) → (list : List (List ℕ))
+        → IsGated (D.held disk.old file).reads from list → IsGiven list from result }
+    ensures refused { IsTrue (D.honest disk.old) → (at : ℕ) → IsDamaged (D.held disk.old file).reads from at
+        → IsRefused file at result }
+    ensures any_moment { IsTrue (D.honest disk.old)
+        → LeavesOnly D.moment D.left_since disk.old disk.new (IsDiskImage (D.held disk.old)) }
 {
     let size = disk.length(file)?;
     if from > size {
@@ -70,22 +75,18 @@ fn walk(alloc: Global, octets: &[u8], file: u64, from: u64) -> Result<Tail, Scan
     }
 }
 
+/// What stands at a place.
 fn found_at(octets: &[u8], at: usize) -> Found
     ensures { IsFoundAt octets.now at result }
 {
-    if octets.len() < 2 || at > octets.len() - 2 || octets[at] != 0 {
+    if octets.len() < TRAILER || at > octets.len() - TRAILER || octets[at] != VERSION[0] {
         return Found::Damage;
     }
-    if octets[at + 1] != 10 {
+    if octets[at + 1] != VERSION[1] {
         return Found::Closed;
     }
-    let left = octets.len() - at;
-    if left < 18 {
-        return Found::Damage;
+    match message_at(octets, at) {
+        Some(count) if octets.len() - at - count >= TRAILER => Found::Message(count),
+        _ => Found::Damage,
     }
-    let count = octets[at + 2] as usize * 256 + octets[at + 3] as usize;
-    if count < 16 || left - 2 < count {
-        return Found::Damage;
-    }
-    Found::Message(count)
 }

@@ -4,6 +4,8 @@ pub mod Bodies
 pub mod Faults
 pub mod Decoded
 pub mod Gates
+pub mod EntryLists
+pub mod Followers
 pub mod Swaps
 pub mod Openings
 pub mod OneInForce

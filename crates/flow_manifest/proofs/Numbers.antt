@@ -18,10 +18,13 @@ pub wide64 : IsWide w64 (2 ^ 64)
 wide64 = record { len = λ n. refl; again = λ n lt. from_be_bytes-to_be_bytes_8 n lt }
 
 -- the same octets begin with the same number, and the same octets follow
-pub same_number : (w : Width) (limit : ℕ) → IsWide w limit → (a b : ℕ) (xs ys : List ℕ) → a < limit → b < limit → to_be_bytes w a ++ xs ≡ to_be_bytes w b ++ ys → (a ≡ b) × (xs ≡ ys)
+pub same_number : (w : Width) (limit : ℕ) → IsWide w limit → (a b : ℕ) (xs ys : List ℕ) → a < limit → b < limit
+    → to_be_bytes w a ++ xs ≡ to_be_bytes w b ++ ys → (a ≡ b) × (xs ≡ ys)
 same_number w limit wide a b xs ys fits_a fits_b e = (
   sym (wide.again a fits_a)
-      ∙ ap (from_be_bytes w) (sym (take_at (to_be_bytes w a) xs (byte_len w) (wide.len a)) ∙ ap (take (byte_len w)) e ∙ take_at (to_be_bytes w b) ys (byte_len w) (wide.len b))
+      ∙ ap (from_be_bytes w) (sym (take_at (to_be_bytes w a) xs (byte_len w) (wide.len a)) ∙ ap (take (byte_len w)) e
+      ∙ take_at (to_be_bytes w b) ys (byte_len w) (wide.len b))
       ∙ wide.again b fits_b,
-  sym (drop_at (to_be_bytes w a) xs (byte_len w) (wide.len a)) ∙ ap (drop (byte_len w)) e ∙ drop_at (to_be_bytes w b) ys (byte_len w) (wide.len b),
+  sym (drop_at (to_be_bytes w a) xs (byte_len w) (wide.len a)) ∙ ap (drop (byte_len w)) e
+      ∙ drop_at (to_be_bytes w b) ys (byte_len w) (wide.len b),
 )

@@ -2,3 +2,4 @@ pub mod Manifest
 pub mod Fault
 pub mod Slots
 pub mod Opening
+pub mod Following

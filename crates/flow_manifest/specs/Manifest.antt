@@ -12,7 +12,16 @@ use Rattle.flow_manifest.specs.declared.head.Head.{Head}
 
 -- the numbers in front of the entries
 abbrev pub head_of : Manifest → Head
-head_of m = record { generation = m.generation; width = m.width; wide = m.wide; limit = m.limit; next = m.next; rolled = m.rolled; second = m.second; count = length m.entries }
+head_of m = record {
+  generation = m.generation;
+  width = m.width;
+  wide = m.wide;
+  limit = m.limit;
+  next = m.next;
+  rolled = m.rolled;
+  second = m.second;
+  count = length m.entries;
+}
 
 -- each number fits its octets
 pub record Fits (h : Head) : Type 0 where
@@ -31,7 +40,8 @@ pub record FitsEntry (entry : Entry) : Type 0 where
   pub octets : entry.length < 2 ^ 64
   pub messages : entry.messages < 2 ^ 64
 
--- Intervals of 1 to 86,400 seconds, the wide ones made of whole narrow ones; segments of 65,535 to 16,777,216 octets; 1 to 4,096 entries.
+-- Intervals of 1 to 86,400 seconds, the wide ones made of whole narrow ones; segments of 65,535 to 16,777,216 octets; 1
+-- to 4,096 entries.
 pub record IsInRange (h : Head) : Type 0 where
   pub width_from : 1 ≤ h.width
   pub wide_from : h.width ≤ h.wide
@@ -52,7 +62,8 @@ rank Active = 3
 abbrev pub IsInOrder : List Entry → Type 0
 IsInOrder [] = ⊥
 IsInOrder (entry ∷ []) = rank entry.kind ≡ 3
-IsInOrder (entry ∷ next ∷ others) = (rank entry.kind < 3) × (rank entry.kind ≤ rank next.kind) × IsInOrder (next ∷ others)
+IsInOrder (entry ∷ next ∷ others) = (rank entry.kind < 3) × (rank entry.kind ≤ rank next.kind)
+    × IsInOrder (next ∷ others)
 
 -- no two entries have one file
 abbrev pub HaveOwnFiles : List Entry → Type 0
@@ -63,7 +74,8 @@ HaveOwnFiles (entry ∷ others) = AllByRecursion (λ other. other.file ≢ entry
 abbrev pub HasShape : ℕ → Kind → Entry → Type 0
 HasShape limit Wide entry = (entry.prefix ≡ 0) × (1 ≤ entry.messages)
 HasShape limit Rolled entry = (entry.prefix ≡ 0) × (1 ≤ entry.messages)
-HasShape limit Sealed entry = (1 ≤ entry.messages) × (entry.prefix + 16 ≤ entry.length) × (entry.length ≤ entry.prefix + limit)
+HasShape limit Sealed entry = (1 ≤ entry.messages) × (entry.prefix + 16 ≤ entry.length)
+    × (entry.length ≤ entry.prefix + limit)
 HasShape limit Active entry = (entry.length ≡ 0) × (entry.messages ≡ 0)
 
 pub record IsEntry (limit next : ℕ) (entry : Entry) : Type 0 where
@@ -105,7 +117,9 @@ kind_number Active = 3
 kind_number Wide = 4
 
 abbrev pub entry_octets : Entry → List ℕ
-entry_octets e = to_be_bytes w32 (kind_number e.kind) ++ to_be_bytes w32 e.prefix ++ to_be_bytes w64 e.file ++ to_be_bytes w64 e.length ++ to_be_bytes w64 e.messages
+entry_octets e =
+    to_be_bytes w32 (kind_number e.kind) ++ to_be_bytes w32 e.prefix ++ to_be_bytes w64 e.file ++
+    to_be_bytes w64 e.length ++ to_be_bytes w64 e.messages
 
 -- the two formats
 pub data Format : Type 0 where
@@ -118,8 +132,12 @@ format_number format_2 = 2
 
 -- what stands behind the format and in front of the entries: 36 octets in format 1, 48 in format 2
 unfoldable pub head_octets : Format → Head → List ℕ
-head_octets format_1 h = to_be_bytes w64 h.generation ++ to_be_bytes w32 h.width ++ to_be_bytes w32 h.limit ++ to_be_bytes w64 h.next ++ to_be_bytes w64 h.rolled ++ to_be_bytes w32 h.count
-head_octets format_2 h = to_be_bytes w64 h.generation ++ to_be_bytes w32 h.width ++ to_be_bytes w32 h.wide ++ to_be_bytes w32 h.limit ++ to_be_bytes w64 h.next ++ to_be_bytes w64 h.rolled ++ to_be_bytes w64 h.second ++ to_be_bytes w32 h.count
+head_octets format_1 h =
+    to_be_bytes w64 h.generation ++ to_be_bytes w32 h.width ++ to_be_bytes w32 h.limit ++ to_be_bytes w64 h.next ++
+    to_be_bytes w64 h.rolled ++ to_be_bytes w32 h.count
+head_octets format_2 h =
+    to_be_bytes w64 h.generation ++ to_be_bytes w32 h.width ++ to_be_bytes w32 h.wide ++ to_be_bytes w32 h.limit ++
+    to_be_bytes w64 h.next ++ to_be_bytes w64 h.rolled ++ to_be_bytes w64 h.second ++ to_be_bytes w32 h.count
 
 abbrev pub head_length : Format → ℕ
 head_length format_1 = 38
@@ -131,7 +149,8 @@ IsSaid format_1 h = (h.second ≡ 0) × (h.wide ≡ 86400 / h.width * h.width)
 IsSaid format_2 h = Unit {0}
 
 abbrev pub octets_in : Format → Manifest → List ℕ
-octets_in format m = to_be_bytes w16 (format_number format) ++ head_octets format (head_of m) ++ flat_map entry_octets m.entries
+octets_in format m =
+    to_be_bytes w16 (format_number format) ++ head_octets format (head_of m) ++ flat_map entry_octets m.entries
 
 -- the octets of a manifest, in format 2
 abbrev pub manifest_octets : Manifest → List ℕ

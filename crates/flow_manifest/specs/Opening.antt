@@ -1,13 +1,13 @@
 -- What the two slots hold, and why they may hold nothing that counts.
-use Rattle.std.specs.Prelude.{◌≡◌, ◌⊎◌, ℕ, ◌<◌, ◌≤◌, true, List, length, drop, Option, Some, None, Result, IsErrOf}
+use Rattle.std.specs.Prelude.{◌≡◌, ◌⊎◌, ℕ, ◌<◌, true, List, length, drop, Option, Some, None}
 use Rattle.flow_disk.specs.declared.error.DiskError.{DiskError}
 use Rattle.flow_disk.specs.declared.error.DiskError.TheVariants as disk
-use Rattle.flow_disk.specs.Cause.{HasRisen}
 use Rattle.flow_manifest.specs.declared.manifest.Manifest.{Manifest}
 use Rattle.flow_manifest.specs.declared.error.ManifestError.{ManifestError}
 use Rattle.flow_manifest.specs.declared.error.ManifestError.TheVariants as manifest
 use Rattle.flow_manifest.specs.declared.error.OpenError.{OpenError}
-use Rattle.flow_manifest.specs.declared.error.OpenError.TheVariants.{Damaged, Format, Entries, Cut, NoArchive, Fault, OutOfMemory}
+use Rattle.flow_manifest.specs.declared.error.OpenError.TheVariants.{Damaged, Format, Entries, Cut, NoArchive, Fault}
+use Rattle.flow_manifest.specs.declared.error.OpenError.TheVariants.{OutOfMemory}
 use Rattle.flow_manifest.specs.declared.slots.Slot.{Slot}
 use Rattle.flow_manifest.specs.declared.slots.Slot.TheVariants.{First, Second}
 use Rattle.flow_manifest.specs.declared.slots.Slots.{Slots}
@@ -39,20 +39,28 @@ pub record IsNewerOf (one two : Manifest) (slots : Slots) : Type 0 where
 
 -- a slot without octets, or an open one whose body has this first fault
 abbrev pub IsSlotFault : Slot → List ℕ → OpenError → Type 0
-IsSlotFault slot octets fault = ((length octets ≡ 0) × (fault ≡ Cut (file_of slot))) ⊎ (IsOpen octets × (f : ManifestError) × IsFault (drop 1 octets) f × (fault ≡ in_slot slot f))
+IsSlotFault slot octets fault = ((length octets ≡ 0) × (fault ≡ Cut (file_of slot)))
+    ⊎ (IsOpen octets × (f : ManifestError) × IsFault (drop 1 octets) f × (fault ≡ in_slot slot f))
 
 -- No slot is open; else the fault of slot 1; else that of slot 2; else both are open with one generation.
 abbrev pub IsOpenFault : (ℕ → List ℕ) → OpenError → Type 0
 IsOpenFault image fault =
     ((IsOpen (image 1) → ⊥) × (IsOpen (image 2) → ⊥) × (fault ≡ NoArchive))
     ⊎ ((IsOpen (image 1) ⊎ IsOpen (image 2)) × IsSlotFault First (image 1) fault)
-    ⊎ ((IsOpen (image 1) ⊎ IsOpen (image 2)) × (held : Option Manifest) × IsHeld (image 1) held × IsSlotFault Second (image 2) fault)
-    ⊎ ((m : Manifest) × (n : Manifest) × Holds (image 1) m × Holds (image 2) n × (m.generation ≡ n.generation) × (fault ≡ Damaged 2 3))
+    ⊎ ((IsOpen (image 1) ⊎ IsOpen (image 2)) × (held : Option Manifest) × IsHeld (image 1) held
+    × IsSlotFault Second (image 2) fault)
+    ⊎ ((m : Manifest) × (n : Manifest) × Holds (image 1) m × Holds (image 2) n × (m.generation ≡ n.generation)
+    × (fault ≡ Damaged 2 3))
 
--- a fault of the device is told only where it has failed in this call
-pub record HasCause {T : Type 0} (before now : ℕ) (result : Result T OpenError) : Type 0 where
-  pub later : before ≤ now
-  pub fault : IsErrOf result Fault → HasRisen before now
+-- a refusal names the slot that is at fault, 2 and the place of its generation where both have the same
+abbrev pub NamesSlot : OpenError → Type 0
+NamesSlot (Damaged file at) = (file ≡ 2) × (at ≡ 3)
+NamesSlot (Format file) = (file ≡ 1) ⊎ (file ≡ 2)
+NamesSlot (Entries file) = (file ≡ 1) ⊎ (file ≡ 2)
+NamesSlot (Cut file) = (file ≡ 1) ⊎ (file ≡ 2)
+NamesSlot NoArchive = Unit {0}
+NamesSlot Fault = Unit {0}
+NamesSlot OutOfMemory = Unit {0}
 
 -- one octet more than the longest slot has: a gate, a head, and 4,096 entries
 unfoldable pub enough : ℕ

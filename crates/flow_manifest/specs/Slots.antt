@@ -1,5 +1,6 @@
 -- The two slots: a gate octet, and a manifest's octets behind it.
-use Rattle.std.specs.Prelude.{◌≡◌, ◌≢◌, ◌⊎◌, ℕ, ◌+◌, ◌<◌, ◌≤◌, Bool, true, false, List, ◌∷◌, ◌++◌, length, take, drop, get_or}
+use Rattle.std.specs.Prelude.{◌≡◌, ◌≢◌, ◌⊎◌, ℕ, ◌+◌, ◌<◌, ◌≤◌, Bool, true, false, List, ◌∷◌, ◌++◌, length, take, drop}
+use Rattle.std.specs.Prelude.{get_or}
 use Rattle.flow_manifest.specs.declared.manifest.Manifest.{Manifest}
 use Rattle.flow_manifest.specs.declared.slots.Slot.{Slot}
 use Rattle.flow_manifest.specs.declared.slots.Slot.TheVariants.{First, Second}
@@ -15,14 +16,18 @@ abbrev pub other : Slot → Slot
 other First = Second
 other Second = First
 
--- an open gate is A5
-abbrev pub IsOpen : List ℕ → Type 0
-IsOpen octets = get_or octets 0 0 ≡ 165
+-- the octet of an open gate: A5
+abbrev pub open_gate : ℕ
+open_gate = 165
 
--- and a closed one is any other octet
+-- an open slot
+abbrev pub IsOpen : List ℕ → Type 0
+IsOpen octets = get_or octets 0 0 ≡ open_gate
+
+-- a closed one: any other octet
 pub record IsClosed (octets : List ℕ) : Type 0 where
   pub gate : 1 ≤ length octets
-  pub shut : get_or octets 0 0 ≢ 165
+  pub shut : get_or octets 0 0 ≢ open_gate
 
 -- whether a slot is open
 abbrev pub HasGate : Bool → List ℕ → Type 0
@@ -44,7 +49,8 @@ pub record AreSlots (slots : Slots) (image : ℕ → List ℕ) : Type 0 where
   pub current : Holds (image (file_of slots.current_slot)) slots.current
   pub beside : IsOlder slots.other_open slots.current (image (file_of (other slots.current_slot)))
 
--- a manifest is ready to be opened: its octets stand alone behind the closed gate beside the current one, whose generation it follows
+-- a manifest is ready to be opened: its octets stand alone behind the closed gate beside the current one, whose
+-- generation it follows
 pub record IsReady (slots : Slots) (m : Manifest) (image : ℕ → List ℕ) : Type 0 where
   pub current : Holds (image (file_of slots.current_slot)) slots.current
   pub closed : IsClosed (image (file_of (other slots.current_slot)))
@@ -56,12 +62,20 @@ pub record IsReady (slots : Slots) (m : Manifest) (image : ℕ → List ℕ) : T
 abbrev pub reads_of : (ℕ → Held) → ℕ → List ℕ
 reads_of files n = (files n).reads
 
--- The manifest in force: each slot has a gate, one at least is open, each open one holds a valid manifest, and of two the one
--- with the greater generation counts.
+-- The manifest in force: each slot has a gate, one at least is open, each open one holds a valid manifest, and of two
+-- the one with the greater generation counts.
 abbrev pub IsInForce : (ℕ → List ℕ) → Manifest → Type 0
 IsInForce image m = (slots : Slots) × (slots.current ≡ m) × AreSlots slots image
 
 -- ---- what a swap does to a slot: the octets before and after
+
+-- while a gate is written: some octet in its place, and behind it what stood there
+abbrev pub HasSomeGate : List ℕ → List ℕ → Type 0
+HasSomeGate before after = after ≡ get_or after 0 0 ∷ drop 1 before
+
+-- this gate, and behind it what stood there
+abbrev pub SetsGate : ℕ → List ℕ → List ℕ → Type 0
+SetsGate gate before after = after ≡ gate ∷ drop 1 before
 
 -- while it is closed: it is as it was, or closed
 abbrev pub MayClose : List ℕ → List ℕ → Type 0
@@ -70,7 +84,7 @@ MayClose before after = (after ≡ before) ⊎ IsClosed after
 -- closed where it was open, and nothing else changed
 abbrev pub Closes : Bool → List ℕ → List ℕ → Type 0
 Closes false before after = after ≡ before
-Closes true before after = after ≡ 0 ∷ drop 1 before
+Closes true before after = SetsGate 0 before after
 
 -- while a body is written: the gate stays
 abbrev pub KeepsGate : List ℕ → List ℕ → Type 0
@@ -87,8 +101,8 @@ pub record IsPrepared (body before after : List ℕ) : Type 0 where
 
 -- while it is opened: closed, or open with the octets that stood behind the gate
 abbrev pub MayOpen : List ℕ → List ℕ → Type 0
-MayOpen before after = IsClosed after ⊎ (after ≡ 165 ∷ drop 1 before)
+MayOpen before after = IsClosed after ⊎ SetsGate open_gate before after
 
 -- opened, and nothing else changed
 abbrev pub Opens : List ℕ → List ℕ → Type 0
-Opens before after = after ≡ 165 ∷ drop 1 before
+Opens before after = SetsGate open_gate before after

@@ -2,7 +2,8 @@
 
 ghost use Rattle.std.specs.Prelude.{◌≡◌, ◌≢◌, ◌↔◌, ◌<◌, ◌≤◌, ◌^◌, IsTrue, length};
 ghost use Rattle.std.specs.List.{sum_by, AllByRecursion};
-ghost use Rattle.flow_manifest.specs.Manifest.{head_of, Fits, IsValidManifest, IsInRange, IsInOrder, HaveOwnFiles, IsEntry, rank, wide_messages, rolled_messages};
+ghost use Rattle.flow_manifest.specs.Manifest.{head_of, Fits, IsValidManifest, IsInRange, IsInOrder, HaveOwnFiles};
+ghost use Rattle.flow_manifest.specs.Manifest.{IsEntry, rank, wide_messages, rolled_messages};
 
 use crate::head::Head;
 use crate::manifest::{Entry, Kind, Manifest};
@@ -71,7 +72,7 @@ pub(crate) fn is_valid(manifest: &Manifest) -> bool
     totals.all < TOO_MANY_MESSAGES
 }
 
-fn rank(kind: Kind) -> u8
+pub(crate) fn rank(kind: Kind) -> u8
     ensures { result ≡ rank kind }
 {
     match kind {
@@ -113,7 +114,7 @@ fn have_own_files(entries: &[Entry]) -> bool
 }
 
 /// Whether a file is that of none of these entries.
-fn is_elsewhere(file: u64, entries: &[Entry]) -> bool
+pub(crate) fn is_elsewhere(file: u64, entries: &[Entry]) -> bool
     ensures { IsTrue result ↔ AllByRecursion (λ other. other.file ≢ file) entries.now }
 {
     let mut rest = entries;
@@ -159,13 +160,13 @@ fn is_entry(limit: u32, next: u64, entry: Entry) -> bool
 
 /// How many messages the entries of some kinds stand for.
 #[derive(Clone, Copy)]
-struct Totals {
-    wide: u128,
-    rolled: u128,
-    all: u128,
+pub(crate) struct Totals {
+    pub(crate) wide: u128,
+    pub(crate) rolled: u128,
+    pub(crate) all: u128,
 }
 
-fn totals_of(entries: &[Entry]) -> Totals
+pub(crate) fn totals_of(entries: &[Entry]) -> Totals
     requires { length entries.now ≤ 4096 }
     ensures wide { result.wide ≡ sum_by (λ e. wide_messages e.kind e.messages) entries.now }
     ensures rolled { result.rolled ≡ sum_by (λ e. rolled_messages e.kind e.messages) entries.now }

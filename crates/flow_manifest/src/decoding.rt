@@ -1,13 +1,15 @@
 //! A manifest from its octets.
 
-ghost use Rattle.std.specs.Prelude.{◌≡◌, ◌≢◌, ◌⊎◌, ◌+◌, ◌*◌, ◌/◌, ◌≤◌, ℕ, List, ◌++◌, length, Ok, Err, IfOk, IfErr, IsErrAnd, IfSome, IfNone};
+ghost use Rattle.std.specs.Prelude.{◌≡◌, ◌≢◌, ◌⊎◌, ◌+◌, ◌*◌, ◌/◌, ◌≤◌, ℕ, List, ◌++◌, length, Ok, Err, IfOk, IfErr};
+ghost use Rattle.std.specs.Prelude.{IsErrAnd, IfSome, IfNone};
 ghost use Rattle.std.specs.List.{flat_map, AllByRecursion};
 ghost use Rattle.std.specs.Int.{w16, w32, w64, to_be_bytes};
 ghost use Rattle.flow_manifest.specs.declared.error.ManifestError.{ManifestError};
 ghost use Rattle.flow_manifest.specs.declared.manifest.Entry.{Entry};
 ghost use Rattle.flow_manifest.specs.declared.manifest.Kind.{Kind};
 ghost use Rattle.flow_manifest.specs.declared.manifest.Manifest.{Manifest};
-ghost use Rattle.flow_manifest.specs.Manifest.{IsBody, IsSaid, IsValidManifest, Fits, FitsEntry, head_of, entry_octets, kind_number, head_octets, format_1, format_2};
+ghost use Rattle.flow_manifest.specs.Manifest.{IsBody, IsSaid, IsValidManifest, Fits, FitsEntry, head_of, entry_octets};
+ghost use Rattle.flow_manifest.specs.Manifest.{kind_number, head_octets, format_1, format_2};
 ghost use Rattle.flow_manifest.specs.Fault.{IsFault, IsFaultBehind, IsDecoded};
 
 use crate::checks::{GREATEST_WIDTH, is_in_range, is_valid};
@@ -20,17 +22,18 @@ use std::alloc::Global;
 const HEAD_LENGTH_1: usize = 38;
 
 /// How many octets come before the entries in format 2.
-const HEAD_LENGTH_2: usize = 50;
+pub(crate) const HEAD_LENGTH_2: usize = 50;
 
 /// How many octets an entry has.
-const ENTRY_LENGTH: usize = 32;
+pub(crate) const ENTRY_LENGTH: usize = 32;
 
-/// The manifest whose octets these are, in format 2 or in format 1, which has neither the wide width nor the messages wide: there
-/// the wide width is the greatest multiple of the width up to 86,400 seconds, and no messages are wide.
+/// The manifest whose octets these are, in format 2 or in format 1, which has neither the wide width nor the messages
+/// wide: there the wide width is the greatest multiple of the width up to 86,400 seconds, and no messages are wide.
 ///
 /// Else the first fault: fewer than 2 octets, 23 Cut; an unknown format, 21 Format; fewer octets than come before the
-/// entries, 23 Cut; width, wide width, segment limit or entry count out of range, 22 Entries; another count of octets than
-/// that of the entries, 23 Cut; entries that aren't those of a valid manifest, 22 Entries. 11 OutOfMemory may come at any place.
+/// entries, 23 Cut; width, wide width, segment limit or entry count out of range, 22 Entries; another count of octets
+/// than that of the entries, 23 Cut; entries that aren't those of a valid manifest, 22 Entries. 11 OutOfMemory may come
+/// at any place.
 pub fn decode(alloc: Global, octets: &[u8]) -> Result<Manifest, ManifestError>
     // What is taken is a valid manifest's.
     ensures found { IfOk result (λ m. IsBody octets.now m) }
@@ -39,7 +42,8 @@ pub fn decode(alloc: Global, octets: &[u8]) -> Result<Manifest, ManifestError>
     // What is refused has this first fault, unless memory ran out.
     ensures fault { IfErr result (λ e. (e ≡ ManifestError.OutOfMemory) ⊎ IsFault octets.now e) }
     // What has a fault is refused for it, unless memory runs out.
-    ensures refused { (d : ManifestError) → IsFault octets.now d → IsErrAnd result (λ e. (e ≡ ManifestError.OutOfMemory) ⊎ (e ≡ d)) }
+    ensures refused { (d : ManifestError) → IsFault octets.now d
+        → IsErrAnd result (λ e. (e ≡ ManifestError.OutOfMemory) ⊎ (e ≡ d)) }
 {
     if octets.len() < 2 {
         return Err(ManifestError::Cut);
@@ -130,7 +134,8 @@ fn greatest_multiple(width: u32) -> u32
 /// The manifest with these numbers, and with the entries that follow them.
 fn manifest_of(alloc: Global, head: Head, octets: &[u8]) -> Result<Manifest, ManifestError>
     requires { Fits head }
-    ensures found { IfOk result (λ m. IsValidManifest m × (head_of m ≡ head) × (flat_map entry_octets m.entries ≡ octets.now)) }
+    ensures found { IfOk result (λ m. IsValidManifest m × (head_of m ≡ head)
+        × (flat_map entry_octets m.entries ≡ octets.now)) }
     ensures fault { IfErr result (λ e. (e ≡ ManifestError.OutOfMemory) ⊎ IsFaultBehind head octets.now e) }
 {
     if !is_in_range(&head) {
@@ -160,7 +165,8 @@ fn manifest_of(alloc: Global, head: Head, octets: &[u8]) -> Result<Manifest, Man
 fn entries_of(alloc: Global, octets: &[u8]) -> Result<Vec<Entry>, ManifestError>
     ensures found { IfOk result (λ entries. flat_map entry_octets entries.items ≡ octets.now) }
     ensures fit { IfOk result (λ entries. AllByRecursion FitsEntry entries.items) }
-    ensures fault { IfErr result (λ e. (e ≡ ManifestError.OutOfMemory) ⊎ ((e ≡ ManifestError.Entries) × ((entries : List Entry) → flat_map entry_octets entries ≢ octets.now))) }
+    ensures fault { IfErr result (λ e. (e ≡ ManifestError.OutOfMemory)
+        ⊎ ((e ≡ ManifestError.Entries) × ((entries : List Entry) → flat_map entry_octets entries ≢ octets.now))) }
 {
     let mut entries = Vec::with_capacity(alloc, octets.len() / ENTRY_LENGTH)?;
     let mut rest = octets;

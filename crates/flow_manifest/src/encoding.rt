@@ -2,29 +2,26 @@
 
 ghost use Rattle.std.specs.Prelude.{◌≡◌, ◌++◌, OnOk, IfOk};
 ghost use Rattle.std.specs.Int.{w32, w64, to_be_bytes};
-ghost use Rattle.flow_manifest.specs.Manifest.{IsValidManifest, manifest_octets, head_octets, head_of, entry_octets, kind_number, format_2};
+ghost use Rattle.flow_manifest.specs.Manifest.{IsValidManifest, manifest_octets, head_octets, head_of, entry_octets};
+ghost use Rattle.flow_manifest.specs.Manifest.{kind_number, format_2};
 
+use crate::decoding::{ENTRY_LENGTH, HEAD_LENGTH_2};
 use crate::manifest::{Entry, Kind, Manifest};
 use std::alloc::{AllocError, Global};
 
 /// The format that is written.
 const FORMAT: u16 = 2;
 
-/// How many octets come before the entries.
-const HEAD_LENGTH: usize = 50;
-
-/// How many octets an entry has.
-const ENTRY_LENGTH: usize = 32;
-
-/// The octets of a manifest, in format 2. All numbers are big-endian: format (2 octets), generation (8), width (4), wide width
-/// (4), segment limit (4), next file number (8), messages rolled (8), messages wide (8), entry count (4), and the entries of 32
-/// octets each: kind (4: 1 rolled, 2 sealed, 3 active, 4 wide), prefix length (4), file (8), length (8), messages (8).
+/// The octets of a manifest, in format 2. All numbers are big-endian: format (2 octets), generation (8), width (4),
+/// wide width (4), segment limit (4), next file number (8), messages rolled (8), messages wide (8), entry count (4),
+/// and the entries of 32 octets each: kind (4: 1 rolled, 2 sealed, 3 active, 4 wide), prefix length (4), file (8),
+/// length (8), messages (8).
 pub fn encode(alloc: Global, manifest: &Manifest) -> Result<Vec<u8>, AllocError>
     requires { IsValidManifest manifest.now }
     ensures { IfOk result (λ octets. octets.items ≡ manifest_octets manifest.now) }
 {
     let entries = manifest.entries.as_slice();
-    let mut octets = Vec::with_capacity(alloc, HEAD_LENGTH + ENTRY_LENGTH * entries.len())?;
+    let mut octets = Vec::with_capacity(alloc, HEAD_LENGTH_2 + ENTRY_LENGTH * entries.len())?;
     octets.extend_from_slice(&FORMAT.to_be_bytes())?;
     put_head(&mut octets, manifest)?;
     for entry in entries {

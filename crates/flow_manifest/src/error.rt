@@ -2,6 +2,7 @@
 
 ghost use Rattle.std.specs.Prelude.{◌≡◌};
 ghost use Rattle.flow_manifest.specs.declared.error.ManifestError.TheVariants as manifest;
+ghost use Rattle.flow_manifest.specs.declared.error.OpenError.TheVariants as opening;
 ghost use Rattle.flow_manifest.specs.Opening.{told};
 
 use flow_disk::DiskError;
@@ -75,5 +76,21 @@ impl From<DiskError> for OpenError {
             DiskError::Fault => OpenError::Fault,
             DiskError::OutOfMemory => OpenError::OutOfMemory,
         }
+    }
+}
+
+impl From<AllocError> for OpenError {
+    ghost from_gives = { λ _ e. e ≡ opening.OutOfMemory };
+
+    fn from(_e: AllocError) -> OpenError {
+        OpenError::OutOfMemory
+    }
+}
+
+impl<T: Drop> From<AllocFailed<T>> for OpenError {
+    ghost from_gives = { λ _ e. e ≡ opening.OutOfMemory };
+
+    fn from(_e: AllocFailed<T>) -> OpenError {
+        OpenError::OutOfMemory
     }
 }

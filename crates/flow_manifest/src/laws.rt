@@ -24,12 +24,14 @@ pub fn one_answer()
     ensures never_both { (octets : List ℕ) (m : Manifest) (d : ManifestError) → IsBody octets m → IsFault octets d → ⊥ }
 {}
 
-/// One manifest at most is in force, and in one slot. The slots have one first fault at most, and none where a manifest is in force.
+/// One manifest at most is in force, and in one slot. The slots have one first fault at most, and none where a manifest
+/// is in force.
 pub fn one_in_force()
     ensures one_manifest { (image : ℕ → List ℕ) (m n : Manifest) → IsInForce image m → IsInForce image n → m ≡ n }
     ensures one_value { (image : ℕ → List ℕ) (s t : Slots) → AreSlots s image → AreSlots t image → s ≡ t }
     ensures one_fault { (image : ℕ → List ℕ) (d e : OpenError) → IsOpenFault image d → IsOpenFault image e → d ≡ e }
-    ensures never_both { (image : ℕ → List ℕ) (m : Manifest) (d : OpenError) → IsInForce image m → IsOpenFault image d → ⊥ }
+    ensures never_both { (image : ℕ → List ℕ) (m : Manifest) (d : OpenError) → IsInForce image m → IsOpenFault image d
+        → ⊥ }
 {}
 
 /// A manifest that is written and read again is the same.

@@ -1,10 +1,10 @@
-//! The manifest of an archive, and the two slots that it stands in by turns: which files the archive consists of, in which order,
-//! and what each of them counts.
+//! The manifest of an archive, and the two slots that it stands in by turns: which files the archive consists of, in
+//! which order, and what each of them counts.
 //!
-//! To the layers above: `encode` gives the octets of a valid manifest, and `decode` takes exactly those octets, of this format
-//! or of the one before it, and names the first fault of all others. Through `prepare` and `commit` the manifest in force of
-//! every image of every moment is the old one or the new one: the old one until `commit` begins, the new one after its Ok.
-//! `read_slots` tells which one it is.
+//! To the layers above: `encode` gives the octets of a valid manifest, and `decode` takes exactly those octets, of this
+//! format or of the one before it, and names the first fault of all others. Through `prepare` and `commit` the manifest
+//! in force of every image of every moment is the old one or the new one: the old one until `commit` begins, the new
+//! one after its Ok. `read_slots` tells which one it is.
 #![tactic(auto)]
 
 mod checks;
@@ -12,6 +12,7 @@ mod creating;
 mod decoding;
 mod encoding;
 mod error;
+mod following;
 mod head;
 mod laws;
 mod manifest;
@@ -23,6 +24,7 @@ pub use creating::create_slots;
 pub use decoding::decode;
 pub use encoding::encode;
 pub use error::{ManifestError, OpenError};
+pub use following::{JobKind, Staged, count_of, installed_manifest, next_manifest};
 pub use laws::{one_answer, one_in_force, read_back};
 pub use manifest::{Entries, Entry, Kind, Manifest};
 pub use reading::read_slots;

@@ -1,11 +1,14 @@
 //! The two slots read, and judged.
 
-ghost use Rattle.std.specs.Prelude.{◌≡◌, ◌≢◌, ◌⊎◌, ◌↔◌, ℕ, ◌≤◌, List, true, IsTrue, OnOk, IfOk, IfErr, length, take, vec_len};
+ghost use Rattle.std.specs.Prelude.{◌≡◌, ◌≢◌, ◌⊎◌, ◌↔◌, ℕ, ◌≤◌, List, true, IsTrue, OnOk, IfOk, IfErr, length, take};
+ghost use Rattle.std.specs.Prelude.{vec_len};
 ghost use Rattle.flow_disk.specs.Disk.{IsDiskImage, AllImages, Stays};
 ghost use Rattle.flow_disk.specs.Moments.{LeavesOnly};
+ghost use Rattle.flow_disk.specs.Cause.{HasCause};
+ghost use Rattle.flow_manifest.specs.Manifest.{IsValidManifest};
 ghost use Rattle.flow_manifest.specs.declared.slots.Slot.{Slot};
 ghost use Rattle.flow_manifest.specs.Slots.{file_of, reads_of, IsOpen, AreSlots, IsInForce};
-ghost use Rattle.flow_manifest.specs.Opening.{in_slot, IsHeld, IsSlotFault, IsOpenFault, IsNewerOf, HasCause, enough};
+ghost use Rattle.flow_manifest.specs.Opening.{in_slot, IsHeld, IsSlotFault, IsOpenFault, IsNewerOf, NamesSlot, enough};
 
 use crate::decoding::decode;
 use crate::error::{ManifestError, OpenError};
@@ -17,30 +20,42 @@ use std::alloc::Global;
 
 /// Reads both slots, and tells which manifest is in force. It only reads.
 ///
-/// 24 NoArchive where no slot is open. Else slot 1 is judged before slot 2: one without octets is 23 Cut with its number, an open one that isn't a
-/// manifest is 21, 22 or 23 with its number. Two open ones of one generation are 20 Damaged 2 3.
+/// 24 NoArchive where no slot is open. Else slot 1 is judged before slot 2: one without octets is 23 Cut with its
+/// number, an open one that isn't a manifest is 21, 22 or 23 with its number. Two open ones of one generation are 20
+/// Damaged 2 3.
 pub fn read_slots<D: Disk>(alloc: Global, disk: &mut D) -> Result<Slots, OpenError>
+    // On every disk: the manifest is a valid one, and a refusal names the slot that is at fault.
     ensures honest { D.honest disk.new ≡ D.honest disk.old }
+    ensures clock { D.moment disk.old ≤ D.moment disk.new }
     ensures other_marks { (n : ℕ) → n ≢ 1 → n ≢ 2 → D.marks disk.new n ≡ D.marks disk.old n }
     ensures settled { (n : ℕ) → (D.marks disk.new n).settled ≡ (D.marks disk.old n).settled }
     ensures frozen { (n : ℕ) → (D.marks disk.new n).frozen ≡ (D.marks disk.old n).frozen }
+    ensures listed { (n : ℕ) → (D.marks disk.new n).listed ≡ (D.marks disk.old n).listed }
     ensures room { OnOk result ((slot : Slot) → 1 ≤ (D.marks disk.new (file_of slot)).size) }
+    ensures valid { IfOk result (λ slots. IsValidManifest slots.current) }
+    ensures names { IfErr result (λ e. NamesSlot e) }
+    ensures cause { HasCause OpenError.Fault (D.faults disk.old) (D.faults disk.new) result }
+
+    // On an honest one: nothing changes.
     ensures held { IsTrue (D.honest disk.old) → Stays (D.held disk.old) (D.held disk.new) }
-    ensures any_moment { IsTrue (D.honest disk.old) → LeavesOnly D.moment D.left_since disk.old disk.new (IsDiskImage (D.held disk.old)) }
+    ensures any_moment { IsTrue (D.honest disk.old)
+        → LeavesOnly D.moment D.left_since disk.old disk.new (IsDiskImage (D.held disk.old)) }
 
     // The slots that are read are as the answer says.
     ensures found { IsTrue (D.honest disk.old) → IfOk result (λ slots. AreSlots slots (reads_of (D.held disk.old))) }
 
     // Over settled slots its manifest is the one in force.
-    ensures in_force { IsTrue (D.honest disk.old) → (D.marks disk.old 1).settled ≡ true → (D.marks disk.old 2).settled ≡ true
+    ensures in_force { IsTrue (D.honest disk.old) → (D.marks disk.old 1).settled ≡ true
+        → (D.marks disk.old 2).settled ≡ true
         → IfOk result (λ slots. AllImages (D.held disk.new) (λ image. IsInForce image slots.current)) }
 
     // What is refused has this first fault, unless memory ran out or the device failed.
-    ensures fault { IsTrue (D.honest disk.old) → IfErr result (λ e. (e ≡ OpenError.OutOfMemory) ⊎ (e ≡ OpenError.Fault) ⊎ IsOpenFault (reads_of (D.held disk.old)) e) }
-    ensures cause { HasCause (D.faults disk.old) (D.faults disk.new) result }
+    ensures fault { IsTrue (D.honest disk.old)
+        → IfErr result (λ e. (e ≡ OpenError.OutOfMemory) ⊎ (e ≡ OpenError.Fault)
+        ⊎ IsOpenFault (reads_of (D.held disk.old)) e) }
 {
-    let first = octets_of(alloc, disk, 1)?;
-    let second = octets_of(alloc, disk, 2)?;
+    let first = slot_octets(alloc, disk, 1)?;
+    let second = slot_octets(alloc, disk, 2)?;
     slots_of(alloc, &first, &second)
 }
 
@@ -48,17 +63,21 @@ pub fn read_slots<D: Disk>(alloc: Global, disk: &mut D) -> Result<Slots, OpenErr
 const ENOUGH: u64 = 131_124;
 
 /// The octets of a slot, as many as show whether it holds a manifest.
-fn octets_of<D: Disk>(alloc: Global, disk: &mut D, file: u64) -> Result<Vec<u8>, OpenError>
+fn slot_octets<D: Disk>(alloc: Global, disk: &mut D, file: u64) -> Result<Vec<u8>, OpenError>
     ensures honest { D.honest disk.new ≡ D.honest disk.old }
+    ensures clock { D.moment disk.old ≤ D.moment disk.new }
     ensures other_marks { (n : ℕ) → n ≢ file → D.marks disk.new n ≡ D.marks disk.old n }
     ensures settled { (D.marks disk.new file).settled ≡ (D.marks disk.old file).settled }
     ensures frozen { (D.marks disk.new file).frozen ≡ (D.marks disk.old file).frozen }
+    ensures listed { (D.marks disk.new file).listed ≡ (D.marks disk.old file).listed }
     ensures size { IfOk result (λ octets. vec_len octets ≤ (D.marks disk.new file).size) }
-    ensures octets { IsTrue (D.honest disk.old) → IfOk result (λ octets. octets.items ≡ take enough (D.held disk.old file).reads) }
+    ensures octets { IsTrue (D.honest disk.old)
+        → IfOk result (λ octets. octets.items ≡ take enough (D.held disk.old file).reads) }
     ensures held { IsTrue (D.honest disk.old) → Stays (D.held disk.old) (D.held disk.new) }
-    ensures any_moment { IsTrue (D.honest disk.old) → LeavesOnly D.moment D.left_since disk.old disk.new (IsDiskImage (D.held disk.old)) }
+    ensures any_moment { IsTrue (D.honest disk.old)
+        → LeavesOnly D.moment D.left_since disk.old disk.new (IsDiskImage (D.held disk.old)) }
     ensures refused { IfErr result (λ e. (e ≡ OpenError.OutOfMemory) ⊎ (e ≡ OpenError.Fault)) }
-    ensures cause { HasCause (D.faults disk.old) (D.faults disk.new) result }
+    ensures cause { HasCause OpenError.Fault (D.faults disk.old) (D.faults disk.new) result }
 {
     let count = disk.length(file)?;
     let octets = disk.read(alloc, file, 0, count.min(ENOUGH) as usize)?;
@@ -67,9 +86,11 @@ fn octets_of<D: Disk>(alloc: Global, disk: &mut D, file: u64) -> Result<Vec<u8>,
 
 /// What the octets of the two slots say.
 fn slots_of(alloc: Global, first: &[u8], second: &[u8]) -> Result<Slots, OpenError>
-    ensures found { IfOk result (λ slots. (image : ℕ → List ℕ) → image 1 ≡ first.now → image 2 ≡ second.now → AreSlots slots image) }
+    ensures found { IfOk result (λ slots. (image : ℕ → List ℕ) → image 1 ≡ first.now → image 2 ≡ second.now
+        → AreSlots slots image) }
     ensures gates { OnOk result ((1 ≤ length first.now) × (1 ≤ length second.now)) }
-    ensures fault { IfErr result (λ e. (e ≡ OpenError.OutOfMemory) ⊎ ((image : ℕ → List ℕ) → image 1 ≡ first.now → image 2 ≡ second.now → IsOpenFault image e)) }
+    ensures fault { IfErr result (λ e. (e ≡ OpenError.OutOfMemory)
+        ⊎ ((image : ℕ → List ℕ) → image 1 ≡ first.now → image 2 ≡ second.now → IsOpenFault image e)) }
     ensures device { IfErr result (λ e. e ≢ OpenError.Fault) }
 {
     if !is_any_open(first, second) {

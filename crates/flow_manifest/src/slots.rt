@@ -6,7 +6,8 @@ ghost use Rattle.flow_disk.specs.Moments.{LeavesOnly};
 ghost use Rattle.flow_disk.specs.Cause.{FailsOnlyByFault};
 ghost use Rattle.flow_manifest.specs.declared.manifest.Manifest.{Manifest};
 ghost use Rattle.flow_manifest.specs.Manifest.{IsValidManifest, manifest_octets};
-ghost use Rattle.flow_manifest.specs.Slots.{file_of, other, reads_of, AreSlots, IsReady, IsInForce, MayClose, IsPrepared, MayOpen, Opens};
+ghost use Rattle.flow_manifest.specs.Slots.{file_of, other, reads_of, AreSlots, IsReady, IsInForce, MayClose};
+ghost use Rattle.flow_manifest.specs.Slots.{IsPrepared, MayOpen, Opens};
 
 use crate::manifest::Manifest;
 use crate::swap::{open_slot, prepare_slot};
@@ -54,8 +55,8 @@ pub struct Slots {
     pub other_open: bool,
 }
 
-/// Makes ready for a swap: closes the slot that isn't in force where it is open, and writes the body of the next manifest
-/// behind the closed gate. Both slots are settled, and as `slots` says. It takes no memory.
+/// Makes ready for a swap: closes the slot that isn't in force where it is open, and writes the body of the next
+/// manifest behind the closed gate. Both slots are settled, and as `slots` says. It takes no memory.
 ///
 /// At every moment the manifest in force is the current one. After 30 Fault both slots are synced and read anew.
 pub fn prepare<D: Disk>(disk: &mut D, slots: &mut Slots, body: &[u8]) -> Result<(), DiskError>
@@ -66,26 +67,35 @@ pub fn prepare<D: Disk>(disk: &mut D, slots: &mut Slots, body: &[u8]) -> Result<
     requires told { IsTrue (D.honest disk.old) → AreSlots slots.old (reads_of (D.held disk.old)) }
 
     ensures honest { D.honest disk.new ≡ D.honest disk.old }
-    ensures other_marks { (n : ℕ) → n ≢ file_of (other slots.old.current_slot) → D.marks disk.new n ≡ D.marks disk.old n }
+    ensures clock { D.moment disk.old ≤ D.moment disk.new }
+    ensures other_marks { (n : ℕ) → n ≢ file_of (other slots.old.current_slot)
+        → D.marks disk.new n ≡ D.marks disk.old n }
     ensures thawed { (D.marks disk.new (file_of (other slots.old.current_slot))).frozen ≡ false }
     ensures settled { OnOk result ((D.marks disk.new (file_of (other slots.old.current_slot))).settled ≡ true) }
-    ensures size { OnOk result ((D.marks disk.new (file_of (other slots.old.current_slot))).size ≡ 1 + length body.now) }
-    ensures other_files { IsTrue (D.honest disk.old) → (n : ℕ) → n ≢ file_of (other slots.old.current_slot) → D.held disk.new n ≡ D.held disk.old n }
+    ensures listed { OnOk result ((D.marks disk.new (file_of (other slots.old.current_slot))).listed ≡ true) }
+    ensures size { OnOk result
+        ((D.marks disk.new (file_of (other slots.old.current_slot))).size ≡ 1 + length body.now) }
+    ensures other_files { IsTrue (D.honest disk.old) → (n : ℕ) → n ≢ file_of (other slots.old.current_slot)
+        → D.held disk.new n ≡ D.held disk.old n }
     ensures ok { OnOk result (slots.new ≡ record slots.old { other_open = false }) }
     ensures err { OnErr result (slots.new ≡ slots.old) }
 
     // A stop at any moment leaves the current manifest in force.
-    ensures in_force { IsTrue (D.honest disk.old) → LeavesOnly D.moment D.left_since disk.old disk.new (λ image. IsInForce image slots.old.current) }
+    ensures in_force { IsTrue (D.honest disk.old)
+        → LeavesOnly D.moment D.left_since disk.old disk.new (λ image. IsInForce image slots.old.current) }
 
     // Afterwards the slots are as `slots` says, and a manifest with this body that follows the current one is ready.
     ensures told { IsTrue (D.honest disk.old) → OnOk result (AllImages (D.held disk.new) (AreSlots slots.new)) }
-    ensures ready { IsTrue (D.honest disk.old) → (m : Manifest) → IsValidManifest m → m.generation ≡ slots.old.current.generation + 1 → body.now ≡ manifest_octets m
+    ensures ready { IsTrue (D.honest disk.old) → (m : Manifest) → IsValidManifest m
+        → m.generation ≡ slots.old.current.generation + 1 → body.now ≡ manifest_octets m
         → OnOk result (IsReady slots.new m (reads_of (D.held disk.new))) }
 
     // The same, of one slot alone.
     ensures any_moment { IsTrue (D.honest disk.old) → LeavesOnly D.moment D.left_since disk.old disk.new
         (ComesOf (D.held disk.old) (InFile (file_of (other slots.old.current_slot)) MayClose)) }
-    ensures after { IsTrue (D.honest disk.old) → OnOk result (AllImages (D.held disk.new) (ComesOf (D.held disk.old) (InFile (file_of (other slots.old.current_slot)) (IsPrepared body.now)))) }
+    ensures after { IsTrue (D.honest disk.old)
+        → OnOk result (AllImages (D.held disk.new)
+        (ComesOf (D.held disk.old) (InFile (file_of (other slots.old.current_slot)) (IsPrepared body.now)))) }
     ensures cause { FailsOnlyByFault (D.faults disk.old) (D.faults disk.new) result }
 {
     let file = slots.current_slot.other().file();
@@ -96,8 +106,8 @@ pub fn prepare<D: Disk>(disk: &mut D, slots: &mut Slots, body: &[u8]) -> Result<
 
 /// Swaps: opens the gate in front of the body that `prepare` has written. It takes no memory.
 ///
-/// At every moment the manifest in force is the current one or this one, and after Ok this one. After 30 Fault both slots are
-/// synced and read anew.
+/// At every moment the manifest in force is the current one or this one, and after Ok this one. After 30 Fault both
+/// slots are synced and read anew.
 pub fn commit<D: Disk>(disk: &mut D, slots: &mut Slots, manifest: Manifest) -> Result<(), DiskError>
     requires room { 1 ≤ (D.marks disk.old (file_of (other slots.old.current_slot))).size }
     requires thawed { (D.marks disk.old (file_of (other slots.old.current_slot))).frozen ≡ false }
@@ -106,25 +116,37 @@ pub fn commit<D: Disk>(disk: &mut D, slots: &mut Slots, manifest: Manifest) -> R
     requires ready { IsTrue (D.honest disk.old) → IsReady slots.old manifest (reads_of (D.held disk.old)) }
 
     ensures honest { D.honest disk.new ≡ D.honest disk.old }
-    ensures other_marks { (n : ℕ) → n ≢ file_of (other slots.old.current_slot) → D.marks disk.new n ≡ D.marks disk.old n }
+    ensures clock { D.moment disk.old ≤ D.moment disk.new }
+    ensures other_marks { (n : ℕ) → n ≢ file_of (other slots.old.current_slot)
+        → D.marks disk.new n ≡ D.marks disk.old n }
     ensures thawed { (D.marks disk.new (file_of (other slots.old.current_slot))).frozen ≡ false }
     ensures settled { OnOk result ((D.marks disk.new (file_of (other slots.old.current_slot))).settled ≡ true) }
-    ensures size { OnOk result ((D.marks disk.new (file_of (other slots.old.current_slot))).size ≡ (D.marks disk.old (file_of (other slots.old.current_slot))).size) }
-    ensures other_files { IsTrue (D.honest disk.old) → (n : ℕ) → n ≢ file_of (other slots.old.current_slot) → D.held disk.new n ≡ D.held disk.old n }
-    ensures ok { OnOk result (slots.new ≡ record { current = manifest; current_slot = other slots.old.current_slot; other_open = true }) }
+    ensures listed { OnOk result ((D.marks disk.new (file_of (other slots.old.current_slot))).listed ≡ true) }
+    ensures size { OnOk result
+        ((D.marks disk.new (file_of (other slots.old.current_slot))).size
+        ≡ (D.marks disk.old (file_of (other slots.old.current_slot))).size) }
+    ensures other_files { IsTrue (D.honest disk.old) → (n : ℕ) → n ≢ file_of (other slots.old.current_slot)
+        → D.held disk.new n ≡ D.held disk.old n }
+    ensures ok { OnOk result (slots.new
+        ≡ record { current = manifest; current_slot = other slots.old.current_slot; other_open = true }) }
     ensures err { OnErr result (slots.new ≡ slots.old) }
 
     // A stop at any moment leaves the current manifest in force, or this one.
-    ensures in_force { IsTrue (D.honest disk.old) → LeavesOnly D.moment D.left_since disk.old disk.new (λ image. IsInForce image slots.old.current ⊎ IsInForce image manifest) }
+    ensures in_force { IsTrue (D.honest disk.old)
+        → LeavesOnly D.moment D.left_since disk.old disk.new (λ image. IsInForce image slots.old.current
+        ⊎ IsInForce image manifest) }
 
     // Afterwards this one is in force, and the slots are as `slots` says.
     ensures told { IsTrue (D.honest disk.old) → OnOk result (AllImages (D.held disk.new) (AreSlots slots.new)) }
-    ensures swapped { IsTrue (D.honest disk.old) → OnOk result (AllImages (D.held disk.new) (λ image. IsInForce image manifest)) }
+    ensures swapped { IsTrue (D.honest disk.old)
+        → OnOk result (AllImages (D.held disk.new) (λ image. IsInForce image manifest)) }
 
     // The same, of one slot alone.
     ensures any_moment { IsTrue (D.honest disk.old) → LeavesOnly D.moment D.left_since disk.old disk.new
         (ComesOf (D.held disk.old) (InFile (file_of (other slots.old.current_slot)) MayOpen)) }
-    ensures after { IsTrue (D.honest disk.old) → OnOk result (AllImages (D.held disk.new) (ComesOf (D.held disk.old) (InFile (file_of (other slots.old.current_slot)) Opens))) }
+    ensures after { IsTrue (D.honest disk.old)
+        → OnOk result (AllImages (D.held disk.new)
+        (ComesOf (D.held disk.old) (InFile (file_of (other slots.old.current_slot)) Opens))) }
     ensures cause { FailsOnlyByFault (D.faults disk.old) (D.faults disk.new) result }
 {
     let slot = slots.current_slot.other();

@@ -1,4 +1,5 @@
 use super::*;
+use crate::checks::{is_elsewhere, totals_of};
 use std::alloc::Global;
 use std::test::*;
 
@@ -397,5 +398,107 @@ fn printed(rt: HostRuntime) -> Result<(), Fail> {
     for (fault, text) in faults {
         assert_eq!(rt; format!(in rt.alloc(); "{fault}")?.as_str(), text);
     }
+    Ok(())
+}
+
+/// The octets of the manifest after a seal, where what it asks holds.
+fn sealed_after(
+    alloc: Global,
+    octets: &[u8],
+    end: u64,
+    file: u64,
+    prefix: u32,
+) -> Result<Vec<u8>, ManifestError> {
+    let now = decode(alloc, octets)?;
+    let entries = now.entries.as_slice();
+    let before = u64::from(entries[entries.len() - 1].prefix);
+    if entries.len() >= 4096
+        || now.generation == u64::MAX
+        || file < now.next
+        || file == u64::MAX
+        || end < before + 16
+        || before + u64::from(now.limit) < end
+        || totals_of(entries).all >= (1 << 48) - 1
+    {
+        return Err(ManifestError::Entries);
+    }
+    let next = next_manifest(alloc, &now, end, 1, file, prefix)?;
+    let octets = encode(alloc, &next)?;
+    Ok(octets)
+}
+
+/// The octets of the manifest after an install, where what it asks holds.
+fn installed_after(
+    alloc: Global,
+    octets: &[u8],
+    job: JobKind,
+    sources: usize,
+    staged: Staged,
+    next: u64,
+) -> Result<Vec<u8>, ManifestError> {
+    let now = decode(alloc, octets)?;
+    let entries = now.entries.as_slice();
+    if sources == 0
+        || count_of(entries, job.source()) < sources
+        || now.generation == u64::MAX
+        || staged.file < 3
+        || !is_elsewhere(staged.file, entries)
+        || next <= staged.file
+        || next < now.next
+    {
+        return Err(ManifestError::Entries);
+    }
+    let made = installed_manifest(alloc, &now, job, sources, staged, next)?;
+    let octets = encode(alloc, &made)?;
+    Ok(octets)
+}
+
+#[test]
+fn seals_and_installs(rt: HostRuntime) -> Result<(), Fail> {
+    let alloc = rt.alloc();
+    let octets = sealed_after(alloc, &CREATED, 57, 4, 40)?;
+    assert_eq!(rt; octets.as_slice(), SEALED.as_slice());
+    let octets = sealed_after(alloc, &octets, 73, 5, 40)?;
+    let octets = sealed_after(alloc, &octets, 73, 6, 40)?;
+    // A job has staged file 7 when the next segment begins, and is installed after it.
+    let octets = sealed_after(alloc, &octets, 73, 8, 40)?;
+    let staged = Staged {
+        file: 7,
+        length: 161,
+    };
+    let octets = installed_after(alloc, &octets, JobKind::Roll, 2, staged, 9)?;
+    let rolled = decode(alloc, &octets)?;
+    assert_eq!(rt;
+        (rolled.generation, rolled.next, rolled.rolled, rolled.second),
+        (6, 9, 2, 0)
+    );
+    let entries = [
+        entry(Kind::Rolled, 0, 7, 161, 2),
+        entry(Kind::Sealed, 40, 5, 73, 1),
+        entry(Kind::Sealed, 40, 6, 73, 1),
+        entry(Kind::Active, 40, 8, 0, 0),
+    ];
+    assert_eq!(rt; rolled.entries.as_slice(), entries.as_slice());
+    let staged = Staged {
+        file: 9,
+        length: 161,
+    };
+    let octets = installed_after(alloc, &octets, JobKind::Roll, 1, staged, 10)?;
+    let staged = Staged {
+        file: 10,
+        length: 161,
+    };
+    let octets = installed_after(alloc, &octets, JobKind::Merge, 2, staged, 11)?;
+    let merged = decode(alloc, &octets)?;
+    assert_eq!(rt;
+        (merged.generation, merged.next, merged.rolled, merged.second),
+        (8, 11, 3, 3)
+    );
+    let entries = [
+        entry(Kind::Wide, 0, 10, 161, 3),
+        entry(Kind::Sealed, 40, 6, 73, 1),
+        entry(Kind::Active, 40, 8, 0, 0),
+    ];
+    assert_eq!(rt; merged.entries.as_slice(), entries.as_slice());
     Ok(())
 }

@@ -1,5 +1,6 @@
 pub mod Recorded
 pub mod Looked
+pub mod Named
 pub mod Stories
 pub mod Noted
 pub mod Told

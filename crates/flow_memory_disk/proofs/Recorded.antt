@@ -10,7 +10,8 @@ pub octets_push : (deeds : List Deed) (deed : Deed) → octets_of (deeds ++ deed
 octets_push [] deed = omega arith
 octets_push (first ∷ deeds) deed = omega (arith, octets_push deeds deed)
 
-call_front : (deed : Deed) (octets more : List ℕ) → count_of deed ≤ length octets → call_of deed (octets ++ more) ≡ call_of deed octets
+call_front : (deed : Deed) (octets more : List ℕ) → count_of deed ≤ length octets
+    → call_of deed (octets ++ more) ≡ call_of deed octets
 call_front (Wrote file at count) octets more le = ap (written file at) (take-append-le count octets more le)
 call_front (Cut file count) octets more le = refl
 call_front (Synced file) octets more le = refl
@@ -25,8 +26,12 @@ pub calls_push : (deeds : List Deed) (deed : Deed) (octets more : List ℕ) → 
     → calls_of (deeds ++ deed ∷ []) (octets ++ more) ≡ calls_of deeds octets ++ call_of deed more ∷ []
 calls_push [] deed octets more whole = ap (λ (l : List ℕ). call_of deed (l ++ more) ∷ []) (no_octets octets whole)
 calls_push (first ∷ deeds) deed octets more whole =
-    let rest = calls_push deeds deed (drop (count_of first) octets) more (omega (arith, whole, length-drop (count_of first) octets)) in
-    let same : call_of first (octets ++ more) ≡ call_of first octets = call_front first octets more (omega (arith, whole)) in
-    let behind : drop (count_of first) (octets ++ more) ≡ drop (count_of first) octets ++ more = drop-append-le (count_of first) octets more (omega (arith, whole)) in
+    let rest = calls_push deeds deed (drop (count_of first) octets) more
+    (omega (arith, whole, length-drop (count_of first) octets)) in
+    let same : call_of first (octets ++ more) ≡ call_of first octets =
+    call_front first octets more (omega (arith, whole)) in
+    let behind : drop (count_of first) (octets ++ more) ≡ drop (count_of first) octets ++ more =
+    drop-append-le (count_of first) octets more (omega (arith, whole)) in
     ap (λ (c : Call). c ∷ calls_of (deeds ++ deed ∷ []) (drop (count_of first) (octets ++ more))) same
-    ∙ ap (λ (l : List ℕ). call_of first octets ∷ calls_of (deeds ++ deed ∷ []) l) behind ∙ ap (λ (l : List Call). call_of first octets ∷ l) rest
+    ∙ ap (λ (l : List ℕ). call_of first octets ∷ calls_of (deeds ++ deed ∷ []) l) behind
+    ∙ ap (λ (l : List Call). call_of first octets ∷ l) rest

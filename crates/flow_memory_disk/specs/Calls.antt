@@ -1,6 +1,7 @@
 -- Calls that change what a file holds, and what they make of each file.
 use Rattle.std.specs.Prelude.{ℕ, ◌+◌, ◌≤◌, max, true, false, List, [], ◌∷◌, ◌++◌, length, take, if◌then◌else◌, ◌==◌}
-use Rattle.flow_disk.specs.Disk.{Held, Marks, IsDiskImage, changed, settled_at, touched_at, loosened_at, given_up, put_at}
+use Rattle.flow_disk.specs.Disk.{Held, Marks, IsDiskImage, changed, settled_at, touched_at, loosened_at, given_up}
+use Rattle.flow_disk.specs.Disk.{put_at}
 
 -- a call that changed what a file holds: the file's number first; a write has its place and its octets
 pub data Call : Type 0 where
@@ -33,7 +34,8 @@ abbrev pub replayed : ℕ → Held → List Call → Held
 replayed n file [] = file
 replayed n file (call ∷ calls) = replayed n (after n file call) calls
 
--- A disk told from some moment on: what its files were settled as then, the calls since, and what it keeps of each file now.
+-- A disk told from some moment on: what its files were settled as then, the calls since, and what it keeps of each file
+-- now.
 pub record Story : Type 0 where
   pub base : ℕ → List ℕ
   pub calls : List Call
@@ -53,16 +55,35 @@ LeftSince story t image = (k : ℕ) × (t ≤ k) × (k ≤ length story.calls) �
 
 -- what is kept of a file after a call
 abbrev pub marks_made : Marks → Call → Marks
-marks_made marks (written n at octets) = record { size = max marks.size (at + length octets); settled = false; frozen = marks.frozen; listed = true }
+marks_made marks (written n at octets) =
+    record { size = max marks.size (at + length octets); settled = false; frozen = marks.frozen; listed = true }
 marks_made marks (shortened n count) = record { size = count; settled = false; frozen = marks.frozen; listed = true }
 marks_made marks (settled n) = record { size = marks.size; settled = true; frozen = marks.frozen; listed = true }
-marks_made marks (abandoned n) = record { size = marks.size; settled = false; frozen = marks.frozen; listed = marks.listed }
+marks_made marks (abandoned n) =
+    record { size = marks.size; settled = false; frozen = marks.frozen; listed = marks.listed }
 marks_made marks (removed n) = record { size = 0; settled = true; frozen = false; listed = false }
 
 -- the story with one call more
 abbrev pub told : Story → Call → Story
-told story call = record { base = story.base; calls = story.calls ++ call ∷ []; marks = changed story.marks (file_of call) (marks_made (story.marks (file_of call)) call) }
+told story call = record {
+  base = story.base;
+  calls = story.calls ++ call ∷ [];
+  marks =
+      changed story.marks (file_of call) (marks_made (story.marks (file_of call)) call);
+}
 
 -- the story with a file frozen: no call of the record
 abbrev pub frozen_in : Story → ℕ → Story
-frozen_in story file = record { base = story.base; calls = story.calls; marks = changed story.marks file (record { size = (story.marks file).size; settled = (story.marks file).settled; frozen = true; listed = (story.marks file).listed }) }
+frozen_in story file =
+    record {
+      base = story.base;
+      calls = story.calls;
+      marks =
+          changed story.marks file (record {
+            size = (story.marks file).size;
+            settled = (story.marks file).settled;
+            frozen =
+                true;
+            listed = (story.marks file).listed;
+          });
+    }

@@ -1,3 +1,4 @@
+pub mod Failing
 pub mod Calls
 pub mod Memory
 pub mod Record

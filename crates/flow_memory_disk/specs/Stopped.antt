@@ -1,5 +1,6 @@
 -- What a stop leaves of a file, by a choice among its images.
-use Rattle.std.specs.Prelude.{ℕ, ◌+◌, Bool, true, false, ◌&&◌, ◌||◌, nat_lt, nat_le, List, [], ◌∷◌, ◌++◌, length, take, get_or, if◌then◌else◌, ◌==◌}
+use Rattle.std.specs.Prelude.{ℕ, ◌+◌, Bool, true, false, ◌&&◌, ◌||◌, nat_lt, nat_le, List, [], ◌∷◌, ◌++◌, length, take}
+use Rattle.std.specs.Prelude.{get_or, if◌then◌else◌, ◌==◌}
 use Rattle.flow_disk.specs.Disk.{Held}
 use Rattle.flow_memory_disk.specs.declared.choice.Choice.{Choice}
 use Rattle.flow_memory_disk.specs.declared.choice.Choice.TheVariants.{Kept, Settled, Filled, Longer}
@@ -21,7 +22,8 @@ next octets used = if (used + 1) == length octets then 0 else (used + 1)
 -- From this place on, these octets with others in turn where a stop can change them.
 abbrev pub filled : ℕ → List (ℕ × ℕ) → List ℕ → ℕ → ℕ → List ℕ → List ℕ
 filled fast touched octets place used [] = []
-filled fast touched octets place used (x ∷ xs) = if is_settled fast touched place then x ∷ filled fast touched octets (place + 1) used xs
+filled fast touched octets place used (x ∷ xs) =
+    if is_settled fast touched place then x ∷ filled fast touched octets (place + 1) used xs
     else get_or octets used 0 ∷ filled fast touched octets (place + 1) (next octets used) xs
 
 -- what a stop leaves of a file
@@ -36,5 +38,11 @@ abbrev pub stopped : Story → Choice → Story
 stopped story choice = record {
   base = λ n. image_of choice (held_of story n);
   calls = [];
-  marks = λ n. record { size = length (image_of choice (held_of story n)); settled = true; frozen = false; listed = (story.marks n).listed };
+  marks = λ n. record {
+    size = length (image_of choice (held_of story n));
+    settled = true;
+    frozen = false;
+    listed =
+        (story.marks n).listed;
+  };
 }

@@ -5,7 +5,7 @@ use Rattle.flow_disk.specs.Disk.{settled_at}
 use Rattle.flow_memory_disk.specs.declared.choice.Choice.{Choice}
 use Rattle.flow_memory_disk.specs.declared.choice.Choice.TheVariants.{Kept, Settled, Filled, Longer}
 use Rattle.flow_memory_disk.specs.declared.stored.StoredFile.{StoredFile}
-use Rattle.flow_memory_disk.specs.Stored.{held_in, first_in, marks_in}
+use Rattle.flow_memory_disk.specs.Stored.{held_in, first_in, marks_in, room_in}
 use Rattle.flow_memory_disk.specs.Stopped.{image_of}
 
 -- a stop may leave this of the file: the octets that it asks for are there, and fit the file's room
@@ -22,9 +22,16 @@ pub record CanCrash (files : List StoredFile) (choice : Choice) : Type 0 where
 -- the file as a stop left it
 pub record IsStopped (choice : Choice) (was to : StoredFile) : Type 0 where
   pub number : to.number ≡ was.number
+  pub room : room_in to ≡ room_in was
   pub held : held_in to ≡ settled_at (image_of choice (held_in was))
   pub first : first_in to ≡ image_of choice (held_in was)
-  pub marks : marks_in to ≡ record { size = length (image_of choice (held_in was)); settled = true; frozen = false; listed = was.listed }
+  pub marks : marks_in to ≡ record {
+    size = length (image_of choice (held_in was));
+    settled = true;
+    frozen =
+        false;
+    listed = was.listed;
+  }
 
 pub record AllStopped (choice : Choice) (old new : List StoredFile) : Type 0 where
   pub long : length new ≡ length old

@@ -1,7 +1,9 @@
 // Frozen files of which some reads fail.
-ghost use Rattle.std.specs.Prelude.{◌+◌, ◌<◌};
+ghost use Rattle.std.specs.Prelude.{◌≡◌, ◌⊎◌, ◌↔◌, ◌+◌, ◌≤◌, IsTrue, IfOk, IsErrOf, take, drop, vec_len};
+ghost use Rattle.flow_disk.specs.Cause.{HasCause};
+ghost use Rattle.flow_memory_disk.specs.Failing.{Reaches};
 
-use flow_disk::{DiskError, Faults, SealedFile};
+use flow_disk::{DiskError, Faults, MayFail, SealedFile};
 use std::alloc::Global;
 
 /// Reads that fail: of this file once frozen, those that reach this octet.
@@ -11,48 +13,11 @@ pub(crate) struct BadReads {
     pub(crate) from: u64,
 }
 
-/// A read that reaches an octet that can't be read: with it alone a failure is counted.
+/// What shows that a read of a `FusedFile` failed: that it reached a bad octet, or that the read of the file below it
+/// failed. Reads of such files alone make one.
 #[derive(Drop)]
-struct BadRead {
-    from: u64,
-    at: u64,
-    count: usize,
-    ghost reaches: { from < at + count },
-}
-
-impl SealedFile for BadRead {
-    ghost use Rattle.std.specs.Prelude.{[], true};
-    ghost use Rattle.std.specs.Prelude.{refl};
-
-    ghost octets = { λ _. [] };
-
-    ghost number = { λ _. 0 };
-
-    ghost size = { λ _. 0 };
-
-    ghost honest = { λ _. true };
-
-    ghost can_fail = { λ _. Unit {0} };
-
-    ghost whole = { λ f h. refl };
-
-    fn file(&self) -> u64 {
-        0
-    }
-
-    fn length(&self) -> u64 {
-        0
-    }
-
-    fn read(
-        &self,
-        alloc: Global,
-        _faults: &mut Faults,
-        _at: u64,
-        _count: usize,
-    ) -> Result<Vec<u8>, DiskError> {
-        Ok(Vec::new(alloc))
-    }
+pub struct BadRead {
+    _made_here: (),
 }
 
 /// A frozen file of which each read fails that reaches an octet.
@@ -62,10 +27,11 @@ pub struct FusedFile<S: SealedFile> {
     pub(crate) bad: Option<u64>,
 }
 
-impl<S: SealedFile> SealedFile for FusedFile<S> {
-    ghost use Rattle.std.specs.Prelude.{◌≡◌, ◌≤◌, IsTrue, IfOk, IfSome, IsErrOf, take, drop, vec_len};
-    ghost use Rattle.flow_disk.specs.Cause.{HasCause};
+impl<S: SealedFile> MayFail for FusedFile<S> {
+    type Failure = BadRead;
+}
 
+impl<S: SealedFile> SealedFile for FusedFile<S> {
     ghost octets = { λ f. S.octets f.sealed };
 
     ghost number = { λ f. S.number f.sealed };
@@ -74,7 +40,7 @@ impl<S: SealedFile> SealedFile for FusedFile<S> {
 
     ghost honest = { λ f. S.honest f.sealed };
 
-    ghost can_fail = { λ f. Unit {0} };
+    ghost can_fail = { λ f at count. Reaches f.bad at count ⊎ S.can_fail f.sealed at count };
 
     ghost whole = { λ f. S.whole f.sealed };
 
@@ -89,24 +55,41 @@ impl<S: SealedFile> SealedFile for FusedFile<S> {
     fn read(
         &self,
         alloc: Global,
-        faults: &mut Faults,
+        faults: &mut Faults<Self>,
         at: u64,
         count: usize,
     ) -> Result<Vec<u8>, DiskError>
         requires { at + count ≤ S.size self.now.sealed }
         ensures count { IfOk result (λ got. vec_len got ≡ count) }
-        ensures octets { IfOk result (λ got. IsTrue (S.honest self.now.sealed) → got.items ≡ take count (drop at (S.octets self.now.sealed))) }
-        ensures cause { HasCause faults.old faults.new result }
-        // A read that reaches the octet fails.
-        ensures bad { IfSome self.now.bad (λ from. 1 ≤ count → from < at + count → IsErrOf result DiskError.Fault) }
+        ensures octets { IfOk result (λ got. IsTrue (S.honest self.now.sealed)
+            → got.items ≡ take count (drop at (S.octets self.now.sealed))) }
+        ensures cause { HasCause DiskError.Fault faults.old faults.new result }
+        ensures able { IsErrOf result DiskError.Fault
+            → Reaches self.now.bad at count ⊎ S.can_fail self.now.sealed at count }
+        // A read that reaches a bad octet fails.
+        ensures bad { Reaches self.now.bad at count → IsErrOf result DiskError.Fault }
     {
-        if let Some(from) = self.bad
-            && count != 0
-            && (at >= from || count as u64 > from - at)
-        {
-            faults.raise(&BadRead { from, at, count });
-            return Err(DiskError::Fault);
+        let got = if self.reaches(at, count) {
+            Err(DiskError::Fault)
+        } else {
+            let mut below = Faults::<S>::new();
+            self.sealed.read(alloc, &mut below, at, count)
+        };
+        if got == Err(DiskError::Fault) {
+            faults.raise(&BadRead { _made_here: () });
         }
-        self.sealed.read(alloc, faults, at, count)
+        got
+    }
+}
+
+impl<S: SealedFile> FusedFile<S> {
+    /// Whether a read reaches the first bad octet.
+    fn reaches(&self, at: u64, count: usize) -> bool
+        ensures { IsTrue result ↔ Reaches self.now.bad at count }
+    {
+        match self.bad {
+            Some(from) => count != 0 && (at >= from || count as u64 > from - at),
+            None => false,
+        }
     }
 }

@@ -7,7 +7,8 @@ pub enum Choice<'a> {
     Kept,
     /// What it was last settled as.
     Settled,
-    /// What it reads as, with these octets, at least one, in turn at each place that is not settled; over again at their end.
+    /// What it reads as, with these octets, at least one, in turn at each place that is not settled; over again at
+    /// their end.
     Filled(&'a [u8]),
     /// Where its end may lie anywhere, its settled front and these octets behind it; else what it was last settled as.
     Longer(&'a [u8]),

@@ -1,9 +1,10 @@
 // A disk in memory.
-ghost use Rattle.std.specs.Prelude.{◌≡◌, ℕ, []};
+ghost use Rattle.std.specs.Prelude.{◌≡◌, ◌+◌, ◌<◌, ◌≤◌, ◌^◌, ℕ, [], length, get_or, vec_len, vec_capacity};
 ghost use Rattle.flow_disk.specs.Disk.{settled_at};
 ghost use Rattle.flow_memory_disk.specs.Calls.{replayed};
 ghost use Rattle.flow_memory_disk.specs.Record.{calls_of};
-ghost use Rattle.flow_memory_disk.specs.Stored.{looked, held_in, first_in};
+ghost use Rattle.flow_memory_disk.specs.Stored.{looked, held_in, first_in, room_in};
+ghost use Rattle.flow_memory_disk.specs.declared.stored.StoredFile.{StoredFile};
 
 use crate::choice::Choice;
 use crate::deed::Deed;
@@ -26,11 +27,24 @@ pub struct MemoryDisk {
     spare: Vec<StoredFile>,
     pub(crate) log: Record,
     pub(crate) faults: u64,
-    ghost replays: { (n : ℕ) → looked held_in (settled_at []) files.items n ≡ replayed n (settled_at (looked first_in [] files.items n)) (calls_of log.deeds.items log.octets.items) },
+    lent: u64,
+    room: Room,
+    ghost replays: { (n : ℕ) → looked held_in (settled_at []) files.items n
+        ≡ replayed n (settled_at (looked first_in [] files.items n)) (calls_of log.deeds.items log.octets.items) },
+    ghost limit: { room.octets ≤ 2 ^ 62 },
+    ghost places: { length files.items + length spare.items ≡ room.files },
+    ghost files_room: { room.files ≤ vec_capacity files },
+    ghost files_fit: { (n : ℕ) → looked room_in (room.octets, room.calls) files.items n ≡ (room.octets, room.calls) },
+    ghost spare_fit: { (k : ℕ) (d : StoredFile) → k < length spare.items
+        → room_in (get_or spare.items k d) ≡ (room.octets, room.calls) },
+    ghost calls_room: { room.calls ≤ vec_capacity log.deeds },
+    ghost written_room: { room.written ≤ vec_capacity log.octets },
 }
 
 impl MemoryDisk {
-    ghost use Rattle.std.specs.Prelude.{◌⊎◌, ◌<◌, ◌≤◌, ◌==◌, None, vec_len, vec_capacity, ◌+◌, ◌^◌, ◌++◌, true, false, max, length, take, IsTrue, ◌↔◌, IfOk, OnOk, OnErr};
+    ghost use Rattle.std.specs.Prelude.{None, ◌++◌, ◌==◌, ◌||◌, true, false, min, max, take, IsTrue, ◌↔◌, IfOk, OnOk};
+    ghost use Rattle.std.specs.Prelude.{OnErr};
+    ghost use Rattle.std.specs.Prelude.{◌⊎◌, is_err};
     ghost use Rattle.std.specs.List.{position};
     ghost use Rattle.flow_memory_disk.specs.Stopped.{stopped};
     ghost use Rattle.flow_memory_disk.specs.Stopping.{CanCrash};
@@ -39,35 +53,54 @@ impl MemoryDisk {
     ghost use Rattle.std.specs.Ordering.{nat_cmp};
     ghost use Rattle.std.specs.BTreeSet.{contains};
     ghost use Rattle.flow_disk.specs.Cause.{FailsOnlyByFault, HasRisen};
-    ghost use Rattle.flow_memory_disk.specs.Calls.{held_of, told, frozen_in, written, shortened, settled, abandoned, removed};
-    ghost use Rattle.flow_memory_disk.specs.Stored.{IsPlace, unwritten};
+    ghost use Rattle.flow_memory_disk.specs.Calls.{held_of, told, frozen_in, written, shortened, settled, abandoned};
+    ghost use Rattle.flow_memory_disk.specs.Calls.{removed};
+    ghost use Rattle.flow_memory_disk.specs.Stored.{IsPlace, IsNamedAfter, AreNamedAlike, is_named, unwritten};
     ghost use Rattle.flow_memory_disk.specs.Memory.{story_of};
-    ghost use Rattle.flow_memory_disk.specs.Room.{HasRoom, HasRecordRoom, LacksFile, LacksRecord, LacksWrite};
+    ghost use Rattle.flow_memory_disk.specs.Room.{lacks_file, lacks_room, lacks_octets, IsRefused};
 
     /// A disk with no files. All its room is made here.
     ///
     /// Errors: `AllocError`, where the room can't be had.
     pub fn new(alloc: Global, room: Room) -> Result<Self, AllocError>
-        ensures story { IfOk result (λ disk. story_of disk ≡ record { base = λ n. []; calls = []; marks = λ n. unwritten }) }
-        ensures room { IfOk result (λ disk. HasRoom disk room) }
+        ensures story { IfOk result (λ disk. story_of disk
+            ≡ record { base = λ n. []; calls = []; marks = λ n. unwritten }) }
+        ensures room { IfOk result (λ disk. disk.room ≡ record {
+          files = room.files;
+          octets = min room.octets (2 ^ 62);
+          calls = room.calls;
+          written = room.written;
+        }) }
+        ensures free { IfOk result (λ disk. disk.files.items ≡ []) }
+        ensures unused { IfOk result (λ disk. (vec_len disk.log.deeds ≡ 0) × (vec_len disk.log.octets ≡ 0)) }
     {
+        let octets = room.octets.min(LIMIT);
         let mut spare = Vec::with_capacity(alloc, room.files)?;
         for _ in 0..room.files {
-            spare.push(StoredFile::new(alloc, room.octets.min(LIMIT), room.calls)?)?;
+            spare.push(StoredFile::new(alloc, octets, room.calls)?)?;
         }
         Ok(MemoryDisk {
             files: Vec::with_capacity(alloc, room.files)?,
             spare,
             log: Record::new(alloc, room.calls, room.written)?,
             faults: 0,
+            lent: 0,
+            room: Room {
+                files: room.files,
+                octets,
+                calls: room.calls,
+                written: room.written,
+            },
         })
     }
 
     /// Counts a failure.
-    pub(crate) fn fault(&mut self) -> DiskError
+    fn fault(&mut self) -> DiskError
         ensures is { result ≡ DiskError.Fault }
+        ensures refused { IsRefused self.old self.new }
         ensures story { story_of self.new ≡ story_of self.old }
-        ensures log { self.new.log ≡ self.old.log }
+        ensures lent { self.new.lent ≡ self.old.lent }
+        ensures room { self.new.room ≡ self.old.room }
         ensures risen { HasRisen self.old.faults self.new.faults }
         ensures later { self.old.faults ≤ self.new.faults }
     {
@@ -75,109 +108,180 @@ impl MemoryDisk {
         DiskError::Fault
     }
 
+    /// Counts a failure to freeze a file of which an earlier frozen copy is still there.
+    fn fault_of_lent(&mut self) -> DiskError
+        ensures is { result ≡ DiskError.Fault }
+        ensures story { story_of self.new ≡ story_of self.old }
+        ensures log { self.new.log ≡ self.old.log }
+        ensures room { self.new.room ≡ self.old.room }
+        ensures lent { HasRisen self.old.lent self.new.lent }
+        ensures risen { HasRisen self.old.faults self.new.faults }
+        ensures later { self.old.faults ≤ self.new.faults }
+    {
+        self.lent = self.lent.saturating_add(1);
+        self.fault()
+    }
+
     /// The place of a file that some call has named.
-    pub(crate) fn place(&self, file: u64) -> Option<usize>
+    fn place(&self, file: u64) -> Option<usize>
         ensures { result ≡ position (λ stored. stored.number == file) self.now.files.items }
     {
         self.files.iter().position(|stored| stored.number == file)
     }
 
-    /// The place of a file, for a call that changes it; none where there is no room for one file more.
-    pub(crate) fn place_for(&mut self, file: u64) -> Result<usize, DiskError>
-        ensures place { IfOk result (λ i. IsPlace self.new.files.items file i) }
-        ensures lacks { OnErr result (LacksFile self.old) }
-        ensures log { self.new.log ≡ self.old.log }
-        ensures story { story_of self.new ≡ story_of self.old }
-        ensures cause { FailsOnlyByFault self.old.faults self.new.faults result }
+    /// Whether some call has named a file.
+    fn is_named(&self, file: u64) -> bool
+        ensures { result ≡ is_named self.now.files.items file }
     {
-        if let Some(i) = self.place(file) {
-            return Ok(i);
+        match self.place(file) {
+            Some(_) => true,
+            None => false,
         }
-        if self.files.len() == self.files.capacity() {
-            return Err(self.fault());
+    }
+
+    /// Whether there is no room for a call of a file that takes so many places of the record and writes so many octets.
+    fn lacks_room(&self, file: u64, calls: usize, octets: usize) -> bool
+        ensures { result ≡ lacks_room self.now file calls octets }
+    {
+        !self.is_named(file) && self.files.len() >= self.room.files
+            || self.log.lacks(self.room, calls, octets)
+    }
+
+    /// How many ranges of a file were written since it was last settled.
+    fn touched_count(&self, file: u64) -> usize
+        ensures { result ≡ length (held_of (story_of self.now) file).touched }
+    {
+        match self.place(file) {
+            Some(index) => self.files[index].touched_count(),
+            None => 0,
         }
-        match self.spare.pop() {
-            Some(stored) => Ok(self.begin(file, stored)),
-            None => Err(self.fault()),
+    }
+
+    /// Whether there is no room in a file for one write more, of so many octets at this place.
+    fn lacks_octets(&self, file: u64, at: u64, count: usize) -> bool
+        ensures { result ≡ lacks_octets self.now file at count }
+    {
+        count > self.room.octets
+            || at > (self.room.octets - count) as u64
+            || self.touched_count(file) >= self.room.calls
+    }
+
+    /// The place of a file, for a call that changes it.
+    fn place_for(&mut self, file: u64) -> usize
+        requires { lacks_file self.old file ≡ false }
+        ensures place { IsPlace self.new.files.items file result }
+        ensures named { IsNamedAfter self.old.files.items self.new.files.items file }
+        ensures story { story_of self.new ≡ story_of self.old }
+        ensures log { self.new.log ≡ self.old.log }
+        ensures room { self.new.room ≡ self.old.room }
+        ensures faults { self.new.faults ≡ self.old.faults }
+        ensures lent { self.new.lent ≡ self.old.lent }
+    {
+        match self.place(file) {
+            Some(index) => index,
+            None => self.begin(file),
         }
     }
 
     /// Takes up a file that no call has named yet.
-    fn begin(&mut self, file: u64, mut stored: StoredFile) -> usize
+    fn begin(&mut self, file: u64) -> usize
         requires missing { position (λ stored. stored.number == file) self.old.files.items ≡ None }
-        requires room { vec_len self.old.files < vec_capacity self.old.files }
+        requires room { length self.old.files.items < self.old.room.files }
         ensures place { IsPlace self.new.files.items file result }
+        ensures named { IsNamedAfter self.old.files.items self.new.files.items file }
         ensures story { story_of self.new ≡ story_of self.old }
         ensures log { self.new.log ≡ self.old.log }
+        ensures room { self.new.room ≡ self.old.room }
         ensures faults { self.new.faults ≡ self.old.faults }
+        ensures lent { self.new.lent ≡ self.old.lent }
     {
+        let Some(mut stored) = self.spare.pop() else {
+            unreachable!()
+        };
         stored.begin(file);
         let index = self.files.len();
         self.files.push_reserved(stored);
         index
     }
 
-    /// A write, where there is room for it and its file is not frozen.
+    /// A write.
     pub(crate) fn try_write(&mut self, file: u64, at: u64, octets: &[u8]) -> Result<(), DiskError>
         requires { at ≤ ((story_of self.old).marks file).size }
         ensures ok { OnOk result (story_of self.new ≡ told (story_of self.old) (written file at octets.now)) }
         ensures err { OnErr result (story_of self.new ≡ story_of self.old) }
-        ensures lacks { OnErr result (LacksWrite self.old file at (length octets.now)) }
+        ensures refused { OnErr result (IsRefused self.old self.new) }
+        ensures lacks { is_err result ≡ (lacks_room self.old file 1
+            (length octets.now) || lacks_octets self.old file at (length octets.now)) }
+        ensures named { OnOk result (IsNamedAfter self.old.files.items self.new.files.items file) }
+        ensures room { self.new.room ≡ self.old.room }
+        ensures lent { self.new.lent ≡ self.old.lent }
         ensures cause { FailsOnlyByFault self.old.faults self.new.faults result }
     {
-        let index = self.place_for(file)?;
-        if !self.files[index].has_room(at, octets.len()) {
+        if self.lacks_room(file, 1, octets.len()) || self.lacks_octets(file, at, octets.len()) {
             return Err(self.fault());
         }
-        if !self.log.has_room(1, octets.len()) {
-            return Err(self.fault());
-        }
+        let index = self.place_for(file);
         self.files[index].write(at, octets);
         self.log.push(Deed::Wrote(file, at, octets.len()), octets);
         Ok(())
     }
 
+    /// A cut.
     pub(crate) fn try_cut(&mut self, file: u64, count: u64) -> Result<(), DiskError>
         requires { count ≤ ((story_of self.old).marks file).size }
         ensures ok { OnOk result (story_of self.new ≡ told (story_of self.old) (shortened file count)) }
         ensures err { OnErr result (story_of self.new ≡ story_of self.old) }
-        ensures lacks { OnErr result (LacksFile self.old ⊎ LacksRecord self.old.log 1 0) }
+        ensures refused { OnErr result (IsRefused self.old self.new) }
+        ensures lacks { is_err result ≡ lacks_room self.old file 1 0 }
+        ensures named { OnOk result (IsNamedAfter self.old.files.items self.new.files.items file) }
+        ensures room { self.new.room ≡ self.old.room }
+        ensures lent { self.new.lent ≡ self.old.lent }
         ensures cause { FailsOnlyByFault self.old.faults self.new.faults result }
     {
-        let index = self.place_for(file)?;
-        if !self.log.has_room(1, 0) {
+        if self.lacks_room(file, 1, 0) {
             return Err(self.fault());
         }
+        let index = self.place_for(file);
         self.files[index].cut(count);
         self.log.push(Deed::Cut(file, count), &[]);
         Ok(())
     }
 
+    /// A sync.
     pub(crate) fn try_sync(&mut self, file: u64) -> Result<(), DiskError>
         ensures ok { OnOk result (story_of self.new ≡ told (story_of self.old) (settled file)) }
         ensures err { OnErr result (story_of self.new ≡ story_of self.old) }
-        ensures lacks { OnErr result (LacksFile self.old ⊎ LacksRecord self.old.log 1 0) }
+        ensures refused { OnErr result (IsRefused self.old self.new) }
+        ensures lacks { is_err result ≡ lacks_room self.old file 1 0 }
+        ensures named { OnOk result (IsNamedAfter self.old.files.items self.new.files.items file) }
+        ensures room { self.new.room ≡ self.old.room }
+        ensures lent { self.new.lent ≡ self.old.lent }
         ensures cause { FailsOnlyByFault self.old.faults self.new.faults result }
     {
-        let index = self.place_for(file)?;
-        if !self.log.has_room(1, 0) {
+        if self.lacks_room(file, 1, 0) {
             return Err(self.fault());
         }
+        let index = self.place_for(file);
         self.files[index].sync();
         self.log.push(Deed::Synced(file), &[]);
         Ok(())
     }
 
+    /// A removal: its begin and its end.
     pub(crate) fn try_remove(&mut self, file: u64) -> Result<(), DiskError>
         ensures ok { OnOk result (story_of self.new ≡ told (told (story_of self.old) (abandoned file)) (removed file)) }
         ensures err { OnErr result (story_of self.new ≡ story_of self.old) }
-        ensures lacks { OnErr result (LacksFile self.old ⊎ LacksRecord self.old.log 2 0) }
+        ensures refused { OnErr result (IsRefused self.old self.new) }
+        ensures lacks { is_err result ≡ lacks_room self.old file 2 0 }
+        ensures named { OnOk result (IsNamedAfter self.old.files.items self.new.files.items file) }
+        ensures room { self.new.room ≡ self.old.room }
+        ensures lent { self.new.lent ≡ self.old.lent }
         ensures cause { FailsOnlyByFault self.old.faults self.new.faults result }
     {
-        let index = self.place_for(file)?;
-        if !self.log.has_room(2, 0) {
+        if self.lacks_room(file, 2, 0) {
             return Err(self.fault());
         }
+        let index = self.place_for(file);
         self.files[index].abandon();
         self.log.push(Deed::Abandoned(file), &[]);
         self.files[index].remove();
@@ -185,17 +289,26 @@ impl MemoryDisk {
         Ok(())
     }
 
-    /// Freezes a file, and gives a copy of its octets that no later call changes.
+    /// Freezes a file, and gives a copy of its octets that no later call changes. Where the copy of an earlier freezing
+    /// is still there, which `lent` counts, it is a fault.
     pub(crate) fn try_freeze(&mut self, file: u64) -> Result<Arc<Vec<u8>>, DiskError>
         ensures ok { OnOk result (story_of self.new ≡ frozen_in (story_of self.old) file) }
         ensures octets { IfOk result (λ copy. (arc_value copy).items ≡ (held_of (story_of self.old) file).reads) }
         ensures err { OnErr result (story_of self.new ≡ story_of self.old) }
+        ensures has { OnOk result ((lacks_file self.old file ≡ false) × (self.new.lent ≡ self.old.lent)) }
+        ensures lacks { OnErr result ((lacks_file self.old file ≡ true) ⊎ HasRisen self.old.lent self.new.lent) }
+        ensures named { OnOk result (IsNamedAfter self.old.files.items self.new.files.items file) }
+        ensures log { self.new.log ≡ self.old.log }
+        ensures room { self.new.room ≡ self.old.room }
         ensures cause { FailsOnlyByFault self.old.faults self.new.faults result }
     {
-        let index = self.place_for(file)?;
+        if !self.is_named(file) && self.files.len() >= self.room.files {
+            return Err(self.fault());
+        }
+        let index = self.place_for(file);
         match self.files[index].freeze() {
             Some(copy) => Ok(copy),
-            None => Err(self.fault()),
+            None => Err(self.fault_of_lent()),
         }
     }
 
@@ -247,13 +360,18 @@ impl MemoryDisk {
         ensures thawed { (n : ℕ) → ((story_of result).marks n).frozen ≡ false }
         ensures faults { result.faults ≡ self.faults }
         ensures spare { result.spare ≡ self.spare }
-        ensures room { HasRecordRoom result.log (vec_capacity self.log.deeds) (vec_capacity self.log.octets) }
+        ensures named { AreNamedAlike self.files.items result.files.items }
+        ensures room { result.room ≡ self.room }
+        ensures lent { result.lent ≡ self.lent }
+        ensures unused { (vec_len result.log.deeds ≡ 0) × (vec_len result.log.octets ≡ 0) }
     {
         let MemoryDisk {
             mut files,
             spare,
             mut log,
             faults,
+            lent,
+            room,
         } = self;
         stop_all(&mut files, choice);
         log.clear();
@@ -262,6 +380,8 @@ impl MemoryDisk {
             spare,
             log,
             faults,
+            lent,
+            room,
         }
     }
 
@@ -272,7 +392,10 @@ impl MemoryDisk {
         ensures thawed { (n : ℕ) → ((story_of result).marks n).frozen ≡ false }
         ensures faults { result.faults ≡ self.faults }
         ensures spare { result.spare ≡ self.spare }
-        ensures room { HasRecordRoom result.log (vec_capacity self.log.deeds) (vec_capacity self.log.octets) }
+        ensures named { AreNamedAlike self.files.items result.files.items }
+        ensures room { result.room ≡ self.room }
+        ensures lent { result.lent ≡ self.lent }
+        ensures unused { (vec_len result.log.deeds ≡ 0) × (vec_len result.log.octets ≡ 0) }
     {
         self.crash(Choice::Kept)
     }

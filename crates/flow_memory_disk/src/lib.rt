@@ -1,5 +1,5 @@
-//! Disks in memory, for tests. `MemoryDisk` keeps a record of its calls, so that a stop can leave any image its files may
-//! have; all its room is made at once.
+//! Disks in memory, for tests. `MemoryDisk` keeps a record of its calls, so that a stop can leave any image its files
+//! may have; all its room is made at once.
 #![tactic(auto)]
 
 mod bad_reads;
@@ -7,8 +7,8 @@ mod choice;
 mod deed;
 mod device;
 mod disk;
+mod failing;
 mod fill;
-mod fuse;
 mod fused;
 mod lying;
 mod one_fault;
@@ -18,12 +18,15 @@ mod room;
 mod sealed;
 mod stop;
 mod stored;
+mod when;
 
-pub use bad_reads::FusedFile;
+pub use bad_reads::{BadRead, FusedFile};
 pub use choice::Choice;
 pub use disk::MemoryDisk;
+pub use failing::FailingDisk;
 pub use fused::FusedDisk;
-pub use lying::{LyingDisk, LyingFile};
+pub use lying::{LyingDisk, LyingFile, ReadBelow};
 pub use one_fault::OneFaultDisk;
 pub use room::Room;
 pub use sealed::MemorySealed;
+pub use when::{Countdown, Fuse, When};

@@ -1,7 +1,7 @@
 // A disk that lies.
 ghost use Rattle.std.specs.Prelude.{◌≡◌};
 
-use flow_disk::{Disk, DiskError, Faults, SealedFile};
+use flow_disk::{Disk, DiskError, Faults, MayFail, SealedFile};
 use std::alloc::Global;
 
 /// Numbers that follow from a seed.
@@ -10,8 +10,8 @@ fn following(seed: u64) -> u64 {
         .wrapping_add(1442695040888963407)
 }
 
-/// Tells something else than was read, or not, as a seed chooses: another octet at one place, zeros in place of what was
-/// settled, or octets that were never written.
+/// Tells something else than was read, or not, as a seed chooses: another octet at one place, zeros in place of what
+/// was settled, or octets that were never written.
 fn distort(octets: &mut [u8], seed: u64) {
     let length = octets.len();
     if length == 0 {
@@ -32,12 +32,18 @@ fn distort(octets: &mut [u8], seed: u64) {
     }
 }
 
-/// A disk that lies, as a seed chooses: what is read of it, frozen files too, may be changed, forgotten or invented, and
-/// files may be missing from its list. It keeps lengths and marks, and fails where the disk below it fails.
+/// A disk that lies, as a seed chooses: what is read of it, frozen files too, may be changed, forgotten or invented,
+/// and files may be missing from its list. It keeps lengths and marks, and fails where the disk below it fails.
 #[derive(Drop)]
 pub struct LyingDisk<D: Disk> {
     disk: D,
     seed: u64,
+}
+
+/// What shows that a read of a `LyingFile` failed: that the read of the file below it failed. It never lies of that.
+#[derive(Drop)]
+pub struct ReadBelow {
+    _made_here: (),
 }
 
 /// A frozen file of a disk that lies.
@@ -148,6 +154,10 @@ impl<D: Disk> Disk for LyingDisk<D> {
     }
 }
 
+impl<S: SealedFile> MayFail for LyingFile<S> {
+    type Failure = ReadBelow;
+}
+
 impl<S: SealedFile> SealedFile for LyingFile<S> {
     ghost use Rattle.std.specs.Prelude.{false};
     ghost use Rattle.flow_memory_disk.specs.Lying.{never};
@@ -175,12 +185,17 @@ impl<S: SealedFile> SealedFile for LyingFile<S> {
     fn read(
         &self,
         alloc: Global,
-        faults: &mut Faults,
+        faults: &mut Faults<Self>,
         at: u64,
         count: usize,
     ) -> Result<Vec<u8>, DiskError> {
-        let mut octets = self.sealed.read(alloc, faults, at, count)?;
-        distort(&mut octets, following(self.seed.wrapping_add(at)));
-        Ok(octets)
+        let mut below = Faults::<S>::new();
+        let mut got = self.sealed.read(alloc, &mut below, at, count);
+        match &mut got {
+            Ok(octets) => distort(octets, following(self.seed.wrapping_add(at))),
+            Err(DiskError::Fault) => faults.raise(&ReadBelow { _made_here: () }),
+            Err(DiskError::OutOfMemory) => {}
+        }
+        got
     }
 }

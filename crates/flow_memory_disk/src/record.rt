@@ -1,9 +1,11 @@
 // The record of the calls that changed a file.
-ghost use Rattle.std.specs.Prelude.{◌≡◌, ◌⊎◌, false, ◌+◌, ◌<◌, ◌≤◌, length, IsTrue, IfOk, vec_len, vec_capacity, [], ◌∷◌, ◌++◌};
+ghost use Rattle.std.specs.Prelude.{◌≡◌, ◌||◌, nat_lt, ◌+◌, ◌<◌, ◌≤◌, length, IfOk, vec_len, vec_capacity, [], ◌∷◌};
+ghost use Rattle.std.specs.Prelude.{◌++◌};
 ghost use Rattle.flow_memory_disk.specs.Record.{octets_of, calls_of, call_of, count_of};
 
 use crate::deed::Deed;
 use crate::reserved::append;
+use crate::room::Room;
 use std::alloc::{AllocError, Global};
 
 /// The calls that changed a file, in their order, and the octets of the writes among them one behind the other.
@@ -15,12 +17,12 @@ pub(crate) struct Record {
 }
 
 impl Record {
-    ghost use Rattle.flow_memory_disk.specs.Room.{HasRecordRoom};
-
     /// An empty record with room for so many calls and octets.
     pub(crate) fn new(alloc: Global, calls: usize, octets: usize) -> Result<Self, AllocError>
         ensures calls { IfOk result (λ made. calls_of made.deeds.items made.octets.items ≡ []) }
-        ensures room { IfOk result (λ made. HasRecordRoom made calls octets) }
+        ensures none { IfOk result (λ made. (vec_len made.deeds ≡ 0) × (vec_len made.octets ≡ 0)) }
+        ensures deeds { IfOk result (λ made. calls ≤ vec_capacity made.deeds) }
+        ensures octets { IfOk result (λ made. octets ≤ vec_capacity made.octets) }
     {
         Ok(Record {
             deeds: Vec::with_capacity(alloc, calls)?,
@@ -28,17 +30,15 @@ impl Record {
         })
     }
 
-    /// Whether there is room for so many calls and octets more.
-    pub(crate) fn has_room(&self, calls: usize, octets: usize) -> bool
-        requires { calls ≤ 2 }
-        ensures calls { IsTrue result → vec_len self.now.deeds + calls ≤ vec_capacity self.now.deeds }
-        ensures octets { IsTrue result → vec_len self.now.octets + octets ≤ vec_capacity self.now.octets }
-        ensures lacks { result ≡ false → (vec_capacity self.now.deeds < vec_len self.now.deeds + calls) ⊎ (vec_capacity self.now.octets < vec_len self.now.octets + octets) }
+    /// Whether so many calls and octets more would pass this room.
+    pub(crate) fn lacks(&self, room: Room, calls: usize, octets: usize) -> bool
+        ensures { result ≡ (nat_lt room.calls (vec_len self.now.deeds + calls)
+            || nat_lt room.written (vec_len self.now.octets + octets)) }
     {
-        calls <= self.deeds.capacity()
-            && self.deeds.len() <= self.deeds.capacity() - calls
-            && octets <= self.octets.capacity()
-            && self.octets.len() <= self.octets.capacity() - octets
+        calls > room.calls
+            || self.deeds.len() > room.calls - calls
+            || octets > room.written
+            || self.octets.len() > room.written - octets
     }
 
     /// Takes a call up, with the octets that it wrote.
@@ -46,9 +46,12 @@ impl Record {
         requires calls { vec_len self.old.deeds < vec_capacity self.old.deeds }
         requires octets { vec_len self.old.octets + length octets.now ≤ vec_capacity self.old.octets }
         requires count { count_of deed ≡ length octets.now }
-        ensures calls { calls_of self.new.deeds.items self.new.octets.items ≡ calls_of self.old.deeds.items self.old.octets.items ++ call_of deed octets.now ∷ [] }
+        ensures calls { calls_of self.new.deeds.items self.new.octets.items ≡ calls_of self.old.deeds.items
+            self.old.octets.items ++ call_of deed octets.now ∷ [] }
         ensures len { vec_len self.new.deeds ≡ vec_len self.old.deeds + 1 }
         ensures capacity { vec_capacity self.new.deeds ≡ vec_capacity self.old.deeds }
+        ensures octets { vec_capacity self.old.octets ≤ vec_capacity self.new.octets }
+        ensures written { vec_len self.new.octets ≡ vec_len self.old.octets + length octets.now }
     {
         append(&mut self.octets, octets);
         self.deeds.push_reserved(deed);
@@ -57,7 +60,9 @@ impl Record {
     /// Forgets all calls.
     pub(crate) fn clear(&mut self)
         ensures calls { calls_of self.new.deeds.items self.new.octets.items ≡ [] }
-        ensures room { HasRecordRoom self.new (vec_capacity self.old.deeds) (vec_capacity self.old.octets) }
+        ensures none { (vec_len self.new.deeds ≡ 0) × (vec_len self.new.octets ≡ 0) }
+        ensures deeds { vec_capacity self.old.deeds ≤ vec_capacity self.new.deeds }
+        ensures octets { vec_capacity self.old.octets ≤ vec_capacity self.new.octets }
     {
         self.deeds.clear();
         self.octets.clear();

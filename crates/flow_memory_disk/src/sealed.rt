@@ -2,8 +2,9 @@
 ghost use Rattle.std.specs.Prelude.{◌≡◌, true, length};
 ghost use Rattle.std.specs.Arc.{arc_value};
 
-use flow_disk::{DiskError, Faults, SealedFile};
+use flow_disk::{DiskError, Faults, MayFail, SealedFile};
 use std::alloc::Global;
+use std::convert::Infallible;
 use std::sync::Arc;
 
 /// A frozen file of a memory disk. Its reads can't fail but for want of memory.
@@ -21,6 +22,10 @@ impl MemorySealed {
     }
 }
 
+impl MayFail for MemorySealed {
+    type Failure = Infallible;
+}
+
 impl SealedFile for MemorySealed {
     ghost use Rattle.std.specs.Prelude.{refl};
 
@@ -32,7 +37,7 @@ impl SealedFile for MemorySealed {
 
     ghost honest = { λ _. true };
 
-    ghost can_fail = { λ _. ⊥ };
+    ghost can_fail = { λ _ at count. ⊥ };
 
     ghost whole = { λ s h. refl };
 
@@ -47,7 +52,7 @@ impl SealedFile for MemorySealed {
     fn read(
         &self,
         alloc: Global,
-        _faults: &mut Faults,
+        _faults: &mut Faults<Self>,
         at: u64,
         count: usize,
     ) -> Result<Vec<u8>, DiskError> {

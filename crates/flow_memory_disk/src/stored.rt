@@ -1,4 +1,5 @@
 // A file of the disk, with what a stop may leave of it.
+ghost use Rattle.std.specs.Arc.{arc_value};
 ghost use Rattle.std.specs.Prelude.{◌≡◌, ◌<◌, ◌≤◌, ◌^◌, true, false, [], length, vec_len, vec_capacity};
 
 use crate::choice::Choice;
@@ -23,6 +24,7 @@ pub(crate) struct StoredFile {
     pub(crate) listed: bool,
     copy: Arc<Vec<u8>>,
     room: usize,
+    writes: usize,
     ghost octets_fit: { vec_len octets ≤ room },
     ghost last_fits: { vec_len last ≤ room },
     ghost limit: { room ≤ 2 ^ 62 },
@@ -30,6 +32,8 @@ pub(crate) struct StoredFile {
     ghost octets_room: { room ≤ vec_capacity octets },
     ghost last_room: { room ≤ vec_capacity last },
     ghost first_room: { room ≤ vec_capacity first },
+    ghost writes_room: { writes ≤ vec_capacity touched },
+    ghost copy_room: { room ≤ vec_capacity (arc_value copy) },
     ghost settled_octets: { settled ≡ true → last.items ≡ octets.items },
     ghost settled_fast: { settled ≡ true → fast ≡ length octets.items },
     ghost settled_touched: { settled ≡ true → touched.items ≡ [] },
@@ -38,17 +42,15 @@ pub(crate) struct StoredFile {
 
 impl StoredFile {
     ghost use Rattle.std.specs.Prelude.{◌+◌, ◌++◌, ◌∷◌, IfOk, IfSome, IfNone, OnSome, IsTrue, ◌↔◌, take, max};
-    ghost use Rattle.std.specs.Arc.{arc_value};
     ghost use Rattle.flow_disk.specs.Disk.{put_at, touched_at, loosened_at, settled_at, given_up};
-    ghost use Rattle.flow_memory_disk.specs.Stored.{held_in, marks_in};
+    ghost use Rattle.flow_memory_disk.specs.Stored.{held_in, marks_in, room_in};
     ghost use Rattle.flow_memory_disk.specs.Stopped.{image_of};
     ghost use Rattle.flow_memory_disk.specs.Stopping.{CanStop};
-    ghost use Rattle.flow_memory_disk.specs.Room.{IsSpare, LacksOctets};
 
     /// Makes a file no call has named yet, with room for so many octets and so many writes between two syncs.
     pub(crate) fn new(alloc: Global, room: usize, writes: usize) -> Result<Self, AllocError>
         requires { room ≤ 2 ^ 62 }
-        ensures { IfOk result (λ made. IsSpare made room writes) }
+        ensures { IfOk result (λ made. room_in made ≡ (room, writes)) }
     {
         Ok(StoredFile {
             number: 0,
@@ -63,12 +65,14 @@ impl StoredFile {
             listed: false,
             copy: Arc::new(alloc, Vec::with_capacity(alloc, room)?)?,
             room,
+            writes,
         })
     }
 
     /// Gives a file a number, as one that was never written.
     pub(crate) fn begin(&mut self, number: u64)
         ensures number { self.new.number ≡ number }
+        ensures room { room_in self.new ≡ room_in self.old }
         ensures held { held_in self.new ≡ settled_at [] }
         ensures first { self.new.first.items ≡ [] }
         ensures marks { marks_in self.new ≡ record { size = 0; settled = true; frozen = false; listed = false } }
@@ -85,26 +89,31 @@ impl StoredFile {
         self.listed = false;
     }
 
-    /// Whether there is room for one write more, of so many octets at this place.
-    pub(crate) fn has_room(&self, at: u64, count: usize) -> bool
-        ensures octets { IsTrue result → at + count ≤ self.now.room }
-        ensures touched { IsTrue result → vec_len self.now.touched < vec_capacity self.now.touched }
-        ensures lacks { result ≡ false → LacksOctets self.now at count }
+    /// How many ranges were written since it was last settled.
+    pub(crate) fn touched_count(&self) -> usize
+        ensures { result ≡ vec_len self.now.touched }
     {
-        at <= self.room as u64
-            && count <= self.room - at as usize
-            && self.touched.len() < self.touched.capacity()
+        self.touched.len()
     }
 
     /// Writes octets over what is there, and past the end.
     pub(crate) fn write(&mut self, at: u64, octets: &[u8])
         requires place { at ≤ vec_len self.old.octets }
         requires octets { at + length octets.now ≤ self.old.room }
-        requires touched { vec_len self.old.touched < vec_capacity self.old.touched }
-        ensures held { held_in self.new ≡ touched_at (held_in self.old) at (length octets.now) (put_at self.old.octets.items at octets.now) }
-        ensures marks { marks_in self.new ≡ record { size = max (length self.old.octets.items) (at + length octets.now); settled = false; frozen = self.old.frozen; listed = true } }
+        requires touched { vec_len self.old.touched < self.old.writes }
+        ensures held { held_in self.new ≡ touched_at (held_in self.old) at (length octets.now)
+            (put_at self.old.octets.items at octets.now) }
+        ensures marks { marks_in self.new ≡ record {
+          size =
+              max (length self.old.octets.items) (at + length octets.now);
+          settled = false;
+          frozen =
+              self.old.frozen;
+          listed = true;
+        } }
         ensures first { self.new.first.items ≡ self.old.first.items }
         ensures number { self.new.number ≡ self.old.number }
+        ensures room { room_in self.new ≡ room_in self.old }
     {
         put(&mut self.octets, at as usize, octets);
         self.touched.push_reserved((at, octets.len() as u64));
@@ -117,9 +126,16 @@ impl StoredFile {
     pub(crate) fn cut(&mut self, count: u64)
         requires { count ≤ vec_len self.old.octets }
         ensures held { held_in self.new ≡ loosened_at (held_in self.old) count (take count self.old.octets.items) }
-        ensures marks { marks_in self.new ≡ record { size = count; settled = false; frozen = self.old.frozen; listed = true } }
+        ensures marks { marks_in self.new ≡ record {
+          size = count;
+          settled = false;
+          frozen = self.old.frozen;
+          listed =
+              true;
+        } }
         ensures first { self.new.first.items ≡ self.old.first.items }
         ensures number { self.new.number ≡ self.old.number }
+        ensures room { room_in self.new ≡ room_in self.old }
     {
         self.octets.truncate(count as usize);
         self.fast = self.fast.min(count as usize);
@@ -131,9 +147,16 @@ impl StoredFile {
     /// Settles what it reads as.
     pub(crate) fn sync(&mut self)
         ensures held { held_in self.new ≡ settled_at self.old.octets.items }
-        ensures marks { marks_in self.new ≡ record { size = length self.old.octets.items; settled = true; frozen = self.old.frozen; listed = true } }
+        ensures marks { marks_in self.new ≡ record {
+          size = length self.old.octets.items;
+          settled = true;
+          frozen =
+              self.old.frozen;
+          listed = true;
+        } }
         ensures first { self.new.first.items ≡ self.old.first.items }
         ensures number { self.new.number ≡ self.old.number }
+        ensures room { room_in self.new ≡ room_in self.old }
     {
         replace(&mut self.last, &self.octets);
         self.touched.clear();
@@ -146,9 +169,16 @@ impl StoredFile {
     /// Begins its removal: a stop may leave anything.
     pub(crate) fn abandon(&mut self)
         ensures held { held_in self.new ≡ given_up (held_in self.old) self.old.octets.items }
-        ensures marks { marks_in self.new ≡ record { size = length self.old.octets.items; settled = false; frozen = self.old.frozen; listed = self.old.listed } }
+        ensures marks { marks_in self.new ≡ record {
+          size = length self.old.octets.items;
+          settled = false;
+          frozen =
+              self.old.frozen;
+          listed = self.old.listed;
+        } }
         ensures first { self.new.first.items ≡ self.old.first.items }
         ensures number { self.new.number ≡ self.old.number }
+        ensures room { room_in self.new ≡ room_in self.old }
     {
         self.fast = 0;
         self.loose = true;
@@ -161,6 +191,7 @@ impl StoredFile {
         ensures marks { marks_in self.new ≡ record { size = 0; settled = true; frozen = false; listed = false } }
         ensures first { self.new.first.items ≡ self.old.first.items }
         ensures number { self.new.number ≡ self.old.number }
+        ensures room { room_in self.new ≡ room_in self.old }
     {
         self.octets.clear();
         self.last.clear();
@@ -176,16 +207,20 @@ impl StoredFile {
     pub(crate) fn freeze(&mut self) -> Option<Arc<Vec<u8>>>
         ensures copy { IfSome result (λ copy. (arc_value copy).items ≡ self.old.octets.items) }
         ensures held { held_in self.new ≡ held_in self.old }
-        ensures done { OnSome result (marks_in self.new ≡ record { size = length self.old.octets.items; settled = self.old.settled; frozen = true; listed = self.old.listed }) }
+        ensures done { OnSome result (marks_in self.new ≡ record {
+          size = length self.old.octets.items;
+          settled =
+              self.old.settled;
+          frozen = true;
+          listed = self.old.listed;
+        }) }
         ensures none { IfNone result (marks_in self.new ≡ marks_in self.old) }
         ensures first { self.new.first.items ≡ self.old.first.items }
         ensures number { self.new.number ≡ self.old.number }
+        ensures room { room_in self.new ≡ room_in self.old }
     {
         let copy = Arc::get_mut(&mut self.copy)?;
-        copy.clear();
-        if copy.extend_from_slice(&self.octets).is_err() {
-            return None;
-        }
+        replace(copy, &self.octets);
         let shared = Arc::try_clone(&self.copy).ok()?;
         self.frozen = true;
         Some(shared)
@@ -209,9 +244,15 @@ impl StoredFile {
     pub(crate) fn stop(&mut self, choice: Choice<'_>)
         requires { CanStop self.old choice }
         ensures held { held_in self.new ≡ settled_at (image_of choice.entry (held_in self.old)) }
-        ensures marks { marks_in self.new ≡ record { size = length (image_of choice.entry (held_in self.old)); settled = true; frozen = false; listed = self.old.listed } }
+        ensures marks { marks_in self.new ≡ record {
+          size = length (image_of choice.entry (held_in self.old));
+          settled = true;
+          frozen = false;
+          listed = self.old.listed;
+        } }
         ensures first { self.new.first.items ≡ image_of choice.entry (held_in self.old) }
         ensures number { self.new.number ≡ self.old.number }
+        ensures room { room_in self.new ≡ room_in self.old }
     {
         self.settled = false;
         match choice {
@@ -233,9 +274,16 @@ impl StoredFile {
     /// Takes what it reads as for all that a stop may leave of it, and for what it read as when the record began.
     fn settle(&mut self)
         ensures held { held_in self.new ≡ settled_at self.old.octets.items }
-        ensures marks { marks_in self.new ≡ record { size = length self.old.octets.items; settled = true; frozen = false; listed = self.old.listed } }
+        ensures marks { marks_in self.new ≡ record {
+          size = length self.old.octets.items;
+          settled = true;
+          frozen =
+              false;
+          listed = self.old.listed;
+        } }
         ensures first { self.new.first.items ≡ self.old.octets.items }
         ensures number { self.new.number ≡ self.old.number }
+        ensures room { room_in self.new ≡ room_in self.old }
     {
         replace(&mut self.last, &self.octets);
         replace(&mut self.first, &self.octets);

@@ -23,8 +23,10 @@ returns-clause-found g c h =
     let there = (D.held mid file).reads in
     let same : there ≡ reads = ap (λ (f : Held). f.reads) (c.length.ensures.held h file) in
     let all : size ≡ length there = sym c.in_ok-size.ensures.count ∙ g.met.D.Disk.has_size mid file h1 in
-    let read : c.deref.result.now ≡ take (size - from) (drop from there) = c.deref.ensures.value ∙ c.in_ok-octets.ensures.octets h1 in
-    let rest : c.deref.result.now ≡ drop from reads = read ∙ ap (λ n. take (n - from) (drop from there)) all ∙ take_rest there from ∙ ap (λ l. drop from l) same in
+    let read : c.deref.result.now ≡ take (size - from) (drop from there) = c.deref.ensures.value
+    ∙ c.in_ok-octets.ensures.octets h1 in
+    let rest : c.deref.result.now ≡ drop from reads = read ∙ ap (λ n. take (n - from) (drop from there)) all
+    ∙ take_rest there from ∙ ap (λ l. drop from l) same in
     let within : from ≤ length reads = omega (arith, all, ap length same, c.if-from-size.false) in
     found_in reads c.deref.result.now file from rest within c.walk.result c.walk.ensures.found
 
@@ -41,8 +43,10 @@ returns-clause-damaged g c h =
     let there = (D.held mid file).reads in
     let same : there ≡ reads = ap (λ (f : Held). f.reads) (c.length.ensures.held h file) in
     let all : size ≡ length there = sym c.in_ok-size.ensures.count ∙ g.met.D.Disk.has_size mid file h1 in
-    let read : c.deref.result.now ≡ take (size - from) (drop from there) = c.deref.ensures.value ∙ c.in_ok-octets.ensures.octets h1 in
-    let rest : c.deref.result.now ≡ drop from reads = read ∙ ap (λ n. take (n - from) (drop from there)) all ∙ take_rest there from ∙ ap (λ l. drop from l) same in
+    let read : c.deref.result.now ≡ take (size - from) (drop from there) = c.deref.ensures.value
+    ∙ c.in_ok-octets.ensures.octets h1 in
+    let rest : c.deref.result.now ≡ drop from reads = read ∙ ap (λ n. take (n - from) (drop from there)) all
+    ∙ take_rest there from ∙ ap (λ l. drop from l) same in
     let within : from ≤ length reads = omega (arith, all, ap length same, c.if-from-size.false) in
     told_in reads c.deref.result.now file from rest within c.walk.result c.walk.ensures.told
 
@@ -59,10 +63,14 @@ returns-clause-given g c h list gated =
     let there = (D.held mid file).reads in
     let same : there ≡ reads = ap (λ (f : Held). f.reads) (c.length.ensures.held h file) in
     let all : size ≡ length there = sym c.in_ok-size.ensures.count ∙ g.met.D.Disk.has_size mid file h1 in
-    let read : c.deref.result.now ≡ take (size - from) (drop from there) = c.deref.ensures.value ∙ c.in_ok-octets.ensures.octets h1 in
-    let rest : c.deref.result.now ≡ drop from reads = read ∙ ap (λ n. take (n - from) (drop from there)) all ∙ take_rest there from ∙ ap (λ l. drop from l) same in
+    let read : c.deref.result.now ≡ take (size - from) (drop from there) = c.deref.ensures.value
+    ∙ c.in_ok-octets.ensures.octets h1 in
+    let rest : c.deref.result.now ≡ drop from reads = read ∙ ap (λ n. take (n - from) (drop from there)) all
+    ∙ take_rest there from ∙ ap (λ l. drop from l) same in
     let within : from ≤ length reads = omega (arith, all, ap length same, c.if-from-size.false) in
-    given_in reads file from list gated c.walk.result (found_in reads c.deref.result.now file from rest within c.walk.result c.walk.ensures.found) (told_in reads c.deref.result.now file from rest within c.walk.result c.walk.ensures.told)
+    given_in reads file from list gated c.walk.result
+    (found_in reads c.deref.result.now file from rest within c.walk.result c.walk.ensures.found)
+    (told_in reads c.deref.result.now file from rest within c.walk.result c.walk.ensures.told)
 
 pub returns-clause-refused : goal.returns-clause-refused
 returns-clause-refused g c h at damaged =
@@ -77,10 +85,14 @@ returns-clause-refused g c h at damaged =
     let there = (D.held mid file).reads in
     let same : there ≡ reads = ap (λ (f : Held). f.reads) (c.length.ensures.held h file) in
     let all : size ≡ length there = sym c.in_ok-size.ensures.count ∙ g.met.D.Disk.has_size mid file h1 in
-    let read : c.deref.result.now ≡ take (size - from) (drop from there) = c.deref.ensures.value ∙ c.in_ok-octets.ensures.octets h1 in
-    let rest : c.deref.result.now ≡ drop from reads = read ∙ ap (λ n. take (n - from) (drop from there)) all ∙ take_rest there from ∙ ap (λ l. drop from l) same in
+    let read : c.deref.result.now ≡ take (size - from) (drop from there) = c.deref.ensures.value
+    ∙ c.in_ok-octets.ensures.octets h1 in
+    let rest : c.deref.result.now ≡ drop from reads = read ∙ ap (λ n. take (n - from) (drop from there)) all
+    ∙ take_rest there from ∙ ap (λ l. drop from l) same in
     let within : from ≤ length reads = omega (arith, all, ap length same, c.if-from-size.false) in
-    refused_in reads file from at damaged c.walk.result (found_in reads c.deref.result.now file from rest within c.walk.result c.walk.ensures.found) (told_in reads c.deref.result.now file from rest within c.walk.result c.walk.ensures.told)
+    refused_in reads file from at damaged c.walk.result
+    (found_in reads c.deref.result.now file from rest within c.walk.result c.walk.ensures.found)
+    (told_in reads c.deref.result.now file from rest within c.walk.result c.walk.ensures.told)
 
 pub returns-clause-any_moment : goal.returns-clause-any_moment
 returns-clause-any_moment g c h =
@@ -88,4 +100,5 @@ returns-clause-any_moment g c h =
     let d = c.args.disk.now in
     let mid = c.length.new.self in
     let h1 = subst IsTrue (sym c.length.ensures.honest) h in
-    looked_again D.moment D.left_since D.held d mid (λ image left. g.met.D.Disk.only_now d image h left) (c.length.ensures.time h) c.read.new.self (c.length.ensures.held h) (c.read.ensures.time h1)
+    looked_again D.moment D.left_since D.held d mid (λ image left. g.met.D.Disk.only_now d image h left)
+    (c.length.ensures.time h) c.read.new.self (c.length.ensures.held h) (c.read.ensures.time h1)

@@ -8,7 +8,8 @@ abbrev pub invariant-loop-rest : goal.invariant-loop-rest
 invariant-loop-rest l = record {
   fit : AllByRecursion FitsEntry l.entries.items;
   read : flat_map entry_octets l.entries.items ++ l.rest ≡ l.octets;
-  others : (all : List Entry) → flat_map entry_octets all ≡ l.octets → (left : List Entry) × (flat_map entry_octets left ≡ l.rest);
+  others : (all : List Entry) → flat_map entry_octets all ≡ l.octets
+      → (left : List Entry) × (flat_map entry_octets left ≡ l.rest);
 }
 
 abbrev pub decreases-loop-rest : goal.decreases-loop-rest

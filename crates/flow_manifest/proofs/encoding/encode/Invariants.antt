@@ -5,4 +5,6 @@ use Rattle.flow_manifest.specs.Manifest.{head_octets, head_of, entry_octets, for
 use Rattle.flow_manifest.proofs.encoding.encode.Given as goal
 
 abbrev pub invariant-loop-entry : goal.invariant-loop-entry
-invariant-loop-entry l = l.octets.items ≡ to_be_bytes w16 2 ++ head_octets format_2 (head_of l.manifest) ++ flat_map entry_octets (take l.entry-index l.entries)
+invariant-loop-entry l =
+    l.octets.items ≡ to_be_bytes w16 2 ++ head_octets format_2 (head_of l.manifest) ++ flat_map entry_octets
+    (take l.entry-index l.entries)

@@ -1,6 +1,6 @@
 use Rattle.std.proofs.Common.{◌≤◌, length, IsTrue, subst, sym, ◌∙◌, arith, refl}
 use Rattle.flow_disk.specs.Laws.{IsAlone}
-use Rattle.flow_manifest.proofs.Gates.{body_write, body_cut, body_sync, body_after}
+use Rattle.flow_manifest.proofs.Gates.{body_write, body_cut, body_run, body_after}
 use Rattle.flow_manifest.proofs.swap.write_body.Goals as goal
 
 pub returns-in_err-write_at-clause-any_moment : goal.returns-in_err-write_at-clause-any_moment
@@ -8,62 +8,90 @@ returns-in_err-write_at-clause-any_moment g c h =
     let D = g.D.Disk in
     let d = c.args.disk.now in
     let file = c.args.file in
-    let one : IsAlone (D.held d file) = record { reads = g.met.D.Disk.reads_image d file h; alone = λ image. g.met.D.Disk.settled_alone d file image h c.requires.settled } in
+    let one : IsAlone (D.held d file) =
+    record {
+      reads = g.met.D.Disk.reads_image d file h;
+      alone =
+          λ image. g.met.D.Disk.settled_alone d file image h c.requires.settled;
+    } in
     let some : 1 ≤ length (D.held d file).reads = omega (arith, c.requires.room, g.met.D.Disk.has_size d file h) in
     let within = g.met.D.Disk.fast_within d file h in
-    body_write D.moment D.left_since D.held d file one some within (λ image. g.met.D.Disk.only_now d image h) c.write_at.new.self _ _ (c.write_at.ensures.time h)
+    body_write D.moment D.left_since D.held d file one some within
+    (λ image. g.met.D.Disk.only_now d image h) c.write_at.new.self _ _ (c.write_at.ensures.time h)
 
 pub returns-in_err-cut-clause-any_moment : goal.returns-in_err-cut-clause-any_moment
 returns-in_err-cut-clause-any_moment g c h =
     let D = g.D.Disk in
     let d = c.args.disk.now in
     let file = c.args.file in
-    let one : IsAlone (D.held d file) = record { reads = g.met.D.Disk.reads_image d file h; alone = λ image. g.met.D.Disk.settled_alone d file image h c.requires.settled } in
+    let one : IsAlone (D.held d file) =
+    record {
+      reads = g.met.D.Disk.reads_image d file h;
+      alone =
+          λ image. g.met.D.Disk.settled_alone d file image h c.requires.settled;
+    } in
     let some : 1 ≤ length (D.held d file).reads = omega (arith, c.requires.room, g.met.D.Disk.has_size d file h) in
     let within = g.met.D.Disk.fast_within d file h in
-    let so_far = body_write D.moment D.left_since D.held d file one some within (λ image. g.met.D.Disk.only_now d image h) c.write_at.new.self _ _ (c.write_at.ensures.time h) in
+    let so_far = body_write D.moment D.left_since D.held d file one some within
+    (λ image. g.met.D.Disk.only_now d image h) c.write_at.new.self _ _ (c.write_at.ensures.time h) in
     let h1 = subst IsTrue (sym c.write_at.ensures.honest) h in
     let wrote = c.in_ok-write_at.ensures.held h in
-    body_cut D.moment D.left_since D.held d file one some within c.write_at.new.self c.cut.new.self _ _ _ _ (omega arith) so_far wrote.done wrote.others (c.cut.ensures.time h1)
+    body_cut D.moment D.left_since D.held d file one some within c.write_at.new.self c.cut.new.self _ _ _ _
+    (omega arith) so_far wrote.done wrote.others (c.cut.ensures.time h1)
 
 pub returns-in_err-sync-clause-any_moment : goal.returns-in_err-sync-clause-any_moment
 returns-in_err-sync-clause-any_moment g c h =
     let D = g.D.Disk in
     let d = c.args.disk.now in
     let file = c.args.file in
-    let one : IsAlone (D.held d file) = record { reads = g.met.D.Disk.reads_image d file h; alone = λ image. g.met.D.Disk.settled_alone d file image h c.requires.settled } in
+    let one : IsAlone (D.held d file) =
+    record {
+      reads = g.met.D.Disk.reads_image d file h;
+      alone =
+          λ image. g.met.D.Disk.settled_alone d file image h c.requires.settled;
+    } in
     let some : 1 ≤ length (D.held d file).reads = omega (arith, c.requires.room, g.met.D.Disk.has_size d file h) in
-    let within = g.met.D.Disk.fast_within d file h in
-    let so_far = body_write D.moment D.left_since D.held d file one some within (λ image. g.met.D.Disk.only_now d image h) c.write_at.new.self _ _ (c.write_at.ensures.time h) in
     let h1 = subst IsTrue (sym c.write_at.ensures.honest) h in
     let wrote = c.in_ok-write_at.ensures.held h in
-    let cut_far = body_cut D.moment D.left_since D.held d file one some within c.write_at.new.self c.cut.new.self _ _ _ _ (omega arith) so_far wrote.done wrote.others (c.cut.ensures.time h1) in
-    let h2 = subst IsTrue (sym c.cut.ensures.honest) h1 in
     let was_cut = c.in_ok-cut.ensures.held h1 in
-    body_sync D.moment D.left_since D.held d file one some within c.write_at.new.self c.cut.new.self c.sync.new.self _ _ _ _ (omega arith) cut_far wrote.done was_cut.done (λ n differs. was_cut.others n differs ∙ wrote.others n differs) (c.sync.ensures.time h2)
+    body_run D.moment D.left_since D.held d file one some (g.met.D.Disk.fast_within d file h)
+    (λ image. g.met.D.Disk.only_now d image h) c.write_at.new.self c.cut.new.self c.sync.new.self _ _ _ _ _ _
+    (omega arith)
+    (c.write_at.ensures.time h) wrote.done wrote.others (c.cut.ensures.time h1) was_cut.done was_cut.others
+    (c.sync.ensures.time (subst IsTrue (sym c.cut.ensures.honest) h1))
 
 pub returns-clause-any_moment : goal.returns-clause-any_moment
 returns-clause-any_moment g c h =
     let D = g.D.Disk in
     let d = c.args.disk.now in
     let file = c.args.file in
-    let one : IsAlone (D.held d file) = record { reads = g.met.D.Disk.reads_image d file h; alone = λ image. g.met.D.Disk.settled_alone d file image h c.requires.settled } in
+    let one : IsAlone (D.held d file) =
+    record {
+      reads = g.met.D.Disk.reads_image d file h;
+      alone =
+          λ image. g.met.D.Disk.settled_alone d file image h c.requires.settled;
+    } in
     let some : 1 ≤ length (D.held d file).reads = omega (arith, c.requires.room, g.met.D.Disk.has_size d file h) in
-    let within = g.met.D.Disk.fast_within d file h in
-    let so_far = body_write D.moment D.left_since D.held d file one some within (λ image. g.met.D.Disk.only_now d image h) c.write_at.new.self _ _ (c.write_at.ensures.time h) in
     let h1 = subst IsTrue (sym c.write_at.ensures.honest) h in
     let wrote = c.in_ok-write_at.ensures.held h in
-    let cut_far = body_cut D.moment D.left_since D.held d file one some within c.write_at.new.self c.cut.new.self _ _ _ _ (omega arith) so_far wrote.done wrote.others (c.cut.ensures.time h1) in
-    let h2 = subst IsTrue (sym c.cut.ensures.honest) h1 in
     let was_cut = c.in_ok-cut.ensures.held h1 in
-    body_sync D.moment D.left_since D.held d file one some within c.write_at.new.self c.cut.new.self c.sync.new.self _ _ _ _ (omega arith) cut_far wrote.done was_cut.done (λ n differs. was_cut.others n differs ∙ wrote.others n differs) (c.sync.ensures.time h2)
+    body_run D.moment D.left_since D.held d file one some (g.met.D.Disk.fast_within d file h)
+    (λ image. g.met.D.Disk.only_now d image h) c.write_at.new.self c.cut.new.self c.sync.new.self _ _ _ _ _ _
+    (omega arith)
+    (c.write_at.ensures.time h) wrote.done wrote.others (c.cut.ensures.time h1) was_cut.done was_cut.others
+    (c.sync.ensures.time (subst IsTrue (sym c.cut.ensures.honest) h1))
 
 pub returns-clause-after : goal.returns-clause-after
 returns-clause-after g c h =
     let D = g.D.Disk in
     let d = c.args.disk.now in
     let file = c.args.file in
-    let one : IsAlone (D.held d file) = record { reads = g.met.D.Disk.reads_image d file h; alone = λ image. g.met.D.Disk.settled_alone d file image h c.requires.settled } in
+    let one : IsAlone (D.held d file) =
+    record {
+      reads = g.met.D.Disk.reads_image d file h;
+      alone =
+          λ image. g.met.D.Disk.settled_alone d file image h c.requires.settled;
+    } in
     let some : 1 ≤ length (D.held d file).reads = omega (arith, c.requires.room, g.met.D.Disk.has_size d file h) in
     let within = g.met.D.Disk.fast_within d file h in
     let h1 = subst IsTrue (sym c.write_at.ensures.honest) h in
@@ -71,4 +99,6 @@ returns-clause-after g c h =
     let h2 = subst IsTrue (sym c.cut.ensures.honest) h1 in
     let was_cut = c.in_ok-cut.ensures.held h1 in
     let synced = c.in_ok-sync.ensures.held h2 in
-    body_after D.moment D.left_since D.held d file one some within c.write_at.new.self c.cut.new.self c.sync.new.self c.args.body.now _ refl wrote.done was_cut.done (λ n differs. was_cut.others n differs ∙ wrote.others n differs) synced.done synced.others
+    body_after D.moment D.left_since D.held d file one some within c.write_at.new.self c.cut.new.self c.sync.new.self
+    c.args.body.now _ refl wrote.done was_cut.done (λ n differs. was_cut.others n differs
+    ∙ wrote.others n differs) synced.done synced.others

@@ -7,4 +7,5 @@ pub stop-requires : goal.stop-requires
 stop-requires c =
     let i = c.loop-stored.stored-index in
     let item = c.stored-item.result in
-    subst (λ (f : StoredFile). CanStop f c.args.choice) (sym (c.loop-stored.invariant.rest i item (omega arith))) (c.requires i item (omega arith))
+    subst (λ (f : StoredFile). CanStop f c.args.choice) (sym (c.loop-stored.invariant.rest i item (omega arith)))
+    (c.requires i item (omega arith))

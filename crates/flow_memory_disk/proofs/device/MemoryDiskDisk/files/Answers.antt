@@ -24,12 +24,14 @@ of_true h = search rules
 pub returns-clause-ascending : goal.returns-clause-ascending
 returns-clause-ascending c =
     let same : c.in_ok-collect.field-0.items ≡ c.in_ok-numbers.numbers.keys = search rules in
-    subst IsStrictlyIncreasing (sym same) (IsStrictlyIncreasing-from_sorted c.in_ok-numbers.numbers.keys c.iter.ensures.ordered)
+    subst IsStrictlyIncreasing (sym same)
+    (IsStrictlyIncreasing-from_sorted c.in_ok-numbers.numbers.keys c.iter.ensures.ordered)
 
 pub returns-clause-listed : goal.returns-clause-listed
-returns-clause-listed c h n =
+returns-clause-listed c n =
     let same : c.in_ok-collect.field-0.items ≡ c.in_ok-numbers.numbers.keys = search rules in
     let iff = btree_set_contains_iff nat_cmp_total equal_is c.in_ok-numbers.numbers n in
-    let is : sorted.contains nat_cmp c.in_ok-numbers.numbers n ≡ ((story_of c.args.self.now).marks n).listed = c.in_ok-numbers.ensures n in
+    let is : sorted.contains nat_cmp c.in_ok-numbers.numbers n ≡ ((story_of c.args.self.now).marks n).listed =
+    c.in_ok-numbers.ensures n in
     subst (λ (l : List ℕ). Contains l n ↔ (((story_of c.args.self.now).marks n).listed ≡ true)) (sym same)
     (λ has. sym is ∙ to_true (iff.1 has), λ lists. iff.0 (of_true (is ∙ lists)))

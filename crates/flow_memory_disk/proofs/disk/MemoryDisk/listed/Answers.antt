@@ -8,4 +8,5 @@ pub returns : goal.returns
 returns c n =
     let files = c.args.self.now.files.items in
     let none : c.loop-index.index ≡ 0 = omega arith in
-    c.loop-index.invariant n ∙ ap (λ (k : ℕ). (looked marks_in unwritten (drop k files) n).listed) none ∙ sym (ap (λ (m : Marks). m.listed) (marks_are c.args.self.now n))
+    c.loop-index.invariant n ∙ ap (λ (k : ℕ). (looked marks_in unwritten (drop k files) n).listed) none
+    ∙ sym (ap (λ (m : Marks). m.listed) (marks_are c.args.self.now n))

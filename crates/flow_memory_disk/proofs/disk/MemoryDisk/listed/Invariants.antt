@@ -5,4 +5,5 @@ use Rattle.flow_memory_disk.specs.Stored.{looked, marks_in, unwritten}
 use Rattle.flow_memory_disk.proofs.disk.MemoryDisk.listed.Given as goal
 
 abbrev pub invariant-loop-index : goal.invariant-loop-index
-invariant-loop-index l = (n : ℕ) → contains nat_cmp l.numbers n ≡ (looked marks_in unwritten (drop l.index l.self.files.items) n).listed
+invariant-loop-index l = (n : ℕ)
+    → contains nat_cmp l.numbers n ≡ (looked marks_in unwritten (drop l.index l.self.files.items) n).listed

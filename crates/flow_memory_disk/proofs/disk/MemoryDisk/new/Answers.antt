@@ -7,4 +7,5 @@ use Rattle.flow_memory_disk.proofs.disk.MemoryDisk.new.Goals as goal
 pub returns-clause-story : goal.returns-clause-story
 returns-clause-story c =
     let log = c.in_ok-new-2.field-0 in
-    ap (λ (l : List StoredFile). story_in l log) c.in_ok-with_capacity.ensures.items ∙ no_files log c.in_ok-new-2.ensures.calls
+    ap (λ (l : List StoredFile). story_in l log) c.in_ok-with_capacity.ensures.items
+    ∙ no_files log c.in_ok-new-2.ensures.calls

@@ -1,36 +1,76 @@
-use Rattle.std.proofs.Common.{set, ap, sym, ◌∙◌, subst}
+use Rattle.std.proofs.Common.{arith, length-set, set, ap, sym, ◌∙◌, subst}
 use Rattle.std.proofs.lemmas.Bool.{eqb-true}
 use Rattle.flow_memory_disk.specs.declared.stored.StoredFile.{StoredFile}
 use Rattle.flow_memory_disk.specs.Calls.{Call, Story, told, abandoned, removed}
 use Rattle.flow_memory_disk.specs.Record.{calls_of}
-use Rattle.flow_memory_disk.proofs.Noted.{IsMadeBy, Replays, replays_on, story_told, place_stays}
+use Rattle.flow_memory_disk.proofs.Noted.{IsMadeBy, Replays, replays_on, fits_on, named_on, story_told, place_stays}
 use Rattle.flow_memory_disk.proofs.disk.MemoryDisk.try_remove.Goals as goal
 use Rattle.flow_memory_disk.proofs.disk.MemoryDisk.try_remove.Goals.{After-push-2}
 
-first : (c : After-push-2) → IsMadeBy c.place_for.new.self.files.items c.in_ok-index.index c.index_mut.result.now c.abandon.new.self (abandoned c.args.file)
-first c = record { place = c.in_ok-index.ensures.place; stood = c.index_mut.ensures.value; number = c.abandon.ensures.number; held = c.abandon.ensures.held; first = c.abandon.ensures.first; marks = c.abandon.ensures.marks }
+first : (c : After-push-2)
+    → IsMadeBy c.place_for-index.new.self.files.items c.place_for-index.result c.index_mut.result.now
+    c.abandon.new.self (abandoned c.args.file)
+first c = record {
+  place = c.place_for-index.ensures.place;
+  stood = c.index_mut.ensures.value;
+  number =
+      c.abandon.ensures.number;
+  held = c.abandon.ensures.held;
+  first = c.abandon.ensures.first;
+  room =
+      c.abandon.ensures.room;
+  marks = c.abandon.ensures.marks;
+}
 
-second : (c : After-push-2) → IsMadeBy (set c.place_for.new.self.files.items c.in_ok-index.index c.abandon.new.self) c.in_ok-index.index c.index_mut-2.result.now c.remove.new.self (removed c.args.file)
+second : (c : After-push-2)
+    → IsMadeBy (set c.place_for-index.new.self.files.items c.place_for-index.result c.abandon.new.self)
+    c.place_for-index.result c.index_mut-2.result.now c.remove.new.self (removed c.args.file)
 second c =
-    let place = c.in_ok-index.ensures.place in
+    let place = c.place_for-index.ensures.place in
     record {
-      place = place_stays c.place_for.new.self.files.items c.args.file c.in_ok-index.index c.abandon.new.self place
-          (c.abandon.ensures.number ∙ ap (λ (f : StoredFile). f.number) c.index_mut.ensures.value ∙ eqb-true _ c.args.file (place.here c.index_mut.result.now));
+      place = place_stays c.place_for-index.new.self.files.items c.args.file c.place_for-index.result
+          c.abandon.new.self place
+          (c.abandon.ensures.number ∙ ap (λ (f : StoredFile). f.number) c.index_mut.ensures.value
+          ∙ eqb-true _ c.args.file (place.here c.index_mut.result.now));
       stood = c.index_mut-2.ensures.value;
       number = c.remove.ensures.number;
       held = c.remove.ensures.held;
       first = c.remove.ensures.first;
+      room = c.remove.ensures.room;
       marks = c.remove.ensures.marks;
     }
 
-pub invariant_of-self : goal.invariant_of-self
-invariant_of-self c =
-    let log = c.place_for.new.self.log in
+pub invariant_of-self-clause-replays : goal.invariant_of-self-clause-replays
+invariant_of-self-clause-replays c =
+    let after = (goal.at.invariant_of-self-clause-replays c).After-push-2 in
+    let log = c.place_for-index.new.self.log in
     let middle = c.push.new.self in
-    record {
-      replays = subst (Replays _) (sym c.push-2.ensures.calls) (replays_on _ _ _ _ (removed c.args.file) (second c) (calls_of middle.deeds.items middle.octets.items)
-          (subst (Replays _) (sym c.push.ensures.calls) (replays_on _ _ _ _ (abandoned c.args.file) (first c) (calls_of log.deeds.items log.octets.items) c.place_for.new.self.replays)));
-    }
+    subst (Replays _) (sym c.push-2.ensures.calls)
+    (replays_on _ _ _ _ (removed c.args.file) (second after) (calls_of middle.deeds.items middle.octets.items)
+    (subst (Replays _) (sym c.push.ensures.calls)
+    (replays_on _ _ _ _ (abandoned c.args.file) (first after) (calls_of log.deeds.items log.octets.items)
+    c.place_for-index.new.self.replays)))
+
+pub invariant_of-self-clause-places : goal.invariant_of-self-clause-places
+invariant_of-self-clause-places c =
+    let files = c.place_for-index.new.self.files.items in
+    let index = c.place_for-index.result in
+    omega (
+      arith,
+      length-set files index c.abandon.new.self,
+      length-set (set files index c.abandon.new.self) index c.remove.new.self,
+      c.place_for-index.new.self.places,
+    )
+
+pub invariant_of-self-clause-files_fit : goal.invariant_of-self-clause-files_fit
+invariant_of-self-clause-files_fit c = let after = (goal.at.invariant_of-self-clause-files_fit c).After-push-2 in
+    fits_on _ _ _ _ (removed c.args.file) (second after) _
+    (fits_on _ _ _ _ (abandoned c.args.file) (first after) _ c.place_for-index.new.self.files_fit)
+
+pub returns-clause-named : goal.returns-clause-named
+returns-clause-named c = let after = (goal.at.returns-clause-named c).After-push-2 in
+    named_on _ _ _ _ (removed c.args.file) (second after) _
+    (named_on _ _ _ _ (abandoned c.args.file) (first after) _ c.place_for-index.ensures.named)
 
 pub returns-clause-ok : goal.returns-clause-ok
 returns-clause-ok c =
@@ -38,4 +78,6 @@ returns-clause-ok c =
     let two : Call = removed c.args.file in
     let after = (goal.at.returns-clause-ok c).After-push-2 in
     story_told _ _ _ _ two (second after) c.push.new.self c.push-2.new.self c.push-2.ensures.calls
-    ∙ ap (λ (s : Story). told s two) (story_told _ _ _ _ one (first after) c.place_for.new.self.log c.push.new.self c.push.ensures.calls ∙ ap (λ (s : Story). told s one) c.in_ok-index.ensures.story)
+    ∙ ap (λ (s : Story). told s two)
+    (story_told _ _ _ _ one (first after) c.place_for-index.new.self.log c.push.new.self c.push.ensures.calls
+    ∙ ap (λ (s : Story). told s one) c.place_for-index.ensures.story)

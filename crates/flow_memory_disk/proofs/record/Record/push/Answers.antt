@@ -9,7 +9,17 @@ invariant_of-self c =
     let deeds = c.args.self.now.deeds.items in
     let octets = c.args.self.now.octets.items in
     let whole : octets_of deeds ≡ length octets = c.args.self.now.whole in
-    record { whole = omega (arith, ap octets_of c.push_reserved.ensures.items, octets_push deeds c.args.deed, ap (λ (l : List ℕ). length l) c.append.ensures.items, length-append octets c.args.octets.now, whole, c.requires.count) }
+    record {
+      whole = omega (
+        arith,
+        ap octets_of c.push_reserved.ensures.items,
+        octets_push deeds c.args.deed,
+        ap (λ (l : List ℕ). length l) c.append.ensures.items,
+        length-append octets c.args.octets.now,
+        whole,
+        c.requires.count,
+      );
+    }
 
 pub returns-clause-calls : goal.returns-clause-calls
 returns-clause-calls c =
@@ -17,4 +27,5 @@ returns-clause-calls c =
     let octets = c.args.self.now.octets.items in
     let whole : octets_of deeds ≡ length octets = c.args.self.now.whole in
     ap (λ (l : List Deed). calls_of l c.append.new.list.items) c.push_reserved.ensures.items
-    ∙ ap (λ (l : List ℕ). calls_of (deeds ++ c.args.deed ∷ []) l) c.append.ensures.items ∙ calls_push deeds c.args.deed octets c.args.octets.now whole
+    ∙ ap (λ (l : List ℕ). calls_of (deeds ++ c.args.deed ∷ []) l) c.append.ensures.items
+    ∙ calls_push deeds c.args.deed octets c.args.octets.now whole
