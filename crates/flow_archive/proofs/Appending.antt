@@ -1,106 +1,75 @@
 -- How a history goes on.
-use Rattle.std.proofs.Common.{◌≡◌, ℕ, suc, ◌<◌, ◌≤◌, ◌+◌, ◌^◌, ◌-◌, List, [], ◌∷◌, ◌++◌, length, refl, sym, ap, ◌∙◌, subst, append-nil, length-append, arith, inl, inr, ◌⊎◌}
+use Rattle.std.proofs.Common.{◌≡◌, ℕ, ◌<◌, ◌≤◌, ◌+◌, ◌^◌, ◌-◌, List, [], ◌∷◌, ◌++◌, length, refl, sym, ap, ◌∙◌}
+use Rattle.std.proofs.Common.{subst, append-nil, length-append, arith, inl, inr, ◌⊎◌}
 use Rattle.std.specs.Prelude.{Result, Ok, Err, IfErr, IsErrAnd, ◌==◌, if◌then◌else◌}
 use Rattle.std.specs.Prelude.{Bool}
 use Rattle.std.proofs.Math.Nat.{mod_self}
 use Rattle.std.proofs.lemmas.Bool.{eq-eqb}
-use Rattle.std.specs.List.{AllByRecursion, cons_option}
-use Rattle.std.specs.Prelude.{Option, None, Some}
+use Rattle.std.specs.List.{AllByRecursion}
 use Rattle.std.proofs.lemmas.List.{length-map}
-use Rattle.std.proofs.lemmas.List.Concat.{flat_map-append}
 use Rattle.flow_codec.specs.declared.error.MessageError.{MessageError}
 use Rattle.flow_codec.specs.declared.error.MessageError.TheVariants as message
 use Rattle.flow_codec.specs.declared.message.Header.{Header}
 use Rattle.flow_codec.specs.Fault.{IsFault}
-use Rattle.flow_codec.specs.Message.{in_fields, IsAccepted}
+use Rattle.flow_codec.specs.Message.{IsAccepted}
 use Rattle.flow_codec.specs.Raw.{RawMessage, RawRecord, Placed, under}
-use Rattle.flow_codec.specs.Reading.{message_at, IsRefused as IsRecordRefused}
+use Rattle.flow_codec.specs.Reading.{IsRefused as IsRecordRefused}
 use Rattle.flow_codec.specs.Templates.{AllTemplates}
 use Rattle.flow_codec.specs.Walk.{IsWalkedBy}
-use Rattle.flow_codec.proofs.MessageLaws.{message_again}
 use Rattle.flow_codec.proofs.Sizes.{few_records, short_enough}
 use Rattle.flow_measure.specs.declared.error.SumError.{SumError}
 use Rattle.flow_measure.specs.declared.error.SumError.TheVariants as sum
-use Rattle.flow_measure.specs.declared.flow.Flow.{Flow}
 use Rattle.flow_measure.specs.declared.rows.Row.{Row}
 use Rattle.flow_measure.specs.declared.sinks.Totals.{Totals}
-use Rattle.flow_measure.specs.Flows.{flows_of_records, flow_of, flows_of, FlowFits}
-use Rattle.flow_measure.specs.History.{Accepted, AreAcceptedFrom, History, IsHistory, flows_in, templates_from, templates_of}
+use Rattle.flow_measure.specs.Flows.{flows_of_records, FlowFits}
+use Rattle.flow_measure.specs.History.{Accepted, AreAcceptedFrom, History, IsHistory, flows_in, read_from}
+use Rattle.flow_measure.specs.History.{templates_from, templates_of}
 use Rattle.flow_measure.specs.Query.{totals_between}
-use Rattle.flow_measure.specs.Sums.{Table, AreSums, IsRefused as SumRefused, empty_table, gathered, merged, rows_between, sums_by, table_of}
+use Rattle.flow_measure.specs.Sinks.{TookFlows, RefuseFlow}
+use Rattle.flow_measure.specs.Sums.{Table, AreSums, empty_table, merged}
+use Rattle.flow_measure.specs.Sums.{rows_between, table_of}
 use Rattle.flow_measure.proofs.FewFlows.{few_fit}
-use Rattle.flow_measure.proofs.SinkSteps.{flows-in_fields}
+use Rattle.flow_measure.proofs.Histories.{accepted_then, after_then, flows_then, read_behind}
+use Rattle.flow_measure.proofs.SinkSteps.{fit_both, flows_few, none_summed, nothing_taken}
 use Rattle.flow_measure.proofs.SumLaws.{merged-table_of}
-use Rattle.flow_archive.specs.Plain.{followed_by, read_from, history_of, no_messages, IsKept, IsAppended, IsRefusal, fault_refusal}
-
--- ---- one message more
-
--- what is accepted behind messages is read behind them
-read_then : (before : AllTemplates) (os : List (List ℕ)) (o : List ℕ) (m : RawMessage) (after : AllTemplates) → length (read_from before os) ≡ length os → message_at (templates_from before (read_from before os)) o ≡ Ok (m, after)
-    → read_from before (os ++ o ∷ []) ≡ read_from before os ++ record { octets = o; message = m; after = after } ∷ []
-read_then before [] o m after n e = ap (followed_by o (λ (t : AllTemplates). read_from t [])) e
-read_then before (p ∷ ps) o m after n e = by (message_at before p) (λ t. read_then t ps o m after) n e
-  where
-    by : (r : Result (RawMessage × AllTemplates) MessageError) → ((t : AllTemplates) → length (read_from t ps) ≡ length ps → message_at (templates_from t (read_from t ps)) o ≡ Ok (m, after) → read_from t (ps ++ o ∷ []) ≡ read_from t ps ++ record { octets = o; message = m; after = after } ∷ [])
-        → length (followed_by p (λ t. read_from t ps) r) ≡ suc (length ps) → message_at (templates_from before (followed_by p (λ t. read_from t ps) r)) o ≡ Ok (m, after)
-        → followed_by p (λ t. read_from t (ps ++ o ∷ [])) r ≡ followed_by p (λ t. read_from t ps) r ++ record { octets = o; message = m; after = after } ∷ []
-    by (Ok x) more n e = ap (λ (t : List Accepted). record { octets = p; message = x.0; after = x.1 } ∷ t) (more x.1 (omega (arith, n)) e)
-    by (Err f) more n e = absurd (omega (arith, n))
-
-accepted_then : (before : AllTemplates) (xs : List Accepted) (a : Accepted) → AreAcceptedFrom before xs → IsAccepted a.octets (templates_from before xs) a.message a.after → AreAcceptedFrom before (xs ++ a ∷ [])
-accepted_then before [] a h is = (is, tt)
-accepted_then before (x ∷ xs) a h is = (h.0, accepted_then x.after xs a h.1 is)
-
-after_then : (before : AllTemplates) (xs : List Accepted) (a : Accepted) → templates_from before (xs ++ a ∷ []) ≡ a.after
-after_then before [] a = refl
-after_then before (x ∷ xs) a = after_then x.after xs a
-
-flows_then : (xs : List Accepted) (a : Accepted) → flows_in (xs ++ a ∷ []) ≡ flows_in xs ++ flows_of_records (under a.message.header a.message.records)
-flows_then xs a =
-    flat_map-append (λ (x : Accepted). flows_of (in_fields x.message)) xs (a ∷ []) ∙ ap (λ (t : List Flow). flows_in xs ++ t) (append-nil (flows_of (in_fields a.message)) ∙ flows-in_fields a.message)
-
-flows_few : (taken : List Placed) → length (flows_of_records taken) ≤ length taken
-flows_few [] = omega arith
-flows_few (x ∷ xs) = let more = flows_few xs in by (flow_of x) more
-  where
-    by : (o : Option Flow) → length (flows_of_records xs) ≤ length xs → length (cons_option o (flows_of_records xs)) ≤ suc (length xs)
-    by None more = omega (arith, more)
-    by (Some f) more = omega (arith, more)
-
-fit_both : (fs gs : List Flow) → AllByRecursion FlowFits fs → AllByRecursion FlowFits gs → AllByRecursion FlowFits (fs ++ gs)
-fit_both [] gs a b = b
-fit_both (f ∷ fs) gs a b = (a.0, fit_both fs gs a.1 b)
+use Rattle.flow_archive.specs.Plain.{history_of, no_messages, IsKept, IsAppended, IsRefusal, fault_refusal}
 
 -- what the sink of sums holds, and what it refuses
 abbrev pub Holds : Totals → List Placed → Totals → Type 0
-Holds start taken now = (now.rows.width ≡ start.rows.width) × ((flows : List Flow) → AreSums start.rows flows → AreSums now.rows (flows ++ flows_of_records taken)) × AllByRecursion FlowFits (flows_of_records taken)
+Holds start taken now = TookFlows start.rows taken now.rows
 
 abbrev pub Refuses : Totals → List Placed → Placed → SumError → Type 0
-Refuses start taken x e = ((flows : List Flow) → AreSums start.rows flows → SumRefused e (table_of start.rows.width (flows ++ flows_of_records (taken ++ x ∷ [])))) × AllByRecursion FlowFits (flows_of_records (taken ++ x ∷ []))
-
-nothing_taken : (t : Totals) → Holds t [] t
-nothing_taken t = (refl, λ flows h. subst (AreSums t.rows) (sym (append-nil flows)) h, tt)
-
-none_summed : (width : ℕ) → table_of width [] ≡ empty_table width
-unfolding sums_by gathered
-none_summed width = refl
+Refuses start taken x e = RefuseFlow start.rows taken x e
 
 -- before the first message
-pub begun : (messages : List (List ℕ)) (here : AllTemplates) (rows : Table) (width : ℕ) → messages ≡ [] → here ≡ [] → rows ≡ empty_table width → 1 ≤ width → IsKept messages here rows
+pub begun : (messages : List (List ℕ)) (here : AllTemplates) (rows : Table) (width : ℕ) → messages ≡ [] → here ≡ []
+    → rows ≡ empty_table width → 1 ≤ width → IsKept messages here rows
 begun messages here rows width e f g positive = rw (e, f, g) (none_kept width positive)
   where
     none_kept : (w : ℕ) → 1 ≤ w → IsKept [] [] (empty_table w)
-    none_kept w positive = record { read = refl; accepted = tt; numbers = omega arith; templates = refl; width = omega (arith, positive); sums = sym (none_summed w); few = omega arith; fit = tt }
+    none_kept w positive =
+        record {
+          read = refl;
+          accepted = tt;
+          numbers = omega arith;
+          templates = refl;
+          width = omega (arith, positive);
+          sums = sym (none_summed w);
+          few = omega arith;
+          fit = tt;
+        }
 
 -- the same of copies
-pub copied : (messages : List (List ℕ)) (here copy : AllTemplates) (rows sums : Table) → IsKept messages here rows → copy ≡ here → sums ≡ rows → IsKept messages copy sums
+pub copied : (messages : List (List ℕ)) (here copy : AllTemplates) (rows sums : Table) → IsKept messages here rows
+    → copy ≡ here → sums ≡ rows → IsKept messages copy sums
 copied messages here copy rows sums k e f = rw (e, f) k
 
 pub err_of : {X E : Type 0} (r : Result X E) (e : E) (P : E → Type 0) → IsErrAnd r (λ x. x ≡ e) → P e → IfErr r P
 err_of (Ok x) e P h p = tt
 err_of (Err x) e P h p = subst P (sym h) p
 
-module _ (messages : List (List ℕ)) (here : AllTemplates) (t0 : Totals) (k : IsKept messages here t0.rows) (octets : List ℕ) where
+module _ (messages : List (List ℕ)) (here : AllTemplates) (t0 : Totals) (k : IsKept messages here t0.rows)
+    (octets : List ℕ) where
   abbrev pub all : List Accepted
   all = read_from [] messages
 
@@ -112,64 +81,105 @@ module _ (messages : List (List ℕ)) (here : AllTemplates) (t0 : Totals) (k : I
     there = subst (λ (t : AllTemplates). IsAccepted octets t m after) k.templates is
 
     more : read_from [] (messages ++ octets ∷ []) ≡ all ++ one ∷ []
-    more = read_then [] messages octets m after k.read (message_again (templates_of all) octets m after there)
+    more = read_behind [] messages one k.read there
 
     longer : length (read_from [] (messages ++ octets ∷ [])) ≡ length all + 1
     longer = ap length more ∙ length-append all (one ∷ [])
 
-    pub spent : length messages ≡ 2 ^ 48 - 1 → (length all ≡ 2 ^ 48 - 1) × ((x : RawMessage) × (next : AllTemplates) × IsAccepted octets (templates_of all) x next)
+    pub spent : length messages ≡ 2 ^ 48 - 1
+        → (length all ≡ 2 ^ 48 - 1)
+        × ((x : RawMessage) × (next : AllTemplates) × IsAccepted octets (templates_of all) x next)
     spent n = (omega (arith, n, k.read), (m, after, there))
 
-  pub kept_then : (after : AllTemplates) (t1 : Totals) (header : Header) → length messages < 2 ^ 48 - 1 → IsWalkedBy Holds octets here after t0 t1 header → IsKept (messages ++ octets ∷ []) after t1.rows
+  pub kept_then : (after : AllTemplates) (t1 : Totals) (header : Header) → length messages < 2 ^ 48 - 1
+      → IsWalkedBy Holds octets here after t0 t1 header → IsKept (messages ++ octets ∷ []) after t1.rows
   kept_then after t1 header room walked =
       let m : RawMessage = record { header = header; records = walked.0 } in
       let is : IsAccepted octets here m after = walked.1 in
       let read = more m after is in
-      let took = walked.2 t0 [] (nothing_taken t0) in
-      let flows : flows_in (read_from [] (messages ++ octets ∷ [])) ≡ flows_in all ++ flows_of_records (under header walked.0) = ap flows_in read ∙ flows_then all (one m after is) in
+      let took = walked.2 t0 [] (nothing_taken t0.rows) in
+      let flows : flows_in (read_from [] (messages ++ octets ∷ [])) ≡ flows_in all
+      ++ flows_of_records (under header walked.0) = ap flows_in read ∙ flows_then all (one m after is) in
       let len = ap length flows ∙ length-append (flows_in all) (flows_of_records (under header walked.0)) in
       let few = flows_few (under header walked.0) in
       let records = few_records octets here m after is.0 in
       let short = short_enough octets here m after is.0 in
       let size = length-append messages (octets ∷ []) in
-      let sums : AreSums t1.rows (flows_in all ++ flows_of_records (under header walked.0)) = took.1 (flows_in all) k.sums in
+      let sums : AreSums t1.rows (flows_in all ++ flows_of_records (under header walked.0)) =
+      took.1 (flows_in all) k.sums in
       record {
         read = omega (arith, longer m after is, k.read, size);
-        accepted = subst (AreAcceptedFrom []) (sym read) (accepted_then [] all (one m after is) k.accepted (there m after is));
+        accepted = subst (AreAcceptedFrom []) (sym read)
+            (accepted_then [] all (one m after is) k.accepted (there m after is));
         numbers = omega (arith, room, size);
         templates = sym (ap (templates_from []) read ∙ after_then [] all (one m after is));
         width = subst (λ (w : ℕ). 0 < w) (sym took.0) k.width;
         sums = subst (AreSums t1.rows) (sym flows) sums;
-        few = omega (arith, len, few, length-map {B = Placed} walked.0 (λ (r : RawRecord). (header, r)), records, short.1, k.few, size);
-        fit = subst (AllByRecursion FlowFits) (sym flows) (fit_both (flows_in all) (flows_of_records (under header walked.0)) k.fit took.2);
+        few = omega (
+          arith,
+          len,
+          few,
+          length-map {B = Placed} walked.0 (λ (r : RawRecord). (header, r)),
+          records,
+          short.1,
+          k.few,
+          size,
+        );
+        fit = subst (AllByRecursion FlowFits) (sym flows)
+            (fit_both (flows_in all) (flows_of_records (under header walked.0)) k.fit took.2);
       }
 
-  pub appended : (after : AllTemplates) (t1 : Totals) (header : Header) → IsWalkedBy Holds octets here after t0 t1 header → IsAppended (length messages + 1) octets (history_of t0.rows.width messages) (history_of t1.rows.width (messages ++ octets ∷ []))
+  pub appended : (after : AllTemplates) (t1 : Totals) (header : Header)
+      → IsWalkedBy Holds octets here after t0 t1 header
+      → IsAppended (length messages + 1) octets (history_of t0.rows.width messages)
+      (history_of t1.rows.width (messages ++ octets ∷ []))
   appended after t1 header walked =
       let m : RawMessage = record { header = header; records = walked.0 } in
       let is : IsAccepted octets here m after = walked.1 in
-      let took = walked.2 t0 [] (nothing_taken t0) in
-      (one m after is, refl, there m after is, ap (λ (w : ℕ). history_of w (messages ++ octets ∷ [])) took.0 ∙ ap (λ (xs : List Accepted). record (no_messages t0.rows.width) { all = xs }) (more m after is), omega (arith, longer m after is, k.read))
+      let took = walked.2 t0 [] (nothing_taken t0.rows) in (
+        one m after is,
+        refl,
+        there m after is,
+        ap (λ (w : ℕ). history_of w (messages ++ octets ∷ [])) took.0
+            ∙ ap (λ (xs : List Accepted). record (no_messages t0.rows.width) { all = xs }) (more m after is),
+        omega (arith, longer m after is, k.read),
+      )
 
   -- so few flows never pass a sum's type
-  pub never_spent : (header : Header) → length octets < 65536 → IsRecordRefused Holds Refuses header t0 (length octets) sum.SumSpent → ⊥
+  pub never_spent : (header : Header) → length octets < 65536
+      → IsRecordRefused Holds Refuses header t0 (length octets) sum.SumSpent → ⊥
   never_spent header short h =
       let front = h.0 in
       let r = h.1 in
-      let refused = h.3 t0 [] (nothing_taken t0) in
+      let refused = h.3 t0 [] (nothing_taken t0.rows) in
       let taken = under header front ++ (header, r) ∷ [] in
       let len = length-append (flows_in all) (flows_of_records taken) in
       let few = flows_few taken in
       let some = length-append (under header front) ((header, r) ∷ []) in
-      refused.0 (flows_in all) k.sums (few_fit t0.rows.width (flows_in all ++ flows_of_records taken) (fit_both (flows_in all) (flows_of_records taken) k.fit refused.1)
-      (omega (arith, len, few, some, length-map {B = Placed} front (λ (x : RawRecord). (header, x)), h.2, short, k.few, k.numbers)))
+      refused.0 (flows_in all) k.sums
+      (few_fit t0.rows.width (flows_in all ++ flows_of_records taken)
+      (fit_both (flows_in all) (flows_of_records taken) k.fit refused.1)
+      (omega (
+        arith,
+        len,
+        few,
+        some,
+        length-map {B = Placed} front (λ (x : RawRecord). (header, x)),
+        h.2,
+        short,
+        k.few,
+        k.numbers,
+      )))
 
   -- the refusal of a message's first fault
-  pub faulty : (width : ℕ) (fault : MessageError) → (fault ≡ message.OutOfMemory) ⊎ IsFault octets here fault → IsRefusal (fault_refusal fault) octets (history_of width messages)
-  faulty width fault (inl none) = subst (λ (e : MessageError). IsRefusal (fault_refusal e) octets (history_of width messages)) (sym none) tt
+  pub faulty : (width : ℕ) (fault : MessageError) → (fault ≡ message.OutOfMemory) ⊎ IsFault octets here fault
+      → IsRefusal (fault_refusal fault) octets (history_of width messages)
+  faulty width fault (inl none) =
+      subst (λ (e : MessageError). IsRefusal (fault_refusal e) octets (history_of width messages)) (sym none) tt
   faulty width fault (inr is) = by fault (subst (λ (t : AllTemplates). IsFault octets t fault) k.templates is)
     where
-      by : (e : MessageError) → IsFault octets (templates_of all) e → IsRefusal (fault_refusal e) octets (history_of width messages)
+      by : (e : MessageError) → IsFault octets (templates_of all) e
+          → IsRefusal (fault_refusal e) octets (history_of width messages)
       by message.OutOfMemory h = tt
       by message.Short h = h
       by message.Version h = h
@@ -184,13 +194,24 @@ module _ (messages : List (List ℕ)) (here : AllTemplates) (t0 : Totals) (k : I
 
 -- ---- what always holds
 
-pub is_history : (messages : List (List ℕ)) (here : AllTemplates) (rows : Table) → IsKept messages here rows → IsHistory (history_of rows.width messages)
-is_history messages here rows k = record { accepted = k.accepted; second = omega arith; cut = omega arith; width = k.width; wide = k.width; multiple = mod_self rows.width }
+pub is_history : (messages : List (List ℕ)) (here : AllTemplates) (rows : Table) → IsKept messages here rows
+    → IsHistory (history_of rows.width messages)
+is_history messages here rows k =
+    record {
+      accepted = k.accepted;
+      second = omega arith;
+      cut = omega arith;
+      width = k.width;
+      wide = k.width;
+      multiple = mod_self rows.width;
+    }
 
 -- a history with an accepted message behind it is one
-pub goes_on : (position : ℕ) (octets : List ℕ) (old new : History) → IsAppended position octets old new → IsHistory old → IsHistory new
+pub goes_on : (position : ℕ) (octets : List ℕ) (old new : History) → IsAppended position octets old new → IsHistory old
+    → IsHistory new
 goes_on position octets old new (a, e, is, same, at) h = subst IsHistory (sym same) (record {
-  accepted = accepted_then [] old.all a h.accepted (subst (λ (o : List ℕ). IsAccepted o (templates_of old.all) a.message a.after) (sym e) is);
+  accepted = accepted_then [] old.all a h.accepted
+      (subst (λ (o : List ℕ). IsAccepted o (templates_of old.all) a.message a.after) (sym e) is);
   second = h.second;
   cut = omega (arith, h.cut, length-append old.all (a ∷ []));
   width = h.width;
@@ -199,10 +220,14 @@ goes_on position octets old new (a, e, is, same, at) h = subst IsHistory (sym sa
 })
 
 -- the sums of all flows answer the history's query
-pub totals_same : (from to : ℕ) (messages : List (List ℕ)) (here : AllTemplates) (rows : Table) → IsKept messages here rows → rows_between from to rows ≡ totals_between from to (history_of rows.width messages)
+pub totals_same : (from to : ℕ) (messages : List (List ℕ)) (here : AllTemplates) (rows : Table)
+    → IsKept messages here rows → rows_between from to rows ≡ totals_between from to (history_of rows.width messages)
 totals_same from to messages here rows k =
     let flows = flows_in (read_from [] messages) in
-    ap (rows_between from to) (k.sums ∙ ap (table_of rows.width) (sym (append-nil flows)) ∙ sym (merged-table_of rows.width flows [])) ∙ sym (one_width (rows_between from to (merged (table_of rows.width flows) (table_of rows.width []))) _ rows.width)
+    ap (rows_between from to) (k.sums ∙ ap (table_of rows.width) (sym (append-nil flows))
+    ∙ sym (merged-table_of rows.width flows []))
+    ∙ sym (one_width (rows_between from to (merged (table_of rows.width flows) (table_of rows.width []))) _
+    rows.width)
   where
     one_width : (xs ys : List Row) (w : ℕ) → (if w == w then xs else ys) ≡ xs
     one_width xs ys w = ap (λ (b : Bool). if b then xs else ys) (eq-eqb w w refl)

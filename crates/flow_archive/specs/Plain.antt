@@ -1,15 +1,14 @@
 -- What a plain archive stands for, and what its calls answer.
-use Rattle.std.specs.Prelude.{◌≡◌, ℕ, ◌*◌, ◌-◌, ◌<◌, ◌≤◌, ◌^◌, List, [], ◌∷◌, ◌++◌, length, Result, Ok, Err}
+use Rattle.std.specs.Prelude.{◌≡◌, ℕ, ◌*◌, ◌-◌, ◌<◌, ◌≤◌, ◌^◌, List, [], ◌∷◌, ◌++◌, length}
 use Rattle.std.specs.List.{AllByRecursion}
 use Rattle.flow_codec.specs.declared.error.MessageError.{MessageError}
 use Rattle.flow_codec.specs.declared.error.MessageError.TheVariants as message
 use Rattle.flow_codec.specs.Fault.{IsFault}
 use Rattle.flow_codec.specs.Message.{IsAccepted}
 use Rattle.flow_codec.specs.Raw.{RawMessage}
-use Rattle.flow_codec.specs.Reading.{message_at}
 use Rattle.flow_codec.specs.Templates.{AllTemplates}
 use Rattle.flow_measure.specs.Flows.{FlowFits}
-use Rattle.flow_measure.specs.History.{Accepted, AreAcceptedFrom, History, flows_in, templates_of}
+use Rattle.flow_measure.specs.History.{Accepted, AreAcceptedFrom, History, flows_in, read_from, templates_of}
 use Rattle.flow_measure.specs.Sums.{Table, table_of}
 use Rattle.flow_archive.specs.declared.error.PlainError.{PlainError}
 use Rattle.flow_archive.specs.declared.error.PlainError.TheVariants.{Message, NumbersSpent, OutOfMemory}
@@ -22,16 +21,6 @@ no_messages width = record { all = []; second = 0; cut = 0; width = width; wide 
 
 abbrev pub with_message : Accepted → History → History
 with_message a h = record h { all = h.all ++ a ∷ [] }
-
--- a message as it is read, before those that are read behind it; none from the first one on that is refused
-abbrev pub followed_by : List ℕ → (AllTemplates → List Accepted) → Result (RawMessage × AllTemplates) MessageError → List Accepted
-followed_by octets more (Ok x) = record { octets = octets; message = x.0; after = x.1 } ∷ more x.1
-followed_by octets more (Err e) = []
-
--- messages of these octets, read one after the other from these templates on
-abbrev pub read_from : AllTemplates → List (List ℕ) → List Accepted
-read_from before [] = []
-read_from before (o ∷ os) = followed_by o (λ after. read_from after os) (message_at before o)
 
 abbrev pub history_of : ℕ → List (List ℕ) → History
 history_of width messages = record (no_messages width) { all = read_from [] messages }
@@ -52,12 +41,15 @@ pub record IsKept (messages : List (List ℕ)) (here : AllTemplates) (rows : Tab
 -- the octets are an accepted message behind those of the history, which now ends with it and has so many
 abbrev pub IsAppended : ℕ → List ℕ → History → History → Type 0
 IsAppended position octets old new =
-    (a : Accepted) × (a.octets ≡ octets) × IsAccepted octets (templates_of old.all) a.message a.after × (new ≡ with_message a old) × (position ≡ length new.all)
+    (a : Accepted) × (a.octets ≡ octets) × IsAccepted octets (templates_of old.all) a.message a.after
+    × (new ≡ with_message a old) × (position ≡ length new.all)
 
 -- what a refusal says of octets behind a history
 abbrev pub IsRefusal : PlainError → List ℕ → History → Type 0
 IsRefusal (Message fault) octets h = IsFault octets (templates_of h.all) fault
-IsRefusal NumbersSpent octets h = (length h.all ≡ 2 ^ 48 - 1) × ((m : RawMessage) × (after : AllTemplates) × IsAccepted octets (templates_of h.all) m after)
+IsRefusal NumbersSpent octets h =
+    (length h.all ≡ 2 ^ 48 - 1)
+    × ((m : RawMessage) × (after : AllTemplates) × IsAccepted octets (templates_of h.all) m after)
 IsRefusal OutOfMemory octets h = Unit {0}
 
 -- ---- the fault of a message, as a refusal

@@ -2,25 +2,38 @@
 
 ghost use Rattle.std.specs.Prelude.{◌≡◌};
 ghost use Rattle.flow_archive.specs.Plain.{fault_refusal};
+ghost use Rattle.flow_archive.specs.Printed.{printed};
 ghost use Rattle.flow_archive.specs.declared.error.PlainError.TheVariants.{OutOfMemory};
 
 use flow_codec::MessageError;
 use std::alloc::{AllocError, AllocFailed};
-use thiserror::Error;
+use std::error::Error;
+use std::fmt;
 
 /// Why a plain archive refused a message, printed as its number, its name and what it carries.
-#[derive(Clone, Copy, Debug, PartialEq, Eq, Error)]
+#[derive(Clone, Copy, Debug, PartialEq, Eq)]
 pub enum PlainError {
     /// The first fault of the message, 1 to 10.
-    #[error("{0}")]
     Message(MessageError),
     /// The archive has 2^48 - 1 messages, and numbers for no more.
-    #[error("25 NumbersSpent")]
     NumbersSpent,
     /// A growth of memory was refused.
-    #[error("11 OutOfMemory")]
     OutOfMemory,
 }
+
+impl fmt::Display for PlainError {
+    ghost output = { printed };
+
+    fn fmt<W: fmt::Write>(&self, f: &mut fmt::Formatter<W>) -> fmt::Result {
+        match self {
+            PlainError::Message(fault) => write!(f, "{fault}"),
+            PlainError::NumbersSpent => write!(f, "25 NumbersSpent"),
+            PlainError::OutOfMemory => write!(f, "11 OutOfMemory"),
+        }
+    }
+}
+
+impl Error for PlainError {}
 
 impl From<AllocError> for PlainError {
     ghost from_gives = { λ _ e. e ≡ OutOfMemory };

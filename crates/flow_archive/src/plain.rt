@@ -54,9 +54,11 @@ impl PlainArchive {
     /// Takes in a message that is accepted behind those before it, and answers its number, from 1 on.
     /// After an `Err` the archive is as it was. A message's own fault is answered before `NumbersSpent`.
     pub fn append(&mut self, octets: &[u8]) -> Result<u64, PlainError>
-        // The history has the message at its end, accepted under the templates of those before it; its number is the count of all.
+        // The history has the message at its end, accepted under the templates of those before it; its number is the
+        // count of all.
         ensures appended { IfOk result (λ position. IsAppended position octets.now self.old self.new) }
-        // Other octets are refused by their first fault, and an accepted message only where all numbers are spent or memory runs out.
+        // Other octets are refused by their first fault, and an accepted message only where all numbers are spent or
+        // memory runs out.
         ensures refused { IfErr result (λ e. IsRefusal e octets.now self.old) }
         ensures kept { IfErr result (λ _. self.new ≡ self.old) }
         // Whatever the answer, what is there afterwards is a history.
@@ -84,7 +86,8 @@ impl PlainArchive {
         Ok(count + 1)
     }
 
-    /// The sums of the flows of all messages whose intervals start from `from` on and before `to`, in seconds since 1970-01-01 00:00 UTC,
+    /// The sums of the flows of all messages whose intervals start from `from` on and before `to`, in seconds since
+    /// 1970-01-01 00:00 UTC,
     /// in the order of their keys.
     pub fn totals(&self, alloc: Global, from: u64, to: u64) -> Result<Vec<Row>, AllocError>
         ensures rows { IfOk result (λ rows. rows.items ≡ totals_between from to self.now) }

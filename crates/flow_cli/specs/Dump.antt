@@ -6,14 +6,15 @@ use Rattle.flow_codec.specs.Templates.{AllTemplates}
 use Rattle.flow_codec.specs.Message.{IsAccepted}
 use Rattle.flow_codec.specs.Fault.{IsFault}
 use Rattle.flow_codec.specs.Cutting.{IsCutOff}
-use Rattle.flow_codec.specs.Stream.{Progress, IsFaultNext}
+use Rattle.flow_codec.specs.Stream.{Progress, IsFaultNext, IsMessageNext}
 use Rattle.flow_codec.specs.File.{AcceptedFront, whole, broken, refused}
 use Rattle.flow_cli.specs.declared.dumping.HeldRecord.{HeldRecord}
 use Rattle.flow_cli.specs.declared.dumping.HeldMessage.{HeldMessage}
 use Rattle.flow_cli.specs.declared.refusal.Refusal.{Refusal}
-use Rattle.flow_cli.specs.declared.refusal.Refusal.TheVariants.{Message, File, OutOfMemory, SumSpent, NumbersSpent, Read, Write}
+use Rattle.flow_cli.specs.declared.refusal.Refusal.TheVariants.{Message, File, OutOfMemory, SumSpent, NumbersSpent}
+use Rattle.flow_cli.specs.declared.refusal.Refusal.TheVariants.{Read, Write}
 use Rattle.flow_cli.specs.Lines.{dump_text}
-use Rattle.flow_cli.specs.Fronts.{IsFront}
+use Rattle.flow_cli.specs.Fronts.{IsFront, IsSpentFront}
 use Rattle.flow_cli.specs.Writing.{AppendsFront}
 
 -- ---- one message
@@ -29,15 +30,17 @@ message_of m = record { header = m.header; records = map raw_of m.records.items 
 -- The next message of a File is accepted and held, or there is none, or it is refused.
 abbrev pub IsNext : Progress → AllTemplates → Result (Option HeldMessage) Refusal → Progress → AllTemplates → Type 0
 IsNext old before (Ok (Some m)) new after =
-    (octets : List ℕ) × IsCutOff octets × IsAccepted octets before (message_of m) after × Consumes old.rest new.rest octets
+    (octets : List ℕ) × IsCutOff octets × IsAccepted octets before (message_of m) after
+    × Consumes old.rest new.rest octets
     × (new.count ≡ old.count + 1) × (new.count < 2 ^ 48) × (new.at ≡ old.at + length octets) × (new.stopped ≡ None)
 IsNext old before (Ok None) new after = IsAtEnd old.rest
 IsNext old before (Err (Message fault number)) new after =
-    (octets : List ℕ) × IsCutOff octets × IsFault octets before fault × Consumes old.rest new.rest octets × (number ≡ old.count + 1) × (number < 2 ^ 48)
+    (octets : List ℕ) × IsCutOff octets × IsFault octets before fault × Consumes old.rest new.rest octets
+    × (number ≡ old.count + 1) × (number < 2 ^ 48)
 IsNext old before (Err (File fault)) new after = IsFaultNext old.at old.rest fault
 IsNext old before (Err OutOfMemory) new after = ⊤
 IsNext old before (Err SumSpent) new after = ⊥
-IsNext old before (Err NumbersSpent) new after = old.count ≡ 2 ^ 48 - 1
+IsNext old before (Err NumbersSpent) new after = (old.count ≡ 2 ^ 48 - 1) × IsMessageNext old.rest
 IsNext old before (Err (Read failed)) new after = ⊤
 IsNext old before (Err (Write failed)) new after = ⊤
 
@@ -45,17 +48,24 @@ IsNext old before (Err (Write failed)) new after = ⊤
 
 -- the octets are a whole File of accepted messages, and the writer took all their lines
 abbrev pub IsDumped : List ℕ → Option (List ℕ) → Option (List ℕ) → Type 0
-IsDumped octets old new = (messages : List RawMessage) × (after : AllTemplates) × AcceptedFront octets messages after whole × Appends old new (dump_text messages)
+IsDumped octets old new = (messages : List RawMessage) × (after : AllTemplates)
+    × AcceptedFront octets messages after whole × Appends old new (dump_text messages)
 
--- Why a run ended, the first fault by place, and what the writer took: all lines of the accepted messages before; where memory or
--- the writer failed, a front of the lines of some.
+-- Why a run ended, the first fault by place, and what the writer took: all lines of the accepted messages before; where
+-- memory or the writer failed, a front of the lines of some.
 abbrev pub IsDumpedUntil : List ℕ → Option (List ℕ) → Option (List ℕ) → Refusal → Type 0
 IsDumpedUntil octets old new (Message fault number) =
-    (messages : List RawMessage) × (after : AllTemplates) × AcceptedFront octets messages after (refused fault) × (number ≡ length messages + 1) × Appends old new (dump_text messages)
+    (messages : List RawMessage) × (after : AllTemplates) × AcceptedFront octets messages after (refused fault)
+    × (number ≡ length messages + 1) × Appends old new (dump_text messages)
 IsDumpedUntil octets old new (File fault) =
-    (messages : List RawMessage) × (after : AllTemplates) × AcceptedFront octets messages after (broken fault) × Appends old new (dump_text messages)
-IsDumpedUntil octets old new OutOfMemory = (messages : List RawMessage) × IsFront octets messages × AppendsFront old new (dump_text messages)
+    (messages : List RawMessage) × (after : AllTemplates) × AcceptedFront octets messages after (broken fault)
+    × Appends old new (dump_text messages)
+IsDumpedUntil octets old new OutOfMemory = (messages : List RawMessage) × IsFront octets messages
+    × AppendsFront old new (dump_text messages)
 IsDumpedUntil octets old new SumSpent = ⊥
-IsDumpedUntil octets old new NumbersSpent = (messages : List RawMessage) × IsFront octets messages × (length messages ≡ 2 ^ 48 - 1) × Appends old new (dump_text messages)
-IsDumpedUntil octets old new (Read failed) = (messages : List RawMessage) × IsFront octets messages × Appends old new (dump_text messages)
-IsDumpedUntil octets old new (Write failed) = (messages : List RawMessage) × IsFront octets messages × AppendsFront old new (dump_text messages)
+IsDumpedUntil octets old new NumbersSpent = (messages : List RawMessage) × IsSpentFront octets messages
+    × Appends old new (dump_text messages)
+IsDumpedUntil octets old new (Read failed) = (messages : List RawMessage) × IsFront octets messages
+    × Appends old new (dump_text messages)
+IsDumpedUntil octets old new (Write failed) = (messages : List RawMessage) × IsFront octets messages
+    × AppendsFront old new (dump_text messages)

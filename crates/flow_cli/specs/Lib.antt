@@ -1,7 +1,10 @@
 pub mod Writing
 pub mod Numbers
+pub mod CommandLine
+pub mod Requested
 pub mod Lines
 pub mod Refusals
+pub mod Printed
 pub mod Fronts
 pub mod Measure
 pub mod Telling

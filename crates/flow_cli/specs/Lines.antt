@@ -1,5 +1,6 @@
 -- The lines that the program writes, as octets of UTF-8.
-use Rattle.std.specs.Prelude.{ℕ, ◌+◌, ◌/◌, ◌%◌, nat_lt, Bool, List, [], ◌∷◌, ◌++◌, map, codes, Option, Some, None, unwrap_or, if◌then◌else◌}
+use Rattle.std.specs.Prelude.{ℕ, ◌+◌, ◌/◌, ◌%◌, nat_lt, Bool, List, [], ◌∷◌, ◌++◌, map, codes, Option, Some, None}
+use Rattle.std.specs.Prelude.{unwrap_or, if◌then◌else◌}
 use Rattle.std.specs.List.{flat_map, join_with_byte}
 use Rattle.std.specs.Fmt.{decimal}
 use Rattle.flow_elements.specs.declared.element.ElementId.{ElementId}
@@ -87,7 +88,8 @@ record_line r = start_text r.layout.options r.id ++ flat_map field_text (fields_
 
 -- message LENGTH TIME SEQUENCE DOMAIN, with a line feed
 unfoldable pub message_line : Header → List ℕ
-message_line h = codes "message" ++ 32 ∷ decimal h.length ++ 32 ∷ decimal h.time ++ 32 ∷ decimal h.sequence ++ 32 ∷ decimal h.domain ++ 10 ∷ []
+message_line h = codes "message" ++ 32 ∷ decimal h.length ++ 32 ∷ decimal h.time ++ 32 ∷ decimal h.sequence ++ 32 ∷
+    decimal h.domain ++ 10 ∷ []
 
 -- a message's line, and those of its records
 unfoldable pub message_text : RawMessage → List ℕ

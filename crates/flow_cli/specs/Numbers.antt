@@ -1,5 +1,6 @@
 -- Numbers on the command line: digits alone, leading zeros too.
-use Rattle.std.specs.Prelude.{ℕ, ◌+◌, ◌*◌, ◌-◌, List, fold, length, Bool, nat_le, ◌&&◌, Option, Some, None, if◌then◌else◌}
+use Rattle.std.specs.Prelude.{ℕ, ◌+◌, ◌*◌, ◌-◌, List, fold, length, Bool, nat_le, ◌&&◌, Option, Some, None}
+use Rattle.std.specs.Prelude.{if◌then◌else◌}
 use Rattle.std.specs.List.{list_all}
 
 abbrev pub is_digit : ℕ → Bool
@@ -14,4 +15,6 @@ number_of text = fold (λ n octet. n * 10 + (octet - 48)) 0 text
 
 -- the number of a text, from `least` to `most`
 abbrev pub number_between : ℕ → ℕ → List ℕ → Option ℕ
-number_between least most text = if is_number text && nat_le least (number_of text) && nat_le (number_of text) most then Some (number_of text) else None
+number_between least most text =
+    if is_number text && nat_le least (number_of text) && nat_le (number_of text) most then Some
+    (number_of text) else None

@@ -1,7 +1,8 @@
 -- Why a run ended before its work was done.
 use Rattle.std.specs.Prelude.{ℕ, ⊤}
 use Rattle.flow_codec.specs.declared.stream.StreamError.{StreamError}
-use Rattle.flow_codec.specs.declared.stream.StreamError.TheVariants.{File as FileStopped, Read as ReadStopped, NumbersSpent as CountStopped}
+use Rattle.flow_codec.specs.declared.stream.StreamError.TheVariants.{File as FileStopped, Read as ReadStopped}
+use Rattle.flow_codec.specs.declared.stream.StreamError.TheVariants.{NumbersSpent as CountStopped}
 use Rattle.flow_codec.specs.declared.error.MessageError.{MessageError}
 use Rattle.flow_codec.specs.declared.error.MessageError.TheVariants as message
 use Rattle.flow_codec.specs.declared.sink.WalkError.{WalkError}
@@ -9,7 +10,8 @@ use Rattle.flow_codec.specs.declared.sink.WalkError.TheVariants as walk
 use Rattle.flow_measure.specs.declared.error.SumError.{SumError}
 use Rattle.flow_measure.specs.declared.error.SumError.TheVariants as sum
 use Rattle.flow_cli.specs.declared.refusal.Refusal.{Refusal}
-use Rattle.flow_cli.specs.declared.refusal.Refusal.TheVariants.{Message, File, OutOfMemory, SumSpent, NumbersSpent, Read, Write}
+use Rattle.flow_cli.specs.declared.refusal.Refusal.TheVariants.{Message, File, OutOfMemory, SumSpent, NumbersSpent}
+use Rattle.flow_cli.specs.declared.refusal.Refusal.TheVariants.{Read, Write}
 
 abbrev pub status_of : Refusal → ℕ
 status_of (Message fault number) = 1

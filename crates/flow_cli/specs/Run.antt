@@ -1,34 +1,65 @@
--- What one run of a command answers.
-use Rattle.std.specs.Prelude.{◌≡◌, ◌≢◌, ◌⊎◌, ℕ, List, Option, IfSome}
+-- What one run of the program answers.
+use Rattle.std.specs.Prelude.{◌≡◌, ◌⊎◌, ℕ, List, Option, Some, IfSome}
 use Rattle.std.specs.Io.KnownBytes.{Appends, Keeps}
 use Rattle.clap.specs.declared.error.kind.ErrorKind.{ErrorKind}
 use Rattle.clap.specs.declared.error.kind.ErrorKind.TheVariants.{DisplayHelp, DisplayVersion}
-use Rattle.flow_cli.specs.declared.refusal.Refusal.{Refusal}
 use Rattle.clap.specs.Values.{kind_of}
+use Rattle.flow_cli.specs.declared.refusal.Refusal.{Refusal}
 use Rattle.flow_cli.specs.declared.request.LineError.{LineError}
-use Rattle.flow_cli.specs.declared.request.LineError.TheVariants.{Parser, Width, Unread, OutOfMemory}
+use Rattle.flow_cli.specs.declared.request.LineError.TheVariants.{Parser, Width, OutOfMemory}
 use Rattle.flow_cli.specs.declared.request.Request.{Request}
 use Rattle.flow_cli.specs.declared.request.Request.TheVariants.{Measure, Dump}
+use Rattle.flow_cli.specs.CommandLine.{asked}
+use Rattle.flow_cli.specs.Requested.{IsLineError}
 use Rattle.flow_cli.specs.Refusals.{status_of}
+use Rattle.flow_cli.specs.Printed.{printed, line_of, words_text}
+use Rattle.flow_cli.specs.Writing.{AppendsFront}
 use Rattle.flow_cli.specs.Dump.{IsDumped, IsDumpedUntil}
 use Rattle.flow_cli.specs.Measure.{HasTotals, IsRefusedBy, KeepsOrFront}
 
--- Status 0 where the lines of the whole File were written, else that of the refusal.
-abbrev pub Runs : Request → Option (List ℕ) → Option (List ℕ) → Option (List ℕ) → ℕ → Type 0
-Runs (Measure width) input old new status =
-    ((status ≡ 0) × IfSome input (λ octets. (lines : List ℕ) × HasTotals width octets lines × Appends old new lines))
-    ⊎ ((e : Refusal) × (status ≡ status_of e) × IfSome input (λ octets. IsRefusedBy octets e) × KeepsOrFront width input old new e)
-Runs Dump input old new status =
-    ((status ≡ 0) × IfSome input (λ octets. IsDumped octets old new))
-    ⊎ ((e : Refusal) × (status ≡ status_of e) × IfSome input (λ octets. IsDumpedUntil octets old new e))
+-- the line of a refusal came on standard error, or a front of it where that could be written no further
+abbrev pub IsRefusalTold : Refusal → Option (List ℕ) → Option (List ℕ) → Type 0
+IsRefusalTold e before after = AppendsFront before after (line_of (printed e))
+
+-- A run of a command, by what standard output (old, new) and standard error (before, after) hold: status 0 where the
+-- lines of the whole File were written, and nothing on standard error; else that of the refusal, which is told.
+abbrev pub Runs : Request → Option (List ℕ) → Option (List ℕ) → Option (List ℕ) → Option (List ℕ) → Option (List ℕ) → ℕ
+    → Type 0
+Runs (Measure width) input old new before after status =
+    ((status ≡ 0) × Keeps before after
+    × IfSome input (λ octets. (lines : List ℕ) × HasTotals width octets lines × Appends old new lines))
+    ⊎ ((e : Refusal) × (status ≡ status_of e) × IsRefusalTold e before after
+    × IfSome input (λ octets. IsRefusedBy octets e)
+    × KeepsOrFront width input old new e)
+Runs Dump input old new before after status =
+    ((status ≡ 0) × Keeps before after × IfSome input (λ octets. IsDumped octets old new))
+    ⊎ ((e : Refusal) × (status ≡ status_of e) × IsRefusalTold e before after
+    × IfSome input (λ octets. IsDumpedUntil octets old new e))
 
 -- what was asked for is help, or the version
 abbrev pub IsHelp : ErrorKind → Type 0
 IsHelp kind = (kind ≡ DisplayHelp) ⊎ (kind ≡ DisplayVersion)
 
--- What is answered of words that ask for nothing: why, with the output as it was; of those that ask for help, the help.
-abbrev pub IsTold : LineError → Option (List ℕ) → Option (List ℕ) → ℕ → Type 0
-IsTold (Parser error) old new status = (IsHelp (kind_of error) → status ≢ 2) × ((IsHelp (kind_of error) → ⊥) → (status ≡ 2) × Keeps old new)
-IsTold Width old new status = (status ≡ 2) × Keeps old new
-IsTold Unread old new status = (status ≡ 2) × Keeps old new
-IsTold OutOfMemory old new status = (status ≡ 4) × Keeps old new
+-- Help is shown on standard output, with status 0 and nothing on standard error; or it couldn't be, and that is told.
+abbrev pub IsShown : Option (List ℕ) → Option (List ℕ) → ℕ → Type 0
+IsShown before after status =
+    ((status ≡ 0) × Keeps before after) ⊎ ((e : Refusal) × (status ≡ status_of e) × IsRefusalTold e before after)
+
+-- words that ask for nothing: the output stays, and one line says why
+abbrev pub IsWrong : LineError → ℕ → Option (List ℕ) → Option (List ℕ) → Option (List ℕ) → Option (List ℕ) → ℕ → Type 0
+IsWrong e wanted old new before after status =
+    (status ≡ wanted) × Keeps old new × AppendsFront before after (line_of (words_text e))
+
+-- What is answered of words that ask for nothing, or for help.
+abbrev pub IsTold : LineError → Option (List ℕ) → Option (List ℕ) → Option (List ℕ) → Option (List ℕ) → ℕ → Type 0
+IsTold (Parser error) old new before after status =
+    (IsHelp (kind_of error) × IsShown before after status) ⊎ IsWrong (Parser error) 2 old new before after status
+IsTold Width old new before after status = IsWrong Width 2 old new before after status
+IsTold OutOfMemory old new before after status = IsWrong OutOfMemory 4 old new before after status
+
+-- What is answered of any words: the run of the request that they ask for, or why there is none.
+abbrev pub IsAnswered : List (List ℕ) → Option (List ℕ) → Option (List ℕ) → Option (List ℕ) → Option (List ℕ)
+    → Option (List ℕ) → ℕ → Type 0
+IsAnswered words input old new before after status =
+    ((request : Request) × (asked words ≡ Some request) × Runs request input old new before after status)
+    ⊎ ((e : LineError) × IsLineError words e × IsTold e old new before after status)

@@ -2,10 +2,12 @@
 use Rattle.std.specs.Prelude.{◌≡◌, List, ℕ, ◌++◌, Option, ⊤}
 use Rattle.std.specs.Io.KnownBytes.{Appends}
 use Rattle.flow_cli.specs.declared.refusal.Refusal.{Refusal}
-use Rattle.flow_cli.specs.declared.refusal.Refusal.TheVariants.{Message, File, OutOfMemory, SumSpent, NumbersSpent, Read, Write}
+use Rattle.flow_cli.specs.declared.refusal.Refusal.TheVariants.{Message, File, OutOfMemory, SumSpent, NumbersSpent}
+use Rattle.flow_cli.specs.declared.refusal.Refusal.TheVariants.{Read, Write}
 
 -- More text came behind what was held: the writer took a front of both, and what is left is held.
-pub record Tells (old : Option (List ℕ)) (held : List ℕ) (new : Option (List ℕ)) (left : List ℕ) (text : List ℕ) : Type 0 where
+pub record Tells (old : Option (List ℕ)) (held : List ℕ) (new : Option (List ℕ)) (left : List ℕ)
+    (text : List ℕ) : Type 0 where
   pub written : List ℕ
   pub parts : held ++ text ≡ written ++ left
   pub grown : Appends old new written

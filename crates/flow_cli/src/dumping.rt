@@ -144,9 +144,11 @@ impl Lines {
 
     /// Writes all that is held.
     fn flush<W: Write>(&mut self, output: &mut W) -> Result<(), WriteFailed>
-        ensures told { OnOk result (Tells (W.contents output.old) self.old.text.items (W.contents output.new) self.new.text.items []) }
+        ensures told { OnOk result
+            (Tells (W.contents output.old) self.old.text.items (W.contents output.new) self.new.text.items []) }
         ensures none { OnOk result (self.new.text.items ≡ []) }
-        ensures front { IfErr result (λ _. TellsFront (W.contents output.old) self.old.text.items (W.contents output.new) []) }
+        ensures front { IfErr result
+            (λ _. TellsFront (W.contents output.old) self.old.text.items (W.contents output.new) []) }
     {
         write_patiently(output, self.text.as_slice(), &mut self.patience)?;
         self.text.clear();
@@ -160,8 +162,12 @@ impl Lines {
         id: ElementId,
         octets: &[u8],
     ) -> Result<(), Refusal>
-        ensures told { OnOk result (Tells (W.contents output.old) self.old.text.items (W.contents output.new) self.new.text.items (field_text (record { id = id; octets = octets.now }))) }
-        ensures front { IfErr result (IsCutIn (W.contents output.old) self.old.text.items (W.contents output.new) (field_text (record { id = id; octets = octets.now }))) }
+        ensures told { OnOk result
+            (Tells (W.contents output.old) self.old.text.items (W.contents output.new) self.new.text.items
+            (field_text (record { id = id; octets = octets.now }))) }
+        ensures front { IfErr result
+            (IsCutIn (W.contents output.old) self.old.text.items (W.contents output.new)
+            (field_text (record { id = id; octets = octets.now }))) }
     {
         push_field(self.alloc, &mut self.text, id, octets)?;
         if self.text.len() >= MOST_HELD {
@@ -177,8 +183,12 @@ impl Lines {
         specifiers: &[(ElementId, u16)],
         octets: &[u8],
     ) -> Result<(), Refusal>
-        ensures told { OnOk result (Tells (W.contents output.old) self.old.text.items (W.contents output.new) self.new.text.items (flat_map field_text (fields_in specifiers.now octets.now))) }
-        ensures front { IfErr result (IsCutIn (W.contents output.old) self.old.text.items (W.contents output.new) (flat_map field_text (fields_in specifiers.now octets.now))) }
+        ensures told { OnOk result
+            (Tells (W.contents output.old) self.old.text.items (W.contents output.new) self.new.text.items
+            (flat_map field_text (fields_in specifiers.now octets.now))) }
+        ensures front { IfErr result
+            (IsCutIn (W.contents output.old) self.old.text.items (W.contents output.new)
+            (flat_map field_text (fields_in specifiers.now octets.now))) }
     {
         let mut rest = octets;
         for (id, len) in specifiers {
@@ -191,8 +201,12 @@ impl Lines {
 
     /// Takes the line of a record.
     fn put_record<W: Write>(&mut self, output: &mut W, held: &HeldRecord) -> Result<(), Refusal>
-        ensures told { OnOk result (Tells (W.contents output.old) self.old.text.items (W.contents output.new) self.new.text.items (record_line (raw_of held.now))) }
-        ensures front { IfErr result (IsCutIn (W.contents output.old) self.old.text.items (W.contents output.new) (record_line (raw_of held.now))) }
+        ensures told { OnOk result
+            (Tells (W.contents output.old) self.old.text.items (W.contents output.new) self.new.text.items
+            (record_line (raw_of held.now))) }
+        ensures front { IfErr result
+            (IsCutIn (W.contents output.old) self.old.text.items (W.contents output.new)
+            (record_line (raw_of held.now))) }
     {
         push_start(&mut self.text, held.definition.options(), held.id)?;
         self.put_fields(output, held.definition.fields(), held.octets.as_slice())?;
@@ -206,8 +220,12 @@ impl Lines {
         output: &mut W,
         records: &[HeldRecord],
     ) -> Result<(), Refusal>
-        ensures told { OnOk result (Tells (W.contents output.old) self.old.text.items (W.contents output.new) self.new.text.items (flat_map record_line (map raw_of records.now))) }
-        ensures front { IfErr result (IsCutIn (W.contents output.old) self.old.text.items (W.contents output.new) (flat_map record_line (map raw_of records.now))) }
+        ensures told { OnOk result
+            (Tells (W.contents output.old) self.old.text.items (W.contents output.new) self.new.text.items
+            (flat_map record_line (map raw_of records.now))) }
+        ensures front { IfErr result
+            (IsCutIn (W.contents output.old) self.old.text.items (W.contents output.new)
+            (flat_map record_line (map raw_of records.now))) }
     {
         for record in records {
             self.put_record(output, record)?;
@@ -221,8 +239,12 @@ impl Lines {
         output: &mut W,
         message: &HeldMessage,
     ) -> Result<(), Refusal>
-        ensures told { OnOk result (Tells (W.contents output.old) self.old.text.items (W.contents output.new) self.new.text.items (message_text (message_of message.now))) }
-        ensures front { IfErr result (IsCutIn (W.contents output.old) self.old.text.items (W.contents output.new) (message_text (message_of message.now))) }
+        ensures told { OnOk result
+            (Tells (W.contents output.old) self.old.text.items (W.contents output.new) self.new.text.items
+            (message_text (message_of message.now))) }
+        ensures front { IfErr result
+            (IsCutIn (W.contents output.old) self.old.text.items (W.contents output.new)
+            (message_text (message_of message.now))) }
     {
         push_message_line(&mut self.text, &message.header)?;
         self.put_records(output, message.records.as_slice())
@@ -231,11 +253,15 @@ impl Lines {
 
 /// Writes the messages of the File that `input` reads, and their data records, a line each, as they are read.
 ///
-/// It holds one message, and text of some 64 KiB beside a field's. Where the File ends by a fault, a refused message or a failed read, the lines of all
-/// messages before are written; where memory runs out or writing fails, a front of the lines.
+/// It holds one message, and text of some 64 KiB beside a field's. Where the File ends by a fault, a refused message or
+/// a failed read, the lines of all messages before are written; where memory runs out or writing fails, a front of the
+/// lines.
 pub fn dump<R: Read, W: Write>(alloc: Global, input: &mut R, output: &mut W) -> Result<(), Refusal>
-    ensures dumped { OnOk result (IfSome (R.remaining input.old) (λ octets. IsDumped octets (W.contents output.old) (W.contents output.new))) }
-    ensures refused { IfErr result (λ e. IfSome (R.remaining input.old) (λ octets. IsDumpedUntil octets (W.contents output.old) (W.contents output.new) e)) }
+    ensures dumped { OnOk result
+        (IfSome (R.remaining input.old) (λ octets. IsDumped octets (W.contents output.old) (W.contents output.new))) }
+    ensures refused { IfErr result
+        (λ e. IfSome (R.remaining input.old)
+        (λ octets. IsDumpedUntil octets (W.contents output.old) (W.contents output.new) e)) }
 {
     let mut reader = MessageReader::new(alloc, input)?;
     let mut templates = Templates::new(alloc);

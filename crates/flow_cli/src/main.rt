@@ -1,7 +1,7 @@
 //! The program flowvault: reads an IPFIX File (RFC 5655) from standard input and writes lines.
 //!
-//! `measure` writes the totals lines of the whole File or nothing, `dump` the lines of all messages before the first fault; a refusal is that of the
-//! first fault by place.
+//! `measure` writes the totals lines of the whole File or nothing, `dump` the lines of all messages before the first
+//! fault; a refusal is that of the first fault by place.
 #![tactic(auto)]
 
 mod dumping;

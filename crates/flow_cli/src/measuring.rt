@@ -48,8 +48,9 @@ fn refusal_of(stop: WalkError<SumError>, number: u64) -> Refusal
     }
 }
 
-/// Reads a File and writes the totals lines of all its flows: START DOMAIN PROTOCOL FLOWS OCTETS PACKETS, one for each interval of this
-/// width, Observation Domain and protocol, in this order, none before protocol 0. Nothing is written unless the whole File was accepted.
+/// Reads a File and writes the totals lines of all its flows: START DOMAIN PROTOCOL FLOWS OCTETS PACKETS, one for each
+/// interval of this width, Observation Domain and protocol, in this order, none before protocol 0. Nothing is written
+/// unless the whole File was accepted.
 pub fn measure<R: Read, W: Write>(
     alloc: Global,
     width: Width,
@@ -57,11 +58,14 @@ pub fn measure<R: Read, W: Write>(
     output: &mut W,
 ) -> Result<(), Refusal>
     // The lines are those of a whole File.
-    ensures lines { OnOk result (IfSome (R.remaining input.old) (λ octets. (lines : List ℕ) × HasTotals width octets lines × Appends (W.contents output.old) (W.contents output.new) lines)) }
+    ensures lines { OnOk result
+        (IfSome (R.remaining input.old) (λ octets. (lines : List ℕ) × HasTotals width octets lines
+        × Appends (W.contents output.old) (W.contents output.new) lines)) }
     // A refusal is that of the first fault by place.
     ensures refused { IfErr result (λ e. IfSome (R.remaining input.old) (λ octets. IsRefusedBy octets e)) }
     // After one nothing is written, or, where writing failed, a front of the lines.
-    ensures kept { IfErr result (λ e. KeepsOrFront width (R.remaining input.old) (W.contents output.old) (W.contents output.new) e) }
+    ensures kept { IfErr result
+        (λ e. KeepsOrFront width (R.remaining input.old) (W.contents output.old) (W.contents output.new) e) }
 {
     let rows = sums_of(alloc, width, input)?;
     let rows = rows.in_span(alloc, 0, END_OF_TIME)?;

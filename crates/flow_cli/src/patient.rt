@@ -5,15 +5,13 @@ ghost use Rattle.std.specs.Io.KnownBytes.{Appends, Keeps};
 ghost use Rattle.flow_cli.specs.Writing.{AppendsFront};
 
 use std::io::{ErrorKind, Write};
-use thiserror::Error;
 
 /// The interrupted calls at which a run gives up.
 pub const MOST_INTERRUPTS: u32 = 1_000_000;
 
 /// Writing stopped: a write failed or took nothing, or as many calls were interrupted as a run bears.
 /// Only this module makes one, where that is so.
-#[derive(Debug, Drop, Error)]
-#[error("32 Write")]
+#[derive(Debug, Drop)]
 pub struct WriteFailed {
     _made_here: (),
 }
@@ -41,7 +39,8 @@ fn write_some<W: Write>(
     octets: &[u8],
     patience: &mut Patience,
 ) -> Result<usize, WriteFailed>
-    ensures written { IfOk result (λ n. (n ≤ length octets.now) × Appends (W.contents output.old) (W.contents output.new) (take n octets.now)) }
+    ensures written { IfOk result (λ n. (n ≤ length octets.now)
+        × Appends (W.contents output.old) (W.contents output.new) (take n octets.now)) }
     ensures kept { OnErr result (Keeps (W.contents output.old) (W.contents output.new)) }
 {
     for _ in 0..MOST_INTERRUPTS {

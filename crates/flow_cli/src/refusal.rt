@@ -1,38 +1,51 @@
 //! Why a run ended before its work was done.
 
-ghost use Rattle.std.specs.Prelude.{◌≡◌, ◌≢◌};
+ghost use Rattle.std.specs.Prelude.{Some, ◌≡◌, ◌≢◌, ◌≤◌};
 ghost use Rattle.flow_cli.specs.Refusals.{status_of, stream_refusal, message_refusal, IsOfInput};
+ghost use Rattle.flow_cli.specs.Printed.{printed};
 ghost use Rattle.flow_cli.specs.declared.refusal.Refusal.TheVariants.{OutOfMemory, Write as WriteRefused};
 
 use crate::patient::WriteFailed;
 use flow_codec::{FileError, MessageError, ReadFailed, StreamError};
 use std::alloc::{AllocError, AllocFailed};
-use thiserror::Error;
+use std::error::Error;
+use std::fmt;
 
 /// Why a run ended before its work was done, printed as its number, its name and what it carries.
-#[derive(Debug, Drop, Error)]
+#[derive(Debug, Drop)]
 pub enum Refusal {
     /// The message of this number, from 1, is refused by 1 to 10.
-    #[error("{fault} message {number}")]
     Message { fault: MessageError, number: u64 },
     /// What stands behind the accepted messages is no message: 15 to 17.
-    #[error("{0}")]
     File(FileError),
-    #[error("11 OutOfMemory")]
     OutOfMemory,
     /// A sum would pass its type.
-    #[error("14 SumSpent")]
     SumSpent,
     /// One more message than 2^48 - 1.
-    #[error("25 NumbersSpent")]
     NumbersSpent,
     /// Reading failed.
-    #[error("{0}")]
     Read(ReadFailed),
     /// Writing failed.
-    #[error("{0}")]
     Write(WriteFailed),
 }
+
+impl fmt::Display for Refusal {
+    ghost output = { λ e. Some (printed e) };
+
+    fn fmt<W: fmt::Write>(&self, f: &mut fmt::Formatter<W>) -> fmt::Result {
+        match self {
+            Refusal::Message { fault, number } => write!(f, "{fault} message {number}"),
+            Refusal::File(fault) => write!(f, "{fault}"),
+            Refusal::OutOfMemory => write!(f, "11 OutOfMemory"),
+            Refusal::SumSpent => write!(f, "14 SumSpent"),
+            Refusal::NumbersSpent => write!(f, "25 NumbersSpent"),
+            Refusal::Read(_) => write!(f, "31 Read"),
+            Refusal::Write(_) => write!(f, "32 Write"),
+        }
+    }
+}
+
+impl Error for Refusal {}
 
 impl Refusal {
     /// Why a run stops at the message of this number, by this fault.
@@ -49,6 +62,7 @@ impl Refusal {
     /// The exit status: 1 for refused input, 3 for a device, 4 for memory.
     pub fn status(&self) -> u8
         ensures value { result ≡ status_of self.now }
+        ensures failed { 1 ≤ result }
         ensures other { result ≢ 2 }
     {
         match self {

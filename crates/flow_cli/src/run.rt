@@ -1,11 +1,12 @@
 //! One run of the program: words and an input in, lines and a status out.
 
-ghost use Rattle.std.specs.Prelude.{◌≡◌, ◌≢◌, ◌≤◌, OnOk, OnErr, IfOk, IfErr};
+ghost use Rattle.std.specs.Prelude.{◌≡◌, ◌≢◌, ◌≤◌, OnOk, OnErr, IfOk, IfErr, IfSome, map, string_bytes};
 ghost use Rattle.std.specs.Io.KnownBytes.{Appends, Keeps};
 ghost use Rattle.clap.specs.Values.{kind_of};
 ghost use Rattle.flow_cli.specs.Refusals.{status_of};
+ghost use Rattle.flow_cli.specs.Printed.{printed, line_of, kind_text, words_text};
 ghost use Rattle.flow_cli.specs.Writing.{AppendsFront};
-ghost use Rattle.flow_cli.specs.Run.{Runs, IsHelp, IsTold};
+ghost use Rattle.flow_cli.specs.Run.{Runs, IsHelp, IsTold, IsShown, IsRefusalTold, IsAnswered};
 
 use crate::dumping::dump;
 use crate::measuring::measure;
@@ -13,7 +14,8 @@ use crate::patient::{Patience, write_patiently};
 use crate::refusal::Refusal;
 use crate::request::{LineError, Request, parse};
 use clap::Error;
-use std::alloc::Global;
+use clap::error::ErrorKind;
+use std::alloc::{AllocError, Global};
 use std::convert::AsStr;
 use std::fmt::Display;
 use std::io::{Read, Write};
@@ -29,7 +31,17 @@ const NO_MEMORY: &str = "flowvault: 11 OutOfMemory\n";
 
 /// What is told of a width that isn't one.
 const WRONG_WIDTH: &str =
-    "error: invalid value for '<WIDTH>': digits alone, from 1 to 86400\n\nFor more information, try '--help'.\n";
+    "flowvault: WIDTH is 1 to 86400, digits alone, as in: flowvault measure 300 < FILE\n";
+
+/// What is told where a command is missing.
+const NO_COMMAND: &str = "flowvault: a command is needed: flowvault --help lists them\n";
+
+/// What is told where the width is missing.
+const NO_WIDTH: &str = "flowvault: WIDTH is needed, as in: flowvault measure 300 < FILE\n";
+
+/// What is told of any other wrong words.
+const WRONG_WORDS: &str =
+    "flowvault: a word isn't understood; a File is read from standard input: flowvault measure 300 < FILE\n";
 
 /// Writes octets.
 fn write_octets<W: Write>(to: &mut W, octets: &[u8]) -> Result<(), Refusal>
@@ -40,26 +52,44 @@ fn write_octets<W: Write>(to: &mut W, octets: &[u8]) -> Result<(), Refusal>
     Ok(())
 }
 
-/// Writes a text.
-fn write_text<W: Write, D: Display + Drop>(
-    alloc: Global,
-    to: &mut W,
-    text: D,
-) -> Result<(), Refusal> {
-    let text = format!(in alloc; "{text}")?;
-    write_octets(to, text.as_bytes())
+/// Tells a line on standard error, or as much of it as can be written: the status tells the same.
+fn tell_line<E: Write>(errors: &mut E, line: &[u8])
+    ensures { AppendsFront (E.contents errors.old) (E.contents errors.new) line.now }
+{
+    let _ = write_octets(errors, line);
 }
 
-/// Tells a refusal as `flowvault: NUMBER NAME ..`, or gives up in silence: the status tells the same. It answers the exit status.
-/// A want of memory is told without any.
+/// The line of a refusal.
+fn refusal_line(alloc: Global, refusal: &Refusal) -> Result<String, AllocError>
+    ensures { IfOk result (λ line. string_bytes line ≡ line_of (printed refusal.now)) }
+{
+    format!(in alloc; "flowvault: {refusal}\n")
+}
+
+/// Tells a refusal as `flowvault: NUMBER NAME ..`. A want of memory is told without any; where there is none for the
+/// line of another refusal, nothing is told.
+#[tactic(auto, using(crate::proofs::Told::nothing_told, crate::proofs::Told::line_told))]
+fn tell_refusal<E: Write>(alloc: Global, errors: &mut E, refusal: &Refusal)
+    ensures { IsRefusalTold refusal.now (E.contents errors.old) (E.contents errors.new) }
+{
+    if let Refusal::OutOfMemory = refusal {
+        tell_line(errors, NO_MEMORY.as_bytes());
+        return;
+    }
+    let Ok(line) = refusal_line(alloc, refusal) else {
+        return;
+    };
+    tell_line(errors, line.as_bytes());
+}
+
+/// Tells a refusal, and answers its exit status.
 fn tell<E: Write>(alloc: Global, errors: &mut E, refusal: &Refusal) -> u8
     ensures status { result ≡ status_of refusal.now }
+    ensures failed { 1 ≤ result }
     ensures other { result ≢ 2 }
+    ensures told { IsRefusalTold refusal.now (E.contents errors.old) (E.contents errors.new) }
 {
-    let _ = match refusal {
-        Refusal::OutOfMemory => write_octets(errors, NO_MEMORY.as_bytes()),
-        _ => write_text(alloc, errors, format_args!("flowvault: {refusal}\n")),
-    };
+    tell_refusal(alloc, errors, refusal);
     refusal.status()
 }
 
@@ -71,7 +101,9 @@ fn run<R: Read, W: Write, E: Write>(
     output: &mut W,
     errors: &mut E,
 ) -> u8
-    ensures runs { Runs request (R.remaining input.old) (W.contents output.old) (W.contents output.new) result }
+    ensures runs { Runs request (R.remaining input.old) (W.contents output.old) (W.contents output.new)
+        (E.contents errors.old) (E.contents errors.new) result }
+    ensures quiet { result ≡ 0 → Keeps (E.contents errors.old) (E.contents errors.new) }
     ensures status { result ≤ 4 }
     ensures other { result ≢ 2 }
 {
@@ -93,50 +125,76 @@ pub fn run_line<S: AsStr, R: Read, W: Write, E: Write>(
     output: &mut W,
     errors: &mut E,
 ) -> u8
+    // The words decide which command runs, on what width, or why none does.
+    ensures answered { IsAnswered (map S.text words.now) (R.remaining input.old) (W.contents output.old)
+        (W.contents output.new) (E.contents errors.old) (E.contents errors.new) result }
+    ensures quiet { result ≡ 0 → Keeps (E.contents errors.old) (E.contents errors.new) }
     ensures status { result ≤ 4 }
     // Of words that ask for nothing nothing is written but why.
     ensures wrong { result ≡ 2 → Keeps (W.contents output.old) (W.contents output.new) }
 {
-    answer(alloc, parse(alloc, words), input, output, errors)
+    match parse(alloc, words) {
+        Ok(request) => run(alloc, request, input, output, errors),
+        Err(error) => refuse(alloc, &error, output, errors),
+    }
 }
 
-/// Runs what a command line asks for, or tells why it asks for nothing. It answers the exit status.
-fn answer<R: Read, W: Write, E: Write>(
+/// Tells why a command line asks for nothing, or shows the help that it asks for. It answers the exit status.
+fn refuse<W: Write, E: Write>(
     alloc: Global,
-    asked: Result<Request, LineError>,
-    input: &mut R,
+    error: &LineError,
     output: &mut W,
     errors: &mut E,
 ) -> u8
-    ensures runs { IfOk asked (λ request. Runs request (R.remaining input.old) (W.contents output.old) (W.contents output.new) result) }
-    ensures told { IfErr asked (λ e. IsTold e (W.contents output.old) (W.contents output.new) result) }
+    ensures told { IsTold error.now (W.contents output.old) (W.contents output.new) (E.contents errors.old)
+        (E.contents errors.new) result }
+    ensures quiet { result ≡ 0 → Keeps (E.contents errors.old) (E.contents errors.new) }
     ensures status { result ≤ 4 }
     ensures wrong { result ≡ 2 → Keeps (W.contents output.old) (W.contents output.new) }
 {
-    match asked {
-        Ok(request) => run(alloc, request, input, output, errors),
-        Err(LineError::OutOfMemory) => tell(alloc, errors, &Refusal::OutOfMemory),
-        Err(LineError::Unread) => WRONG_LINE,
-        Err(LineError::Width) => {
-            let _ = write_octets(errors, WRONG_WIDTH.as_bytes());
+    match error {
+        LineError::Parser(error) if error.use_stderr() => {
+            tell_line(errors, kind_line(error.kind()).as_bytes());
             WRONG_LINE
         }
-        Err(LineError::Parser(error)) => show(alloc, &error, output, errors),
+        LineError::Parser(help) => show(alloc, help, output, errors),
+        LineError::Width => {
+            tell_line(errors, WRONG_WIDTH.as_bytes());
+            WRONG_LINE
+        }
+        LineError::OutOfMemory => tell(alloc, errors, &Refusal::OutOfMemory),
     }
 }
 
-/// Shows what the parser of the command line has to say: help on `output`, else why the words ask for nothing on `errors`.
-fn show<W: Write, E: Write>(alloc: Global, error: &Error, output: &mut W, errors: &mut E) -> u8
-    ensures status { result ≤ 4 }
-    ensures wrong { result ≡ 2 → Keeps (W.contents output.old) (W.contents output.new) }
-    ensures help { IsHelp (kind_of error.now) → result ≢ 2 }
-    ensures fault { (IsHelp (kind_of error.now) → ⊥) → result ≡ 2 }
+/// What is told of words that the parser of the command line refuses.
+fn kind_line(kind: ErrorKind) -> &'static str
+    ensures { result.now ≡ line_of (kind_text kind) }
 {
-    if error.use_stderr() {
-        let _ = write_text(alloc, errors, error);
-        return WRONG_LINE;
+    match kind {
+        ErrorKind::MissingSubcommand => NO_COMMAND,
+        ErrorKind::MissingRequiredArgument => NO_WIDTH,
+        _ => WRONG_WORDS,
     }
-    match write_text(alloc, output, error) {
+}
+
+/// Writes a text.
+fn write_text<W: Write, D: Display + Drop>(
+    alloc: Global,
+    to: &mut W,
+    text: D,
+) -> Result<(), Refusal> {
+    let text = format!(in alloc; "{text}")?;
+    write_octets(to, text.as_bytes())
+}
+
+/// Shows help on `output`.
+fn show<W: Write, E: Write>(alloc: Global, help: &Error, output: &mut W, errors: &mut E) -> u8
+    ensures shown { IsShown (E.contents errors.old) (E.contents errors.new) result }
+    ensures quiet { result ≡ 0 → Keeps (E.contents errors.old) (E.contents errors.new) }
+    ensures status { result ≤ 4 }
+    ensures other { result ≢ 2 }
+{
+    match write_text(alloc, output, help) {
         Ok(()) => DONE,
         Err(refusal) => tell(alloc, errors, &refusal),
     }

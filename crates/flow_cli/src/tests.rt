@@ -7,22 +7,26 @@ use std::test::*;
 
 /// A template of elements 150, 4, 1 and 2, and a flow.
 const PLAIN: &str =
-    "000A0039 6553F100 00000000 00000007 | 00020018 0100 0004 00960004 00040001 00010004 00020004 | 01000011 6553F100 06 000005DC 0000000A";
+    "000A0039 6553F100 00000000 00000007 | 00020018 0100 0004 00960004 00040001 00010004 00020004 | 01000011 \
+     6553F100 06 000005DC 0000000A";
 
 /// A message without Sets.
 const NO_SET: &str = "000A0010 6553F100 00000000 00000007";
 
-/// The plain message without its last octet.
-const CUT: &str =
-    "000A0039 6553F100 00000000 00000007 | 00020018 0100 0004 00960004 00040001 00010004 00020004 | 01000011 6553F100 06 000005DC 000000";
-
 /// The plain message, and one of version 9.
 const OTHER_VERSION: &str =
-    "000A0039 6553F100 00000000 00000007 | 00020018 0100 0004 00960004 00040001 00010004 00020004 | 01000011 6553F100 06 000005DC 0000000A | 00090010 6553F100 00000000 00000007 00";
+    "000A0039 6553F100 00000000 00000007 | 00020018 0100 0004 00960004 00040001 00010004 00020004 | 01000011 \
+     6553F100 06 000005DC 0000000A | 00090010 6553F100 00000000 00000007 00";
 
 /// The plain message twice, with a Set Length of 3 in the second, and an octet more.
 const SHORT_SET: &str =
-    "000A0039 6553F100 00000000 00000007 | 00020018 0100 0004 00960004 00040001 00010004 00020004 | 01000011 6553F100 06 000005DC 0000000A | 000A0039 6553F100 00000000 00000007 | 00020003 0100 0004 00960004 00040001 00010004 00020004 | 01000011 6553F100 06 000005DC 0000000A 00";
+    "000A0039 6553F100 00000000 00000007 | 00020018 0100 0004 00960004 00040001 00010004 00020004 | 01000011 \
+     6553F100 06 000005DC 0000000A | 000A0039 6553F100 00000000 00000007 | 00020003 0100 0004 00960004 00040001 \
+     00010004 00020004 | 01000011 6553F100 06 000005DC 0000000A 00";
+
+/// What is told of a word that isn't understood.
+const UNKNOWN: &str =
+    "a word isn't understood; a File is read from standard input: flowvault measure 300 < FILE";
 
 /// The line of the plain message.
 const PLAIN_LINE: &str = "1699999800 7 6 1 1500 10\n";
@@ -44,7 +48,8 @@ fn push_octets(octets: &mut Vec<u8>, text: &str) -> Result<(), Fail> {
     Ok(())
 }
 
-fn octets_of(alloc: Global, text: &str) -> Result<Vec<u8>, Fail> {
+/// The octets that a text writes in hexadecimal.
+pub(crate) fn octets_of(alloc: Global, text: &str) -> Result<Vec<u8>, Fail> {
     let mut octets = Vec::new(alloc);
     push_octets(&mut octets, text)?;
     Ok(octets)
@@ -80,36 +85,43 @@ fn totals_of_files(rt: HostRuntime) -> Result<(), Fail> {
         (NO_SET, ""),
         // twelve octets of padding
         (
-            "000A0045 6553F100 00000000 00000007 | 00020018 0100 0004 00960004 00040001 00010004 00020004 | 0100001D 6553F100 06 000005DC 0000000A FFFFFFFF FFFFFFFF FFFFFFFF",
+            "000A0045 6553F100 00000000 00000007 | 00020018 0100 0004 00960004 00040001 00010004 00020004 | \
+             0100001D 6553F100 06 000005DC 0000000A FFFFFFFF FFFFFFFF FFFFFFFF",
             PLAIN_LINE,
         ),
         // thirteen octets more are a second record
         (
-            "000A0046 6553F100 00000000 00000007 | 00020018 0100 0004 00960004 00040001 00010004 00020004 | 0100001E 6553F100 06 000005DC 0000000A 00000000 00000000 00000000 00",
+            "000A0046 6553F100 00000000 00000007 | 00020018 0100 0004 00960004 00040001 00010004 00020004 | \
+             0100001E 6553F100 06 000005DC 0000000A 00000000 00000000 00000000 00",
             "0 7 0 1 0 0\n1699999800 7 6 1 1500 10\n",
         ),
         // a template after its data
         (
-            "000A0021 6553F100 00000000 00000007 | 01000011 6553F100 06 000005DC 0000000A | 000A0028 6553F100 00000000 00000007 | 00020018 0100 0004 00960004 00040001 00010004 00020004",
+            "000A0021 6553F100 00000000 00000007 | 01000011 6553F100 06 000005DC 0000000A | 000A0028 6553F100 \
+             00000000 00000007 | 00020018 0100 0004 00960004 00040001 00010004 00020004",
             "",
         ),
         // both spellings of a length
         (
-            "000A0036 6553F100 00000000 00000007 | 00020010 012C 0002 00010004 00D2FFFF | 012C0016 00000064 03 AABBCC 00000064 FF 0003 AABBCC",
+            "000A0036 6553F100 00000000 00000007 | 00020010 012C 0002 00010004 00D2FFFF | 012C0016 00000064 03 \
+             AABBCC 00000064 FF 0003 AABBCC",
             "1699999800 7 - 2 200 0\n",
         ),
         // sums above 64 bits
         (
-            "000A0030 6553F100 00000000 00000007 | 0002000C 0100 0001 00010008 | 01000014 FFFFFFFFFFFFFFFF FFFFFFFFFFFFFFFF",
+            "000A0030 6553F100 00000000 00000007 | 0002000C 0100 0001 00010008 | 01000014 FFFFFFFFFFFFFFFF \
+             FFFFFFFFFFFFFFFF",
             "1699999800 7 - 2 36893488147419103230 0\n",
         ),
         // a start past 32 bits, and the last one within
         (
-            "000A0030 6553F100 00000000 00000007 | 00020010 0100 0002 00980008 00010004 | 01000010 000003E800000000 00000001",
+            "000A0030 6553F100 00000000 00000007 | 00020010 0100 0002 00980008 00010004 | 01000010 \
+             000003E800000000 00000001",
             "1699999800 7 - 1 1 0\n",
         ),
         (
-            "000A0030 6553F100 00000000 00000007 | 00020010 0100 0002 00980008 00010004 | 01000010 000003E7FFFFFFFF 00000001",
+            "000A0030 6553F100 00000000 00000007 | 00020010 0100 0002 00980008 00010004 | 01000010 \
+             000003E7FFFFFFFF 00000001",
             "4294967100 7 - 1 1 0\n",
         ),
     ] {
@@ -124,7 +136,8 @@ fn a_redefinition_counts_from_its_place_on(rt: HostRuntime) -> Result<(), Fail> 
     let mut file = octets_of(rt.alloc(), PLAIN)?;
     push_octets(
         &mut file,
-        "000A003D 6553F13C 00000001 00000007 | 00020018 0100 0004 00960004 00040001 00010008 00020004 | 01000015 6553F13C 06 00000000000005DC 0000000A",
+        "000A003D 6553F13C 00000001 00000007 | 00020018 0100 0004 00960004 00040001 00010008 00020004 | \
+         01000015 6553F13C 06 00000000000005DC 0000000A",
     )?;
     measures(
         &rt,
@@ -140,8 +153,6 @@ fn a_redefinition_counts_from_its_place_on(rt: HostRuntime) -> Result<(), Fail> 
 fn refusals_by_place(rt: HostRuntime) -> Result<(), Fail> {
     let alloc = rt.alloc();
     for (text, told) in [
-        // a cut File
-        (CUT, "flowvault: 15 Cut 0\n"),
         // another version behind the first message
         (OTHER_VERSION, "flowvault: 16 Version 57\n"),
         // a Set Length of 3 in the second message
@@ -154,6 +165,17 @@ fn refusals_by_place(rt: HostRuntime) -> Result<(), Fail> {
     ] {
         let file = octets_of(alloc, text)?;
         measures(&rt, alloc, file.as_slice(), 1, "", told)?;
+    }
+    Ok(())
+}
+
+/// A File that is cut at each place.
+#[test]
+fn cut_files(rt: HostRuntime) -> Result<(), Fail> {
+    let alloc = rt.alloc();
+    let file = octets_of(alloc, PLAIN)?;
+    for count in 1..file.len() {
+        measures(&rt, alloc, &file[..count], 1, "", "flowvault: 15 Cut 0\n")?;
     }
     Ok(())
 }
@@ -275,6 +297,96 @@ fn a_reader_that_never_answers(rt: HostRuntime) -> Result<(), Fail> {
     assert_eq!(rt; got, 3);
     assert_eq!(rt; output.len(), 0);
     assert_eq!(rt; errors.as_slice(), b"flowvault: 31 Read\n".as_slice());
+    Ok(())
+}
+
+/// Words that ask for nothing are told in one line, and those that ask for help get it in lines of at most 80 columns.
+#[test]
+fn wrong_words_and_help(rt: HostRuntime) -> Result<(), Fail> {
+    let alloc = rt.alloc();
+    for (words, told) in [
+        (
+            [].as_slice(),
+            "a command is needed: flowvault --help lists them",
+        ),
+        (
+            ["measure"].as_slice(),
+            "WIDTH is needed, as in: flowvault measure 300 < FILE",
+        ),
+        (
+            ["measure", "FILE"].as_slice(),
+            "WIDTH is 1 to 86400, digits alone, as in: flowvault measure 300 < FILE",
+        ),
+        (["measure", "300", "FILE"].as_slice(), UNKNOWN),
+        (["dump", "FILE"].as_slice(), UNKNOWN),
+        (["FILE"].as_slice(), UNKNOWN),
+        (["--width"].as_slice(), UNKNOWN),
+        (["measure", "-3"].as_slice(), UNKNOWN),
+        (["--help"].as_slice(), ""),
+        (["-h"].as_slice(), ""),
+        (["--version"].as_slice(), ""),
+        (["help", "measure"].as_slice(), ""),
+        (["measure", "--help"].as_slice(), ""),
+        (["dump", "-h"].as_slice(), ""),
+    ] {
+        let mut line = Vec::new(alloc);
+        line.push("flowvault")?;
+        line.extend_from_slice(words)?;
+        let mut output = Vec::new(alloc);
+        let mut errors = Vec::new(alloc);
+        let got = run_line(
+            alloc,
+            line.as_slice(),
+            &mut Interrupted,
+            &mut output,
+            &mut errors,
+        );
+        let is_help = told.is_empty();
+        assert_eq!(rt; got, if is_help { 0 } else { 2 });
+        assert_eq!(rt; output.is_empty(), !is_help);
+        let want = if is_help {
+            String::new(alloc)
+        } else {
+            format!(in alloc; "flowvault: {told}\n")?
+        };
+        assert_eq!(rt; errors.as_slice(), want.as_bytes());
+        for shown in String::from_utf8_lossy(alloc, output.as_slice())?
+            .as_str()
+            .lines()
+        {
+            assert!(rt; shown.len() <= 80, "{shown}");
+        }
+    }
+    Ok(())
+}
+
+/// Takes no octet.
+#[derive(Drop)]
+struct Closed;
+
+impl Write for Closed {
+    fn write(&mut self, _buf: &[u8]) -> io::Result<usize> {
+        Ok(0)
+    }
+
+    fn flush(&mut self) -> io::Result<()> {
+        Ok(())
+    }
+}
+
+#[test]
+fn a_writer_that_takes_nothing(rt: HostRuntime) -> Result<(), Fail> {
+    let alloc = rt.alloc();
+    let file = octets_of(alloc, PLAIN)?;
+    for words in [
+        ["flowvault", "measure", "300"].as_slice(),
+        ["flowvault", "dump"].as_slice(),
+    ] {
+        let mut errors = Vec::new(alloc);
+        let got = run_line(alloc, words, &mut file.as_slice(), &mut Closed, &mut errors);
+        assert_eq!(rt; got, 3);
+        assert_eq!(rt; errors.as_slice(), b"flowvault: 32 Write\n".as_slice());
+    }
     Ok(())
 }
 

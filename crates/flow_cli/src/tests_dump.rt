@@ -1,4 +1,5 @@
 use crate::dumping::dump;
+use crate::tests::octets_of;
 use std::alloc::Global;
 use std::io;
 use std::io::{ErrorKind, Read, Write};
@@ -6,38 +7,12 @@ use std::test::Fail;
 
 /// A template of four elements and a flow: 57 octets.
 const PLAIN: &str =
-    "000A 0039 6553F100 00000000 00000007 | 0002 0018 0100 0004 0096 0004 0004 0001 0001 0004 0002 0004 | 0100 0011 6553F100 06 000005DC 0000000A";
+    "000A 0039 6553F100 00000000 00000007 | 0002 0018 0100 0004 0096 0004 0004 0001 0001 0004 0002 0004 | 0100 \
+     0011 6553F100 06 000005DC 0000000A";
 
 const PLAIN_LINES: &str =
-    "message 57 1700000000 0 7\nrecord 256 flowStartSeconds=1700000000 protocolIdentifier=6 octetDeltaCount=1500 packetDeltaCount=10\n";
-
-/// The value of a hexadecimal digit.
-fn digit_of(octet: u8) -> Option<u8> {
-    match octet {
-        b'0'..=b'9' => Some(octet - b'0'),
-        b'A'..=b'F' => Some(octet - b'A' + 10),
-        _ => None,
-    }
-}
-
-/// The octets of a text in hexadecimal, of which spaces and bars only part them.
-fn octets_of(alloc: Global, text: &str) -> Result<Vec<u8>, Fail> {
-    let mut octets = Vec::new(alloc);
-    let mut high = None;
-    for digit in text.as_bytes() {
-        let Some(low) = digit_of(*digit) else {
-            continue;
-        };
-        match high {
-            None => high = Some(low),
-            Some(before) => {
-                octets.push(before.wrapping_mul(16).wrapping_add(low))?;
-                high = None;
-            }
-        }
-    }
-    Ok(octets)
-}
+    "message 57 1700000000 0 7\nrecord 256 flowStartSeconds=1700000000 protocolIdentifier=6 \
+     octetDeltaCount=1500 packetDeltaCount=10\n";
 
 /// What `dump` writes of a File in hexadecimal, and behind it what it answers.
 fn dumped(alloc: Global, text: &str) -> Result<String, Fail> {
@@ -72,11 +47,13 @@ fn writes_messages_and_records(rt: HostRuntime) -> Result<(), Fail> {
 fn reads_both_spellings_of_a_length(rt: HostRuntime) -> Result<(), Fail> {
     let text = dumped(
         rt.alloc(),
-        "000A 0036 6553F100 00000000 00000007 | 0002 0010 012C 0002 0001 0004 00D2 FFFF | 012C 0016 00000064 03 AABBCC 00000064 FF 0003 AABBCC",
+        "000A 0036 6553F100 00000000 00000007 | 0002 0010 012C 0002 0001 0004 00D2 FFFF | 012C 0016 00000064 03 \
+         AABBCC 00000064 FF 0003 AABBCC",
     )?;
     assert_eq!(rt;
         text.as_str(),
-        "message 54 1700000000 0 7\nrecord 300 octetDeltaCount=100 paddingOctets=aabbcc\nrecord 300 octetDeltaCount=100 paddingOctets=aabbcc\n"
+        "message 54 1700000000 0 7\nrecord 300 octetDeltaCount=100 paddingOctets=aabbcc\nrecord 300 \
+         octetDeltaCount=100 paddingOctets=aabbcc\n"
     );
     Ok(())
 }
@@ -85,25 +62,33 @@ fn reads_both_spellings_of_a_length(rt: HostRuntime) -> Result<(), Fail> {
 fn tells_options_apart(rt: HostRuntime) -> Result<(), Fail> {
     let text = dumped(
         rt.alloc(),
-        "000A 0064 6553F100 00000000 00000007 | 0002 0038 | 0100 0006 0098 0008 0099 0008 0004 0001 0178 0008 0001 0008 0002 0008 | 0101 0005 0098 0008 0099 0008 0178 0008 0001 0008 0002 0008 | 0003 0012 0102 0002 0001 0091 0002 0180 0001 | 0102 000A 0100 01 0101 01",
+        "000A 0064 6553F100 00000000 00000007 | 0002 0038 | 0100 0006 0098 0008 0099 0008 0004 0001 0178 0008 \
+         0001 0008 0002 0008 | 0101 0005 0098 0008 0099 0008 0178 0008 0001 0008 0002 0008 | 0003 0012 0102 \
+         0002 0001 0091 0002 0180 0001 | 0102 000A 0100 01 0101 01",
     )?;
     assert_eq!(rt;
         text.as_str(),
-        "message 100 1700000000 0 7\noptions 258 templateId=256 valueDistributionMethod=1\noptions 258 templateId=257 valueDistributionMethod=1\n"
+        "message 100 1700000000 0 7\noptions 258 templateId=256 valueDistributionMethod=1\noptions 258 \
+         templateId=257 valueDistributionMethod=1\n"
     );
     Ok(())
 }
 
-/// Addresses, octets of length 0, elements of an enterprise (0 is one too), a listed one of another length, and one that isn't listed.
+/// Addresses, octets of length 0, elements of an enterprise (0 is one too), a listed one of another length, and one
+/// that isn't listed.
 #[test]
 fn writes_each_kind_of_value(rt: HostRuntime) -> Result<(), Fail> {
     let text = dumped(
         rt.alloc(),
-        "000A 0064 6553F100 00000000 00000007 | 0002 0030 0100 0008 0038 0006 0008 0004 001B 0010 00D2 FFFF 8001 0001 00000000 8001 0001 00007279 0004 0002 270F 0001 | 0100 0024 001B2C3D4E5F C0000201 20010DB8000000000000000000000001 00 07 FF 0006 2A",
+        "000A 0064 6553F100 00000000 00000007 | 0002 0030 0100 0008 0038 0006 0008 0004 001B 0010 00D2 FFFF \
+         8001 0001 00000000 8001 0001 00007279 0004 0002 270F 0001 | 0100 0024 001B2C3D4E5F C0000201 \
+         20010DB8000000000000000000000001 00 07 FF 0006 2A",
     )?;
     assert_eq!(rt;
         text.as_str(),
-        "message 100 1700000000 0 7\nrecord 256 sourceMacAddress=00:1b:2c:3d:4e:5f sourceIPv4Address=192.0.2.1 sourceIPv6Address=2001:0db8:0000:0000:0000:0000:0000:0001 paddingOctets= e0.1=07 e29305.1=ff protocolIdentifier=0006 e9999=2a\n"
+        "message 100 1700000000 0 7\nrecord 256 sourceMacAddress=00:1b:2c:3d:4e:5f sourceIPv4Address=192.0.2.1 \
+         sourceIPv6Address=2001:0db8:0000:0000:0000:0000:0000:0001 paddingOctets= e0.1=07 e29305.1=ff \
+         protocolIdentifier=0006 e9999=2a\n"
     );
     Ok(())
 }
@@ -134,7 +119,8 @@ fn keeps_the_lines_before_a_fault(rt: HostRuntime) -> Result<(), Fail> {
 fn follows_a_redefinition(rt: HostRuntime) -> Result<(), Fail> {
     let text = dumped(
         rt.alloc(),
-        "000A 0032 6553F100 00000000 00000007 | 0002 000C 0100 0001 0004 0001 | 0100 0005 06 | 0002 000C 0100 0001 0005 0001 | 0100 0005 06",
+        "000A 0032 6553F100 00000000 00000007 | 0002 000C 0100 0001 0004 0001 | 0100 0005 06 | 0002 000C 0100 \
+         0001 0005 0001 | 0100 0005 06",
     )?;
     assert_eq!(rt;
         text.as_str(),
@@ -143,15 +129,21 @@ fn follows_a_redefinition(rt: HostRuntime) -> Result<(), Fail> {
     Ok(())
 }
 
-/// More text than is held at a time.
-#[test]
-fn writes_long_text(rt: HostRuntime) -> Result<(), Fail> {
-    let alloc = rt.alloc();
+/// A message of 4,000 records.
+fn records(alloc: Global) -> Result<Vec<u8>, Fail> {
     let mut file = octets_of(
         alloc,
         "000A 0FC0 6553F100 00000000 00000007 | 0002 000C 0100 0001 0004 0001 | 0100 0FA4",
     )?;
     file.resize(4_032, 6)?;
+    Ok(file)
+}
+
+/// More text than is held at a time.
+#[test]
+fn writes_long_text(rt: HostRuntime) -> Result<(), Fail> {
+    let alloc = rt.alloc();
+    let file = records(alloc)?;
     let mut output = Vec::new(alloc);
     let answer = dump(alloc, &mut file.as_slice(), &mut output);
     let text = told(alloc, output.as_slice(), answer)?;
@@ -237,22 +229,74 @@ impl Read for Failing<'_> {
     }
 }
 
-/// The lines of the messages that were read are written, and a failed read stands in place of a cut.
+/// After each number of octets, exactly the lines of the messages whole in them are written, and a failed read stands
+/// in place of a cut.
 #[test]
 fn keeps_the_lines_before_a_failed_read(rt: HostRuntime) -> Result<(), Fail> {
     let alloc = rt.alloc();
-    for (behind, want) in [("", "31 Read"), ("000A", "31 Read")] {
-        let file = octets_of(alloc, format!(in alloc; "{PLAIN}{behind}")?.as_str())?;
+    let file = octets_of(alloc, format!(in alloc; "{PLAIN}{PLAIN}")?.as_str())?;
+    for count in 0..=file.len() {
         let mut input = Failing {
-            octets: file.as_slice(),
+            octets: &file[..count],
         };
         let mut output = Vec::new(alloc);
         let answer = dump(alloc, &mut input, &mut output);
         let text = told(alloc, output.as_slice(), answer)?;
-        assert_eq!(rt;
-            text.as_str(),
-            format!(in alloc; "{PLAIN_LINES}{want}")?.as_str()
-        );
+        let mut want = String::new(alloc);
+        for _ in 0..count / 57 {
+            want.push_str(PLAIN_LINES)?;
+        }
+        want.push_str("31 Read")?;
+        assert_eq!(rt; text.as_str(), want.as_str(), "{count} octets");
+    }
+    Ok(())
+}
+
+/// Takes all octets of a call, after as many interrupted calls: so many before the first, and so many before each later
+/// one.
+#[derive(Drop)]
+struct Interrupting {
+    left: u32,
+    later: u32,
+    taken: usize,
+}
+
+impl Write for Interrupting {
+    fn write(&mut self, octets: &[u8]) -> io::Result<usize> {
+        if self.left > 0 {
+            self.left -= 1;
+            return Err(io::Error::from(ErrorKind::Interrupted));
+        }
+        self.left = self.later;
+        self.taken = self.taken.wrapping_add(octets.len());
+        Ok(octets.len())
+    }
+
+    fn flush(&mut self) -> io::Result<()> {
+        Ok(())
+    }
+}
+
+/// The millionth interrupted call of a run ends it, over all of its writes: the text is written in two.
+#[test]
+fn bears_interrupted_writes(rt: HostRuntime) -> Result<(), Fail> {
+    let alloc = rt.alloc();
+    let file = records(alloc)?;
+    for (left, later, want) in [
+        (999_999, 0, ""),
+        (1_000_000, 0, "32 Write"),
+        (500_000, 499_999, ""),
+        (500_000, 500_000, "32 Write"),
+    ] {
+        let mut output = Interrupting {
+            left,
+            later,
+            taken: 0,
+        };
+        let answer = dump(alloc, &mut file.as_slice(), &mut output);
+        let text = told(alloc, [].as_slice(), answer)?;
+        assert_eq!(rt; text.as_str(), want, "{left} and {later}");
+        assert_eq!(rt; output.taken == 128_028, want.is_empty());
     }
     Ok(())
 }

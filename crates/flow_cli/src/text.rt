@@ -4,7 +4,9 @@ ghost use Rattle.std.specs.Prelude.{◌≡◌, ◌<◌, ◌∷◌, ◌++◌, map
 ghost use Rattle.std.specs.Fmt.{decimal};
 ghost use Rattle.std.specs.List.{join_with_byte};
 ghost use Rattle.flow_elements.specs.Values.{value_of};
-ghost use Rattle.flow_cli.specs.Lines.{hex, hex_digit, octets_text, pairs, value_text, number_text, name_text, field_text, start_text, message_line, key_text, protocol_text, sums_text, totals_line, totals_text};
+ghost use Rattle.flow_cli.specs.Lines.{hex, hex_digit, octets_text, pairs, value_text, number_text, name_text};
+ghost use Rattle.flow_cli.specs.Lines.{field_text, start_text, message_line, key_text, protocol_text, sums_text};
+ghost use Rattle.flow_cli.specs.Lines.{totals_line, totals_text};
 
 use flow_codec::Header;
 use flow_elements::{ElementId, Value, element_name, read_value};

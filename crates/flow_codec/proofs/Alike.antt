@@ -35,35 +35,51 @@ is_same_field a b = (option_eq nat_eq a.0.enterprise b.0.enterprise && nat_eq a.
 
 same_element : (a b : ElementId) → a.enterprise ≡ b.enterprise → a.number ≡ b.number → a ≡ b
 same_element a b enterprise number =
-    ap (λ (e : Option ℕ). record { enterprise = e; number = a.number }) enterprise ∙ ap (λ (n : ℕ). record { enterprise = b.enterprise; number = n }) number
+    ap (λ (e : Option ℕ). record { enterprise = e; number = a.number }) enterprise
+    ∙ ap (λ (n : ℕ). record { enterprise = b.enterprise; number = n }) number
 
 same_field : (a b : ElementId × ℕ) → Decides (is_same_field a b) (a ≡ b)
 same_field a b =
-    let d = both _ _ (both _ _ (same_enterprise a.0.enterprise b.0.enterprise) (Decides-eqb a.0.number b.0.number)) (Decides-eqb a.1 b.1) in (
-      (λ e. let h = d.0 e in ap (λ (x : ElementId). (x, a.1)) (same_element a.0 b.0 h.0.0 h.0.1) ∙ ap (λ (n : ℕ). (b.0, n)) h.1),
-      λ e. d.1 ((ap (λ (x : ElementId × ℕ). x.0.enterprise) e, ap (λ (x : ElementId × ℕ). x.0.number) e), ap (λ (x : ElementId × ℕ). x.1) e),
+    let d = both _ _ (both _ _ (same_enterprise a.0.enterprise b.0.enterprise) (Decides-eqb a.0.number b.0.number))
+    (Decides-eqb a.1 b.1) in (
+      (λ e. let h = d.0 e in ap (λ (x : ElementId). (x, a.1)) (same_element a.0 b.0 h.0.0 h.0.1)
+          ∙ ap (λ (n : ℕ). (b.0, n)) h.1),
+      λ e. d.1 (
+        (ap (λ (x : ElementId × ℕ). x.0.enterprise) e, ap (λ (x : ElementId × ℕ). x.0.number) e),
+        ap (λ (x : ElementId × ℕ). x.1) e,
+      ),
     )
 
-pub same_fields : (ones others : List (ElementId × ℕ)) (r : Bool) → r ≡ pointwise is_same_field ones others → Decides r (ones ≡ others)
+pub same_fields : (ones others : List (ElementId × ℕ)) (r : Bool) → r ≡ pointwise is_same_field ones others
+    → Decides r (ones ≡ others)
 same_fields = slice_eq-Decides same_field
 
-pub same_layout : (one other : Layout) (r : Bool) → one.options ≡ other.options → one.scope ≡ other.scope → r ≡ pointwise is_same_field one.fields other.fields → IsTrue r ↔ (one ≡ other)
+pub same_layout : (one other : Layout) (r : Bool) → one.options ≡ other.options → one.scope ≡ other.scope
+    → r ≡ pointwise is_same_field one.fields other.fields → IsTrue r ↔ (one ≡ other)
 same_layout one other r options scope is =
     let d = same_fields one.fields other.fields r is in (
-      (λ e. ap (λ (o : Bool). record { options = o; scope = one.scope; fields = one.fields }) options ∙ ap (λ (n : ℕ). record { options = other.options; scope = n; fields = one.fields }) scope
-          ∙ ap (λ (fs : List (ElementId × ℕ)). record { options = other.options; scope = other.scope; fields = fs }) (d.0 e)),
+      (λ e. ap (λ (o : Bool). record { options = o; scope = one.scope; fields = one.fields }) options
+          ∙ ap (λ (n : ℕ). record { options = other.options; scope = n; fields = one.fields }) scope
+          ∙ ap (λ (fs : List (ElementId × ℕ)). record { options = other.options; scope = other.scope; fields = fs })
+          (d.0 e)),
       λ e. d.1 (ap (λ (x : Layout). x.fields) e),
     )
 
 -- ---- a definition that is in force
 
-pub again_plain : (id : ℕ) (layout : Layout) (here : DomainTemplates) → found id here.templates ≡ Some layout → found id here.options ≡ None → changed Plain (Define id layout) here ≡ here
-again_plain id layout here own other = rw (insert-present id here.templates layout own, remove-absent id here.options other) refl
+pub again_plain : (id : ℕ) (layout : Layout) (here : DomainTemplates) → found id here.templates ≡ Some layout
+    → found id here.options ≡ None → changed Plain (Define id layout) here ≡ here
+again_plain id layout here own other =
+    rw (insert-present id here.templates layout own, remove-absent id here.options other) refl
 
-pub again_options : (id : ℕ) (layout : Layout) (here : DomainTemplates) → found id here.options ≡ Some layout → found id here.templates ≡ None → changed Options (Define id layout) here ≡ here
-again_options id layout here own other = rw (insert-present id here.options layout own, remove-absent id here.templates other) refl
+pub again_options : (id : ℕ) (layout : Layout) (here : DomainTemplates) → found id here.options ≡ Some layout
+    → found id here.templates ≡ None → changed Options (Define id layout) here ≡ here
+again_options id layout here own other =
+    rw (insert-present id here.options layout own, remove-absent id here.templates other) refl
 
-pub again : (domain : ℕ) (all : AllTemplates) (kind : TemplateKind) (change : TemplateRecord) (here : DomainTemplates) → AreTemplatesInForce all → found domain all ≡ Some here → changed kind change here ≡ here → applied domain kind change all ≡ all
-again domain all kind change here h is same =
-    let there : definitions_of domain all ≡ here = rw is refl in
-    ap (λ (g : DomainTemplates). with_domain domain (changed kind change g) all) there ∙ ap (λ (g : DomainTemplates). with_domain domain g all) (same ∙ sym there) ∙ unchanged domain all h
+pub again : (domain : ℕ) (all : AllTemplates) (kind : TemplateKind) (change : TemplateRecord) (here : DomainTemplates)
+    → AreTemplatesInForce all → here ≡ definitions_of domain all → changed kind change here ≡ here
+    → applied domain kind change all ≡ all
+again domain all kind change here h there same =
+    ap (λ (g : DomainTemplates). with_domain domain (changed kind change g) all) (sym there)
+    ∙ ap (λ (g : DomainTemplates). with_domain domain g all) (same ∙ there) ∙ unchanged domain all h

@@ -1,5 +1,6 @@
 -- Lists of entries under numbers: what is found after an insertion and after a removal.
-use Rattle.std.proofs.Common.{◌≡◌, ℕ, suc, ◌≤◌, true, false, cond, List, [], ◌∷◌, ◌++◌, length, Option, Some, None, refl, sym, ap, subst, ◌∙◌, arith, inl, inr}
+use Rattle.std.proofs.Common.{◌≡◌, ℕ, suc, ◌≤◌, true, false, cond, List, [], ◌∷◌, ◌++◌, length, Option, Some, None}
+use Rattle.std.proofs.Common.{refl, sym, ap, subst, ◌∙◌, arith, inl, inr}
 use Rattle.std.specs.Prelude.{nat_eq}
 use Rattle.std.specs.List.{AllByRecursion}
 use Rattle.std.specs.Map.{lookup}
@@ -78,7 +79,8 @@ module _ {V : Type 0} (k : ℕ) where
 
   -- ---- no number twice
 
-  pub found-insert-other : (q : ℕ) (es : List (ℕ × V)) (v : V) → nat_eq q k ≡ false → found q (with_entry es k v) ≡ found q es
+  pub found-insert-other : (q : ℕ) (es : List (ℕ × V)) (v : V) → nat_eq q k ≡ false
+      → found q (with_entry es k v) ≡ found q es
   found-insert-other q [] v apart = rw apart refl
   found-insert-other q (e ∷ es) v apart = elim (by_bool (nat_eq k e.0)) [
     | inl w ↦
@@ -155,16 +157,19 @@ module _ {V : Type 0} (k : ℕ) where
   ]
 
   -- an entry that goes to the end takes as much room as one in its place
-  pub length-move : (es : List (ℕ × V)) (v : V) → IsOnce es → length (with_entry (without k es) k v) ≡ length (with_entry es k v)
+  pub length-move : (es : List (ℕ × V)) (v : V) → IsOnce es
+      → length (with_entry (without k es) k v) ≡ length (with_entry es k v)
   length-move es v once = by (found k es) refl
     where
       by : (o : Option V) → found k es ≡ o → length (with_entry (without k es) k v) ≡ length (with_entry es k v)
       by None e = ap (λ (t : List (ℕ × V)). length (with_entry t k v)) (remove-absent es e)
-      by (Some u) e = length-insert (without k es) v (lookup-remove es once) ∙ length-take_out es u e ∙ sym (length-replace es u v e)
+      by (Some u) e = length-insert (without k es) v (lookup-remove es once) ∙ length-take_out es u e
+          ∙ sym (length-replace es u v e)
 
   -- ---- what holds of an entry that is found
 
-  pub holds-found : (P : ℕ × V → Type 0) (es : List (ℕ × V)) (v : V) → AllByRecursion P es → found k es ≡ Some v → P (k, v)
+  pub holds-found : (P : ℕ × V → Type 0) (es : List (ℕ × V)) (v : V) → AllByRecursion P es → found k es ≡ Some v
+      → P (k, v)
   holds-found P [] v all e = absurd cc
   holds-found P (x ∷ xs) v all e = elim (by_bool (nat_eq k x.0)) [
     | inl w ↦
@@ -176,7 +181,8 @@ module _ {V : Type 0} (k : ℕ) where
   ]
 
 -- an entry of two lists, one behind the other
-pub lookup_append : {V : Type 0} (k : ℕ) (es fs : List (ℕ × V)) → found k (es ++ fs) ≡ option_or (found k es) (found k fs)
+pub lookup_append : {V : Type 0} (k : ℕ) (es fs : List (ℕ × V))
+    → found k (es ++ fs) ≡ option_or (found k es) (found k fs)
 lookup_append k [] fs = refl
 lookup_append k (e ∷ es) fs = elim (by_bool (nat_eq k e.0)) [
   | inl w ↦ rw w refl

@@ -6,7 +6,8 @@ use Rattle.std.proofs.lemmas.Bool.{eqb-true}
 use Rattle.flow_codec.specs.declared.templates.DomainTemplates.{DomainTemplates}
 use Rattle.flow_codec.specs.Templates.{IsOnce, AreDefinitions}
 use Rattle.flow_codec.proofs.Steps.{by_bool}
-use Rattle.flow_codec.proofs.Entries.{same, without, found, with_entry, lookup-remove, found-insert-other, found-remove-none}
+use Rattle.flow_codec.proofs.Entries.{same, without, found, with_entry, lookup-remove, found-insert-other}
+use Rattle.flow_codec.proofs.Entries.{found-remove-none}
 
 -- ---- two lists
 
@@ -17,14 +18,16 @@ Apart xs ys = (key : ℕ) → (found key xs ≡ None) ⊎ (found key ys ≡ None
 pub apart_turned : {V : Type 0} (xs ys : List (ℕ × V)) → Apart xs ys → Apart ys xs
 apart_turned xs ys h key = elim (h key) [ inl a ↦ inr a | inr a ↦ inl a ]
 
-none_in : {V : Type 0} (key : ℕ) (xs ys : List (ℕ × V)) → found key (xs ++ ys) ≡ None → (found key xs ≡ None) × (found key ys ≡ None)
+none_in : {V : Type 0} (key : ℕ) (xs ys : List (ℕ × V)) → found key (xs ++ ys) ≡ None
+    → (found key xs ≡ None) × (found key ys ≡ None)
 none_in key [] ys none = (refl, none)
 none_in key (e ∷ xs) ys none = elim (by_bool (nat_eq key e.0)) [
   | inl w ↦ let h = rw w at none in absurd cc
   | inr w ↦ let h = rw w at none in let more = none_in key xs ys h in (rw w more.0, more.1)
 ]
 
-none_both : {V : Type 0} (key : ℕ) (xs ys : List (ℕ × V)) → found key xs ≡ None → found key ys ≡ None → found key (xs ++ ys) ≡ None
+none_both : {V : Type 0} (key : ℕ) (xs ys : List (ℕ × V)) → found key xs ≡ None → found key ys ≡ None
+    → found key (xs ++ ys) ≡ None
 none_both key [] ys a b = b
 none_both key (e ∷ xs) ys a b = elim (by_bool (nat_eq key e.0)) [
   | inl w ↦ let h = rw w at a in absurd cc
@@ -69,7 +72,8 @@ both_once (e ∷ xs) ys first second apart = (none_both e.0 xs ys first.0 head, 
     ]
 
 -- one list takes a key, and the other loses it
-pub apart_put : {V : Type 0} (key : ℕ) (value : V) (xs ys : List (ℕ × V)) → IsOnce ys → Apart xs ys → Apart (with_entry xs key value) (without key ys)
+pub apart_put : {V : Type 0} (key : ℕ) (value : V) (xs ys : List (ℕ × V)) → IsOnce ys → Apart xs ys
+    → Apart (with_entry xs key value) (without key ys)
 apart_put key value xs ys once apart other = elim (by_bool (nat_eq other key)) [
   | inl w ↦ inr (subst (λ (k : ℕ). found k (without key ys) ≡ None) (sym (eqb-true _ _ w)) (lookup-remove key ys once))
   | inr w ↦ elim (apart other) [
@@ -88,18 +92,25 @@ pub record InTwo (here : DomainTemplates) : Type 0 where
   pub apart : Apart here.templates here.options
 
 pub in_two : (here : DomainTemplates) → AreDefinitions here → InTwo here
-in_two here h = record { first = first_once here.templates here.options h.once; second = second_once here.templates here.options h.once; apart = are_apart here.templates here.options h.once }
+in_two here h = record {
+  first = first_once here.templates here.options h.once;
+  second =
+      second_once here.templates here.options h.once;
+  apart = are_apart here.templates here.options h.once;
+}
 
 -- ---- what holds of each entry
 
-pub all_left : {V : Type 0} (P : ℕ × V → Type 0) (key : ℕ) (es : List (ℕ × V)) → AllByRecursion P es → AllByRecursion P (without key es)
+pub all_left : {V : Type 0} (P : ℕ × V → Type 0) (key : ℕ) (es : List (ℕ × V)) → AllByRecursion P es
+    → AllByRecursion P (without key es)
 all_left P key [] h = tt
 all_left P key (e ∷ es) h = elim (by_bool (nat_eq key e.0)) [
   | inl w ↦ rw w h.1
   | inr w ↦ rw w (h.0, all_left P key es h.1)
 ]
 
-pub all_put : {V : Type 0} (P : ℕ × V → Type 0) (key : ℕ) (value : V) (es : List (ℕ × V)) → P (key, value) → AllByRecursion P es → AllByRecursion P (with_entry es key value)
+pub all_put : {V : Type 0} (P : ℕ × V → Type 0) (key : ℕ) (value : V) (es : List (ℕ × V)) → P (key, value)
+    → AllByRecursion P es → AllByRecursion P (with_entry es key value)
 all_put P key value [] new h = (new, tt)
 all_put P key value (e ∷ es) new h = elim (by_bool (nat_eq key e.0)) [
   | inl w ↦ rw w (subst (λ (k : ℕ). P (k, value)) (eqb-true _ _ w) new, h.1)

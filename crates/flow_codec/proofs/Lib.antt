@@ -32,7 +32,9 @@ pub mod Interpreting
 pub mod ChangeLaws
 pub mod Sizes
 pub mod SlotLaws
+pub mod OverlayLaws
 pub mod Dividing
 pub mod Fronts
 pub mod Streaming
 pub mod Following
+mod Files

@@ -1,5 +1,7 @@
 -- The steps of a plan, one field after the other.
-use Rattle.std.proofs.Common.{◌≡◌, ℕ, ◌+◌, ◌<◌, ◌≤◌, Bool, true, false, cond, eqb, List, [], ◌∷◌, ◌++◌, length, drop, get_or, Option, Some, None, refl, sym, ap, ◌∙◌, append_assoc, add_assoc, zero-add, drop-cons, add-one}
+use Rattle.std.proofs.Common.{◌≡◌, ℕ, ◌+◌, ◌<◌, ◌≤◌, Bool, true, false, cond, eqb, List, [], ◌∷◌, ◌++◌, length, drop}
+use Rattle.std.proofs.Common.{get_or, Option, Some, None, refl, sym, ap, ◌∙◌, append_assoc, add_assoc, zero-add}
+use Rattle.std.proofs.Common.{drop-cons, add-one}
 use Rattle.std.specs.Prelude.{unwrap_or}
 use Rattle.std.proofs.lemmas.List.{drop_all}
 use Rattle.flow_elements.specs.declared.element.ElementId.{ElementId}
@@ -29,11 +31,13 @@ merges a b (Skip more ∷ steps) = ap (λ (n : ℕ). Skip n ∷ steps) (add_asso
 merges a b (Fixed role len ∷ steps) = refl
 merges a b (Variable role ∷ steps) = refl
 
-opens : (gap : Option ℕ) (count : ℕ) (steps : List Step) → skipping (Some (unwrap_or gap 0 + count)) steps ≡ skipping gap (skipped count steps)
+opens : (gap : Option ℕ) (count : ℕ) (steps : List Step)
+    → skipping (Some (unwrap_or gap 0 + count)) steps ≡ skipping gap (skipped count steps)
 opens None count steps = ap (λ (n : ℕ). skipped n steps) (zero-add count)
 opens (Some n) count steps = merges n count steps
 
-closes : (gap : Option ℕ) (step : Step) (steps : List Step) → IsOther step → skipping gap (before_steps step steps) ≡ skip_of gap ++ step ∷ steps
+closes : (gap : Option ℕ) (step : Step) (steps : List Step) → IsOther step
+    → skipping gap (before_steps step steps) ≡ skip_of gap ++ step ∷ steps
 closes gap (Skip count) steps h = absurd h
 closes None (Fixed role len) steps h = refl
 closes (Some n) (Fixed role len) steps h = refl
@@ -59,28 +63,38 @@ skip_len id len count = by (eqb len 65535) (role_of id)
     by true role e = absurd cc
     by false role e = fixed role e
 
-module _ (fs : List (ElementId × ℕ)) (i : ℕ) (d : ElementId × ℕ) (steps : List Step) (gap : Option ℕ) (total : List Step) (so_far : steps ++ skipping gap (steps_of (drop i fs)) ≡ total) where
+module _ (fs : List (ElementId × ℕ)) (i : ℕ) (d : ElementId × ℕ) (steps : List Step) (gap : Option ℕ)
+    (total : List Step) (so_far : steps ++ skipping gap (steps_of (drop i fs)) ≡ total) where
   split : i < length fs → drop i fs ≡ get_or fs i d ∷ drop (i + 1) fs
   split lt = rw add-one (drop-cons fs i d lt)
 
-  one : i < length fs → steps_of (drop i fs) ≡ before_steps (step_of (get_or fs i d).0 (get_or fs i d).1) (steps_of (drop (i + 1) fs))
+  one : i < length fs → steps_of (drop i fs) ≡ before_steps (step_of (get_or fs i d).0 (get_or fs i d).1)
+      (steps_of (drop (i + 1) fs))
   unfolding steps_of
   one lt = rw (split lt) refl
 
-  pub skips : i < length fs → (count : ℕ) → step_of (get_or fs i d).0 (get_or fs i d).1 ≡ Skip count → (steps ++ skipping (Some (unwrap_or gap 0 + count)) (steps_of (drop (i + 1) fs)) ≡ total) × (count ≡ (get_or fs i d).1)
+  pub skips : i < length fs → (count : ℕ) → step_of (get_or fs i d).0 (get_or fs i d).1 ≡ Skip count
+      → (steps ++ skipping (Some (unwrap_or gap 0 + count)) (steps_of (drop (i + 1) fs)) ≡ total)
+      × (count ≡ (get_or fs i d).1)
   skips lt count is = (
-    ap (λ (ss : List Step). steps ++ ss) (opens gap count (steps_of (drop (i + 1) fs)) ∙ ap (λ (s : Step). skipping gap (before_steps s (steps_of (drop (i + 1) fs)))) (sym is) ∙ ap (skipping gap) (sym (one lt))) ∙ so_far,
+    ap (λ (ss : List Step). steps ++ ss) (opens gap count (steps_of (drop (i + 1) fs))
+        ∙ ap (λ (s : Step). skipping gap (before_steps s (steps_of (drop (i + 1) fs)))) (sym is)
+        ∙ ap (skipping gap) (sym (one lt))) ∙ so_far,
     skip_len (get_or fs i d).0 (get_or fs i d).1 count is,
   )
 
-  pub goes_on : i < length fs → (step : Step) → step_of (get_or fs i d).0 (get_or fs i d).1 ≡ step → IsOther step → ((steps ++ skip_of gap) ++ step ∷ []) ++ skipping None (steps_of (drop (i + 1) fs)) ≡ total
+  pub goes_on : i < length fs → (step : Step) → step_of (get_or fs i d).0 (get_or fs i d).1 ≡ step → IsOther step
+      → ((steps ++ skip_of gap) ++ step ∷ []) ++ skipping None (steps_of (drop (i + 1) fs)) ≡ total
   goes_on lt step is other =
       let more = steps_of (drop (i + 1) fs) in
-      let parts : ((steps ++ skip_of gap) ++ step ∷ []) ++ more ≡ steps ++ (skip_of gap ++ step ∷ more) = simp append_assoc in
-      parts ∙ ap (λ (ss : List Step). steps ++ ss) (sym (closes gap step more other) ∙ ap (λ (s : Step). skipping gap (before_steps s more)) (sym is) ∙ ap (skipping gap) (sym (one lt))) ∙ so_far
+      let parts : ((steps ++ skip_of gap) ++ step ∷ []) ++ more ≡ steps ++ (skip_of gap ++ step ∷ more) =
+      simp append_assoc in
+      parts ∙ ap (λ (ss : List Step). steps ++ ss) (sym (closes gap step more other)
+      ∙ ap (λ (s : Step). skipping gap (before_steps s more)) (sym is) ∙ ap (skipping gap) (sym (one lt))) ∙ so_far
 
   pub is_done : length fs ≤ i → steps ++ skip_of gap ≡ total
   unfolding steps_of
   is_done le =
       let none : drop i fs ≡ [] = drop_all i fs le in
-      ap (λ (ss : List Step). steps ++ ss) (sym (last gap) ∙ ap (λ (rest : List (ElementId × ℕ)). skipping gap (steps_of rest)) (sym none)) ∙ so_far
+      ap (λ (ss : List Step). steps ++ ss) (sym (last gap)
+      ∙ ap (λ (rest : List (ElementId × ℕ)). skipping gap (steps_of rest)) (sym none)) ∙ so_far

@@ -1,5 +1,6 @@
 -- The data records of a Set, one after the other.
-use Rattle.std.proofs.Common.{◌≡◌, ℕ, zero, suc, ◌+◌, ◌-◌, ◌<◌, ◌≤◌, true, false, ltb, eqb, List, [], ◌∷◌, ◌++◌, length, Result, Ok, Err, refl, sym, ap, ◌∙◌, append_assoc, arith}
+use Rattle.std.proofs.Common.{◌≡◌, ℕ, zero, suc, ◌+◌, ◌-◌, ◌<◌, ◌≤◌, true, false, ltb, eqb, List, [], ◌∷◌, ◌++◌, length}
+use Rattle.std.proofs.Common.{Result, Ok, Err, refl, sym, ap, ◌∙◌, append_assoc, arith}
 use Rattle.std.proofs.lemmas.Bool.{le-ltb, lt-ltb, ne_eqb}
 use Rattle.std.proofs.lemmas.List.{append-nil, length-append}
 use Rattle.flow_codec.specs.declared.error.MessageError.{MessageError}
@@ -13,7 +14,8 @@ use Rattle.flow_codec.proofs.Taking.{takes_none, takes_then, refused_then, refus
 abbrev pub with_records : List RawRecord → Result (List RawRecord) MessageError → Result (List RawRecord) MessageError
 with_records front read = read >>= λ x. Ok (front ++ x)
 
-regroup : (front : List RawRecord) (a : RawRecord) (read : Result (List RawRecord) MessageError) → with_records front (read >>= λ x. Ok (a ∷ x)) ≡ with_records (front ++ a ∷ []) read
+regroup : (front : List RawRecord) (a : RawRecord) (read : Result (List RawRecord) MessageError)
+    → with_records front (read >>= λ x. Ok (a ∷ x)) ≡ with_records (front ++ a ∷ []) read
 regroup front a (Ok x) = ap (λ (rs : List RawRecord). Ok rs) (simp append_assoc)
 regroup front a (Err f) = refl
 
@@ -27,7 +29,8 @@ no_records : (read : Result (List RawRecord) MessageError) → with_records [] r
 no_records (Ok x) = refl
 no_records (Err f) = refl
 
-module _ {S E : Type 0} (holds : S → List Placed → S → Type 0) (refuses : S → List Placed → Placed → E → Type 0) (header : Header) (old : S) (end id : ℕ) (definition : Layout) (octets : List ℕ) where
+module _ {S E : Type 0} (holds : S → List Placed → S → Type 0) (refuses : S → List Placed → Placed → E
+    → Type 0) (header : Header) (old : S) (end id : ℕ) (definition : Layout) (octets : List ℕ) where
   -- what the sink took of these octets
   abbrev pub Taken : S → List RawRecord → Type 0
   Taken now records = Took holds header old records now × (length records ≤ length octets)
@@ -52,11 +55,25 @@ module _ {S E : Type 0} (holds : S → List Placed → S → Type 0) (refuses : 
 
   pub starts : 0 < smallest definition → length octets ≤ end → GoesOn old octets
   unfolding records_of
-  starts some within = record { front = []; took = takes_none holds header old; few = omega arith; steps = length octets; enough = omega arith; within = within; some = some; same = rw (is_positive (smallest definition) some) (no_records (records_at (length octets) end id definition octets)) }
+  starts some within = record {
+    front = [];
+    took = takes_none holds header old;
+    few = omega arith;
+    steps =
+        length octets;
+    enough = omega arith;
+    within = within;
+    some = some;
+    same =
+        rw (is_positive (smallest definition) some) (no_records (records_at (length octets) end id definition octets));
+  }
 
   module _ (now : S) (rest : List ℕ) (h : GoesOn now rest) where
-    pub goes_on : (new : S) → smallest definition ≤ length rest → (whole after : List ℕ) → extent_at (end - length rest) definition.fields rest ≡ Ok (whole, after) → length whole + length after ≡ length rest → smallest definition ≤ length whole
-        → ((start : S) (taken : List Placed) → holds start taken now → holds start (taken ++ (header, raw id definition whole) ∷ []) new) → GoesOn new after
+    pub goes_on : (new : S) → smallest definition ≤ length rest → (whole after : List ℕ)
+        → extent_at (end - length rest) definition.fields rest ≡ Ok (whole, after)
+        → length whole + length after ≡ length rest → smallest definition ≤ length whole
+        → ((start : S) (taken : List Placed) → holds start taken now
+        → holds start (taken ++ (header, raw id definition whole) ∷ []) new) → GoesOn new after
     unfolding records_at
     goes_on new le whole after is parts long one =
         let more : 0 < h.steps = omega (arith, h.some, h.enough) in
@@ -71,25 +88,38 @@ module _ {S E : Type 0} (holds : S → List Placed → S → Type 0) (refuses : 
           same = sym (step h.steps more) ∙ h.same;
         }
       where
-        step : (n : ℕ) → 0 < n → with_records h.front (records_at n end id definition rest) ≡ with_records (h.front ++ raw id definition whole ∷ []) (records_at (n - 1) end id definition after)
+        step : (n : ℕ) → 0 < n
+            → with_records h.front (records_at n end id definition rest) ≡ with_records
+            (h.front ++ raw id definition whole ∷ []) (records_at (n - 1) end id definition after)
         step zero lt = absurd (omega arith)
         step (suc n) lt =
             let fits : ltb (length rest) (smallest definition) ≡ false = le-ltb _ _ le in
             let k : suc n - 1 ≡ n = omega arith in
             rw (fits, is, k) (regroup h.front (raw id definition whole) (records_at n end id definition after))
 
-    pub ends : smallest definition ≤ length rest → (e : MessageError) → Fails e (extent_at (end - length rest) definition.fields rest) → Fails e (records_of end id definition octets)
+    pub ends : smallest definition ≤ length rest → (e : MessageError)
+        → Fails e (extent_at (end - length rest) definition.fields rest) → Fails e (records_of end id definition octets)
     unfolding records_at
-    ends le e fails = Fails-of e (extent_at (end - length rest) definition.fields rest) (records_of end id definition octets) (λ fault is. sym h.same ∙ step h.steps (omega (arith, h.some, h.enough)) fault is) fails
+    ends le e fails = Fails-of e (extent_at (end - length rest) definition.fields rest)
+        (records_of end id definition octets) (λ fault is. sym h.same
+        ∙ step h.steps (omega (arith, h.some, h.enough)) fault is) fails
       where
-        step : (n : ℕ) → 0 < n → (fault : MessageError) → extent_at (end - length rest) definition.fields rest ≡ Err fault → with_records h.front (records_at n end id definition rest) ≡ Err fault
+        step : (n : ℕ) → 0 < n → (fault : MessageError)
+            → extent_at (end - length rest) definition.fields rest ≡ Err fault
+            → with_records h.front (records_at n end id definition rest) ≡ Err fault
         step zero lt fault is = absurd (omega arith)
         step (suc n) lt fault is =
             let fits : ltb (length rest) (smallest definition) ≡ false = le-ltb _ _ le in
             rw (fits, is) refl
 
-    pub is_refused : smallest definition ≤ length rest → (whole : List ℕ) (e : E) → ((start : S) (taken : List Placed) → holds start taken now → refuses start taken (header, raw id definition whole) e) → IsRefused holds refuses header old (length octets) e
-    is_refused le whole e why = refused_then holds header refuses old now h.front (length octets) 1 e h.took (refused_here holds header refuses now (raw id definition whole) 1 e (omega arith) why) (omega (arith, h.few, h.some))
+    pub is_refused : smallest definition ≤ length rest → (whole : List ℕ) (e : E)
+        → ((start : S) (taken : List Placed) → holds start taken now
+        → refuses start taken (header, raw id definition whole) e)
+        → IsRefused holds refuses header old (length octets) e
+    is_refused le whole e why =
+        refused_then holds header refuses old now h.front (length octets) 1 e h.took
+        (refused_here holds header refuses now (raw id definition whole) 1 e (omega arith) why)
+        (omega (arith, h.few, h.some))
 
     pub is_done : length rest < smallest definition → Answers now (records_of end id definition octets)
     unfolding records_at

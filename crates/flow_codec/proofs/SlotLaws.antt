@@ -1,5 +1,7 @@
 -- Entries in slots: where each is, and what a change of one slot changes.
-use Rattle.std.proofs.Common.{◌≡◌, ℕ, suc, ◌+◌, ◌<◌, Bool, true, false, cond, eqb, append_assoc, List, [], ◌∷◌, ◌++◌, length, set, get_or, drop, drop-cons, add-one, Option, Some, None, refl, sym, ap, subst, ◌∙◌, arith, inl, inr}
+use Rattle.std.proofs.Common.{◌≡◌, ℕ, suc, ◌+◌, ◌<◌, Bool, true, false, cond, eqb, append_assoc, List, [], ◌∷◌, ◌++◌}
+use Rattle.std.proofs.Common.{length, set, get_or, drop, drop-cons, add-one, Option, Some, None, refl, sym, ap, subst}
+use Rattle.std.proofs.Common.{◌∙◌, arith, inl, inr}
 use Rattle.std.specs.Prelude.{nat_eq, unwrap_or}
 use Rattle.std.specs.Option.{option_map}
 use Rattle.std.specs.List.{slice_get}
@@ -11,7 +13,8 @@ use Rattle.std.proofs.lemmas.Map.Made.{nil_from_lookup}
 use Rattle.std.proofs.lemmas.Bool.{eqb-true}
 use Rattle.std.proofs.lemmas.Option.{get_or_from_slice_get}
 use Rattle.flow_codec.specs.Templates.{IsOnce}
-use Rattle.flow_codec.specs.Slots.{standing, place_of, AreSlots}
+use Rattle.flow_codec.specs.declared.slot_table.SlotTable.{SlotTable}
+use Rattle.flow_codec.specs.Slots.{standing, place_of, AreSlots, HasRoom}
 use Rattle.flow_codec.proofs.Steps.{by_bool}
 use Rattle.std.proofs.lemmas.Bool.Decides.{nat_tests}
 use Rattle.flow_codec.proofs.Entries.{same, without, found, with_entry, once_insert, once_remove, remove-absent}
@@ -31,10 +34,12 @@ apart_back k q e = grind (arith, nat_tests)
 module _ {V : Type 0} (k : ℕ) where
   -- ---- what stands in a slot
 
-  slot_at : (ss : List (Option (ℕ × V))) (o : Option (ℕ × V)) (i j : ℕ) (v : V) → i ≡ suc j → slice_get ss j ≡ Some (Some (k, v)) → slice_get (o ∷ ss) i ≡ Some (Some (k, v))
+  slot_at : (ss : List (Option (ℕ × V))) (o : Option (ℕ × V)) (i j : ℕ) (v : V) → i ≡ suc j
+      → slice_get ss j ≡ Some (Some (k, v)) → slice_get (o ∷ ss) i ≡ Some (Some (k, v))
   slot_at ss o i j v e is = rw e is
 
-  pub found_at : (ss : List (Option (ℕ × V))) (i : ℕ) → place_of k ss ≡ Some i → (v : V) × (i < length ss) × (slice_get ss i ≡ Some (Some (k, v))) × (found k (standing ss) ≡ Some v)
+  pub found_at : (ss : List (Option (ℕ × V))) (i : ℕ) → place_of k ss ≡ Some i
+      → (v : V) × (i < length ss) × (slice_get ss i ≡ Some (Some (k, v))) × (found k (standing ss) ≡ Some v)
   found_at [] i e = absurd cc
   found_at (None ∷ ss) i e =
       let b = behind (place_of k ss) i e in
@@ -73,7 +78,8 @@ module _ {V : Type 0} (k : ℕ) where
 
   -- ---- an entry in the slot of another under its number
 
-  pub standing-replace : (ss : List (Option (ℕ × V))) (i : ℕ) (v : V) → place_of k ss ≡ Some i → standing (set ss i (Some (k, v))) ≡ with_entry (standing ss) k v
+  pub standing-replace : (ss : List (Option (ℕ × V))) (i : ℕ) (v : V) → place_of k ss ≡ Some i
+      → standing (set ss i (Some (k, v))) ≡ with_entry (standing ss) k v
   standing-replace [] i v e = absurd cc
   standing-replace (None ∷ ss) i v e =
       let b = behind (place_of k ss) i e in
@@ -90,7 +96,8 @@ module _ {V : Type 0} (k : ℕ) where
         rw (b.2, w) (ap (λ (t : List (ℕ × V)). x ∷ t) (standing-replace ss b.0 v b.1))
   ]
 
-  pub place-replace : (q : ℕ) (ss : List (Option (ℕ × V))) (i : ℕ) (v : V) → place_of k ss ≡ Some i → place_of q (set ss i (Some (k, v))) ≡ place_of q ss
+  pub place-replace : (q : ℕ) (ss : List (Option (ℕ × V))) (i : ℕ) (v : V) → place_of k ss ≡ Some i
+      → place_of q (set ss i (Some (k, v))) ≡ place_of q ss
   place-replace q [] i v e = absurd cc
   place-replace q (None ∷ ss) i v e =
       let b = behind (place_of k ss) i e in
@@ -109,15 +116,18 @@ module _ {V : Type 0} (k : ℕ) where
 
   -- ---- an entry in a new slot
 
-  pub standing-push : (ss : List (Option (ℕ × V))) (v : V) → place_of k ss ≡ None → standing (ss ++ Some (k, v) ∷ []) ≡ with_entry (standing ss) k v
+  pub standing-push : (ss : List (Option (ℕ × V))) (v : V) → place_of k ss ≡ None
+      → standing (ss ++ Some (k, v) ∷ []) ≡ with_entry (standing ss) k v
   standing-push [] v e = refl
   standing-push (None ∷ ss) v e = standing-push ss v (no_behind (place_of k ss) e)
   standing-push (Some x ∷ ss) v e = elim (by_bool (nat_eq k x.0)) [
     | inl w ↦ let is = rw w at e in absurd cc
-    | inr w ↦ let is = rw w at e in rw w (ap (λ (t : List (ℕ × V)). x ∷ t) (standing-push ss v (no_behind (place_of k ss) is)))
+    | inr w ↦ let is = rw w at e in
+        rw w (ap (λ (t : List (ℕ × V)). x ∷ t) (standing-push ss v (no_behind (place_of k ss) is)))
   ]
 
-  place-push-same : (ss : List (Option (ℕ × V))) (v : V) → place_of k ss ≡ None → place_of k (ss ++ Some (k, v) ∷ []) ≡ Some (length ss)
+  place-push-same : (ss : List (Option (ℕ × V))) (v : V) → place_of k ss ≡ None
+      → place_of k (ss ++ Some (k, v) ∷ []) ≡ Some (length ss)
   place-push-same [] v e = rw (same k) refl
   place-push-same (None ∷ ss) v e = rw (place-push-same ss v (no_behind (place_of k ss) e)) refl
   place-push-same (Some x ∷ ss) v e = elim (by_bool (nat_eq k x.0)) [
@@ -125,20 +135,25 @@ module _ {V : Type 0} (k : ℕ) where
     | inr w ↦ let is = rw w at e in rw (w, place-push-same ss v (no_behind (place_of k ss) is)) refl
   ]
 
-  place-push-other : (q : ℕ) (ss : List (Option (ℕ × V))) (v : V) → nat_eq q k ≡ false → place_of q (ss ++ Some (k, v) ∷ []) ≡ place_of q ss
+  place-push-other : (q : ℕ) (ss : List (Option (ℕ × V))) (v : V) → nat_eq q k ≡ false
+      → place_of q (ss ++ Some (k, v) ∷ []) ≡ place_of q ss
   place-push-other q [] v apart = rw apart refl
   place-push-other q (None ∷ ss) v apart = ap (option_map suc) (place-push-other q ss v apart)
-  place-push-other q (Some x ∷ ss) v apart = ap (λ (o : Option ℕ). cond (nat_eq q x.0) (Some 0) (option_map suc o)) (place-push-other q ss v apart)
+  place-push-other q (Some x ∷ ss) v apart =
+      ap (λ (o : Option ℕ). cond (nat_eq q x.0) (Some 0) (option_map suc o)) (place-push-other q ss v apart)
 
-  pub place-push : (q : ℕ) (ss : List (Option (ℕ × V))) (v : V) → place_of k ss ≡ None → place_of q (ss ++ Some (k, v) ∷ []) ≡ cond (nat_eq k q) (Some (length ss)) (place_of q ss)
+  pub place-push : (q : ℕ) (ss : List (Option (ℕ × V))) (v : V) → place_of k ss ≡ None
+      → place_of q (ss ++ Some (k, v) ∷ []) ≡ cond (nat_eq k q) (Some (length ss)) (place_of q ss)
   place-push q ss v e = elim (by_bool (nat_eq k q)) [
-    | inl w ↦ rw w (subst (λ (n : ℕ). place_of n (ss ++ Some (k, v) ∷ []) ≡ Some (length ss)) (eqb-true _ _ w) (place-push-same ss v e))
+    | inl w ↦ rw w (subst (λ (n : ℕ). place_of n (ss ++ Some (k, v) ∷ []) ≡ Some (length ss)) (eqb-true _ _ w)
+        (place-push-same ss v e))
     | inr w ↦ rw w (place-push-other q ss v (apart_back k q w))
   ]
 
   -- ---- a slot that is left empty
 
-  pub standing-take : (ss : List (Option (ℕ × V))) (i : ℕ) → place_of k ss ≡ Some i → standing (set ss i None) ≡ without k (standing ss)
+  pub standing-take : (ss : List (Option (ℕ × V))) (i : ℕ) → place_of k ss ≡ Some i
+      → standing (set ss i None) ≡ without k (standing ss)
   standing-take [] i e = absurd cc
   standing-take (None ∷ ss) i e =
       let b = behind (place_of k ss) i e in
@@ -154,7 +169,8 @@ module _ {V : Type 0} (k : ℕ) where
         rw (b.2, w) (ap (λ (t : List (ℕ × V)). x ∷ t) (standing-take ss b.0 b.1))
   ]
 
-  place-take-same : (ss : List (Option (ℕ × V))) (i : ℕ) → IsOnce (standing ss) → place_of k ss ≡ Some i → place_of k (set ss i None) ≡ None
+  place-take-same : (ss : List (Option (ℕ × V))) (i : ℕ) → IsOnce (standing ss) → place_of k ss ≡ Some i
+      → place_of k (set ss i None) ≡ None
   place-take-same [] i once e = absurd cc
   place-take-same (None ∷ ss) i once e =
       let b = behind (place_of k ss) i e in
@@ -172,7 +188,8 @@ module _ {V : Type 0} (k : ℕ) where
         rw (b.2, w, place-take-same ss b.0 once.1 b.1) refl
   ]
 
-  place-take-other : (q : ℕ) (ss : List (Option (ℕ × V))) (i : ℕ) → nat_eq q k ≡ false → place_of k ss ≡ Some i → place_of q (set ss i None) ≡ place_of q ss
+  place-take-other : (q : ℕ) (ss : List (Option (ℕ × V))) (i : ℕ) → nat_eq q k ≡ false → place_of k ss ≡ Some i
+      → place_of q (set ss i None) ≡ place_of q ss
   place-take-other q [] i apart e = absurd cc
   place-take-other q (None ∷ ss) i apart e =
       let b = behind (place_of k ss) i e in
@@ -187,10 +204,12 @@ module _ {V : Type 0} (k : ℕ) where
     | inr w ↦
         let is = rw w at e in
         let b = behind (place_of k ss) i is in
-        rw b.2 (ap (λ (o : Option ℕ). cond (nat_eq q x.0) (Some 0) (option_map suc o)) (place-take-other q ss b.0 apart b.1))
+        rw b.2 (ap (λ (o : Option ℕ). cond (nat_eq q x.0) (Some 0) (option_map suc o))
+        (place-take-other q ss b.0 apart b.1))
   ]
 
-  pub place-take : (q : ℕ) (ss : List (Option (ℕ × V))) (i : ℕ) → IsOnce (standing ss) → place_of k ss ≡ Some i → place_of q (set ss i None) ≡ cond (nat_eq k q) None (place_of q ss)
+  pub place-take : (q : ℕ) (ss : List (Option (ℕ × V))) (i : ℕ) → IsOnce (standing ss) → place_of k ss ≡ Some i
+      → place_of q (set ss i None) ≡ cond (nat_eq k q) None (place_of q ss)
   place-take q ss i once e = elim (by_bool (nat_eq k q)) [
     | inl w ↦ rw w (subst (λ (n : ℕ). place_of n (set ss i None) ≡ None) (eqb-true _ _ w) (place-take-same ss i once e))
     | inr w ↦ rw w (place-take-other q ss i (apart_back k q w) e)
@@ -207,7 +226,8 @@ module _ {V : Type 0} (k : ℕ) (ss : List (Option (ℕ × V))) (place new : ℕ
         places = λ q. h.places q ∙ sym (place-replace k q ss i v there);
       }
 
-  pub pushed : (v : V) → place k ≡ None → ((q : ℕ) → new q ≡ cond (nat_eq k q) (Some (length ss)) (place q)) → AreSlots (ss ++ Some (k, v) ∷ []) new
+  pub pushed : (v : V) → place k ≡ None → ((q : ℕ) → new q ≡ cond (nat_eq k q) (Some (length ss)) (place q))
+      → AreSlots (ss ++ Some (k, v) ∷ []) new
   pushed v e knows =
       let none : place_of k ss ≡ None = sym (h.places k) ∙ e in
       record {
@@ -215,7 +235,8 @@ module _ {V : Type 0} (k : ℕ) (ss : List (Option (ℕ × V))) (place new : ℕ
         places = λ q. knows q ∙ ap (cond (nat_eq k q) (Some (length ss))) (h.places q) ∙ sym (place-push k q ss v none);
       }
 
-  pub taken : (i : ℕ) → place k ≡ Some i → ((q : ℕ) → new q ≡ cond (nat_eq k q) None (place q)) → AreSlots (set ss i None) new
+  pub taken : (i : ℕ) → place k ≡ Some i → ((q : ℕ) → new q ≡ cond (nat_eq k q) None (place q))
+      → AreSlots (set ss i None) new
   taken i e knows =
       let there : place_of k ss ≡ Some i = sym (h.places k) ∙ e in
       record {
@@ -228,12 +249,14 @@ module _ {V : Type 0} (k : ℕ) (ss : List (Option (ℕ × V))) (place new : ℕ
   pub within : (i : ℕ) → place k ≡ Some i → i < length ss
   within i e = (found_at k ss i (sym (h.places k) ∙ e)).1
 
-  pub seen : (i : ℕ) → place k ≡ Some i → (o : Option (ℕ × V)) → o ≡ get_or ss i o → (v : V) × (o ≡ Some (k, v)) × (found k (standing ss) ≡ Some v)
+  pub seen : (i : ℕ) → place k ≡ Some i → (o : Option (ℕ × V)) → o ≡ get_or ss i o
+      → (v : V) × (o ≡ Some (k, v)) × (found k (standing ss) ≡ Some v)
   seen i e o is =
       let f = found_at k ss i (sym (h.places k) ∙ e) in
       (f.0, is ∙ get_or_from_slice_get ss i (Some (k, f.0)) o f.2, f.3)
 
-  pub seen-value : (i : ℕ) → place k ≡ Some i → (o : Option (ℕ × V)) (q : ℕ) (v : V) → o ≡ get_or ss i o → o ≡ Some (q, v) → found k (standing ss) ≡ Some v
+  pub seen-value : (i : ℕ) → place k ≡ Some i → (o : Option (ℕ × V)) (q : ℕ) (v : V) → o ≡ get_or ss i o
+      → o ≡ Some (q, v) → found k (standing ss) ≡ Some v
   seen-value i e o q v is some =
       let s = seen i e o is in
       let same_value : s.0 ≡ v = second s.0 (sym s.1 ∙ some) in
@@ -253,7 +276,8 @@ module _ {V : Type 0} (k : ℕ) (ss : List (Option (ℕ × V))) (place new : ℕ
   pub missing : place k ≡ None → found k (standing ss) ≡ None
   missing e = absent k ss (sym (h.places k) ∙ e)
 
-  pub standing-replaced : (i : ℕ) (v : V) → place k ≡ Some i → standing (set ss i (Some (k, v))) ≡ with_entry (standing ss) k v
+  pub standing-replaced : (i : ℕ) (v : V) → place k ≡ Some i
+      → standing (set ss i (Some (k, v))) ≡ with_entry (standing ss) k v
   standing-replaced i v e = standing-replace k ss i v (sym (h.places k) ∙ e)
 
   pub standing-pushed : (v : V) → place k ≡ None → standing (ss ++ Some (k, v) ∷ []) ≡ with_entry (standing ss) k v
@@ -276,12 +300,14 @@ module _ {V : Type 0} (k : ℕ) (ss : List (Option (ℕ × V))) (place new : ℕ
 
 -- ---- one slot after the other
 
-pub step-none : {V : Type 0} (ss : List (Option (ℕ × V))) (i : ℕ) (o : Option (ℕ × V)) → i < length ss → o ≡ get_or ss i o → o ≡ None → standing (drop i ss) ≡ standing (drop (i + 1) ss)
+pub step-none : {V : Type 0} (ss : List (Option (ℕ × V))) (i : ℕ) (o : Option (ℕ × V)) → i < length ss
+    → o ≡ get_or ss i o → o ≡ None → standing (drop i ss) ≡ standing (drop (i + 1) ss)
 step-none ss i o lt is none =
     let here : get_or ss i o ≡ None = sym is ∙ none in
     rw (add-one, drop-cons ss i o lt, here) refl
 
-pub step-some : {V : Type 0} (ss : List (Option (ℕ × V))) (i : ℕ) (o : Option (ℕ × V)) (e : ℕ × V) → i < length ss → o ≡ get_or ss i o → o ≡ Some e → standing (drop i ss) ≡ e ∷ standing (drop (i + 1) ss)
+pub step-some : {V : Type 0} (ss : List (Option (ℕ × V))) (i : ℕ) (o : Option (ℕ × V)) (e : ℕ × V) → i < length ss
+    → o ≡ get_or ss i o → o ≡ Some e → standing (drop i ss) ≡ e ∷ standing (drop (i + 1) ss)
 step-some ss i o e lt is some =
     let here : get_or ss i o ≡ Some e = sym is ∙ some in
     rw (add-one, drop-cons ss i o lt, here) refl
@@ -294,13 +320,15 @@ nothing-stands (Some x ∷ ss) h = let first = h x.0 in let is = rw (same x.0) a
 
 module _ {V : Type 0} where
   -- of a list with each number once, what stands before an entry has not its number
-  pub front-lacks : (front : List (ℕ × V)) (e : ℕ × V) (rest : List (ℕ × V)) → IsOnce (front ++ e ∷ rest) → found e.0 front ≡ None
+  pub front-lacks : (front : List (ℕ × V)) (e : ℕ × V) (rest : List (ℕ × V)) → IsOnce (front ++ e ∷ rest)
+      → found e.0 front ≡ None
   front-lacks [] e rest once = refl
   front-lacks (x ∷ front) e rest once = elim (by_bool (nat_eq e.0 x.0)) [
     | inl w ↦
         let here = once.0 in
         let key : x.0 ≡ e.0 = sym (eqb-true _ _ w) in
-        let none : found e.0 (front ++ e ∷ rest) ≡ None = subst (λ (n : ℕ). found n (front ++ e ∷ rest) ≡ None) key here in
+        let none : found e.0 (front ++ e ∷ rest) ≡ None =
+        subst (λ (n : ℕ). found n (front ++ e ∷ rest) ≡ None) key here in
         absurd (there front none)
     | inr w ↦ rw w (front-lacks front e rest once.1)
   ]
@@ -321,19 +349,26 @@ module _ {V : Type 0} where
   ]
 
   -- a copy of the entries of the slots so far, and of one more slot
-  pub copied-none : (copy whole : List (ℕ × V)) (ss : List (Option (ℕ × V))) (i : ℕ) (o : Option (ℕ × V)) → i < length ss → o ≡ get_or ss i o → o ≡ None → copy ++ standing (drop i ss) ≡ whole
+  pub copied-none : (copy whole : List (ℕ × V)) (ss : List (Option (ℕ × V))) (i : ℕ) (o : Option (ℕ × V))
+      → i < length ss → o ≡ get_or ss i o → o ≡ None → copy ++ standing (drop i ss) ≡ whole
       → copy ++ standing (drop (i + 1) ss) ≡ whole
-  copied-none copy whole ss i o lt is none so_far = ap (λ (t : List (ℕ × V)). copy ++ t) (sym (step-none ss i o lt is none)) ∙ so_far
+  copied-none copy whole ss i o lt is none so_far =
+      ap (λ (t : List (ℕ × V)). copy ++ t) (sym (step-none ss i o lt is none)) ∙ so_far
 
-  pub copied-some : (copy whole : List (ℕ × V)) (ss : List (Option (ℕ × V))) (i : ℕ) (o : Option (ℕ × V)) (e : ℕ × V) → i < length ss → o ≡ get_or ss i o → o ≡ Some e → IsOnce whole → copy ++ standing (drop i ss) ≡ whole
+  pub copied-some : (copy whole : List (ℕ × V)) (ss : List (Option (ℕ × V))) (i : ℕ) (o : Option (ℕ × V)) (e : ℕ × V)
+      → i < length ss → o ≡ get_or ss i o → o ≡ Some e → IsOnce whole → copy ++ standing (drop i ss) ≡ whole
       → with_entry copy e.0 e.1 ++ standing (drop (i + 1) ss) ≡ whole
   copied-some copy whole ss i o e lt is some once so_far =
-      let parts : copy ++ (e ∷ standing (drop (i + 1) ss)) ≡ whole = ap (λ (t : List (ℕ × V)). copy ++ t) (sym (step-some ss i o e lt is some)) ∙ so_far in
-      let none : found e.0 copy ≡ None = front-lacks copy e (standing (drop (i + 1) ss)) (subst IsOnce (sym parts) once) in
+      let parts : copy ++ (e ∷ standing (drop (i + 1) ss)) ≡ whole =
+      ap (λ (t : List (ℕ × V)). copy ++ t) (sym (step-some ss i o e lt is some)) ∙ so_far in
+      let none : found e.0 copy ≡ None =
+      front-lacks copy e (standing (drop (i + 1) ss)) (subst IsOnce (sym parts) once) in
       rw (insert-absent copy e.0 e.1 none, append_assoc) parts
 
 -- the list is empty exactly where the map of the places is
-pub empty-is : {V : Type 0} (ss : List (Option (ℕ × V))) (es : List (ℕ × ℕ)) (b : Bool) → AreSlots ss (λ q. lookup (nat_eq q) es) → (IsTrue b → length es ≡ 0) × (length es ≡ 0 → IsTrue b) → b ≡ eqb (length (standing ss)) 0
+pub empty-is : {V : Type 0} (ss : List (Option (ℕ × V))) (es : List (ℕ × ℕ)) (b : Bool)
+    → AreSlots ss (λ q. lookup (nat_eq q) es) → (IsTrue b → length es ≡ 0) × (length es ≡ 0 → IsTrue b)
+    → b ≡ eqb (length (standing ss)) 0
 empty-is ss es true h t =
     let none : es ≡ [] = nil_from_length es (t.0 refl) in
     let nothing = nothing-stands ss (λ q. sym (h.places q) ∙ ap (lookup (nat_eq q)) none) in
@@ -341,10 +376,15 @@ empty-is ss es true h t =
 empty-is ss es false h t = elim (by_bool (eqb (length (standing ss)) 0)) [
   | inl w ↦
       let nothing : standing ss ≡ [] = nil_from_length (standing ss) (eqb-true _ _ w) in
-      let none : es ≡ [] = nil_from_lookup nat_eq_equiv es (λ q. h.places q ∙ no_place q ss (ap (lookup (nat_eq q)) nothing)) in
+      let none : es ≡ [] = nil_from_lookup nat_eq_equiv es (λ q. h.places q
+      ∙ no_place q ss (ap (lookup (nat_eq q)) nothing)) in
       absurd (differs (t.1 (ap length none)))
   | inr w ↦ sym w
 ]
   where
     differs : IsTrue false → ⊥
     differs e = cc
+
+-- room for one definition more is room
+pub less_room : (n : ℕ) (table : SlotTable) → HasRoom (suc n) table → HasRoom n table
+less_room n table h = record { slots = omega (arith, h.slots); places = omega (arith, h.places) }

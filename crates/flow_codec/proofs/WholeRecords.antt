@@ -1,5 +1,6 @@
 -- The whole record in front of octets.
-use Rattle.std.proofs.Common.{◌≡◌, ℕ, ◌+◌, ◌-◌, ◌≤◌, List, [], ◌∷◌, length, take, drop, get_or, Result, Ok, Err, Bor, sym, ap, arith}
+use Rattle.std.proofs.Common.{◌≡◌, ℕ, ◌+◌, ◌-◌, ◌≤◌, List, [], ◌∷◌, length, take, drop, get_or, Result, Ok, Err, Bor}
+use Rattle.std.proofs.Common.{sym, ap, arith}
 use Rattle.std.specs.Prelude.{IfOk}
 use Rattle.std.proofs.lemmas.List.{take_all, length-append}
 use Rattle.flow_codec.specs.declared.error.MessageError.{MessageError}
@@ -12,8 +13,10 @@ use Rattle.flow_codec.proofs.FieldLaws.{extent_takes, extent_long}
 abbrev pub seen : Bor (List ℕ) × Bor (List ℕ) → List ℕ × List ℕ
 seen x = (x.0.now, x.1.now)
 
-pub whole_of : (at : ℕ) (layout : Layout) (octets : List ℕ) (r : Result (Bor (List ℕ) × Bor (List ℕ)) MessageError) → IsBytes octets → Gives seen r (extent_at at layout.fields octets)
-    → IfOk r (λ x. IsWhole layout x.0.now × (length x.0.now + length x.1.now ≡ length octets) × (smallest layout ≤ length x.0.now))
+pub whole_of : (at : ℕ) (layout : Layout) (octets : List ℕ) (r : Result (Bor (List ℕ) × Bor (List ℕ)) MessageError)
+    → IsBytes octets → Gives seen r (extent_at at layout.fields octets)
+    → IfOk r (λ x. IsWhole layout x.0.now × (length x.0.now + length x.1.now ≡ length octets)
+    × (smallest layout ≤ length x.0.now))
 whole_of at layout octets (Ok x) fits e =
     let t = extent_takes at layout.fields octets (seen x) fits e in
     (t.1, omega (arith, ap length t.0, length-append x.0.now x.1.now), extent_long layout.fields x.0.now t.1.0 t.1.1)

@@ -31,7 +31,8 @@ abbrev pub IsFileFault : ℕ → List ℕ → FileError → Type 0
 IsFileFault at rest fault =
     ((0 < length rest) × (length rest < 16) × (fault ≡ Cut at))
     ⊎ ((16 ≤ length rest) × IsHeaderRefused at rest fault)
-    ⊎ ((16 ≤ length rest) × (version_of rest ≡ 10) × (16 ≤ length_of rest) × (length rest < length_of rest) × (fault ≡ Cut at))
+    ⊎ ((16 ≤ length rest) × (version_of rest ≡ 10) × (16 ≤ length_of rest) × (length rest < length_of rest)
+    × (fault ≡ Cut at))
 
 -- the places and lengths of these messages, the first at `at`
 abbrev pub spans_from : ℕ → List (List ℕ) → List Span
@@ -53,6 +54,8 @@ pub record HasOneDivision (octets : List ℕ) : Type 0 where
   pub rest : List ℕ
   pub divided : IsDivided octets parts rest
   pub last : IsLast (length (joined parts)) rest
-  pub alone : (others : List (List ℕ)) → (left : List ℕ) → IsDivided octets others left → IsLast (length (joined others)) left → (others ≡ parts) × (left ≡ rest)
-  pub one_fault : (a : FileError) → (b : FileError) → IsFileFault (length (joined parts)) rest a → IsFileFault (length (joined parts)) rest b → a ≡ b
+  pub alone : (others : List (List ℕ)) → (left : List ℕ) → IsDivided octets others left
+      → IsLast (length (joined others)) left → (others ≡ parts) × (left ≡ rest)
+  pub one_fault : (a : FileError) → (b : FileError) → IsFileFault (length (joined parts)) rest a
+      → IsFileFault (length (joined parts)) rest b → a ≡ b
   pub no_fault : (a : FileError) → rest ≡ [] → IsFileFault (length (joined parts)) rest a → ⊥

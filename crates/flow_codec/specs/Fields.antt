@@ -1,5 +1,6 @@
 -- The fields of a data record (RFC 7011, sections 3.4.3 and 7).
-use Rattle.std.specs.Prelude.{◌≡◌, ◌≢◌, ◌⊎◌, ℕ, ◌<◌, ◌^◌, List, [], ◌∷◌, ◌++◌, length, take, drop, nat_lt, ◌==◌, if◌then◌else◌}
+use Rattle.std.specs.Prelude.{◌≡◌, ◌≢◌, ◌⊎◌, ℕ, ◌<◌, ◌^◌, List, [], ◌∷◌, ◌++◌, length, take, drop, nat_lt, ◌==◌}
+use Rattle.std.specs.Prelude.{if◌then◌else◌}
 use Rattle.std.specs.Int.{w16, from_be_bytes, to_be_bytes}
 use Rattle.flow_elements.specs.declared.element.ElementId.{ElementId}
 use Rattle.flow_codec.specs.declared.message.Field.{Field}
@@ -18,7 +19,8 @@ abbrev pub AreFields : List (ElementId × ℕ) → List ℕ → List Field → T
 AreFields [] octets [] = octets ≡ []
 AreFields [] octets (x ∷ xs) = ⊥
 AreFields (f ∷ fs) octets [] = ⊥
-AreFields (f ∷ fs) octets (x ∷ xs) = (first : List ℕ) × (more : List ℕ) × (octets ≡ first ++ more) × (x.id ≡ f.0) × IsField f.1 first x.octets × AreFields fs more xs
+AreFields (f ∷ fs) octets (x ∷ xs) = (first : List ℕ) × (more : List ℕ) × (octets ≡ first ++ more) × (x.id ≡ f.0)
+    × IsField f.1 first x.octets × AreFields fs more xs
 
 -- ---- as a function of the octets of a whole record
 

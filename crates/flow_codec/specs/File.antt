@@ -13,7 +13,8 @@ abbrev pub AreMessages : AllTemplates → List (List ℕ) → List RawMessage �
 AreMessages before [] [] after = after ≡ before
 AreMessages before [] (m ∷ ms) after = ⊥
 AreMessages before (o ∷ os) [] after = ⊥
-AreMessages before (o ∷ os) (m ∷ ms) after = (next : AllTemplates) × IsCutOff o × IsMessage o before m next × AreMessages next os ms after
+AreMessages before (o ∷ os) (m ∷ ms) after = (next : AllTemplates) × IsCutOff o × IsMessage o before m next
+    × AreMessages next os ms after
 
 pub record IsFile (octets : List ℕ) (messages : List RawMessage) (after : AllTemplates) : Type 0 where
   pub parts : List (List ℕ)
@@ -25,7 +26,8 @@ abbrev pub AreAccepted : AllTemplates → List (List ℕ) → List RawMessage �
 AreAccepted before [] [] after = after ≡ before
 AreAccepted before [] (m ∷ ms) after = ⊥
 AreAccepted before (o ∷ os) [] after = ⊥
-AreAccepted before (o ∷ os) (m ∷ ms) after = (next : AllTemplates) × IsCutOff o × IsAccepted o before m next × AreAccepted next os ms after
+AreAccepted before (o ∷ os) (m ∷ ms) after = (next : AllTemplates) × IsCutOff o × IsAccepted o before m next
+    × AreAccepted next os ms after
 
 -- what stands behind the accepted front of a File: nothing, a fault of the File, or a message that is refused
 pub data Ending : Type 0 where
@@ -36,10 +38,12 @@ pub data Ending : Type 0 where
 abbrev pub EndsIn : AllTemplates → ℕ → List ℕ → Ending → Type 0
 EndsIn here at rest whole = rest ≡ []
 EndsIn here at rest (broken fault) = IsFileFault at rest fault
-EndsIn here at rest (refused fault) = (message : List ℕ) × (more : List ℕ) × (rest ≡ message ++ more) × IsCutOff message × IsFault message here fault
+EndsIn here at rest (refused fault) = (message : List ℕ) × (more : List ℕ) × (rest ≡ message ++ more)
+    × IsCutOff message × IsFault message here fault
 
 -- messages that are accepted in turn from these templates on, and what ends them; the first octet has the place `at`
-pub record AcceptedFrom (before : AllTemplates) (at : ℕ) (octets : List ℕ) (messages : List RawMessage) (after : AllTemplates) (ending : Ending) : Type 0 where
+pub record AcceptedFrom (before : AllTemplates) (at : ℕ) (octets : List ℕ) (messages : List RawMessage)
+    (after : AllTemplates) (ending : Ending) : Type 0 where
   pub parts : List (List ℕ)
   pub rest : List ℕ
   pub divided : octets ≡ joined parts ++ rest
@@ -56,4 +60,5 @@ pub record HasOneFront (before : AllTemplates) (at : ℕ) (octets : List ℕ) : 
   pub after : AllTemplates
   pub ending : Ending
   pub found : AcceptedFrom before at octets messages after ending
-  pub alone : (others : List RawMessage) → (then : AllTemplates) → (other : Ending) → AcceptedFrom before at octets others then other → (others ≡ messages) × (then ≡ after) × (other ≡ ending)
+  pub alone : (others : List RawMessage) → (then : AllTemplates) → (other : Ending)
+      → AcceptedFrom before at octets others then other → (others ≡ messages) × (then ≡ after) × (other ≡ ending)

@@ -1,12 +1,14 @@
 -- Definitions: what the records of one template ID hold (RFC 7011, sections 3.2 and 3.4).
-use Rattle.std.specs.Prelude.{◌≡◌, ℕ, ◌+◌, ◌<◌, ◌≤◌, ◌^◌, Bool, true, false, List, ◌++◌, Option, Some, None, IfSome, length, sum_by, ◌==◌, if◌then◌else◌}
+use Rattle.std.specs.Prelude.{◌≡◌, ℕ, ◌+◌, ◌<◌, ◌≤◌, ◌^◌, Bool, true, false, List, ◌++◌, Option, Some, None, IfSome}
+use Rattle.std.specs.Prelude.{length, sum_by, ◌==◌, if◌then◌else◌}
 use Rattle.std.specs.List.{flat_map, AllByRecursion}
 use Rattle.std.specs.Int.{w16, w32, to_be_bytes}
 use Rattle.flow_elements.specs.declared.element.ElementId.{ElementId}
 use Rattle.flow_codec.specs.declared.kind.TemplateKind.{TemplateKind}
 use Rattle.flow_codec.specs.declared.kind.TemplateKind.TheVariants.{Plain, Options}
 
--- whether it is an Options Template, its count of scope fields (0 in a Template), and each field's element and Field Length
+-- whether it is an Options Template, its count of scope fields (0 in a Template), and each field's element and Field
+-- Length
 pub record Layout : Type 0 where
   pub options : Bool
   pub scope : ℕ
@@ -23,7 +25,8 @@ pub record IsSpecifier (f : ElementId × ℕ) : Type 0 where
 -- the enterprise bit is set exactly where an enterprise number follows
 abbrev pub specifier_of : Option ℕ → ℕ → ℕ → List ℕ
 specifier_of None number len = to_be_bytes w16 number ++ to_be_bytes w16 len
-specifier_of (Some enterprise) number len = to_be_bytes w16 (number + 32768) ++ to_be_bytes w16 len ++ to_be_bytes w32 enterprise
+specifier_of (Some enterprise) number len =
+    to_be_bytes w16 (number + 32768) ++ to_be_bytes w16 len ++ to_be_bytes w32 enterprise
 
 abbrev pub specifier : ElementId × ℕ → List ℕ
 specifier f = specifier_of f.0.enterprise f.0.number f.1

@@ -1,9 +1,11 @@
 pub mod Layout
+pub mod Entries
 pub mod Templates
 pub mod Working
 pub mod Fields
 pub mod Raw
 pub mod Plan
+pub mod Parts
 pub mod Message
 pub mod Fault
 pub mod Reading
@@ -13,3 +15,4 @@ pub mod Slots
 pub mod Cutting
 pub mod File
 pub mod Stream
+pub mod Printed

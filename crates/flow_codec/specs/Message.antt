@@ -1,5 +1,6 @@
 -- Which octets are a message (RFC 7011, section 3): by whole divisions, and not by reading.
-use Rattle.std.specs.Prelude.{◌≡◌, ◌≢◌, ℕ, ◌+◌, ◌<◌, ◌≤◌, ◌^◌, ◌⊎◌, List, [], ◌∷◌, ◌++◌, length, Option, Some, None, map, Result, Ok, Err}
+use Rattle.std.specs.Prelude.{◌≡◌, ◌≢◌, ℕ, ◌+◌, ◌<◌, ◌≤◌, ◌^◌, ◌⊎◌, List, [], ◌∷◌, ◌++◌, length, Option, Some, None}
+use Rattle.std.specs.Prelude.{map, Result, Ok, Err}
 use Rattle.std.specs.List.{flat_map}
 use Rattle.std.specs.Int.{w16, w32, to_be_bytes}
 use Rattle.flow_codec.specs.declared.error.MessageError.{MessageError}
@@ -10,7 +11,8 @@ use Rattle.flow_codec.specs.declared.message.Header.{Header}
 use Rattle.flow_codec.specs.declared.message.Message.{Message}
 use Rattle.flow_codec.specs.declared.message.DataRecord.{DataRecord}
 use Rattle.flow_codec.specs.Layout.{Layout, smallest, set_id}
-use Rattle.flow_codec.specs.Templates.{AllTemplates, applied, definition_of, definitions_of, template, IsTemplateRecord, IsWithin}
+use Rattle.flow_codec.specs.Templates.{AllTemplates, applied, definition_of, definitions_of, template, IsTemplateRecord}
+use Rattle.flow_codec.specs.Templates.{IsWithin}
 use Rattle.flow_codec.specs.Fields.{fields_in}
 use Rattle.flow_codec.specs.Raw.{RawRecord, RawMessage, raw, IsWhole}
 
@@ -21,7 +23,8 @@ abbrev pub AreRecords : ℕ → Layout → List (List ℕ) → List RawRecord �
 AreRecords id layout [] [] = Unit {0}
 AreRecords id layout [] (x ∷ xs) = ⊥
 AreRecords id layout (r ∷ rs) [] = ⊥
-AreRecords id layout (r ∷ rs) (x ∷ xs) = (0 < smallest layout) × (x ≡ raw id layout r) × IsWhole layout r × AreRecords id layout rs xs
+AreRecords id layout (r ∷ rs) (x ∷ xs) = (0 < smallest layout) × (x ≡ raw id layout r) × IsWhole layout r
+    × AreRecords id layout rs xs
 
 -- fewer octets than the smallest record has
 abbrev pub IsPadding : Layout → List ℕ → Type 0
@@ -33,7 +36,8 @@ IsPadding layout rest = (smallest layout ≡ 0) ⊎ (length rest < smallest layo
 abbrev pub AreTemplates : ℕ → TemplateKind → AllTemplates → List (List ℕ) → AllTemplates → Type 0
 AreTemplates domain kind before [] after = after ≡ before
 AreTemplates domain kind before (r ∷ rs) after =
-    (change : TemplateRecord) × IsTemplateRecord kind change × (r ≡ template kind change) × AreTemplates domain kind (applied domain kind change before) rs after
+    (change : TemplateRecord) × IsTemplateRecord kind change × (r ≡ template kind change)
+    × AreTemplates domain kind (applied domain kind change before) rs after
 
 -- where a Set of template records ends: fewer than 4 octets are left, or the next ID is 0
 abbrev pub IsEnd : List ℕ → Type 0
@@ -62,23 +66,28 @@ IsData id None set records = (set.records ≡ []) × (records ≡ [])
 IsData id (Some layout) set records = AreRecords id layout set.records records × IsPadding layout set.rest
 
 -- by the Set's ID
-pub record IsSet (domain : ℕ) (before : AllTemplates) (set : Division) (records : List RawRecord) (after : AllTemplates) : Type 0 where
+pub record IsSet (domain : ℕ) (before : AllTemplates) (set : Division) (records : List RawRecord)
+    (after : AllTemplates) : Type 0 where
   pub id : set.id < 2 ^ 16
   pub fits : 4 + length (content set) < 2 ^ 16
-  pub templates : (kind : TemplateKind) → set.id ≡ set_id kind → (records ≡ []) × AreTemplates domain kind before set.records after × IsEnd set.rest
+  pub templates : (kind : TemplateKind) → set.id ≡ set_id kind
+      → (records ≡ []) × AreTemplates domain kind before set.records after × IsEnd set.rest
   pub other : set.id ≢ 2 → set.id ≢ 3 → set.id < 256 → (records ≡ []) × (set.records ≡ []) × (after ≡ before)
-  pub «data» : 256 ≤ set.id → IsData set.id (definition_of set.id (definitions_of domain before)) set records × (after ≡ before)
+  pub «data» : 256 ≤ set.id → IsData set.id (definition_of set.id (definitions_of domain before)) set records
+      × (after ≡ before)
 
 -- Sets one after the other, each under the templates of those before
 abbrev pub AreSets : ℕ → AllTemplates → List Division → List RawRecord → AllTemplates → Type 0
 AreSets domain before [] records after = (records ≡ []) × (after ≡ before)
 AreSets domain before (s ∷ ss) records after =
-    (first : List RawRecord) × (others : List RawRecord) × (next : AllTemplates) × IsSet domain before s first next × AreSets domain next ss others after × (records ≡ first ++ others)
+    (first : List RawRecord) × (others : List RawRecord) × (next : AllTemplates) × IsSet domain before s first next
+    × AreSets domain next ss others after × (records ≡ first ++ others)
 
 -- ---- the message
 
 abbrev pub header_octets : Header → List ℕ
-header_octets h = to_be_bytes w16 10 ++ to_be_bytes w16 h.length ++ to_be_bytes w32 h.time ++ to_be_bytes w32 h.sequence ++ to_be_bytes w32 h.domain
+header_octets h = to_be_bytes w16 10 ++ to_be_bytes w16 h.length ++ to_be_bytes w32 h.time ++ to_be_bytes w32
+    h.sequence ++ to_be_bytes w32 h.domain
 
 pub record HeaderFits (h : Header) : Type 0 where
   pub len : h.length < 2 ^ 16
@@ -87,7 +96,8 @@ pub record HeaderFits (h : Header) : Type 0 where
   pub domain : h.domain < 2 ^ 32
 
 -- the octets begin with this header, whose Length is theirs, and these Sets, and `tail` follows at the place `at`
-pub record Front (octets : List ℕ) (before : AllTemplates) (header : Header) (records : List RawRecord) (here : AllTemplates) (at : ℕ) (tail : List ℕ) : Type 0 where
+pub record Front (octets : List ℕ) (before : AllTemplates) (header : Header) (records : List RawRecord)
+    (here : AllTemplates) (at : ℕ) (tail : List ℕ) : Type 0 where
   pub sets : List Division
   pub parts : octets ≡ header_octets header ++ flat_map set_octets sets ++ tail
   pub len : header.length ≡ length octets

@@ -1,5 +1,6 @@
 -- What a definition's plan tells of each record before it is read.
-use Rattle.std.specs.Prelude.{ℕ, ◌+◌, Bool, List, [], ◌∷◌, ◌++◌, length, take, drop, Option, Some, None, ◌&&◌, ◌==◌, nat_le, nat_lt, sum_by, if◌then◌else◌}
+use Rattle.std.specs.Prelude.{ℕ, ◌+◌, Bool, List, [], ◌∷◌, ◌++◌, length, take, drop, Option, Some, None, ◌&&◌, ◌==◌}
+use Rattle.std.specs.Prelude.{nat_le, nat_lt, sum_by, if◌then◌else◌}
 use Rattle.std.specs.List.{flat_map, list_all}
 use Rattle.std.specs.Option.{is_none}
 use Rattle.flow_elements.specs.declared.element.ElementId.{ElementId}
@@ -41,7 +42,8 @@ is_counted role len = nat_le (least_of role) len && nat_le len (most_of role)
 -- the role of an element, by IANA's numbers alone
 abbrev pub role_of : ElementId → Option Role
 role_of id = if is_none id.enterprise then (
-    if id.number == 1 then Some Octets else if id.number == 2 then Some Packets else if id.number == 4 then Some Protocol else
+    if id.number == 1 then Some Octets else if id.number == 2 then Some Packets else if id.number ==
+    4 then Some Protocol else
     if id.number == 150 then Some Seconds else if id.number == 152 then Some Milliseconds else None) else None
 
 -- a field's value, where it counts
@@ -86,7 +88,12 @@ steps_of [] = []
 steps_of (f ∷ fs) = before_steps (step_of f.0 f.1) (steps_of fs)
 
 abbrev pub plan_of : List (ElementId × ℕ) → Plan
-plan_of fields = record { smallest = sum_by (λ f. least f.1) fields; is_fixed = list_all (λ f. nat_lt f.1 65535) fields; steps = steps_of fields }
+plan_of fields = record {
+  smallest = sum_by (λ f. least f.1) fields;
+  is_fixed =
+      list_all (λ f. nat_lt f.1 65535) fields;
+  steps = steps_of fields;
+}
 
 -- ---- what the steps tell of a record
 
@@ -94,4 +101,5 @@ unfoldable pub values_by : List Step → List ℕ → List (Role × List ℕ)
 values_by [] octets = []
 values_by (Skip count ∷ steps) octets = values_by steps (drop count octets)
 values_by (Fixed role count ∷ steps) octets = (role, take count octets) ∷ values_by steps (drop count octets)
-values_by (Variable role ∷ steps) octets = counting role (value_of 65535 octets).0 ++ values_by steps (value_of 65535 octets).1
+values_by (Variable role ∷ steps) octets =
+    counting role (value_of 65535 octets).0 ++ values_by steps (value_of 65535 octets).1

@@ -29,6 +29,8 @@ Placed = Header × RawRecord
 abbrev pub under : Header → List RawRecord → List Placed
 under header records = map (λ r. (header, r)) records
 
--- A sink took these records of a message: whatever it had taken before, from some state on, it has taken them behind it.
+-- A sink took these records of a message: whatever it had taken before, from some state on, it has taken them behind
+-- it.
 abbrev pub Took : {S : Type 0} → (S → List Placed → S → Type 0) → Header → S → List RawRecord → S → Type 0
-Took {S} holds header old records new = (start : S) (before : List Placed) → holds start before old → holds start (before ++ under header records) new
+Took {S} holds header old records new = (start : S) (before : List Placed) → holds start before old
+    → holds start (before ++ under header records) new

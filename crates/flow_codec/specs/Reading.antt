@@ -1,9 +1,12 @@
 -- Reading octets from left to right, with the first fault that is met.
-use Rattle.std.specs.Prelude.{◌≡◌, ℕ, zero, suc, List, [], ◌∷◌, ◌++◌, length, take, drop, Option, Some, None, Result, Ok, Err, nat_lt, ◌==◌, ◌||◌, ◌&&◌, ◌-◌, ◌<◌, if◌then◌else◌, Bool}
+use Rattle.std.specs.Prelude.{◌≡◌, ℕ, zero, suc, List, [], ◌∷◌, ◌++◌, length, take, drop, Option, Some, None, Result}
+use Rattle.std.specs.Prelude.{Ok, Err, nat_lt, ◌==◌, ◌||◌, ◌&&◌, ◌-◌, ◌<◌, if◌then◌else◌, Bool}
 use Rattle.std.specs.Int.{Width, w16, w32, byte_len, from_be_bytes}
 use Rattle.flow_elements.specs.declared.element.ElementId.{ElementId}
 use Rattle.flow_codec.specs.declared.error.MessageError.{MessageError}
-use Rattle.flow_codec.specs.declared.error.MessageError.TheVariants.{Short, Version, Length, SetLength, TemplateCut, TemplateId, ScopeCount, RecordCut, TemplatesFull, DomainsFull, OutOfMemory}
+use Rattle.flow_codec.specs.declared.error.MessageError.TheVariants.{Short, Version, Length, SetLength, TemplateCut}
+use Rattle.flow_codec.specs.declared.error.MessageError.TheVariants.{TemplateId, ScopeCount, RecordCut, TemplatesFull}
+use Rattle.flow_codec.specs.declared.error.MessageError.TheVariants.{DomainsFull, OutOfMemory}
 use Rattle.flow_codec.specs.declared.sink.WalkError.{WalkError}
 use Rattle.flow_codec.specs.declared.sink.WalkError.TheVariants.{Message, Sink}
 use Rattle.flow_codec.specs.declared.kind.TemplateKind.{TemplateKind}
@@ -42,24 +45,34 @@ Gives view (Ok x) read = read ≡ Ok (view x)
 Gives view (Err e) read = Fails e read
 
 -- A sink refused a record, behind fewer than `most` records of this message that it took.
-abbrev pub IsRefused : {S E : Type 0} → (S → List Placed → S → Type 0) → (S → List Placed → Placed → E → Type 0) → Header → S → ℕ → E → Type 0
+abbrev pub IsRefused : {S E : Type 0} → (S → List Placed → S → Type 0) → (S → List Placed → Placed → E → Type 0)
+    → Header → S → ℕ → E → Type 0
 IsRefused {S} holds refuses header old most e =
-    (front : List RawRecord) × (r : RawRecord) × (length front < most) × ((start : S) (taken : List Placed) → holds start taken old → refuses start (taken ++ under header front) (header, r) e)
+    (front : List RawRecord) × (r : RawRecord) × (length front < most)
+    × ((start : S) (taken : List Placed) → holds start taken old
+    → refuses start (taken ++ under header front) (header, r) e)
 
 -- A function that hands the records to a sink: the sink took those that reading gives, or refused one.
-abbrev pub Feeds : {X Y E : Type 0} → (List RawRecord → Type 0) → (E → Type 0) → (X → Y) → Result X (WalkError E) → Result (List RawRecord × Y) MessageError → Type 0
+abbrev pub Feeds : {X Y E : Type 0} → (List RawRecord → Type 0) → (E → Type 0) → (X → Y) → Result X (WalkError E)
+    → Result (List RawRecord × Y) MessageError → Type 0
 Feeds took refused view (Ok x) read = (records : List RawRecord) × (read ≡ Ok (records, view x)) × took records
 Feeds took refused view (Err (Message e)) read = Fails e read
 Feeds took refused view (Err (Sink e)) read = refused e
 
-abbrev pub FeedsAlone : {X E : Type 0} → (List RawRecord → Type 0) → (E → Type 0) → Result X (WalkError E) → Result (List RawRecord) MessageError → Type 0
+abbrev pub FeedsAlone : {X E : Type 0} → (List RawRecord → Type 0) → (E → Type 0) → Result X (WalkError E)
+    → Result (List RawRecord) MessageError → Type 0
 FeedsAlone took refused (Ok x) read = (records : List RawRecord) × (read ≡ Ok records) × took records
 FeedsAlone took refused (Err (Message e)) read = Fails e read
 FeedsAlone took refused (Err (Sink e)) read = refused e
 
--- The call answered, seen by view, the header of the message that reading gives and the templates after it, and the sink took its records.
-abbrev pub IsWalked : {S X E : Type 0} → (S → List Placed → S → Type 0) → (Header → E → Type 0) → (X → Header × AllTemplates) → S → S → Result X (WalkError E) → Result (RawMessage × AllTemplates) MessageError → Type 0
-IsWalked holds refused view old new (Ok x) read = (records : List RawRecord) × (read ≡ Ok (record { header = (view x).0; records = records }, (view x).1)) × Took holds (view x).0 old records new
+-- The call answered, seen by view, the header of the message that reading gives and the templates after it, and the
+-- sink took its records.
+abbrev pub IsWalked : {S X E : Type 0} → (S → List Placed → S → Type 0) → (Header → E → Type 0)
+    → (X → Header × AllTemplates) → S → S → Result X (WalkError E) → Result (RawMessage × AllTemplates) MessageError
+    → Type 0
+IsWalked holds refused view old new (Ok x) read =
+    (records : List RawRecord) × (read ≡ Ok (record { header = (view x).0; records = records }, (view x).1))
+    × Took holds (view x).0 old records new
 IsWalked holds refused view old new (Err (Message e)) read = Fails e read
 IsWalked holds refused view old new (Err (Sink e)) read = (header : Header) × refused header e
 
@@ -67,13 +80,18 @@ IsWalked holds refused view old new (Err (Sink e)) read = (header : Header) × r
 
 -- A number is a value and the octets after it; `cut` is the fault where the octets end first.
 abbrev pub number_at : MessageError → Width → List ℕ → Result (ℕ × List ℕ) MessageError
-number_at cut w octets = if nat_lt (length octets) (byte_len w) then Err cut else Ok (from_be_bytes w (take (byte_len w) octets), drop (byte_len w) octets)
+number_at cut w octets =
+    if nat_lt (length octets) (byte_len w) then Err cut else Ok (
+      from_be_bytes w (take (byte_len w) octets),
+      drop (byte_len w) octets,
+    )
 
 -- ---- data records
 
 -- a field of fixed length in the record at `at`
 abbrev pub octets_at : ℕ → ℕ → List ℕ → Result (List ℕ × List ℕ) MessageError
-octets_at at len octets = if nat_lt (length octets) len then Err (RecordCut at) else Ok (take len octets, drop len octets)
+octets_at at len octets =
+    if nat_lt (length octets) len then Err (RecordCut at) else Ok (take len octets, drop len octets)
 
 -- the octets in front, with more of them before
 abbrev pub behind : List ℕ → Result (List ℕ × List ℕ) MessageError → Result (List ℕ × List ℕ) MessageError
@@ -106,15 +124,17 @@ records_at (suc n) end id layout octets = if nat_lt (length octets) (smallest la
   Ok (raw id layout whole.0 ∷ others)
 
 unfoldable pub records_of : ℕ → ℕ → Layout → List ℕ → Result (List RawRecord) MessageError
-records_of end id layout octets = if smallest layout == 0 then Ok [] else records_at (length octets) end id layout octets
+records_of end id layout octets = if smallest layout ==
+    0 then Ok [] else records_at (length octets) end id layout octets
 
 -- ---- template records
 
 -- behind an element's number and its Field Length, an enterprise number where the bit says so
 abbrev pub element_at : ℕ → ℕ → ℕ → List ℕ → Result ((ElementId × ℕ) × List ℕ) MessageError
-element_at at number len octets = if nat_lt number 32768 then Ok ((record { enterprise = None; number = number }, len), octets) else do
-  enterprise ← number_at (TemplateCut at) w32 octets
-  Ok ((record { enterprise = Some enterprise.0; number = number - 32768 }, len), enterprise.1)
+element_at at number len octets =
+    if nat_lt number 32768 then Ok ((record { enterprise = None; number = number }, len), octets) else do
+      enterprise ← number_at (TemplateCut at) w32 octets
+      Ok ((record { enterprise = Some enterprise.0; number = number - 32768 }, len), enterprise.1)
 
 unfoldable pub specifier_at : ℕ → List ℕ → Result ((ElementId × ℕ) × List ℕ) MessageError
 specifier_at at octets = do
@@ -132,7 +152,8 @@ specifiers_at at (suc n) octets = do
 -- a Scope Field Count, which Options Templates alone have
 abbrev pub scope_at : TemplateKind → ℕ → ℕ → List ℕ → Result (ℕ × List ℕ) MessageError
 scope_at Plain at count octets = Ok (0, octets)
-scope_at Options at count octets = number_at (TemplateCut at) w16 octets >>= λ scope. if scope.0 == 0 || nat_lt count scope.0 then Err (ScopeCount at) else Ok scope
+scope_at Options at count octets = number_at (TemplateCut at) w16 octets >>= λ scope. if scope.0 ==
+    0 || nat_lt count scope.0 then Err (ScopeCount at) else Ok scope
 
 -- behind the ID and the Field Count of a definition
 abbrev pub definition_at : TemplateKind → ℕ → ℕ → ℕ → List ℕ → Result (TemplateRecord × List ℕ) MessageError
@@ -178,10 +199,13 @@ kind_of id = if id == 2 then Some Plain else if id == 3 then Some Options else N
 -- what stands in a Set that ends at `end` and has this ID
 abbrev pub other_at : ℕ → ℕ → ℕ → AllTemplates → List ℕ → Result (List RawRecord × AllTemplates) MessageError
 other_at end domain id all octets =
-    if nat_lt id 256 then Ok ([], all) else (data_at end id (definition_of id (definitions_of domain all)) octets >>= λ records. Ok (records, all))
+    if nat_lt id 256 then Ok ([], all) else (data_at end id (definition_of id (definitions_of domain all)) octets >>=
+    λ records. Ok (records, all))
 
-abbrev pub content_by : Option TemplateKind → ℕ → ℕ → ℕ → AllTemplates → List ℕ → Result (List RawRecord × AllTemplates) MessageError
-content_by (Some kind) end domain id all octets = templates_at (length octets) end domain kind all octets >>= λ after. Ok ([], after)
+abbrev pub content_by : Option TemplateKind → ℕ → ℕ → ℕ → AllTemplates → List ℕ
+    → Result (List RawRecord × AllTemplates) MessageError
+content_by (Some kind) end domain id all octets = templates_at (length octets) end domain kind all octets >>=
+    λ after. Ok ([], after)
 content_by None end domain id all octets = other_at end domain id all octets
 
 unfoldable pub content_at : ℕ → ℕ → ℕ → AllTemplates → List ℕ → Result (List RawRecord × AllTemplates) MessageError
@@ -192,7 +216,11 @@ unfoldable pub set_at : ℕ → List ℕ → Result (ℕ × List ℕ × List ℕ
 set_at at octets = do
   id ← number_at (SetLength at) w16 octets
   len ← number_at (SetLength at) w16 id.1
-  if nat_lt len.0 4 || nat_lt (length octets) len.0 then Err (SetLength at) else Ok (id.0, take (len.0 - 4) len.1, drop (len.0 - 4) len.1)
+  if nat_lt len.0 4 || nat_lt (length octets) len.0 then Err (SetLength at) else Ok (
+    id.0,
+    take (len.0 - 4) len.1,
+    drop (len.0 - 4) len.1,
+  )
 
 unfoldable pub sets_at : ℕ → ℕ → ℕ → AllTemplates → List ℕ → Result (List RawRecord × AllTemplates) MessageError
 sets_at zero end domain all octets = Ok ([], all)
@@ -213,7 +241,8 @@ behind_length octets len rest = if len == length octets then (do
   Ok (record { length = len; time = time.0; sequence = sequence.0; domain = domain.0 }, domain.1)) else Err Length
 
 abbrev pub behind_version : List ℕ → ℕ → List ℕ → Result (Header × List ℕ) MessageError
-behind_version octets version rest = if version == 10 then (number_at Short w16 rest >>= λ len. behind_length octets len.0 len.1) else Err Version
+behind_version octets version rest = if version ==
+    10 then (number_at Short w16 rest >>= λ len. behind_length octets len.0 len.1) else Err Version
 
 unfoldable pub header_at : List ℕ → Result (Header × List ℕ) MessageError
 header_at octets = if nat_lt (length octets) 16 then Err Short else do
@@ -223,7 +252,8 @@ header_at octets = if nat_lt (length octets) 16 then Err Short else do
 -- a message whose templates keep to their limits
 abbrev pub limited : RawMessage → AllTemplates → Result (RawMessage × AllTemplates) MessageError
 limited message after =
-    if nat_lt 60000 (domain_size (definitions_of message.header.domain after)) then Err (TemplatesFull message.header.domain) else
+    if nat_lt 60000 (domain_size (definitions_of message.header.domain after)) then Err
+    (TemplatesFull message.header.domain) else
     if nat_lt 64 (length after) then Err DomainsFull else Ok (message, after)
 
 -- the whole message without its limits, and the templates after it

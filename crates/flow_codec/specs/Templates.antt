@@ -1,5 +1,7 @@
 -- The templates in force, as lists of domains and of definitions, and what a template record changes.
-use Rattle.std.specs.Prelude.{◌≡◌, ℕ, ◌+◌, ◌<◌, ◌≤◌, ◌^◌, List, [], ◌∷◌, ◌++◌, Option, Some, None, nat_eq, unwrap_or, Bool, false, not, ◌&&◌, ◌==◌, length, sum_by, if◌then◌else◌}
+pub use Rattle.flow_codec.specs.Entries.{IsOnce, entries_size}
+use Rattle.std.specs.Prelude.{◌≡◌, ℕ, ◌+◌, ◌<◌, ◌≤◌, ◌^◌, List, [], ◌++◌, Option, Some, None, nat_eq, unwrap_or}
+use Rattle.std.specs.Prelude.{Bool, false, not, ◌&&◌, ◌==◌, length, if◌then◌else◌}
 use Rattle.std.specs.List.{AllByRecursion}
 use Rattle.std.specs.Int.{w16, to_be_bytes}
 use Rattle.std.specs.Map.{lookup}
@@ -9,7 +11,7 @@ use Rattle.flow_codec.specs.declared.kind.TemplateKind.TheVariants.{Plain, Optio
 use Rattle.flow_codec.specs.declared.templates.DomainTemplates.{DomainTemplates}
 use Rattle.flow_codec.specs.declared.templates.TemplateRecord.{TemplateRecord}
 use Rattle.flow_codec.specs.declared.templates.TemplateRecord.TheVariants.{Define, Withdraw, WithdrawAll}
-use Rattle.flow_codec.specs.Layout.{Layout, IsLayout, set_id, specifiers, definition_size}
+use Rattle.flow_codec.specs.Layout.{Layout, IsLayout, set_id, specifiers}
 
 -- the domains in order, each with its definitions
 abbrev pub AllTemplates : Type 0
@@ -37,10 +39,12 @@ without id entries = shift_remove_entry (nat_eq id) entries
 -- A new ID goes to the end of its list; one that is in it is redefined in its place; the other kind's is taken out.
 -- A withdrawal takes out a definition of its own kind, where there is one.
 abbrev pub changed : TemplateKind → TemplateRecord → DomainTemplates → DomainTemplates
-changed Plain (Define id layout) here = record { templates = insert_entry nat_eq here.templates id layout; options = without id here.options }
+changed Plain (Define id layout) here =
+    record { templates = insert_entry nat_eq here.templates id layout; options = without id here.options }
 changed Plain (Withdraw id) here = record { templates = without id here.templates; options = here.options }
 changed Plain WithdrawAll here = record { templates = []; options = here.options }
-changed Options (Define id layout) here = record { templates = without id here.templates; options = insert_entry nat_eq here.options id layout }
+changed Options (Define id layout) here =
+    record { templates = without id here.templates; options = insert_entry nat_eq here.options id layout }
 changed Options (Withdraw id) here = record { templates = here.templates; options = without id here.options }
 changed Options WithdrawAll here = record { templates = here.templates; options = [] }
 
@@ -56,7 +60,8 @@ unless_own kind (Some layout) = if is_own kind layout then None else Some layout
 
 -- A domain without definitions leaves the list at once; one with its first goes to the end.
 abbrev pub with_domain : ℕ → DomainTemplates → AllTemplates → AllTemplates
-with_domain domain here all = if is_empty here then shift_remove_entry (nat_eq domain) all else insert_entry nat_eq all domain here
+with_domain domain here all =
+    if is_empty here then shift_remove_entry (nat_eq domain) all else insert_entry nat_eq all domain here
 
 -- one template record, in its place
 abbrev pub applied : ℕ → TemplateKind → TemplateRecord → AllTemplates → AllTemplates
@@ -69,7 +74,8 @@ scope_octets Plain layout = []
 scope_octets Options layout = to_be_bytes w16 layout.scope
 
 abbrev pub template : TemplateKind → TemplateRecord → List ℕ
-template kind (Define id layout) = to_be_bytes w16 id ++ to_be_bytes w16 (length layout.fields) ++ scope_octets kind layout ++ specifiers layout.fields
+template kind (Define id layout) =
+    to_be_bytes w16 id ++ to_be_bytes w16 (length layout.fields) ++ scope_octets kind layout ++ specifiers layout.fields
 template kind (Withdraw id) = to_be_bytes w16 id ++ to_be_bytes w16 0
 template kind WithdrawAll = to_be_bytes w16 (set_id kind) ++ to_be_bytes w16 0
 
@@ -85,9 +91,6 @@ IsTemplateRecord kind WithdrawAll = Unit {0}
 
 -- ---- limits, and what holds of the templates after every message
 
-abbrev pub entries_size : List (ℕ × Layout) → ℕ
-entries_size entries = sum_by (λ e. definition_size e.1) entries
-
 -- the octets of all template records in force in a domain
 abbrev pub domain_size : DomainTemplates → ℕ
 domain_size here = entries_size here.templates + entries_size here.options
@@ -96,11 +99,6 @@ domain_size here = entries_size here.templates + entries_size here.options
 pub record IsWithin (domain : ℕ) (all : AllTemplates) : Type 0 where
   pub size : domain_size (definitions_of domain all) ≤ 60000
   pub domains : length all ≤ 64
-
--- no key is there twice
-abbrev pub IsOnce : {V : Type 0} → List (ℕ × V) → Type 0
-IsOnce [] = Unit {0}
-IsOnce (e ∷ es) = (lookup (nat_eq e.0) es ≡ None) × IsOnce es
 
 pub record IsEntry (kind : TemplateKind) (entry : ℕ × Layout) : Type 0 where
   pub id : IsTemplateId entry.0

@@ -1,14 +1,53 @@
--- What is in force while a message is read: the templates from before it, or those with its domain's definitions put back.
-use Rattle.std.specs.Prelude.{ℕ, Bool, Option, Some, None, nat_eq, if◌then◌else◌}
+-- What is in force while a message is read: the templates from before it, with what it changed in its own domain.
+use Rattle.std.specs.Prelude.{◌≡◌, ℕ, ◌+◌, ◌*◌, ◌≤◌, ◌^◌, Bool, List, Option, Some, None, nat_eq, length, unwrap_or, ⊤}
+use Rattle.std.specs.Prelude.{if◌then◌else◌}
+use Rattle.std.specs.HashMap.{get}
+use Rattle.std.specs.Map.{lookup}
 use Rattle.indexmap.specs.IndexMap.{shift_remove_entry}
+use Rattle.flow_codec.specs.declared.overlay.Overlay.{Overlay}
 use Rattle.flow_codec.specs.declared.templates.DomainTemplates.{DomainTemplates}
 use Rattle.flow_codec.specs.declared.working.Changed.{Changed}
-use Rattle.flow_codec.specs.Templates.{AllTemplates, with_domain}
+use Rattle.flow_codec.specs.Layout.{Layout}
+use Rattle.flow_codec.specs.Slots.{made, started}
+use Rattle.flow_codec.specs.Entries.{IsOnce, entries_size}
+use Rattle.flow_codec.specs.Templates.{AllTemplates, definitions_of, with_domain}
 
 -- the domain's definitions in their place, or at the end where the domain once was without any
 abbrev pub put_back : ℕ → Bool → DomainTemplates → AllTemplates → AllTemplates
-put_back domain left here all = if left then with_domain domain here (shift_remove_entry (nat_eq domain) all) else with_domain domain here all
+put_back domain left here all =
+    if left then with_domain domain here (shift_remove_entry (nat_eq domain) all) else with_domain domain here all
+
+-- ---- one list of definitions
+
+-- the list with the changes of a message
+abbrev pub overlaid : List (ℕ × Layout) → Overlay → List (ℕ × Layout)
+overlaid base o = made (started o.cleared base) o.log.items
+
+-- What is told of the changes is right: the last change of each ID, and the octets of all template records after them.
+pub record IsOver (base : List (ℕ × Layout)) (o : Overlay) : Type 0 where
+  pub once : IsOnce (overlaid base o)
+  pub found : (id : ℕ) → lookup (nat_eq id) (overlaid base o) ≡ unwrap_or (get nat_eq o.own id)
+      (lookup (nat_eq id) (started o.cleared base))
+  pub size : o.size ≡ entries_size (overlaid base o)
+  pub bound : o.size ≤ 2 ^ 64 + 2 ^ 20 * length o.log.items
+
+-- ---- the message's own domain
+
+abbrev pub changed_in : DomainTemplates → Changed → DomainTemplates
+changed_in here c = record {
+  templates = overlaid here.templates c.templates;
+  options =
+      overlaid here.options c.options;
+}
 
 abbrev pub current : ℕ → AllTemplates → Option Changed → AllTemplates
 current domain before None = before
-current domain before (Some c) = put_back domain c.left c.here before
+current domain before (Some c) = put_back domain c.left (changed_in (definitions_of domain before) c) before
+
+pub record AreOver (here : DomainTemplates) (c : Changed) : Type 0 where
+  pub templates : IsOver here.templates c.templates
+  pub options : IsOver here.options c.options
+
+abbrev pub AreChanges : ℕ → AllTemplates → Option Changed → Type 0
+AreChanges domain before None = ⊤
+AreChanges domain before (Some c) = AreOver (definitions_of domain before) c

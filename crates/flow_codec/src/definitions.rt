@@ -1,36 +1,37 @@
 //! The definitions of one kind in an Observation Domain.
 
-ghost use Rattle.std.specs.Prelude.{◌≡◌, IsTrue, Some, ◌+◌, ◌<◌, ◌≤◌, ◌^◌, [], ◌==◌, nat_eq, length, OnOk, IfOk};
+ghost use Rattle.std.specs.Prelude.{◌≡◌, IsTrue, Some, ◌<◌, ◌≤◌, ◌^◌, [], ◌==◌, nat_eq, length, OnOk, OnErr, IfOk};
+ghost use Rattle.std.specs.Prelude.{unwrap_or};
 ghost use Rattle.std.specs.Map.{lookup};
 ghost use Rattle.std.specs.Option.{option_copied};
-ghost use Rattle.indexmap.specs.IndexMap.{insert_entry, shift_remove_entry};
-ghost use Rattle.flow_codec.specs.Templates.{entries_size};
+ghost use Rattle.flow_codec.specs.Slots.{entries_of, made, started, IsReady};
+ghost use Rattle.flow_codec.specs.Entries.{entries_size, IsOnce};
+ghost use Rattle.flow_codec.specs.Working.{overlaid, IsOver};
 
+use crate::overlay::Overlay;
+use crate::slot_table::SlotTable;
 use crate::templates::Definition;
 use std::alloc::{AllocError, Global};
-use std::collections::HashMap;
 use std::marker::Model;
 
-/// Definitions by their IDs, in order. Each change takes constant time, wherever it is: a definition that is taken out leaves
-/// its slot empty, and a copy leaves the empty slots out.
+/// Definitions by their IDs, in order, and how many octets their template records have.
 #[derive(Drop)]
 pub(crate) struct Definitions {
-    slots: Vec<Option<(u16, Definition)>>,
-    places: HashMap<u16, usize>,
+    table: SlotTable,
+    size: u64,
 }
 
 impl Model for Definitions {
-    ghost use Rattle.std.specs.Prelude.{List, ℕ, nat_eq};
-    ghost use Rattle.std.specs.HashMap.{get};
+    ghost use Rattle.std.specs.Prelude.{◌≡◌, List, ℕ};
     ghost use Rattle.flow_codec.specs.Layout.{Layout};
+    ghost use Rattle.flow_codec.specs.Slots.{entries_of, IsTable};
+    ghost use Rattle.flow_codec.specs.Entries.{entries_size, IsOnce};
 
     ghost Value = { List (ℕ × Layout) };
 
-    ghost use Rattle.flow_codec.specs.Slots.{standing, AreSlots};
+    ghost view = { λ d. entries_of d.table };
 
-    ghost view = { λ d. standing d.slots.items };
-
-    ghost invariant = { λ d. AreSlots d.slots.items (get nat_eq d.places) };
+    ghost invariant = { λ d. IsTable d.table × (d.size ≡ entries_size (entries_of d.table)) };
 }
 
 impl Definitions {
@@ -38,25 +39,29 @@ impl Definitions {
         ensures { result ≡ [] }
     {
         Definitions {
-            slots: Vec::new(alloc),
-            places: HashMap::new(alloc),
+            table: SlotTable::new(alloc),
+            size: 0,
         }
     }
 
     pub(crate) fn is_empty(&self) -> bool
         ensures { result ≡ (length self.now == 0) }
     {
-        self.places.is_empty()
+        self.table.is_empty()
+    }
+
+    /// The octets of these template records.
+    pub(crate) fn size(&self) -> u64
+        ensures size { result ≡ entries_size self.now }
+        ensures once { IsOnce self.now }
+    {
+        self.size
     }
 
     pub(crate) fn get(&self, id: u16) -> Option<&Definition>
         ensures { option_copied result ≡ lookup (nat_eq id) self.now }
     {
-        let place = *self.places.get(&id)?;
-        match &self.slots[place] {
-            Some((_, definition)) => Some(definition),
-            None => None,
-        }
+        self.table.get(id)
     }
 
     /// Whether this definition is there under this ID.
@@ -69,64 +74,41 @@ impl Definitions {
         }
     }
 
-    /// An ID that is there keeps its place; a new one goes to the end. After an `Err` the definitions are of no use.
-    pub(crate) fn put(&mut self, id: u16, definition: Definition) -> Result<(), AllocError>
-        ensures { OnOk result (self.new ≡ insert_entry nat_eq self.old id definition) }
-    {
-        if let Some(place) = self.places.get(&id).copied() {
-            self.slots[place] = Some((id, definition));
-            return Ok(());
-        }
-        self.slots.reserve(1)?;
-        self.places.insert(id, self.slots.len())?;
-        self.slots.push(Some((id, definition))).unwrap();
-        Ok(())
-    }
-
-    pub(crate) fn take(&mut self, id: u16)
-        ensures { self.new ≡ shift_remove_entry (nat_eq id) self.old }
-    {
-        if let Some(place) = self.places.remove(&id) {
-            self.slots[place] = None;
-        }
-    }
-
-    pub(crate) fn clear(&mut self)
-        ensures { self.new ≡ [] }
-    {
-        let alloc = *self.slots.allocator();
-        *self = Definitions::new(alloc);
-    }
-
+    /// A copy that shares the definitions.
     pub(crate) fn try_copy(&self) -> Result<Self, AllocError>
         ensures { IfOk result (λ copy. copy ≡ self.now) }
     {
-        let mut copy = Definitions::new(*self.slots.allocator());
-        for slot in self.slots.as_slice() {
-            if let Some((id, definition)) = slot {
-                copy.put(*id, definition.clone()?)?;
-            }
-        }
-        Ok(copy)
+        Ok(Definitions {
+            table: self.table.copy_with_room(0)?,
+            size: self.size,
+        })
     }
+}
 
-    /// The octets of these template records and of `before`, counted until they pass `limit`.
-    pub(crate) fn size_with(&self, before: usize, limit: usize) -> usize
-        requires start { before < 2 ^ 32 }
-        requires limit { limit < 2 ^ 31 }
-        ensures most { result ≤ before + entries_size self.now }
-        ensures exact { result ≤ limit → result ≡ before + entries_size self.now }
-        ensures bound { result < 2 ^ 32 }
-    {
-        let mut size = before;
-        for slot in self.slots.as_slice() {
-            if size > limit {
-                return size;
-            }
-            if let Some((_, definition)) = slot {
-                size += definition.size();
-            }
-        }
-        size
-    }
+/// Makes what a message changed in both lists of a domain. All memory is taken before anything changes, so an `Err`
+/// changes nothing.
+pub(crate) fn make_changes(
+    templates: &mut Definitions,
+    options: &mut Definitions,
+    to_templates: Overlay,
+    to_options: Overlay,
+) -> Result<(), AllocError>
+    requires templates { IsOver templates.old to_templates }
+    requires options { IsOver options.old to_options }
+    requires sizes { (to_templates.size < 2 ^ 64) × (to_options.size < 2 ^ 64) }
+    ensures ok { OnOk result ((templates.new ≡ overlaid templates.old to_templates)
+        × (options.new ≡ overlaid options.old to_options)) }
+    ensures err { OnErr result ((templates.new ≡ templates.old) × (options.new ≡ options.old)) }
+{
+    let first = templates
+        .table
+        .prepare(to_templates.cleared, to_templates.log.len())?;
+    let second = options
+        .table
+        .prepare(to_options.cleared, to_options.log.len())?;
+    templates.table.finish(first, to_templates.log);
+    templates.size = to_templates.size as u64;
+    options.table.finish(second, to_options.log);
+    options.size = to_options.size as u64;
+    Ok(())
 }

@@ -1,49 +1,62 @@
 //! Why a message, or a File, was refused.
 
-ghost use Rattle.std.specs.Prelude.{◌≡◌};
+ghost use Rattle.std.specs.Prelude.{◌≡◌, Some};
 ghost use Rattle.flow_codec.specs.declared.error.MessageError.TheVariants.{OutOfMemory};
+ghost use Rattle.flow_codec.specs.Printed.{message_text};
 
 use std::alloc::{AllocError, AllocFailed};
-use thiserror::Error;
+use std::error::Error;
+use std::fmt;
 
 /// The first fault of a message (RFC 7011, sections 3 and 8), printed as its number, its name and what it carries.
 /// A place is that of a Set or a record, in octets from the message's first.
-#[derive(Clone, Copy, Debug, PartialEq, Eq, Error)]
+#[derive(Clone, Copy, Debug, PartialEq, Eq)]
 pub enum MessageError {
     /// Fewer octets than a message header has.
-    #[error("1 Short")]
     Short,
     /// The Version field isn't 10.
-    #[error("2 Version")]
     Version,
     /// The Length field isn't the count of the octets.
-    #[error("3 Length")]
     Length,
     /// A Set's header or its Length doesn't fit the message.
-    #[error("4 SetLength {0}")]
     SetLength(usize),
     /// A template record passes the end of its Set.
-    #[error("5 TemplateCut {0}")]
     TemplateCut(usize),
     /// A Template ID below 256 that withdraws nothing.
-    #[error("6 TemplateId {0}")]
     TemplateId(usize),
     /// A Scope Field Count of 0, or above the Field Count.
-    #[error("7 ScopeCount {0}")]
     ScopeCount(usize),
     /// A field of a data record passes the end of its Set.
-    #[error("8 RecordCut {0}")]
     RecordCut(usize),
     /// The template records in force in this Observation Domain would pass 60,000 octets.
-    #[error("9 TemplatesFull {0}")]
     TemplatesFull(u32),
     /// More than 64 Observation Domains would have templates in force.
-    #[error("10 DomainsFull")]
     DomainsFull,
     /// A growth of memory was refused.
-    #[error("11 OutOfMemory")]
     OutOfMemory,
 }
+
+impl fmt::Display for MessageError {
+    ghost output = { λ e. Some (message_text e) };
+
+    fn fmt<W: fmt::Write>(&self, f: &mut fmt::Formatter<W>) -> fmt::Result {
+        match self {
+            MessageError::Short => write!(f, "1 Short"),
+            MessageError::Version => write!(f, "2 Version"),
+            MessageError::Length => write!(f, "3 Length"),
+            MessageError::SetLength(at) => write!(f, "4 SetLength {at}"),
+            MessageError::TemplateCut(at) => write!(f, "5 TemplateCut {at}"),
+            MessageError::TemplateId(at) => write!(f, "6 TemplateId {at}"),
+            MessageError::ScopeCount(at) => write!(f, "7 ScopeCount {at}"),
+            MessageError::RecordCut(at) => write!(f, "8 RecordCut {at}"),
+            MessageError::TemplatesFull(domain) => write!(f, "9 TemplatesFull {domain}"),
+            MessageError::DomainsFull => write!(f, "10 DomainsFull"),
+            MessageError::OutOfMemory => write!(f, "11 OutOfMemory"),
+        }
+    }
+}
+
+impl Error for MessageError {}
 
 impl From<AllocError> for MessageError {
     ghost from_gives = { λ _ e. e ≡ OutOfMemory };

@@ -46,9 +46,9 @@ fn split_counted(octets: &[u8]) -> (&[u8], &[u8])
     split_up_to(after, u16::from_be_bytes([len[0], len[1]]) as usize)
 }
 
-/// The value of the field in front of a record's octets, by its Field Length, and the octets behind it (RFC 7011, sections 3.4.3
-/// and 7). A Field Length of 65535 is variable: then the length octets, one or three, are left out of the value. Nothing is
-/// copied; where the octets are too few, the value has those that are there.
+/// The value of the field in front of a record's octets, by its Field Length, and the octets behind it (RFC 7011,
+/// sections 3.4.3 and 7). A Field Length of 65535 is variable: then the length octets, one or three, are left out of
+/// the value. Nothing is copied; where the octets are too few, the value has those that are there.
 pub fn split_field(len: u16, octets: &[u8]) -> (&[u8], &[u8])
     ensures value { result.0.now ≡ (value_of len octets.now).0 }
     ensures rest { result.1.now ≡ (value_of len octets.now).1 }
@@ -116,16 +116,19 @@ impl RecordSink for Records {
 
 /// Reads a message in fields, and takes its templates in. An `Err` leaves the templates as they were.
 ///
-/// It builds every field. A hostile message has many fields of no octets: what accepts, counts or measures messages walks them.
+/// It builds every field. A hostile message has many fields of no octets: what accepts, counts or measures messages
+/// walks them.
 pub fn read_message(
     templates: &mut Templates,
     alloc: Global,
     octets: &[u8],
 ) -> Result<Message, MessageError>
     // What is read is an accepted message, and its templates are taken in.
-    ensures found { IfOk result (λ m. (raw : RawMessage) × IsAccepted octets.now templates.old raw templates.new × (m ≡ in_fields raw)) }
+    ensures found { IfOk result (λ m. (raw : RawMessage) × IsAccepted octets.now templates.old raw templates.new
+        × (m ≡ in_fields raw)) }
     // An accepted message is read, unless memory runs out.
-    ensures only { (m : RawMessage) (after : AllTemplates) → IsAccepted octets.now templates.old m after → IsRead result templates.new m after }
+    ensures only { (m : RawMessage) (after : AllTemplates) → IsAccepted octets.now templates.old m after
+        → IsRead result templates.new m after }
     // Other octets are refused by their first fault.
     ensures fault { IfErr result (λ e. (e ≡ MessageError.OutOfMemory) ⊎ IsFault octets.now templates.old e) }
     ensures err { OnErr result (templates.new ≡ templates.old) }

@@ -1,8 +1,10 @@
 //! Files (RFC 5655): messages one after the other.
 
-ghost use Rattle.std.specs.Prelude.{◌≡◌, ◌⊎◌, ◌≤◌, ◌<◌, List, [], ℕ, length, take, IfOk, IfErr, MatchResult};
+ghost use Rattle.std.specs.Prelude.{Some, ◌≡◌, ◌⊎◌, ◌≤◌, ◌<◌, List, [], ℕ, length, take, IfOk, IfErr, MatchResult};
 ghost use Rattle.flow_codec.specs.declared.file.FileError.TheVariants.{OutOfMemory};
-ghost use Rattle.flow_codec.specs.Cutting.{IsCutOff, IsHeaderRefused, IsFileFault, IsDivided, HasOneDivision, spans_from, version_of, length_of};
+ghost use Rattle.flow_codec.specs.Printed.{file_text};
+ghost use Rattle.flow_codec.specs.Cutting.{IsCutOff, IsHeaderRefused, IsFileFault, IsDivided, HasOneDivision};
+ghost use Rattle.flow_codec.specs.Cutting.{spans_from, version_of, length_of};
 ghost use Rattle.flow_codec.specs.File.{HasOneFront};
 ghost use Rattle.flow_codec.specs.Fault.{IsOctets};
 ghost use Rattle.flow_codec.specs.Message.{joined};
@@ -10,7 +12,8 @@ ghost use Rattle.flow_codec.specs.Templates.{AllTemplates};
 
 use flow_elements::Items;
 use std::alloc::{AllocError, AllocFailed, Global};
-use thiserror::Error;
+use std::error::Error;
+use std::fmt;
 
 /// The octets of a message header.
 const HEADER: usize = 16;
@@ -19,21 +22,32 @@ const HEADER: usize = 16;
 const VERSION: u16 = 10;
 
 /// Why octets are no File. A place is in octets from the File's first.
-#[derive(Clone, Copy, Debug, PartialEq, Eq, Error)]
+#[derive(Clone, Copy, Debug, PartialEq, Eq)]
 pub enum FileError {
     /// A message that passes the File's end.
-    #[error("15 Cut {0}")]
     Cut(u64),
     /// A Version other than 10.
-    #[error("16 Version {0}")]
     Version(u64),
     /// A Length below 16.
-    #[error("17 Length {0}")]
     Length(u64),
     /// A growth of memory was refused.
-    #[error("11 OutOfMemory")]
     OutOfMemory,
 }
+
+impl fmt::Display for FileError {
+    ghost output = { λ e. Some (file_text e) };
+
+    fn fmt<W: fmt::Write>(&self, f: &mut fmt::Formatter<W>) -> fmt::Result {
+        match self {
+            FileError::Cut(at) => write!(f, "15 Cut {at}"),
+            FileError::Version(at) => write!(f, "16 Version {at}"),
+            FileError::Length(at) => write!(f, "17 Length {at}"),
+            FileError::OutOfMemory => write!(f, "11 OutOfMemory"),
+        }
+    }
+}
+
+impl Error for FileError {}
 
 impl From<AllocError> for FileError {
     ghost from_gives = { λ _ e. e ≡ OutOfMemory };
@@ -61,11 +75,15 @@ pub struct Span {
 /// The places of a File's messages.
 pub fn split_file(alloc: Global, octets: &[u8]) -> Result<Items<Span>, FileError>
     // The spans are those of messages that fill the octets.
-    ensures found { IfOk result (λ spans. (parts : List (List ℕ)) × IsDivided octets.now parts [] × (spans ≡ spans_from 0 parts)) }
+    ensures found { IfOk result (λ spans. (parts : List (List ℕ)) × IsDivided octets.now parts []
+        × (spans ≡ spans_from 0 parts)) }
     // Other octets are refused by their first fault, behind messages.
-    ensures fault { IfErr result (λ e. (e ≡ OutOfMemory) ⊎ ((parts : List (List ℕ)) × (rest : List ℕ) × IsDivided octets.now parts rest × IsFileFault (length (joined parts)) rest e)) }
+    ensures fault { IfErr result (λ e. (e ≡ OutOfMemory)
+        ⊎ ((parts : List (List ℕ)) × (rest : List ℕ) × IsDivided octets.now parts rest
+        × IsFileFault (length (joined parts)) rest e)) }
     // Whatever messages fill the octets, theirs are the spans that are answered.
-    ensures only { (parts : List (List ℕ)) → IsDivided octets.now parts [] → MatchResult result (λ spans. spans ≡ spans_from 0 parts) (λ e. e ≡ OutOfMemory) }
+    ensures only { (parts : List (List ℕ)) → IsDivided octets.now parts []
+        → MatchResult result (λ spans. spans ≡ spans_from 0 parts) (λ e. e ≡ OutOfMemory) }
 {
     let mut spans = Vec::new(alloc);
     let mut at = 0;
@@ -80,17 +98,19 @@ pub fn split_file(alloc: Global, octets: &[u8]) -> Result<Items<Span>, FileError
     Ok(Items::from_vec(spans))
 }
 
-/// Any octets divide in one way into messages, each cut off by its own header, and octets behind them that are none or have one fault.
-/// They have one accepted front, whatever templates are in force before it.
+/// Any octets divide in one way into messages, each cut off by its own header, and octets behind them that are none or
+/// have one fault. They have one accepted front, whatever templates are in force before it.
 pub fn one_front()
     ensures divided { (octets : List ℕ) → HasOneDivision octets }
     ensures accepted { (before : AllTemplates) (octets : List ℕ) → IsOctets octets → HasOneFront before 0 octets }
 {}
 
-/// The Length in the header of a message (RFC 7011, section 3.1), with that of the header itself. `at` is its place in the File.
+/// The Length in the header of a message (RFC 7011, section 3.1), with that of the header itself. `at` is its place in
+/// the File.
 pub(crate) fn length_in(at: u64, header: &[u8]) -> Result<usize, FileError>
     requires { 16 ≤ length header.now }
-    ensures found { IfOk result (λ n. (version_of header.now ≡ 10) × (n ≡ length_of header.now) × (16 ≤ n) × (n < 65536)) }
+    ensures found { IfOk result (λ n. (version_of header.now ≡ 10) × (n ≡ length_of header.now) × (16 ≤ n)
+        × (n < 65536)) }
     ensures fault { IfErr result (λ e. IsHeaderRefused at header.now e) }
 {
     let (version, behind) = header.split_at(2);
@@ -105,7 +125,8 @@ pub(crate) fn length_in(at: u64, header: &[u8]) -> Result<usize, FileError>
     Ok(length)
 }
 
-/// The length of the message that these octets begin with, cut off by its version and its Length. `at` is their place in the File.
+/// The length of the message that these octets begin with, cut off by its version and its Length. `at` is their place
+/// in the File.
 pub(crate) fn front_of(at: u64, octets: &[u8]) -> Result<usize, FileError>
     requires { 0 < length octets.now }
     ensures found { IfOk result (λ n. (n ≤ length octets.now) × IsCutOff (take n octets.now)) }

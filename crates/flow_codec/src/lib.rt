@@ -1,10 +1,11 @@
 //! IPFIX messages (RFC 7011), their templates, and Files of them (RFC 5655).
 //!
-//! Promised to the layers above: octets are one accepted message, or have one first fault, which is what a call answers.
-//! `walk_message` hands a message's data records to a sink, in order and each in its octets, and takes its templates in;
-//! a refusal leaves the templates as they were. It costs time in proportion to the message's octets and to its own domain's
-//! templates, and no memory for records or fields. `judge_message` answers the same and changes nothing, and `read_message`
-//! builds the fields. `MessageReader` reads the messages of a File one after the other and holds one.
+//! Promised to the layers above: octets are one accepted message, or have one first fault, which is what a call
+//! answers. `walk_message` hands a message's data records to a sink, in order and each in its octets, and takes its
+//! templates in; a refusal leaves the templates as they were. It costs time in proportion to the message's octets,
+//! whatever templates are in force, and no memory for records or fields. `judge_message` answers the same and changes
+//! nothing, and `read_message` builds the fields. `MessageReader` reads the messages of a File one after the other and
+//! holds one.
 #![tactic(auto)]
 
 mod count;
@@ -16,10 +17,11 @@ mod kind;
 mod laws;
 mod message;
 mod numbers;
-mod ordered;
+mod overlay;
 mod patient;
 mod plan;
 mod sink;
+mod slot_table;
 mod stream;
 mod template_records;
 mod templates;
@@ -31,7 +33,7 @@ pub use error::MessageError;
 pub use fields::{read_message, split_field};
 pub use file::{FileError, Span, one_front, split_file};
 pub use kind::TemplateKind;
-pub use laws::{message_bounds, one_answer, one_division, template_changes};
+pub use laws::{files_and_fronts, message_bounds, one_answer, one_division, template_changes};
 pub use message::{DataRecord, Field, Header, Message};
 pub use patient::ReadFailed;
 pub use plan::{Plan, Role, Step};

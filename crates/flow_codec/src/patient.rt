@@ -1,21 +1,31 @@
 //! Reading that bears interrupted calls, and says how much came and whether the input ended.
 
-ghost use Rattle.std.specs.Prelude.{◌≡◌, ◌≤◌, ◌<◌, length, take, IfOk};
+ghost use Rattle.std.specs.Prelude.{Some, codes, ◌≡◌, ◌≤◌, ◌<◌, length, take, IfOk};
 ghost use Rattle.std.specs.Io.KnownBytes.{Consumes, IsAtEnd};
 
-use std::io;
+use std::error::Error;
 use std::io::{ErrorKind, Read};
-use thiserror::Error;
+use std::{fmt, io};
 
 /// The interrupted call at which a reader is given up.
 const MAX_INTERRUPTS: u32 = 1_000_000;
 
-/// Reading failed, or was interrupted 1,000,000 times over the reader's life. Only this module makes one, where that has happened.
-#[derive(Clone, Copy, Debug, PartialEq, Eq, Error)]
-#[error("31 Read")]
+/// Reading failed, or was interrupted 1,000,000 times over the reader's life. Only this module makes one, where that
+/// has happened.
+#[derive(Clone, Copy, Debug, PartialEq, Eq)]
 pub struct ReadFailed {
     hidden: (),
 }
+
+impl fmt::Display for ReadFailed {
+    ghost output = { λ _. Some (codes "31 Read") };
+
+    fn fmt<W: fmt::Write>(&self, f: &mut fmt::Formatter<W>) -> fmt::Result {
+        write!(f, "31 Read")
+    }
+}
+
+impl Error for ReadFailed {}
 
 /// A reader that calls again after an interrupted call, until 1,000,000 calls over its life were interrupted.
 #[derive(Drop)]

@@ -32,7 +32,8 @@ pub enum Step {
     Variable(Option<Role>),
 }
 
-/// How each record of a definition is stepped over: no step but the skips is one of no octets, and no two skips are neighbours.
+/// How each record of a definition is stepped over: no step but the skips is one of no octets, and no two skips are
+/// neighbours.
 #[derive(Clone, Debug, Drop)]
 pub struct Plan {
     pub smallest: usize,

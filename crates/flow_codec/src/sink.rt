@@ -28,8 +28,10 @@ pub trait RecordSink {
         octets: &[u8],
     ) -> Result<(), Self::Error>
         requires { IsWhole definition.now octets.now }
-        ensures taken { OnOk result ((start : Self) (taken : List Placed) → holds start taken self.old → holds start (taken ++ (header.now, raw id definition.now octets.now) ∷ []) self.new) }
-        ensures refused { IfErr result (λ e. (start : Self) (taken : List Placed) → holds start taken self.old → refuses start taken (header.now, raw id definition.now octets.now) e) };
+        ensures taken { OnOk result ((start : Self) (taken : List Placed) → holds start taken self.old
+            → holds start (taken ++ (header.now, raw id definition.now octets.now) ∷ []) self.new) }
+        ensures refused { IfErr result (λ e. (start : Self) (taken : List Placed) → holds start taken self.old
+            → refuses start taken (header.now, raw id definition.now octets.now) e) };
 }
 
 /// Why a walk over a message stopped.

@@ -1,15 +1,17 @@
 //! A File from a reader, one message after the other.
 
-ghost use Rattle.std.specs.Prelude.{◌≡◌, ◌≤◌, ◌<◌, ◌^◌, ◌*◌, length, take, [], None, IfOk};
+ghost use Rattle.std.specs.Prelude.{Some, ◌≡◌, ◌≤◌, ◌<◌, ◌^◌, ◌*◌, length, take, [], None, IfOk};
 ghost use Rattle.flow_codec.specs.declared.stream.StreamError.TheVariants.{File, Read as ReadStopped};
 ghost use Rattle.flow_codec.specs.Stream.{IsStep, IsTaken};
+ghost use Rattle.flow_codec.specs.Printed.{stream_text};
 
 use crate::file::{FileError, length_in};
 use crate::patient::{PatientReader, ReadFailed, fill};
 use std::alloc::{AllocError, Global};
+use std::error::Error;
+use std::fmt;
 use std::io::{BufReader, Read};
 use std::marker::Model;
-use thiserror::Error;
 
 /// The octets of a message header.
 const HEADER: usize = 16;
@@ -24,18 +26,29 @@ const READ_AHEAD: usize = 65_536;
 const MOST_MESSAGES: u64 = 0xffff_ffff_ffff;
 
 /// Why reading a File stopped.
-#[derive(Clone, Copy, Debug, PartialEq, Eq, Error)]
+#[derive(Clone, Copy, Debug, PartialEq, Eq)]
 pub enum StreamError {
     /// What stands behind the messages that were read is no message.
-    #[error("{0}")]
     File(FileError),
     /// Reading failed, so it is unknown what stands behind the messages that were read.
-    #[error("{0}")]
     Read(ReadFailed),
     /// One more message than 2^48 - 1.
-    #[error("25 NumbersSpent")]
     NumbersSpent,
 }
+
+impl fmt::Display for StreamError {
+    ghost output = { λ e. Some (stream_text e) };
+
+    fn fmt<W: fmt::Write>(&self, f: &mut fmt::Formatter<W>) -> fmt::Result {
+        match self {
+            StreamError::File(fault) => write!(f, "{fault}"),
+            StreamError::Read(failed) => write!(f, "{failed}"),
+            StreamError::NumbersSpent => write!(f, "25 NumbersSpent"),
+        }
+    }
+}
+
+impl Error for StreamError {}
 
 impl From<FileError> for StreamError {
     ghost from_gives = { λ fault e. e ≡ File fault };
@@ -73,9 +86,17 @@ impl<R: Read> Model for MessageReader<R> {
 
     ghost Value = { Progress };
 
-    ghost view = { λ r. record { rest = reader_remaining (λ p. R.remaining p.inner) r.input; message = take r.length r.buffer.items; count = r.count; at = r.at; stopped = r.stopped } };
+    ghost view = { λ r. record {
+      rest = reader_remaining (λ p. R.remaining p.inner) r.input;
+      message =
+          take r.length r.buffer.items;
+      count = r.count;
+      at = r.at;
+      stopped = r.stopped;
+    } };
 
-    ghost invariant = { λ r. (vec_len r.buffer ≡ 65535) × (r.length ≤ 65535) × (r.count < 2 ^ 48) × (r.at ≤ 65535 * r.count) };
+    ghost invariant = { λ r. (vec_len r.buffer ≡ 65535) × (r.length ≤ 65535) × (r.count < 2 ^ 48)
+        × (r.at ≤ 65535 * r.count) };
 }
 
 impl<R: Read> MessageReader<R> {
@@ -83,7 +104,14 @@ impl<R: Read> MessageReader<R> {
     pub fn new(alloc: Global, input: R) -> Result<Self, AllocError>
     where
         R: Drop,
-        ensures { IfOk result (λ reader. reader ≡ record { rest = R.remaining input; message = []; count = 0; at = 0; stopped = None }) }
+        ensures { IfOk result (λ reader. reader ≡ record {
+          rest = R.remaining input;
+          message = [];
+          count = 0;
+          at =
+              0;
+          stopped = None;
+        }) }
     {
         let buffer = Vec::from_elem(alloc, 0u8, GREATEST_MESSAGE)?;
         let Ok(input) = BufReader::with_capacity(alloc, READ_AHEAD, PatientReader::new(input))
@@ -100,7 +128,8 @@ impl<R: Read> MessageReader<R> {
         })
     }
 
-    /// Reads the next message and holds it; `false` at the File's end. After an error it answers that error from then on.
+    /// Reads the next message and holds it; `false` at the File's end. After an error it answers that error from then
+    /// on.
     pub fn advance(&mut self) -> Result<bool, StreamError>
         ensures { IsStep self.old result self.new }
     {
@@ -152,7 +181,8 @@ impl<R: Read> MessageReader<R> {
     }
 }
 
-/// Reads the message that stands next, at the place `at` of a File, into the buffer's front. It answers its length, or None at the end.
+/// Reads the message that stands next, at the place `at` of a File, into the buffer's front. It answers its length, or
+/// None at the end.
 fn take_message<R: Read>(
     input: &mut R,
     at: u64,
@@ -200,7 +230,8 @@ mod tests {
         ]
     }
 
-    /// Gives its octets in pieces, each after as many interrupted calls; the call behind the last piece that it gives fails.
+    /// Gives its octets in pieces, each after as many interrupted calls; the call behind the last piece that it gives
+    /// fails.
     #[derive(Drop)]
     struct Pieces<'a> {
         octets: &'a [u8],

@@ -1,7 +1,8 @@
 //! Template records (RFC 7011, sections 3.4.1, 3.4.2.2 and 8.1).
 
 ghost use Rattle.std.specs.Prelude.{◌≡◌, ◌+◌, ◌≤◌, length, IfOk};
-ghost use Rattle.flow_codec.specs.Reading.{Gives, is_ended, specifier_at, specifiers_at, scope_at, definition_at, template_at};
+ghost use Rattle.flow_codec.specs.Reading.{Gives, is_ended, specifier_at, specifiers_at, scope_at, definition_at};
+ghost use Rattle.flow_codec.specs.Reading.{template_at};
 
 use crate::error::MessageError;
 use crate::kind::TemplateKind;

@@ -4,45 +4,60 @@ ghost use Rattle.std.specs.Prelude.{◌≡◌, ◌↔◌, IsTrue, false, [], OnO
 ghost use Rattle.std.specs.Option.{option_copied};
 ghost use Rattle.flow_codec.specs.Layout.{Layout, IsLayout, is_options, definition_size};
 ghost use Rattle.flow_codec.specs.Plan.{plan_of};
-ghost use Rattle.flow_codec.specs.Templates.{applied, changed, definition_of, definitions_of, domain_size, is_empty, no_definitions, AreTemplatesInForce};
-ghost use Rattle.flow_codec.specs.Working.{put_back};
-ghost use Rattle.std.specs.Prelude.{nat_eq};
+ghost use Rattle.flow_codec.specs.Templates.{changed, definition_of, definitions_of, domain_size, is_empty};
+ghost use Rattle.flow_codec.specs.Templates.{no_definitions, AreTemplatesInForce, IsOnce};
+ghost use Rattle.flow_codec.specs.Working.{put_back, current, changed_in, AreOver};
+ghost use Rattle.std.specs.Prelude.{ℕ, Some, nat_eq};
+ghost use Rattle.std.specs.HashMap.{spare};
 ghost use Rattle.indexmap.specs.IndexMap.{insert_entry};
 ghost use Rattle.flow_codec.specs.declared.templates.DomainTemplates.{DomainTemplates};
 
-use crate::definitions::Definitions;
+use crate::definitions::{Definitions, make_changes};
 use crate::kind::TemplateKind;
-use crate::ordered::Ordered;
 use crate::plan::{Plan, plan_of};
+use crate::working::Changed;
 use flow_elements::{ElementId, Items};
+use indexmap::IndexMap;
 use std::alloc::{AllocError, Global};
 use std::marker::Model;
+use std::sync::Arc;
 
 /// The most octets of template records in force in an Observation Domain.
-const MOST_OCTETS: usize = 60000;
+pub(crate) const MOST_OCTETS: u128 = 60000;
 
 /// The most Observation Domains with templates in force.
 const MOST_DOMAINS: usize = 64;
 
-/// What the records of one template ID hold (RFC 7011, section 3.4).
+/// What the records of one template ID hold (RFC 7011, section 3.4). Copies share it.
 #[derive(Debug, Drop)]
 pub struct Definition {
+    shared: Arc<Parts>,
+}
+
+#[derive(Debug, Drop)]
+struct Parts {
     options: bool,
     scope: u16,
     fields: Items<(ElementId, u16)>,
     plan: Plan,
+    size: usize,
 }
 
 impl Model for Definition {
     ghost use Rattle.std.specs.Prelude.{◌≡◌, ◌<◌, ◌^◌, length};
-    ghost use Rattle.flow_codec.specs.Layout.{Layout};
+    ghost use Rattle.std.specs.Arc.{arc_value};
+    ghost use Rattle.flow_codec.specs.Layout.{Layout, definition_size};
     ghost use Rattle.flow_codec.specs.Plan.{plan_of};
+    ghost use Rattle.flow_codec.specs.Parts.{layout_of};
 
     ghost Value = { Layout };
 
-    ghost view = { λ d. record { options = d.options; scope = d.scope; fields = d.fields } };
+    ghost view = { λ d. layout_of (arc_value d.shared) };
 
-    ghost invariant = { λ d. (length d.fields < 2 ^ 16) × (d.plan ≡ plan_of d.fields) };
+    ghost invariant = { λ d. (length (arc_value d.shared).fields < 2 ^ 16)
+        × ((arc_value d.shared).plan ≡ plan_of (arc_value d.shared).fields)
+        × ((arc_value d.shared).size ≡ definition_size (layout_of (arc_value d.shared)))
+        × ((arc_value d.shared).size < 2 ^ 20) };
 }
 
 impl Clone for Definition {
@@ -50,12 +65,23 @@ impl Clone for Definition {
 
     fn clone(&self) -> Result<Self, AllocError> {
         Ok(Definition {
-            options: self.options,
-            scope: self.scope,
-            fields: self.fields.clone()?,
-            plan: self.plan.clone()?,
+            shared: Arc::try_clone(&self.shared)?,
         })
     }
+}
+
+/// The octets of a template record of this kind with these fields.
+fn size_of(options: bool, fields: &[(ElementId, u16)]) -> usize
+    requires { length fields.now < 2 ^ 16 }
+    ensures exact { (scope : ℕ)
+        → result ≡ definition_size (record { options = options; scope = scope; fields = fields.now }) }
+    ensures bound { result < 2 ^ 20 }
+{
+    let mut size = if options { 6 } else { 4 };
+    for (id, _) in fields {
+        size += if id.enterprise.is_some() { 8 } else { 4 };
+    }
+    size
 }
 
 impl Definition {
@@ -69,12 +95,18 @@ impl Definition {
         requires { length fields < 2 ^ 16 }
         ensures { IfOk result (λ d. d ≡ record { options = is_options kind; scope = scope; fields = fields }) }
     {
+        let options = kind.is_options();
         let plan = plan_of(alloc, fields.as_slice())?;
-        Ok(Definition {
-            options: kind.is_options(),
+        let size = size_of(options, fields.as_slice());
+        let parts = Parts {
+            options,
             scope,
             fields,
             plan,
+            size,
+        };
+        Ok(Definition {
+            shared: Arc::new(alloc, parts)?,
         })
     }
 
@@ -82,31 +114,31 @@ impl Definition {
     pub fn options(&self) -> bool
         ensures { result ≡ self.now.options }
     {
-        self.options
+        self.shared.options
     }
 
     /// The number of scope fields, 0 in a Template.
     pub fn scope(&self) -> u16
         ensures { result ≡ self.now.scope }
     {
-        self.scope
+        self.shared.scope
     }
 
     /// Each field's element and Field Length, scope fields first.
     pub fn fields(&self) -> &[(ElementId, u16)]
         ensures { result.now ≡ self.now.fields }
     {
-        self.fields.as_slice()
+        self.shared.fields.as_slice()
     }
 
     /// Whether both define the same: kind, scope fields, and each field's element and Field Length.
     pub fn is_same(&self, other: &Definition) -> bool
         ensures { IsTrue result ↔ (self.now ≡ other.now) }
     {
-        if self.options != other.options || self.scope != other.scope {
+        if self.options() != other.options() || self.scope() != other.scope() {
             return false;
         }
-        self.fields.as_slice() == other.fields.as_slice()
+        self.fields() == other.fields()
     }
 
     /// The octets of its template record.
@@ -114,18 +146,14 @@ impl Definition {
         ensures exact { result ≡ definition_size self.now }
         ensures bound { result < 2 ^ 20 }
     {
-        let mut size = if self.options { 6 } else { 4 };
-        for (id, _) in self.fields.as_slice() {
-            size += if id.enterprise.is_some() { 8 } else { 4 };
-        }
-        size
+        self.shared.size
     }
 
     /// How each record is stepped over.
     pub fn plan(&self) -> &Plan
         ensures { result.now ≡ plan_of self.now.fields }
     {
-        &self.plan
+        &self.shared.plan
     }
 }
 
@@ -143,8 +171,8 @@ pub enum TemplateRecord {
 /// The definitions of one Observation Domain, in order.
 #[derive(Drop)]
 pub struct DomainTemplates {
-    templates: Definitions,
-    options: Definitions,
+    pub(crate) templates: Definitions,
+    pub(crate) options: Definitions,
 }
 
 impl Clone for DomainTemplates {
@@ -206,56 +234,39 @@ impl DomainTemplates {
         }
     }
 
-    /// Applies a template record. After an `Err` the definitions are of no use.
-    pub(crate) fn apply(
-        &mut self,
-        kind: TemplateKind,
-        change: TemplateRecord,
-    ) -> Result<(), AllocError>
-        ensures { OnOk result (self.new ≡ changed kind change self.old) }
+    /// Makes what a message changed. An `Err` changes nothing.
+    fn make(&mut self, changed: Changed) -> Result<(), AllocError>
+        requires over { AreOver self.old changed }
+        requires size { domain_size (changed_in self.old changed) ≤ 60000 }
+        ensures ok { OnOk result (self.new ≡ changed_in self.old changed) }
+        ensures err { OnErr result (self.new ≡ self.old) }
     {
-        match (kind, change) {
-            (TemplateKind::Plain, TemplateRecord::Define(id, definition)) => {
-                self.templates.put(id, definition)?;
-                self.options.take(id);
-            }
-            (TemplateKind::Options, TemplateRecord::Define(id, definition)) => {
-                self.options.put(id, definition)?;
-                self.templates.take(id);
-            }
-            (TemplateKind::Plain, TemplateRecord::Withdraw(id)) => self.templates.take(id),
-            (TemplateKind::Options, TemplateRecord::Withdraw(id)) => self.options.take(id),
-            (TemplateKind::Plain, TemplateRecord::WithdrawAll) => self.templates.clear(),
-            (TemplateKind::Options, TemplateRecord::WithdrawAll) => self.options.clear(),
-        }
-        Ok(())
-    }
-
-    /// Whether the template records have more than 60,000 octets.
-    pub(crate) fn is_too_large(&self) -> bool
-        ensures { result ≡ nat_lt 60000 (domain_size self.now) }
-    {
-        let templates = self.templates.size_with(0, MOST_OCTETS);
-        self.options.size_with(templates, MOST_OCTETS) > MOST_OCTETS
+        make_changes(
+            &mut self.templates,
+            &mut self.options,
+            changed.templates,
+            changed.options,
+        )
     }
 }
 
 /// The definitions of all domains, in order.
 #[derive(Drop)]
 pub struct Templates {
-    domains: Ordered<u32, DomainTemplates>,
+    domains: IndexMap<u32, DomainTemplates>,
+    none: DomainTemplates,
 }
 
 impl Model for Templates {
-    ghost use Rattle.std.specs.Prelude.{List, ℕ};
+    ghost use Rattle.std.specs.Prelude.{◌≡◌, List, ℕ};
     ghost use Rattle.flow_codec.specs.declared.templates.DomainTemplates.{DomainTemplates};
-    ghost use Rattle.flow_codec.specs.Templates.{AreTemplatesInForce};
+    ghost use Rattle.flow_codec.specs.Templates.{no_definitions, AreTemplatesInForce};
 
     ghost Value = { List (ℕ × DomainTemplates) };
 
-    ghost view = { λ t. t.domains };
+    ghost view = { λ t. t.domains.entries };
 
-    ghost invariant = { λ t. AreTemplatesInForce t.domains };
+    ghost invariant = { λ t. AreTemplatesInForce t.domains.entries × (t.none ≡ no_definitions) };
 }
 
 impl Templates {
@@ -264,7 +275,8 @@ impl Templates {
         ensures { result ≡ [] }
     {
         Templates {
-            domains: Ordered::new(alloc),
+            domains: IndexMap::new(alloc),
+            none: DomainTemplates::new(alloc),
         }
     }
 
@@ -281,30 +293,17 @@ impl Templates {
     {
         Ok(Templates {
             domains: self.domains.clone()?,
+            none: self.none.clone()?,
         })
     }
 
-    /// A copy of what is in force in a domain.
-    pub(crate) fn definitions_in(
-        &self,
-        alloc: Global,
-        domain: u32,
-    ) -> Result<DomainTemplates, AllocError>
-        ensures { IfOk result (λ here. here ≡ definitions_of domain self.now) }
+    /// What is in force in a domain.
+    pub(crate) fn here(&self, domain: u32) -> &DomainTemplates
+        ensures { result.now ≡ definitions_of domain self.now }
     {
         match self.domains.get(&domain) {
-            None => Ok(DomainTemplates::new(alloc)),
-            Some(here) => here.try_copy(),
-        }
-    }
-
-    /// Whether a template record defines what is in force in a domain, and so changes nothing. It may miss one.
-    pub(crate) fn has(&self, domain: u32, kind: TemplateKind, change: &TemplateRecord) -> bool
-        ensures { IsTrue result → applied domain kind change.now self.now ≡ self.now }
-    {
-        match self.domains.get(&domain) {
-            Some(here) => here.has(kind, change),
-            None => false,
+            Some(here) => here,
+            None => &self.none,
         }
     }
 
@@ -322,24 +321,70 @@ impl Templates {
         let _ = &self.domains;
     }
 
-    /// Puts back what is in force in a domain after a message, at the end of the list where the domain once was without any. An `Err` changes nothing.
-    pub(crate) fn put_back(
+    /// Makes what a message changed in its domain, which goes to the end of the list where it once was without
+    /// definitions. All memory is taken before anything changes, so an `Err` changes nothing.
+    pub(crate) fn take_in(
         &mut self,
+        alloc: Global,
         domain: u32,
-        left: bool,
-        here: DomainTemplates,
+        changed: Changed,
     ) -> Result<(), AllocError>
-        requires { AreTemplatesInForce (put_back domain left here self.old) }
-        ensures ok { OnOk result (self.new ≡ put_back domain left here self.old) }
+        requires over { AreOver (definitions_of domain self.old) changed }
+        requires in_force { AreTemplatesInForce (current domain self.old (Some changed)) }
+        ensures ok { OnOk result (self.new ≡ current domain self.old (Some changed)) }
         ensures err { OnErr result (self.new ≡ self.old) }
     {
-        if here.is_empty() {
-            self.domains.take(&domain);
-        } else if left {
-            self.domains.put_last(domain, here)?;
-        } else {
-            self.domains.put(domain, here)?;
+        self.domains.reserve(2)?;
+        let mut here = taken_out(&mut self.domains, alloc, domain);
+        let left = changed.left;
+        match here.make(changed) {
+            Ok(()) => {
+                put_back(&mut self.domains, domain, left, here);
+                Ok(())
+            }
+            Err(e) => {
+                put_back(&mut self.domains, domain, false, here);
+                Err(e)
+            }
         }
-        Ok(())
     }
+}
+
+/// Takes out what is in force in a domain, and leaves its place. There is room for its entry.
+fn taken_out(
+    domains: &mut IndexMap<u32, DomainTemplates>,
+    alloc: Global,
+    domain: u32,
+) -> DomainTemplates
+    requires { 2 ≤ spare domains.old }
+    ensures here { result ≡ definitions_of domain domains.old.entries }
+    ensures place { domains.new.entries ≡ insert_entry nat_eq domains.old.entries domain no_definitions }
+    ensures room { 1 ≤ spare domains.new }
+{
+    let replaced: Result<_, _> = domains.insert(domain, DomainTemplates::new(alloc));
+    match replaced.unwrap() {
+        Some(here) => here,
+        None => DomainTemplates::new(alloc),
+    }
+}
+
+/// Puts back what is in force in a domain, at the end of the list where `last` says so.
+fn put_back(
+    domains: &mut IndexMap<u32, DomainTemplates>,
+    domain: u32,
+    last: bool,
+    here: DomainTemplates,
+)
+    requires { 1 ≤ spare domains.old }
+    ensures { IsOnce domains.old.entries → domains.new.entries ≡ put_back domain last here domains.old.entries }
+{
+    if here.is_empty() {
+        domains.shift_remove(&domain);
+        return;
+    }
+    if last {
+        domains.shift_remove(&domain);
+    }
+    let stored: Result<_, _> = domains.insert(domain, here);
+    stored.unwrap();
 }

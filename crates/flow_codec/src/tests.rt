@@ -141,6 +141,7 @@ fn cuts(rt: HostRuntime) -> Result<(), Fail> {
             judge_message(&Templates::new(alloc), alloc, &front),
             Err(MessageError::Length)
         );
+        assert!(rt; front.len() > 3);
         front[3] = n;
         let want = match n {
             16 | 40 => Ok(()),

@@ -1,11 +1,13 @@
 //! The walk over a message, from left to right: its data records go to a sink, its template records are applied.
 
-ghost use Rattle.std.specs.Prelude.{◌⊎◌, ◌≡◌, ◌+◌, ◌≤◌, ◌<◌, length, List, OnErr, IfOk, IfErr};
+ghost use Rattle.std.specs.Prelude.{◌⊎◌, ◌≡◌, ◌+◌, ◌≤◌, ◌<◌, length, List, OnOk, OnErr, IfOk, IfErr};
 ghost use Rattle.flow_codec.specs.Layout.{smallest};
 ghost use Rattle.flow_codec.specs.Raw.{RawRecord, RawMessage, Took, IsWhole};
 ghost use Rattle.flow_codec.specs.Templates.{AllTemplates};
-ghost use Rattle.flow_codec.specs.Working.{current};
-ghost use Rattle.flow_codec.specs.Reading.{Gives, Feeds, FeedsAlone, IsRefused, IsWalked, octets_at, counted_at, extent_at, records_of, content_at, kind_of, set_at, sets_at, header_at, message_at};
+ghost use Rattle.flow_codec.specs.Working.{current, AreChanges};
+ghost use Rattle.flow_codec.specs.Reading.{Gives, Feeds, FeedsAlone, IsRefused, IsWalked, octets_at, counted_at};
+ghost use Rattle.flow_codec.specs.Reading.{extent_at, records_of, content_at, kind_of, set_at, sets_at, header_at};
+ghost use Rattle.flow_codec.specs.Reading.{message_at};
 ghost use Rattle.flow_codec.specs.Extent.{step_at, extent_by};
 ghost use Rattle.flow_codec.specs.Message.{IsAccepted};
 ghost use Rattle.flow_codec.specs.Fault.{IsFault};
@@ -41,7 +43,8 @@ fn octets_of(at: usize, len: usize, octets: &[u8]) -> Result<(&[u8], &[u8]), Mes
     Ok(octets.split_at(len))
 }
 
-/// The octets of a field of variable length with its length octets, in the record at `at` (RFC 7011, section 7), and those behind it.
+/// The octets of a field of variable length with its length octets, in the record at `at` (RFC 7011, section 7), and
+/// those behind it.
 #[tactic(auto, unfolding(crate::specs::Reading::counted_at))]
 fn counted_of(at: usize, octets: &[u8]) -> Result<(&[u8], &[u8]), MessageError>
     ensures { Gives (λ x. (x.0.now, x.1.now)) result (counted_at at octets.now) }
@@ -95,7 +98,8 @@ fn extent_of<'a>(
     octets: &'a [u8],
 ) -> Result<(&'a [u8], &'a [u8]), MessageError>
     ensures exact { Gives (λ x. (x.0.now, x.1.now)) result (extent_at at definition.now.fields octets.now) }
-    ensures whole { IfOk result (λ x. IsWhole definition.now x.0.now × (length x.0.now + length x.1.now ≡ length octets.now) × (smallest definition.now ≤ length x.0.now)) }
+    ensures whole { IfOk result (λ x. IsWhole definition.now x.0.now
+        × (length x.0.now + length x.1.now ≡ length octets.now) × (smallest definition.now ≤ length x.0.now)) }
 {
     let plan = definition.plan();
     if plan.is_fixed {
@@ -114,7 +118,10 @@ fn records_of<S: RecordSink>(
     sink: &mut S,
 ) -> Result<(), WalkError<S::Error>>
     requires { length octets.now ≤ end }
-    ensures { FeedsAlone (λ records. Took S.holds header.now sink.old records sink.new × (length records ≤ length octets.now)) (IsRefused S.holds S.refuses header.now sink.old (length octets.now)) result (records_of end id definition.now octets.now) }
+    ensures { FeedsAlone (λ records. Took S.holds header.now sink.old records sink.new
+        × (length records ≤ length octets.now))
+        (IsRefused S.holds S.refuses header.now sink.old (length octets.now)) result
+        (records_of end id definition.now octets.now) }
 {
     let smallest = definition.plan().smallest;
     if smallest == 0 {
@@ -154,8 +161,13 @@ fn content_of<S: RecordSink>(
     octets: &[u8],
     sink: &mut S,
 ) -> Result<(), WalkError<S::Error>>
-    requires { length octets.now ≤ end }
-    ensures { Feeds (λ records. Took S.holds header.now sink.old records sink.new × (length records ≤ length octets.now)) (IsRefused S.holds S.refuses header.now sink.old (length octets.now)) (λ _. current header.now.domain before.now changed.new) result (content_at end header.now.domain id (current header.now.domain before.now changed.old) octets.now) }
+    requires end { length octets.now ≤ end }
+    requires changes { AreChanges header.now.domain before.now changed.old }
+    ensures changes { OnOk result (AreChanges header.now.domain before.now changed.new) }
+    ensures exact { Feeds (λ records. Took S.holds header.now sink.old records sink.new
+        × (length records ≤ length octets.now)) (IsRefused S.holds S.refuses header.now sink.old (length octets.now))
+        (λ _. current header.now.domain before.now changed.new) result
+        (content_at end header.now.domain id (current header.now.domain before.now changed.old) octets.now) }
 {
     if let Some(kind) = kind_of(id) {
         templates_of(alloc, end, before, header.domain, kind, changed, octets)?;
@@ -197,8 +209,14 @@ fn sets_of<S: RecordSink>(
     octets: &[u8],
     sink: &mut S,
 ) -> Result<(), WalkError<S::Error>>
-    requires { length octets.now ≤ end }
-    ensures { Feeds (λ records. Took S.holds header.now sink.old records sink.new × (length records ≤ length octets.now)) (IsRefused S.holds S.refuses header.now sink.old (length octets.now)) (λ _. current header.now.domain before.now changed.new) result (sets_at (length octets.now) end header.now.domain (current header.now.domain before.now changed.old) octets.now) }
+    requires end { length octets.now ≤ end }
+    requires changes { AreChanges header.now.domain before.now changed.old }
+    ensures changes { OnOk result (AreChanges header.now.domain before.now changed.new) }
+    ensures exact { Feeds (λ records. Took S.holds header.now sink.old records sink.new
+        × (length records ≤ length octets.now)) (IsRefused S.holds S.refuses header.now sink.old (length octets.now))
+        (λ _. current header.now.domain before.now changed.new) result
+        (sets_at (length octets.now) end header.now.domain
+        (current header.now.domain before.now changed.old) octets.now) }
 {
     let mut rest = octets;
     while !rest.is_empty() {
@@ -248,14 +266,18 @@ fn header_of(octets: &[u8]) -> Result<(Header, &[u8]), MessageError>
     Ok((header, rest))
 }
 
-/// Hands a message's data records to a sink. It gives the header, and what the message changes in the templates, which keep to their limits.
+/// Hands a message's data records to a sink. It gives the header, and what the message changes in the templates, which
+/// keep to their limits.
 fn divided<S: RecordSink>(
     templates: &Templates,
     alloc: Global,
     octets: &[u8],
     sink: &mut S,
 ) -> Result<(Header, Option<Changed>), WalkError<S::Error>>
-    ensures { IsWalked S.holds (λ header. IsRefused S.holds S.refuses header sink.old (length octets.now)) (λ x. (x.0, current x.0.domain templates.now x.1)) sink.old sink.new result (message_at templates.now octets.now) }
+    ensures changes { IfOk result (λ x. AreChanges x.0.domain templates.now x.1) }
+    ensures exact { IsWalked S.holds (λ header. IsRefused S.holds S.refuses header sink.old (length octets.now))
+        (λ x. (x.0, current x.0.domain templates.now x.1)) sink.old sink.new result
+        (message_at templates.now octets.now) }
 {
     let (header, rest) = header_of(octets)?;
     let mut changed = None;
@@ -278,20 +300,23 @@ fn message_of<S: RecordSink>(
     octets: &[u8],
     sink: &mut S,
 ) -> Result<Header, WalkError<S::Error>>
-    ensures exact { IsWalked S.holds (λ header. IsRefused S.holds S.refuses header sink.old (length octets.now)) (λ header. (header, templates.new)) sink.old sink.new result (message_at templates.old octets.now) }
+    ensures exact { IsWalked S.holds (λ header. IsRefused S.holds S.refuses header sink.old (length octets.now))
+        (λ header. (header, templates.new)) sink.old sink.new result (message_at templates.old octets.now) }
     ensures err { OnErr result (templates.new ≡ templates.old) }
 {
     templates.are_in_force();
     let (header, changed) = divided(templates, alloc, octets, sink)?;
-    if put_in(templates, header.domain, changed).is_err() {
+    if put_in(alloc, templates, header.domain, changed).is_err() {
         return Err(WalkError::Message(MessageError::OutOfMemory));
     }
     Ok(header)
 }
 
-/// Hands a message's data records to a sink, in order, and takes its templates in. An `Err` leaves the templates as they were.
+/// Hands a message's data records to a sink, in order, and takes its templates in. An `Err` leaves the templates as
+/// they were.
 ///
-/// It takes time in proportion to the message's octets and, where it has template records beside those in force, to its domain's templates.
+/// It takes time in proportion to the message's octets, whatever templates are in force; growth of memory and what is
+/// withdrawn are paid once.
 pub fn walk_message<S: RecordSink>(
     templates: &mut Templates,
     alloc: Global,
@@ -299,9 +324,11 @@ pub fn walk_message<S: RecordSink>(
     sink: &mut S,
 ) -> Result<Header, WalkError<S::Error>>
     // What is walked is an accepted message; its templates are taken in, and the sink took its records.
-    ensures found { IfOk result (λ header. IsWalkedBy S.holds octets.now templates.old templates.new sink.old sink.new header) }
+    ensures found { IfOk result
+        (λ header. IsWalkedBy S.holds octets.now templates.old templates.new sink.old sink.new header) }
     // An accepted message is walked, unless memory runs out or the sink refuses a record.
-    ensures only { (m : RawMessage) (after : AllTemplates) → IsAccepted octets.now templates.old m after → IsWalkOf S.holds S.refuses (length octets.now) templates.new sink.old sink.new result m after }
+    ensures only { (m : RawMessage) (after : AllTemplates) → IsAccepted octets.now templates.old m after
+        → IsWalkOf S.holds S.refuses (length octets.now) templates.new sink.old sink.new result m after }
     // Other octets are refused by their first fault, or by the sink before it.
     ensures fault { IfErr result (λ e. IsStopped S.holds S.refuses octets.now templates.old sink.old e) }
     ensures err { OnErr result (templates.new ≡ templates.old) }
@@ -311,16 +338,19 @@ pub fn walk_message<S: RecordSink>(
 
 /// Whether the octets are a message under these templates: its header, and no change.
 ///
-/// It takes time in proportion to the message's octets and, where it has template records beside those in force, to its domain's templates.
+/// It takes time in proportion to the message's octets, whatever templates are in force; growth of memory and what is
+/// withdrawn are paid once.
 pub fn judge_message(
     templates: &Templates,
     alloc: Global,
     octets: &[u8],
 ) -> Result<Header, MessageError>
     // What is accepted is a message within the limits.
-    ensures found { IfOk result (λ header. (records : List RawRecord) × (after : AllTemplates) × IsAccepted octets.now templates.now (record { header = header; records = records }) after) }
+    ensures found { IfOk result (λ header. (records : List RawRecord) × (after : AllTemplates)
+        × IsAccepted octets.now templates.now (record { header = header; records = records }) after) }
     // A message is accepted, unless memory runs out.
-    ensures only { (m : RawMessage) (after : AllTemplates) → IsAccepted octets.now templates.now m after → IsJudgementOf result m }
+    ensures only { (m : RawMessage) (after : AllTemplates) → IsAccepted octets.now templates.now m after
+        → IsJudgementOf result m }
     // Other octets are refused by their first fault.
     ensures fault { IfErr result (λ e. (e ≡ MessageError.OutOfMemory) ⊎ IsFault octets.now templates.now e) }
 {

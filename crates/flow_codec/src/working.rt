@@ -1,25 +1,107 @@
-//! The templates while a message is read. Its template records work on a copy of its own domain's definitions, made at the
-//! first of them that may change any and put back as the last step, so that a refusal leaves the templates as they were.
+//! The templates while a message is read. What its template records change in its own domain is kept beside the
+//! templates and made in them as the last step, so that a refusal leaves them as they were and no message copies a
+//! domain.
 
-ghost use Rattle.std.specs.Prelude.{◌≡◌, ◌≤◌, List, length, OnOk, OnErr, IfOk};
+ghost use Rattle.std.specs.Prelude.{◌≡◌, ◌≤◌, List, false, length, nat_lt, OnOk, OnErr, IfOk};
 ghost use Rattle.std.specs.Option.{option_copied};
 ghost use Rattle.flow_codec.specs.Reading.{Gives, templates_at, limited};
 ghost use Rattle.flow_codec.specs.Raw.{RawRecord};
-ghost use Rattle.flow_codec.specs.Templates.{AllTemplates, applied, definition_of, definitions_of, AreTemplatesInForce};
-ghost use Rattle.flow_codec.specs.Working.{current};
+ghost use Rattle.flow_codec.specs.Templates.{AllTemplates, applied, changed, definition_of, definitions_of};
+ghost use Rattle.flow_codec.specs.Templates.{domain_size, is_empty, AreTemplatesInForce};
+ghost use Rattle.flow_codec.specs.Working.{current, changed_in, AreOver, AreChanges};
 
 use crate::error::MessageError;
 use crate::kind::TemplateKind;
 use crate::message::Header;
+use crate::overlay::Overlay;
 use crate::template_records::{is_ended, template_of};
-use crate::templates::{Definition, DomainTemplates, TemplateRecord, Templates};
+use crate::templates::{Definition, DomainTemplates, MOST_OCTETS, TemplateRecord, Templates};
 use std::alloc::{AllocError, Global};
 
-/// A copy of a domain's definitions that template records have changed, and whether the domain was without any before one of them.
+/// What template records have changed in a domain, and whether it was without definitions before one of them.
 #[derive(Drop)]
 pub(crate) struct Changed {
-    here: DomainTemplates,
-    left: bool,
+    pub(crate) templates: Overlay,
+    pub(crate) options: Overlay,
+    pub(crate) left: bool,
+}
+
+impl Changed {
+    /// No change.
+    fn new(alloc: Global, here: &DomainTemplates) -> Self
+        ensures over { AreOver here.now result }
+        ensures same { changed_in here.now result ≡ here.now }
+        ensures left { result.left ≡ false }
+    {
+        Changed {
+            templates: Overlay::new(alloc, &here.templates),
+            options: Overlay::new(alloc, &here.options),
+            left: false,
+        }
+    }
+
+    /// The definition in force under an ID.
+    fn find<'a>(&'a self, here: &'a DomainTemplates, id: u16) -> Option<&'a Definition>
+        requires { AreOver here.now self.now }
+        ensures { option_copied result ≡ definition_of id (changed_in here.now self.now) }
+    {
+        match self.templates.get(&here.templates, id) {
+            Some(definition) => Some(definition),
+            None => self.options.get(&here.options, id),
+        }
+    }
+
+    /// Applies a template record. After an `Err` the changes are of no use.
+    fn apply(
+        &mut self,
+        alloc: Global,
+        here: &DomainTemplates,
+        kind: TemplateKind,
+        change: TemplateRecord,
+    ) -> Result<(), AllocError>
+        requires { AreOver here.now self.old }
+        ensures over { OnOk result (AreOver here.now self.new) }
+        ensures changed { OnOk result
+            (changed_in here.now self.new ≡ changed kind change (changed_in here.now self.old)) }
+        ensures left { self.new.left ≡ self.old.left }
+    {
+        match (kind, change) {
+            (TemplateKind::Plain, TemplateRecord::Define(id, definition)) => {
+                self.templates
+                    .change(&here.templates, id, Some(definition))?;
+                self.options.take(&here.options, id)?;
+            }
+            (TemplateKind::Options, TemplateRecord::Define(id, definition)) => {
+                self.templates.take(&here.templates, id)?;
+                self.options.change(&here.options, id, Some(definition))?;
+            }
+            (TemplateKind::Plain, TemplateRecord::Withdraw(id)) => {
+                self.templates.take(&here.templates, id)?;
+            }
+            (TemplateKind::Options, TemplateRecord::Withdraw(id)) => {
+                self.options.take(&here.options, id)?;
+            }
+            (TemplateKind::Plain, TemplateRecord::WithdrawAll) => self.templates.clear(alloc),
+            (TemplateKind::Options, TemplateRecord::WithdrawAll) => self.options.clear(alloc),
+        }
+        Ok(())
+    }
+
+    /// Whether no definition is left.
+    fn is_empty(&self, here: &DomainTemplates) -> bool
+        requires { AreOver here.now self.now }
+        ensures { result ≡ is_empty (changed_in here.now self.now) }
+    {
+        self.templates.is_empty(&here.templates) && self.options.is_empty(&here.options)
+    }
+
+    /// Whether the template records have more than 60,000 octets.
+    fn is_too_large(&self, here: &DomainTemplates) -> bool
+        requires { AreOver here.now self.now }
+        ensures { result ≡ nat_lt 60000 (domain_size (changed_in here.now self.now)) }
+    {
+        self.templates.size.saturating_add(self.options.size) > MOST_OCTETS
+    }
 }
 
 /// The definition in force under an ID.
@@ -29,35 +111,31 @@ pub(crate) fn find_in<'a>(
     changed: &'a Option<Changed>,
     id: u16,
 ) -> Option<&'a Definition>
+    requires { AreChanges domain before.now changed.now }
     ensures { option_copied result ≡ definition_of id (definitions_of domain (current domain before.now changed.now)) }
 {
     before.are_in_force();
     match changed {
-        Some(changed) => changed.here.find(id),
+        Some(changed) => changed.find(before.here(domain), id),
         None => before.find(domain, id),
     }
 }
 
-/// Takes out the changed copy, or makes one.
-fn working_copy(
-    alloc: Global,
-    before: &Templates,
-    domain: u32,
-    changed: &mut Option<Changed>,
-) -> Result<Changed, AllocError>
-    ensures { IfOk result (λ now. current domain before.now (Some now) ≡ current domain before.now changed.old) }
+/// Takes out what is changed, or begins without a change.
+fn taken(alloc: Global, before: &Templates, domain: u32, changed: &mut Option<Changed>) -> Changed
+    requires { AreChanges domain before.now changed.old }
+    ensures over { AreOver (definitions_of domain before.now) result }
+    ensures same { current domain before.now (Some result) ≡ current domain before.now changed.old }
 {
     before.are_in_force();
     match changed.take() {
-        Some(now) => Ok(now),
-        None => Ok(Changed {
-            here: before.definitions_in(alloc, domain)?,
-            left: false,
-        }),
+        Some(now) => now,
+        None => Changed::new(alloc, before.here(domain)),
     }
 }
 
-/// Applies a template record. The first one that defines anything new, or that withdraws, copies the domain's definitions. After an `Err`, `changed` is to be thrown away.
+/// Applies a template record. The first ones that define what is in force change nothing, and leave `changed` as it
+/// was. After an `Err`, `changed` is to be thrown away.
 pub(crate) fn apply_in(
     alloc: Global,
     before: &Templates,
@@ -66,15 +144,19 @@ pub(crate) fn apply_in(
     kind: TemplateKind,
     change: TemplateRecord,
 ) -> Result<(), AllocError>
-    ensures { OnOk result (current domain before.now changed.new ≡ applied domain kind change (current domain before.now changed.old)) }
+    requires { AreChanges domain before.now changed.old }
+    ensures changes { OnOk result (AreChanges domain before.now changed.new) }
+    ensures applied { OnOk result
+        (current domain before.now changed.new ≡ applied domain kind change (current domain before.now changed.old)) }
 {
     before.are_in_force();
-    if changed.is_none() && before.has(domain, kind, &change) {
+    let here = before.here(domain);
+    if changed.is_none() && here.has(kind, &change) {
         return Ok(());
     }
-    let mut now = working_copy(alloc, before, domain, changed)?;
-    now.left |= now.here.is_empty();
-    now.here.apply(kind, change)?;
+    let mut now = taken(alloc, before, domain, changed);
+    now.left |= now.is_empty(here);
+    now.apply(alloc, here, kind, change)?;
     *changed = Some(now);
     Ok(())
 }
@@ -89,8 +171,11 @@ pub(crate) fn templates_of(
     changed: &mut Option<Changed>,
     octets: &[u8],
 ) -> Result<(), MessageError>
-    requires { length octets.now ≤ end }
-    ensures { Gives (λ _. current domain before.now changed.new) result (templates_at (length octets.now) end domain kind (current domain before.now changed.old) octets.now) }
+    requires end { length octets.now ≤ end }
+    requires changes { AreChanges domain before.now changed.old }
+    ensures changes { OnOk result (AreChanges domain before.now changed.new) }
+    ensures exact { Gives (λ _. current domain before.now changed.new) result
+        (templates_at (length octets.now) end domain kind (current domain before.now changed.old) octets.now) }
 {
     let mut rest = octets;
     while !is_ended(rest) {
@@ -107,17 +192,24 @@ pub(crate) fn keep_limits(
     header: &Header,
     changed: &Option<Changed>,
 ) -> Result<(), MessageError>
-    ensures { (records : List RawRecord) → Gives (λ _. (record { header = header.now; records = records }, current header.now.domain before.now changed.now)) result
-        (limited (record { header = header.now; records = records }) (current header.now.domain before.now changed.now)) }
+    requires { AreChanges header.now.domain before.now changed.now }
+    ensures { (records : List RawRecord)
+        → Gives (λ _. (
+          record { header = header.now; records = records },
+          current header.now.domain before.now changed.now,
+        )) result
+        (limited (record { header = header.now; records = records })
+        (current header.now.domain before.now changed.now)) }
 {
     before.are_in_force();
     let Some(changed) = changed else {
         return Ok(());
     };
-    if changed.here.is_too_large() {
+    let here = before.here(header.domain);
+    if changed.is_too_large(here) {
         return Err(MessageError::TemplatesFull(header.domain));
     }
-    if changed.here.is_empty() {
+    if changed.is_empty(here) {
         return Ok(());
     }
     if before.lacks_room_for(header.domain) {
@@ -126,18 +218,20 @@ pub(crate) fn keep_limits(
     Ok(())
 }
 
-/// Puts a domain's changed definitions back. An `Err` changes nothing.
+/// Makes the changes in the templates. An `Err` changes nothing.
 pub(crate) fn put_in(
+    alloc: Global,
     templates: &mut Templates,
     domain: u32,
     changed: Option<Changed>,
 ) -> Result<(), AllocError>
-    requires { AreTemplatesInForce (current domain templates.old changed) }
+    requires changes { AreChanges domain templates.old changed }
+    requires in_force { AreTemplatesInForce (current domain templates.old changed) }
     ensures ok { OnOk result (templates.new ≡ current domain templates.old changed) }
     ensures err { OnErr result (templates.new ≡ templates.old) }
 {
-    let Some(changed) = changed else {
-        return Ok(());
-    };
-    templates.put_back(domain, changed.left, changed.here)
+    match changed {
+        Some(changed) => templates.take_in(alloc, domain, changed),
+        None => Ok(()),
+    }
 }

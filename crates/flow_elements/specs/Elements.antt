@@ -4,7 +4,8 @@ use Rattle.std.specs.Option.{option_map_or}
 use Rattle.flow_elements.specs.declared.element.ElementId.{ElementId}
 use Rattle.flow_elements.specs.declared.element.Width.TheVariants.{One, Two, Four, Eight}
 use Rattle.flow_elements.specs.declared.element.ElementType.{ElementType}
-use Rattle.flow_elements.specs.declared.element.ElementType.TheVariants.{Unsigned, Address4, Address6, Mac, Seconds, Milliseconds, Other}
+use Rattle.flow_elements.specs.declared.element.ElementType.TheVariants.{Unsigned, Address4, Address6, Mac, Seconds}
+use Rattle.flow_elements.specs.declared.element.ElementType.TheVariants.{Milliseconds, Other}
 
 pub record Listed : Type 0 where
   pub number : ℕ

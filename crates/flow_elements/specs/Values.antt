@@ -5,7 +5,10 @@ use Rattle.flow_elements.specs.declared.element.ElementId.{ElementId}
 use Rattle.flow_elements.specs.declared.element.Width.{Width}
 use Rattle.flow_elements.specs.declared.element.Width.TheVariants.{One, Two, Four, Eight}
 use Rattle.flow_elements.specs.declared.element.ElementType.{ElementType}
-use Rattle.flow_elements.specs.declared.element.ElementType.TheVariants.{Unsigned as TypeUnsigned, Address4 as TypeAddress4, Address6 as TypeAddress6, Mac as TypeMac, Seconds, Milliseconds, Other}
+use Rattle.flow_elements.specs.declared.element.ElementType.TheVariants.{Unsigned as TypeUnsigned}
+use Rattle.flow_elements.specs.declared.element.ElementType.TheVariants.{Address4 as TypeAddress4}
+use Rattle.flow_elements.specs.declared.element.ElementType.TheVariants.{Address6 as TypeAddress6, Mac as TypeMac}
+use Rattle.flow_elements.specs.declared.element.ElementType.TheVariants.{Seconds, Milliseconds, Other}
 use Rattle.flow_elements.specs.declared.value.Value.{Value}
 use Rattle.flow_elements.specs.declared.value.Value.TheVariants.{Unsigned, Address4, Address6, Mac, Octets}
 use Rattle.flow_elements.specs.Elements.{type_of}
@@ -25,7 +28,8 @@ abbrev pub number_of : List ℕ → ℕ
 number_of octets = from_be_bytes w64 (replicate (8 - length octets) 0 ++ octets)
 
 abbrev pub value_by : ElementType → List ℕ → Value
-value_by (TypeUnsigned width) octets = if is_reduced width (length octets) then Unsigned (number_of octets) else Octets octets
+value_by (TypeUnsigned width) octets =
+    if is_reduced width (length octets) then Unsigned (number_of octets) else Octets octets
 value_by TypeAddress4 octets = if length octets == 4 then Address4 octets else Octets octets
 value_by TypeAddress6 octets = if length octets == 16 then Address6 octets else Octets octets
 value_by TypeMac octets = if length octets == 6 then Mac octets else Octets octets

@@ -2,6 +2,7 @@ pub mod CountLoop
 pub mod FewFlows
 pub mod Fitting
 pub mod Gathering
+pub mod Histories
 pub mod Intervals
 pub mod Keys
 pub mod Merging

@@ -22,7 +22,8 @@ with_value Octets value counts = record counts { octets = option_or counts.octet
 with_value Packets value counts = record counts { packets = option_or counts.packets (Some (number_of value)) }
 with_value Protocol value counts = record counts { protocol = option_or counts.protocol (Some (number_of value)) }
 with_value Seconds value counts = record counts { seconds = option_or counts.seconds (Some (number_of value)) }
-with_value Milliseconds value counts = record counts { milliseconds = option_or counts.milliseconds (Some (number_of value)) }
+with_value Milliseconds value counts =
+    record counts { milliseconds = option_or counts.milliseconds (Some (number_of value)) }
 
 unfoldable pub counts_with : Counts → List (Role × List ℕ) → Counts
 counts_with counts [] = counts

@@ -1,5 +1,7 @@
 -- Sums by key as a list, in the order in which their keys came.
-use Rattle.std.specs.Prelude.{◌≡◌, ℕ, suc, List, [], ◌∷◌, Option, Some, None, option_map, Result, Ok, Err, if◌then◌else◌}
+use Rattle.std.specs.Prelude.{◌≡◌, ℕ, suc, List, [], ◌∷◌, Option, Some, None, option_map, if◌then◌else◌, Result}
+use Rattle.std.specs.Prelude.{Ok, Err}
+use Rattle.std.specs.Prelude.{slice_index_or}
 use Rattle.std.specs.FinMap.{FinMap, from_entries, get, insert}
 use Rattle.std.specs.Coded.{Coded, coded×, coded_list}
 use Rattle.flow_measure.specs.declared.error.SumError.{SumError}
@@ -26,11 +28,18 @@ abbrev pub added_to : Option Sums → Sums → Sums
 added_to None sums = sums
 added_to (Some total) sums = plus total sums
 
--- sums are added under a key, or would not fit, or need memory that isn't there
+-- sums are added under a key, or would not fit, or are a new key's, for which there is no memory
 abbrev pub Adds : {X : Type 0} → Result X SumError → Key → Sums → FinMap key_cmp Sums → FinMap key_cmp Sums → Type 0
 Adds (Ok _) key sums old new = Fits (added_to (get old key) sums) × (new ≡ insert old key (added_to (get old key) sums))
 Adds (Err SumSpent) key sums old new = (Fits (added_to (get old key) sums) → ⊥) × (new ≡ old)
-Adds (Err OutOfMemory) key sums old new = new ≡ old
+Adds (Err OutOfMemory) key sums old new = (get old key ≡ None) × (new ≡ old)
+
+-- a key with the sums at its place
+abbrev pub nothing : Key × Sums
+nothing = (record { start = 0; domain = 0; protocol = None }, record { flows = 0; octets = 0; packets = 0 })
+
+unfoldable pub resolved : List (Key × Sums) → Key × ℕ → Key × Sums
+resolved es p = (p.0, (slice_index_or es p.1 nothing).1)
 
 abbrev pub coded_entries : Coded (List (Key × Sums))
 coded_entries = coded_list (coded× coded_key coded_sums)

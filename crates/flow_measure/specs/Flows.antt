@@ -1,5 +1,6 @@
 -- The flows of data records.
-use Rattle.std.specs.Prelude.{◌<◌, ◌^◌, ℕ, ◌/◌, ◌==◌, List, Option, Some, None, option_map, unwrap_or, nat_le, find, if◌then◌else◌}
+use Rattle.std.specs.Prelude.{◌<◌, ◌^◌, ℕ, ◌/◌, ◌==◌, List, Option, Some, None, option_map, unwrap_or, nat_le, find}
+use Rattle.std.specs.Prelude.{if◌then◌else◌}
 use Rattle.std.specs.List.{filter_map}
 use Rattle.flow_elements.specs.Values.{number_of}
 use Rattle.flow_codec.specs.declared.message.Header.{Header}

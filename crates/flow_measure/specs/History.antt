@@ -1,8 +1,10 @@
 -- What an archive has accepted, and the marks up to which its messages were summed and forgotten.
-use Rattle.std.specs.Prelude.{◌≡◌, ℕ, ◌%◌, ◌<◌, ◌≤◌, List, [], ◌∷◌, length}
+use Rattle.std.specs.Prelude.{◌≡◌, ℕ, ◌%◌, ◌<◌, ◌≤◌, List, [], ◌∷◌, length, Result, Ok, Err}
 use Rattle.std.specs.List.{flat_map}
+use Rattle.flow_codec.specs.declared.error.MessageError.{MessageError}
 use Rattle.flow_codec.specs.Message.{in_fields, IsAccepted}
 use Rattle.flow_codec.specs.Raw.{RawMessage}
+use Rattle.flow_codec.specs.Reading.{message_at}
 use Rattle.flow_codec.specs.Templates.{AllTemplates}
 use Rattle.flow_measure.specs.declared.flow.Flow.{Flow}
 use Rattle.flow_measure.specs.Flows.{flows_of}
@@ -30,8 +32,23 @@ templates_of messages = templates_from [] messages
 abbrev pub flows_in : List Accepted → List Flow
 flows_in messages = flat_map (λ a. flows_of (in_fields a.message)) messages
 
--- All messages, in the order in which they were accepted. Those up to `second` are summed over wide intervals, those behind them up to
--- `cut` over intervals of the width, and those behind the cut are kept.
+-- ---- read one after the other
+
+-- a message as it is read, before those that are read behind it; none from the first one on that is refused
+abbrev pub followed_by : List ℕ → (AllTemplates → List Accepted) → Result (RawMessage × AllTemplates) MessageError
+    → List Accepted
+followed_by octets more (Ok x) = record { octets = octets; message = x.0; after = x.1 } ∷ more x.1
+followed_by octets more (Err e) = []
+
+-- messages of these octets, read one after the other from these templates on
+abbrev pub read_from : AllTemplates → List (List ℕ) → List Accepted
+read_from before [] = []
+read_from before (o ∷ os) = followed_by o (λ after. read_from after os) (message_at before o)
+
+-- ---- all that was accepted
+
+-- All messages, in the order in which they were accepted. Those up to `second` are summed over wide intervals, those
+-- behind them up to `cut` over intervals of the width, and those behind the cut are kept.
 pub record History : Type 0 where
   pub all : List Accepted
   pub second : ℕ

@@ -2,6 +2,8 @@ pub mod Sums
 pub mod Flows
 pub mod Counting
 pub mod Entries
+pub mod Sinks
 pub mod History
 pub mod View
 pub mod Query
+pub mod Printed

@@ -1,5 +1,6 @@
 -- What is asked of a history, and the answers by its view alone.
-use Rattle.std.specs.Prelude.{ℕ, zero, suc, ◌+◌, ◌-◌, ◌==◌, nat_lt, nat_le, ◌&&◌, List, [], ◌∷◌, ◌++◌, length, filter, take, drop, slice_get, Option, None, option_map, if◌then◌else◌}
+use Rattle.std.specs.Prelude.{ℕ, zero, suc, ◌+◌, ◌-◌, ◌==◌, nat_lt, nat_le, ◌&&◌, List, [], ◌∷◌, ◌++◌, length, filter}
+use Rattle.std.specs.Prelude.{take, drop, slice_get, Option, None, option_map, if◌then◌else◌}
 use Rattle.std.specs.FinMap.{entries}
 use Rattle.std.specs.Ordering.{is_le}
 use Rattle.flow_measure.specs.declared.flow.Flow.{Flow}
@@ -13,14 +14,17 @@ abbrev pub interleaved : ℕ → List Row → List Row → List Row
 interleaved zero rows others = rows ++ others
 interleaved (suc steps) [] others = others
 interleaved (suc steps) (r ∷ rows) [] = r ∷ rows
-interleaved (suc steps) (r ∷ rows) (o ∷ others) = if is_le (key_cmp r.key o.key) then r ∷ interleaved steps rows (o ∷ others) else o ∷ interleaved steps (r ∷ rows) others
+interleaved (suc steps) (r ∷ rows) (o ∷ others) =
+    if is_le (key_cmp r.key o.key) then r ∷ interleaved steps rows (o ∷ others)
+    else o ∷ interleaved steps (r ∷ rows) others
 
--- The rows of two tables from one start up to another, each by its own start, in the order of their keys, those of the narrow table first.
--- Where both have one width, they are one table.
+-- The rows of two tables from one start up to another, each by its own start, in the order of their keys, those of the
+-- narrow table first. Where both have one width, they are one table.
 abbrev pub rows_of_both : ℕ → ℕ → Table → Table → List Row
 rows_of_both from to narrow wide =
     if narrow.width == wide.width then rows_between from to (merged narrow wide) else
-    interleaved (length (entries narrow.sums) + length (entries wide.sums)) (rows_between from to narrow) (rows_between from to wide)
+    interleaved (length (entries narrow.sums) + length (entries wide.sums)) (rows_between from to narrow)
+    (rows_between from to wide)
 
 -- ---- of a history
 
@@ -46,7 +50,11 @@ message_at n h = if nat_lt h.cut n then option_map (λ a. a.octets) (slice_get h
 -- ---- of a view
 
 abbrev pub narrow_table_in : View → Table
-narrow_table_in v = record { width = v.width; sums = gathered (entries (gathered_all v.rolled) ++ entries (sums_by v.width (flows_in v.kept))) }
+narrow_table_in v =
+    record {
+      width = v.width;
+      sums = gathered (entries (gathered_all v.rolled) ++ entries (sums_by v.width (flows_in v.kept)));
+    }
 
 abbrev pub totals_in_view : ℕ → ℕ → View → List Row
 totals_in_view from to v = rows_of_both from to (narrow_table_in v) (record { width = v.wide; sums = v.merged })

@@ -1,5 +1,6 @@
 -- Sums of flows, by the interval of their start (RFC 7015, start interval distribution), by domain and by protocol.
-use Rattle.std.specs.Prelude.{◌≡◌, ℕ, ◌+◌, ◌-◌, ◌%◌, ◌<◌, ◌^◌, Bool, nat_le, nat_lt, ◌&&◌, List, [], ◌∷◌, ◌++◌, map, filter, sum_by, Option, Some, None, IfSome, Result, Ok, Err, refl}
+use Rattle.std.specs.Prelude.{◌≡◌, ℕ, ◌+◌, ◌-◌, ◌%◌, ◌<◌, ◌^◌, Bool, nat_le, nat_lt, ◌&&◌, List, [], ◌∷◌, ◌++◌, map}
+use Rattle.std.specs.Prelude.{filter, sum_by, Option, Some, None, IfSome, Result, Ok, Err, refl}
 use Rattle.std.specs.Option.{option_cmp}
 use Rattle.std.specs.Ordering.{nat_cmp, ordering_then, is_eq}
 use Rattle.std.specs.declared.cmp.Ordering.{Ordering}
@@ -18,7 +19,9 @@ interval_of start width = start - start % width
 
 -- by start, then domain, then protocol, none before 0
 abbrev pub key_cmp : Key → Key → Ordering
-key_cmp a b = ordering_then (nat_cmp a.start b.start) (ordering_then (nat_cmp a.domain b.domain) (option_cmp nat_cmp a.protocol b.protocol))
+key_cmp a b =
+    ordering_then (nat_cmp a.start b.start)
+    (ordering_then (nat_cmp a.domain b.domain) (option_cmp nat_cmp a.protocol b.protocol))
 
 abbrev pub is_key : Key → Key → Bool
 is_key a b = is_eq (key_cmp a b)
@@ -42,7 +45,11 @@ abbrev pub under : Key → List (Key × Sums) → List Sums
 under key es = map (λ e. e.1) (filter (λ e. is_key key e.0) es)
 
 abbrev pub total : List Sums → Sums
-total sums = record { flows = sum_by (λ s. s.flows) sums; octets = sum_by (λ s. s.octets) sums; packets = sum_by (λ s. s.packets) sums }
+total sums = record {
+  flows = sum_by (λ s. s.flows) sums;
+  octets = sum_by (λ s. s.octets) sums;
+  packets = sum_by (λ s. s.packets) sums;
+}
 
 -- the total, where there is anything
 abbrev pub some_total : List Sums → Option Sums
@@ -82,13 +89,27 @@ merged a b = record { width = a.width; sums = gathered (entries a.sums ++ entrie
 abbrev pub widened_key : ℕ → Key → Key
 widened_key wide key = record { start = interval_of key.start wide; domain = key.domain; protocol = key.protocol }
 
+abbrev pub widened_entries : ℕ → List (Key × Sums) → List (Key × Sums)
+widened_entries wide es = map (λ e. (widened_key wide e.0, e.1)) es
+
 -- the sums over wide intervals of those in each
 abbrev pub widened : ℕ → Table → Table
-widened wide t = record { width = wide; sums = gathered (map (λ e. (widened_key wide e.0, e.1)) (entries t.sums)) }
+widened wide t = record { width = wide; sums = gathered (widened_entries wide (entries t.sums)) }
 
--- starts are multiples of the width, and each key has flows
+-- the table with these sums added, each under the key of the interval that holds its start
+abbrev pub with_entries : List (Key × Sums) → Table → Table
+with_entries es t = record { width = t.width; sums = gathered (entries t.sums ++ widened_entries t.width es) }
+
+-- a key of rows by this width: its start is a multiple of the width, and its numbers fit their types
+pub record IsKeyBy (width : ℕ) (key : Key) : Type 0 where
+  pub aligned : key.start % width ≡ 0
+  pub start : key.start < 2 ^ 32
+  pub domain : key.domain < 2 ^ 32
+  pub protocol : IfSome key.protocol (λ p. p < 2 ^ 8)
+
+-- each key is one by this width, and has flows
 abbrev pub AreSound : ℕ → FinMap key_cmp Sums → Type 0
-AreSound width sums = (key : Key) → IfSome (get sums key) (λ s. (key.start % width ≡ 0) × (0 < s.flows))
+AreSound width sums = (key : Key) → IfSome (get sums key) (λ s. IsKeyBy width key × (0 < s.flows))
 
 -- each sum fits its type
 abbrev pub AllFit : Table → Type 0
@@ -122,10 +143,17 @@ rows_between from to t = map (row_of t.width) (filter (λ e. is_within from to e
 -- ---- codes
 
 abbrev pub coded_key : Coded Key
-coded_key = code_by (ℕ × (ℕ × Option ℕ)) (coded× coded_ℕ (coded× coded_ℕ (coded_option coded_ℕ))) (λ k. (k.start, (k.domain, k.protocol))) (λ p. record { start = p.0; domain = (p.1).0; protocol = (p.1).1 }) (λ _. refl)
+coded_key =
+    code_by (ℕ × (ℕ × Option ℕ)) (coded× coded_ℕ (coded× coded_ℕ (coded_option coded_ℕ)))
+    (λ k. (k.start, (k.domain, k.protocol)))
+    (λ p. record { start = p.0; domain = (p.1).0; protocol = (p.1).1 }) (λ _. refl)
 
 abbrev pub coded_sums : Coded Sums
-coded_sums = code_by (ℕ × (ℕ × ℕ)) (coded× coded_ℕ (coded× coded_ℕ coded_ℕ)) (λ s. (s.flows, (s.octets, s.packets))) (λ p. record { flows = p.0; octets = (p.1).0; packets = (p.1).1 }) (λ _. refl)
+coded_sums =
+    code_by (ℕ × (ℕ × ℕ)) (coded× coded_ℕ (coded× coded_ℕ coded_ℕ)) (λ s. (s.flows, (s.octets, s.packets)))
+    (λ p. record { flows = p.0; octets = (p.1).0; packets = (p.1).1 }) (λ _. refl)
 
 abbrev pub coded_table : Coded Table
-coded_table = code_by (ℕ × FinMap key_cmp Sums) (coded× coded_ℕ (code coded_key coded_sums)) (λ t. (t.width, t.sums)) (λ p. record { width = p.0; sums = p.1 }) (λ _. refl)
+coded_table =
+    code_by (ℕ × FinMap key_cmp Sums) (coded× coded_ℕ (code coded_key coded_sums)) (λ t. (t.width, t.sums))
+    (λ p. record { width = p.0; sums = p.1 }) (λ _. refl)

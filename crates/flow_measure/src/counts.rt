@@ -1,16 +1,20 @@
 //! The numbers that count in a data record.
 
-ghost use Rattle.std.specs.Prelude.{◌≡◌, ◌≤◌, length, take, drop};
+ghost use Rattle.std.specs.Prelude.{◌≡◌, ◌≤◌, length};
 ghost use Rattle.std.specs.List.{AllByRecursion};
-ghost use Rattle.flow_codec.specs.Fields.{counted_of, fields_in};
+ghost use Rattle.flow_codec.specs.Fields.{fields_in};
 ghost use Rattle.flow_codec.specs.Plan.{most_of, values_by, values_of};
 ghost use Rattle.flow_codec.specs.Raw.{IsWhole};
-ghost use Rattle.flow_measure.specs.Counting.{no_counts, with_value, counts_with, flow_by, step_values, step_rest, IsStep};
+ghost use Rattle.flow_measure.specs.Counting.{no_counts, with_value, counts_with, flow_by, step_values, step_rest};
+ghost use Rattle.flow_measure.specs.Counting.{IsStep};
 ghost use Rattle.flow_measure.specs.Flows.{start_of, flow_from};
 
 use crate::flow::Flow;
-use flow_codec::{Definition, Header, Role, Step};
+use flow_codec::{Definition, Header, Role, Step, split_field};
 use flow_elements::number_of;
+
+/// The Field Length of a field of variable length (RFC 7011, section 7).
+const VARIABLE: u16 = 65535;
 
 /// The numbers found in a record so far, of each role the first.
 #[derive(Clone, Copy, Debug)]
@@ -59,15 +63,15 @@ impl Counts {
         ensures rest { result.now ≡ step_rest step.now octets.now }
     {
         match step {
-            Step::Skip(count) => split(octets, *count).1,
+            Step::Skip(count) => &octets[(*count).min(octets.len())..],
             Step::Fixed(role, len) => {
-                let (value, rest) = split(octets, *len as usize);
+                let (value, rest) = split_field(*len, octets);
                 self.count(*role, value);
                 rest
             }
-            Step::Variable(None) => counted(octets).1,
+            Step::Variable(None) => split_field(VARIABLE, octets).1,
             Step::Variable(Some(role)) => {
-                let (value, rest) = counted(octets);
+                let (value, rest) = split_field(VARIABLE, octets);
                 if role.is_counted(value.len()) {
                     self.count(*role, value);
                 }
@@ -87,26 +91,6 @@ impl Counts {
             octets: self.octets.unwrap_or(0),
             packets: self.packets.unwrap_or(0),
         }
-    }
-}
-
-/// The first octets, as many as these or all, and the others.
-fn split(octets: &[u8], count: usize) -> (&[u8], &[u8])
-    ensures first { result.0.now ≡ take count octets.now }
-    ensures rest { result.1.now ≡ drop count octets.now }
-{
-    octets.split_at(count.min(octets.len()))
-}
-
-/// A value behind its length in one octet or in three, and the octets behind it (RFC 7011, section 7).
-fn counted(octets: &[u8]) -> (&[u8], &[u8])
-    ensures first { result.0.now ≡ (counted_of octets.now).0 }
-    ensures rest { result.1.now ≡ (counted_of octets.now).1 }
-{
-    match octets {
-        [len, rest @ ..] if *len < 255 => split(rest, *len as usize),
-        [_, high, low, rest @ ..] => split(rest, u16::from_be_bytes([*high, *low]) as usize),
-        _ => (&octets[octets.len()..], &octets[octets.len()..]),
     }
 }
 

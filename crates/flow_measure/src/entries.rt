@@ -1,11 +1,12 @@
 //! Sums by key, in the order in which their keys came, and where each key stands.
 
-ghost use Rattle.std.specs.Prelude.{◌≡◌, ◌++◌, ◌∷◌, [], List, None, Some, slice_get, IfOk, OnOk, OnErr};
+ghost use Rattle.std.specs.Prelude.{◌<◌, ◌≡◌, ◌++◌, ◌∷◌, [], List, None, Some, slice_get, IfOk, OnOk, OnErr};
 ghost use Rattle.std.specs.FinMap.{entries};
 ghost use Rattle.flow_measure.specs.Entries.{place_of, map_of, Adds, AreOnce};
 
 use crate::error::SumError;
 use crate::rows::{Key, Sums};
+use crate::walk::InOrder;
 use std::alloc::{AllocError, Global};
 use std::collections::BTreeMap;
 use std::marker::Model;
@@ -17,8 +18,13 @@ pub(crate) struct Entries {
     items: Vec<(Key, Sums)>,
     /// The place of each key among them.
     places: BTreeMap<Key, usize>,
+    /// The places of keys that came lately, each where its key may be remembered. It is looked at before it is used.
+    recent: [usize; RECENT],
     alloc: Global,
 }
+
+/// How many places of keys are remembered.
+const RECENT: usize = 1024;
 
 impl Model for Entries {
     ghost use Rattle.std.specs.Prelude.{List};
@@ -36,7 +42,8 @@ impl Model for Entries {
 
     ghost view = { λ e. e.items.items };
 
-    ghost invariant = { λ e. AreOnce e.items.items × ((key : Key) → lookup (is_at (key_cmp key)) e.places.entries ≡ place_of key e.items.items) };
+    ghost invariant = { λ e. AreOnce e.items.items
+        × ((key : Key) → lookup (is_at (key_cmp key)) e.places.entries ≡ place_of key e.items.items) };
 }
 
 impl Entries {
@@ -47,27 +54,33 @@ impl Entries {
         Entries {
             items: Vec::new(alloc),
             places: BTreeMap::new(alloc),
+            recent: [0; RECENT],
             alloc,
         }
     }
 
-    /// The place of a key.
-    pub(crate) fn find(&self, key: Key) -> Option<usize>
-        ensures { result ≡ place_of key self.now }
-    {
-        self.places.get(&key).copied()
-    }
-
     /// The key at a place, with its sums.
-    pub(crate) fn get(&self, place: usize) -> Option<(Key, Sums)>
+    fn get(&self, place: usize) -> Option<(Key, Sums)>
         ensures value { result ≡ slice_get self.now place }
         ensures once { AreOnce self.now }
     {
         self.items.get(place).copied()
     }
 
+    /// The place of a key. It is first looked for at a place where it may be.
+    fn find(&self, near: usize, key: Key) -> Option<usize>
+        ensures { result ≡ place_of key self.now }
+    {
+        if let Some((here, _)) = self.get(near) {
+            if here == key {
+                return Some(near);
+            }
+        }
+        self.places.get(&key).copied()
+    }
+
     /// Adds sums to those of a key, of which this is the place.
-    pub(crate) fn increase(&mut self, place: usize, key: Key, sums: Sums) -> Result<(), SumError>
+    fn increase(&mut self, place: usize, key: Key, sums: Sums) -> Result<(), SumError>
         requires { place_of key self.old ≡ Some place }
         ensures { Adds result key sums (map_of self.old) (map_of self.new) }
     {
@@ -91,17 +104,28 @@ impl Entries {
         Ok(())
     }
 
-    /// Adds sums under a key, and gives its place.
-    pub(crate) fn put(&mut self, key: Key, sums: Sums) -> Result<usize, SumError>
+    /// Adds sums under a key.
+    pub(crate) fn put(&mut self, key: Key, sums: Sums) -> Result<(), SumError>
         ensures { Adds result key sums (map_of self.old) (map_of self.new) }
     {
-        if let Some(place) = self.find(key) {
-            self.increase(place, key, sums)?;
-            return Ok(place);
+        let slot = recent_slot(&key);
+        if let Some(place) = self.find(self.recent[slot], key) {
+            self.recent[slot] = place;
+            return self.increase(place, key, sums);
         }
-        let place = self.items.len();
+        self.recent[slot] = self.items.len();
         self.push(key, sums)?;
-        Ok(place)
+        Ok(())
+    }
+
+    /// All keys with their sums, one by one in the order of the keys.
+    pub(crate) fn walk(&self) -> InOrder<'_>
+        ensures { result ≡ entries (map_of self.now) }
+    {
+        InOrder {
+            places: self.places.iter(),
+            items: self.items.as_slice(),
+        }
     }
 
     /// All keys with their sums, in the order of the keys.
@@ -123,7 +147,22 @@ impl Entries {
         Ok(Entries {
             items: self.items.clone()?,
             places: self.places.clone()?,
+            recent: self.recent,
             alloc: self.alloc,
         })
     }
+}
+
+/// Where the place of a key may be remembered: the top bits of its numbers, mixed.
+fn recent_slot(key: &Key) -> usize
+    ensures { result < 1024 }
+{
+    let protocol = key.protocol.map_or(256, u32::from);
+    let mixed = key
+        .start
+        .wrapping_mul(40503)
+        .wrapping_add(key.domain)
+        .wrapping_mul(257)
+        .wrapping_add(protocol);
+    (mixed.wrapping_mul(2654435769) >> 22) as usize
 }

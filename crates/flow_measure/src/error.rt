@@ -1,21 +1,35 @@
 //! Why sums were not made.
 
-ghost use Rattle.std.specs.Prelude.{◌≡◌};
+ghost use Rattle.std.specs.Prelude.{◌≡◌, Some};
+ghost use Rattle.flow_measure.specs.Printed.{printed};
 ghost use Rattle.flow_measure.specs.declared.error.SumError.TheVariants.{OutOfMemory};
 
 use std::alloc::{AllocError, AllocFailed};
-use thiserror::Error;
+use std::error::Error;
+use std::fmt;
 
-/// Why flows or rows were not added. What they were to be added to is then as before.
-#[derive(Clone, Copy, Debug, PartialEq, Eq, Error)]
+/// Why flows or rows were not added, printed as its number and its name. What they were to be added to is then as
+/// before.
+#[derive(Clone, Copy, Debug, PartialEq, Eq)]
 pub enum SumError {
     /// A sum would pass its type.
-    #[error("14 SumSpent")]
     SumSpent,
     /// No memory is left.
-    #[error("11 OutOfMemory")]
     OutOfMemory,
 }
+
+impl fmt::Display for SumError {
+    ghost output = { λ e. Some (printed e) };
+
+    fn fmt<W: fmt::Write>(&self, f: &mut fmt::Formatter<W>) -> fmt::Result {
+        match self {
+            SumError::SumSpent => write!(f, "14 SumSpent"),
+            SumError::OutOfMemory => write!(f, "11 OutOfMemory"),
+        }
+    }
+}
+
+impl Error for SumError {}
 
 impl From<AllocError> for SumError {
     ghost from_gives = { λ _ e. e ≡ OutOfMemory };

@@ -1,31 +1,37 @@
 //! Laws of flows and of their sums.
 
-ghost use Rattle.std.specs.Prelude.{◌≡◌, ℕ, ◌<◌, ◌^◌, ◌%◌, List, ◌++◌, length, Option, map, filter};
+ghost use Rattle.std.specs.Prelude.{◌≡◌, ℕ, ◌<◌, ◌^◌, ◌%◌, List, [], ◌∷◌, ◌++◌, length, Option, map, filter};
 ghost use Rattle.std.specs.FinMap as finite;
 ghost use Rattle.std.specs.List.{AllByRecursion};
 ghost use Rattle.flow_measure.specs.declared.flow.Flow.{Flow};
 ghost use Rattle.flow_measure.specs.declared.rows.Key.{Key};
-ghost use Rattle.flow_codec.specs.Message.{in_fields};
+ghost use Rattle.flow_codec.specs.Message.{in_fields, IsAccepted};
+ghost use Rattle.flow_codec.specs.Templates.{AllTemplates};
 ghost use Rattle.flow_codec.specs.Raw.{RawMessage, under};
 ghost use Rattle.flow_measure.specs.Flows.{FlowFits, flows_of, flows_of_records};
-ghost use Rattle.flow_measure.specs.History.{History, IsHistory};
+ghost use Rattle.flow_measure.specs.History.{Accepted, AreAcceptedFrom, History, IsHistory, read_from, templates_from};
 ghost use Rattle.flow_measure.specs.View.{AreCountsOf, view_of};
-ghost use Rattle.flow_measure.specs.Query.{totals_between, totals_in_view, flows_between, flows_in_view, message_at, message_in_view};
-ghost use Rattle.flow_measure.specs.Sums.{AllFit, sums_by, table_of, merged, widened, key_of, is_key, counted, some_total};
+ghost use Rattle.flow_measure.specs.Query.{totals_between, totals_in_view, flows_between, flows_in_view, message_at};
+ghost use Rattle.flow_measure.specs.Query.{message_in_view};
+ghost use Rattle.flow_measure.specs.Sums.{AllFit, sums_by, table_of, merged, widened, key_of, is_key, counted};
+ghost use Rattle.flow_measure.specs.Sums.{some_total};
 
 /// The sums of flows have at each key the sum of the flows of that key, and nothing where there are none.
 pub fn sums_at_a_key()
-    ensures { (width : ℕ) (flows : List Flow) (key : Key) → finite.get (sums_by width flows) key ≡ some_total (map counted (filter (λ f. is_key key (key_of width f)) flows)) }
+    ensures { (width : ℕ) (flows : List Flow) (key : Key) → finite.get (sums_by width flows) key
+        ≡ some_total (map counted (filter (λ f. is_key key (key_of width f)) flows)) }
 {}
 
 /// The sums of some flows and those of others, merged, are the sums of all of them.
 pub fn merging()
-    ensures { (width : ℕ) (flows more : List Flow) → merged (table_of width flows) (table_of width more) ≡ table_of width (flows ++ more) }
+    ensures { (width : ℕ) (flows more : List Flow) → merged (table_of width flows) (table_of width more)
+        ≡ table_of width (flows ++ more) }
 {}
 
 /// The sums of flows by a width, widened, are their sums by the wide width.
 pub fn widening()
-    ensures { (width wide : ℕ) (flows : List Flow) → 0 < width → wide % width ≡ 0 → widened wide (table_of width flows) ≡ table_of wide flows }
+    ensures { (width wide : ℕ) (flows : List Flow) → 0 < width → wide % width ≡ 0
+        → widened wide (table_of width flows) ≡ table_of wide flows }
 {}
 
 /// The flows of a message's records in octets are those of the same message in fields.
@@ -33,14 +39,29 @@ pub fn flows_either_way()
     ensures { (m : RawMessage) → flows_of (in_fields m) ≡ flows_of_records (under m.header m.records) }
 {}
 
-/// Fewer than 2^64 flows whose counts fit their types have sums that fit theirs: their addition is never refused for that.
+/// Fewer than 2^64 flows whose counts fit their types have sums that fit theirs: adding them is never refused by 14.
 pub fn few_flows_fit()
-    ensures { (width : ℕ) (flows : List Flow) → AllByRecursion FlowFits flows → length flows < 2 ^ 64 → AllFit (table_of width flows) }
+    ensures { (width : ℕ) (flows : List Flow) → AllByRecursion FlowFits flows → length flows < 2 ^ 64
+        → AllFit (table_of width flows) }
 {}
 
 /// What is asked of a history is answered by its view alone, however its rolled messages are parted into entries.
 pub fn queries_by_view()
-    ensures totals { (h : History) (counts : List ℕ) (from to : ℕ) → IsHistory h → AreCountsOf h counts → totals_in_view from to (view_of h counts) ≡ totals_between from to h }
-    ensures flows { (h : History) (counts : List ℕ) (from to : ℕ) → IsHistory h → AreCountsOf h counts → flows_in_view from to (view_of h counts) ≡ flows_between from to h }
-    ensures message { (h : History) (counts : List ℕ) (n : ℕ) → IsHistory h → AreCountsOf h counts → message_in_view n (view_of h counts) ≡ message_at n h }
+    ensures totals { (h : History) (counts : List ℕ) (from to : ℕ) → IsHistory h → AreCountsOf h counts
+        → totals_in_view from to (view_of h counts) ≡ totals_between from to h }
+    ensures flows { (h : History) (counts : List ℕ) (from to : ℕ) → IsHistory h → AreCountsOf h counts
+        → flows_in_view from to (view_of h counts) ≡ flows_between from to h }
+    ensures message { (h : History) (counts : List ℕ) (n : ℕ) → IsHistory h → AreCountsOf h counts
+        → message_in_view n (view_of h counts) ≡ message_at n h }
+{}
+
+/// Accepted messages are read again from their octets alone; one that is accepted behind messages that were all read is
+/// read behind them.
+pub fn reading()
+    ensures again { (before : AllTemplates) (messages : List Accepted) → AreAcceptedFrom before messages
+        → read_from before (map (λ a. a.octets) messages) ≡ messages }
+    ensures behind { (before : AllTemplates) (octets : List (List ℕ)) (a : Accepted)
+        → length (read_from before octets) ≡ length octets
+        → IsAccepted a.octets (templates_from before (read_from before octets)) a.message a.after
+        → read_from before (octets ++ a.octets ∷ []) ≡ read_from before octets ++ a ∷ [] }
 {}

@@ -1,9 +1,10 @@
 //! Flows, intervals and sums.
 //!
-//! What the layers above may count on: the flows of a message are the same by its fields and by the plan of each record's definition,
-//! one for each data record of a Template; `Rows` is at any time the table of sums of the flows that were added, each flow whole in the
-//! interval that holds its start; merging adds tables, widening gives the table that the same flows have over wide intervals; a
-//! refusal changes nothing, and comes exactly where a sum would pass its type or no memory is left.
+//! What the layers above may count on: the flows of a message are the same by its fields and by the plan of each
+//! record's definition, one for each data record of a Template; `Rows` is at any time the table of sums of the flows
+//! that were added, each flow whole in the interval that holds its start; merging adds tables, widening gives the table
+//! that the same flows have over wide intervals; a refusal changes nothing, and comes exactly where a sum would pass
+//! its type or no memory is left. Adding to a key that has sums takes no memory.
 #![tactic(auto)]
 
 mod counts;
@@ -14,12 +15,14 @@ mod flow;
 pub mod laws;
 mod rows;
 mod sinks;
+mod walk;
 
 pub use error::SumError;
 pub use fields::flows_of_message;
 pub use flow::{Flow, interval_of};
 pub use rows::{Key, Row, Rows, Sums};
 pub use sinks::{Flows, Totals};
+pub use walk::InOrder;
 
 #[cfg(test)]
 mod tests;

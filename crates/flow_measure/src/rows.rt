@@ -1,13 +1,17 @@
 //! Sums of flows by interval, domain and protocol.
 
-ghost use Rattle.std.specs.Prelude.{◌≡◌, ◌<◌, ◌≤◌, ◌%◌, true, List, [], ◌∷◌, ◌++◌, IfOk, OnOk, MatchResult};
+ghost use Rattle.std.specs.Prelude.{◌≡◌, ◌<◌, ◌≤◌, ◌%◌, true, List, [], ◌∷◌, ◌++◌, IfOk, IfErr, OnOk, MatchResult};
+ghost use Rattle.std.specs.FinMap as finite;
+ghost use Rattle.std.specs.List.{AllByRecursion};
 ghost use Rattle.std.specs.Option.{SomeIff};
-ghost use Rattle.flow_measure.specs.Sums.{key_of, plus, Fits, empty_table, with_flow, with_sums, merged, widened, rows_between, AreSound, AreSums, AllFit, Becomes, IsRefused};
+ghost use Rattle.flow_measure.specs.Sums.{key_of, plus, Fits, empty_table, with_flow, with_sums, with_entries, merged};
+ghost use Rattle.flow_measure.specs.Sums.{widened, rows_between, AreSound, AreSums, AllFit, Becomes, IsRefused};
 ghost use Rattle.flow_measure.specs.declared.flow.Flow.{Flow};
 
 use crate::entries::Entries;
 use crate::error::SumError;
 use crate::flow::{Flow, interval_of};
+use crate::walk::InOrder;
 use std::alloc::{AllocError, Global};
 use std::marker::Model;
 
@@ -56,12 +60,7 @@ pub struct Row {
 pub struct Rows {
     width: u32,
     entries: Entries,
-    /// For some domains and protocols each, the place of the key that their last flow fell under. It is looked at before it is used.
-    recent: [usize; RECENT],
 }
-
-/// How many places of keys are remembered.
-const RECENT: usize = 64;
 
 impl Model for Rows {
     ghost use Rattle.std.specs.Prelude.{◌<◌};
@@ -74,7 +73,8 @@ impl Model for Rows {
 
     ghost view = { λ r. record { width = r.width; sums = map_of r.entries } };
 
-    ghost invariant = { λ r. (0 < r.width) × AreSound r.width (map_of r.entries) × AllFit (record { width = r.width; sums = map_of r.entries }) };
+    ghost invariant = { λ r. (0 < r.width) × AreSound r.width (map_of r.entries)
+        × AllFit (record { width = r.width; sums = map_of r.entries }) };
 }
 
 impl Rows {
@@ -86,11 +86,11 @@ impl Rows {
         Rows {
             width,
             entries: Entries::new(alloc),
-            recent: [0; RECENT],
         }
     }
 
-    /// The width of the intervals, in seconds. Each start is a multiple of it, and each key has flows.
+    /// The width of the intervals, in seconds. Each start is a multiple of it, each number of a key fits its type, and
+    /// each key has flows.
     pub fn width(&self) -> u32
         ensures width { result ≡ self.now.width }
         ensures positive { 0 < result }
@@ -100,39 +100,53 @@ impl Rows {
         self.width
     }
 
-    /// Adds sums under a key.
+    /// Adds sums under a key. The first sums of a key have flows; those that are added to them may have none.
     pub fn put(&mut self, key: Key, sums: Sums) -> Result<(), SumError>
         requires aligned { key.start % self.old.width ≡ 0 }
-        requires counted { 0 < sums.flows }
-        ensures { Becomes result (with_sums key sums self.old) self.old self.new }
+        requires counted { finite.get self.old.sums key ≡ None → 0 < sums.flows }
+        ensures becomes { Becomes result (with_sums key sums self.old) self.old self.new }
+        // Memory is taken for a new key alone.
+        ensures room { IfErr result (λ e. e ≡ SumError.OutOfMemory → finite.get self.old.sums key ≡ None) }
     {
-        self.entries.put(key, sums)?;
-        Ok(())
+        self.entries.put(key, sums)
     }
 
     /// Adds a flow under its key.
     pub fn add(&mut self, flow: &Flow) -> Result<(), SumError>
         ensures becomes { Becomes result (with_flow flow.now self.old) self.old self.new }
-        ensures sums { OnOk result ((flows : List Flow) → AreSums self.old flows → AreSums self.new (flows ++ flow.now ∷ [])) }
+        ensures sums { OnOk result ((flows : List Flow) → AreSums self.old flows
+            → AreSums self.new (flows ++ flow.now ∷ [])) }
+        // Memory is taken for a new key alone.
+        ensures room { IfErr result (λ e. e ≡ SumError.OutOfMemory
+            → finite.get self.old.sums (key_of self.old.width flow.now) ≡ None) }
     {
-        let sums = Sums {
-            flows: 1,
-            octets: u128::from(flow.octets),
-            packets: u128::from(flow.packets),
-        };
-        let slot = recent_slot(flow);
-        let place = self.recent[slot];
-        if let Some((key, _)) = self.entries.get(place) {
-            if is_under(&key, flow, self.width) {
-                return self.entries.increase(place, key, sums);
-            }
-        }
         let key = Key {
             start: interval_of(flow.start, self.width),
             domain: flow.domain,
             protocol: flow.protocol,
         };
-        self.recent[slot] = self.entries.put(key, sums)?;
+        let sums = Sums {
+            flows: 1,
+            octets: u128::from(flow.octets),
+            packets: u128::from(flow.packets),
+        };
+        self.put(key, sums)
+    }
+
+    /// Adds sums of keys, each under the key of the interval that holds its start. After an `Err` some may have been
+    /// added.
+    fn add_all(&mut self, entries: &[(Key, Sums)]) -> Result<(), SumError>
+        requires { AllByRecursion (λ e. 0 < e.1.flows) entries.now }
+        ensures { MatchResult result
+            (λ _. AllFit (with_entries entries.now self.old) × (self.new ≡ with_entries entries.now self.old))
+            (λ e. IsRefused e (with_entries entries.now self.old)) }
+    {
+        let width = self.width();
+        for entry in entries {
+            let (key, sums) = *entry;
+            let start = interval_of(key.start, width);
+            self.put(Key { start, ..key }, sums)?;
+        }
         Ok(())
     }
 
@@ -144,7 +158,6 @@ impl Rows {
         Ok(Rows {
             width: self.width,
             entries: self.entries.try_copy()?,
-            recent: self.recent,
         })
     }
 
@@ -152,13 +165,11 @@ impl Rows {
     pub fn merge(&mut self, other: &Rows) -> Result<(), SumError>
         requires { self.old.width ≡ other.now.width }
         ensures becomes { Becomes result (merged self.old other.now) self.old self.new }
-        ensures sums { OnOk result ((flows more : List Flow) → AreSums self.old flows → AreSums other.now more → AreSums self.new (flows ++ more)) }
+        ensures sums { OnOk result ((flows more : List Flow) → AreSums self.old flows → AreSums other.now more
+            → AreSums self.new (flows ++ more)) }
     {
         let mut sum = self.try_copy()?;
-        for entry in other.entries.in_order()?.iter() {
-            let (key, sums) = *entry;
-            sum.put(key, sums)?;
-        }
+        sum.add_all(other.entries()?.as_slice())?;
         *self = sum;
         Ok(())
     }
@@ -167,16 +178,30 @@ impl Rows {
     pub fn widen(&self, alloc: Global, wide: u32) -> Result<Rows, SumError>
         requires positive { 0 < wide }
         requires multiple { wide % self.now.width ≡ 0 }
-        ensures made { MatchResult result (λ rows. AllFit (widened wide self.now) × (rows ≡ widened wide self.now)) (λ e. IsRefused e (widened wide self.now)) }
+        ensures made { MatchResult result (λ rows. AllFit (widened wide self.now) × (rows ≡ widened wide self.now))
+            (λ e. IsRefused e (widened wide self.now)) }
         ensures sums { IfOk result (λ rows. (flows : List Flow) → AreSums self.now flows → AreSums rows flows) }
     {
         let mut rows = Rows::new(alloc, wide);
-        for entry in self.entries.in_order()?.iter() {
-            let (key, sums) = *entry;
-            let start = interval_of(key.start, wide);
-            rows.put(Key { start, ..key }, sums)?;
-        }
+        rows.add_all(self.entries()?.as_slice())?;
         Ok(rows)
+    }
+
+    /// All keys with their sums, one by one in the order of the keys. Nothing is copied.
+    pub fn walk(&self) -> InOrder<'_>
+        ensures { result ≡ finite.entries self.now.sums }
+    {
+        self.entries.walk()
+    }
+
+    /// All keys with their sums, in the order of the keys. What `width` says of them holds.
+    pub fn entries(&self) -> Result<Vec<(Key, Sums)>, AllocError>
+        ensures list { IfOk result (λ list. list.items ≡ finite.entries self.now.sums) }
+        ensures positive { 0 < self.now.width }
+        ensures sound { AreSound self.now.width self.now.sums }
+        ensures fit { AllFit self.now }
+    {
+        self.entries.in_order()
     }
 
     /// The rows whose intervals start from `from` on and before `to`, in the order of their keys.
@@ -184,37 +209,14 @@ impl Rows {
         ensures { IfOk result (λ rows. rows.items ≡ rows_between from to self.now) }
     {
         let width = self.width;
+        let mut walk = self.walk();
         let mut rows = Vec::new(alloc);
-        for (key, sums) in self.entries.in_order()?.iter() {
+        while let Some((key, sums)) = walk.next() {
             let start = u64::from(key.start);
             if from <= start && start < to {
-                rows.push(Row {
-                    key: *key,
-                    sums: *sums,
-                    width,
-                })?;
+                rows.push(Row { key, sums, width })?;
             }
         }
         Ok(rows)
     }
-}
-
-/// Where the place of the key that a flow falls under may be remembered.
-fn recent_slot(flow: &Flow) -> usize
-    ensures { result < 64 }
-{
-    let protocol = flow.protocol.map_or(255, u32::from);
-    flow.domain.wrapping_mul(7).wrapping_add(protocol) as usize % RECENT
-}
-
-/// Whether a flow falls under a key.
-fn is_under(key: &Key, flow: &Flow, width: u32) -> bool
-    requires positive { 0 < width }
-    requires aligned { key.now.start % width ≡ 0 }
-    ensures { result ≡ true → key.now ≡ key_of width flow.now }
-{
-    if key.domain != flow.domain || key.protocol != flow.protocol || flow.start < key.start {
-        return false;
-    }
-    flow.start - key.start < width
 }

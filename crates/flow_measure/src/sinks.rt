@@ -60,17 +60,13 @@ pub struct Totals {
 }
 
 impl RecordSink for Totals {
-    ghost use Rattle.std.specs.Prelude.{◌≡◌, ◌++◌, ◌∷◌, [], List};
-    ghost use Rattle.std.specs.List.{AllByRecursion};
-    ghost use Rattle.flow_measure.specs.declared.flow.Flow.{Flow};
-    ghost use Rattle.flow_measure.specs.Flows.{flows_of_records, FlowFits};
-    ghost use Rattle.flow_measure.specs.Sums.{AreSums, IsRefused, table_of};
+    ghost use Rattle.flow_measure.specs.Sinks.{TookFlows, RefuseFlow};
 
     type Error = SumError;
 
-    ghost holds = { λ start taken now. (now.rows.width ≡ start.rows.width) × ((flows : List Flow) → AreSums start.rows flows → AreSums now.rows (flows ++ flows_of_records taken)) × AllByRecursion FlowFits (flows_of_records taken) };
+    ghost holds = { λ start taken now. TookFlows start.rows taken now.rows };
 
-    ghost refuses = { λ start taken x e. ((flows : List Flow) → AreSums start.rows flows → IsRefused e (table_of start.rows.width (flows ++ flows_of_records (taken ++ x ∷ [])))) × AllByRecursion FlowFits (flows_of_records (taken ++ x ∷ [])) };
+    ghost refuses = { λ start taken x e. RefuseFlow start.rows taken x e };
 
     fn record(
         &mut self,

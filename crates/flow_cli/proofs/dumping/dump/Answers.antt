@@ -8,35 +8,48 @@ returns-in_err-reader-clause-refused g c =
     rw (p.1, p.2) (ends_at_once _ _)
 
 pub messages-init : goal.messages-init
-messages-init g c = begins _ _ c.in_ok-reader.reader c.new-templates.result c.new-lines.result.text.items c.in_ok-reader.ensures c.new-templates.ensures c.new-lines.ensures
+messages-init g c = begins _ _ c.in_ok-reader.reader c.new-templates.result c.new-lines.result.text.items
+    c.in_ok-reader.ensures c.new-templates.ensures c.new-lines.ensures
 
 pub returns-in_err-put_message-in-Ok-Some-clause-refused : goal.returns-in_err-put_message-in-Ok-Some-clause-refused
 returns-in_err-put_message-in-Ok-Some-clause-refused g c =
-    let p = err_from_is_err_and c.from_residual-in_err-put_message-in-Ok-Some.result c.from_residual-in_err-put_message-in-Ok-Some.ensures.1 in
+    let p = err_from_is_err_and c.from_residual-in_err-put_message-in-Ok-Some.result
+    c.from_residual-in_err-put_message-in-Ok-Some.ensures.1 in
     let next = rw c.in-Ok-Some.field-0-is at (c.in-Ok-Some.ensures c.messages.invariant.fresh) in
-    rw (p.1, p.2) (cuts_next _ _ c.messages.reader c.messages.templates _ c.messages.lines.text.items c.messages.invariant c.in-Ok-Some.message c.next_message.new.reader c.next_message.new.templates _ _ next c.in_err-put_message-in-Ok-Some.ensures.front)
+    rw (p.1, p.2) (cuts_next _ _ c.messages.reader c.messages.templates _ c.messages.lines.text.items
+    c.messages.invariant c.in-Ok-Some.message c.next_message.new.reader c.next_message.new.templates _ _ next
+    c.in_err-put_message-in-Ok-Some.ensures.front)
 
 pub messages-preserved : goal.messages-preserved
 messages-preserved g c =
     let next = rw c.in-Ok-Some.field-0-is at (c.in-Ok-Some.ensures c.messages.invariant.fresh) in
-    dumps_next _ _ c.messages.reader c.messages.templates _ c.messages.lines.text.items c.messages.invariant c.in-Ok-Some.message c.next_message.new.reader c.next_message.new.templates _ _ next c.in_ok-put_message-in-Ok-Some.ensures.told
+    dumps_next _ _ c.messages.reader c.messages.templates _ c.messages.lines.text.items c.messages.invariant
+    c.in-Ok-Some.message c.next_message.new.reader c.next_message.new.templates _ _ next
+    c.in_ok-put_message-in-Ok-Some.ensures.told
 
 pub returns-in_err-flush-in-Ok-None-clause-refused : goal.returns-in_err-flush-in-Ok-None-clause-refused
 returns-in_err-flush-in-Ok-None-clause-refused g c =
-    let p = err_from_is_err_and c.from_residual-in_err-flush-in-Ok-None.result c.from_residual-in_err-flush-in-Ok-None.ensures.1 in
-    rw p.1 (cuts_held _ _ c.messages.reader c.messages.templates _ c.messages.lines.text.items c.messages.invariant _ p.0 (_, p.2) c.in_err-flush-in-Ok-None.ensures.front)
+    let p = err_from_is_err_and c.from_residual-in_err-flush-in-Ok-None.result
+    c.from_residual-in_err-flush-in-Ok-None.ensures.1 in
+    rw p.1 (cuts_held _ _ c.messages.reader c.messages.templates _ c.messages.lines.text.items c.messages.invariant _
+    p.0 (_, p.2) c.in_err-flush-in-Ok-None.ensures.front)
 
 pub returns-in-Ok-None-clause-dumped : goal.returns-in-Ok-None-clause-dumped
 returns-in-Ok-None-clause-dumped g c =
     let next = rw c.in-Ok-None.field-0-is at (c.in-Ok-None.ensures c.messages.invariant.fresh) in
-    ends_whole _ _ c.messages.reader c.messages.templates _ c.messages.lines.text.items c.messages.invariant c.next_message.new.reader c.next_message.new.templates _ c.flush.new.self.text.items next c.in_ok-flush-in-Ok-None.ensures.told c.in_ok-flush-in-Ok-None.ensures.none
+    ends_whole _ _ c.messages.reader c.messages.templates _ c.messages.lines.text.items c.messages.invariant
+    c.next_message.new.reader c.next_message.new.templates _ c.flush.new.self.text.items next
+    c.in_ok-flush-in-Ok-None.ensures.told c.in_ok-flush-in-Ok-None.ensures.none
 
 pub returns-in_err-flush-in-Err-clause-refused : goal.returns-in_err-flush-in-Err-clause-refused
 returns-in_err-flush-in-Err-clause-refused g c =
-    let p = err_from_is_err_and c.from_residual-in_err-flush-in-Err.result c.from_residual-in_err-flush-in-Err.ensures.1 in
-    rw p.1 (cuts_held _ _ c.messages.reader c.messages.templates _ c.messages.lines.text.items c.messages.invariant _ p.0 (_, p.2) c.in_err-flush-in-Err.ensures.front)
+    let p = err_from_is_err_and c.from_residual-in_err-flush-in-Err.result
+    c.from_residual-in_err-flush-in-Err.ensures.1 in
+    rw p.1 (cuts_held _ _ c.messages.reader c.messages.templates _ c.messages.lines.text.items c.messages.invariant _
+    p.0 (_, p.2) c.in_err-flush-in-Err.ensures.front)
 
 pub returns-in-Err-clause-refused : goal.returns-in-Err-clause-refused
 returns-in-Err-clause-refused g c =
-    ends_refused _ _ c.messages.reader c.messages.templates _ c.messages.lines.text.items c.messages.invariant c.in-Err.refusal c.next_message.new.reader c.next_message.new.templates _ c.flush-in-Err.new.self.text.items
+    ends_refused _ _ c.messages.reader c.messages.templates _ c.messages.lines.text.items c.messages.invariant
+    c.in-Err.refusal c.next_message.new.reader c.next_message.new.templates _ c.flush-in-Err.new.self.text.items
     (c.in-Err.ensures c.messages.invariant.fresh) c.in_ok-flush-in-Err.ensures.told c.in_ok-flush-in-Err.ensures.none

@@ -3,7 +3,9 @@ use Rattle.flow_cli.proofs.Printing.{IsDumping}
 use Rattle.flow_cli.proofs.dumping.dump.Given as goal
 
 abbrev pub invariant-messages : goal.invariant-messages
-invariant-messages g l = IsDumping (g.R.Read.remaining l.fn.input) (g.W.Write.contents l.initial.output) l.reader l.templates (g.W.Write.contents l.output) l.lines.text.items
+invariant-messages g l =
+    IsDumping (g.R.Read.remaining l.fn.input) (g.W.Write.contents l.initial.output) l.reader l.templates
+    (g.W.Write.contents l.output) l.lines.text.items
 
 abbrev pub decreases-messages : goal.decreases-messages
 decreases-messages g l = 2 ^ 48 - l.reader.count

@@ -14,5 +14,8 @@ loop-at-preserved g c =
     let some = rw whole at c.in_ok-taken.ensures.written in
     let most : n ≤ length (drop at bytes) = some.0 in
     let fits : at + n ≤ length bytes = omega arith in
-    let both = Appends-trans _ _ _ _ _ c.loop-at.invariant.1 some.1 in
-    (fits, subst (λ bs. Appends (g.W.Write.contents c.args.output.now) (g.W.Write.contents c.write_some.new.output) bs) (sym (take-add at n bytes)) both)
+    let both = Appends-trans _ _ _ _ _ c.loop-at.invariant.1 some.1 in (
+      fits,
+      subst (λ bs. Appends (g.W.Write.contents c.args.output.now) (g.W.Write.contents c.write_some.new.output) bs)
+          (sym (take-add at n bytes)) both,
+    )

@@ -8,4 +8,5 @@ pub returns-clause-one : goal.returns-clause-one
 returns-clause-one c = λ specifiers octets xs ys p q. fields_unique specifiers octets xs ys p q
 
 pub returns-clause-front : goal.returns-clause-front
-returns-clause-front c = λ layout octets others rest back p q same. extent_unique layout.fields octets rest others back p.0 q.0 p.1 q.1 same
+returns-clause-front c =
+    λ layout octets others rest back p q same. extent_unique layout.fields octets rest others back p.0 q.0 p.1 q.1 same

@@ -4,4 +4,5 @@ use Rattle.flow_codec.specs.Layout.{least}
 use Rattle.flow_codec.proofs.plan.smallest_of.Given as goal
 
 abbrev pub invariant-loop-len : goal.invariant-loop-len
-invariant-loop-len l = (l.octets ≡ sum_by (λ f. least f.1) (take l.len-index l.fields)) × (l.octets ≤ 65535 * l.len-index)
+invariant-loop-len l = (l.octets ≡ sum_by (λ f. least f.1) (take l.len-index l.fields))
+    × (l.octets ≤ 65535 * l.len-index)

@@ -7,14 +7,20 @@ use Rattle.flow_codec.proofs.template_records.specifiers_of.Goals as goal
 pub returns-in_err-specifier-clause-exact : goal.returns-in_err-specifier-clause-exact
 returns-in_err-specifier-clause-exact c =
     let p = err_from_is_err_and c.from_residual.result c.from_residual.ensures.1 in
-    rw (p.1, p.2) (ends c.args.at c.args.count c.loop.counter c.loop.specifiers.items c.loop.rest.now (specifiers_at c.args.at c.args.count c.args.octets.now) c.loop-test.true c.in_err-specifier.field-0.0 c.in_err-specifier.ensures.exact c.loop.invariant.0)
+    rw (p.1, p.2) (ends c.args.at c.args.count c.loop.counter c.loop.specifiers.items c.loop.rest.now
+    (specifiers_at c.args.at c.args.count c.args.octets.now) c.loop-test.true c.in_err-specifier.field-0.0
+    c.in_err-specifier.ensures.exact c.loop.invariant.0)
 
 pub loop-preserved : goal.loop-preserved
 loop-preserved c = (
-  rw c.in_ok-push.ensures.items (goes_on c.args.at c.args.count c.loop.counter c.loop.specifiers.items c.loop.rest.now (specifiers_at c.args.at c.args.count c.args.octets.now) c.loop-test.true c.in_ok-specifier.specifier c.in_ok-specifier.after.now c.in_ok-specifier.ensures.exact c.loop.invariant.0),
+  rw c.in_ok-push.ensures.items (goes_on c.args.at c.args.count c.loop.counter c.loop.specifiers.items c.loop.rest.now
+      (specifiers_at c.args.at c.args.count c.args.octets.now) c.loop-test.true c.in_ok-specifier.specifier
+      c.in_ok-specifier.after.now c.in_ok-specifier.ensures.exact c.loop.invariant.0),
   omega (arith, c.in_ok-push.ensures.len),
   omega (arith, c.in_ok-specifier.ensures.len),
 )
 
 pub returns-clause-exact : goal.returns-clause-exact
-returns-clause-exact c = rw c.from_vec.ensures (is_done c.args.at c.args.count c.loop.counter c.loop.specifiers.items c.loop.rest.now (specifiers_at c.args.at c.args.count c.args.octets.now) c.loop-test.false c.loop.invariant.0)
+returns-clause-exact c =
+    rw c.from_vec.ensures (is_done c.args.at c.args.count c.loop.counter c.loop.specifiers.items c.loop.rest.now
+    (specifiers_at c.args.at c.args.count c.args.octets.now) c.loop-test.false c.loop.invariant.0)

@@ -3,23 +3,36 @@ use Rattle.flow_codec.specs.Working.{current}
 use Rattle.flow_codec.proofs.Walking.{header_fails, sets_stop, limits_fail, message_is}
 use Rattle.flow_codec.proofs.walk.divided.Goals as goal
 
-pub returns-in_err-header : goal.returns-in_err-header
-returns-in_err-header g c =
+pub returns-in_err-header-clause-exact : goal.returns-in_err-header-clause-exact
+returns-in_err-header-clause-exact g c =
     let p = err_from_is_err_and c.from_residual.result c.from_residual.ensures.1 in
-    rw (p.1, p.2) (header_fails c.args.templates.now c.args.octets.now c.in_err-header.field-0.0 c.in_err-header.ensures.exact)
+    rw (p.1, p.2) (header_fails c.args.templates.now c.args.octets.now c.in_err-header.field-0.0
+    c.in_err-header.ensures.exact)
 
-pub returns-in_err-sets_of : goal.returns-in_err-sets_of
-returns-in_err-sets_of g c =
+pub returns-in_err-sets_of-clause-exact : goal.returns-in_err-sets_of-clause-exact
+returns-in_err-sets_of-clause-exact g c =
     let p = err_from_is_err_and c.from_residual-in_err-sets_of.result c.from_residual-in_err-sets_of.ensures.1 in
-    rw (p.1, p.2) (sets_stop c.args.templates.now c.args.octets.now c.in_ok-header.header c.in_ok-header.rest.now c.in_ok-header.ensures.exact g.S.RecordSink.holds g.S.RecordSink.refuses c.args.sink.now c.sets_of.new.sink c.in_ok-header.ensures.len c.in_err-sets_of.field-0.0 c.in_err-sets_of.ensures)
+    rw (p.1, p.2) (sets_stop c.args.templates.now c.args.octets.now c.in_ok-header.header c.in_ok-header.rest.now
+    c.in_ok-header.ensures.exact g.S.RecordSink.holds g.S.RecordSink.refuses c.args.sink.now c.sets_of.new.sink
+    c.in_ok-header.ensures.len c.in_err-sets_of.field-0.0 c.in_err-sets_of.ensures.exact)
 
-pub returns-in_err-keep_limits : goal.returns-in_err-keep_limits
-returns-in_err-keep_limits g c =
-    let p = err_from_is_err_and c.from_residual-in_err-keep_limits.result c.from_residual-in_err-keep_limits.ensures.1 in
-    let s = c.in_ok-sets_of.ensures in
-    rw (p.1, p.2) (limits_fail c.args.templates.now c.args.octets.now c.in_ok-header.header c.in_ok-header.rest.now c.in_ok-header.ensures.exact s.0 (current c.in_ok-header.header.domain c.args.templates.now c.sets_of.new.changed) s.1 c.in_err-keep_limits.field-0.0 (c.in_err-keep_limits.ensures s.0))
+pub returns-in_err-keep_limits-clause-exact : goal.returns-in_err-keep_limits-clause-exact
+returns-in_err-keep_limits-clause-exact g c =
+    let p = err_from_is_err_and c.from_residual-in_err-keep_limits.result c.from_residual-in_err-keep_limits.ensures.1
+    in
+    let s = c.in_ok-sets_of.ensures.exact in
+    rw (p.1, p.2) (limits_fail c.args.templates.now c.args.octets.now c.in_ok-header.header c.in_ok-header.rest.now
+    c.in_ok-header.ensures.exact s.0
+    (current c.in_ok-header.header.domain c.args.templates.now c.sets_of.new.changed) s.1
+    c.in_err-keep_limits.field-0.0 (c.in_err-keep_limits.ensures s.0))
 
-pub returns : goal.returns
-returns g c =
-    let s = c.in_ok-sets_of.ensures in
-    (s.0, message_is c.args.templates.now c.args.octets.now c.in_ok-header.header c.in_ok-header.rest.now c.in_ok-header.ensures.exact s.0 (current c.in_ok-header.header.domain c.args.templates.now c.sets_of.new.changed) s.1 (c.in_ok-keep_limits.ensures s.0), s.2.0)
+pub returns-clause-exact : goal.returns-clause-exact
+returns-clause-exact g c =
+    let s = c.in_ok-sets_of.ensures.exact in (
+      s.0,
+      message_is c.args.templates.now c.args.octets.now c.in_ok-header.header c.in_ok-header.rest.now
+          c.in_ok-header.ensures.exact s.0
+          (current c.in_ok-header.header.domain c.args.templates.now c.sets_of.new.changed) s.1
+          (c.in_ok-keep_limits.ensures s.0),
+      s.2.0,
+    )

@@ -10,9 +10,20 @@ pub returns-clause-found : goal.returns-clause-found
 returns-clause-found c =
     elim c.match-divided.branch [
       | in-Ok w ↦
-          let given = w.in-Ok.ensures in
+          let given = w.in-Ok.ensures.exact in
           let after = current w.in-Ok.header.domain c.args.templates.now w.in-Ok.field-0-1 in
-          rw w.result-is (given.0, after, message_takes c.args.templates.now c.args.octets.now (record { header = w.in-Ok.header; records = given.0 }, after) (λ i. omega (arith, c.type_inv.octets i)) given.1)
+          rw w.result-is (
+            given.0,
+            after,
+            message_takes c.args.templates.now c.args.octets.now (
+              record {
+                header = w.in-Ok.header;
+                records =
+                    given.0;
+              },
+              after,
+            ) (λ i. omega (arith, c.type_inv.octets i)) given.1,
+          )
       | in-Err-Message w ↦ rw w.result-is tt
     ]
 
@@ -20,16 +31,21 @@ pub returns-clause-only : goal.returns-clause-only
 returns-clause-only c = λ m after h.
     elim c.match-divided.branch [
       | in-Ok w ↦
-          let given = w.in-Ok.ensures in
+          let given = w.in-Ok.ensures.exact in
           let made : RawMessage = record { header = w.in-Ok.header; records = given.0 } in
-          let same = same_message c.args.templates.now c.args.octets.now made m (current w.in-Ok.header.domain c.args.templates.now w.in-Ok.field-0-1) after given.1 h in
+          let same = same_message c.args.templates.now c.args.octets.now made m
+          (current w.in-Ok.header.domain c.args.templates.now w.in-Ok.field-0-1) after given.1 h in
           rw w.result-is (ap (λ (x : RawMessage). x.header) same.0)
-      | in-Err-Message w ↦ rw w.result-is (no_fault c.args.templates.now c.args.octets.now m after w.in-Err-Message.fault (rw w.in-Err-Message.field-0-is at w.in-Err-Message.ensures) h)
+      | in-Err-Message w ↦ rw w.result-is
+          (no_fault c.args.templates.now c.args.octets.now m after w.in-Err-Message.fault
+          (rw w.in-Err-Message.field-0-is at w.in-Err-Message.ensures.exact) h)
     ]
 
 pub returns-clause-fault : goal.returns-clause-fault
 returns-clause-fault c =
     elim c.match-divided.branch [
       | in-Ok w ↦ rw w.result-is tt
-      | in-Err-Message w ↦ rw w.result-is (has_fault c.args.templates.now c.args.octets.now w.in-Err-Message.fault (λ i. omega (arith, c.type_inv.octets i)) (rw w.in-Err-Message.field-0-is at w.in-Err-Message.ensures))
+      | in-Err-Message w ↦ rw w.result-is
+          (has_fault c.args.templates.now c.args.octets.now w.in-Err-Message.fault
+          (λ i. omega (arith, c.type_inv.octets i)) (rw w.in-Err-Message.field-0-is at w.in-Err-Message.ensures.exact))
     ]

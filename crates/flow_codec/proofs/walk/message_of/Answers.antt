@@ -4,9 +4,20 @@ use Rattle.flow_codec.proofs.MessageLaws.{message_takes}
 use Rattle.flow_codec.proofs.Kept.{in_force}
 use Rattle.flow_codec.proofs.walk.message_of.Goals as goal
 
-pub put_in-requires : goal.put_in-requires
-put_in-requires g c =
-    let given = c.in_ok-header.ensures in
+pub put_in-requires-clause-in_force : goal.put_in-requires-clause-in_force
+put_in-requires-clause-in_force g c =
+    let given = c.in_ok-header.ensures.exact in
     let after = current c.in_ok-header.header.domain c.args.templates.now c.in_ok-header.changed in
-    in_force c.args.templates.now c.args.octets.now (record { header = c.in_ok-header.header; records = given.0 }) after c.are_in_force.ensures
-    (message_takes c.args.templates.now c.args.octets.now (record { header = c.in_ok-header.header; records = given.0 }, after) (λ i. omega (arith, c.type_inv.octets i)) given.1)
+    in_force c.args.templates.now c.args.octets.now (record {
+      header = c.in_ok-header.header;
+      records =
+          given.0;
+    }) after c.are_in_force.ensures
+    (message_takes c.args.templates.now c.args.octets.now (
+      record {
+        header = c.in_ok-header.header;
+        records =
+            given.0;
+      },
+      after,
+    ) (λ i. omega (arith, c.type_inv.octets i)) given.1)

@@ -8,34 +8,45 @@ use Rattle.flow_codec.proofs.walk.records_of.Goals as goal
 pub returns-then-smallest-eq0 : goal.returns-then-smallest-eq0
 returns-then-smallest-eq0 g c =
     let same = ap (λ (p : Plan). p.smallest) c.plan.ensures in
-    none g.S.RecordSink.holds g.S.RecordSink.refuses c.args.header.now c.args.sink.now c.args.end c.args.id c.args.definition.now c.args.octets.now (sym same ∙ c.if-smallest-eq0.true)
+    none g.S.RecordSink.holds g.S.RecordSink.refuses c.args.header.now c.args.sink.now c.args.end c.args.id
+    c.args.definition.now c.args.octets.now (sym same ∙ c.if-smallest-eq0.true)
 
 pub loop-rest-init : goal.loop-rest-init
 loop-rest-init g c =
     let same = ap (λ (p : Plan). p.smallest) c.plan.ensures in
-    starts g.S.RecordSink.holds g.S.RecordSink.refuses c.args.header.now c.args.sink.now c.args.end c.args.id c.args.definition.now c.args.octets.now (omega (arith, same)) c.requires
+    starts g.S.RecordSink.holds g.S.RecordSink.refuses c.args.header.now c.args.sink.now c.args.end c.args.id
+    c.args.definition.now c.args.octets.now (omega (arith, same)) c.requires
 
 pub returns-in_err-whole : goal.returns-in_err-whole
 returns-in_err-whole g c =
     let same = ap (λ (p : Plan). p.smallest) c.plan.ensures in
     let p = err_from_is_err_and c.from_residual.result c.from_residual.ensures.1 in
     let le : smallest c.args.definition.now ≤ length c.loop-rest.rest.now = omega (arith, same) in
-    rw (p.1, p.2) (ends g.S.RecordSink.holds g.S.RecordSink.refuses c.args.header.now c.args.sink.now c.args.end c.args.id c.args.definition.now c.args.octets.now c.loop-rest.sink c.loop-rest.rest.now c.loop-rest.invariant le c.in_err-whole.field-0.0 c.in_err-whole.ensures.exact)
+    rw (p.1, p.2) (ends g.S.RecordSink.holds g.S.RecordSink.refuses c.args.header.now c.args.sink.now c.args.end
+    c.args.id c.args.definition.now c.args.octets.now c.loop-rest.sink c.loop-rest.rest.now c.loop-rest.invariant
+    le c.in_err-whole.field-0.0 c.in_err-whole.ensures.exact)
 
 pub returns-in-Err : goal.returns-in-Err
 returns-in-Err g c =
     let same = ap (λ (p : Plan). p.smallest) c.plan.ensures in
     let le : smallest c.args.definition.now ≤ length c.loop-rest.rest.now = omega (arith, same) in
-    is_refused g.S.RecordSink.holds g.S.RecordSink.refuses c.args.header.now c.args.sink.now c.args.end c.args.id c.args.definition.now c.args.octets.now c.loop-rest.sink c.loop-rest.rest.now c.loop-rest.invariant le c.in_ok-whole.whole.now c.in-Err.e c.in-Err.ensures.refused
+    is_refused g.S.RecordSink.holds g.S.RecordSink.refuses c.args.header.now c.args.sink.now c.args.end c.args.id
+    c.args.definition.now c.args.octets.now c.loop-rest.sink c.loop-rest.rest.now c.loop-rest.invariant le
+    c.in_ok-whole.whole.now c.in-Err.e c.in-Err.ensures.refused
 
 pub loop-rest-preserved : goal.loop-rest-preserved
 loop-rest-preserved g c =
     let same = ap (λ (p : Plan). p.smallest) c.plan.ensures in
     let le : smallest c.args.definition.now ≤ length c.loop-rest.rest.now = omega (arith, same) in
     let whole = c.in_ok-whole.ensures.whole in
-    goes_on g.S.RecordSink.holds g.S.RecordSink.refuses c.args.header.now c.args.sink.now c.args.end c.args.id c.args.definition.now c.args.octets.now c.loop-rest.sink c.loop-rest.rest.now c.loop-rest.invariant c.record.new.self le c.in_ok-whole.whole.now c.in_ok-whole.after.now c.in_ok-whole.ensures.exact whole.1 whole.2 c.in_default.ensures.taken
+    goes_on g.S.RecordSink.holds g.S.RecordSink.refuses c.args.header.now c.args.sink.now c.args.end c.args.id
+    c.args.definition.now c.args.octets.now c.loop-rest.sink c.loop-rest.rest.now c.loop-rest.invariant
+    c.record.new.self le c.in_ok-whole.whole.now c.in_ok-whole.after.now c.in_ok-whole.ensures.exact whole.1
+    whole.2 c.in_default.ensures.taken
 
 pub returns : goal.returns
 returns g c =
     let same = ap (λ (p : Plan). p.smallest) c.plan.ensures in
-    is_done g.S.RecordSink.holds g.S.RecordSink.refuses c.args.header.now c.args.sink.now c.args.end c.args.id c.args.definition.now c.args.octets.now c.loop-rest.sink c.loop-rest.rest.now c.loop-rest.invariant (omega (arith, same))
+    is_done g.S.RecordSink.holds g.S.RecordSink.refuses c.args.header.now c.args.sink.now c.args.end c.args.id
+    c.args.definition.now c.args.octets.now c.loop-rest.sink c.loop-rest.rest.now c.loop-rest.invariant
+    (omega (arith, same))

@@ -1,11 +1,14 @@
 use Rattle.std.proofs.Common.{length}
-use Rattle.flow_codec.specs.Working.{current}
+use Rattle.flow_codec.specs.Working.{current, AreChanges}
 use Rattle.flow_codec.specs.Reading.{sets_at}
 use Rattle.flow_codec.proofs.SetLoop.{GoesOn}
 use Rattle.flow_codec.proofs.walk.sets_of.Given as goal
 
 abbrev pub invariant-loop-rest : goal.invariant-loop-rest
-invariant-loop-rest g l = GoesOn g.S.RecordSink.holds g.S.RecordSink.refuses l.header l.initial.sink l.end l.header.domain l.octets (sets_at (length l.octets) l.end l.header.domain (current l.header.domain l.before l.initial.changed) l.octets) l.sink (current l.header.domain l.before l.changed) l.rest
+invariant-loop-rest g l = AreChanges l.header.domain l.before l.changed
+    × GoesOn g.S.RecordSink.holds g.S.RecordSink.refuses l.header l.initial.sink l.end l.header.domain l.octets
+    (sets_at (length l.octets) l.end l.header.domain (current l.header.domain l.before l.initial.changed) l.octets)
+    l.sink (current l.header.domain l.before l.changed) l.rest
 
 abbrev pub decreases-loop-rest : goal.decreases-loop-rest
 decreases-loop-rest g l = length l.rest

@@ -7,6 +7,7 @@ use Rattle.flow_measure.proofs.counts.counts_by.Given as goal
 -- the numbers so far, with those of the steps that are left, are those of all
 abbrev pub invariant-loop-step : goal.invariant-loop-step
 invariant-loop-step l = record {
-  same : counts_with l.counts (values_by (drop l.step-index l.steps) l.rest) ≡ counts_with no_counts (values_by l.fn.steps l.fn.octets);
+  same : counts_with l.counts (values_by (drop l.step-index l.steps) l.rest)
+      ≡ counts_with no_counts (values_by l.fn.steps l.fn.octets);
   steps : AllByRecursion IsStep (drop l.step-index l.steps);
 }

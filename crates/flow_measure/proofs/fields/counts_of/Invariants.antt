@@ -5,4 +5,5 @@ use Rattle.flow_measure.proofs.fields.counts_of.Given as goal
 
 -- the numbers so far, with those of the fields that are left, are those of all
 abbrev pub invariant-loop-field : goal.invariant-loop-field
-invariant-loop-field l = counts_with l.counts (values_of (drop l.field-index l.fields)) ≡ counts_with no_counts (values_of l.fn.fields)
+invariant-loop-field l =
+    counts_with l.counts (values_of (drop l.field-index l.fields)) ≡ counts_with no_counts (values_of l.fn.fields)

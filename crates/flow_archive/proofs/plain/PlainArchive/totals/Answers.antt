@@ -7,5 +7,6 @@ use Rattle.flow_archive.proofs.plain.PlainArchive.totals.Goals as goal
 
 pub returns-clause-rows : goal.returns-clause-rows
 returns-clause-rows c =
-    let same = totals_same c.args.from c.args.to c.self.inside.messages.items c.self.inside.templates c.self.inside.rows c.self.invariant ∙ ap (totals_between c.args.from c.args.to) c.self.view_is in
+    let same = totals_same c.args.from c.args.to c.self.inside.messages.items c.self.inside.templates c.self.inside.rows
+    c.self.invariant ∙ ap (totals_between c.args.from c.args.to) c.self.view_is in
     subst (λ (rows : List Row). IfOk c.in_span.result (λ r. r.items ≡ rows)) same c.in_span.ensures

@@ -5,4 +5,6 @@ use Rattle.flow_cli.proofs.dumping.Lines.put_fields.Given as goal
 
 abbrev pub invariant-loop-id : goal.invariant-loop-id
 invariant-loop-id g l =
-    IsTelling (g.W.Write.contents l.initial.output) l.initial.self.text.items (g.W.Write.contents l.output) l.self.text.items (fields_text l.specifiers l.octets) (fields_text (drop l.id-index l.specifiers) l.rest)
+    IsTelling (g.W.Write.contents l.initial.output) l.initial.self.text.items
+    (g.W.Write.contents l.output) l.self.text.items (fields_text l.specifiers l.octets)
+    (fields_text (drop l.id-index l.specifiers) l.rest)

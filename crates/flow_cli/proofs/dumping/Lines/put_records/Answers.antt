@@ -7,10 +7,17 @@ pub returns-in_err-put_record-clause-front : goal.returns-in_err-put_record-clau
 returns-in_err-put_record-clause-front g c =
     let p = err_from_is_err_and c.from_residual.result c.from_residual.ensures.1 in
     let cut = c.in_err-put_record.ensures.front in
-    let next = next_record c.args.records.now c.loop-record.record-index c.record-item.result c.loop-record-test.true c.record-item.is in
-    rw (p.1, p.2) (cut.0, is_cut _ _ _ c.args.self.now.text.items _ (records_text c.args.records.now) _ _ _ c.loop-record.invariant next cut.1)
+    let next = next_record c.args.records.now c.loop-record.record-index c.record-item.result c.loop-record-test.true
+    c.record-item.is in
+    rw (p.1, p.2) (
+      cut.0,
+      is_cut _ _ _ c.args.self.now.text.items _
+          (records_text c.args.records.now) _ _ _ c.loop-record.invariant next cut.1,
+    )
 
 pub loop-record-preserved : goal.loop-record-preserved
 loop-record-preserved g c =
-    let next = next_record c.args.records.now c.loop-record.record-index c.record-item.result c.loop-record-test.true c.record-item.is in
-    goes_on _ _ _ c.args.self.now.text.items _ _ (records_text c.args.records.now) _ _ _ c.loop-record.invariant next c.in_ok-put_record.ensures.told
+    let next = next_record c.args.records.now c.loop-record.record-index c.record-item.result c.loop-record-test.true
+    c.record-item.is in
+    goes_on _ _ _ c.args.self.now.text.items _ _
+    (records_text c.args.records.now) _ _ _ c.loop-record.invariant next c.in_ok-put_record.ensures.told

@@ -2,7 +2,7 @@ use Rattle.std.proofs.Common.{◌≡◌, ◌++◌, Some, map}
 use Rattle.std.specs.List.{AllByRecursion}
 use Rattle.std.specs.FinMap.{entries}
 use Rattle.flow_measure.specs.Entries.{map_of, place_of}
-use Rattle.flow_measure.proofs.Places.{resolved}
+use Rattle.flow_measure.specs.Entries.{resolved}
 use Rattle.flow_measure.proofs.entries.Entries.in_order.Given as goal
 
 -- the keys so far with their sums, and those of what is left, are all of them

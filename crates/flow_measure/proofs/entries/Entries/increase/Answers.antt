@@ -10,34 +10,46 @@ use Rattle.flow_measure.proofs.entries.Entries.increase.Goals as goal
 
 pub index-requires : goal.index-requires
 index-requires c =
-    let at = found c.args.key c.self.inside.items.items c.args.place (subst (λ es. place_of c.args.key es ≡ Some c.args.place) (sym c.self.view_is) c.requires) in
+    let at = found c.args.key c.self.inside.items.items c.args.place
+    (subst (λ es. place_of c.args.key es ≡ Some c.args.place) (sym c.self.view_is) c.requires) in
     omega (arith, within c.self.inside.items.items c.args.place (c.args.key, at.0) at.1, c.self.inside.items.ok.0)
 
 pub index_mut-requires : goal.index_mut-requires
 index_mut-requires c =
-    let at = found c.args.key c.self.inside.items.items c.args.place (subst (λ es. place_of c.args.key es ≡ Some c.args.place) (sym c.self.view_is) c.requires) in
+    let at = found c.args.key c.self.inside.items.items c.args.place
+    (subst (λ es. place_of c.args.key es ≡ Some c.args.place) (sym c.self.view_is) c.requires) in
     omega (arith, within c.self.inside.items.items c.args.place (c.args.key, at.0) at.1, c.self.inside.items.ok.0)
 
 pub returns-in_default : goal.returns-in_default
 returns-in_default c =
     let items = c.self.inside.items.items in
-    let at = found c.args.key items c.args.place (subst (λ es. place_of c.args.key es ≡ Some c.args.place) (sym c.self.view_is) c.requires) in
+    let at = found c.args.key items c.args.place
+    (subst (λ es. place_of c.args.key es ≡ Some c.args.place) (sym c.self.view_is) c.requires) in
     let total = c.index.ensures ∙ read items c.args.place c.index.result.now (c.args.key, at.0) at.1 in
-    subst (λ es. (Fits (added_to (get (map_of es) c.args.key) c.args.sums) → ⊥) × (map_of es ≡ map_of es)) c.self.view_is
-    (refused items c.args.place c.args.key at.0 c.args.sums c.self.invariant.0 at.1 (subst (λ (e : Key × Sums). Fits (plus e.1 c.args.sums) → ⊥) total c.in_default.ensures), refl)
+    subst (λ es. (Fits (added_to (get (map_of es) c.args.key) c.args.sums) → ⊥)
+    × (map_of es ≡ map_of es)) c.self.view_is (
+      refused items c.args.place c.args.key at.0 c.args.sums c.self.invariant.0 at.1
+          (subst (λ (e : Key × Sums). Fits (plus e.1 c.args.sums) → ⊥) total c.in_default.ensures),
+      refl,
+    )
 
 pub invariant_of-self : goal.invariant_of-self
 invariant_of-self c =
     let items = c.self.inside.items.items in
-    let at = found c.args.key items c.args.place (subst (λ es. place_of c.args.key es ≡ Some c.args.place) (sym c.self.view_is) c.requires) in
+    let at = found c.args.key items c.args.place
+    (subst (λ es. place_of c.args.key es ≡ Some c.args.place) (sym c.self.view_is) c.requires) in
     replaced c.self.inside.places.entries items c.args.place c.args.key at.0 c.in-Some.sum at.1 c.self.invariant
 
 pub returns : goal.returns
 returns c =
     let items = c.self.inside.items.items in
-    let at = found c.args.key items c.args.place (subst (λ es. place_of c.args.key es ≡ Some c.args.place) (sym c.self.view_is) c.requires) in
+    let at = found c.args.key items c.args.place
+    (subst (λ es. place_of c.args.key es ≡ Some c.args.place) (sym c.self.view_is) c.requires) in
     let total = c.index.ensures ∙ read items c.args.place c.index.result.now (c.args.key, at.0) at.1 in
-    let fits : Fits (plus at.0 c.args.sums) = subst (λ (e : Key × Sums). Fits (plus e.1 c.args.sums)) total c.in-Some.ensures.0 in
-    let sum : c.in-Some.sum ≡ plus at.0 c.args.sums = c.in-Some.ensures.1 ∙ ap (λ (e : Key × Sums). plus e.1 c.args.sums) total in
-    subst (λ es. Adds (Ok c) c.args.key c.args.sums (map_of es) (map_of (slice_set items c.args.place (c.args.key, c.in-Some.sum)))) c.self.view_is
+    let fits : Fits (plus at.0 c.args.sums) =
+    subst (λ (e : Key × Sums). Fits (plus e.1 c.args.sums)) total c.in-Some.ensures.0 in
+    let sum : c.in-Some.sum ≡ plus at.0 c.args.sums =
+    c.in-Some.ensures.1 ∙ ap (λ (e : Key × Sums). plus e.1 c.args.sums) total in
+    subst (λ es. Adds (Ok c) c.args.key c.args.sums (map_of es)
+    (map_of (slice_set items c.args.place (c.args.key, c.in-Some.sum)))) c.self.view_is
     (increased items c.args.place c.args.key at.0 c.args.sums c.in-Some.sum c.self.invariant.0 at.1 fits sum)

@@ -1,25 +1,33 @@
-use Rattle.std.proofs.Common.{ℕ, sym, ap, subst, ◌≡◌, ◌%◌}
-use Rattle.std.specs.Prelude.{Ok, Err}
-use Rattle.flow_measure.specs.Sums.{Table, with_sums}
+use Rattle.std.proofs.Common.{◌≡◌, ◌<◌, None, sym, ap, subst, rules, arith}
+use Rattle.std.specs.Prelude.{IfErr}
+use Rattle.std.specs.FinMap.{get}
+use Rattle.flow_measure.specs.declared.error.SumError.TheVariants.{OutOfMemory}
+use Rattle.flow_measure.specs.Sums.{Table, IsKeyBy}
 use Rattle.flow_measure.specs.Entries.{map_of}
-use Rattle.flow_measure.proofs.Merging.{passed_on}
-use Rattle.flow_measure.proofs.Putting.{table, adds_well, gives}
+use Rattle.flow_measure.proofs.Putting.{adds_well, gives, wants_room}
 use Rattle.flow_measure.proofs.rows.Rows.put.Goals as goal
 
 pub invariant_of-self : goal.invariant_of-self
 invariant_of-self c =
-    let aligned = subst (λ w. c.args.key.start % w ≡ 0) (sym (ap (λ (v : Table). v.width) c.self.view_is)) c.requires.aligned in
-    adds_well {X = ℕ} (Err c.in_err-put.field-0.0) c.self.inside.width (map_of c.self.inside.entries) (map_of c.put.new.self) c.args.key c.args.sums aligned c.requires.counted c.self.invariant c.in_err-put.ensures
+    let is_key : IsKeyBy c.args.self.now.width c.args.key = record {
+      aligned = c.requires.aligned;
+      start = omega arith;
+      domain = omega arith;
+      protocol = search rules;
+    } in
+    let same = sym (ap (λ (v : Table). v.width) c.self.view_is) in
+    let first = subst (λ (v : Table). get v.sums c.args.key ≡ None → 0 < c.args.sums.flows) (sym c.self.view_is)
+    c.requires.counted in
+    adds_well c.put.result c.self.inside.width (map_of c.self.inside.entries) (map_of c.put.new.self) c.args.key
+    c.args.sums (subst (λ w. IsKeyBy w c.args.key) same is_key) first c.self.invariant c.put.ensures
 
-pub returns-in_err-put : goal.returns-in_err-put
-returns-in_err-put c =
-    let h = gives {X = ℕ} (Err c.in_err-put.field-0.0) c.self.inside.width (map_of c.self.inside.entries) (map_of c.put.new.self) c.args.key c.args.sums c.args.self.now c.self.view_is c.self.invariant c.in_err-put.ensures in
-    passed_on c.from_residual.result c.in_err-put.field-0.0 (with_sums c.args.key c.args.sums c.args.self.now) c.args.self.now (table c.self.inside.width (map_of c.put.new.self)) c.from_residual.ensures.1 h.0 h.1
+pub returns-clause-becomes : goal.returns-clause-becomes
+returns-clause-becomes c =
+    gives c.put.result c.self.inside.width (map_of c.self.inside.entries) (map_of c.put.new.self) c.args.key c.args.sums
+    c.args.self.now c.self.view_is c.self.invariant c.put.ensures
 
-pub invariant_of-self-2 : goal.invariant_of-self-2
-invariant_of-self-2 c =
-    let aligned = subst (λ w. c.args.key.start % w ≡ 0) (sym (ap (λ (v : Table). v.width) c.self.view_is)) c.requires.aligned in
-    adds_well (Ok c.in_ok-put.field-0) c.self.inside.width (map_of c.self.inside.entries) (map_of c.put.new.self) c.args.key c.args.sums aligned c.requires.counted c.self.invariant c.in_ok-put.ensures
-
-pub returns : goal.returns
-returns c = gives (Ok c.in_ok-put.field-0) c.self.inside.width (map_of c.self.inside.entries) (map_of c.put.new.self) c.args.key c.args.sums c.args.self.now c.self.view_is c.self.invariant c.in_ok-put.ensures
+pub returns-clause-room : goal.returns-clause-room
+returns-clause-room c =
+    subst (λ (v : Table). IfErr c.put.result (λ e. e ≡ OutOfMemory → get v.sums c.args.key ≡ None)) c.self.view_is
+    (wants_room c.put.result (map_of c.self.inside.entries) (map_of c.put.new.self) c.args.key c.args.sums
+    c.put.ensures)

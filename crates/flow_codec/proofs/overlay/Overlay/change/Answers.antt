@@ -1,0 +1,39 @@
+use Rattle.std.proofs.Common.{◌≡◌, ◌+◌, ◌-◌, ◌++◌, ◌∷◌, [], refl, ap, ◌∙◌, arith}
+use Rattle.flow_codec.specs.Entries.{size_in}
+use Rattle.flow_codec.specs.Working.{overlaid}
+use Rattle.flow_codec.proofs.Entries.{found}
+use Rattle.flow_codec.proofs.OverlayLaws.{over_entries, over_change, size_found}
+use Rattle.flow_codec.proofs.overlay.Overlay.change.Goals as goal
+
+pub overflow_sub-self : goal.overflow_sub-self
+overflow_sub-self c =
+    let before : c.size_in-before.result ≡ size_in (found c.args.id (overlaid c.args.base.now c.args.self.now)) =
+    c.size_in-before.ensures.exact ∙ ap size_in c.get.ensures in
+    omega (arith, before, c.requires.size, size_found (overlaid c.args.base.now c.args.self.now) c.args.id)
+
+pub returns-clause-over : goal.returns-clause-over
+returns-clause-over c =
+    let o = c.args.self.now in
+    let before : c.size_in-before.result ≡ size_in (found c.args.id (overlaid c.args.base.now o)) =
+    c.size_in-before.ensures.exact ∙ ap size_in c.get.ensures in
+    let after : c.size_in-after.result ≡ size_in c.args.change = c.size_in-after.ensures.exact
+    ∙ ap size_in c.as_ref.ensures.value in
+    let log : c.push.new.self.items ≡ o.log.items ++ (c.args.id, c.args.change) ∷ [] =
+    rw c.in_ok-copied.ensures at c.in_ok-push.ensures.items in
+    over_change c.args.base.now o _ c.requires c.args.id c.args.change refl log c.in_ok-insert.ensures.updates.0
+    (omega (arith, before, after, c.requires.size, size_found (overlaid c.args.base.now o) c.args.id))
+    (omega (arith, after, c.size_in-after.ensures.bound))
+
+pub returns-clause-entries : goal.returns-clause-entries
+returns-clause-entries c =
+    let o = c.args.self.now in
+    let log : c.push.new.self.items ≡ o.log.items ++ (c.args.id, c.args.change) ∷ [] =
+    rw c.in_ok-copied.ensures at c.in_ok-push.ensures.items in
+    over_entries c.args.base.now o (record {
+      cleared = o.cleared;
+      log = c.push.new.self;
+      own =
+          c.insert.new.self;
+      size = o.size - c.size_in-before.result + c.size_in-after.result;
+    }) c.requires c.args.id
+    c.args.change refl log

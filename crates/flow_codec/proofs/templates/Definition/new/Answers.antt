@@ -1,0 +1,10 @@
+use Rattle.flow_codec.proofs.templates.Definition.new.Goals as goal
+
+pub invariant_of-result : goal.invariant_of-result
+invariant_of-result c =
+    rw c.in_ok-new.ensures.ok (
+      c.requires,
+      rw c.as_slice.ensures at c.in_ok-plan.ensures,
+      rw c.as_slice-2.ensures at (c.size_of-size.ensures.exact c.args.scope),
+      c.size_of-size.ensures.bound,
+    )

@@ -1,0 +1,18 @@
+use Rattle.std.proofs.Common.{◌≡◌, Bool, None, false, sym, ap, ◌∙◌}
+use Rattle.flow_codec.specs.declared.templates.DomainTemplates.{DomainTemplates}
+use Rattle.flow_codec.specs.Templates.{definitions_of}
+use Rattle.flow_codec.specs.Working.{changed_in, put_back}
+use Rattle.flow_codec.proofs.PuttingBack.{unchanged}
+use Rattle.flow_codec.proofs.working.taken.Goals as goal
+
+pub returns-in-None-clause-same : goal.returns-in-None-clause-same
+returns-in-None-clause-same c =
+    let d = c.args.domain in
+    let before = c.args.before.now in
+    let none : c.args.changed.now ≡ None = sym c.take.ensures.value ∙ c.in-None.is in
+    let same : changed_in (definitions_of d before) c.new.result ≡ definitions_of d before =
+    rw c.here.ensures at c.new.ensures.same in
+    rw none
+    (ap (λ (l : Bool). put_back d l (changed_in (definitions_of d before) c.new.result) before) c.new.ensures.left
+    ∙ ap (λ (g : DomainTemplates). put_back d false g before) same
+    ∙ unchanged d before c.are_in_force.ensures)

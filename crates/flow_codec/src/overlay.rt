@@ -1,0 +1,126 @@
+//! What a message changes in one list of definitions, beside the list, which stays as it was.
+
+ghost use Rattle.std.specs.Prelude.{◌≡◌, ℕ, List, None, ◌<◌, ◌^◌, [], nat_eq, ◌==◌, length, OnOk, IfOk};
+ghost use Rattle.std.specs.Map.{lookup};
+ghost use Rattle.std.specs.Option.{option_copied};
+ghost use Rattle.flow_codec.specs.Layout.{Layout};
+ghost use Rattle.flow_codec.specs.Slots.{change_by};
+ghost use Rattle.flow_codec.specs.Entries.{entries_size, size_in};
+ghost use Rattle.flow_codec.specs.Working.{overlaid, IsOver};
+
+use crate::definitions::Definitions;
+use crate::templates::Definition;
+use std::alloc::{AllocError, Global};
+use std::collections::HashMap;
+
+/// The changes in order, and the last one of each ID, which is looked at before the list itself. A definition that was
+/// taken out is `None`.
+#[derive(Drop)]
+pub(crate) struct Overlay {
+    /// Whether all definitions were withdrawn, before these changes.
+    pub(crate) cleared: bool,
+    pub(crate) log: Vec<(u16, Option<Definition>)>,
+    own: HashMap<u16, Option<Definition>>,
+    /// The octets of all template records after the changes. Within a message no limit bounds them.
+    pub(crate) size: u128,
+}
+
+/// The octets of a definition's template record, and 0 for none.
+fn size_in(definition: Option<&Definition>) -> usize
+    ensures exact { result ≡ size_in (option_copied definition.entry) }
+    ensures bound { result < 2 ^ 20 }
+{
+    match definition {
+        Some(definition) => definition.size(),
+        None => 0,
+    }
+}
+
+fn copied(change: &Option<Definition>) -> Result<Option<Definition>, AllocError>
+    ensures { IfOk result (λ copy. copy ≡ change.now) }
+{
+    match change {
+        Some(definition) => Ok(Some(definition.clone()?)),
+        None => Ok(None),
+    }
+}
+
+impl Overlay {
+    /// No change.
+    pub(crate) fn new(alloc: Global, base: &Definitions) -> Self
+        ensures over { IsOver base.now result }
+        ensures same { overlaid base.now result ≡ base.now }
+    {
+        Overlay {
+            cleared: false,
+            log: Vec::new(alloc),
+            own: HashMap::new(alloc),
+            size: base.size() as u128,
+        }
+    }
+
+    /// The definition under an ID, after the changes.
+    pub(crate) fn get<'a>(&'a self, base: &'a Definitions, id: u16) -> Option<&'a Definition>
+        requires { IsOver base.now self.now }
+        ensures { option_copied result ≡ lookup (nat_eq id) (overlaid base.now self.now) }
+    {
+        match self.own.get(&id) {
+            Some(Some(definition)) => Some(definition),
+            Some(None) => None,
+            None if self.cleared => None,
+            None => base.get(id),
+        }
+    }
+
+    /// Whether no definition is left: each has a template record of some octets.
+    pub(crate) fn is_empty(&self, base: &Definitions) -> bool
+        requires { IsOver base.now self.now }
+        ensures { result ≡ (length (overlaid base.now self.now) == 0) }
+    {
+        let _ = base;
+        self.size == 0
+    }
+
+    /// Puts a definition under an ID, or takes out what is there. After an `Err` the changes are of no use.
+    pub(crate) fn change(
+        &mut self,
+        base: &Definitions,
+        id: u16,
+        change: Option<Definition>,
+    ) -> Result<(), AllocError>
+        requires { IsOver base.now self.old }
+        ensures over { OnOk result (IsOver base.now self.new) }
+        ensures entries { OnOk result (overlaid base.now self.new ≡ change_by (overlaid base.now self.old) id change) }
+    {
+        let before = size_in(self.get(base, id));
+        let after = size_in(change.as_ref());
+        self.log.push((id, copied(&change)?))?;
+        self.own.insert(id, change)?;
+        self.size = self.size - before as u128 + after as u128;
+        Ok(())
+    }
+
+    /// Takes out what is there under an ID. After an `Err` the changes are of no use.
+    #[tactic(auto, using(crate::proofs::OverlayLaws::nothing_taken))]
+    pub(crate) fn take(&mut self, base: &Definitions, id: u16) -> Result<(), AllocError>
+        requires { IsOver base.now self.old }
+        ensures over { OnOk result (IsOver base.now self.new) }
+        ensures entries { OnOk result (overlaid base.now self.new ≡ change_by (overlaid base.now self.old) id None) }
+    {
+        if self.get(base, id).is_none() {
+            return Ok(());
+        }
+        self.change(base, id, None)
+    }
+
+    /// Takes out all definitions.
+    pub(crate) fn clear(&mut self, alloc: Global)
+        ensures over { (base : List (ℕ × Layout)) → IsOver base self.new }
+        ensures none { (base : List (ℕ × Layout)) → overlaid base self.new ≡ [] }
+    {
+        self.cleared = true;
+        self.log = Vec::new(alloc);
+        self.own = HashMap::new(alloc);
+        self.size = 0;
+    }
+}

@@ -1,0 +1,196 @@
+//! Definitions in slots: a map knows the slot of each ID, so each change takes constant time, wherever it is.
+
+ghost use Rattle.std.specs.Prelude.{◌≡◌, ℕ, suc, ◌+◌, ◌≤◌, [], ◌==◌, nat_eq, length, OnOk, IfOk, unwrap_or};
+ghost use Rattle.std.specs.Map.{lookup};
+ghost use Rattle.std.specs.Option.{option_copied};
+ghost use Rattle.indexmap.specs.IndexMap.{insert_entry, shift_remove_entry};
+ghost use Rattle.flow_codec.specs.Slots.{entries_of, change_by, made, started, IsTable, HasRoom, IsReady};
+
+use crate::templates::Definition;
+use std::alloc::{AllocError, Global};
+use std::collections::HashMap;
+
+/// A definition that is taken out leaves its slot empty. Where more than half of the slots are empty, making room
+/// leaves them out.
+#[derive(Drop)]
+pub(crate) struct SlotTable {
+    slots: Vec<Option<(u16, Definition)>>,
+    places: HashMap<u16, usize>,
+}
+
+impl SlotTable {
+    pub(crate) fn new(alloc: Global) -> Self
+        ensures slots { IsTable result }
+        ensures none { entries_of result ≡ [] }
+    {
+        SlotTable {
+            slots: Vec::new(alloc),
+            places: HashMap::new(alloc),
+        }
+    }
+
+    /// An empty table with room for `count` definitions.
+    fn with_room(alloc: Global, count: usize) -> Result<Self, AllocError>
+        ensures { IfOk result (IsReady [] count) }
+    {
+        Ok(SlotTable {
+            slots: Vec::with_capacity(alloc, count)?,
+            places: HashMap::with_capacity(alloc, count)?,
+        })
+    }
+
+    pub(crate) fn is_empty(&self) -> bool
+        requires { IsTable self.now }
+        ensures { result ≡ (length (entries_of self.now) == 0) }
+    {
+        self.places.is_empty()
+    }
+
+    pub(crate) fn get(&self, id: u16) -> Option<&Definition>
+        requires { IsTable self.now }
+        ensures { option_copied result ≡ lookup (nat_eq id) (entries_of self.now) }
+    {
+        let place = *self.places.get(&id)?;
+        match &self.slots[place] {
+            Some((_, definition)) => Some(definition),
+            None => None,
+        }
+    }
+
+    /// An ID that is there keeps its place; a new one goes to the end.
+    fn put(&mut self, id: u16, definition: Definition)
+        requires slots { IsTable self.old }
+        requires room { HasRoom 1 self.old }
+        ensures slots { IsTable self.new }
+        ensures entries { entries_of self.new ≡ insert_entry nat_eq (entries_of self.old) id definition }
+        ensures room { (n : ℕ) → HasRoom (suc n) self.old → HasRoom n self.new }
+    {
+        if let Some(place) = self.places.get(&id).copied() {
+            self.slots[place] = Some((id, definition));
+            return;
+        }
+        let placed: Result<_, _> = self.places.insert(id, self.slots.len());
+        placed.unwrap();
+        let pushed: Result<_, _> = self.slots.push(Some((id, definition)));
+        pushed.unwrap();
+    }
+
+    fn take(&mut self, id: u16)
+        requires { IsTable self.old }
+        ensures slots { IsTable self.new }
+        ensures entries { entries_of self.new ≡ shift_remove_entry (nat_eq id) (entries_of self.old) }
+        ensures room { (n : ℕ) → HasRoom (suc n) self.old → HasRoom n self.new }
+    {
+        if let Some(place) = self.places.remove(&id) {
+            self.slots[place] = None;
+        }
+    }
+
+    /// Puts a definition under an ID, or takes out what is there.
+    fn change(&mut self, id: u16, change: Option<Definition>)
+        requires slots { IsTable self.old }
+        requires room { HasRoom 1 self.old }
+        ensures slots { IsTable self.new }
+        ensures entries { entries_of self.new ≡ change_by (entries_of self.old) id change }
+        ensures room { (n : ℕ) → HasRoom (suc n) self.old → HasRoom n self.new }
+    {
+        match change {
+            Some(definition) => self.put(id, definition),
+            None => self.take(id),
+        }
+    }
+
+    /// A copy that shares the definitions, without empty slots and with room for `count` more.
+    pub(crate) fn copy_with_room(&self, count: usize) -> Result<Self, AllocError>
+        requires { IsTable self.now }
+        ensures { IfOk result (IsReady (entries_of self.now) count) }
+    {
+        let mut copy = SlotTable::with_room(*self.slots.allocator(), self.slots.len())?;
+        for slot in self.slots.as_slice() {
+            if let Some((id, definition)) = slot {
+                copy.put(*id, definition.clone()?);
+            }
+        }
+        copy.grow(count)?;
+        Ok(copy)
+    }
+
+    fn grow(&mut self, count: usize) -> Result<(), AllocError>
+        requires { IsTable self.old }
+        ensures slots { IsTable self.new }
+        ensures entries { entries_of self.new ≡ entries_of self.old }
+        ensures room { OnOk result (HasRoom count self.new) }
+    {
+        self.slots.reserve(count)?;
+        self.places.reserve(count)
+    }
+
+    /// Makes room for `count` more definitions. It leaves out empty slots where there are too many.
+    fn reserve(&mut self, count: usize) -> Result<(), AllocError>
+        requires { IsTable self.old }
+        ensures slots { IsTable self.new }
+        ensures entries { entries_of self.new ≡ entries_of self.old }
+        ensures room { OnOk result (HasRoom count self.new) }
+    {
+        if self.slots.len() / 2 > self.places.len() {
+            *self = self.copy_with_room(count)?;
+            return Ok(());
+        }
+        self.grow(count)
+    }
+
+    /// Takes the memory for `count` changes: it gives the table that they begin with where that isn't this one.
+    pub(crate) fn prepare(
+        &mut self,
+        cleared: bool,
+        count: usize,
+    ) -> Result<Option<SlotTable>, AllocError>
+        requires { IsTable self.old }
+        ensures slots { IsTable self.new }
+        ensures entries { entries_of self.new ≡ entries_of self.old }
+        ensures ready { IfOk result
+            (λ fresh. IsReady (started cleared (entries_of self.old)) count (unwrap_or fresh self.new)) }
+    {
+        if cleared {
+            return Ok(Some(SlotTable::with_room(*self.slots.allocator(), count)?));
+        }
+        self.reserve(count)?;
+        Ok(None)
+    }
+
+    /// Puts `fresh` in the place of this table, where there is one.
+    fn begin(&mut self, fresh: Option<SlotTable>)
+        ensures { self.new ≡ unwrap_or fresh self.old }
+    {
+        if let Some(fresh) = fresh {
+            *self = fresh;
+        }
+    }
+
+    /// Makes changes one after the other, in memory that was taken for them.
+    fn make(&mut self, changes: Vec<(u16, Option<Definition>)>)
+        requires slots { IsTable self.old }
+        requires room { HasRoom (length changes.items) self.old }
+        ensures slots { IsTable self.new }
+        ensures entries { entries_of self.new ≡ made (entries_of self.old) changes.items }
+    {
+        for (id, change) in changes {
+            self.change(id, change);
+        }
+    }
+
+    /// Makes changes in what `prepare` gave for them.
+    pub(crate) fn finish(
+        &mut self,
+        fresh: Option<SlotTable>,
+        changes: Vec<(u16, Option<Definition>)>,
+    )
+        requires slots { IsTable (unwrap_or fresh self.old) }
+        requires room { HasRoom (length changes.items) (unwrap_or fresh self.old) }
+        ensures slots { IsTable self.new }
+        ensures entries { entries_of self.new ≡ made (entries_of (unwrap_or fresh self.old)) changes.items }
+    {
+        self.begin(fresh);
+        self.make(changes);
+    }
+}
