@@ -1,0 +1,47 @@
+//! One message of a rolled file.
+
+ghost use Rattle.std.specs.Prelude.{ℕ, Some};
+ghost use Rattle.flow_rolled.specs.Octets.{IsPart};
+ghost use Rattle.flow_rolled.specs.Reading.{part_of, Stands};
+
+use crate::row::RolledRow;
+
+/// The number of rows of a message behind which further rows of its domain may come, and the greatest.
+pub(crate) const FULL: usize = 1000;
+
+/// A message of a rolled file: the head of its domain, where it has no rows.
+#[derive(Drop)]
+pub struct Message {
+    pub time: u32,
+    pub sequence: u32,
+    pub domain: u32,
+    pub rows: Vec<RolledRow>,
+}
+
+/// What the next message is judged by.
+#[derive(Clone, Copy)]
+pub struct State {
+    pub time: u32,
+    pub domain: u32,
+    pub due: u32,
+    pub count: usize,
+    pub last: Option<RolledRow>,
+}
+
+impl State {
+    /// The state behind a message.
+    pub(crate) fn behind(message: &Message) -> State
+        ensures { (width : ℕ) → IsPart width (part_of message.now) → Stands (Some result) (Some (part_of message.now)) }
+    {
+        let count = message.rows.len();
+        let records = if count == 0 { 2 } else { count };
+        let due = ((u64::from(message.sequence) + records as u64) % 4_294_967_296) as u32;
+        State {
+            time: message.time,
+            domain: message.domain,
+            due,
+            count,
+            last: message.rows.last().copied(),
+        }
+    }
+}
