@@ -3,3 +3,4 @@ pub mod Fault
 pub mod Slots
 pub mod Opening
 pub mod Following
+pub mod Printed

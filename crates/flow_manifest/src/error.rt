@@ -1,30 +1,43 @@
 //! Why octets are no manifest, and why an archive can't be opened.
 
-ghost use Rattle.std.specs.Prelude.{◌≡◌};
+ghost use Rattle.std.specs.Prelude.{◌≡◌, Some};
 ghost use Rattle.flow_manifest.specs.declared.error.ManifestError.TheVariants as manifest;
 ghost use Rattle.flow_manifest.specs.declared.error.OpenError.TheVariants as opening;
 ghost use Rattle.flow_manifest.specs.Opening.{told};
+ghost use Rattle.flow_manifest.specs.Printed.{manifest_text, opening_text};
 
 use flow_disk::DiskError;
 use std::alloc::{AllocError, AllocFailed};
-use thiserror::Error;
+use std::error::Error;
+use std::fmt;
 
-/// The first fault of octets that are no manifest.
-#[derive(Clone, Copy, Debug, PartialEq, Eq, Error)]
+/// The first fault of octets that are no manifest, printed as its number and its name.
+#[derive(Clone, Copy, Debug, PartialEq, Eq)]
 pub enum ManifestError {
     /// The format is neither 1 nor 2.
-    #[error("21 Format")]
     Format,
     /// A number is out of its range, or the entries aren't those of a valid manifest.
-    #[error("22 Entries")]
     Entries,
     /// There are fewer octets, or more, than the manifest has.
-    #[error("23 Cut")]
     Cut,
     /// A growth was refused.
-    #[error("11 OutOfMemory")]
     OutOfMemory,
 }
+
+impl fmt::Display for ManifestError {
+    ghost output = { λ e. Some (manifest_text e) };
+
+    fn fmt<W: fmt::Write>(&self, f: &mut fmt::Formatter<W>) -> fmt::Result {
+        match self {
+            ManifestError::Format => write!(f, "21 Format"),
+            ManifestError::Entries => write!(f, "22 Entries"),
+            ManifestError::Cut => write!(f, "23 Cut"),
+            ManifestError::OutOfMemory => write!(f, "11 OutOfMemory"),
+        }
+    }
+}
+
+impl Error for ManifestError {}
 
 impl From<AllocError> for ManifestError {
     ghost from_gives = { λ _ e. e ≡ manifest.OutOfMemory };
@@ -42,31 +55,42 @@ impl<T: Drop> From<AllocFailed<T>> for ManifestError {
     }
 }
 
-/// Why an archive can't be opened.
-#[derive(Clone, Copy, Debug, PartialEq, Eq, Error)]
+/// Why an archive can't be opened, printed as its number, its name, and the file and the place that it carries.
+#[derive(Clone, Copy, Debug, PartialEq, Eq)]
 pub enum OpenError {
     /// A file, and a place in it, with content that no honest run leaves.
-    #[error("20 Damaged {0} {1}")]
     Damaged(u64, u64),
     /// An open slot whose format is neither 1 nor 2.
-    #[error("21 Format {0}")]
     Format(u64),
     /// An open slot with a number out of its range, or entries that aren't those of a valid manifest.
-    #[error("22 Entries {0}")]
     Entries(u64),
     /// An open slot with fewer octets, or more, than its manifest has, or a slot without octets beside an open one.
-    #[error("23 Cut {0}")]
     Cut(u64),
     /// No slot is open.
-    #[error("24 NoArchive")]
     NoArchive,
     /// The device failed in this call.
-    #[error("30 Fault")]
     Fault,
     /// A growth was refused.
-    #[error("11 OutOfMemory")]
     OutOfMemory,
 }
+
+impl fmt::Display for OpenError {
+    ghost output = { λ e. Some (opening_text e) };
+
+    fn fmt<W: fmt::Write>(&self, f: &mut fmt::Formatter<W>) -> fmt::Result {
+        match self {
+            OpenError::Damaged(file, at) => write!(f, "20 Damaged {file} {at}"),
+            OpenError::Format(file) => write!(f, "21 Format {file}"),
+            OpenError::Entries(file) => write!(f, "22 Entries {file}"),
+            OpenError::Cut(file) => write!(f, "23 Cut {file}"),
+            OpenError::NoArchive => write!(f, "24 NoArchive"),
+            OpenError::Fault => write!(f, "30 Fault"),
+            OpenError::OutOfMemory => write!(f, "11 OutOfMemory"),
+        }
+    }
+}
+
+impl Error for OpenError {}
 
 impl From<DiskError> for OpenError {
     ghost from_gives = { λ e told_as. told_as ≡ told e };
