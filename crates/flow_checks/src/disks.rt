@@ -1,5 +1,6 @@
 // Each call of each disk: once where there is room for it, and once where there is none.
-ghost use Rattle.std.specs.Prelude.{◌≡◌, ◌≢◌, ℕ, ◌≤◌, true, false};
+ghost use Rattle.std.specs.Prelude.{◌≡◌, ◌≢◌, ℕ, ◌≤◌, true, false, IfOk, OnOk};
+ghost use Rattle.flow_memory_disk.specs.Memory.{story_of};
 
 use flow_disk::{Disk, DiskError, Faults, SealedFile};
 use flow_memory_disk::{FusedDisk, LyingDisk, MemoryDisk, OneFaultDisk, Room};
@@ -27,15 +28,13 @@ const NONE: Room = Room {
 
 /// What the calls of a disk told, of two files that were written: file 7 as 1 2 3 4 5, cut to four octets, then 6 7 over its
 /// third octet; file 2 as 9, removed behind the first list of files.
-#[derive(Debug, Drop, PartialEq)]
+#[derive(Drop, PartialEq)]
 struct Told {
     listed: Vec<u64>,
     left: Vec<u64>,
     read: Vec<u8>,
     length: u64,
-    sealed_file: u64,
-    sealed_length: u64,
-    sealed_read: Vec<u8>,
+    frozen: ToldFrozen,
     retired_length: u64,
 }
 
@@ -50,21 +49,48 @@ fn listed_and_left<D: Disk>(alloc: Global, disk: &mut D) -> Result<(Vec<u64>, Ve
     Ok((listed, disk.files(alloc)?))
 }
 
+/// Writes over file 7 once cut, and settles it.
+fn cut_and_settled<D: Disk>(disk: &mut D) -> Result<(), DiskError>
+    requires thawed { (D.marks disk.old 7).frozen ≡ false }
+    requires room { 4 ≤ (D.marks disk.old 7).size }
+    ensures thawed { OnOk result ((D.marks disk.new 7).frozen ≡ false) }
+    ensures settled { OnOk result ((D.marks disk.new 7).settled ≡ true) }
+    ensures size { OnOk result ((D.marks disk.new 7).size ≡ 4) }
+{
+    disk.cut(7, 4)?;
+    disk.write_at(7, 2, &[6, 7])?;
+    disk.sync(7)
+}
+
+/// What is told of a frozen file.
+#[derive(Drop, PartialEq)]
+struct ToldFrozen {
+    file: u64,
+    length: u64,
+    read: Vec<u8>,
+}
+
+fn told_frozen<S: SealedFile>(alloc: Global, sealed: &S) -> Result<ToldFrozen, DiskError>
+    requires { S.size sealed.now ≡ 4 }
+{
+    let mut faults = Faults::new();
+    Ok(ToldFrozen {
+        file: sealed.file(),
+        length: sealed.length(),
+        read: sealed.read(alloc, &mut faults, 1, 3)?,
+    })
+}
+
 /// Makes each call of a disk, and each of a frozen file.
 fn each_call<D: Disk>(alloc: Global, mut disk: D) -> Result<Told, DiskError>
     requires { (n : ℕ) → (D.marks disk n).frozen ≡ false }
 {
-    let mut faults = Faults::new();
     disk.write_at(7, 0, &[1, 2, 3, 4, 5])?;
     let (listed, left) = listed_and_left(alloc, &mut disk)?;
-    disk.cut(7, 4)?;
-    disk.write_at(7, 2, &[6, 7])?;
-    disk.sync(7)?;
+    cut_and_settled(&mut disk)?;
     let read = disk.read(alloc, 7, 1, 3)?;
     let sealed = disk.freeze(7)?;
-    let sealed_file = sealed.file();
-    let sealed_length = sealed.length();
-    let sealed_read = sealed.read(alloc, &mut faults, 1, 3)?;
+    let frozen = told_frozen(alloc, &sealed)?;
     let length = disk.length(7)?;
     disk.retire(sealed)?;
     Ok(Told {
@@ -72,9 +98,7 @@ fn each_call<D: Disk>(alloc: Global, mut disk: D) -> Result<Told, DiskError>
         left,
         read,
         length,
-        sealed_file,
-        sealed_length,
-        sealed_read,
+        frozen,
         retired_length: disk.length(7)?,
     })
 }
@@ -86,92 +110,130 @@ fn truth(alloc: Global) -> Result<Told, AllocError> {
         left: vec![in alloc; 7]?,
         read: vec![in alloc; 2, 6, 7]?,
         length: 4,
-        sealed_file: 7,
-        sealed_length: 4,
-        sealed_read: vec![in alloc; 2, 6, 7]?,
+        frozen: ToldFrozen {
+            file: 7,
+            length: 4,
+            read: vec![in alloc; 2, 6, 7]?,
+        },
         retired_length: 0,
     })
 }
 
-#[test]
-fn each_call_of_a_memory_disk(rt: HostRuntime) -> Result<(), Fail> {
-    let alloc = rt.alloc();
-    let disk = MemoryDisk::new(alloc, ENOUGH)?;
-    assert_eq!(rt; each_call(alloc, disk)?, truth(alloc)?);
-    Ok(())
+/// A disk in memory with this room, on which nothing is frozen and all is settled.
+fn memory(alloc: Global, room: Room) -> Result<MemoryDisk, AllocError>
+    ensures thawed { IfOk result (λ disk. (n : ℕ) → ((story_of disk).marks n).frozen ≡ false) }
+    ensures settled { IfOk result (λ disk. (n : ℕ) → ((story_of disk).marks n).settled ≡ true) }
+{
+    MemoryDisk::new(alloc, room)
 }
 
-/// Whether the calls met a fault.
-fn is_fault(told: Result<Told, DiskError>) -> Result<bool, DiskError> {
-    match told {
-        Ok(_) => Ok(false),
-        Err(DiskError::Fault) => Ok(true),
+/// Whether each call tells the truth.
+fn is_true<D: Disk>(alloc: Global, disk: D) -> Result<bool, DiskError>
+    requires { (n : ℕ) → (D.marks disk n).frozen ≡ false }
+{
+    let told = each_call(alloc, disk)?;
+    Ok(told == truth(alloc)?)
+}
+
+/// Whether each call tells the truth, or else one meets a fault.
+fn is_so<D: Disk>(alloc: Global, disk: D, truth: bool) -> Result<bool, DiskError>
+    requires { (n : ℕ) → (D.marks disk n).frozen ≡ false }
+{
+    match is_true(alloc, disk) {
+        Ok(is_true) => Ok(is_true && truth),
+        Err(DiskError::Fault) => Ok(!truth),
         Err(error) => Err(error),
     }
 }
 
 #[test]
+fn each_call_of_a_memory_disk(rt: HostRuntime) -> Result<(), Fail> {
+    let alloc = rt.alloc();
+    assert!(rt; is_true(alloc, memory(alloc, ENOUGH)?)?);
+    Ok(())
+}
+
+/// Whether each call tells the truth that passes a fuse, or else one meets a fault.
+fn is_so_fused(alloc: Global, calls: u64, truth: bool) -> Result<bool, DiskError> {
+    let disk = FusedDisk::new(memory(alloc, ENOUGH)?, calls);
+    is_so(alloc, disk, truth)
+}
+
+#[test]
 fn each_call_of_a_fused_disk(rt: HostRuntime) -> Result<(), Fail> {
     let alloc = rt.alloc();
-    let disk = FusedDisk::new(MemoryDisk::new(alloc, ENOUGH)?, CALLS);
-    assert_eq!(rt; each_call(alloc, disk)?, truth(alloc)?);
-    for calls in 0..CALLS {
-        let disk = FusedDisk::new(MemoryDisk::new(alloc, ENOUGH)?, calls);
-        assert!(rt; is_fault(each_call(alloc, disk))?, "{calls} calls");
+    for calls in 0..CALLS + 1 {
+        assert!(rt; is_so_fused(alloc, calls, calls == CALLS)?, "{calls} calls");
     }
     Ok(())
+}
+
+/// The same where reads of this file once frozen fail from this octet on.
+fn is_so_with_bad_reads(
+    alloc: Global,
+    file: u64,
+    from: u64,
+    truth: bool,
+) -> Result<bool, DiskError> {
+    let disk = FusedDisk::with_bad_reads(memory(alloc, ENOUGH)?, CALLS, file, from);
+    is_so(alloc, disk, truth)
 }
 
 #[test]
 fn each_call_of_a_fused_disk_with_bad_reads(rt: HostRuntime) -> Result<(), Fail> {
     let alloc = rt.alloc();
     // what is read of the frozen file ends at its octet 3
-    for (file, from, bad) in [(7, 0, true), (7, 3, true), (7, 4, false), (2, 0, false)] {
-        let disk = FusedDisk::with_bad_reads(MemoryDisk::new(alloc, ENOUGH)?, CALLS, file, from);
-        let result = each_call(alloc, disk);
-        if bad {
-            assert!(rt; is_fault(result)?, "file {file} from {from}");
-        } else {
-            assert_eq!(rt; result?, truth(alloc)?, "file {file} from {from}");
-        }
+    for (file, from, truth) in [(7, 0, false), (7, 3, false), (7, 4, true), (2, 0, true)] {
+        assert!(rt;
+            is_so_with_bad_reads(alloc, file, from, truth)?,
+            "file {file} from {from}"
+        );
     }
     Ok(())
+}
+
+/// The same of a disk whose call of this number fails.
+fn is_so_but_one(alloc: Global, call: u64, truth: bool) -> Result<bool, DiskError> {
+    let disk = OneFaultDisk::new(memory(alloc, ENOUGH)?, call);
+    is_so(alloc, disk, truth)
 }
 
 #[test]
 fn each_call_of_a_disk_with_one_fault(rt: HostRuntime) -> Result<(), Fail> {
     let alloc = rt.alloc();
-    for call in [0, CALLS + 1] {
-        let disk = OneFaultDisk::new(MemoryDisk::new(alloc, ENOUGH)?, call);
-        assert_eq!(rt; each_call(alloc, disk)?, truth(alloc)?, "call {call}");
-    }
-    for call in 1..=CALLS {
-        let disk = OneFaultDisk::new(MemoryDisk::new(alloc, ENOUGH)?, call);
-        assert!(rt; is_fault(each_call(alloc, disk))?, "call {call}");
+    for call in 0..CALLS + 2 {
+        let truth = call == 0 || call > CALLS;
+        assert!(rt; is_so_but_one(alloc, call, truth)?, "call {call}");
     }
     Ok(())
+}
+
+/// Whether the lengths are told as they are.
+fn keeps_lengths(told: &Told, truth: &Told) -> bool {
+    told.length == truth.length
+        && told.read.len() == truth.read.len()
+        && told.frozen.file == truth.frozen.file
+        && told.frozen.length == truth.frozen.length
+        && told.frozen.read.len() == truth.frozen.read.len()
+        && told.retired_length == truth.retired_length
+}
+
+/// Whether each call of a disk that lies tells the truth; lengths are told as they are.
+fn is_true_of_liar(alloc: Global, seed: u64) -> Result<bool, Fail> {
+    let told = each_call(alloc, LyingDisk::new(memory(alloc, ENOUGH)?, seed))?;
+    let truth = truth(alloc)?;
+    if !keeps_lengths(&told, &truth) {
+        return Err(Fail::from("another length"));
+    }
+    Ok(told == truth)
 }
 
 #[test]
 fn each_call_of_a_disk_that_lies(rt: HostRuntime) -> Result<(), Fail> {
     let alloc = rt.alloc();
-    let truth = truth(alloc)?;
     let mut true_ones = 0u64;
     for seed in 0..100 {
-        let disk = LyingDisk::new(MemoryDisk::new(alloc, ENOUGH)?, seed);
-        let told = each_call(alloc, disk)?;
-        // it lies of octets and of what is listed, never of lengths
-        assert_eq!(rt; told.length, truth.length, "seed {seed}");
-        assert_eq!(rt; told.read.len(), truth.read.len(), "seed {seed}");
-        assert_eq!(rt; told.sealed_file, truth.sealed_file, "seed {seed}");
-        assert_eq!(rt; told.sealed_length, truth.sealed_length, "seed {seed}");
-        assert_eq!(rt;
-            told.sealed_read.len(),
-            truth.sealed_read.len(),
-            "seed {seed}"
-        );
-        assert_eq!(rt; told.retired_length, truth.retired_length, "seed {seed}");
-        if told == truth {
+        if is_true_of_liar(alloc, seed)? {
             true_ones = true_ones.saturating_add(1);
         }
     }
@@ -258,14 +320,66 @@ fn faults_of<D: Disk>(disk: D) -> (D, u64)
     (disk, answered)
 }
 
+/// Whether all five calls answer a fault.
+fn fails<D: Disk>(disk: D) -> bool
+    requires thawed { (n : ℕ) → (D.marks disk n).frozen ≡ false }
+    requires settled { (n : ℕ) → (D.marks disk n).settled ≡ true }
+{
+    faults_of(disk).1 == 5
+}
+
+fn fails_in_memory(alloc: Global) -> Result<bool, AllocError> {
+    Ok(fails(memory(alloc, NONE)?))
+}
+
+fn fails_behind_fuse(alloc: Global) -> Result<bool, AllocError> {
+    Ok(fails(FusedDisk::new(memory(alloc, NONE)?, 5)))
+}
+
+fn fails_without_fault(alloc: Global) -> Result<bool, AllocError> {
+    Ok(fails(OneFaultDisk::new(memory(alloc, NONE)?, 0)))
+}
+
+fn fails_lying(alloc: Global) -> Result<bool, AllocError> {
+    Ok(fails(LyingDisk::new(memory(alloc, NONE)?, 0)))
+}
+
 #[test]
-fn each_call_of_a_disk_with_no_room(rt: HostRuntime) -> Result<(), Fail> {
+fn each_change_of_a_disk_with_no_room(rt: HostRuntime) -> Result<(), Fail> {
     let alloc = rt.alloc();
-    let (mut disk, faults) = faults_of(MemoryDisk::new(alloc, NONE)?);
-    assert_eq!(rt; faults, 5);
-    assert_eq!(rt; disk.length(7)?, 0);
-    assert_eq!(rt; disk.read(alloc, 7, 0, 0)?.len(), 0);
-    assert_eq!(rt; disk.files(alloc)?.len(), 0);
+    assert!(rt; fails_in_memory(alloc)?);
+    assert!(rt; fails_behind_fuse(alloc)?);
+    assert!(rt; fails_without_fault(alloc)?);
+    assert!(rt; fails_lying(alloc)?);
+    Ok(())
+}
+
+/// What is told of a disk without files behind five calls that fail: the length of file 7, how many octets are read of
+/// it, and how many files are listed.
+fn told_of_nothing<D: Disk>(alloc: Global, disk: D) -> Result<(u64, usize, usize), DiskError>
+    requires thawed { (n : ℕ) → (D.marks disk n).frozen ≡ false }
+    requires settled { (n : ℕ) → (D.marks disk n).settled ≡ true }
+{
+    let (mut disk, _) = faults_of(disk);
+    let length = disk.length(7)?;
+    let read = disk.read(alloc, 7, 0, 0)?;
+    let files = disk.files(alloc)?;
+    Ok((length, read.len(), files.len()))
+}
+
+/// Whether file 7 is frozen and its removal met a fault.
+fn fails_to_retire<D: Disk>(mut disk: D) -> Result<bool, DiskError>
+    requires thawed { (n : ℕ) → (D.marks disk n).frozen ≡ false }
+    requires settled { (n : ℕ) → (D.marks disk n).settled ≡ true }
+{
+    let sealed = disk.freeze(7)?;
+    Ok(disk.retire(sealed) == Err(DiskError::Fault))
+}
+
+#[test]
+fn other_calls_of_a_disk_with_no_room(rt: HostRuntime) -> Result<(), Fail> {
+    let alloc = rt.alloc();
+    assert_eq!(rt; told_of_nothing(alloc, memory(alloc, NONE)?)?, (0, 0, 0));
     // a frozen file is no call of the record, and its removal is two
     let one = Room {
         files: 1,
@@ -273,20 +387,6 @@ fn each_call_of_a_disk_with_no_room(rt: HostRuntime) -> Result<(), Fail> {
         calls: 1,
         written: 0,
     };
-    let mut disk = MemoryDisk::new(alloc, one)?;
-    let sealed = disk.freeze(7)?;
-    assert_eq!(rt; disk.retire(sealed), Err(DiskError::Fault));
-    assert_eq!(rt;
-        faults_of(FusedDisk::new(MemoryDisk::new(alloc, NONE)?, 5)).1,
-        5
-    );
-    assert_eq!(rt;
-        faults_of(OneFaultDisk::new(MemoryDisk::new(alloc, NONE)?, 0)).1,
-        5
-    );
-    assert_eq!(rt;
-        faults_of(LyingDisk::new(MemoryDisk::new(alloc, NONE)?, 0)).1,
-        5
-    );
+    assert!(rt; fails_to_retire(memory(alloc, one)?)?);
     Ok(())
 }
