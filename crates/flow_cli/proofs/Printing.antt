@@ -7,7 +7,8 @@ use Rattle.std.specs.Io.KnownBytes.{Appends}
 use Rattle.std.proofs.KnownBytes.{Appends-nil}
 use Rattle.flow_codec.specs.Raw.{RawMessage}
 use Rattle.flow_codec.specs.Templates.{AllTemplates}
-use Rattle.flow_codec.specs.Stream.{Progress}
+use Rattle.flow_codec.specs.declared.patient.ReadFailed.{ReadFailed}
+use Rattle.flow_codec.specs.Stream.{Held, Progress, progress}
 use Rattle.flow_codec.specs.File.{AcceptedFront, whole}
 use Rattle.flow_cli.specs.declared.dumping.HeldMessage.{HeldMessage}
 use Rattle.flow_cli.specs.declared.refusal.Refusal.{Refusal}
@@ -16,12 +17,12 @@ use Rattle.flow_cli.specs.declared.refusal.Refusal.TheVariants.{Read, Write}
 use Rattle.flow_cli.specs.Lines.{message_text, dump_text}
 use Rattle.flow_cli.specs.Writing.{AppendsFront}
 use Rattle.flow_cli.specs.Telling.{Tells, TellsFront, IsCutShort, IsCutIn}
-use Rattle.flow_cli.specs.Dump.{message_of, IsNext, IsDumped, IsDumpedUntil}
+use Rattle.flow_cli.specs.Dump.{message_of, IsNext, ReadsWithin, IsDumped, IsDumpedUntil}
 use Rattle.flow_codec.specs.declared.stream.StreamError.TheVariants.{File as FileStopped}
 use Rattle.flow_codec.proofs.Following.{Follows, follows_none, follows_more, follows_end, follows_broken}
 use Rattle.flow_codec.proofs.Following.{follows_refused}
 use Rattle.flow_cli.specs.Fronts.{IsFront}
-use Rattle.flow_cli.proofs.Reached.{reached, spent_at}
+use Rattle.flow_cli.proofs.Reached.{IsShort, reached, spent_at, read_up}
 use Rattle.flow_cli.proofs.Joining.{tells_then, stops_then, holds_more, all_written, front_written}
 
 -- a reader that was not stopped
@@ -37,6 +38,13 @@ pub record IsDumping (input old : Option (List ℕ)) (reader : Progress) (here :
   pub told : Tells old [] now held (dump_text messages)
   pub fresh : reader.stopped ≡ None
   pub few : reader.count < 2 ^ 48
+
+-- where the next message is refused since a read failed
+pub short_by : (old new : Held) (left unread : Option (List ℕ)) (e : Refusal) → old.stopped ≡ None
+    → ReadsWithin old left e new unread → (failed : ReadFailed) → e ≡ Read failed
+    → IsShort (progress old left) new.ahead unread
+short_by old new left unread e fresh within failed is =
+    (subst (λ (r : Refusal). ReadsWithin old left r new unread) is within) fresh
 
 implied : (o : Option (List ℕ)) (P Q : List ℕ → Type 0) → ((x : List ℕ) → P x → Q x) → IfSome o P → IfSome o Q
 implied None P Q f p = tt
@@ -93,21 +101,21 @@ module _ (input old : Option (List ℕ)) (reader : Progress) (here : AllTemplate
       }
 
   -- an accepted message, with a front of its lines
-  pub cuts_next : (m : HeldMessage) (next : Progress) (after : AllTemplates) (then : Option (List ℕ)) (e : Refusal)
+  pub cuts_next : (unread : Option (List ℕ)) (m : HeldMessage) (next : Progress) (after : AllTemplates) (then : Option (List ℕ)) (e : Refusal)
       → IsNext reader here (Ok (Some m)) next after → IsCutIn now held then (message_text (message_of m)) e
-      → IfSome input (λ octets. IsDumpedUntil octets old then e)
-  cuts_next m next after then e step cut =
+      → IfSome input (λ octets. IsDumpedUntil octets unread old then e)
+  cuts_next unread m next after then e step cut =
       let ms : List RawMessage = is.messages ++ message_of m ∷ [] in
       let front = stops_then old now then [] held (dump_text is.messages) (message_text (message_of m)) is.told cut.1 in
       let written : AppendsFront old then (dump_text ms) =
       front_written old then (dump_text ms)
       (subst (λ (t : List ℕ). TellsFront old [] then t) (sym (text_then is.messages (message_of m))) front) in
-      implied input (λ octets. IsFront octets ms) (λ octets. IsDumpedUntil octets old then e)
+      implied input (λ octets. IsFront octets ms) (λ octets. IsDumpedUntil octets unread old then e)
       (λ octets f. cut_is octets ms then e f written cut.0)
       (reached input next.rest next.at ms after (more m next after step))
     where
       cut_is : (octets : List ℕ) (ms : List RawMessage) (then : Option (List ℕ)) (e : Refusal) → IsFront octets ms
-          → AppendsFront old then (dump_text ms) → IsCutShort e → IsDumpedUntil octets old then e
+          → AppendsFront old then (dump_text ms) → IsCutShort e → IsDumpedUntil octets unread old then e
       cut_is octets ms then OutOfMemory f w short = (ms, f, w)
       cut_is octets ms then (Write failed) f w short = (ms, f, w)
       cut_is octets ms then (Message fault number) f w short = absurd short
@@ -117,15 +125,15 @@ module _ (input old : Option (List ℕ)) (reader : Progress) (here : AllTemplate
       cut_is octets ms then (Read failed) f w short = absurd short
 
   -- what is held can't be written
-  pub cuts_held : (then : Option (List ℕ)) (e : Refusal) → (failed : _) × (e ≡ Write failed)
-      → TellsFront now held then [] → IfSome input (λ octets. IsDumpedUntil octets old then e)
-  cuts_held then e write front =
+  pub cuts_held : (unread then : Option (List ℕ)) (e : Refusal) → (failed : _) × (e ≡ Write failed)
+      → TellsFront now held then [] → IfSome input (λ octets. IsDumpedUntil octets unread old then e)
+  cuts_held unread then e write front =
       let all = stops_then old now then [] held (dump_text is.messages) [] is.told front in
       let written : AppendsFront old then (dump_text is.messages) =
       front_written old then (dump_text is.messages)
       (subst (λ (t : List ℕ). TellsFront old [] then t) (append-nil (dump_text is.messages)) all) in
-      subst (λ (r : Refusal). IfSome input (λ octets. IsDumpedUntil octets old then r)) (sym write.1)
-      (implied input (λ octets. IsFront octets is.messages) (λ octets. IsDumpedUntil octets old then (Write write.0))
+      subst (λ (r : Refusal). IfSome input (λ octets. IsDumpedUntil octets unread old then r)) (sym write.1)
+      (implied input (λ octets. IsFront octets is.messages) (λ octets. IsDumpedUntil octets unread old then (Write write.0))
       (λ octets f. (is.messages, f, written)) (reached input reader.rest reader.at is.messages here is.run))
 
   all_told : (then : Option (List ℕ)) (left : List ℕ) → Tells now held then left [] → left ≡ []
@@ -154,10 +162,11 @@ module _ (input old : Option (List ℕ)) (reader : Progress) (here : AllTemplate
       ))
 
   -- where the next message is refused, or can't be read
-  pub ends_refused : (e : Refusal) (next : Progress) (after : AllTemplates) (then : Option (List ℕ)) (left : List ℕ)
-      → IsNext reader here (Err e) next after → Tells now held then left [] → left ≡ []
-      → IfSome input (λ octets. IsDumpedUntil octets old then e)
-  ends_refused e next after then left step told none = by_cause e step
+  pub ends_refused : (unread : Option (List ℕ)) (ahead : List ℕ) (e : Refusal) (next : Progress) (after : AllTemplates)
+      (then : Option (List ℕ)) (left : List ℕ) → IsNext reader here (Err e) next after
+      → ((failed : ReadFailed) → e ≡ Read failed → IsShort reader ahead unread) → Tells now held then left []
+      → left ≡ [] → IfSome input (λ octets. IsDumpedUntil octets unread old then e)
+  ends_refused unread ahead e next after then left step short told none = by_cause e step short
     where
       written : Appends old then (dump_text is.messages)
       written = all_told then left told none
@@ -174,8 +183,9 @@ module _ (input old : Option (List ℕ)) (reader : Progress) (here : AllTemplate
       )
 
       by_cause : (e : Refusal) → IsNext reader here (Err e) next after
-          → IfSome input (λ octets. IsDumpedUntil octets old then e)
-      by_cause (Message fault number) step =
+          → ((failed : ReadFailed) → e ≡ Read failed → IsShort reader ahead unread)
+          → IfSome input (λ octets. IsDumpedUntil octets unread old then e)
+      by_cause (Message fault number) step short =
           implied input _ _ (λ octets f. (is.messages, here, f, step.4 ∙ ap (λ (n : ℕ). n + 1) is.counted, written))
           (follows_refused input reader
           (going step.0 next.rest number (reader.at + length step.0)) is.messages here fault is.run (
@@ -187,7 +197,7 @@ module _ (input old : Option (List ℕ)) (reader : Progress) (here : AllTemplate
             step.5,
             refl,
           ) step.2)
-      by_cause (File fault) step =
+      by_cause (File fault) step short =
           implied input _ _ (λ octets f. (is.messages, here, f, written))
           (follows_broken input reader (record {
             rest = reader.rest;
@@ -198,18 +208,22 @@ module _ (input old : Option (List ℕ)) (reader : Progress) (here : AllTemplate
             stopped = Some (FileStopped fault);
           }) is.messages here fault is.fresh is.run
           (inr (is.fresh, step), refl, refl, refl, refl))
-      by_cause OutOfMemory step = implied input _ _ (λ octets f. (is.messages, f, some)) front
-      by_cause SumSpent step = absurd step
-      by_cause NumbersSpent step =
+      by_cause OutOfMemory step short = implied input _ _ (λ octets f. (is.messages, f, some)) front
+      by_cause SumSpent step short = absurd step
+      by_cause NumbersSpent step short =
           implied input _ _ (λ octets f. (is.messages, f, written))
           (spent_at input reader.rest reader.at is.messages here is.run (sym is.counted ∙ step.0) step.1)
-      by_cause (Read failed) step = implied input _ _ (λ octets f. (is.messages, f, written)) front
-      by_cause (Write failed) step = implied input _ _ (λ octets f. (is.messages, f, some)) front
+      by_cause (Read failed) step short =
+          let ahead_is = short failed refl in
+          implied input _ _ (λ octets f. (is.messages, f, written))
+          (read_up input reader.rest unread reader.at is.messages here ahead is.run ahead_is.0 ahead_is.1)
+      by_cause (Write failed) step short = implied input _ _ (λ octets f. (is.messages, f, some)) front
 
 -- before anything is read
-pub ends_at_once : (input old : Option (List ℕ)) → IfSome input (λ octets. IsDumpedUntil octets old old OutOfMemory)
-ends_at_once None old = tt
-ends_at_once (Some octets) old = (
+pub ends_at_once : (input unread old : Option (List ℕ))
+    → IfSome input (λ octets. IsDumpedUntil octets unread old old OutOfMemory)
+ends_at_once None unread old = tt
+ends_at_once (Some octets) unread old = (
   [],
   ([], octets, refl, [], record { parts = []; rest = []; divided = refl; accepted = refl; end = refl }),
   (0, omega arith, Appends-nil old),

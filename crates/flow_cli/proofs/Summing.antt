@@ -18,7 +18,9 @@ use Rattle.flow_codec.specs.Raw.{RawMessage, RawRecord, Placed, under}
 use Rattle.flow_codec.specs.Templates.{AllTemplates}
 use Rattle.flow_codec.specs.Message.{IsAccepted, in_fields}
 use Rattle.flow_codec.specs.Fault.{IsFault}
-use Rattle.flow_codec.specs.Stream.{Progress, IsStep, IsStop, IsMessageNext}
+use Rattle.flow_codec.specs.Stream.{Held, Progress, progress, IsStep, IsStop, IsMessageNext}
+use Rattle.flow_codec.specs.Stream.{StopsWithin}
+use Rattle.flow_codec.specs.declared.patient.ReadFailed.{ReadFailed}
 use Rattle.flow_codec.specs.File.{AcceptedFront, whole, broken, refused}
 use Rattle.flow_codec.specs.Walk.{IsWalkedBy, IsStopped}
 use Rattle.flow_measure.specs.declared.sinks.Totals.{Totals}
@@ -36,8 +38,8 @@ use Rattle.flow_cli.specs.Refusals.{refusal_of, message_refusal, stream_refusal,
 use Rattle.flow_cli.specs.Measure.{flows_of_all, HasSums, IsRefusedBy, KeepsOrFront}
 use Rattle.flow_codec.proofs.Following.{Follows, follows_none, follows_more, follows_end, follows_broken}
 use Rattle.flow_codec.proofs.Following.{follows_refused}
-use Rattle.flow_cli.specs.Fronts.{IsSpentFront}
-use Rattle.flow_cli.proofs.Reached.{spent_at}
+use Rattle.flow_cli.specs.Fronts.{IsSpentFront, IsReadFront}
+use Rattle.flow_cli.proofs.Reached.{IsShort, spent_at, read_up}
 
 -- the sums of the messages that a reader gave
 pub record HasSummed (width : ℕ) (old : Option (List ℕ)) (reader : Progress) (here : AllTemplates)
@@ -157,19 +159,19 @@ abbrev IsRefusedAt : MessageError → ℕ → List ℕ → Type 0
 IsRefusedAt fault number octets = (messages : List RawMessage) × (after : AllTemplates)
     × AcceptedFront octets messages after (refused fault) × (number ≡ length messages + 1)
 
-as_message : (fault : MessageError) (number : ℕ) (octets : List ℕ) → IsRefusedAt fault number octets
-    → IsRefusedBy octets (message_refusal fault number)
-as_message message.OutOfMemory number octets h = tt
-as_message message.Short number octets h = h
-as_message message.Version number octets h = h
-as_message message.Length number octets h = h
-as_message (message.SetLength at) number octets h = h
-as_message (message.TemplateCut at) number octets h = h
-as_message (message.TemplateId at) number octets h = h
-as_message (message.ScopeCount at) number octets h = h
-as_message (message.RecordCut at) number octets h = h
-as_message (message.TemplatesFull domain) number octets h = h
-as_message message.DomainsFull number octets h = h
+as_message : (fault : MessageError) (number : ℕ) (octets : List ℕ) (left : Option (List ℕ)) → IsRefusedAt fault number octets
+    → IsRefusedBy octets left (message_refusal fault number)
+as_message message.OutOfMemory number octets left h = tt
+as_message message.Short number octets left h = h
+as_message message.Version number octets left h = h
+as_message message.Length number octets left h = h
+as_message (message.SetLength at) number octets left h = h
+as_message (message.TemplateCut at) number octets left h = h
+as_message (message.TemplateId at) number octets left h = h
+as_message (message.ScopeCount at) number octets left h = h
+as_message (message.RecordCut at) number octets left h = h
+as_message (message.TemplatesFull domain) number octets left h = h
+as_message message.DomainsFull number octets left h = h
 
 -- what the sink of sums refuses
 abbrev pub Refuses : Totals → List Placed → Placed → SumError → Type 0
@@ -179,13 +181,13 @@ Refuses start taken x e =
     × AllByRecursion FlowFits (flows_of_records (taken ++ x ∷ []))
 
 -- a message at which the run stops
-pub stopped_at : (width : ℕ) (old : Option (List ℕ)) (r0 r1 : Progress) (h0 : AllTemplates) (t0 : Totals)
+pub stopped_at : (width : ℕ) (old left : Option (List ℕ)) (r0 r1 : Progress) (h0 : AllTemplates) (t0 : Totals)
     (octets : List ℕ) (stop : WalkError SumError)
     → HasSummed width old r0 h0 t0 → IsStep r0 (Ok true) r1 → octets ≡ r1.message → length octets < 65536
     → IsStopped Holds Refuses octets h0 t0 stop
-    → IfSome old (λ file. IsRefusedBy file (refusal_of stop r1.count))
-stopped_at width old r0 r1 h0 t0 octets (walk.Sink sum.OutOfMemory) s step is short h = always old
-stopped_at width old r0 r1 h0 t0 octets (walk.Sink sum.SumSpent) s step is short h =
+    → IfSome old (λ file. IsRefusedBy file left (refusal_of stop r1.count))
+stopped_at width old left r0 r1 h0 t0 octets (walk.Sink sum.OutOfMemory) s step is short h = always old
+stopped_at width old left r0 r1 h0 t0 octets (walk.Sink sum.SumSpent) s step is short h =
     let front = (h.1).0 in
     let r = (h.1).1 in
     let refused = (h.1).3 t0 [] (nothing_taken t0) in
@@ -208,10 +210,10 @@ stopped_at width old r0 r1 h0 t0 octets (walk.Sink sum.SumSpent) s step is short
       step.4,
       step.5,
     ))))
-stopped_at width old r0 r1 h0 t0 octets (walk.Message fault) s step is short (inl none) =
-    subst (λ (e : MessageError). IfSome old (λ file. IsRefusedBy file (message_refusal e r1.count))) (sym none)
+stopped_at width old left r0 r1 h0 t0 octets (walk.Message fault) s step is short (inl none) =
+    subst (λ (e : MessageError). IfSome old (λ file. IsRefusedBy file left (message_refusal e r1.count))) (sym none)
     (always old)
-stopped_at width old r0 r1 h0 t0 octets (walk.Message fault) s step is short (inr faulty) =
+stopped_at width old left r0 r1 h0 t0 octets (walk.Message fault) s step is short (inr faulty) =
     with_front old (follows_refused old r0 r1 s.messages h0 fault s.run step
     (subst (λ (o : List ℕ). IsFault o h0 fault) is faulty))
   where
@@ -219,24 +221,33 @@ stopped_at width old r0 r1 h0 t0 octets (walk.Message fault) s step is short (in
     number = omega (arith, step.4, s.counted)
 
     with_front : (o : Option (List ℕ)) → IfSome o (λ file. AcceptedFront file s.messages h0 (refused fault))
-        → IfSome o (λ file. IsRefusedBy file (message_refusal fault r1.count))
+        → IfSome o (λ file. IsRefusedBy file left (message_refusal fault r1.count))
     with_front None f = tt
-    with_front (Some file) f = as_message fault r1.count file (s.messages, h0, f, number)
+    with_front (Some file) f = as_message fault r1.count file left (s.messages, h0, f, number)
+
+-- where it stops since a read failed
+pub short_at : (old new : Held) (left unread : Option (List ℕ)) (e : StreamError) → old.stopped ≡ None
+    → StopsWithin old left e new unread → (failed : ReadFailed) → e ≡ stream.Read failed
+    → IsShort (progress old left) new.ahead unread
+short_at old new left unread e fresh within failed is =
+    (subst (λ (r : StreamError). StopsWithin old left r new unread) is within) fresh
 
 -- the reader stops
-pub ended_by : (width : ℕ) (old : Option (List ℕ)) (r0 r1 : Progress) (h0 : AllTemplates) (t0 : Totals)
-    (e : StreamError)
-    → HasSummed width old r0 h0 t0 → IsStep r0 (Err e) r1 → IfSome old (λ file. IsRefusedBy file (stream_refusal e))
-ended_by width old r0 r1 h0 t0 e s step = by e step
+pub ended_by : (width : ℕ) (old left : Option (List ℕ)) (ahead : List ℕ) (r0 r1 : Progress) (h0 : AllTemplates)
+    (t0 : Totals) (e : StreamError)
+    → HasSummed width old r0 h0 t0 → IsStep r0 (Err e) r1
+    → ((failed : ReadFailed) → e ≡ stream.Read failed → IsShort r0 ahead left)
+    → IfSome old (λ file. IsRefusedBy file left (stream_refusal e))
+ended_by width old left ahead r0 r1 h0 t0 e s step short = by e step short
   where
     broke : (o : Option (List ℕ)) (fault : FileError)
         → IfSome o (λ file. AcceptedFront file s.messages h0 (broken fault))
-        → IfSome o (λ file. IsRefusedBy file (stream_refusal (stream.File fault)))
+        → IfSome o (λ file. IsRefusedBy file left (stream_refusal (stream.File fault)))
     broke None fault f = tt
     broke (Some file) fault f = (s.messages, h0, f)
 
     spent : (o : Option (List ℕ)) → IfSome o (λ file. IsSpentFront file s.messages)
-        → IfSome o (λ file. IsRefusedBy file (stream_refusal stream.NumbersSpent))
+        → IfSome o (λ file. IsRefusedBy file left (stream_refusal stream.NumbersSpent))
     spent None f = tt
     spent (Some file) f = (s.messages, f)
 
@@ -246,10 +257,19 @@ ended_by width old r0 r1 h0 t0 e s step = by e step
     full (inl was) = let none = sym s.going ∙ was in absurd cc
     full (inr h) = h.1
 
-    by : (e : StreamError) → IsStep r0 (Err e) r1 → IfSome old (λ file. IsRefusedBy file (stream_refusal e))
-    by (stream.File fault) step = broke old fault (follows_broken old r0 r1 s.messages h0 fault s.going s.run step)
-    by (stream.Read failed) step = always old
-    by stream.NumbersSpent step = let h = full step.0 in
+    all : (o : Option (List ℕ)) (failed : ReadFailed) → IfSome o (λ file. IsReadFront file left s.messages)
+        → IfSome o (λ file. IsRefusedBy file left (stream_refusal (stream.Read failed)))
+    all None failed f = tt
+    all (Some file) failed f = (s.messages, f)
+
+    by : (e : StreamError) → IsStep r0 (Err e) r1
+        → ((failed : ReadFailed) → e ≡ stream.Read failed → IsShort r0 ahead left)
+        → IfSome old (λ file. IsRefusedBy file left (stream_refusal e))
+    by (stream.File fault) step short = broke old fault (follows_broken old r0 r1 s.messages h0 fault s.going s.run step)
+    by (stream.Read failed) step short =
+        let ahead_is = short failed refl in
+        all old failed (read_up old r0.rest left r0.at s.messages h0 ahead s.run ahead_is.0 ahead_is.1)
+    by stream.NumbersSpent step short = let h = full step.0 in
         spent old (spent_at old r0.rest r0.at s.messages h0 s.run (sym s.counted ∙ h.0) h.1)
 
 pub err_of : {X : Type 0} (r : Result X Refusal) (e : Refusal) (P : Refusal → Type 0) → IsErrAnd r (λ x. x ≡ e) → P e

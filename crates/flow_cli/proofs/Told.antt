@@ -1,5 +1,5 @@
 -- What is told on standard error.
-use Rattle.std.proofs.Common.{◌≡◌, ℕ, ◌≤◌, List, [], ◌∷◌, ◌++◌, length, Option, None, Some, IfSome, refl, sym, ap}
+use Rattle.std.proofs.Common.{◌≡◌, ℕ, List, Option, refl, sym, ap}
 use Rattle.std.proofs.Common.{subst, arith}
 use Rattle.std.proofs.KnownBytes.{Appends-nil}
 use Rattle.clap.specs.declared.error.kind.ErrorKind.{ErrorKind}

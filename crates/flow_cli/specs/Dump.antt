@@ -6,7 +6,8 @@ use Rattle.flow_codec.specs.Templates.{AllTemplates}
 use Rattle.flow_codec.specs.Message.{IsAccepted}
 use Rattle.flow_codec.specs.Fault.{IsFault}
 use Rattle.flow_codec.specs.Cutting.{IsCutOff}
-use Rattle.flow_codec.specs.Stream.{Progress, IsFaultNext, IsMessageNext}
+use Rattle.flow_codec.specs.Stream.{Held, Progress, IsFaultNext, IsMessageNext, StopsWithin}
+use Rattle.flow_codec.specs.declared.stream.StreamError.TheVariants.{Read as ReadStopped}
 use Rattle.flow_codec.specs.File.{AcceptedFront, whole, broken, refused}
 use Rattle.flow_cli.specs.declared.dumping.HeldRecord.{HeldRecord}
 use Rattle.flow_cli.specs.declared.dumping.HeldMessage.{HeldMessage}
@@ -14,7 +15,7 @@ use Rattle.flow_cli.specs.declared.refusal.Refusal.{Refusal}
 use Rattle.flow_cli.specs.declared.refusal.Refusal.TheVariants.{Message, File, OutOfMemory, SumSpent, NumbersSpent}
 use Rattle.flow_cli.specs.declared.refusal.Refusal.TheVariants.{Read, Write}
 use Rattle.flow_cli.specs.Lines.{dump_text}
-use Rattle.flow_cli.specs.Fronts.{IsFront, IsSpentFront}
+use Rattle.flow_cli.specs.Fronts.{IsFront, IsSpentFront, IsReadFront}
 use Rattle.flow_cli.specs.Writing.{AppendsFront}
 
 -- ---- one message
@@ -44,6 +45,16 @@ IsNext old before (Err NumbersSpent) new after = (old.count ≡ 2 ^ 48 - 1) × I
 IsNext old before (Err (Read failed)) new after = ⊤
 IsNext old before (Err (Write failed)) new after = ⊤
 
+-- Where reading failed nothing that was read is lost, and no message stands whole in what is held.
+abbrev pub ReadsWithin : Held → Option (List ℕ) → Refusal → Held → Option (List ℕ) → Type 0
+ReadsWithin old left (Read failed) new after = StopsWithin old left (ReadStopped failed) new after
+ReadsWithin old left (Message fault number) new after = ⊤
+ReadsWithin old left (File fault) new after = ⊤
+ReadsWithin old left OutOfMemory new after = ⊤
+ReadsWithin old left SumSpent new after = ⊤
+ReadsWithin old left NumbersSpent new after = ⊤
+ReadsWithin old left (Write failed) new after = ⊤
+
 -- ---- a whole run
 
 -- the octets are a whole File of accepted messages, and the writer took all their lines
@@ -52,20 +63,21 @@ IsDumped octets old new = (messages : List RawMessage) × (after : AllTemplates)
     × AcceptedFront octets messages after whole × Appends old new (dump_text messages)
 
 -- Why a run ended, the first fault by place, and what the writer took: all lines of the accepted messages before; where
--- memory or the writer failed, a front of the lines of some.
-abbrev pub IsDumpedUntil : List ℕ → Option (List ℕ) → Option (List ℕ) → Refusal → Type 0
-IsDumpedUntil octets old new (Message fault number) =
+-- a read failed, all lines of the messages that stand whole in what was read; where memory or the writer failed, a
+-- front of the lines of some. `left` is what the input has left.
+abbrev pub IsDumpedUntil : List ℕ → Option (List ℕ) → Option (List ℕ) → Option (List ℕ) → Refusal → Type 0
+IsDumpedUntil octets left old new (Message fault number) =
     (messages : List RawMessage) × (after : AllTemplates) × AcceptedFront octets messages after (refused fault)
     × (number ≡ length messages + 1) × Appends old new (dump_text messages)
-IsDumpedUntil octets old new (File fault) =
+IsDumpedUntil octets left old new (File fault) =
     (messages : List RawMessage) × (after : AllTemplates) × AcceptedFront octets messages after (broken fault)
     × Appends old new (dump_text messages)
-IsDumpedUntil octets old new OutOfMemory = (messages : List RawMessage) × IsFront octets messages
+IsDumpedUntil octets left old new OutOfMemory = (messages : List RawMessage) × IsFront octets messages
     × AppendsFront old new (dump_text messages)
-IsDumpedUntil octets old new SumSpent = ⊥
-IsDumpedUntil octets old new NumbersSpent = (messages : List RawMessage) × IsSpentFront octets messages
+IsDumpedUntil octets left old new SumSpent = ⊥
+IsDumpedUntil octets left old new NumbersSpent = (messages : List RawMessage) × IsSpentFront octets messages
     × Appends old new (dump_text messages)
-IsDumpedUntil octets old new (Read failed) = (messages : List RawMessage) × IsFront octets messages
+IsDumpedUntil octets left old new (Read failed) = (messages : List RawMessage) × IsReadFront octets left messages
     × Appends old new (dump_text messages)
-IsDumpedUntil octets old new (Write failed) = (messages : List RawMessage) × IsFront octets messages
+IsDumpedUntil octets left old new (Write failed) = (messages : List RawMessage) × IsFront octets messages
     × AppendsFront old new (dump_text messages)

@@ -13,7 +13,6 @@ use Rattle.flow_codec.specs.declared.message.Header.{Header}
 use Rattle.flow_codec.specs.Fields.{fields_in}
 use Rattle.flow_codec.specs.Raw.{RawRecord, RawMessage}
 use Rattle.flow_measure.specs.declared.rows.Key.{Key}
-use Rattle.flow_measure.specs.declared.rows.Row.{Row}
 use Rattle.flow_measure.specs.declared.rows.Sums.{Sums}
 
 -- ---- totals
@@ -31,12 +30,12 @@ key_text key = decimal key.start ++ 32 ∷ decimal key.domain ++ 32 ∷ protocol
 unfoldable pub sums_text : Sums → List ℕ
 sums_text sums = decimal sums.flows ++ 32 ∷ decimal sums.octets ++ 32 ∷ decimal sums.packets
 
--- START DOMAIN PROTOCOL FLOWS OCTETS PACKETS, with a line feed
-unfoldable pub totals_line : Row → List ℕ
-totals_line row = key_text row.key ++ 32 ∷ sums_text row.sums ++ 10 ∷ []
+-- START DOMAIN PROTOCOL FLOWS OCTETS PACKETS of a key and its sums, with a line feed
+unfoldable pub totals_line : Key × Sums → List ℕ
+totals_line e = key_text e.0 ++ 32 ∷ sums_text e.1 ++ 10 ∷ []
 
-abbrev pub totals_text : List Row → List ℕ
-totals_text rows = flat_map totals_line rows
+abbrev pub totals_text : List (Key × Sums) → List ℕ
+totals_text entries = flat_map totals_line entries
 
 -- ---- values
 

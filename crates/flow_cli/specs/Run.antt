@@ -21,20 +21,21 @@ use Rattle.flow_cli.specs.Measure.{HasTotals, IsRefusedBy, KeepsOrFront}
 abbrev pub IsRefusalTold : Refusal → Option (List ℕ) → Option (List ℕ) → Type 0
 IsRefusalTold e before after = AppendsFront before after (line_of (printed e))
 
--- A run of a command, by what standard output (old, new) and standard error (before, after) hold: status 0 where the
+-- A run of a command, by what standard input had and has left, and by what standard output (old, new) and standard
+-- error (before, after) hold: status 0 where the
 -- lines of the whole File were written, and nothing on standard error; else that of the refusal, which is told.
-abbrev pub Runs : Request → Option (List ℕ) → Option (List ℕ) → Option (List ℕ) → Option (List ℕ) → Option (List ℕ) → ℕ
-    → Type 0
-Runs (Measure width) input old new before after status =
+abbrev pub Runs : Request → Option (List ℕ) → Option (List ℕ) → Option (List ℕ) → Option (List ℕ) → Option (List ℕ)
+    → Option (List ℕ) → ℕ → Type 0
+Runs (Measure width) input left old new before after status =
     ((status ≡ 0) × Keeps before after
     × IfSome input (λ octets. (lines : List ℕ) × HasTotals width octets lines × Appends old new lines))
     ⊎ ((e : Refusal) × (status ≡ status_of e) × IsRefusalTold e before after
-    × IfSome input (λ octets. IsRefusedBy octets e)
+    × IfSome input (λ octets. IsRefusedBy octets left e)
     × KeepsOrFront width input old new e)
-Runs Dump input old new before after status =
+Runs Dump input left old new before after status =
     ((status ≡ 0) × Keeps before after × IfSome input (λ octets. IsDumped octets old new))
     ⊎ ((e : Refusal) × (status ≡ status_of e) × IsRefusalTold e before after
-    × IfSome input (λ octets. IsDumpedUntil octets old new e))
+    × IfSome input (λ octets. IsDumpedUntil octets left old new e))
 
 -- what was asked for is help, or the version
 abbrev pub IsHelp : ErrorKind → Type 0
@@ -59,7 +60,7 @@ IsTold OutOfMemory old new before after status = IsWrong OutOfMemory 4 old new b
 
 -- What is answered of any words: the run of the request that they ask for, or why there is none.
 abbrev pub IsAnswered : List (List ℕ) → Option (List ℕ) → Option (List ℕ) → Option (List ℕ) → Option (List ℕ)
-    → Option (List ℕ) → ℕ → Type 0
-IsAnswered words input old new before after status =
-    ((request : Request) × (asked words ≡ Some request) × Runs request input old new before after status)
+    → Option (List ℕ) → Option (List ℕ) → ℕ → Type 0
+IsAnswered words input left old new before after status =
+    ((request : Request) × (asked words ≡ Some request) × Runs request input left old new before after status)
     ⊎ ((e : LineError) × IsLineError words e × IsTold e old new before after status)

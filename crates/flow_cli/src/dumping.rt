@@ -5,9 +5,10 @@ ghost use Rattle.std.specs.List.{flat_map};
 ghost use Rattle.flow_codec.specs.Fields.{fields_in};
 ghost use Rattle.flow_cli.specs.Lines.{field_text, record_line, message_text};
 ghost use Rattle.flow_cli.specs.Telling.{Tells, TellsFront, IsCutIn};
-ghost use Rattle.flow_cli.specs.Dump.{raw_of, message_of, IsNext, IsDumped, IsDumpedUntil};
+ghost use Rattle.flow_codec.specs.Stream.{progress};
+ghost use Rattle.flow_cli.specs.Dump.{raw_of, message_of, IsNext, ReadsWithin, IsDumped, IsDumpedUntil};
 
-use crate::patient::{Patience, WriteFailed, write_patiently};
+use crate::output::{HeldText, MOST_HELD};
 use crate::refusal::Refusal;
 use crate::text::{push_field, push_message_line, push_start};
 use flow_codec::{
@@ -18,9 +19,6 @@ use std::alloc::{AllocError, Global};
 use std::collections::BTreeMap;
 use std::io::{Read, Write};
 use std::rc::Rc;
-
-/// The octets of text that are held before they are written.
-const MOST_HELD: usize = 65_536;
 
 /// A data record, with the definition that it stands under.
 #[derive(Drop)]
@@ -104,12 +102,16 @@ impl RecordSink for HeldRecords {
 /// Reads the next message and accepts it whole; `None` at the File's end.
 fn next_message<R: Read>(
     alloc: Global,
-    reader: &mut MessageReader<R>,
+    input: &mut R,
+    reader: &mut MessageReader,
     templates: &mut Templates,
 ) -> Result<Option<HeldMessage>, Refusal>
-    ensures { reader.old.stopped ≡ None → IsNext reader.old templates.old result reader.new templates.new }
+    ensures next { reader.old.stopped ≡ None → IsNext (progress reader.old (R.remaining input.old)) templates.old result
+        (progress reader.new (R.remaining input.new)) templates.new }
+    ensures within { IfErr result
+        (λ e. ReadsWithin reader.old (R.remaining input.old) e reader.new (R.remaining input.new)) }
 {
-    if !reader.advance()? {
+    if !reader.advance(input)? {
         return Ok(None);
     }
     let mut held = HeldRecords::new(alloc);
@@ -123,38 +125,7 @@ fn next_message<R: Read>(
     }
 }
 
-/// Text on its way to a writer.
-#[derive(Drop)]
-struct Lines {
-    alloc: Global,
-    text: Vec<u8>,
-    patience: Patience,
-}
-
-impl Lines {
-    fn new(alloc: Global) -> Self
-        ensures { result.text.items ≡ [] }
-    {
-        Lines {
-            alloc,
-            text: Vec::new(alloc),
-            patience: Patience::new(),
-        }
-    }
-
-    /// Writes all that is held.
-    fn flush<W: Write>(&mut self, output: &mut W) -> Result<(), WriteFailed>
-        ensures told { OnOk result
-            (Tells (W.contents output.old) self.old.text.items (W.contents output.new) self.new.text.items []) }
-        ensures none { OnOk result (self.new.text.items ≡ []) }
-        ensures front { IfErr result
-            (λ _. TellsFront (W.contents output.old) self.old.text.items (W.contents output.new) []) }
-    {
-        write_patiently(output, self.text.as_slice(), &mut self.patience)?;
-        self.text.clear();
-        Ok(())
-    }
-
+impl HeldText {
     /// Takes a field of a record, and writes what is held where that is much.
     fn put_field<W: Write>(
         &mut self,
@@ -261,13 +232,13 @@ pub fn dump<R: Read, W: Write>(alloc: Global, input: &mut R, output: &mut W) -> 
         (IfSome (R.remaining input.old) (λ octets. IsDumped octets (W.contents output.old) (W.contents output.new))) }
     ensures refused { IfErr result
         (λ e. IfSome (R.remaining input.old)
-        (λ octets. IsDumpedUntil octets (W.contents output.old) (W.contents output.new) e)) }
+        (λ octets. IsDumpedUntil octets (R.remaining input.new) (W.contents output.old) (W.contents output.new) e)) }
 {
-    let mut reader = MessageReader::new(alloc, input)?;
+    let mut reader = MessageReader::new(alloc)?;
     let mut templates = Templates::new(alloc);
-    let mut lines = Lines::new(alloc);
+    let mut lines = HeldText::new(alloc)?;
     'messages: loop {
-        match next_message(alloc, &mut reader, &mut templates) {
+        match next_message(alloc, input, &mut reader, &mut templates) {
             Ok(Some(message)) => lines.put_message(output, &message)?,
             Ok(None) => {
                 lines.flush(output)?;

@@ -7,6 +7,7 @@
 mod dumping;
 mod measuring;
 mod numbers;
+mod output;
 mod patient;
 mod refusal;
 mod request;

@@ -101,8 +101,8 @@ fn run<R: Read, W: Write, E: Write>(
     output: &mut W,
     errors: &mut E,
 ) -> u8
-    ensures runs { Runs request (R.remaining input.old) (W.contents output.old) (W.contents output.new)
-        (E.contents errors.old) (E.contents errors.new) result }
+    ensures runs { Runs request (R.remaining input.old) (R.remaining input.new) (W.contents output.old)
+        (W.contents output.new) (E.contents errors.old) (E.contents errors.new) result }
     ensures quiet { result ≡ 0 → Keeps (E.contents errors.old) (E.contents errors.new) }
     ensures status { result ≤ 4 }
     ensures other { result ≢ 2 }
@@ -126,8 +126,8 @@ pub fn run_line<S: AsStr, R: Read, W: Write, E: Write>(
     errors: &mut E,
 ) -> u8
     // The words decide which command runs, on what width, or why none does.
-    ensures answered { IsAnswered (map S.text words.now) (R.remaining input.old) (W.contents output.old)
-        (W.contents output.new) (E.contents errors.old) (E.contents errors.new) result }
+    ensures answered { IsAnswered (map S.text words.now) (R.remaining input.old) (R.remaining input.new)
+        (W.contents output.old) (W.contents output.new) (E.contents errors.old) (E.contents errors.new) result }
     ensures quiet { result ≡ 0 → Keeps (E.contents errors.old) (E.contents errors.new) }
     ensures status { result ≤ 4 }
     // Of words that ask for nothing nothing is written but why.

@@ -1,84 +1,64 @@
 //! The program's lines.
 
-ghost use Rattle.std.specs.Prelude.{◌≡◌, ◌<◌, ◌∷◌, ◌++◌, map, IfOk, OnOk, string_bytes};
+ghost use Rattle.std.specs.Prelude.{◌≡◌, ◌≤◌, ◌<◌, ◌+◌, ◌∷◌, [], ◌++◌, map, OnOk, vec_len, vec_capacity};
 ghost use Rattle.std.specs.Fmt.{decimal};
 ghost use Rattle.std.specs.List.{join_with_byte};
 ghost use Rattle.flow_elements.specs.Values.{value_of};
 ghost use Rattle.flow_cli.specs.Lines.{hex, hex_digit, octets_text, pairs, value_text, number_text, name_text};
-ghost use Rattle.flow_cli.specs.Lines.{field_text, start_text, message_line, key_text, protocol_text, sums_text};
-ghost use Rattle.flow_cli.specs.Lines.{totals_line, totals_text};
+ghost use Rattle.flow_cli.specs.Lines.{field_text, start_text, message_line, protocol_text, totals_line};
 
 use flow_codec::Header;
 use flow_elements::{ElementId, Value, element_name, read_value};
-use flow_measure::{Key, Row, Sums};
-use itoa::Buffer;
+use flow_measure::{Key, Sums};
+use itoa::{Buffer, Integer};
 use std::alloc::{AllocError, Global};
 
-/// A protocol's number, or a minus for none.
+/// The most octets of a number in decimal, or of a mark of one octet.
+const MOST_DIGITS: usize = 40;
+
+/// The most octets of a row's line: six numbers, and an octet behind each.
+pub(crate) const MOST_LINE: usize = 6 * (MOST_DIGITS + 1);
+
+/// A number in decimal and an octet behind it, where there is room.
+fn put_number<N: Integer>(line: &mut Vec<u8>, number: N, behind: u8)
+    requires { vec_len line.old + 41 ≤ vec_capacity line.old }
+    ensures text { line.new.items ≡ line.old.items ++ N.text number ++ behind ∷ [] }
+    ensures len { vec_len line.new ≤ vec_len line.old + 41 }
+    ensures room { vec_capacity line.old ≤ vec_capacity line.new }
+{
+    let mut digits = Buffer::new();
+    line.extend_from_slice(digits.format(number).as_bytes())
+        .unwrap();
+    line.push(behind).unwrap();
+}
+
+/// A protocol's number, or a minus for none, and a space, where there is room.
 #[tactic(auto, unfolding(crate::specs::Lines::protocol_text))]
-fn protocol_text(alloc: Global, protocol: Option<u8>) -> Result<String, AllocError>
-    ensures { IfOk result (λ text. string_bytes text ≡ protocol_text protocol) }
+fn put_protocol(line: &mut Vec<u8>, protocol: Option<u8>)
+    requires { vec_len line.old + 41 ≤ vec_capacity line.old }
+    ensures text { line.new.items ≡ line.old.items ++ protocol_text protocol ++ 32 ∷ [] }
+    ensures len { vec_len line.new ≤ vec_len line.old + 41 }
+    ensures room { vec_capacity line.old ≤ vec_capacity line.new }
 {
     match protocol {
-        Some(protocol) => format!(in alloc; "{protocol}"),
-        None => String::from_str(alloc, "-"),
+        Some(protocol) => put_number(line, protocol, b' '),
+        None => line.extend_from_slice("- ".as_bytes()).unwrap(),
     }
 }
 
-/// START DOMAIN, of a row's key.
-fn place_text(alloc: Global, key: &Key) -> Result<String, AllocError>
-    ensures { IfOk result (λ text. string_bytes text ≡ decimal key.now.start ++ 32 ∷ decimal key.now.domain) }
-{
-    let start = key.start;
-    let domain = key.domain;
-    format!(in alloc; "{start} {domain}")
-}
-
-/// START DOMAIN PROTOCOL, of a row's key.
-#[tactic(auto, unfolding(crate::specs::Lines::key_text))]
-fn key_text(alloc: Global, key: &Key) -> Result<String, AllocError>
-    ensures { IfOk result (λ text. string_bytes text ≡ key_text key.now) }
-{
-    let place = place_text(alloc, key)?;
-    let protocol = protocol_text(alloc, key.protocol)?;
-    let place = place.as_str();
-    let protocol = protocol.as_str();
-    format!(in alloc; "{place} {protocol}")
-}
-
-/// FLOWS OCTETS PACKETS, of a row's sums.
-#[tactic(auto, unfolding(crate::specs::Lines::sums_text))]
-fn sums_text(alloc: Global, sums: &Sums) -> Result<String, AllocError>
-    ensures { IfOk result (λ text. string_bytes text ≡ sums_text sums.now) }
-{
-    let flows = sums.flows;
-    let octets = sums.octets;
-    let packets = sums.packets;
-    format!(in alloc; "{flows} {octets} {packets}")
-}
-
-/// The line of a row: START DOMAIN PROTOCOL FLOWS OCTETS PACKETS.
+/// The line of a key and its sums, where there is room: START DOMAIN PROTOCOL FLOWS OCTETS PACKETS.
 #[tactic(auto, unfolding(crate::specs::Lines::totals_line))]
-fn totals_line(alloc: Global, row: &Row) -> Result<String, AllocError>
-    ensures { IfOk result (λ text. string_bytes text ≡ totals_line row.now) }
+pub(crate) fn put_totals(line: &mut Vec<u8>, key: Key, sums: Sums)
+    requires { vec_len line.old + 246 ≤ vec_capacity line.old }
+    ensures text { line.new.items ≡ line.old.items ++ totals_line (key, sums) }
+    ensures room { vec_capacity line.old ≤ vec_capacity line.new }
 {
-    let mut line = key_text(alloc, &row.key)?;
-    line.push(' ')?;
-    line.push_str(sums_text(alloc, &row.sums)?.as_str())?;
-    line.push('\n')?;
-    Ok(line)
-}
-
-/// The lines of rows.
-pub fn totals_text(alloc: Global, rows: &[Row]) -> Result<String, AllocError>
-    ensures { IfOk result (λ text. string_bytes text ≡ totals_text rows.now) }
-{
-    let mut text = String::new(alloc);
-    for row in rows {
-        let line = totals_line(alloc, row)?;
-        text.push_str(line.as_str())?;
-    }
-    Ok(text)
+    put_number(line, key.start, b' ');
+    put_number(line, key.domain, b' ');
+    put_protocol(line, key.protocol);
+    put_number(line, sums.flows, b' ');
+    put_number(line, sums.octets, b' ');
+    put_number(line, sums.packets, b'\n');
 }
 
 #[tactic(auto, unfolding(crate::specs::Lines::hex_digit))]

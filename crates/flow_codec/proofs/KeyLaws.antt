@@ -18,7 +18,7 @@ Apart xs ys = (key : ℕ) → (found key xs ≡ None) ⊎ (found key ys ≡ None
 pub apart_turned : {V : Type 0} (xs ys : List (ℕ × V)) → Apart xs ys → Apart ys xs
 apart_turned xs ys h key = elim (h key) [ inl a ↦ inr a | inr a ↦ inl a ]
 
-none_in : {V : Type 0} (key : ℕ) (xs ys : List (ℕ × V)) → found key (xs ++ ys) ≡ None
+pub none_in : {V : Type 0} (key : ℕ) (xs ys : List (ℕ × V)) → found key (xs ++ ys) ≡ None
     → (found key xs ≡ None) × (found key ys ≡ None)
 none_in key [] ys none = (refl, none)
 none_in key (e ∷ xs) ys none = elim (by_bool (nat_eq key e.0)) [
@@ -34,7 +34,7 @@ none_both key (e ∷ xs) ys a b = elim (by_bool (nat_eq key e.0)) [
   | inr w ↦ let h = rw w at a in rw w (none_both key xs ys h b)
 ]
 
-first_once : {V : Type 0} (xs ys : List (ℕ × V)) → IsOnce (xs ++ ys) → IsOnce xs
+pub first_once : {V : Type 0} (xs ys : List (ℕ × V)) → IsOnce (xs ++ ys) → IsOnce xs
 first_once [] ys once = tt
 first_once (e ∷ xs) ys once = ((none_in e.0 xs ys once.0).0, first_once xs ys once.1)
 
@@ -42,7 +42,7 @@ second_once : {V : Type 0} (xs ys : List (ℕ × V)) → IsOnce (xs ++ ys) → I
 second_once [] ys once = once
 second_once (e ∷ xs) ys once = second_once xs ys once.1
 
-are_apart : {V : Type 0} (xs ys : List (ℕ × V)) → IsOnce (xs ++ ys) → Apart xs ys
+pub are_apart : {V : Type 0} (xs ys : List (ℕ × V)) → IsOnce (xs ++ ys) → Apart xs ys
 are_apart [] ys once key = inl refl
 are_apart (e ∷ xs) ys once key = elim (by_bool (nat_eq key e.0)) [
   | inl w ↦ inr (subst (λ (k : ℕ). found k ys ≡ None) (sym (eqb-true _ _ w)) (none_in e.0 xs ys once.0).1)

@@ -37,4 +37,7 @@ pub mod Dividing
 pub mod Fronts
 pub mod Streaming
 pub mod Following
+pub mod Restating
+pub mod RestatingAll
+pub mod Writing
 mod Files

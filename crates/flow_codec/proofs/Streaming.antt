@@ -1,16 +1,16 @@
 -- What the octets that were read say of those that stood next.
-use Rattle.std.proofs.Common.{◌≡◌, ◌≢◌, inl, inr, ℕ, ◌+◌, ◌-◌, ◌<◌, ◌≤◌, List, [], ◌++◌, length, take, drop, Option}
-use Rattle.std.proofs.Common.{None, Some, IfSome, Result, Ok, Err, refl, sym, ap, subst, ◌∙◌, append_assoc, arith}
-use Rattle.std.specs.Result.{IsErrAnd}
-use Rattle.std.specs.Io.KnownBytes.{Consumes, IsAtEnd, prepend_known}
-use Rattle.std.proofs.KnownBytes.{Consumes-trans}
+use Rattle.std.proofs.Common.{◌≡◌, inl, inr, ℕ, ◌+◌, ◌-◌, ◌<◌, ◌≤◌, List, [], ◌++◌, length, take, drop, slice_range, Option}
+use Rattle.std.proofs.Common.{None, Some, IfSome, Err, refl, sym, ap, subst, ◌∙◌, append_assoc, take-append-drop, arith}
+use Rattle.std.specs.Io.KnownBytes.{Keeps, Consumes, IsAtEnd, prepend_known}
 use Rattle.std.proofs.lemmas.List.{append-nil, length-append, length-take-le, length-drop, take_at, drop_at}
+use Rattle.std.proofs.lemmas.List.{take-append-le, drop-append-le, drop-take, drop-drop}
+use Rattle.std.proofs.Math.Seq.{take-add}
+use borrow.Rule.Slice.PartMut.{put_mid, post_of}
 use Rattle.flow_codec.specs.declared.file.FileError.{FileError}
-use Rattle.flow_codec.specs.declared.file.FileError.TheVariants.{Cut}
 use Rattle.flow_codec.specs.declared.stream.StreamError.{StreamError}
-use Rattle.flow_codec.specs.declared.stream.StreamError.TheVariants.{File}
-use Rattle.flow_codec.specs.Cutting.{version_of, length_of, IsCutOff, IsHeaderRefused, IsFileFault}
-use Rattle.flow_codec.specs.Stream.{IsFaultNext, IsMessageNext, IsTaken}
+use Rattle.flow_codec.specs.declared.stream.StreamError.TheVariants.{File, Read, NumbersSpent}
+use Rattle.flow_codec.specs.Cutting.{IsCutOff, IsHeaderRefused, IsFileFault}
+use Rattle.flow_codec.specs.Stream.{IsFaultNext, IsMessageNext, IsStop, IsFound}
 use Rattle.flow_codec.proofs.Dividing.{version_of-append, length_of-append}
 
 pub prepend_none : (known : Option (List ℕ)) → prepend_known [] known ≡ known
@@ -22,13 +22,6 @@ all_known : (old new : Option (List ℕ)) (bs : List ℕ) → Consumes old new b
 all_known None new bs p q = tt
 all_known (Some xs) None bs p q = absurd p
 all_known (Some xs) (Some ys) bs p q = p ∙ ap (λ (l : List ℕ). bs ++ l) q ∙ append-nil bs
-
--- fewer octets than a header has, and none behind them
-pub short_next : (at n : ℕ) (old new : Option (List ℕ)) (bs : List ℕ) → n ≢ 0 → n < 16 → n ≤ length bs
-    → Consumes old new (take n bs) → IsAtEnd new → IsFaultNext at old (Cut at)
-short_next at n old new bs some few within took end =
-    let size : length (take n bs) ≡ n = length-take-le n bs within in
-    (take n bs, inl (omega arith, omega arith, refl), all_known old new (take n bs) took end)
 
 refused_more : (at : ℕ) (header more : List ℕ) (fault : FileError) → 16 ≤ length header
     → IsHeaderRefused at header fault → IsFileFault at (header ++ more) fault
@@ -51,63 +44,94 @@ refused_next at (Some xs) None header fault long took bad = absurd took
 refused_next at (Some xs) (Some ys) header fault long took bad =
     (header ++ ys, refused_more at header ys fault long bad, took)
 
--- a whole header, fewer octets than its Length tells, and none behind them
-pub cut_next : (at n k : ℕ) (old mid new : Option (List ℕ)) (header bs : List ℕ) → length header ≡ 16
-    → version_of header ≡ 10 → n ≡ length_of header → 16 ≤ n → k < n - 16 → k ≤ length bs
-    → Consumes old mid header → Consumes mid new (take k bs) → IsAtEnd new → IsFaultNext at old (Cut at)
-cut_next at n k old mid new header bs size version len high few within first then end =
-    let more = take k bs in
-    let count : length more ≡ k = length-take-le k bs within in
-    let long : 16 ≤ length header = omega arith in
-    let whole : length (header ++ more) ≡ length header + length more = length-append header more in
-    let tells : length_of (header ++ more) ≡ n = length_of-append header more long ∙ sym len in (
-      header ++ more,
-      inr (inr (omega arith, version_of-append header more long ∙ version, omega arith, omega arith, refl)),
-      all_known old new (header ++ more) (Consumes-trans old mid new header more first then) end,
-    )
-
--- a header and the octets that its Length tells
-pub whole_next : (n : ℕ) (old mid new : Option (List ℕ)) (header bs after buffer : List ℕ) → length header ≡ 16
-    → version_of header ≡ 10 → n ≡ length_of header → 16 ≤ n → length bs ≡ n - 16
-    → Consumes old mid header → Consumes mid new bs → buffer ≡ header ++ (bs ++ after)
-    → IsCutOff (take n buffer) × (length (take n buffer) ≡ n) × Consumes old new (take n buffer)
-whole_next n old mid new header bs after buffer size version len high count first then parts =
-    let long : 16 ≤ length header = omega arith in
-    let whole : length (header ++ bs) ≡ n = omega (arith, length-append header bs) in
-    let front : take n buffer ≡ header ++ bs =
-    ap (λ (l : List ℕ). take n l) (parts ∙ sym (append_assoc header bs after))
-    ∙ take_at (header ++ bs) after n whole in
-    let tells : length_of (header ++ bs) ≡ length (header ++ bs) = length_of-append header bs long ∙ sym len
-    ∙ sym whole in
-    let cut : IsCutOff (header ++ bs) =
-    record { long = omega arith; version = version_of-append header bs long ∙ version; len = tells } in
-    subst (λ (m : List ℕ). IsCutOff m × (length m ≡ n) × Consumes old new m) (sym front) (
-      cut,
-      whole,
-      Consumes-trans old mid new header bs first then,
-    )
-
 pub message_next : (old new : Option (List ℕ)) (message : List ℕ) → IsCutOff message → Consumes old new message
     → IsMessageNext old
 message_next None new message cut took = (message, [], cut, tt)
 message_next (Some xs) None message cut took = absurd took
 message_next (Some xs) (Some ys) message cut took = (message, ys, cut, took)
 
--- what a call answers where the octets that stand next have a fault
-pub stops_by : (at : ℕ) (old new : Option (List ℕ)) (buffer : List ℕ) (fault : FileError)
-    (answer : Result (Option ℕ) StreamError) → IsErrAnd answer (λ e. e ≡ File fault) → IsFaultNext at old fault
-    → IsTaken at old new buffer answer
-stops_by at old new buffer fault (Ok x) same bad = absurd same
-stops_by at old new buffer fault (Err e) same bad =
-    subst (λ (f : StreamError). IsTaken at old new buffer (Err f)) (sym same) bad
+-- ---- what stands next in front of the input
 
--- the room behind a header, up to the place that its Length tells
-pub room_behind : (n : ℕ) (header room bs : List ℕ) → length header ≡ 16 → length room ≡ 65535 → 16 ≤ n → n < 65536
-    → length bs ≡ length (take (n - 16) (drop 16 (header ++ drop 16 room))) → length bs ≡ n - 16
-room_behind n header room bs size all high low same =
-    let behind : drop 16 (header ++ drop 16 room) ≡ drop 16 room = drop_at header (drop 16 room) 16 size in
-    let left : length (drop 16 room) ≡ length room - 16 = length-drop 16 room in
-    same ∙ ap (λ (l : List ℕ). length (take (n - 16) l)) behind ∙ length-take-le (n - 16) (drop 16 room) (omega arith)
+-- what is held stands next, where it is known what does
+pub held_next : (old left : Option (List ℕ)) (held : List ℕ) → Keeps old (prepend_known held left)
+    → Consumes old left held
+held_next None left held kept = tt
+held_next (Some xs) None held kept = kept
+held_next (Some xs) (Some ys) held kept = sym kept
+
+-- its front is what a step gives
+pub taken_next : (old left : Option (List ℕ)) (held : List ℕ) (n : ℕ) → Keeps old (prepend_known held left)
+    → Consumes old (prepend_known (drop n held) left) (take n held)
+taken_next None left held n kept = tt
+taken_next (Some xs) None held n kept = kept
+taken_next (Some xs) (Some ys) held n kept =
+    sym kept ∙ ap (λ (l : List ℕ). l ++ ys) (sym (take-append-drop n held))
+    ∙ append_assoc (take n held) (drop n held) ys
+
+-- what ends the search for a message is what reading stops by
+pub stops_at : (count at : ℕ) (ahead front : List ℕ) (left new : Option (List ℕ)) (held : List ℕ) (e : StreamError)
+    → front ≡ ahead → IsFound at (prepend_known front left) (Err e) held new
+    → IsStop count at (prepend_known ahead left) e
+stops_at count at ahead front left new held (File fault) same found =
+    subst (λ (l : List ℕ). IsFaultNext at (prepend_known l left) fault) same found
+stops_at count at ahead front left new held (Read failed) same found = tt
+stops_at count at ahead front left new held NumbersSpent same found = absurd found
+
+-- ---- the window
+
+-- octets that were read behind a place fill the room from there on
+pub put_size : (xs ys : List ℕ) (end : ℕ) → end ≤ length xs → length ys ≡ length xs - end
+    → length (put_mid end (length xs - end) xs ys) ≡ length xs
+put_size xs ys end within fits =
+    let k = length xs - end in
+    let front = length-take-le end xs within in
+    let gone : length (post_of end k xs) ≡ 0 =
+    omega (arith, length-drop k (drop end xs), length-drop end xs) in
+    omega (
+      arith,
+      length-append (take end xs) (ys ++ post_of end k xs),
+      length-append ys (post_of end k xs),
+      front,
+      gone,
+      fits,
+    )
+
+-- a read of no octets at the end: nothing was left before it either
+pub nothing_read : (left after : Option (List ℕ)) (n : ℕ) (buffer : List ℕ) → n ≡ 0
+    → Consumes left after (take n buffer) → IsAtEnd after → IsAtEnd left
+nothing_read None after n buffer none took end = tt
+nothing_read (Some xs) None n buffer none took end = absurd took
+nothing_read (Some xs) (Some ys) n buffer none took end =
+    took ∙ ap (λ (k : ℕ). take k buffer ++ ys) none ∙ end
+
+pub grown : (xs ys : List ℕ) (start end k n : ℕ) → start ≤ end → end ≤ length xs → n ≤ length ys
+    → slice_range (put_mid end k xs ys) start (end + n) ≡ slice_range xs start end ++ take n ys
+grown xs ys start end k n ordered within fits =
+    let front = length-take-le end xs within in
+    let held = drop start (take end xs) in
+    let len : length held ≡ end - start = omega (arith, length-drop start (take end xs)) in
+    let sum : end + n - start ≡ (end - start) + n = omega arith in
+    let parts : end ≡ start + (end - start) = omega arith in
+    let same : held ≡ take (end - start) (drop start xs) = ap (λ j. drop start (take j xs)) parts
+    ∙ drop-take start (end - start) xs in
+    let after = ys ++ post_of end k xs in
+    ap (take (end + n - start)) (drop-append-le start (take end xs) after (omega arith))
+    ∙ ap (λ j. take j (held ++ after)) sum ∙ take-add (end - start) n (held ++ after)
+    ∙ (rw (take_at held after _ len, drop_at held after _ len, take-append-le n ys (post_of end k xs) fits, same) refl)
+
+pub unread : (xs ys : List ℕ) (start end k : ℕ) → start ≤ end → end ≤ length xs
+    → slice_range (put_mid end k xs ys) start end ≡ slice_range xs start end
+unread xs ys start end k ordered within =
+    let none : end ≡ end + 0 = omega arith in
+    ap (slice_range (put_mid end k xs ys) start) none ∙ grown xs ys start end k 0 ordered within (omega arith)
+    ∙ append-nil _
+
+pub consumed : (xs : List ℕ) (start end count : ℕ) → start + count ≤ end
+    → slice_range xs (start + count) end ≡ drop count (slice_range xs start end)
+consumed xs start end count inside =
+    let parts : end - start ≡ count + (end - (start + count)) = omega arith in
+    sym (ap (λ j. drop count (take j (drop start xs))) parts ∙ drop-take count _ (drop start xs)
+    ∙ ap (take (end - (start + count))) (drop-drop count start xs))
 
 pub none_of : {X : Type 0} (o : Option X) → ((x : X) → o ≡ Some x → ⊥) → o ≡ None
 none_of None h = refl

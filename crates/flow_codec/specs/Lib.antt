@@ -16,3 +16,4 @@ pub mod Cutting
 pub mod File
 pub mod Stream
 pub mod Printed
+pub mod Prefix

@@ -1,11 +1,14 @@
 -- Reading a File from a stream: one message after the other, until its end, its first fault, or a read that fails.
-use Rattle.std.specs.Prelude.{◌≡◌, ◌⊎◌, ℕ, ◌+◌, ◌-◌, ◌<◌, ◌^◌, Bool, true, false, List, [], ◌++◌, length, take, Option}
+use Rattle.std.specs.Prelude.{◌≡◌, ◌⊎◌, ℕ, ◌+◌, ◌-◌, ◌≤◌, ◌<◌, ◌^◌, Bool, true, false, List, [], ◌++◌, length, take, slice_range, Option}
 use Rattle.std.specs.Prelude.{None, Some, Result, Ok, Err, IfSome, ⊤}
-use Rattle.std.specs.Io.KnownBytes.{Consumes, IsAtEnd}
+use Rattle.std.specs.Io.KnownBytes.{Keeps, Consumes, IsAtEnd, prepend_known}
 use Rattle.flow_codec.specs.declared.file.FileError.{FileError}
+use Rattle.flow_codec.specs.declared.file.FileError.TheVariants.{Cut}
 use Rattle.flow_codec.specs.declared.stream.StreamError.{StreamError}
 use Rattle.flow_codec.specs.declared.stream.StreamError.TheVariants.{File, Read, NumbersSpent}
-use Rattle.flow_codec.specs.Cutting.{IsCutOff, IsFileFault}
+use Rattle.flow_codec.specs.declared.patient.ReadFailed.{ReadFailed}
+use Rattle.flow_codec.specs.declared.window.Window.{Window}
+use Rattle.flow_codec.specs.Cutting.{IsCutOff, IsHeaderRefused, IsFileFault}
 
 -- How far a File was read: the octets that are left, where they are known, the message that is held, the messages that
 -- were given and the place behind them, and what reading stopped by.
@@ -43,11 +46,60 @@ IsStep old (Err e) new =
     ((old.stopped ≡ Some e) ⊎ ((old.stopped ≡ None) × IsStop old.count old.at old.rest e))
     × (new.stopped ≡ Some e) × (new.message ≡ []) × (new.count ≡ old.count) × (new.at ≡ old.at)
 
--- what stands first in `buffer` once the next message was read, or nothing did
-abbrev pub IsTaken : ℕ → Option (List ℕ) → Option (List ℕ) → List ℕ → Result (Option ℕ) StreamError → Type 0
-IsTaken at old new buffer (Ok None) = IsAtEnd old × IsAtEnd new
-IsTaken at old new buffer (Ok (Some n)) = IsCutOff (take n buffer) × (length (take n buffer) ≡ n)
-    × Consumes old new (take n buffer)
-IsTaken at old new buffer (Err (File fault)) = IsFaultNext at old fault
-IsTaken at old new buffer (Err (Read failed)) = ⊤
-IsTaken at old new buffer (Err NumbersSpent) = ⊥
+-- ---- what a reader holds
+
+-- the octets that were read and not yet taken
+abbrev pub held : Window → List ℕ
+held w = slice_range w.octets.items w.start w.end
+
+-- What a reader of a File holds: the octets that were read and stand behind the message that is held, that message, the
+-- messages that were given and the place behind them, and what reading stopped by.
+pub record Held : Type 0 where
+  pub ahead : List ℕ
+  pub message : List ℕ
+  pub count : ℕ
+  pub at : ℕ
+  pub stopped : Option StreamError
+
+-- how far the File was read whose input has these octets left, where they are known
+abbrev pub progress : Held → Option (List ℕ) → Progress
+progress reader left = record {
+  rest = prepend_known reader.ahead left;
+  message = reader.message;
+  count = reader.count;
+  at = reader.at;
+  stopped = reader.stopped;
+}
+
+-- no message stands whole in octets that were read: there are none, or they end before the message does
+abbrev pub IsUnfinished : ℕ → List ℕ → Type 0
+IsUnfinished at octets = (octets ≡ []) ⊎ IsFileFault at octets (Cut at)
+
+-- Where reading failed nothing that was read is lost, and no message stands whole in what is held.
+abbrev pub StopsWithin : Held → Option (List ℕ) → StreamError → Held → Option (List ℕ) → Type 0
+StopsWithin old left (Read failed) new after = old.stopped ≡ None
+    → Keeps (prepend_known old.ahead left) (prepend_known new.ahead after) × IsUnfinished old.at new.ahead
+StopsWithin old left (File fault) new after = ⊤
+StopsWithin old left NumbersSpent new after = ⊤
+
+-- Octets are read behind those that are held, or the input is at its end, or reading failed.
+abbrev pub IsRefilled : List ℕ → Option (List ℕ) → Result Bool ReadFailed → List ℕ → Option (List ℕ) → Type 0
+IsRefilled old left (Ok true) new after =
+    (read : List ℕ) × (0 < length read) × (new ≡ old ++ read) × Consumes left after read
+IsRefilled old left (Ok false) new after = (new ≡ old) × IsAtEnd left × IsAtEnd after
+IsRefilled old left (Err failed) new after = (new ≡ old) × Keeps left after
+
+-- what octets begin with: a whole message of this length; none yet; or a header that is refused
+abbrev pub IsWholeFront : ℕ → List ℕ → Result (Option ℕ) FileError → Type 0
+IsWholeFront at octets (Ok (Some n)) = (n ≤ length octets) × IsCutOff (take n octets)
+IsWholeFront at octets (Ok None) = IsUnfinished at octets
+IsWholeFront at octets (Err fault) = (16 ≤ length octets) × IsHeaderRefused at octets fault
+
+-- Whether a message stands whole in what is held, behind reads where more was wanted. `old` and `new` are the octets
+-- that stand next, where they are known.
+abbrev pub IsFound : ℕ → Option (List ℕ) → Result (Option ℕ) StreamError → List ℕ → Option (List ℕ) → Type 0
+IsFound at old (Ok (Some n)) octets new = (n ≤ length octets) × IsCutOff (take n octets) × Keeps old new
+IsFound at old (Ok None) octets new = (octets ≡ []) × IsAtEnd old × IsAtEnd new
+IsFound at old (Err (File fault)) octets new = IsFaultNext at old fault
+IsFound at old (Err (Read failed)) octets new = IsUnfinished at octets × Keeps old new
+IsFound at old (Err NumbersSpent) octets new = ⊥

@@ -1,13 +1,18 @@
 //! The definitions of one kind in an Observation Domain.
 
-ghost use Rattle.std.specs.Prelude.{◌≡◌, IsTrue, Some, ◌<◌, ◌≤◌, ◌^◌, [], ◌==◌, nat_eq, length, OnOk, OnErr, IfOk};
+ghost use Rattle.std.specs.Prelude.{◌≡◌, IsTrue, Some, ◌++◌, ◌<◌, ◌≤◌, ◌^◌, [], ◌==◌, nat_eq, length, OnOk, OnErr, IfOk};
 ghost use Rattle.std.specs.Prelude.{unwrap_or};
 ghost use Rattle.std.specs.Map.{lookup};
 ghost use Rattle.std.specs.Option.{option_copied};
 ghost use Rattle.flow_codec.specs.Slots.{entries_of, made, started, IsReady};
 ghost use Rattle.flow_codec.specs.Entries.{entries_size, IsOnce};
 ghost use Rattle.flow_codec.specs.Working.{overlaid, IsOver};
+ghost use Rattle.std.specs.List.{AllByRecursion};
+ghost use Rattle.flow_codec.specs.Templates.{IsEntry};
+ghost use Rattle.flow_codec.specs.Message.{joined};
+ghost use Rattle.flow_codec.specs.Prefix.{records_of};
 
+use crate::kind::TemplateKind;
 use crate::overlay::Overlay;
 use crate::slot_table::SlotTable;
 use crate::templates::Definition;
@@ -72,6 +77,18 @@ impl Definitions {
             Some(here) => here.is_same(definition),
             None => false,
         }
+    }
+
+    /// Puts the template records that give these definitions behind octets, in order.
+    pub(crate) fn put_records(
+        &self,
+        octets: &mut Vec<u8>,
+        kind: TemplateKind,
+    ) -> Result<(), AllocError>
+        requires { AllByRecursion (IsEntry kind) self.now }
+        ensures { OnOk result (octets.new.items ≡ octets.old.items ++ joined (records_of kind self.now)) }
+    {
+        self.table.put_records(octets, kind)
     }
 
     /// A copy that shares the definitions.

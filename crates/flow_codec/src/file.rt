@@ -10,16 +10,11 @@ ghost use Rattle.flow_codec.specs.Fault.{IsOctets};
 ghost use Rattle.flow_codec.specs.Message.{joined};
 ghost use Rattle.flow_codec.specs.Templates.{AllTemplates};
 
+use crate::message::{HEADER, VERSION};
 use flow_elements::Items;
 use std::alloc::{AllocError, AllocFailed, Global};
 use std::error::Error;
 use std::fmt;
-
-/// The octets of a message header.
-const HEADER: usize = 16;
-
-/// The version of IPFIX.
-const VERSION: u16 = 10;
 
 /// Why octets are no File. A place is in octets from the File's first.
 #[derive(Clone, Copy, Debug, PartialEq, Eq)]
@@ -127,7 +122,7 @@ pub(crate) fn length_in(at: u64, header: &[u8]) -> Result<usize, FileError>
 
 /// The length of the message that these octets begin with, cut off by its version and its Length. `at` is their place
 /// in the File.
-pub(crate) fn front_of(at: u64, octets: &[u8]) -> Result<usize, FileError>
+pub fn front_of(at: u64, octets: &[u8]) -> Result<usize, FileError>
     requires { 0 < length octets.now }
     ensures found { IfOk result (λ n. (n ≤ length octets.now) × IsCutOff (take n octets.now)) }
     ensures fault { IfErr result (λ e. IsFileFault at octets.now e) }

@@ -1,6 +1,6 @@
 //! Laws of the format: what its definitions say of all octets.
 
-ghost use Rattle.std.specs.Prelude.{◌≡◌, ◌≢◌, ◌<◌, ◌≤◌, ◌+◌, ◌^◌, List, ◌++◌, length, ℕ, Some};
+ghost use Rattle.std.specs.Prelude.{◌≡◌, ◌≢◌, ◌<◌, ◌≤◌, ◌+◌, ◌^◌, List, [], ◌++◌, length, ℕ, Some};
 ghost use Rattle.flow_elements.specs.declared.element.ElementId.{ElementId};
 ghost use Rattle.flow_codec.specs.Layout.{Layout};
 ghost use Rattle.flow_codec.specs.Fields.{AreFields, fields_in};
@@ -8,7 +8,8 @@ ghost use Rattle.flow_codec.specs.Templates.{AllTemplates, AreDefinitions, AreTe
 ghost use Rattle.flow_codec.specs.Templates.{definition_of, definitions_of, unless_own};
 ghost use Rattle.flow_codec.specs.Raw.{RawMessage, IsWhole};
 ghost use Rattle.flow_codec.specs.Message.{IsAccepted};
-ghost use Rattle.flow_codec.specs.File.{IsFile, AcceptedFront, whole, broken};
+ghost use Rattle.flow_codec.specs.File.{IsFile, AcceptedFront, AreAccepted, whole, broken};
+ghost use Rattle.flow_codec.specs.Prefix.{prefix_messages, prefix_reads, AreDomains, AreNumbers};
 ghost use Rattle.flow_codec.specs.declared.file.FileError.{FileError};
 ghost use Rattle.flow_codec.specs.Fault.{IsFault, IsOctets, IsAnswered};
 ghost use Rattle.flow_codec.specs.declared.error.MessageError.{MessageError};
@@ -93,4 +94,12 @@ pub fn files_and_fronts()
         → AcceptedFront octets messages after whole → IsFile octets messages after }
     ensures unbroken { (octets : List ℕ) (messages others : List RawMessage) (after then : AllTemplates)
         (fault : FileError) → IsFile octets messages after → AcceptedFront octets others then (broken fault) → ⊥ }
+{}
+
+/// The messages that restate templates in force are accepted from no templates on: they have no data records, and leave
+/// just these templates, in their order.
+pub fn restated_templates()
+    ensures { (time : ℕ) (due : List (ℕ × ℕ)) (all : AllTemplates) → AreTemplatesInForce all → AreDomains all
+        → AreNumbers due → time < 2 ^ 32
+        → AreAccepted [] (prefix_messages time due all) (prefix_reads time due all) all }
 {}

@@ -5,7 +5,8 @@
 //! templates in; a refusal leaves the templates as they were. It costs time in proportion to the message's octets,
 //! whatever templates are in force, and no memory for records or fields. `judge_message` answers the same and changes
 //! nothing, and `read_message` builds the fields. `MessageReader` reads the messages of a File one after the other and
-//! holds one.
+//! holds one. `write_templates` restates templates in messages without data records that, read from none, leave just
+//! these in their order.
 #![tactic(auto)]
 
 mod count;
@@ -20,23 +21,29 @@ mod numbers;
 mod overlay;
 mod patient;
 mod plan;
+mod prefix;
 mod sink;
 mod slot_table;
 mod stream;
 mod template_records;
 mod templates;
 mod walk;
+mod window;
 mod working;
 
 pub use count::Count;
 pub use error::MessageError;
 pub use fields::{read_message, split_field};
-pub use file::{FileError, Span, one_front, split_file};
+pub use file::{FileError, Span, front_of, one_front, split_file};
 pub use kind::TemplateKind;
-pub use laws::{files_and_fronts, message_bounds, one_answer, one_division, template_changes};
+pub use laws::{
+    files_and_fronts, message_bounds, one_answer, one_division, restated_templates,
+    template_changes,
+};
 pub use message::{DataRecord, Field, Header, Message};
 pub use patient::ReadFailed;
-pub use plan::{Plan, Role, Step};
+pub use plan::{Plan, Role, Step, VARIABLE};
+pub use prefix::write_templates;
 pub use sink::{RecordSink, WalkError};
 pub use stream::{MessageReader, StreamError};
 pub use templates::{Definition, Templates};

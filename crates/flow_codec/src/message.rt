@@ -2,6 +2,12 @@
 
 use flow_elements::{ElementId, Items};
 
+/// The octets of a message header (RFC 7011, section 3.1).
+pub(crate) const HEADER: usize = 16;
+
+/// The Version Number of IPFIX (RFC 7011, section 3.1).
+pub(crate) const VERSION: u16 = 10;
+
 /// The header of a message (RFC 7011, section 3.1), without its Version.
 #[derive(Clone, Copy, Debug, PartialEq, Eq)]
 pub struct Header {

@@ -1,11 +1,11 @@
-//! Reading that bears interrupted calls, and says how much came and whether the input ended.
+//! Reading that bears interrupted calls.
 
-ghost use Rattle.std.specs.Prelude.{Some, codes, ◌≡◌, ◌≤◌, ◌<◌, length, take, IfOk};
-ghost use Rattle.std.specs.Io.KnownBytes.{Consumes, IsAtEnd};
+ghost use Rattle.std.specs.Prelude.{Some, codes, ◌≡◌, ◌≤◌, length, IfOk};
+ghost use Rattle.std.specs.Io.KnownBytes.{ReadConsumes};
 
 use std::error::Error;
+use std::fmt;
 use std::io::{ErrorKind, Read};
-use std::{fmt, io};
 
 /// The interrupted call at which a reader is given up.
 const MAX_INTERRUPTS: u32 = 1_000_000;
@@ -27,31 +27,34 @@ impl fmt::Display for ReadFailed {
 
 impl Error for ReadFailed {}
 
-/// A reader that calls again after an interrupted call, until 1,000,000 calls over its life were interrupted.
+/// The interrupted calls that a reader still bears.
 #[derive(Drop)]
-pub(crate) struct PatientReader<R> {
-    inner: R,
-    /// The interrupted calls that are left, the one that gives up among them.
+pub(crate) struct Patience {
+    /// The one that gives up among them.
     left: u32,
 }
 
-impl<R> PatientReader<R> {
-    pub(crate) fn new(inner: R) -> Self
-        ensures { result ≡ record { inner = inner; left = 1000000 } }
+impl Patience {
+    /// That of a whole life: the 1,000,000th interrupted call gives up.
+    pub(crate) fn new() -> Self
+        ensures { result.left ≡ 1000000 }
     {
-        PatientReader {
-            inner,
+        Patience {
             left: MAX_INTERRUPTS,
         }
     }
-}
 
-impl<R: Read> Read for PatientReader<R> {
-    ghost remaining = { λ r. R.remaining r.inner };
-
-    fn read(&mut self, buf: &mut [u8]) -> io::Result<usize> {
+    /// One read, tried again after an interrupted call while any is left.
+    pub(crate) fn read<R: Read>(
+        &mut self,
+        input: &mut R,
+        buffer: &mut [u8],
+    ) -> Result<usize, ReadFailed>
+        ensures bound { IfOk result (λ n. n ≤ length buffer.new) }
+        ensures bytes { ReadConsumes (R.remaining input.old) (R.remaining input.new) result buffer.new }
+    {
         for _ in 0..MAX_INTERRUPTS {
-            match self.inner.read(buf) {
+            match input.read(buffer) {
                 Ok(count) => return Ok(count),
                 Err(error) => {
                     if error.kind() != ErrorKind::Interrupted || self.left <= 1 {
@@ -61,26 +64,6 @@ impl<R: Read> Read for PatientReader<R> {
                 }
             }
         }
-        // A reader's own want of memory is no refused growth here, so its kind isn't handed on.
-        Err(io::Error::from(ErrorKind::Other))
+        Err(ReadFailed { hidden: () })
     }
-}
-
-/// Fills the buffer, or as much of it as the input still has. The input bears interrupted calls itself.
-pub(crate) fn fill<R: Read>(input: &mut R, buffer: &mut [u8]) -> Result<usize, ReadFailed>
-    ensures count { IfOk result (λ n. n ≤ length buffer.new) }
-    ensures bytes { IfOk result (λ n. Consumes (R.remaining input.old) (R.remaining input.new) (take n buffer.new)) }
-    ensures end { IfOk result (λ n. n < length buffer.new → IsAtEnd (R.remaining input.new)) }
-{
-    let mut at = 0;
-    while at < buffer.len() {
-        let Ok(count) = input.read(&mut buffer[at..]) else {
-            return Err(ReadFailed { hidden: () });
-        };
-        if count == 0 {
-            return Ok(at);
-        }
-        at += count;
-    }
-    Ok(at)
 }

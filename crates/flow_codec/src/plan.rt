@@ -8,8 +8,8 @@ ghost use Rattle.flow_codec.specs.Plan.{role_of, is_counted, step_of, skip_of, s
 use flow_elements::{ElementId, Items};
 use std::alloc::{AllocError, Global};
 
-/// The Field Length of a field of variable length.
-pub(crate) const VARIABLE: u16 = 65535;
+/// The Field Length of a field of variable length (RFC 7011, section 7).
+pub const VARIABLE: u16 = 65535;
 
 /// What a field is counted as in a flow: IANA's elements 1, 2, 4, 150 and 152 (RFC 7012).
 #[derive(Clone, Copy, Debug, PartialEq, Eq)]

@@ -1,11 +1,17 @@
 //! Definitions in slots: a map knows the slot of each ID, so each change takes constant time, wherever it is.
 
-ghost use Rattle.std.specs.Prelude.{◌≡◌, ℕ, suc, ◌+◌, ◌≤◌, [], ◌==◌, nat_eq, length, OnOk, IfOk, unwrap_or};
+ghost use Rattle.std.specs.Prelude.{◌≡◌, ℕ, suc, ◌+◌, ◌≤◌, [], ◌++◌, ◌==◌, nat_eq, length, OnOk, IfOk, unwrap_or};
+ghost use Rattle.std.specs.List.{AllByRecursion};
 ghost use Rattle.std.specs.Map.{lookup};
 ghost use Rattle.std.specs.Option.{option_copied};
 ghost use Rattle.indexmap.specs.IndexMap.{insert_entry, shift_remove_entry};
 ghost use Rattle.flow_codec.specs.Slots.{entries_of, change_by, made, started, IsTable, HasRoom, IsReady};
+ghost use Rattle.flow_codec.specs.Templates.{IsEntry};
+ghost use Rattle.flow_codec.specs.Message.{joined};
+ghost use Rattle.flow_codec.specs.Prefix.{records_of};
 
+use crate::kind::TemplateKind;
+use crate::prefix::put_definition;
 use crate::templates::Definition;
 use std::alloc::{AllocError, Global};
 use std::collections::HashMap;
@@ -113,6 +119,24 @@ impl SlotTable {
         }
         copy.grow(count)?;
         Ok(copy)
+    }
+
+    /// Puts the template records that give these definitions behind octets, in order.
+    pub(crate) fn put_records(
+        &self,
+        octets: &mut Vec<u8>,
+        kind: TemplateKind,
+    ) -> Result<(), AllocError>
+        requires { AllByRecursion (IsEntry kind) (entries_of self.now) }
+        ensures { OnOk result
+            (octets.new.items ≡ octets.old.items ++ joined (records_of kind (entries_of self.now))) }
+    {
+        for slot in self.slots.as_slice() {
+            if let Some((id, definition)) = slot {
+                put_definition(octets, kind, *id, definition)?;
+            }
+        }
+        Ok(())
     }
 
     fn grow(&mut self, count: usize) -> Result<(), AllocError>

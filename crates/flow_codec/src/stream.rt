@@ -1,26 +1,20 @@
 //! A File from a reader, one message after the other.
 
-ghost use Rattle.std.specs.Prelude.{Some, ◌≡◌, ◌≤◌, ◌<◌, ◌^◌, ◌*◌, length, take, [], None, IfOk};
+ghost use Rattle.std.specs.Prelude.{Some, ◌≡◌, ◌≤◌, ◌<◌, ◌^◌, ◌*◌, length, take, [], None, IfOk, IfErr, IfSome, IfNone};
+ghost use Rattle.std.specs.Io.KnownBytes.{prepend_known};
 ghost use Rattle.flow_codec.specs.declared.stream.StreamError.TheVariants.{File, Read as ReadStopped};
-ghost use Rattle.flow_codec.specs.Stream.{IsStep, IsTaken};
+ghost use Rattle.flow_codec.specs.Stream.{held, progress, IsStep, StopsWithin, IsWholeFront, IsFound};
 ghost use Rattle.flow_codec.specs.Printed.{stream_text};
 
 use crate::file::{FileError, length_in};
-use crate::patient::{PatientReader, ReadFailed, fill};
+use crate::message::HEADER;
+use crate::patient::ReadFailed;
+use crate::window::Window;
 use std::alloc::{AllocError, Global};
 use std::error::Error;
 use std::fmt;
-use std::io::{BufReader, Read};
+use std::io::Read;
 use std::marker::Model;
-
-/// The octets of a message header.
-const HEADER: usize = 16;
-
-/// The most octets that a message has.
-const GREATEST_MESSAGE: usize = 65_535;
-
-/// The octets that are read at a time.
-const READ_AHEAD: usize = 65_536;
 
 /// The most messages that are read.
 const MOST_MESSAGES: u64 = 0xffff_ffff_ffff;
@@ -66,62 +60,51 @@ impl From<ReadFailed> for StreamError {
     }
 }
 
-/// A reader of a File (RFC 5655, section 4) that holds one message. It takes memory once, where it is made.
+/// Reads a File (RFC 5655, section 4) from an input that each call is given, and holds one message. It takes memory
+/// once, where it is made.
 #[derive(Drop)]
-pub struct MessageReader<R: Read> {
-    input: BufReader<PatientReader<R>>,
-    /// Room for the longest message.
-    buffer: Vec<u8>,
+pub struct MessageReader {
+    /// The message that is held, and what was read behind it.
+    window: Window,
     /// The octets of the message that is held, 0 where there is none.
-    length: usize,
+    size: usize,
     count: u64,
     at: u64,
     stopped: Option<StreamError>,
 }
 
-impl<R: Read> Model for MessageReader<R> {
-    ghost use Rattle.std.specs.Prelude.{◌≡◌, ◌≤◌, ◌<◌, ◌*◌, ◌^◌, take, vec_len};
-    ghost use Rattle.std.specs.Io.Buffered.{reader_remaining};
-    ghost use Rattle.flow_codec.specs.Stream.{Progress};
+impl Model for MessageReader {
+    ghost use Rattle.std.specs.Prelude.{◌≤◌, ◌<◌, ◌*◌, ◌^◌, length, take, drop};
+    ghost use Rattle.flow_codec.specs.Stream.{Held, held};
 
-    ghost Value = { Progress };
+    ghost Value = { Held };
 
     ghost view = { λ r. record {
-      rest = reader_remaining (λ p. R.remaining p.inner) r.input;
-      message =
-          take r.length r.buffer.items;
+      ahead = drop r.size (held r.window);
+      message = take r.size (held r.window);
       count = r.count;
       at = r.at;
       stopped = r.stopped;
     } };
 
-    ghost invariant = { λ r. (vec_len r.buffer ≡ 65535) × (r.length ≤ 65535) × (r.count < 2 ^ 48)
+    ghost invariant = { λ r. (r.size ≤ length (held r.window)) × (r.size ≤ 65535) × (r.count < 2 ^ 48)
         × (r.at ≤ 65535 * r.count) };
 }
 
-impl<R: Read> MessageReader<R> {
-    /// A reader of the File that begins where `input` stands.
-    pub fn new(alloc: Global, input: R) -> Result<Self, AllocError>
-    where
-        R: Drop,
+impl MessageReader {
+    /// A reader of the File that begins where the input of its first call stands.
+    pub fn new(alloc: Global) -> Result<Self, AllocError>
         ensures { IfOk result (λ reader. reader ≡ record {
-          rest = R.remaining input;
+          ahead = [];
           message = [];
           count = 0;
-          at =
-              0;
+          at = 0;
           stopped = None;
         }) }
     {
-        let buffer = Vec::from_elem(alloc, 0u8, GREATEST_MESSAGE)?;
-        let Ok(input) = BufReader::with_capacity(alloc, READ_AHEAD, PatientReader::new(input))
-        else {
-            return Err(AllocError);
-        };
         Ok(MessageReader {
-            input,
-            buffer,
-            length: 0,
+            window: Window::new(alloc)?,
+            size: 0,
             count: 0,
             at: 0,
             stopped: None,
@@ -129,18 +112,22 @@ impl<R: Read> MessageReader<R> {
     }
 
     /// Reads the next message and holds it; `false` at the File's end. After an error it answers that error from then
-    /// on.
-    pub fn advance(&mut self) -> Result<bool, StreamError>
-        ensures { IsStep self.old result self.new }
+    /// on. Each call of one reader is given the same input, which stands behind all that was read.
+    pub fn advance<R: Read>(&mut self, input: &mut R) -> Result<bool, StreamError>
+        ensures step { IsStep (progress self.old (R.remaining input.old)) result
+            (progress self.new (R.remaining input.new)) }
+        ensures within { IfErr result
+            (λ e. StopsWithin self.old (R.remaining input.old) e self.new (R.remaining input.new)) }
     {
-        self.length = 0;
+        self.window.skip(self.size);
+        self.size = 0;
         if let Some(error) = self.stopped {
             return Err(error);
         }
-        match take_message(&mut self.input, self.at, self.buffer.as_mut_slice()) {
+        match find_message(&mut self.window, input, self.at) {
             Ok(None) => Ok(false),
             Ok(Some(length)) if self.count < MOST_MESSAGES => {
-                self.length = length;
+                self.size = length;
                 self.count += 1;
                 self.at += length as u64;
                 Ok(true)
@@ -161,7 +148,7 @@ impl<R: Read> MessageReader<R> {
         ensures value { result.now ≡ self.now.message }
         ensures most { length result.now ≤ 65535 }
     {
-        &self.buffer[..self.length]
+        &self.window.octets()[..self.size]
     }
 
     /// The messages that were read.
@@ -181,29 +168,45 @@ impl<R: Read> MessageReader<R> {
     }
 }
 
-/// Reads the message that stands next, at the place `at` of a File, into the buffer's front. It answers its length, or
-/// None at the end.
-fn take_message<R: Read>(
-    input: &mut R,
-    at: u64,
-    buffer: &mut [u8],
-) -> Result<Option<usize>, StreamError>
-    requires { length buffer.now ≡ 65535 }
-    ensures taken { IsTaken at (R.remaining input.old) (R.remaining input.new) buffer.new result }
+/// The length of the message that octets begin with, or None where more octets are wanted to tell or to hold it. `at`
+/// is their place in the File.
+fn whole_front(at: u64, octets: &[u8]) -> Result<Option<usize>, FileError>
+    ensures front { IsWholeFront at octets.now result }
+    ensures most { IfOk result (λ o. IfSome o (λ n. n < 65536)) }
+    ensures few { IfOk result (λ o. IfNone o (length octets.now < 65536)) }
 {
-    let got = fill(input, &mut buffer[..HEADER])?;
-    if got == 0 {
+    if octets.len() < HEADER {
         return Ok(None);
     }
-    if got < HEADER {
-        return Err(StreamError::File(FileError::Cut(at)));
-    }
-    let length = length_in(at, &buffer[..HEADER])?;
-    let more = fill(input, &mut buffer[HEADER..length])?;
-    if more < length - HEADER {
-        return Err(StreamError::File(FileError::Cut(at)));
+    let length = length_in(at, octets)?;
+    if octets.len() < length {
+        return Ok(None);
     }
     Ok(Some(length))
+}
+
+/// Reads until a message stands whole in front of the window, and answers its length; None at the end of the input.
+/// `at` is its place in the File.
+fn find_message<R: Read>(
+    window: &mut Window,
+    input: &mut R,
+    at: u64,
+) -> Result<Option<usize>, StreamError>
+    ensures found { IsFound at (prepend_known (held window.old) (R.remaining input.old)) result (held window.new)
+        (prepend_known (held window.new) (R.remaining input.new)) }
+    ensures most { IfOk result (λ o. IfSome o (λ n. n < 65536)) }
+{
+    'reads: loop {
+        if let Some(length) = whole_front(at, window.octets())? {
+            return Ok(Some(length));
+        }
+        if !window.refill(input)? {
+            if window.octets().is_empty() {
+                return Ok(None);
+            }
+            return Err(StreamError::File(FileError::Cut(at)));
+        }
+    }
 }
 
 #[cfg(test)]
@@ -275,16 +278,16 @@ mod tests {
     /// All that was read, the messages one after the other, and what it ended by.
     fn read_all<R: Read + Drop>(
         alloc: Global,
-        input: R,
+        mut input: R,
         octets: &mut Vec<u8>,
     ) -> Result<(u64, Option<StreamError>), Fail> {
-        let mut reader = MessageReader::new(alloc, input)?;
+        let mut reader = MessageReader::new(alloc)?;
         for _ in 0..1_000 {
-            match reader.advance() {
+            match reader.advance(&mut input) {
                 Ok(true) => octets.extend_from_slice(reader.message())?,
                 Ok(false) => return Ok((reader.count(), None)),
                 Err(error) => {
-                    if reader.advance() != Err(error) || !reader.message().is_empty() {
+                    if reader.advance(&mut input) != Err(error) || !reader.message().is_empty() {
                         return Ok((0, None));
                     }
                     return Ok((reader.count(), Some(error)));
@@ -316,14 +319,15 @@ mod tests {
     }
 
     #[test]
-    fn reads_a_borrowed_reader(rt: HostRuntime) -> Result<(), Fail> {
+    fn reads_from_a_slice(rt: HostRuntime) -> Result<(), Fail> {
         let alloc = rt.alloc();
         let mut input = FLOW.as_slice();
-        let mut reader = MessageReader::new(alloc, &mut input)?;
-        assert_eq!(rt; reader.advance(), Ok(true));
+        let mut reader = MessageReader::new(alloc)?;
+        assert_eq!(rt; reader.advance(&mut input), Ok(true));
         assert_eq!(rt; reader.message(), FLOW.as_slice());
         assert_eq!(rt; (reader.count(), reader.at()), (1, 57));
-        assert_eq!(rt; reader.advance(), Ok(false));
+        assert_eq!(rt; reader.advance(&mut input), Ok(false));
+        assert!(rt; input.is_empty());
         Ok(())
     }
 

@@ -1,7 +1,8 @@
 //! The templates in force.
 
 ghost use Rattle.std.specs.Prelude.{◌≡◌, ◌↔◌, IsTrue, false, [], OnOk, OnErr, IfOk, ◌<◌, ◌≤◌, ◌^◌, ◌+◌, length, nat_lt};
-ghost use Rattle.std.specs.Option.{option_copied};
+ghost use Rattle.std.specs.Option.{is_some, option_copied};
+ghost use Rattle.std.specs.Map.{lookup};
 ghost use Rattle.flow_codec.specs.Layout.{Layout, IsLayout, is_options, definition_size};
 ghost use Rattle.flow_codec.specs.Plan.{plan_of};
 ghost use Rattle.flow_codec.specs.Templates.{changed, definition_of, definitions_of, domain_size, is_empty};
@@ -285,6 +286,21 @@ impl Templates {
         ensures { option_copied result ≡ definition_of id (definitions_of domain self.now) }
     {
         self.domains.get(&domain)?.find(id)
+    }
+
+    /// Whether an Observation Domain has definitions in force.
+    pub fn has_domain(&self, domain: u32) -> bool
+        ensures { result ≡ is_some (lookup (nat_eq domain) self.now) }
+    {
+        self.domains.get(&domain).is_some()
+    }
+
+    /// The domains in order, each with its definitions.
+    pub(crate) fn domains(&self) -> &IndexMap<u32, DomainTemplates>
+        ensures entries { result.now.entries ≡ self.now }
+        ensures in_force { AreTemplatesInForce self.now }
+    {
+        &self.domains
     }
 
     /// An equal value.

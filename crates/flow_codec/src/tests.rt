@@ -3,6 +3,7 @@
 use super::*;
 use std::alloc::AllocError;
 use std::fmt::Write;
+use std::ops::Range;
 use std::test::*;
 
 /// A template and a record of it.
@@ -129,38 +130,37 @@ fn messages(rt: HostRuntime) -> Result<(), Fail> {
     Ok(())
 }
 
+/// What judging a message answers where no template is in force.
+fn judged(rt: HostRuntime, octets: &[u8]) -> Result<Option<MessageError>, AllocError> {
+    let alloc = rt.alloc();
+    Ok(answered(judge_message(&Templates::new(alloc), alloc, octets))?.err())
+}
+
+/// What the front of a message of this length, with its own Length, is refused by.
+fn front_fault(length: u8) -> Option<MessageError> {
+    match length {
+        16 | 40 => None,
+        17..=39 => Some(MessageError::SetLength(16)),
+        _ => Some(MessageError::SetLength(40)),
+    }
+}
+
 /// The front of a message, of each length, with the Length of the whole and with its own.
 #[test]
 fn cuts(rt: HostRuntime) -> Result<(), Fail> {
     let mut front = octets_of(rt, PLAIN)?;
-    let alloc = rt.alloc();
-    for cut in 1..42 {
+    for cut in 1..42u8 {
         let n = 57 - cut;
         front.truncate(n as usize);
-        assert_eq!(rt;
-            judge_message(&Templates::new(alloc), alloc, &front),
-            Err(MessageError::Length)
-        );
+        assert!(rt; judged(rt, &front)? == Some(MessageError::Length));
         assert!(rt; front.len() > 3);
         front[3] = n;
-        let want = match n {
-            16 | 40 => Ok(()),
-            17..=39 => Err(MessageError::SetLength(16)),
-            _ => Err(MessageError::SetLength(40)),
-        };
-        assert_eq!(rt;
-            answered(judge_message(&Templates::new(alloc), alloc, &front))?.map(|_| ()),
-            want,
-            "at {n}"
-        );
+        assert!(rt; judged(rt, &front)? == front_fault(n), "at {n}");
         front[3] = 57;
     }
     for n in 0..16 {
         front.truncate(15 - n);
-        assert_eq!(rt;
-            judge_message(&Templates::new(alloc), alloc, &front),
-            Err(MessageError::Short)
-        );
+        assert!(rt; judged(rt, &front)? == Some(MessageError::Short));
     }
     Ok(())
 }
@@ -177,20 +177,22 @@ fn definition_text(rt: HostRuntime, definition: Option<&Definition>) -> Result<S
     Ok(text)
 }
 
+/// Whether the template of `PLAIN` alone is in force.
+fn defines_plain(rt: HostRuntime, templates: &Templates) -> Result<bool, AllocError> {
+    let here = definition_text(rt, templates.find(7, 256))?;
+    let none = definition_text(rt, templates.find(7, 257))?;
+    Ok(here.as_str() == "false 0 150/4 4/1 1/4 2/4" && none.is_empty())
+}
+
 #[test]
 fn definitions(rt: HostRuntime) -> Result<(), Fail> {
     let mut templates = Templates::new(rt.alloc());
     let mut count = Count { records: 0 };
     let plain = octets_of(rt, PLAIN)?;
     assert!(rt; walked(rt, &mut templates, &plain, &mut count)?.is_ok());
-    assert_eq!(rt; count.records, 1);
+    assert!(rt; count.records == 1 && defines_plain(rt, &templates)?);
     let copy = templates.try_copy()?;
-    for templates in [&templates, &copy] {
-        assert!(rt;
-            definition_text(rt, templates.find(7, 256))?.as_str() == "false 0 150/4 4/1 1/4 2/4"
-        );
-        assert!(rt; definition_text(rt, templates.find(7, 257))?.as_str() == "");
-    }
+    assert!(rt; defines_plain(rt, &copy)?);
     Ok(())
 }
 
@@ -228,25 +230,38 @@ fn refusal(
     Ok(walked(rt, templates, &octets, &mut Count { records: 0 })?.err())
 }
 
+/// Whether an ID has a definition.
+fn is_defined(templates: &Templates, domain: u32, id: u16) -> bool {
+    templates.find(domain, id).is_some()
+}
+
+/// Whether each of these domains takes a template.
+fn take_one_each(
+    rt: HostRuntime,
+    templates: &mut Templates,
+    domains: Range<u32>,
+) -> Result<bool, AllocError> {
+    for domain in domains {
+        if refusal(rt, templates, domain, 256, 1)?.is_some() {
+            return Ok(false);
+        }
+    }
+    Ok(true)
+}
+
 #[test]
 fn limits(rt: HostRuntime) -> Result<(), Fail> {
     let mut templates = Templates::new(rt.alloc());
     // 60,000 octets of template records
-    assert_eq!(rt; refusal(rt, &mut templates, 7, 256, 7500)?, None);
-    assert_eq!(rt;
-        refusal(rt, &mut templates, 7, 7756, 1)?,
-        Some(MessageError::TemplatesFull(7))
-    );
-    assert!(rt; templates.find(7, 7755).is_some() && templates.find(7, 7756).is_none());
+    assert!(rt; refusal(rt, &mut templates, 7, 256, 7500)? == None);
+    let full = Some(MessageError::TemplatesFull(7));
+    assert!(rt; refusal(rt, &mut templates, 7, 7756, 1)? == full);
+    assert!(rt; is_defined(&templates, 7, 7755) && !is_defined(&templates, 7, 7756));
     // 64 domains
-    for domain in 8..71 {
-        assert_eq!(rt; refusal(rt, &mut templates, domain, 256, 1)?, None);
-    }
-    assert_eq!(rt;
-        refusal(rt, &mut templates, 71, 256, 1)?,
-        Some(MessageError::DomainsFull)
-    );
-    assert!(rt; templates.find(70, 256).is_some() && templates.find(71, 256).is_none());
+    assert!(rt; take_one_each(rt, &mut templates, 8..71)?);
+    let full = Some(MessageError::DomainsFull);
+    assert!(rt; refusal(rt, &mut templates, 71, 256, 1)? == full);
+    assert!(rt; is_defined(&templates, 70, 256) && !is_defined(&templates, 71, 256));
     Ok(())
 }
 

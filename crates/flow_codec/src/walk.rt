@@ -16,19 +16,13 @@ ghost use Rattle.flow_codec.specs.Walk.{IsWalkedBy, IsWalkOf, IsStopped, IsJudge
 use crate::count::Count;
 use crate::error::MessageError;
 use crate::kind::TemplateKind;
-use crate::message::Header;
+use crate::message::{HEADER, Header, VERSION};
 use crate::numbers::{u16_at, u32_at};
 use crate::plan::Step;
 use crate::sink::{RecordSink, WalkError};
 use crate::templates::{Definition, Templates};
 use crate::working::{Changed, find_in, keep_limits, put_in, templates_of};
 use std::alloc::Global;
-
-/// The octets of a message header.
-const HEADER: usize = 16;
-
-/// The version of IPFIX (RFC 7011, section 3.1).
-const VERSION: u16 = 10;
 
 /// The least ID of a Set of data records.
 const FIRST_DATA_SET: u16 = 256;

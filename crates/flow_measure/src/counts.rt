@@ -10,11 +10,8 @@ ghost use Rattle.flow_measure.specs.Counting.{IsStep};
 ghost use Rattle.flow_measure.specs.Flows.{start_of, flow_from};
 
 use crate::flow::Flow;
-use flow_codec::{Definition, Header, Role, Step, split_field};
+use flow_codec::{Definition, Header, Role, Step, VARIABLE, split_field};
 use flow_elements::number_of;
-
-/// The Field Length of a field of variable length (RFC 7011, section 7).
-const VARIABLE: u16 = 65535;
 
 /// The numbers found in a record so far, of each role the first.
 #[derive(Clone, Copy, Debug)]

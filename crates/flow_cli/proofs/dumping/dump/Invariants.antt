@@ -1,10 +1,12 @@
 use Rattle.std.proofs.Common.{◌-◌, ◌^◌}
+use Rattle.flow_codec.specs.Stream.{progress}
 use Rattle.flow_cli.proofs.Printing.{IsDumping}
 use Rattle.flow_cli.proofs.dumping.dump.Given as goal
 
 abbrev pub invariant-messages : goal.invariant-messages
 invariant-messages g l =
-    IsDumping (g.R.Read.remaining l.fn.input) (g.W.Write.contents l.initial.output) l.reader l.templates
+    IsDumping (g.R.Read.remaining l.initial.input) (g.W.Write.contents l.initial.output)
+    (progress l.reader (g.R.Read.remaining l.input)) l.templates
     (g.W.Write.contents l.output) l.lines.text.items
 
 abbrev pub decreases-messages : goal.decreases-messages

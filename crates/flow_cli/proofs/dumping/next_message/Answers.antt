@@ -1,24 +1,27 @@
 use Rattle.std.proofs.Common.{refl}
+use Rattle.flow_codec.specs.Stream.{progress}
 use Rattle.flow_cli.proofs.Holding.{held_are, accepted_next, refused_by}
 use Rattle.flow_cli.proofs.dumping.next_message.Goals as goal
 
-pub returns-in-Ok : goal.returns-in-Ok
-returns-in-Ok g c = λ fresh.
+pub returns-in-Ok-clause-next : goal.returns-in-Ok-clause-next
+returns-in-Ok-clause-next g c = λ fresh.
     let walked = c.in-Ok.ensures.found in
     let all = held_are c.in-Ok.header walked.0 c.new-held.result.records.items c.walk_message.new.sink.records.items
     c.new-held.ensures (walked.2 c.new-held.result) in
-    accepted_next c.args.reader.now c.advance.new.self c.args.templates.now c.walk_message.new.templates c.in-Ok.header
+    accepted_next (progress c.args.reader.now (g.R.Read.remaining c.args.input.now))
+    (progress c.advance.new.self (g.R.Read.remaining c.advance.new.input)) c.args.templates.now c.walk_message.new.templates c.in-Ok.header
     walked.0 c.message.result.now (record {
       header = c.in-Ok.header;
       records =
           c.walk_message.new.sink.records;
-    }) c.in_ok-advance.field-0 c.in_ok-advance.ensures c.if-not-branch.false
+    }) c.in_ok-advance.field-0 c.in_ok-advance.ensures.step c.if-not-branch.false
     c.message.ensures.value refl all walked.1
 
-pub returns : goal.returns
-returns g c = λ fresh.
+pub returns-clause-next : goal.returns-clause-next
+returns-clause-next g c = λ fresh.
     let fault = rw c.in-Err-Message.field-0-is at c.in-Err-Message.ensures.fault in
     rw c.of_message.ensures.value
-    (refused_by c.args.reader.now c.advance.new.self c.args.templates.now c.walk_message.new.templates c.count.result
-    c.message.result.now c.in_ok-advance.field-0 c.in_ok-advance.ensures c.if-not-branch.false
+    (refused_by (progress c.args.reader.now (g.R.Read.remaining c.args.input.now))
+    (progress c.advance.new.self (g.R.Read.remaining c.advance.new.input)) c.args.templates.now c.walk_message.new.templates c.count.result
+    c.message.result.now c.in_ok-advance.field-0 c.in_ok-advance.ensures.step c.if-not-branch.false
     c.message.ensures.value c.count.ensures.value c.in-Err-Message.fault fault)

@@ -1,0 +1,23 @@
+use Rattle.std.proofs.lemmas.Result.{err_from_is_err_and}
+use Rattle.flow_cli.proofs.Joining.{goes_on, is_cut}
+use Rattle.flow_cli.proofs.Holding.{records_text, next_record}
+use Rattle.flow_cli.proofs.output.HeldText.put_records.Goals as goal
+
+pub returns-in_err-put_record-clause-front : goal.returns-in_err-put_record-clause-front
+returns-in_err-put_record-clause-front g c =
+    let p = err_from_is_err_and c.from_residual.result c.from_residual.ensures.1 in
+    let cut = c.in_err-put_record.ensures.front in
+    let next = next_record c.args.records.now c.loop-record.record-index c.record-item.result c.loop-record-test.true
+    c.record-item.is in
+    rw (p.1, p.2) (
+      cut.0,
+      is_cut _ _ _ c.args.self.now.text.items _
+          (records_text c.args.records.now) _ _ _ c.loop-record.invariant next cut.1,
+    )
+
+pub loop-record-preserved : goal.loop-record-preserved
+loop-record-preserved g c =
+    let next = next_record c.args.records.now c.loop-record.record-index c.record-item.result c.loop-record-test.true
+    c.record-item.is in
+    goes_on _ _ _ c.args.self.now.text.items _ _
+    (records_text c.args.records.now) _ _ _ c.loop-record.invariant next c.in_ok-put_record.ensures.told

@@ -1,7 +1,0 @@
-use Rattle.std.proofs.Common.{◌≡◌, length}
-use Rattle.std.specs.Io.KnownBytes.{Keeps}
-use Rattle.flow_codec.proofs.patient.PatientReaderRead.read.Given as goal
-
-abbrev pub invariant-loop : goal.invariant-loop
-invariant-loop g l = (length l.buf ≡ length l.initial.buf)
-    × Keeps (g.R.Read.remaining l.initial.self.inner) (g.R.Read.remaining l.self.inner)
