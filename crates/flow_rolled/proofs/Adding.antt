@@ -17,7 +17,7 @@ use Rattle.flow_rolled.specs.declared.row.RolledRow.{RolledRow}
 use Rattle.flow_rolled.specs.Rows.{most, sums_in, sums_of, IsRow, MayFollow, AreRows, IsEntry}
 use Rattle.flow_rolled.specs.Parts.{last_from}
 use Rattle.flow_rolled.proofs.Grouping.{rows_front, decide}
-use Rattle.flow_rolled.proofs.RowSums.{pairs}
+use Rattle.flow_rolled.specs.Rows.{entries_in}
 use Rattle.flow_rolled.proofs.SumsTable.{sums_table}
 
 -- one row more
@@ -27,7 +27,7 @@ pub one_row_more : (w : ℕ) (rows : List RolledRow) (r : RolledRow)
       sums =
           sums_of (rows ++ r ∷ []);
     }
-one_row_more w rows r = ap (λ m. record { width = w; sums = m }) (gathered-again (pairs rows) ((r.key, sums_in r) ∷ [])
+one_row_more w rows r = ap (λ m. record { width = w; sums = m }) (gathered-again (entries_in rows) ((r.key, sums_in r) ∷ [])
     ∙ ap gathered (sym (map-append (λ (x : RolledRow). (x.key, sums_in x)) rows (r ∷ []))))
 
 -- ---- a key whose row came last has sums
@@ -42,7 +42,7 @@ some_first s None = refl
 some_first s (Some b) = refl
 
 has_key : (k : Key) (o : Option RolledRow) (rows : List RolledRow) (l : RolledRow) → last_from o rows ≡ Some l
-    → 0 < length rows → l.key ≡ k → IsSome (sum_at k (pairs rows))
+    → 0 < length rows → l.key ≡ k → IsSome (sum_at k (entries_in rows))
 has_key k o [] l is some here = absurd (omega (arith, some))
 has_key k o (r ∷ []) l is some here =
     let key : r.key ≡ k = ap (λ (x : RolledRow). x.key) (same_some r l is) ∙ here in
@@ -53,8 +53,8 @@ has_key k o (r ∷ []) l is some here =
     same_some : (x y : RolledRow) → Some x ≡ Some y → x ≡ y
     same_some x y e = cc
 has_key k o (r ∷ q ∷ rs) l is some here =
-    subst (λ x. IsSome x) (sym (pushed k r.key (sums_in r) (pairs (q ∷ rs))))
-    (some_joined (cond (is_key k r.key) (Some (sums_in r)) None) (sum_at k (pairs (q ∷ rs)))
+    subst (λ x. IsSome x) (sym (pushed k r.key (sums_in r) (entries_in (q ∷ rs))))
+    (some_joined (cond (is_key k r.key) (Some (sums_in r)) None) (sum_at k (entries_in (q ∷ rs)))
     (has_key k (Some r) (q ∷ rs) l is (omega arith) here))
 
 -- a row in the middle
@@ -63,7 +63,7 @@ pub row_at : (w : ℕ) (xs : List RolledRow) (r : RolledRow) (ys : List RolledRo
 row_at w xs r ys h = let p = (rows_front w None xs (r ∷ ys) h).1 in (p.0, p.1)
 
 some_before : (o : Option RolledRow) (xs : List RolledRow) (r : RolledRow) → last_from None xs ≡ o → MayFollow o r
-    → r.flows ≡ 0 → IsSome (sum_at r.key (pairs xs))
+    → r.flows ≡ 0 → IsSome (sum_at r.key (entries_in xs))
 some_before None xs r is h none = absurd (omega (arith, h, none))
 some_before (Some l) [] r is h none = absurd cc
 some_before (Some l) (x ∷ xs) r is (inl c) none = has_key r.key None (x ∷ xs) l is (omega arith) (sym c.key)
@@ -72,7 +72,7 @@ some_before (Some l) (x ∷ xs) r is (inr b) none = absurd (let f = b.flows in o
 pub present : (xs : List RolledRow) (r : RolledRow) → MayFollow (last_from None xs) r → r.flows ≡ 0
     → IsSome (get (sums_of xs) r.key)
 present xs r h none =
-    subst (λ o. IsSome o) (sym (get-gathered (pairs xs) r.key)) (some_before (last_from None xs) xs r refl h none)
+    subst (λ o. IsSome o) (sym (get-gathered (entries_in xs) r.key)) (some_before (last_from None xs) xs r refl h none)
 
 -- the first row of a key has flows
 pub first_counted : (xs : List RolledRow) (r : RolledRow) → MayFollow (last_from None xs) r
@@ -104,17 +104,17 @@ bounded_less : (n : ℕ) (sums : List Sums) → AreBounded n sums → AreBounded
 bounded_less n sums b = (omega (arith, b.0), omega (arith, b.1), omega (arith, b.2))
 
 bounded : (w : ℕ) (o : Option RolledRow) (q : Key) (rows : List RolledRow) → AreRows w o rows
-    → AreBounded (length rows) (under q (pairs rows))
+    → AreBounded (length rows) (under q (entries_in rows))
 bounded w o q [] h = (omega arith, omega arith, omega arith)
-bounded w o q (r ∷ rs) h = subst (λ n. AreBounded n (under q (pairs (r ∷ rs)))) (omega arith)
+bounded w o q (r ∷ rs) h = subst (λ n. AreBounded n (under q (entries_in (r ∷ rs)))) (omega arith)
     (elim (is_key q r.key) as
     (λ b. AreBounded (length rs + 1)
     (map (λ (e : Key × Sums). e.1)
-    (cond b ((r.key, sums_in r) ∷ filter (λ (e : Key × Sums). is_key q e.0) (pairs rs))
-    (filter (λ (e : Key × Sums). is_key q e.0) (pairs rs))))) [
-      | true ↦ bounded_more (length rs) r (under q (pairs rs)) (h.0).flows (h.0).octets (h.0).packets
+    (cond b ((r.key, sums_in r) ∷ filter (λ (e : Key × Sums). is_key q e.0) (entries_in rs))
+    (filter (λ (e : Key × Sums). is_key q e.0) (entries_in rs))))) [
+      | true ↦ bounded_more (length rs) r (under q (entries_in rs)) (h.0).flows (h.0).octets (h.0).packets
           (bounded w (Some r) q rs h.2)
-      | false ↦ bounded_less (length rs) (under q (pairs rs)) (bounded w (Some r) q rs h.2)
+      | false ↦ bounded_less (length rs) (under q (entries_in rs)) (bounded w (Some r) q rs h.2)
     ])
 
 -- of rows in order only the first of a key has flows, so the flows of a key are at most those of a row
@@ -122,9 +122,9 @@ pub rows_fit : (w : ℕ) (rows : List RolledRow) → AreRows w None rows → len
     → AllFit (record { width = w; sums = sums_of rows })
 rows_fit w rows h lt key =
     let valid = sums_table w rows h key in
-    subst (λ o. IfSome o Fits) (sym (get-gathered (pairs rows) key))
-    (fits_of (under key (pairs rows)) (length rows) lt (bounded w None key rows h)
-    (subst (λ o. IfSome o (IsEntry w key)) (get-gathered (pairs rows) key) valid))
+    subst (λ o. IfSome o Fits) (sym (get-gathered (entries_in rows) key))
+    (fits_of (under key (entries_in rows)) (length rows) lt (bounded w None key rows h)
+    (subst (λ o. IfSome o (IsEntry w key)) (get-gathered (entries_in rows) key) valid))
   where
     fits_of : (sums : List Sums) (n : ℕ) → n < 2 ^ 64 → AreBounded n sums → IfSome (some_total sums) (IsEntry w key)
         → IfSome (some_total sums) Fits

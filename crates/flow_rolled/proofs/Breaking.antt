@@ -9,12 +9,12 @@ use Rattle.std.proofs.Math.Nat.{zero-mod}
 use Rattle.flow_measure.specs.Sums.{Table}
 use Rattle.flow_rolled.specs.Rows.{rows_in, sums_of, AreRows, IsTable, IsRow}
 use Rattle.flow_rolled.specs.Parts.{Part, due, parts_from, parts_of, last_from, IsHead, RowsFollow}
-use Rattle.flow_rolled.specs.Parts.{Follows, AllFollow, IsDone, EndsWell}
+use Rattle.flow_rolled.specs.Parts.{Follows, AllFollow, IsDone, EndsWell, last_part, rows_within}
 use Rattle.flow_rolled.specs.Octets.{part_octets, parts_octets, IsPart}
 use Rattle.flow_rolled.specs.declared.message.State.{State}
 use Rattle.flow_rolled.specs.Reading.{IsStuck, Stands}
 use Rattle.flow_rolled.specs.Rollup.{parts_in, IsRollup, IsFront, IsBroken}
-use Rattle.flow_rolled.proofs.Grouping.{Row, rows_within, Own}
+use Rattle.flow_rolled.proofs.Grouping.{Row, Own}
 use Rattle.flow_rolled.proofs.Fronts.{rows_in_order}
 use Rattle.flow_rolled.proofs.Complete.{AreParts, parts_are, whole_parts}
 use Rattle.flow_rolled.proofs.RowSums.{same_table}
@@ -25,7 +25,7 @@ use Rattle.flow_rolled.proofs.SameParts.{are_of, same_part, part_long}
 
 -- ---- what follows is a message by itself
 
-abbrev Known : ℕ → Option Part → Type 0
+abbrev pub Known : ℕ → Option Part → Type 0
 Known w b = IfSome b (IsPart w)
 
 head_part : (w : ℕ) (p : Part) → IsHead p → IsPart w p
@@ -52,7 +52,7 @@ rows_part w b p time domain h = record {
   rows = are_of w p.domain (last_from None b.rows) p.rows h.few h.own h.order;
 }
 
-follows_part : (w : ℕ) (b : Option Part) (p : Part) → Known w b → Follows w b p → IsPart w p
+pub follows_part : (w : ℕ) (b : Option Part) (p : Part) → Known w b → Follows w b p → IsPart w p
 follows_part w None p known h = head_part w p h
 follows_part w (Some b) p known (inl h) = head_part w p h.head
 follows_part w (Some b) p known (inr h) = rows_part w b p known.time known.domain h
@@ -70,10 +70,6 @@ all_parts w b [] known h = tt
 all_parts w b (p ∷ ps) known h = let now = follows_part w b p known h.0 in (now, all_parts w (Some p) ps now h.1)
 
 -- ---- messages, joined
-
-abbrev pub last_part : Option Part → List Part → Option Part
-last_part b [] = b
-last_part b (p ∷ ps) = last_part (Some p) ps
 
 pub ends_is : (b : Option Part) (ps : List Part) → EndsWell b ps ≡ IsDone (last_part b ps)
 ends_is b [] = refl

@@ -4,9 +4,10 @@ use Rattle.std.proofs.Common.{◌++◌, length, drop, Option, Some, None, refl, 
 use Rattle.std.specs.List.{AllByRecursion}
 use Rattle.flow_measure.specs.declared.rows.Key.{Key}
 use Rattle.flow_rolled.specs.Rows.{AreRows}
+use Rattle.flow_rolled.specs.Parts.{rows_within}
 use Rattle.flow_rolled.specs.Parts.{Part, group, head, parts_from, parts_of, last_from, IsHead}
 use Rattle.flow_rolled.specs.Parts.{RowsFollow, Follows, AllFollow, EndsWell}
-use Rattle.flow_rolled.proofs.Grouping.{Row, rows_within, Own, IsPast, Starts, domains_rise, rows_front, step_head}
+use Rattle.flow_rolled.proofs.Grouping.{Row, Own, IsPast, Starts, domains_rise, rows_front, step_head}
 use Rattle.flow_rolled.proofs.Grouping.{step_group, of_rows, again, decide, IsElsewhere}
 use Rattle.flow_rolled.proofs.Fronts.{extra, extra_of, group_own, group_few, group_rest, group_ends, group_some}
 use Rattle.flow_rolled.proofs.Fronts.{few_parts, one_time}

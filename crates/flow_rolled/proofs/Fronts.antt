@@ -6,9 +6,10 @@ use Rattle.std.specs.Prelude.{◌==◌}
 use Rattle.std.specs.List.{AllByRecursion}
 use Rattle.std.proofs.lemmas.Bool.{eqb-true, eq-eqb, eqb-false}
 use Rattle.flow_rolled.specs.Rows.{AreRows}
+use Rattle.flow_rolled.specs.Parts.{rows_within}
 use Rattle.flow_rolled.specs.Parts.{Part, group, last_from}
 use Rattle.flow_rolled.specs.Parts.{AllFollow, EndsWell}
-use Rattle.flow_rolled.proofs.Grouping.{Row, rows_within, Own, IsPast, less_domain, rows_append}
+use Rattle.flow_rolled.proofs.Grouping.{Row, Own, IsPast, less_domain, rows_append}
 
 -- ---- one time
 

@@ -14,15 +14,10 @@ use Rattle.flow_measure.specs.declared.rows.Key.{Key}
 use Rattle.flow_rolled.specs.declared.row.RolledRow.{RolledRow}
 use Rattle.flow_rolled.specs.Rows.{file_cmp, MayFollow, AreRows}
 use Rattle.flow_rolled.specs.Parts.{Part, due, group, head, parts_from, last_from, IsHead}
-use Rattle.flow_rolled.specs.Parts.{RowsFollow, AllFollow, EndsWell}
+use Rattle.flow_rolled.specs.Parts.{RowsFollow, AllFollow, EndsWell, rows_within}
 
 abbrev pub Row : Type 0
 Row = RolledRow
-
--- all rows of messages
-abbrev pub rows_within : List Part → List Row
-rows_within [] = []
-rows_within (p ∷ ps) = p.rows ++ rows_within ps
 
 -- ---- domains rise
 

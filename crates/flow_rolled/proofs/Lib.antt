@@ -17,3 +17,8 @@ pub mod RowSets
 pub mod WrittenRows
 pub mod WrittenParts
 pub mod Sorting
+pub mod Pieces
+pub mod Widened
+pub mod Counted
+pub mod FileForm
+pub mod RowFlows

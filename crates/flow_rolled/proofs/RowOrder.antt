@@ -19,7 +19,8 @@ use Rattle.flow_rolled.specs.declared.row.RolledRow.{RolledRow}
 use Rattle.flow_rolled.specs.Rows.{file_cmp, in_file_order, most, least, row_of, left_of, further, rows_from, rows_of}
 use Rattle.flow_rolled.specs.Rows.{rows_in, sums_in, sums_of, Continues, MayFollow, AreRows}
 use Rattle.flow_rolled.proofs.FileOrder.{file_total, first, second, same_order}
-use Rattle.flow_rolled.proofs.RowSums.{pairs, all_sums, least_small}
+use Rattle.flow_rolled.proofs.RowSums.{all_sums, least_small}
+use Rattle.flow_rolled.specs.Rows.{entries_in}
 
 -- ---- numbers
 
@@ -230,5 +231,5 @@ pub same_rows : (w : ℕ) (rows : List RolledRow) → AreRows w None rows → ro
 same_rows w rows h =
     let b = blocks w None rows h in
     let order : in_file_order (sums_of rows) ≡ b.list = same_order (sums_of rows) b.list b.sorted (λ q.
-    sym (all_sums q b.list) ∙ ap (λ l. sum_at q (pairs l)) b.is ∙ sym (get-gathered (pairs rows) q)) in
+    sym (all_sums q b.list) ∙ ap (λ l. sum_at q (entries_in l)) b.is ∙ sym (get-gathered (entries_in rows) q)) in
     ap (flat_map rows_of) order ∙ b.is

@@ -1,6 +1,6 @@
 -- The rows of a key have its sums.
 use Rattle.std.proofs.Common.{◌≡◌, ℕ, zero, suc, ◌+◌, ◌-◌, ◌*◌, ◌/◌, ◌≤◌, Bool, true, false, cond, List, [], ◌∷◌}
-use Rattle.std.proofs.Common.{map, Some, None, refl, sym, ap, ◌∙◌, arith}
+use Rattle.std.proofs.Common.{Some, None, refl, sym, ap, ◌∙◌, arith}
 use Rattle.std.specs.Prelude.{nat_lt}
 use Rattle.std.specs.List.{flat_map}
 use Rattle.std.specs.FinMap.{FinMap}
@@ -14,6 +14,7 @@ use Rattle.flow_measure.proofs.Gathering.{joined, joined-none, sum_at, sum_at-ap
 use Rattle.flow_measure.proofs.Widening.{pushed}
 use Rattle.flow_rolled.specs.declared.row.RolledRow.{RolledRow}
 use Rattle.flow_rolled.specs.Rows.{most, least, row_of, left_of, further, rows_from, rows_of, rows_in, sums_in, sums_of}
+use Rattle.flow_rolled.specs.Rows.{entries_in}
 use Rattle.flow_rolled.specs.Rows.{in_file_order}
 use Rattle.flow_rolled.proofs.FileOrder.{order_sums}
 
@@ -54,9 +55,6 @@ further_enough s =
       more_rows s.packets p (further s) (enough_one s.packets) g.1,
     )
 
-abbrev pub pairs : List RolledRow → List (Key × Sums)
-pairs rows = map (λ r. (r.key, sums_in r)) rows
-
 same_key_sums : (s : Sums) → s.octets ≤ most → s.packets ≤ most → (key : Key) → sums_in (row_of key s) ≡ s
 same_key_sums s o p key = rw (least_small s.octets most o, least_small s.packets most p) refl
 
@@ -70,31 +68,31 @@ joined_cond true x y = refl
 joined_cond false x y = refl
 
 pub rows_sum : (n : ℕ) (key : Key) (s : Sums) → Enough n s → (q : Key)
-    → sum_at q (pairs (rows_from n key s)) ≡ cond (is_key q key) (Some s) None
+    → sum_at q (entries_in (rows_from n key s)) ≡ cond (is_key q key) (Some s) None
 unfolding rows_from
 rows_sum zero key s enough q =
     pushed q key (sums_in (row_of key s)) [] ∙ joined-none (cond (is_key q key) (Some (sums_in (row_of key s))) None)
     ∙ ap (λ x. cond (is_key q key) (Some x) None)
     (same_key_sums s (omega (arith, enough.0)) (omega (arith, enough.1)) key)
 rows_sum (suc n) key s enough q =
-    pushed q key (sums_in (row_of key s)) (pairs (rows_from n key (left_of s)))
+    pushed q key (sums_in (row_of key s)) (entries_in (rows_from n key (left_of s)))
     ∙ ap (joined (cond (is_key q key) (Some (sums_in (row_of key s))) None))
     (rows_sum n key (left_of s) (omega (arith, enough.0), omega (arith, enough.1)) q)
     ∙ joined_cond (is_key q key) (sums_in (row_of key s)) (left_of s)
     ∙ ap (λ x. cond (is_key q key) (Some x) None) (row_and_left key s)
 
-pub all_sums : (q : Key) (es : List (Key × Sums)) → sum_at q (pairs (flat_map rows_of es)) ≡ sum_at q es
+pub all_sums : (q : Key) (es : List (Key × Sums)) → sum_at q (entries_in (flat_map rows_of es)) ≡ sum_at q es
 all_sums q [] = refl
 all_sums q (e ∷ es) =
-    ap (λ l. sum_at q (pairs l)) (flat_map-cons rows_of e es)
+    ap (λ l. sum_at q (entries_in l)) (flat_map-cons rows_of e es)
     ∙ ap (sum_at q) (map-append (λ (r : RolledRow). (r.key, sums_in r)) (rows_of e) (flat_map rows_of es))
-    ∙ sum_at-append q (pairs (rows_of e)) (pairs (flat_map rows_of es))
-    ∙ ap (λ x. joined x (sum_at q (pairs (flat_map rows_of es))))
+    ∙ sum_at-append q (entries_in (rows_of e)) (entries_in (flat_map rows_of es))
+    ∙ ap (λ x. joined x (sum_at q (entries_in (flat_map rows_of es))))
     (rows_sum (further e.1) e.0 e.1 (further_enough e.1) q)
     ∙ ap (joined (cond (is_key q e.0) (Some e.1) None)) (all_sums q es)
     ∙ sym (pushed q e.0 e.1 es)
 
 -- the rows of a table sum up to it
 pub same_table : (m : FinMap key_cmp Sums) → sums_of (rows_in m) ≡ m
-same_table m = same_sums (sums_of (rows_in m)) m (λ q. get-gathered (pairs (rows_in m)) q
+same_table m = same_sums (sums_of (rows_in m)) m (λ q. get-gathered (entries_in (rows_in m)) q
     ∙ all_sums q (in_file_order m) ∙ order_sums m q)

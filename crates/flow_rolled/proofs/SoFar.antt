@@ -7,16 +7,18 @@ use Rattle.std.specs.Prelude.{is_some, filter}
 use Rattle.flow_measure.specs.Sums.{Table, empty_table, gathered}
 use Rattle.flow_rolled.specs.declared.message.State.{State}
 use Rattle.flow_rolled.specs.Rows.{sums_of, AreRows}
+use Rattle.flow_rolled.specs.Parts.{rows_within, last_part}
 use Rattle.flow_rolled.specs.Parts.{Part, Follows, AllFollow, IsDone}
 use Rattle.flow_rolled.specs.Octets.{part_octets, parts_octets}
 use Rattle.flow_rolled.specs.Rollup.{IsRollup, IsBroken}
 use Rattle.flow_rolled.specs.Reading.{Stands, Knows, IsStuck}
-use Rattle.flow_rolled.proofs.Grouping.{Row, rows_within}
+use Rattle.flow_rolled.specs.Stored.{IsEnd}
+use Rattle.flow_rolled.proofs.Grouping.{Row}
 use Rattle.flow_rolled.proofs.Fronts.{rows_in_order}
 use Rattle.flow_rolled.specs.Octets.{row_octets, rows_octets, set_octets, sets_of, has_protocol, has_none}
 use Rattle.flow_rolled.proofs.PartOctets.{row_long}
 use Rattle.flow_rolled.proofs.SameParts.{part_long}
-use Rattle.flow_rolled.proofs.Breaking.{last_part, last_more, follow_more, octets_more, rollup_of, broken_at}
+use Rattle.flow_rolled.proofs.Breaking.{last_more, follow_more, octets_more, rollup_of, broken_at}
 
 -- the messages before this place
 pub record IsSoFar (w : ℕ) (octets rest : List ℕ) (before : Option State) (rows : Table)
@@ -26,7 +28,7 @@ pub record IsSoFar (w : ℕ) (octets rest : List ℕ) (before : Option State) (r
   pub stands : Stands before (last_part None front)
   pub sums : rows ≡ record { width = w; sums = sums_of (rows_within front) }
 
-rows_more : (ps qs : List Part) → rows_within (ps ++ qs) ≡ rows_within ps ++ rows_within qs
+pub rows_more : (ps qs : List Part) → rows_within (ps ++ qs) ≡ rows_within ps ++ rows_within qs
 rows_more [] qs = refl
 rows_more (p ∷ ps) qs = ap (λ (l : List Row). p.rows ++ l) (rows_more ps qs)
     ∙ sym (append_assoc p.rows (rows_within ps) (rows_within qs))
@@ -45,6 +47,15 @@ rows_follow w front p all h =
     subst (AreRows w None) (rows_one_more front p)
     (rows_in_order w (front ++ p ∷ []) (one_more_follows w front p all h))
 
+pub parts_more : (w : ℕ) (octets rest after : List ℕ) (front : List Part) (p : Part)
+    → octets ≡ parts_octets w front ++ rest → rest ≡ part_octets w p ++ after
+    → octets ≡ parts_octets w (front ++ p ∷ []) ++ after
+parts_more w octets rest after front p is is_2 =
+    is ∙ ap (λ (l : List ℕ). parts_octets w front ++ l) is_2
+    ∙ sym (append_assoc (parts_octets w front) (part_octets w p) after)
+    ∙ ap (λ (l : List ℕ). parts_octets w front ++ l ++ after) (sym (append-nil (part_octets w p)))
+    ∙ ap (λ (l : List ℕ). l ++ after) (sym (octets_more w front (p ∷ [])))
+
 pub one_more : (w : ℕ) (octets rest after : List ℕ) (before : Option State) (rows new : Table) (front : List Part)
     (p : Part) (s : State)
     → IsSoFar w octets rest before rows front → rest ≡ part_octets w p ++ after → Follows w (last_part None front) p
@@ -52,10 +63,7 @@ pub one_more : (w : ℕ) (octets rest after : List ℕ) (before : Option State) 
     → new ≡ record { width = w; sums = sums_of (rows_within front ++ p.rows) }
     → IsSoFar w octets after (Some s) new (front ++ p ∷ [])
 one_more w octets rest after before rows new front p s h is follows knows sums = record {
-  is = h.is ∙ ap (λ (l : List ℕ). parts_octets w front ++ l) is
-      ∙ sym (append_assoc (parts_octets w front) (part_octets w p) after)
-      ∙ ap (λ (l : List ℕ). parts_octets w front ++ l ++ after) (sym (append-nil (part_octets w p)))
-      ∙ ap (λ (l : List ℕ). l ++ after) (sym (octets_more w front (p ∷ [])));
+  is = parts_more w octets rest after front p h.is is;
   follow = one_more_follows w front p h.follow follows;
   stands = subst (Stands (Some s)) (sym (last_more None front (p ∷ []))) knows;
   sums = sums ∙ ap (λ l. record { width = w; sums = sums_of l }) (sym (rows_one_more front p));
@@ -66,21 +74,17 @@ pub at_start : (w : ℕ) (octets : List ℕ) (rows : Table) → rows ≡ record 
 at_start w octets rows h = record { is = refl; follow = tt; stands = tt; sums = h }
 
 -- the state tells whether the last message is a head
-abbrev pub IsEnd : Option State → Type 0
-IsEnd None = Unit {0}
-IsEnd (Some s) = 0 < s.count
-
-done_if : (before : Option State) (b : Option Part) → Stands before b → IsEnd before → IsDone b
+pub done_if : (before : Option State) (b : Option Part) → Stands before b → IsEnd before → IsDone b
 done_if None None h e = tt
 done_if None (Some p) h e = absurd h
 done_if (Some s) None h e = absurd h
 done_if (Some s) (Some p) h e = let c = h.count in omega (arith, c, e)
 
-not_done : (s : State) (b : Option Part) → Stands (Some s) b → s.count ≡ 0 → IsDone b → ⊥
+pub not_done : (s : State) (b : Option Part) → Stands (Some s) b → s.count ≡ 0 → IsDone b → ⊥
 not_done s None h e d = h
 not_done s (Some p) h e d = let c = h.count in omega (arith, c, e, d)
 
-no_octets : (rest : List ℕ) → length rest ≡ 0 → rest ≡ []
+pub no_octets : (rest : List ℕ) → length rest ≡ 0 → rest ≡ []
 no_octets [] h = refl
 no_octets (x ∷ xs) h = absurd (omega (arith, h))
 
@@ -101,6 +105,11 @@ broken w wide octets rest before rows front h stuck some =
     subst (IsBroken w octets) at
     (broken_at w wide octets front rest h.follow h.is (stuck (last_part None front) h.stands)
     (λ none. absurd (let l = ap (λ (x : List ℕ). length x) none in omega (arith, l, some))))
+
+-- no message stands at the end
+pub stuck_end : (w : ℕ) (rest : List ℕ) → length rest ≡ 0 → (b : Option Part) → IsStuck w b rest
+stuck_end w rest none b p more f e = absurd (let l = ap (λ (x : List ℕ). length x) e in let n = part_long w p in
+    let m = length-append (part_octets w p) more in omega (arith, l, n, m, none))
 
 pub broken_end : (w : ℕ) → w < 2 ^ 32 → (octets rest : List ℕ) (s : State) (rows : Table) (front : List Part)
     → IsSoFar w octets rest (Some s) rows front → length rest ≡ 0 → s.count ≡ 0 → IsBroken w octets (length octets)

@@ -19,7 +19,8 @@ use Rattle.flow_rolled.specs.Rows.{MayFollow, AreRows, IsEntry, IsTable}
 use Rattle.flow_rolled.specs.Parts.{last_from}
 use Rattle.flow_rolled.proofs.Grouping.{rows_front}
 use Rattle.flow_rolled.proofs.FileOrder.{first, second, sum_at-file, file_refl}
-use Rattle.flow_rolled.proofs.RowSums.{pairs, all_sums}
+use Rattle.flow_rolled.proofs.RowSums.{all_sums}
+use Rattle.flow_rolled.specs.Rows.{entries_in}
 use Rattle.flow_rolled.proofs.RowOrder.{blocks, less_is}
 use Rattle.flow_rolled.proofs.TableRows.{AreEntries, IsBefore}
 
@@ -87,4 +88,4 @@ sums_table w rows h =
     let b = blocks w None rows h in
     let entries = entries_from w None b.list b.sorted tt (subst (AreRows w None) (sym b.is) h) in
     λ q. subst (λ o. IfSome o (IsEntry w q)) (sym (sum_at-file q b.list b.sorted) ∙ sym (all_sums q b.list)
-    ∙ ap (λ l. sum_at q (pairs l)) b.is ∙ sym (get-gathered (pairs rows) q)) (found w q b.list entries)
+    ∙ ap (λ l. sum_at q (entries_in l)) b.is ∙ sym (get-gathered (entries_in rows) q)) (found w q b.list entries)

@@ -5,3 +5,5 @@ pub mod Rollup
 pub mod Reading
 pub mod Printed
 pub mod Writing
+pub mod Stored
+pub mod AsFile

@@ -1,6 +1,6 @@
 -- The messages of a rolled file, as data.
 use Rattle.std.specs.Prelude.{◌≡◌, ℕ, zero, suc, ◌+◌, ◌*◌, ◌%◌, ◌<◌, ◌≤◌, ◌^◌, ◌==◌, ◌⊎◌}
-use Rattle.std.specs.Prelude.{List, [], ◌∷◌, length, drop, Option, Some, None, if◌then◌else◌}
+use Rattle.std.specs.Prelude.{List, [], ◌∷◌, ◌++◌, length, drop, Option, Some, None, if◌then◌else◌}
 use Rattle.std.specs.List.{AllByRecursion}
 use Rattle.flow_rolled.specs.declared.row.RolledRow.{RolledRow}
 use Rattle.flow_rolled.specs.Rows.{AreRows}
@@ -99,3 +99,13 @@ IsDone (Some p) = 0 < length p.rows
 abbrev pub EndsWell : Option Part → List Part → Type 0
 EndsWell before [] = IsDone before
 EndsWell before (p ∷ ps) = EndsWell (Some p) ps
+
+-- the last of further messages, if there are any
+abbrev pub last_part : Option Part → List Part → Option Part
+last_part before [] = before
+last_part before (p ∷ ps) = last_part (Some p) ps
+
+-- all rows of messages
+abbrev pub rows_within : List Part → List RolledRow
+rows_within [] = []
+rows_within (p ∷ ps) = p.rows ++ rows_within ps

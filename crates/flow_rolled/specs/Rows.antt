@@ -61,9 +61,12 @@ rows_in sums = flat_map rows_of (in_file_order sums)
 abbrev pub sums_in : RolledRow → Sums
 sums_in r = record { flows = r.flows; octets = r.octets; packets = r.packets }
 
+abbrev pub entries_in : List RolledRow → List (Key × Sums)
+entries_in rows = map (λ r. (r.key, sums_in r)) rows
+
 -- the sums of rows, key by key
 abbrev pub sums_of : List RolledRow → FinMap key_cmp Sums
-sums_of rows = gathered (map (λ r. (r.key, sums_in r)) rows)
+sums_of rows = gathered (entries_in rows)
 
 -- a row of its own in a file of this width
 pub record IsRow (width : ℕ) (r : RolledRow) : Type 0 where

@@ -17,11 +17,12 @@ use crate::judging::follows;
 use crate::message::{Message, State};
 use crate::message_reading::message_at;
 use crate::row::RolledRow;
-use flow_measure::{Rows, SumError, Sums};
+use crate::summing::sums_in;
+use flow_measure::{Rows, SumError};
 use std::alloc::{AllocError, Global};
 
 /// The message at the front of the octets, and the octets behind it, where one stands there that may follow.
-fn next_message<'a>(
+pub(crate) fn next_message<'a>(
     alloc: Global,
     octets: &'a [u8],
     width: u32,
@@ -52,12 +53,7 @@ fn add_rows(rows: &mut Rows, list: &[RolledRow]) -> Result<(), SumError>
     ensures err { IfErr result (λ e. e ≡ SumError.OutOfMemory) }
 {
     for row in list.iter() {
-        let sums = Sums {
-            flows: row.flows,
-            octets: u128::from(row.octets),
-            packets: u128::from(row.packets),
-        };
-        rows.put(row.key, sums)?;
+        rows.put(row.key, sums_in(row))?;
     }
     Ok(())
 }

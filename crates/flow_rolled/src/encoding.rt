@@ -5,12 +5,12 @@ ghost use Rattle.std.specs.Ordering.{is_lt};
 ghost use Rattle.std.specs.List.Sorted.{IsPermutation, IsSortedBy};
 ghost use Rattle.flow_rolled.specs.declared.row.RolledRow.{RolledRow};
 ghost use Rattle.flow_rolled.specs.Rows.{file_cmp};
-ghost use Rattle.flow_rolled.specs.Parts.{Part, group, due, next_part, parts_of};
+ghost use Rattle.flow_rolled.specs.Parts.{Part, group, next_part, parts_of};
 ghost use Rattle.flow_rolled.specs.Octets.{parts_octets};
 ghost use Rattle.flow_rolled.specs.Rollup.{rollup_octets, IsRollup};
 ghost use Rattle.flow_rolled.specs.Writing.{IsPlaceOf, part_at};
 
-use crate::message::FULL;
+use crate::message::{FULL, due_behind};
 use crate::message_writing::put_message;
 use crate::order::compare;
 use crate::row::RolledRow;
@@ -50,15 +50,6 @@ fn group_len(rows: &[RolledRow], domain: u32) -> usize
     count
 }
 
-/// The sequence number that is due behind this message.
-fn due_behind(place: Place) -> u32
-    requires { place.count ≤ 1000 }
-    ensures { (b : Part) → b.sequence ≡ place.sequence → length b.rows ≡ place.count → result ≡ due b }
-{
-    let records = if place.count == 0 { 2 } else { place.count };
-    ((u64::from(place.sequence) + records as u64) % 4_294_967_296) as u32
-}
-
 /// What the next message has: rows of the domain of the message before, up to 1,000; else its first row's domain
 /// begins.
 fn next_place(before: Option<Place>, rows: &[RolledRow]) -> Place
@@ -74,7 +65,7 @@ fn next_place(before: Option<Place>, rows: &[RolledRow]) -> Place
     if let Some(place) = before {
         if place.domain == domain {
             return Place {
-                sequence: due_behind(place),
+                sequence: due_behind(place.sequence, place.count),
                 domain,
                 count: group_len(rows, domain),
             };

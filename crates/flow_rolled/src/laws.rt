@@ -1,9 +1,15 @@
 //! Laws of rolled files.
 
-ghost use Rattle.std.specs.Prelude.{◌≡◌, ℕ, ◌<◌, ◌^◌, List};
-ghost use Rattle.flow_measure.specs.Sums.{Table};
+ghost use Rattle.std.specs.Prelude.{◌≡◌, ℕ, ◌<◌, ◌^◌, List, map};
+ghost use Rattle.std.specs.FinMap.{get};
+ghost use Rattle.flow_measure.specs.declared.rows.Key.{Key};
+ghost use Rattle.flow_measure.specs.Sums.{Table, sums_by};
 ghost use Rattle.flow_rolled.specs.Rollup.{IsRollup, IsBroken, IsFront, rollup_octets};
-ghost use Rattle.flow_rolled.specs.Rows.{IsTable};
+ghost use Rattle.flow_codec.specs.Templates.{AllTemplates};
+ghost use Rattle.flow_codec.specs.File.{IsFile};
+ghost use Rattle.flow_rolled.specs.Rows.{IsTable, rows_in};
+ghost use Rattle.flow_rolled.specs.Rollup.{parts_in};
+ghost use Rattle.flow_rolled.specs.AsFile.{messages_of, flows_within, flow_of_row, SameCounts};
 
 /// What is made of a table is its rolled file. Octets are the rolled file of one table at most, whatever the Export
 /// Time. Octets that are none break off at one place, and octets that are a rolled file at none.
@@ -17,4 +23,19 @@ pub fn one_rollup()
         → IsRollup width octets t → ⊥ }
     ensures different { (s t : Table) (time other : ℕ) → IsTable s → IsTable t → s.width ≡ t.width → s.width < 2 ^ 32
         → time < 2 ^ 32 → other < 2 ^ 32 → rollup_octets s time ≡ rollup_octets t other → s ≡ t }
+{}
+
+/// A rolled file is an IPFIX File (RFC 5655): messages, each cut off by its Length, and each one under the templates of
+/// those before it. The codec's limits aside: a File of more than 64 domains is refused there at its 65th head.
+///
+/// Each of its rows is read as one flow, in the file's order. So these flows have the octets and packets of the table
+/// key by key, and no other key; how many flows a key had isn't kept by them.
+pub fn rolled_file()
+    ensures file { (t : Table) (time : ℕ) → IsTable t → time < 2 ^ 32
+        → (after : AllTemplates) × IsFile (rollup_octets t time) (messages_of t.width (parts_in t time)) after }
+    ensures flows { (t : Table) (time : ℕ) → IsTable t → time < 2 ^ 32
+        → flows_within (messages_of t.width (parts_in t time)) ≡ map flow_of_row (rows_in t.sums) }
+    ensures sums { (t : Table) (time : ℕ) → IsTable t → time < 2 ^ 32 → (key : Key)
+        → SameCounts (get (sums_by t.width (flows_within (messages_of t.width (parts_in t time)))) key)
+        (get t.sums key) }
 {}

@@ -5,8 +5,14 @@
 //! that table; octets are the rolled file of one table at most; all others are refused at one place, the end of the
 //! longest sequence of whole messages with which some rolled file begins; a sum of a table that fits a file always fits
 //! its type.
+//!
+//! `RolledPart` is such a file on a disk. `RowReader` reads its rows message by message, a piece of the file at a time:
+//! where it comes to the end its rows are those of the file's table, and where octets break off it tells damage at that
+//! place. `sum_rows` adds them to sums of the same or another width. The laws say that a rolled file is an IPFIX File,
+//! of which each row is read as one flow.
 #![tactic(auto)]
 
+mod cursor;
 mod decoding;
 mod encoding;
 mod error;
@@ -17,15 +23,23 @@ mod message_reading;
 mod message_writing;
 mod numbers;
 mod order;
+mod part;
+mod reader;
 mod row;
 mod row_reading;
 mod row_writing;
 mod set_reading;
+mod summing;
 
 pub use decoding::decode_rows;
 pub use encoding::encode_rows;
-pub use error::RolledError;
+pub use error::{RolledError, RowError, RowSumError};
+pub use part::RolledPart;
+pub use reader::RowReader;
 pub use row::RolledRow;
+pub use summing::sum_rows;
 
+#[cfg(test)]
+mod reader_tests;
 #[cfg(test)]
 mod tests;

@@ -1,6 +1,7 @@
 //! One message of a rolled file.
 
-ghost use Rattle.std.specs.Prelude.{ℕ, Some};
+ghost use Rattle.std.specs.Prelude.{◌≡◌, ◌<◌, ◌^◌, ℕ, length, Some};
+ghost use Rattle.flow_rolled.specs.Parts.{Part, due};
 ghost use Rattle.flow_rolled.specs.Octets.{IsPart};
 ghost use Rattle.flow_rolled.specs.Reading.{part_of, Stands};
 
@@ -11,7 +12,7 @@ pub(crate) const FULL: usize = 1000;
 
 /// A message of a rolled file: the head of its domain, where it has no rows.
 #[derive(Drop)]
-pub struct Message {
+pub(crate) struct Message {
     pub time: u32,
     pub sequence: u32,
     pub domain: u32,
@@ -20,12 +21,21 @@ pub struct Message {
 
 /// What the next message is judged by.
 #[derive(Clone, Copy)]
-pub struct State {
+pub(crate) struct State {
     pub time: u32,
     pub domain: u32,
     pub due: u32,
     pub count: usize,
     pub last: Option<RolledRow>,
+}
+
+/// The sequence number that is due behind a message with this one and so many rows.
+pub(crate) fn due_behind(sequence: u32, count: usize) -> u32
+    requires { count < 2 ^ 63 }
+    ensures { (b : Part) → b.sequence ≡ sequence → length b.rows ≡ count → result ≡ due b }
+{
+    let records = if count == 0 { 2 } else { count };
+    ((u64::from(sequence) + records as u64) % 4_294_967_296) as u32
 }
 
 impl State {
@@ -34,12 +44,10 @@ impl State {
         ensures { (width : ℕ) → IsPart width (part_of message.now) → Stands (Some result) (Some (part_of message.now)) }
     {
         let count = message.rows.len();
-        let records = if count == 0 { 2 } else { count };
-        let due = ((u64::from(message.sequence) + records as u64) % 4_294_967_296) as u32;
         State {
             time: message.time,
             domain: message.domain,
-            due,
+            due: due_behind(message.sequence, count),
             count,
             last: message.rows.last().copied(),
         }

@@ -17,9 +17,6 @@ pub(crate) const WITH_PROTOCOL: u16 = 256;
 /// The Set of the rows without one.
 pub(crate) const WITHOUT: u16 = 257;
 
-/// The greatest number of rows in a message.
-const MOST_ROWS: usize = FULL;
-
 /// The Sets of a head: Set 2 with Templates 256 and 257, Set 3 with Options Template 258, Set 258 with its two records.
 pub(crate) const HEAD_SETS: [u8; 84] = [
     0, 2, 0, 56, //
@@ -117,7 +114,7 @@ pub(crate) fn rows_of_sets(
         return Ok(None);
     };
     rows.extend_from_slice(&more)?;
-    if rows.is_empty() || rows.len() > MOST_ROWS || !rest.is_empty() {
+    if rows.is_empty() || rows.len() > FULL || !rest.is_empty() {
         return Ok(None);
     }
     Ok(Some(rows))

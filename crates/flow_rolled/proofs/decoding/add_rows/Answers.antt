@@ -27,10 +27,6 @@ few_front e list i lt few =
     let n = length-drop i list in
     omega (arith, a, b, d, n, few, lt)
 
-same_counts : (r : RolledRow) (f o p : ℕ) → f ≡ r.flows → o ≡ r.octets → p ≡ r.packets
-    → record { flows = f; octets = o; packets = p } ≡ sums_in r
-same_counts r f o p ef eo ep = λ i. record { flows = ef i; octets = eo i; packets = ep i }
-
 -- the sums with the next row fit
 fit_with : (t : Table) (s : Sums) (w : ℕ) (xs ys : List RolledRow) (r : RolledRow) → t ≡ table w xs → s ≡ sums_in r
     → AreRows w None (xs ++ r ∷ ys) → length xs + 1 < 2 ^ 64 → AllFit (with_sums r.key s t)
@@ -61,9 +57,10 @@ put-requires-clause-counted c =
     c.args.rows.now.width in
     let row = row_at w (e ++ take i list) (get_or list i none) (drop (i + 1) list)
     (at_row w e list i none c.loop-row-test.true c.requires.2) in
-    λ none_there. first_counted (e ++ take i list) (get_or list i none) row.1
+    λ none_there. subst (λ (s : Sums). 0 < s.flows) (sym c.sums_in.ensures)
+    (first_counted (e ++ take i list) (get_or list i none) row.1
     (sym (ap (λ (t : Table). get t.sums (get_or list i none).key) (c.loop-row.invariant e c.requires.1))
-    ∙ none_there)
+    ∙ none_there))
 
 pub put-requires-clause-aligned : goal.put-requires-clause-aligned
 put-requires-clause-aligned c =
@@ -79,14 +76,8 @@ returns-in_err-put-clause-err c =
     let list = c.args.list.now in let i = c.loop-row.row-index in let e = c.requires.0 in let w =
     c.args.rows.now.width in
     let r = get_or list i none in
-    let s = same_counts r r.flows c.from.result c.from-in-loop-row.result refl c.from.ensures
-    c.from-in-loop-row.ensures in
-    let fit = fit_with c.loop-row.rows (record {
-      flows = r.flows;
-      octets = c.from.result;
-      packets =
-          c.from-in-loop-row.result;
-    }) w (e ++ take i list) (drop (i + 1) list) r (c.loop-row.invariant e c.requires.1) s
+    let s = c.sums_in.ensures in
+    let fit = fit_with c.loop-row.rows c.sums_in.result w (e ++ take i list) (drop (i + 1) list) r (c.loop-row.invariant e c.requires.1) s
     (at_row w e list i none c.loop-row-test.true c.requires.2)
     (few_front e list i c.loop-row-test.true c.requires.3) in
     passed c.from_residual.result c.in_err-put.field-0.0 c.from_residual.ensures.1
@@ -96,8 +87,7 @@ pub loop-row-preserved : goal.loop-row-preserved
 loop-row-preserved c = λ earlier h.
     let list = c.args.list.now in let i = c.loop-row.row-index in let w = c.args.rows.now.width in
     let r = get_or list i none in
-    let sums : Sums = record { flows = r.flows; octets = c.from.result; packets = c.from-in-loop-row.result } in
-    let s : sums ≡ sums_in r =
-    same_counts r r.flows c.from.result c.from-in-loop-row.result refl c.from.ensures c.from-in-loop-row.ensures in
+    let sums = c.sums_in.result in
+    let s = c.sums_in.ensures in
     let t = c.loop-row.invariant earlier h in
     becomes _ c.loop-row.rows sums w earlier list i c.loop-row-test.true t s c.in_ok-put.ensures.becomes.1

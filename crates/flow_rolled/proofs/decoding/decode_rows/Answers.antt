@@ -4,14 +4,14 @@ use Rattle.std.proofs.lemmas.Bool.{eqb-true, eqb-false}
 use Rattle.std.specs.Prelude.{Result, Ok, Err, OnOk, is_err, false}
 use Rattle.flow_rolled.specs.declared.row.RolledRow.{RolledRow}
 use Rattle.flow_rolled.specs.Rows.{AreRows, sums_of}
-use Rattle.flow_rolled.specs.Parts.{Follows}
+use Rattle.flow_rolled.specs.Parts.{Follows, last_part, rows_within}
 use Rattle.flow_rolled.specs.Octets.{part_octets}
 use Rattle.flow_rolled.specs.Reading.{part_of}
-use Rattle.flow_rolled.proofs.Breaking.{last_part, one_table}
+use Rattle.flow_rolled.proofs.Breaking.{one_table}
 use Rattle.flow_rolled.proofs.SameParts.{part_long}
 use Rattle.flow_rolled.proofs.SoFar.{IsSoFar, at_start, at_end, one_more, rows_follow, broken, broken_end, no_sums}
-use Rattle.flow_rolled.proofs.SoFar.{IsEnd, few_rows}
-use Rattle.flow_rolled.proofs.Grouping.{rows_within}
+use Rattle.flow_rolled.proofs.SoFar.{few_rows}
+use Rattle.flow_rolled.specs.Stored.{IsEnd}
 use Rattle.flow_rolled.proofs.decoding.decode_rows.Goals as goal
 use Rattle.flow_rolled.proofs.decoding.decode_rows.Goals.{in-Some-before+else-state-eq0, in_default-before}
 

@@ -9,8 +9,8 @@ use Rattle.flow_rolled.specs.Octets.{sets_of, head_sets, set_octets, has_protoco
 use Rattle.flow_rolled.proofs.RowSets.{first_set, second_set, both_sets, are_of_sets, sets_made, no_octets}
 use Rattle.flow_rolled.proofs.set_reading.rows_of_sets.Goals as goal
 use Rattle.flow_rolled.proofs.set_reading.rows_of_sets.Goals.{then-is_empty-via-then-is_empty}
-use Rattle.flow_rolled.proofs.set_reading.rows_of_sets.Goals.{then-is_empty-via-else-is_empty+then-len-gt-MOST_ROWS}
-use Rattle.flow_rolled.proofs.set_reading.rows_of_sets.Goals.{then-is_empty-via-else-is_empty+else-len-gt-MOST_ROWS+then-not-is_empty}
+use Rattle.flow_rolled.proofs.set_reading.rows_of_sets.Goals.{then-is_empty-via-else-is_empty+then-len-gt-FULL}
+use Rattle.flow_rolled.proofs.set_reading.rows_of_sets.Goals.{then-is_empty-via-else-is_empty+else-len-gt-FULL+then-not-is_empty}
 
 -- rows whose octets aren't a head's are some
 not_bare : (w : ℕ) (octets : List ℕ) (rows : List RolledRow) → (octets ≡ head_sets → ⊥) → octets ≡ sets_of w rows
@@ -51,10 +51,10 @@ returns-then-is_empty-clause-none c = λ rows are e.
     elim c.then-is_empty.branch [
       | then-is_empty-via-then-is_empty x ↦ let a = eqb-true _ 0 (sym c.is_empty.ensures ∙ x.if-is_empty.true) in
           omega (arith, a, l, some)
-      | then-is_empty-via-else-is_empty+then-len-gt-MOST_ROWS x ↦ let a = x.if-len-gt-MOST_ROWS.true in let b =
+      | then-is_empty-via-else-is_empty+then-len-gt-FULL x ↦ let a = x.if-len-gt-FULL.true in let b =
           x.len.ensures in omega (arith, a, b, l, f)
-      | then-is_empty-via-else-is_empty+else-len-gt-MOST_ROWS+then-not-is_empty x ↦ let a =
-          eqb-false (length c.in-Some-2.rest.now) 0 (sym x.is_empty-else-len-gt-MOST_ROWS.ensures
+      | then-is_empty-via-else-is_empty+else-len-gt-FULL+then-not-is_empty x ↦ let a =
+          eqb-false (length c.in-Some-2.rest.now) 0 (sym x.is_empty-else-len-gt-FULL.ensures
           ∙ x.if-not-is_empty.true) in omega (arith, a, left)
     ]
 
@@ -68,7 +68,7 @@ returns-clause-found c =
     omega (arith, a)) (rw c.in-Some.is at c.in_ok-rows.ensures.all) (rw c.in-Some-2.is at c.in_ok-more.ensures.all)
     (rw c.in-Some.is at c.in_ok-rows.ensures.found) (rw c.in-Some-2.is at c.in_ok-more.ensures.found)
     (no_octets c.in-Some-2.rest.now
-    (eqb-true (length c.in-Some-2.rest.now) 0 (sym c.is_empty-else-len-gt-MOST_ROWS.ensures
+    (eqb-true (length c.in-Some-2.rest.now) 0 (sym c.is_empty-else-len-gt-FULL.ensures
     ∙ c.if-not-is_empty.false)))
 
 pub returns-clause-all : goal.returns-clause-all
@@ -76,6 +76,6 @@ returns-clause-all c =
     let w = c.args.width in let d = c.args.domain in
     let items = c.in_ok-extend_from_slice.ensures.items
     ∙ ap (λ (x : List RolledRow). c.in-Some.rows.items ++ x) c.deref.ensures.value in
-    are_of_sets w d c.in-Some.rows.items c.in-Some-2.more.items _ items (let a = c.if-len-gt-MOST_ROWS.false in let b =
+    are_of_sets w d c.in-Some.rows.items c.in-Some-2.more.items _ items (let a = c.if-len-gt-FULL.false in let b =
     c.len.ensures in omega (arith, a, b)) (rw c.in-Some.is at c.in_ok-rows.ensures.all)
     (rw c.in-Some-2.is at c.in_ok-more.ensures.all)

@@ -1,0 +1,102 @@
+//! A rolled file on a disk.
+
+ghost use Rattle.std.specs.Prelude.{◌≡◌, ◌+◌, ◌≤◌, IsTrue, length, take, drop, IfOk, vec_len};
+ghost use Rattle.flow_disk.specs.Cause.{HasCause};
+
+use flow_disk::{DiskError, Faults, SealedFile};
+use std::alloc::Global;
+use std::marker::Model;
+
+/// A frozen rolled file, with the number of messages that were rolled into it. It is seen as its number, this count, its
+/// length and its octets, which reads give where the disk is honest.
+#[derive(Drop)]
+pub struct RolledPart<S: SealedFile> {
+    reader: S,
+    messages: u64,
+    length: u64,
+}
+
+impl<S: SealedFile> Model for RolledPart<S> {
+    ghost use Rattle.std.specs.Prelude.{◌≤◌, take};
+    ghost use Rattle.flow_rolled.specs.Stored.{Rollup};
+
+    ghost Value = { Rollup };
+
+    ghost view = { λ p. record {
+      file = S.number p.reader;
+      messages = p.messages;
+      length = p.length;
+      honest = S.honest p.reader;
+      octets = take p.length (S.octets p.reader);
+    } };
+
+    ghost invariant = { λ p. p.length ≤ S.size p.reader };
+}
+
+impl<S: SealedFile> RolledPart<S> {
+    /// The first `length` octets of a frozen file, which so many messages were rolled into.
+    pub fn new(reader: S, messages: u64, length: u64) -> Self
+        requires { length ≤ S.size reader }
+        ensures { result ≡ record {
+          file = S.number reader;
+          messages = messages;
+          length = length;
+          honest = S.honest reader;
+          octets = take length (S.octets reader);
+        } }
+    {
+        RolledPart {
+            reader,
+            messages,
+            length,
+        }
+    }
+
+    /// The file's number on its disk.
+    pub fn file(&self) -> u64
+        ensures { result ≡ self.now.file }
+    {
+        self.reader.file()
+    }
+
+    /// How many messages were rolled into it.
+    pub fn messages(&self) -> u64
+        ensures { result ≡ self.now.messages }
+    {
+        self.messages
+    }
+
+    /// How many octets it has.
+    pub fn length(&self) -> u64
+        ensures length { result ≡ self.now.length }
+        ensures whole { IsTrue self.now.honest → length self.now.octets ≡ self.now.length }
+    {
+        self.length
+    }
+
+    /// The frozen file again, as a disk takes it back.
+    pub fn into_file(self) -> S
+        ensures number { S.number result ≡ self.file }
+        ensures length { self.length ≤ S.size result }
+        ensures honest { S.honest result ≡ self.honest }
+        ensures octets { take self.length (S.octets result) ≡ self.octets }
+    {
+        self.reader
+    }
+
+    /// Reads `count` octets from place `at` on.
+    pub(crate) fn read(
+        &self,
+        alloc: Global,
+        faults: &mut Faults<S>,
+        at: u64,
+        count: usize,
+    ) -> Result<Vec<u8>, DiskError>
+        requires { at + count ≤ self.now.length }
+        ensures count { IfOk result (λ got. vec_len got ≡ count) }
+        ensures octets { IsTrue self.now.honest → IfOk result (λ got. got.items ≡ take count (drop at self.now.octets)) }
+        ensures cause { HasCause DiskError.Fault faults.old faults.new result }
+    {
+        self.reader.read(alloc, faults, at, count)
+    }
+}
