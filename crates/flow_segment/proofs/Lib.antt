@@ -1,0 +1,5 @@
+pub mod Carrying
+pub mod Making
+pub mod Sealing
+pub mod Parts
+pub mod Collecting

@@ -1,0 +1,4 @@
+pub mod Carry
+pub mod Steps
+pub mod Part
+pub mod Segment

@@ -1,0 +1,134 @@
+//! What a segment hands to the next one.
+
+ghost use Rattle.std.specs.Prelude.{◌≡◌, ◌⊎◌, ◌<◌, OnOk, OnErr, IfOk, IfErr};
+ghost use Rattle.indexmap.specs.IndexMap.{spare};
+ghost use Rattle.flow_codec.specs.Fault.{IsFault};
+ghost use Rattle.flow_codec.specs.Message.{IsAccepted};
+ghost use Rattle.flow_measure.specs.History.{Accepted};
+ghost use Rattle.flow_segment.specs.Carry.{no_carry, prefix_of, AreNext, IsCarry, IsCounted, IsTaken, TakesOnly};
+
+use flow_codec::{
+    Count, Header, MessageError, Templates, WalkError, walk_message, write_templates,
+};
+use indexmap::IndexMap;
+use std::alloc::{AllocError, Global};
+use std::marker::Model;
+
+/// The templates in force behind messages, the next Sequence Number of each Observation Domain that has some (RFC 7011,
+/// section 3.1), and the Export Time of the last message: what a segment restates for the one behind it.
+#[derive(Drop)]
+pub struct Carry {
+    templates: Templates,
+    due: IndexMap<u32, u32>,
+    time: u32,
+}
+
+impl Model for Carry {
+    ghost use Rattle.flow_segment.specs.Carry.{kept_as, Carry, IsCarry};
+
+    ghost Value = { Carry };
+
+    ghost view = { λ c. kept_as c.templates c.due.entries c.time };
+
+    ghost invariant = { λ c. IsCarry (kept_as c.templates c.due.entries c.time) };
+}
+
+impl Carry {
+    /// What no messages hand on.
+    pub fn new(alloc: Global) -> Self
+        ensures { result ≡ no_carry 0 }
+    {
+        Carry {
+            templates: Templates::new(alloc),
+            due: IndexMap::new(alloc),
+            time: 0,
+        }
+    }
+
+    /// Takes in a message that is accepted behind those before it; else answers its first fault, or `OutOfMemory` where
+    /// a growth of memory was refused. After an `Err` all is as it was.
+    ///
+    /// It walks the message once, and copies no templates.
+    pub fn take(&mut self, alloc: Global, octets: &[u8]) -> Result<(), MessageError>
+        // What is taken in is an accepted message, and what is there is what is handed on behind it.
+        ensures taken { OnOk result (IsTaken octets.now self.old self.new) }
+        // An accepted message is taken in, unless memory runs out.
+        ensures only { (a : Accepted) → a.octets ≡ octets.now
+            → IsAccepted octets.now self.old.templates a.message a.after → TakesOnly a self.old self.new result }
+        // Other octets are refused by their first fault.
+        ensures refused { IfErr result
+            (λ e. (e ≡ MessageError.OutOfMemory) ⊎ IsFault octets.now self.old.templates e) }
+        ensures kept { IfErr result (λ _. self.new ≡ self.old) }
+    {
+        self.due.reserve(1)?;
+        let (header, count) = counted(&mut self.templates, alloc, octets)?;
+        let due = header.sequence.wrapping_add(count);
+        put_due(&mut self.due, &self.templates, header.domain, due);
+        self.time = header.time;
+        Ok(())
+    }
+
+    /// The octets of the next segment's prefix: an IPFIX File (RFC 5655) without data records that restates all this.
+    pub fn prefix(&self, alloc: Global) -> Result<Vec<u8>, AllocError>
+        ensures octets { IfOk result (λ octets. octets.items ≡ prefix_of self.now) }
+        ensures carry { IsCarry self.now }
+    {
+        let due = pairs_of(alloc, &self.due)?;
+        write_templates(&self.templates, alloc, self.time, due.as_slice())
+    }
+
+    /// An equal value.
+    pub fn try_copy(&self) -> Result<Self, AllocError>
+        ensures { IfOk result (λ copy. copy ≡ self.now) }
+    {
+        Ok(Carry {
+            templates: self.templates.try_copy()?,
+            due: self.due.clone()?,
+            time: self.time,
+        })
+    }
+}
+
+/// Takes a message's templates in, and counts its data records modulo 2^32.
+fn counted(
+    templates: &mut Templates,
+    alloc: Global,
+    octets: &[u8],
+) -> Result<(Header, u32), MessageError>
+    ensures found { IfOk result (λ x. IsCounted octets.now templates.old templates.new x.0 x.1) }
+    ensures only { (a : Accepted) → IsAccepted octets.now templates.old a.message a.after
+        → IfErr result (λ e. e ≡ MessageError.OutOfMemory) }
+    ensures fault { IfErr result (λ e. (e ≡ MessageError.OutOfMemory) ⊎ IsFault octets.now templates.old e) }
+    ensures err { OnErr result (templates.new ≡ templates.old) }
+{
+    let mut count = Count { records: 0 };
+    match walk_message(templates, alloc, octets, &mut count) {
+        Ok(header) => Ok((header, count.records)),
+        Err(WalkError::Message(fault)) => Err(fault),
+        Err(WalkError::Sink(never)) => match never {},
+    }
+}
+
+/// Sets a domain's next sequence number, where it has definitions in force.
+fn put_due(due: &mut IndexMap<u32, u32>, templates: &Templates, domain: u32, number: u32)
+    requires { 0 < spare due.old }
+    ensures { AreNext domain number templates.now due.old.entries due.new.entries }
+{
+    if templates.has_domain(domain) {
+        let stored: Result<_, _> = due.insert(domain, number);
+        stored.unwrap();
+    } else {
+        due.shift_remove(&domain);
+    }
+}
+
+/// The domains and their numbers.
+fn pairs_of(alloc: Global, due: &IndexMap<u32, u32>) -> Result<Vec<(u32, u32)>, AllocError>
+    ensures { IfOk result (λ pairs. pairs.items ≡ due.now.entries) }
+{
+    let mut pairs = Vec::with_capacity(alloc, due.len())?;
+    for (domain, number) in due {
+        pairs.push((*domain, *number))?;
+    }
+    Ok(pairs)
+}

@@ -1,0 +1,37 @@
+//! Laws of segments.
+
+ghost use Rattle.std.specs.Prelude.{◌≡◌, ℕ, List, [], ◌∷◌, ◌++◌, map};
+ghost use Rattle.flow_codec.specs.File.{IsFile};
+ghost use Rattle.flow_codec.specs.Message.{IsAccepted};
+ghost use Rattle.flow_measure.specs.History.{Accepted, AreAcceptedFrom, read_from, templates_from};
+ghost use Rattle.flow_segment.specs.Carry.{carry_from, carry_with, no_carry, octets_of, restated, segment_octets};
+ghost use Rattle.flow_segment.specs.Carry.{Carry, IsCarry, IsReadBack};
+ghost use Rattle.std.specs.List.{AllByRecursion};
+ghost use Rattle.flow_codec.specs.Cutting.{IsCutOff};
+ghost use Rattle.flow_codec.specs.Message.{joined};
+ghost use Rattle.flow_segment.specs.Part.{rest_of, Cursor, Gives};
+
+/// What a segment hands on.
+pub fn handed_on()
+    // A carry stays one with each accepted message.
+    ensures start { IsCarry (no_carry 0) }
+    ensures kept { (c : Carry) (a : Accepted) → IsCarry c → IsAccepted a.octets c.templates a.message a.after
+        → IsCarry (carry_with c a) }
+    // The prefix, read from nothing, is accepted messages without data records, and hands on the same.
+    ensures read_back { (c : Carry) → IsCarry c → IsReadBack c (restated c) }
+    ensures read { (c : Carry) → IsCarry c → read_from [] (octets_of (restated c)) ≡ restated c }
+    // What a segment hands on is known from that segment alone, once it has a message.
+    ensures alone { (c : Carry) (time : ℕ) (a : Accepted) (more : List Accepted) → IsCarry c
+        → carry_from (no_carry time) (restated c ++ a ∷ more) ≡ carry_from c (a ∷ more) }
+    // The octets of a sealed segment are a File of its prefix and its messages.
+    ensures file { (c : Carry) (messages : List Accepted) → IsCarry c → AreAcceptedFrom c.templates messages
+        → IsFile (segment_octets c messages) (map (λ a. a.message) (restated c ++ messages))
+        (templates_from c.templates messages) }
+{}
+
+/// What a cursor gives up to the end of a part are the part's messages.
+pub fn read_to_the_end()
+    ensures { (octets : List ℕ) (file : ℕ) (c last : Cursor) (messages parts : List (List ℕ))
+        → Gives octets file c messages last → rest_of octets c ≡ joined parts → AllByRecursion IsCutOff parts
+        → messages ≡ parts }
+{}

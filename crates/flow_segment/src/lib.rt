@@ -1,0 +1,26 @@
+//! Segments: what one hands to the next, the prefix that restates it, and their files.
+//!
+//! Promised to the layers above: a `Carry` is at any time what the accepted messages that it has taken hand on, and a
+//! refusal leaves it as it was. Its prefix, read from nothing, is accepted messages without a data record that hand on
+//! the same again; so a sealed segment is an IPFIX File (RFC 5655) that is read with nothing else beside it. While a
+//! segment's file is made or sealed, a stop at any moment leaves all other files as they were; once it is made each
+//! image of it is its prefix and a closed gate, and while it is sealed its first octets stay in each image. A `Cursor`
+//! reads the messages of a part of a file one by one, a piece of the file at a time: what it gives to the end are the
+//! part's messages, and where none stands it tells that place. A `PartReader` does so for a sealed segment, and a
+//! refusal leaves it as it was; `messages_of` gives the messages of a sealed segment at once.
+#![tactic(auto)]
+
+mod carry;
+mod files;
+mod laws;
+mod part;
+mod sealed;
+
+pub use carry::Carry;
+pub use files::{make_segment, seal_tail};
+pub use laws::{handed_on, read_to_the_end};
+pub use part::{Cursor, advance, advance_on};
+pub use sealed::{PartReader, SealedPart, messages_of};
+
+#[cfg(test)]
+mod tests;

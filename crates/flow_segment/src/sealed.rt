@@ -1,0 +1,153 @@
+//! A sealed segment, and a reader of its messages.
+
+ghost use Rattle.std.specs.Prelude.{◌≡◌, ◌≢◌, ◌≤◌, ℕ, IsTrue, List, length, IfOk, IfErr};
+ghost use Rattle.flow_disk.specs.Cause.{HasCause};
+ghost use Rattle.flow_gate.specs.Scan.{texts};
+ghost use Rattle.flow_segment.specs.Segment.{part_octets, AreGiven, AreMessagesOf, GoesOn, IsNext, IsToldOf};
+
+use crate::part::{Cursor, advance};
+use flow_disk::{Faults, SealedFile};
+use flow_gate::ScanError;
+use std::alloc::Global;
+use std::marker::Model;
+
+/// A sealed segment: its file, which holds its prefix and behind it its messages.
+#[derive(Drop)]
+pub struct SealedPart<S: SealedFile> {
+    /// The file.
+    pub reader: S,
+    /// How many octets the prefix has.
+    pub prefix: u64,
+    /// How many octets the file has, with the prefix.
+    pub length: u64,
+    /// How many messages there are behind the prefix.
+    pub messages: u64,
+    ghost order: { prefix ≤ length },
+    ghost room: { length ≤ S.size reader },
+}
+
+/// Reads the messages of a sealed segment one after the other. It holds one piece of the file.
+#[derive(Drop)]
+pub struct PartReader<'a, S: SealedFile> {
+    part: &'a SealedPart<S>,
+    cursor: Cursor,
+}
+
+impl<'a, S: SealedFile> Model for PartReader<'a, S> {
+    ghost use Rattle.std.specs.Prelude.{◌≡◌, ◌≤◌, IsTrue};
+    ghost use Rattle.flow_segment.specs.Part.{IsOn};
+    ghost use Rattle.flow_segment.specs.Segment.{reading, Reading};
+
+    ghost Value = { Reading };
+
+    ghost view = { λ r. reading (S.number r.part.now.reader) (S.honest r.part.now.reader)
+        (S.octets r.part.now.reader) r.cursor };
+
+    ghost invariant = { λ r. (r.cursor.end ≤ S.size r.part.now.reader)
+        × (IsTrue (S.honest r.part.now.reader) → IsOn (S.octets r.part.now.reader) r.cursor) };
+}
+
+impl<'a, S: SealedFile> PartReader<'a, S> {
+    /// Before the first message.
+    pub fn new(alloc: Global, part: &'a SealedPart<S>) -> Self
+        ensures { result ≡ record {
+          file = S.number part.now.reader;
+          honest = S.honest part.now.reader;
+          rest = part_octets part.now.prefix part.now.length (S.octets part.now.reader);
+          place = part.now.prefix;
+          end = part.now.length;
+        } }
+    {
+        PartReader {
+            part,
+            cursor: Cursor::new(alloc, part.prefix, part.length),
+        }
+    }
+
+    /// The next message; none where all were given. Where no message stands it answers `Damaged`, with the file and the
+    /// place; `Fault` exactly where this read has raised `faults`; and `OutOfMemory`. After an `Err` all is as it was.
+    pub fn next(
+        &mut self,
+        alloc: Global,
+        faults: &mut Faults<S>,
+    ) -> Result<Option<Vec<u8>>, ScanError>
+        ensures goes { GoesOn self.old result self.new }
+        ensures cause { HasCause ScanError.Fault faults.old faults.new result }
+        ensures next { IsTrue self.old.honest → IsNext self.old result self.new }
+    {
+        if !advance(&mut self.cursor, alloc, &self.part.reader, faults)? {
+            return Ok(None);
+        }
+        match Vec::from_slice(alloc, self.cursor.message()) {
+            Ok(message) => Ok(Some(message)),
+            Err(error) => {
+                self.cursor.step_back();
+                Err(error.into())
+            }
+        }
+    }
+}
+
+/// The messages of a sealed segment, in order. Where none stands it answers `Damaged`, with the file and the place;
+/// where there is another count of them, with the file and its length; `Fault` exactly where a read has raised
+/// `faults`; and `OutOfMemory`.
+pub fn messages_of<S: SealedFile>(
+    alloc: Global,
+    part: &SealedPart<S>,
+    faults: &mut Faults<S>,
+) -> Result<Vec<Vec<u8>>, ScanError>
+    ensures cause { HasCause ScanError.Fault faults.old faults.new result }
+    // On an honest disk: messages that fill the part, as many as there are to be; or why there are none.
+    ensures found { IsTrue (S.honest part.now.reader) → IfOk result
+        (λ messages. AreMessagesOf (part_octets part.now.prefix part.now.length (S.octets part.now.reader))
+        part.now.messages (texts messages.items)) }
+    ensures told { IsTrue (S.honest part.now.reader) → IfErr result
+        (λ e. IsToldOf (part_octets part.now.prefix part.now.length (S.octets part.now.reader))
+        (S.number part.now.reader) part.now.prefix part.now.length part.now.messages e) }
+    // Where messages fill the part, as many as there are to be, these are given.
+    ensures given { IsTrue (S.honest part.now.reader) → (list : List (List ℕ))
+        → AreMessagesOf (part_octets part.now.prefix part.now.length (S.octets part.now.reader)) part.now.messages list
+        → AreGiven list result }
+{
+    read_all(alloc, part, faults)
+}
+
+/// Reads all messages, and counts them.
+fn read_all<S: SealedFile>(
+    alloc: Global,
+    part: &SealedPart<S>,
+    faults: &mut Faults<S>,
+) -> Result<Vec<Vec<u8>>, ScanError>
+    ensures cause { HasCause ScanError.Fault faults.old faults.new result }
+    // On an honest disk: messages that fill the part, as many as there are to be; or why there are none.
+    ensures found { IsTrue (S.honest part.now.reader) → IfOk result
+        (λ messages. AreMessagesOf (part_octets part.now.prefix part.now.length (S.octets part.now.reader))
+        part.now.messages (texts messages.items)) }
+    ensures told { IsTrue (S.honest part.now.reader) → IfErr result
+        (λ e. IsToldOf (part_octets part.now.prefix part.now.length (S.octets part.now.reader))
+        (S.number part.now.reader) part.now.prefix part.now.length part.now.messages e) }
+{
+    let mut reader = PartReader::new(alloc, part);
+    let mut messages = Vec::new(alloc);
+    'messages: loop {
+        let Some(message) = reader.next(alloc, faults)? else {
+            return counted(part, messages);
+        };
+        messages.push(message)?;
+    }
+}
+
+/// These messages, where there are as many as there are to be.
+fn counted<S: SealedFile>(
+    part: &SealedPart<S>,
+    messages: Vec<Vec<u8>>,
+) -> Result<Vec<Vec<u8>>, ScanError>
+    ensures all { IfOk result (λ all. (all.items ≡ messages.items) × (length messages.items ≡ part.now.messages)) }
+    ensures other { IfErr result (λ e. (length messages.items ≢ part.now.messages)
+        × (e ≡ ScanError.Damaged (S.number part.now.reader) part.now.length)) }
+{
+    if messages.len() as u64 == part.messages {
+        return Ok(messages);
+    }
+    Err(ScanError::Damaged(part.reader.file(), part.length))
+}
