@@ -8,6 +8,7 @@ pub mod Taking
 pub mod RecordLoop
 pub mod WholeRecords
 pub mod SetLoop
+pub mod PlaceLoop
 pub mod PlanLoop
 pub mod Entries
 pub mod Limits

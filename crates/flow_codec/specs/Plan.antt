@@ -1,6 +1,6 @@
 -- What a definition's plan tells of each record before it is read.
 use Rattle.std.specs.Prelude.{ℕ, ◌+◌, Bool, List, [], ◌∷◌, ◌++◌, length, take, drop, Option, Some, None, ◌&&◌, ◌==◌}
-use Rattle.std.specs.Prelude.{nat_le, nat_lt, sum_by, if◌then◌else◌}
+use Rattle.std.specs.Prelude.{nat_le, nat_lt, sum_by, option_map, if◌then◌else◌}
 use Rattle.std.specs.List.{flat_map, list_all}
 use Rattle.std.specs.Option.{is_none}
 use Rattle.flow_elements.specs.declared.element.ElementId.{ElementId}
@@ -8,6 +8,8 @@ use Rattle.flow_codec.specs.declared.plan.Role.{Role}
 use Rattle.flow_codec.specs.declared.plan.Role.TheVariants.{Octets, Packets, Protocol, Seconds, Milliseconds}
 use Rattle.flow_codec.specs.declared.plan.Step.{Step}
 use Rattle.flow_codec.specs.declared.plan.Step.TheVariants.{Skip, Fixed, Variable}
+use Rattle.flow_codec.specs.declared.plan.Place.{Place}
+use Rattle.flow_codec.specs.declared.plan.Places.{Places}
 use Rattle.flow_codec.specs.declared.plan.Plan.{Plan}
 use Rattle.flow_codec.specs.declared.message.Field.{Field}
 use Rattle.flow_codec.specs.Layout.{least}
@@ -87,12 +89,42 @@ unfoldable pub steps_of : List (ElementId × ℕ) → List Step
 steps_of [] = []
 steps_of (f ∷ fs) = before_steps (step_of f.0 f.1) (steps_of fs)
 
+-- ---- the places of the numbers
+
+-- whether a field counts in this role
+abbrev pub counts_as : Role → ElementId × ℕ → Bool
+counts_as role f = is_none f.0.enterprise && (f.0.number == number_of role && is_counted role f.1)
+
+-- a place with so many octets more before it
+abbrev pub behind : ℕ → Place → Place
+behind count place = record { at = count + place.at; len = place.len }
+
+-- the first field that counts in this role, where no field before it is of variable length
+unfoldable pub place_of : Role → List (ElementId × ℕ) → Option Place
+place_of role [] = None
+place_of role (f ∷ fs) =
+    if counts_as role f then Some (record { at = 0; len = f.1 }) else option_map (behind f.1) (place_of role fs)
+
+abbrev pub places_of : List (ElementId × ℕ) → Places
+places_of fields = record {
+  octets = place_of Octets fields;
+  packets = place_of Packets fields;
+  protocol = place_of Protocol fields;
+  seconds = place_of Seconds fields;
+  milliseconds = place_of Milliseconds fields;
+}
+
+-- ---- the plan
+
+abbrev pub are_fixed : List (ElementId × ℕ) → Bool
+are_fixed fields = list_all (λ f. nat_lt f.1 65535) fields
+
 abbrev pub plan_of : List (ElementId × ℕ) → Plan
 plan_of fields = record {
   smallest = sum_by (λ f. least f.1) fields;
-  is_fixed =
-      list_all (λ f. nat_lt f.1 65535) fields;
+  is_fixed = are_fixed fields;
   steps = steps_of fields;
+  places = if are_fixed fields then Some (places_of fields) else None;
 }
 
 -- ---- what the steps tell of a record

@@ -42,7 +42,7 @@ pub use laws::{
 };
 pub use message::{DataRecord, Field, Header, Message};
 pub use patient::ReadFailed;
-pub use plan::{Plan, Role, Step, VARIABLE};
+pub use plan::{Place, Places, Plan, Role, Step, VARIABLE};
 pub use prefix::write_templates;
 pub use sink::{RecordSink, WalkError};
 pub use stream::{MessageReader, StreamError};

@@ -3,7 +3,8 @@
 ghost use Rattle.std.specs.Prelude.{◌≡◌, ◌<◌, ◌^◌, ◌++◌, length, sum_by, nat_lt, IfOk, OnOk};
 ghost use Rattle.std.specs.List.{list_all};
 ghost use Rattle.flow_codec.specs.Layout.{least};
-ghost use Rattle.flow_codec.specs.Plan.{role_of, is_counted, step_of, skip_of, steps_of, plan_of};
+ghost use Rattle.flow_codec.specs.Plan.{number_of, role_of, is_counted, counts_as, step_of, skip_of, steps_of};
+ghost use Rattle.flow_codec.specs.Plan.{place_of, places_of, plan_of};
 
 use flow_elements::{ElementId, Items};
 use std::alloc::{AllocError, Global};
@@ -32,16 +33,54 @@ pub enum Step {
     Variable(Option<Role>),
 }
 
+/// The octets of a record that one field has: the first of them, counted from 0, and how many.
+#[derive(Clone, Copy, Debug, PartialEq, Eq)]
+pub struct Place {
+    pub at: usize,
+    pub len: usize,
+}
+
+/// Where the numbers of a record of fixed lengths stand: of each role the first field that counts.
+#[derive(Clone, Copy, Debug, PartialEq, Eq)]
+pub struct Places {
+    pub octets: Option<Place>,
+    pub packets: Option<Place>,
+    pub protocol: Option<Place>,
+    pub seconds: Option<Place>,
+    pub milliseconds: Option<Place>,
+}
+
 /// How each record of a definition is stepped over: no step but the skips is one of no octets, and no two skips are
-/// neighbours.
+/// neighbours. Where no field is of variable length, the places of the numbers as well.
 #[derive(Clone, Debug, Drop)]
 pub struct Plan {
     pub smallest: usize,
     pub is_fixed: bool,
     pub steps: Items<Step>,
+    pub places: Option<Places>,
 }
 
 impl Role {
+    /// The number of the element of this role.
+    fn number(self) -> u16
+        ensures { result ≡ number_of self }
+    {
+        match self {
+            Role::Octets => 1,
+            Role::Packets => 2,
+            Role::Protocol => 4,
+            Role::Seconds => 150,
+            Role::Milliseconds => 152,
+        }
+    }
+
+    /// Whether a field of this Field Length counts in this role.
+    fn is_field(self, id: &ElementId, len: u16) -> bool
+        ensures { result ≡ counts_as self (id.now, len) }
+    {
+        id.enterprise.is_none() && id.number == self.number() && self.is_counted(len as usize)
+    }
+
     /// The role of an element, by IANA's numbers alone.
     pub fn of(id: &ElementId) -> Option<Role>
         ensures { result ≡ role_of id.now }
@@ -135,14 +174,50 @@ fn are_fixed(fields: &[(ElementId, u16)]) -> bool
     fields.iter().all(|(_, len)| *len < VARIABLE)
 }
 
+/// The place of the first field that counts in a role, where no field before it is of variable length.
+fn place_of(role: Role, fields: &[(ElementId, u16)]) -> Option<Place>
+    requires { length fields.now < 2 ^ 16 }
+    ensures { result ≡ place_of role fields.now }
+{
+    let mut at = 0;
+    for (id, len) in fields {
+        let count = *len as usize;
+        if role.is_field(id, *len) {
+            return Some(Place { at, len: count });
+        }
+        at += count;
+    }
+    None
+}
+
+/// The places of the numbers in a record of these fields, none of variable length.
+fn places_of(fields: &[(ElementId, u16)]) -> Places
+    requires { length fields.now < 2 ^ 16 }
+    ensures { result ≡ places_of fields.now }
+{
+    Places {
+        octets: place_of(Role::Octets, fields),
+        packets: place_of(Role::Packets, fields),
+        protocol: place_of(Role::Protocol, fields),
+        seconds: place_of(Role::Seconds, fields),
+        milliseconds: place_of(Role::Milliseconds, fields),
+    }
+}
+
 /// The plan of a definition's fields.
 pub(crate) fn plan_of(alloc: Global, fields: &[(ElementId, u16)]) -> Result<Plan, AllocError>
     requires { length fields.now < 2 ^ 16 }
     ensures { IfOk result (λ plan. plan ≡ plan_of fields.now) }
 {
+    let is_fixed = are_fixed(fields);
     Ok(Plan {
         smallest: smallest_of(fields),
-        is_fixed: are_fixed(fields),
+        is_fixed,
         steps: Items::from_vec(steps_of(alloc, fields)?),
+        places: if is_fixed {
+            Some(places_of(fields))
+        } else {
+            None
+        },
     })
 }

@@ -6,6 +6,7 @@ pub mod Histories
 pub mod Intervals
 pub mod Keys
 pub mod Merging
+pub mod NumberPlaces
 pub mod Places
 pub mod Putting
 pub mod SinkSteps

@@ -1,14 +1,17 @@
 -- The numbers that count in a record, value by value: of each role the first.
-use Rattle.std.specs.Prelude.{ℕ, ◌≤◌, List, [], ◌∷◌, take, drop, Some, None, unwrap_or}
+use Rattle.std.specs.Prelude.{◌≡◌, ℕ, ◌+◌, ◌≤◌, List, [], ◌∷◌, length, take, drop, Option, Some, None, option_map}
+use Rattle.std.specs.Prelude.{unwrap_or}
 use Rattle.std.specs.Option.{option_or}
 use Rattle.flow_elements.specs.Values.{number_of}
 use Rattle.flow_codec.specs.declared.message.Header.{Header}
 use Rattle.flow_codec.specs.declared.plan.Role.{Role}
 use Rattle.flow_codec.specs.declared.plan.Role.TheVariants.{Octets, Packets, Protocol, Seconds, Milliseconds}
+use Rattle.flow_codec.specs.declared.plan.Place.{Place}
+use Rattle.flow_codec.specs.declared.plan.Places.{Places}
 use Rattle.flow_codec.specs.declared.plan.Step.{Step}
 use Rattle.flow_codec.specs.declared.plan.Step.TheVariants.{Skip, Fixed, Variable}
 use Rattle.flow_codec.specs.Fields.{counted_of}
-use Rattle.flow_codec.specs.Plan.{counting, most_of}
+use Rattle.flow_codec.specs.Plan.{counting, least_of, most_of}
 use Rattle.flow_measure.specs.declared.flow.Flow.{Flow}
 use Rattle.flow_measure.specs.declared.counts.Counts.{Counts}
 use Rattle.flow_measure.specs.Flows.{start_of}
@@ -54,3 +57,33 @@ abbrev pub IsStep : Step → Type 0
 IsStep (Skip count) = Unit {0}
 IsStep (Fixed role count) = count ≤ most_of role
 IsStep (Variable role) = Unit {0}
+
+-- ---- the numbers of a record of fixed lengths
+
+-- a place within the octets, of a length in which its role counts
+abbrev pub IsPlace : Role → List ℕ → Option Place → Type 0
+IsPlace role octets None = Unit {0}
+IsPlace role octets (Some place) =
+    (place.at + place.len ≤ length octets) × (least_of role ≤ place.len) × (place.len ≤ most_of role)
+
+-- a place within the octets, of just this length
+abbrev pub IsWide : ℕ → List ℕ → Option Place → Type 0
+IsWide width octets None = Unit {0}
+IsWide width octets (Some place) = (place.at + width ≤ length octets) × (place.len ≡ width)
+
+abbrev pub ArePlaces : List ℕ → Places → Type 0
+ArePlaces octets places = IsPlace Octets octets places.octets × IsPlace Packets octets places.packets
+    × IsWide 1 octets places.protocol × IsWide 4 octets places.seconds × IsWide 8 octets places.milliseconds
+
+-- the number at a place
+abbrev pub number_at : List ℕ → Option Place → Option ℕ
+number_at octets place = option_map (λ p. number_of (take p.len (drop p.at octets))) place
+
+abbrev pub counts_at : List ℕ → Places → Counts
+counts_at octets places = record {
+  octets = number_at octets places.octets;
+  packets = number_at octets places.packets;
+  protocol = number_at octets places.protocol;
+  seconds = number_at octets places.seconds;
+  milliseconds = number_at octets places.milliseconds;
+}

@@ -5,12 +5,13 @@ ghost use Rattle.std.specs.List.{AllByRecursion};
 ghost use Rattle.flow_codec.specs.Fields.{fields_in};
 ghost use Rattle.flow_codec.specs.Plan.{most_of, values_by, values_of};
 ghost use Rattle.flow_codec.specs.Raw.{IsWhole};
+ghost use Rattle.flow_elements.specs.Values.{number_of};
 ghost use Rattle.flow_measure.specs.Counting.{no_counts, with_value, counts_with, flow_by, step_values, step_rest};
-ghost use Rattle.flow_measure.specs.Counting.{IsStep};
+ghost use Rattle.flow_measure.specs.Counting.{IsStep, IsPlace, IsWide, ArePlaces, number_at, counts_at};
 ghost use Rattle.flow_measure.specs.Flows.{start_of, flow_from};
 
 use crate::flow::Flow;
-use flow_codec::{Definition, Header, Role, Step, VARIABLE, split_field};
+use flow_codec::{Definition, Header, Place, Places, Role, Step, VARIABLE, split_field};
 use flow_elements::number_of;
 
 /// The numbers found in a record so far, of each role the first.
@@ -117,10 +118,73 @@ fn counts_by(steps: &[Step], octets: &[u8]) -> Counts
     counts
 }
 
-/// The flow of a whole record of a Template.
+/// The number at a place of a record.
+fn number_at(octets: &[u8], place: Option<Place>) -> Option<u64>
+    requires { (role : Role) × IsPlace role octets.now place }
+    ensures { result ≡ number_at octets.now place }
+{
+    let place = place?;
+    Some(number_of(&octets[place.at..place.at + place.len]))
+}
+
+/// The number in the one octet at a place of a record.
+fn protocol_at(octets: &[u8], place: Option<Place>) -> Option<u8>
+    requires { IsWide 1 octets.now place }
+    ensures { result ≡ number_at octets.now place }
+{
+    let at = place?.at;
+    Some(number_of(&octets[at..at + 1]) as u8)
+}
+
+/// A number in at most 4 octets, the highest first.
+fn short_number_of(octets: &[u8]) -> u32
+    requires { length octets.now ≤ 4 }
+    ensures { result ≡ number_of octets.now }
+{
+    number_of(octets) as u32
+}
+
+/// The number in the 4 octets at a place of a record.
+fn seconds_at(octets: &[u8], place: Option<Place>) -> Option<u32>
+    requires { IsWide 4 octets.now place }
+    ensures { result ≡ number_at octets.now place }
+{
+    let at = place?.at;
+    Some(short_number_of(&octets[at..at + 4]))
+}
+
+/// The number in the 8 octets at a place of a record.
+fn milliseconds_at(octets: &[u8], place: Option<Place>) -> Option<u64>
+    requires { IsWide 8 octets.now place }
+    ensures { result ≡ number_at octets.now place }
+{
+    let at = place?.at;
+    Some(number_of(&octets[at..at + 8]))
+}
+
+/// The numbers at these places of a record.
+fn counts_at(octets: &[u8], places: &Places) -> Counts
+    requires { ArePlaces octets.now places.now }
+    ensures { result ≡ counts_at octets.now places.now }
+{
+    Counts {
+        octets: number_at(octets, places.octets),
+        packets: number_at(octets, places.packets),
+        protocol: protocol_at(octets, places.protocol),
+        seconds: seconds_at(octets, places.seconds),
+        milliseconds: milliseconds_at(octets, places.milliseconds),
+    }
+}
+
+/// The flow of a whole record of a Template. Where each field is of fixed length, its numbers are read at their places.
 pub(crate) fn flow_of(header: &Header, definition: &Definition, octets: &[u8]) -> Flow
     requires { IsWhole definition.now octets.now }
     ensures { result ≡ flow_from header.now (values_of (fields_in definition.now.fields octets.now)) }
 {
-    counts_by(definition.plan().steps.as_slice(), octets).flow(header)
+    let plan = definition.plan();
+    let counts = match &plan.places {
+        Some(places) => counts_at(octets, places),
+        None => counts_by(plan.steps.as_slice(), octets),
+    };
+    counts.flow(header)
 }

@@ -88,7 +88,7 @@ impl Entries {
         let Some(sum) = total.plus(sums) else {
             return Err(SumError::SumSpent);
         };
-        self.items[place] = (key, sum);
+        self.items[place].1 = sum;
         Ok(())
     }
 

@@ -3,19 +3,37 @@ use Rattle.std.specs.List.{AllByRecursion}
 use Rattle.flow_codec.specs.declared.plan.Plan.{Plan}
 use Rattle.flow_codec.specs.Plan.{values_by}
 use Rattle.flow_codec.proofs.StepLaws.{values_same}
-use Rattle.flow_measure.specs.Counting.{IsStep, no_counts, counts_with, flow_by}
+use Rattle.flow_measure.specs.Counting.{IsStep, ArePlaces, no_counts, counts_with, counts_at, flow_by}
 use Rattle.flow_measure.proofs.CountLoop.{are_steps, flow_of_counts}
+use Rattle.flow_measure.proofs.NumberPlaces.{its_places, are_places, flow_at_places}
+use Rattle.flow_measure.proofs.counts.flow_of.Goals.{in-Some, in-None}
 use Rattle.flow_measure.proofs.counts.flow_of.Goals as goal
 
-pub counts_by-requires : goal.counts_by-requires
-counts_by-requires c =
-    subst (AllByRecursion IsStep) (sym (c.as_slice.ensures ∙ ap (λ (p : Plan). p.steps) c.plan.ensures))
+pub counts_at-counts-requires : goal.counts_at-counts-requires
+counts_at-counts-requires c =
+    let places = its_places _ _ _ (sym (ap (λ (p : Plan). p.places) c.plan-plan.ensures) ∙ c.in-Some.is) in
+    subst (ArePlaces c.args.octets.now) places.1
+    (are_places c.args.definition.now.fields c.args.octets.now c.requires.0 c.requires.1 places.0)
+
+pub counts_by-counts-requires : goal.counts_by-counts-requires
+counts_by-counts-requires c =
+    subst (AllByRecursion IsStep) (sym (c.as_slice.ensures ∙ ap (λ (p : Plan). p.steps) c.plan-plan.ensures))
     (are_steps c.args.definition.now.fields)
 
 pub returns : goal.returns
 returns c =
-    let steps = c.as_slice.ensures ∙ ap (λ (p : Plan). p.steps) c.plan.ensures in
-    let values = ap (λ s. values_by s c.args.octets.now) steps
-    ∙ values_same c.args.definition.now.fields c.args.octets.now c.requires.0 c.requires.1 in
-    c.flow.ensures ∙ ap (flow_by c.args.header.now) (c.counts_by.ensures ∙ ap (counts_with no_counts) values)
-    ∙ flow_of_counts c.args.header.now _
+    c.flow.ensures ∙ elim c.match-plan.branch [
+      | in-Some w ↦
+          let places = its_places _ _ _ (sym (ap (λ (p : Plan). p.places) c.plan-plan.ensures) ∙ w.in-Some.is) in
+          ap (flow_by c.args.header.now) (w.counts-is ∙ w.counts_at-counts.ensures
+          ∙ ap (counts_at c.args.octets.now) (sym places.1))
+          ∙ flow_at_places c.args.definition.now.fields c.args.octets.now c.requires.0 c.requires.1 places.0
+          c.args.header.now
+      | in-None w ↦
+          let steps = w.as_slice.ensures ∙ ap (λ (p : Plan). p.steps) c.plan-plan.ensures in
+          let values = ap (λ s. values_by s c.args.octets.now) steps
+          ∙ values_same c.args.definition.now.fields c.args.octets.now c.requires.0 c.requires.1 in
+          ap (flow_by c.args.header.now) (w.counts-is ∙ w.counts_by-counts.ensures
+          ∙ ap (counts_with no_counts) values)
+          ∙ flow_of_counts c.args.header.now _
+    ]

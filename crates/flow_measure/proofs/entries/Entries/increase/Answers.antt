@@ -5,7 +5,7 @@ use Rattle.flow_measure.specs.declared.rows.Key.{Key}
 use Rattle.flow_measure.specs.declared.rows.Sums.{Sums}
 use Rattle.flow_measure.specs.Sums.{Fits, plus}
 use Rattle.flow_measure.specs.Entries.{place_of, map_of, added_to, Adds}
-use Rattle.flow_measure.proofs.Places.{found, within, read, replaced, increased, refused}
+use Rattle.flow_measure.proofs.Places.{ArePlaces, found, within, read, replaced, increased, refused}
 use Rattle.flow_measure.proofs.entries.Entries.increase.Goals as goal
 
 pub index-requires : goal.index-requires
@@ -38,7 +38,10 @@ invariant_of-self c =
     let items = c.self.inside.items.items in
     let at = found c.args.key items c.args.place
     (subst (λ es. place_of c.args.key es ≡ Some c.args.place) (sym c.self.view_is) c.requires) in
-    replaced c.self.inside.places.entries items c.args.place c.args.key at.0 c.in-Some.sum at.1 c.self.invariant
+    let here = c.index_mut.ensures.value ∙ read items c.args.place c.index_mut.result.now (c.args.key, at.0) at.1 in
+    subst (λ (e : Key × Sums). ArePlaces c.self.inside.places.entries (slice_set items c.args.place (e.0, c.in-Some.sum)))
+    (sym here)
+    (replaced c.self.inside.places.entries items c.args.place c.args.key at.0 c.in-Some.sum at.1 c.self.invariant)
 
 pub returns : goal.returns
 returns c =
@@ -46,10 +49,17 @@ returns c =
     let at = found c.args.key items c.args.place
     (subst (λ es. place_of c.args.key es ≡ Some c.args.place) (sym c.self.view_is) c.requires) in
     let total = c.index.ensures ∙ read items c.args.place c.index.result.now (c.args.key, at.0) at.1 in
+    let here = c.index_mut.ensures.value ∙ read items c.args.place c.index_mut.result.now (c.args.key, at.0) at.1 in
     let fits : Fits (plus at.0 c.args.sums) =
     subst (λ (e : Key × Sums). Fits (plus e.1 c.args.sums)) total c.in-Some.ensures.0 in
     let sum : c.in-Some.sum ≡ plus at.0 c.args.sums =
     c.in-Some.ensures.1 ∙ ap (λ (e : Key × Sums). plus e.1 c.args.sums) total in
+    let added : Adds (Ok c) c.args.key c.args.sums (map_of items)
+    (map_of (slice_set items c.args.place (c.args.key, c.in-Some.sum))) =
+    increased items c.args.place c.args.key at.0 c.args.sums c.in-Some.sum c.self.invariant.0 at.1 fits sum in
+    let set : Adds (Ok c) c.args.key c.args.sums (map_of items)
+    (map_of (slice_set items c.args.place (c.index_mut.result.now.0, c.in-Some.sum))) =
+    subst (λ (e : Key × Sums). Adds (Ok c) c.args.key c.args.sums (map_of items)
+    (map_of (slice_set items c.args.place (e.0, c.in-Some.sum)))) (sym here) added in
     subst (λ es. Adds (Ok c) c.args.key c.args.sums (map_of es)
-    (map_of (slice_set items c.args.place (c.args.key, c.in-Some.sum)))) c.self.view_is
-    (increased items c.args.place c.args.key at.0 c.args.sums c.in-Some.sum c.self.invariant.0 at.1 fits sum)
+    (map_of (slice_set items c.args.place (c.index_mut.result.now.0, c.in-Some.sum)))) c.self.view_is set
