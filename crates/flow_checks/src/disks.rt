@@ -16,6 +16,14 @@ const ENOUGH: Room = Room {
     written: 8,
 };
 
+/// The room that a file of 69 octets takes.
+const LONGER: Room = Room {
+    files: 1,
+    octets: 69,
+    calls: 9,
+    written: 69,
+};
+
 /// How many calls of the disk it makes; reads of frozen files are none.
 const CALLS: u64 = 13;
 
@@ -208,17 +216,15 @@ fn each_call_of_a_disk_with_one_fault(rt: HostRuntime) -> Result<(), Fail> {
     Ok(())
 }
 
-/// Whether the lengths are told as they are.
+/// Whether lengths are as they were made, before one was asked for.
 fn keeps_lengths(told: &Told, truth: &Told) -> bool {
-    told.length == truth.length
-        && told.read.len() == truth.read.len()
+    told.read.len() == truth.read.len()
         && told.frozen.file == truth.frozen.file
         && told.frozen.length == truth.frozen.length
         && told.frozen.read.len() == truth.frozen.read.len()
-        && told.retired_length == truth.retired_length
 }
 
-/// Whether each call of a disk that lies tells the truth; lengths are told as they are.
+/// Whether each call of a disk that lies tells the truth. It lies of a length from a call on that asks for it.
 fn is_true_of_liar(alloc: Global, seed: u64) -> Result<bool, Fail> {
     let told = each_call(alloc, LyingDisk::new(memory(alloc, ENOUGH)?, seed))?;
     let truth = truth(alloc)?;
@@ -240,6 +246,99 @@ fn each_call_of_a_disk_that_lies(rt: HostRuntime) -> Result<(), Fail> {
     assert!(rt;
         true_ones > 0 && true_ones < 50,
         "{true_ones} times the truth"
+    );
+    Ok(())
+}
+
+/// A file's end as it is told: how many octets it has, and how many are read of its last eight.
+#[derive(Drop, PartialEq)]
+struct End {
+    length: u64,
+    read: usize,
+}
+
+fn end_of<D: Disk>(alloc: Global, disk: &mut D, length: u64) -> Result<End, DiskError>
+    requires { (D.marks disk.old 7).size ≡ length }
+    ensures { (n : ℕ) → D.marks disk.new n ≡ D.marks disk.old n }
+{
+    let count = length.min(8);
+    let read = disk.read(alloc, 7, length - count, count as usize)?;
+    Ok(End {
+        length,
+        read: read.len(),
+    })
+}
+
+fn frozen_end<S: SealedFile>(alloc: Global, sealed: &S) -> Result<End, DiskError> {
+    let length = sealed.length();
+    let count = length.min(8);
+    let mut faults = Faults::new();
+    let read = sealed.read(alloc, &mut faults, length - count, count as usize)?;
+    Ok(End {
+        length,
+        read: read.len(),
+    })
+}
+
+/// Where file 7 ends, of five octets, as a disk tells it; where it ends once 64 octets are written there; and where it
+/// ends once these are cut off again and it is frozen.
+fn ends<D: Disk>(alloc: Global, mut disk: D) -> Result<[End; 3], DiskError>
+    requires { (n : ℕ) → (D.marks disk n).frozen ≡ false }
+{
+    disk.write_at(7, 0, &[1, 2, 3, 4, 5])?;
+    let length = disk.length(7)?;
+    let first = end_of(alloc, &mut disk, length)?;
+    disk.write_at(7, length, &[6; 64])?;
+    let second = end_of(alloc, &mut disk, length + 64)?;
+    disk.cut(7, length)?;
+    disk.sync(7)?;
+    let sealed = disk.freeze(7)?;
+    let third = frozen_end(alloc, &sealed)?;
+    disk.retire(sealed)?;
+    Ok([first, second, third])
+}
+
+/// How many octets a disk that lies tells of a file of five. Each later call keeps to it.
+fn told_of_five(alloc: Global, seed: u64) -> Result<u64, Fail> {
+    let [first, second, third] = ends(alloc, LyingDisk::new(memory(alloc, LONGER)?, seed))?;
+    let told = first.length;
+    if first.read as u64 != told.min(8) || second.read != 8 || third != first {
+        return Err(Fail::from("not as many octets as are told"));
+    }
+    Ok(told)
+}
+
+/// Whether a disk that lies tells so many octets of it that 64 more are a fault.
+fn is_full(alloc: Global, seed: u64) -> Result<bool, DiskError> {
+    let result = ends(alloc, LyingDisk::new(memory(alloc, LONGER)?, seed));
+    match result {
+        Ok(_) => Ok(false),
+        Err(DiskError::Fault) => Ok(true),
+        Err(error) => Err(error),
+    }
+}
+
+#[test]
+fn lengths_of_a_disk_that_lies(rt: HostRuntime) -> Result<(), Fail> {
+    let alloc = rt.alloc();
+    let mut told = [0u64; 4];
+    for seed in 0..200 {
+        let kind = if is_full(alloc, seed)? {
+            3
+        } else {
+            match told_of_five(alloc, seed)? {
+                0..5 => 0,
+                5 => 1,
+                _ => 2,
+            }
+        };
+        if let Some(count) = told.get_mut(kind) {
+            *count = count.saturating_add(1);
+        }
+    }
+    assert!(rt;
+        told.iter().all(|count| *count > 10),
+        "{told:?} times less, the truth, more and too much"
     );
     Ok(())
 }

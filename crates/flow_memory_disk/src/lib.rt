@@ -10,6 +10,7 @@ mod disk;
 mod failing;
 mod fill;
 mod fused;
+mod lie;
 mod lying;
 mod one_fault;
 mod record;

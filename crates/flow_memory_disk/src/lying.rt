@@ -1,8 +1,11 @@
 // A disk that lies.
-ghost use Rattle.std.specs.Prelude.{◌≡◌};
+ghost use Rattle.std.specs.Prelude.{◌≡◌, ◌≤◌, ◌^◌, ℕ, None, IfSome, IfOk, vec_len};
+ghost use Rattle.flow_disk.specs.Cause.{HasRisen};
+ghost use Rattle.flow_memory_disk.specs.Lying.{told_of};
 
+use crate::lie::{LIMIT, Lie};
 use flow_disk::{Disk, DiskError, Faults, MayFail, SealedFile};
-use std::alloc::Global;
+use std::alloc::{AllocError, Global};
 
 /// Numbers that follow from a seed.
 fn following(seed: u64) -> u64 {
@@ -32,12 +35,40 @@ fn distort(octets: &mut [u8], seed: u64) {
     }
 }
 
+/// What is told of a length, as a seed chooses: less, some octets more, almost 2^62, or the truth, which is no lie.
+fn told_length(real: u64, seed: u64) -> Option<u64>
+    requires { real ≤ 2 ^ 62 }
+    ensures { IfSome result (λ count. count ≤ 2 ^ 62) }
+{
+    let part = seed / 65536;
+    match seed / 4294967296 % 8 {
+        0 | 1 => Some(part % (real + 1)),
+        2 | 3 => Some((real + part % 64).min(LIMIT)),
+        4 => Some(LIMIT - part % 64),
+        _ => None,
+    }
+}
+
+/// What was read, and zeros behind it up to a count.
+fn lengthened(mut octets: Vec<u8>, count: usize) -> Result<Vec<u8>, AllocError>
+    ensures { IfOk result (λ octets. vec_len octets ≡ count) }
+{
+    octets.resize(count, 0)?;
+    Ok(octets)
+}
+
 /// A disk that lies, as a seed chooses: what is read of it, frozen files too, may be changed, forgotten or invented,
-/// and files may be missing from its list. It keeps lengths and marks, and fails where the disk below it fails.
+/// files may be missing from its list, and a file may be told to have fewer or more octets than it has. It lies so of
+/// one file at a time, from a call that asks for its length until the next one, or until its removal. Of this file a
+/// read past the end gives zeros, a write past the end is put at the end, and a frozen file has as many octets as were
+/// told. It keeps the other marks, and fails where the disk below it fails, and where a write passes 2^62 octets of
+/// this file.
 #[derive(Drop)]
 pub struct LyingDisk<D: Disk> {
     disk: D,
     seed: u64,
+    lie: Lie,
+    failed: u64,
 }
 
 /// What shows that a read of a `LyingFile` failed: that the read of the file below it failed. It never lies of that.
@@ -51,26 +82,48 @@ pub struct ReadBelow {
 pub struct LyingFile<S: SealedFile> {
     sealed: S,
     seed: u64,
+    told: u64,
 }
 
 impl<D: Disk> LyingDisk<D> {
     /// Lies as this seed chooses.
     pub fn new(disk: D, seed: u64) -> Self
-        ensures { result ≡ record { disk = disk; seed = seed } }
+        ensures disk { result.disk ≡ disk }
+        ensures seed { result.seed ≡ seed }
+        ensures truth { (n : ℕ) → told_of result.lie n ≡ None }
+        ensures failed { result.failed ≡ 0 }
     {
-        LyingDisk { disk, seed }
+        LyingDisk {
+            disk,
+            seed,
+            lie: Lie::none(),
+            failed: 0,
+        }
+    }
+
+    /// Counts a fault.
+    fn fault(&mut self) -> DiskError
+        ensures fault { result ≡ DiskError.Fault }
+        ensures disk { self.new.disk ≡ self.old.disk }
+        ensures seed { self.new.seed ≡ self.old.seed }
+        ensures lie { self.new.lie ≡ self.old.lie }
+        ensures later { self.old.failed ≤ self.new.failed }
+        ensures risen { HasRisen self.old.failed self.new.failed }
+    {
+        self.failed = self.failed.saturating_add(1);
+        DiskError::Fault
     }
 }
 
 impl<D: Disk> Disk for LyingDisk<D> {
     type Sealed = LyingFile<D::Sealed>;
 
-    ghost use Rattle.std.specs.Prelude.{false};
-    ghost use Rattle.flow_memory_disk.specs.Lying.{never};
+    ghost use Rattle.std.specs.Prelude.{◌+◌, false};
+    ghost use Rattle.flow_memory_disk.specs.Lying.{never, told, limited};
 
     ghost honest = { λ _. false };
 
-    ghost marks = { λ d. D.marks d.disk };
+    ghost marks = { λ d. told d.lie (D.marks d.disk) };
 
     ghost held = { λ d. D.held d.disk };
 
@@ -78,7 +131,7 @@ impl<D: Disk> Disk for LyingDisk<D> {
 
     ghost left_since = { λ d. D.left_since d.disk };
 
-    ghost faults = { λ d. D.faults d.disk };
+    ghost faults = { λ d. d.failed + D.faults d.disk };
 
     ghost reads_image = { λ d n h. never h };
 
@@ -90,14 +143,23 @@ impl<D: Disk> Disk for LyingDisk<D> {
 
     ghost has_size = { λ d n h. never h };
 
-    ghost within_limit = { λ d. D.within_limit d.disk };
+    ghost within_limit = { λ d n. limited d.lie (D.marks d.disk n) n (D.within_limit d.disk n) };
 
     ghost counts_now = { λ d t image h. never h };
 
     ghost only_now = { λ d image h. never h };
 
     fn length(&mut self, file: u64) -> Result<u64, DiskError> {
-        self.disk.length(file)
+        self.seed = following(self.seed);
+        self.lie.forget(file);
+        let real = self.disk.length(file)?;
+        match told_length(real, self.seed) {
+            Some(count) if self.lie.is_none() => {
+                self.lie.tell(file, count);
+                Ok(count)
+            }
+            _ => Ok(real),
+        }
     }
 
     fn read(
@@ -108,17 +170,41 @@ impl<D: Disk> Disk for LyingDisk<D> {
         count: usize,
     ) -> Result<Vec<u8>, DiskError> {
         self.seed = following(self.seed);
-        let mut octets = self.disk.read(alloc, file, at, count)?;
+        let mut octets = match self.lie.of(file) {
+            None => self.disk.read(alloc, file, at, count)?,
+            Some(_) => {
+                let real = self.disk.length(file)?;
+                let place = at.min(real);
+                let there = (count as u64).min(real - place) as usize;
+                lengthened(self.disk.read(alloc, file, place, there)?, count)?
+            }
+        };
         distort(&mut octets, self.seed);
         Ok(octets)
     }
 
     fn write_at(&mut self, file: u64, at: u64, octets: &[u8]) -> Result<(), DiskError> {
-        self.disk.write_at(file, at, octets)
+        let Some(told) = self.lie.of(file) else {
+            return self.disk.write_at(file, at, octets);
+        };
+        let count = octets.len() as u64;
+        if count > LIMIT - at {
+            return Err(self.fault());
+        }
+        let real = self.disk.length(file)?;
+        self.disk.write_at(file, at.min(real), octets)?;
+        self.lie.tell(file, told.max(at + count));
+        Ok(())
     }
 
     fn cut(&mut self, file: u64, count: u64) -> Result<(), DiskError> {
-        self.disk.cut(file, count)
+        if self.lie.of(file).is_none() {
+            return self.disk.cut(file, count);
+        }
+        let real = self.disk.length(file)?;
+        self.disk.cut(file, count.min(real))?;
+        self.lie.tell(file, count);
+        Ok(())
     }
 
     fn sync(&mut self, file: u64) -> Result<(), DiskError> {
@@ -126,6 +212,7 @@ impl<D: Disk> Disk for LyingDisk<D> {
     }
 
     fn remove(&mut self, file: u64) -> Result<(), DiskError> {
+        self.lie.forget(file);
         self.disk.remove(file)
     }
 
@@ -142,14 +229,17 @@ impl<D: Disk> Disk for LyingDisk<D> {
     fn freeze(&mut self, file: u64) -> Result<LyingFile<D::Sealed>, DiskError> {
         self.seed = following(self.seed);
         let sealed = self.disk.freeze(file)?;
+        let told = self.lie.of(file).unwrap_or(sealed.length());
         Ok(LyingFile {
             sealed,
             seed: self.seed,
+            told,
         })
     }
 
     fn retire(&mut self, sealed: LyingFile<D::Sealed>) -> Result<(), DiskError> {
-        let LyingFile { sealed, seed: _ } = sealed;
+        let LyingFile { sealed, .. } = sealed;
+        self.lie.forget(sealed.file());
         self.disk.retire(sealed)
     }
 }
@@ -159,18 +249,19 @@ impl<S: SealedFile> MayFail for LyingFile<S> {
 }
 
 impl<S: SealedFile> SealedFile for LyingFile<S> {
-    ghost use Rattle.std.specs.Prelude.{false};
-    ghost use Rattle.flow_memory_disk.specs.Lying.{never};
+    ghost use Rattle.std.specs.Prelude.{false, min};
+    ghost use Rattle.flow_memory_disk.specs.Lying.{never, there};
 
     ghost octets = { λ f. S.octets f.sealed };
 
     ghost number = { λ f. S.number f.sealed };
 
-    ghost size = { λ f. S.size f.sealed };
+    ghost size = { λ f. f.told };
 
     ghost honest = { λ _. false };
 
-    ghost can_fail = { λ f. S.can_fail f.sealed };
+    ghost can_fail = { λ f at count.
+        S.can_fail f.sealed (min at (S.size f.sealed)) (there (S.size f.sealed) at count) };
 
     ghost whole = { λ f h. never h };
 
@@ -179,7 +270,7 @@ impl<S: SealedFile> SealedFile for LyingFile<S> {
     }
 
     fn length(&self) -> u64 {
-        self.sealed.length()
+        self.told
     }
 
     fn read(
@@ -189,13 +280,16 @@ impl<S: SealedFile> SealedFile for LyingFile<S> {
         at: u64,
         count: usize,
     ) -> Result<Vec<u8>, DiskError> {
+        let real = self.sealed.length();
+        let place = at.min(real);
+        let there = (count as u64).min(real - place) as usize;
         let mut below = Faults::<S>::new();
-        let mut got = self.sealed.read(alloc, &mut below, at, count);
-        match &mut got {
-            Ok(octets) => distort(octets, following(self.seed.wrapping_add(at))),
-            Err(DiskError::Fault) => faults.raise(&ReadBelow { _made_here: () }),
-            Err(DiskError::OutOfMemory) => {}
+        let got = self.sealed.read(alloc, &mut below, place, there);
+        if got == Err(DiskError::Fault) {
+            faults.raise(&ReadBelow { _made_here: () });
         }
-        got
+        let mut octets = lengthened(got?, count)?;
+        distort(&mut octets, following(self.seed.wrapping_add(at)));
+        Ok(octets)
     }
 }

@@ -1,0 +1,68 @@
+// What a disk that lies tells of a length.
+ghost use Rattle.std.specs.Prelude.{◌≡◌, ◌≤◌, ◌^◌, ℕ, Some};
+
+/// The most octets that a file has.
+pub(crate) const LIMIT: u64 = 1 << 62;
+
+/// How many octets a file is told to have, of one file at a time.
+#[derive(Drop)]
+pub(crate) struct Lie {
+    file: u64,
+    told: Option<u64>,
+    ghost within: { (count : ℕ) → told ≡ Some count → count ≤ 2 ^ 62 },
+}
+
+impl Lie {
+    ghost use Rattle.std.specs.Prelude.{◌≢◌, false, None, IfSome, IsTrue};
+    ghost use Rattle.flow_memory_disk.specs.Lying.{told_of};
+
+    /// Nothing is told of any file.
+    pub(crate) fn none() -> Self
+        ensures { (n : ℕ) → told_of result n ≡ None }
+    {
+        Lie {
+            file: 0,
+            told: None,
+        }
+    }
+
+    /// What is told of a file; and then nothing is told of another one.
+    pub(crate) fn of(&self, file: u64) -> Option<u64>
+        ensures is { result ≡ told_of self.now file }
+        ensures within { IfSome result (λ count. count ≤ 2 ^ 62) }
+        ensures alone { IfSome result (λ _. (n : ℕ) → n ≢ file → told_of self.now n ≡ None) }
+    {
+        if self.file == file { self.told } else { None }
+    }
+
+    /// Whether nothing is told of any file.
+    pub(crate) fn is_none(&self) -> bool
+        ensures none { IsTrue result → (n : ℕ) → told_of self.now n ≡ None }
+        ensures some { result ≡ false → self.now.told ≢ None }
+    {
+        self.told.is_none()
+    }
+
+    /// Tells this of a file, where nothing is told of another one.
+    pub(crate) fn tell(&mut self, file: u64, count: u64)
+        requires within { count ≤ 2 ^ 62 }
+        requires alone { (n : ℕ) → n ≢ file → told_of self.old n ≡ None }
+        ensures here { told_of self.new file ≡ Some count }
+        ensures others { (n : ℕ) → n ≢ file → told_of self.new n ≡ told_of self.old n }
+    {
+        *self = Lie {
+            file,
+            told: Some(count),
+        };
+    }
+
+    /// Tells nothing of a file any longer.
+    pub(crate) fn forget(&mut self, file: u64)
+        ensures here { told_of self.new file ≡ None }
+        ensures others { (n : ℕ) → n ≢ file → told_of self.new n ≡ told_of self.old n }
+    {
+        if self.file == file {
+            *self = Lie::none();
+        }
+    }
+}
