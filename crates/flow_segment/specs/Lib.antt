@@ -2,3 +2,5 @@ pub mod Carry
 pub mod Steps
 pub mod Part
 pub mod Segment
+pub mod Prefix
+pub mod PartFlows

@@ -7,19 +7,24 @@
 //! image of it is its prefix and a closed gate, and while it is sealed its first octets stay in each image. A `Cursor`
 //! reads the messages of a part of a file one by one, a piece of the file at a time: what it gives to the end are the
 //! part's messages, and where none stands it tells that place. A `PartReader` does so for a sealed segment, and a
-//! refusal leaves it as it was; `messages_of` gives the messages of a sealed segment at once.
+//! refusal leaves it as it was; `messages_of` gives the messages of a sealed segment at once, `templates_of` the
+//! templates that its prefix restates, and `flows_of` the flows of its messages under these.
 #![tactic(auto)]
 
 mod carry;
 mod files;
+mod flows;
 mod laws;
 mod part;
+mod restated;
 mod sealed;
 
 pub use carry::Carry;
 pub use files::{make_segment, seal_tail};
+pub use flows::flows_of;
 pub use laws::{handed_on, read_to_the_end};
 pub use part::{Cursor, advance, advance_on};
+pub use restated::templates_of;
 pub use sealed::{PartReader, SealedPart, messages_of};
 
 #[cfg(test)]

@@ -99,7 +99,7 @@ impl Cursor {
     }
 
     /// The place of the next message.
-    fn place(&self) -> u64
+    pub(crate) fn place(&self) -> u64
         ensures { result ≡ self.now.place }
     {
         self.place

@@ -1,11 +1,13 @@
 ghost use Rattle.std.specs.Prelude.{◌≤◌};
 
 use crate::{
-    Carry, Cursor, PartReader, SealedPart, advance, advance_on, handed_on, make_segment,
+    Carry, Cursor, PartReader, SealedPart, advance, advance_on, flows_of, handed_on, make_segment,
     messages_of, read_to_the_end, seal_tail,
 };
+use flow_codec::MessageError;
 use flow_disk::{Disk, DiskError, Faults, SealedFile};
 use flow_gate::ScanError;
+use flow_measure::Flow;
 use flow_memory_disk::{MemoryDisk, OneFaultDisk, Room};
 use std::alloc::Global;
 use std::test::Fail;
@@ -49,36 +51,63 @@ fn segment_of(alloc: Global, carry: &Carry) -> Result<Vec<u8>, DiskError> {
     disk.read(alloc, FILE, 0, count as usize)
 }
 
+/// Takes a message in. A refusal other than for want of memory is told as a fault.
+fn take(alloc: Global, carry: &mut Carry, message: &[u8]) -> Result<(), DiskError> {
+    match carry.take(alloc, message) {
+        Ok(()) => Ok(()),
+        Err(MessageError::OutOfMemory) => Err(DiskError::OutOfMemory),
+        Err(_) => Err(DiskError::Fault),
+    }
+}
+
+/// What messages hand on.
+fn carry_of(alloc: Global, messages: &[&[u8]]) -> Result<Carry, DiskError> {
+    let mut carry = Carry::new(alloc);
+    for message in messages {
+        take(alloc, &mut carry, message)?;
+    }
+    Ok(carry)
+}
+
+/// The file of the segment behind messages.
+fn segment_behind(alloc: Global, messages: &[&[u8]]) -> Result<Vec<u8>, DiskError> {
+    segment_of(alloc, &carry_of(alloc, messages)?)
+}
+
+/// The prefix behind the flow.
+fn prefix_behind(alloc: Global) -> Result<Vec<u8>, DiskError> {
+    Ok(carry_of(alloc, &[FLOW.as_slice()])?.prefix(alloc)?)
+}
+
+/// The file of the segment behind the prefix alone.
+fn segment_again(alloc: Global) -> Result<Vec<u8>, DiskError> {
+    let prefix = prefix_behind(alloc)?;
+    let copy = carry_of(alloc, &[prefix.as_slice()])?.try_copy()?;
+    segment_of(alloc, &copy)
+}
+
 #[test]
 fn a_segment_behind_a_flow(rt: HostRuntime) -> Result<(), Fail> {
     handed_on();
-    let alloc = rt.alloc();
-    let mut carry = Carry::new(alloc);
-    let taken = carry.take(alloc, FLOW.as_slice());
-    assert!(rt; taken.is_ok());
-    let octets = segment_of(alloc, &carry)?;
-    assert_eq!(rt; octets.as_slice(), BEHIND.as_slice());
-    let prefix = carry.prefix(alloc)?;
-    let mut again = Carry::new(alloc);
-    let taken = again.take(alloc, prefix.as_slice());
-    assert!(rt; taken.is_ok());
-    let octets = segment_of(alloc, &again.try_copy()?)?;
-    assert_eq!(rt; octets.as_slice(), BEHIND.as_slice());
+    let octets = segment_behind(rt.alloc(), &[FLOW.as_slice()])?;
+    assert!(rt; octets.as_slice() == BEHIND.as_slice());
+    let octets = segment_again(rt.alloc())?;
+    assert!(rt; octets.as_slice() == BEHIND.as_slice());
     Ok(())
+}
+
+/// The file of the segment behind the flow, a message that is refused, and the withdrawal.
+fn segment_behind_none(alloc: Global) -> Result<(Vec<u8>, bool), DiskError> {
+    let mut carry = carry_of(alloc, &[FLOW.as_slice()])?;
+    let refused = take(alloc, &mut carry, &FLOW[..56]).is_err();
+    take(alloc, &mut carry, WITHDRAWAL.as_slice())?;
+    Ok((segment_of(alloc, &carry)?, refused))
 }
 
 #[test]
 fn a_segment_behind_a_withdrawal_of_all(rt: HostRuntime) -> Result<(), Fail> {
-    let alloc = rt.alloc();
-    let mut carry = Carry::new(alloc);
-    let taken = carry.take(alloc, FLOW.as_slice());
-    assert!(rt; taken.is_ok());
-    let refused = carry.take(alloc, &FLOW[..56]);
-    assert!(rt; refused.is_err());
-    let taken = carry.take(alloc, WITHDRAWAL.as_slice());
-    assert!(rt; taken.is_ok());
-    let octets = segment_of(alloc, &carry)?;
-    assert_eq!(rt; octets.as_slice(), [0, 0].as_slice());
+    let (octets, refused) = segment_behind_none(rt.alloc())?;
+    assert!(rt; refused && octets.as_slice() == [0, 0].as_slice());
     Ok(())
 }
 
@@ -186,5 +215,58 @@ fn the_messages_of_a_sealed_segment(rt: HostRuntime) -> Result<(), Fail> {
     assert_eq!(rt; other, ScanError::Damaged(FILE, 57));
     let cut = sealed_flow(alloc, 56, 1).err().ok_or("cut")?;
     assert_eq!(rt; cut, ScanError::Damaged(FILE, 0));
+    Ok(())
+}
+
+/// A message of 33 octets of the same domain: the flow alone, with no template beside it.
+const FLOW_ALONE: [u8; 33] = [
+    0, 10, 0, 33, 0x65, 0x53, 0xf1, 0, 0, 0, 0, 1, 0, 0, 0, 7, //
+    1, 0, 0, 17, 0x65, 0x53, 0xf1, 0, 6, 0, 0, 5, 0xdc, 0, 0, 0, 10,
+];
+
+/// The flows of a file that is a sealed segment, of a prefix of so many octets and one message.
+fn flows_in_file<F: SealedFile>(
+    alloc: Global,
+    file: F,
+    prefix: u64,
+) -> Result<Vec<Flow>, ScanError> {
+    let length = file.length();
+    let part = SealedPart {
+        reader: file,
+        prefix: prefix.min(length),
+        length,
+        messages: 1,
+    };
+    let mut faults = Faults::new();
+    flows_of(alloc, &part, &mut faults)
+}
+
+/// The flows of a sealed segment of this prefix and one message.
+fn flows_behind(alloc: Global, prefix: &[u8], message: &[u8]) -> Result<Vec<Flow>, ScanError> {
+    let mut octets = Vec::from_slice(alloc, prefix)?;
+    octets.extend_from_slice(message)?;
+    let mut disk = MemoryDisk::new(alloc, ROOM)?;
+    make_segment(&mut disk, FILE, octets.as_slice())?;
+    let end = disk.length(FILE)?.saturating_sub(2);
+    seal_tail(&mut disk, FILE, end)?;
+    flows_in_file(alloc, disk.freeze(FILE)?, prefix.len() as u64)
+}
+
+#[test]
+fn the_flows_of_a_sealed_segment(rt: HostRuntime) -> Result<(), Fail> {
+    let alloc = rt.alloc();
+    let flow = Flow {
+        domain: 7,
+        start: 0x6553_f100,
+        protocol: Some(6),
+        octets: 1500,
+        packets: 10,
+    };
+    let own = flows_behind(alloc, &[], FLOW.as_slice())?;
+    assert_eq!(rt; own.as_slice(), [flow].as_slice());
+    let restated = flows_behind(alloc, &BEHIND[..40], FLOW_ALONE.as_slice())?;
+    assert_eq!(rt; restated.as_slice(), [flow].as_slice());
+    let other = flows_behind(alloc, FLOW.as_slice(), FLOW_ALONE.as_slice());
+    assert_eq!(rt; other.err().ok_or("records")?, ScanError::Damaged(FILE, 0));
     Ok(())
 }

@@ -1,0 +1,66 @@
+-- The templates that a sealed segment's prefix restates.
+use Rattle.std.specs.Prelude.{◌≡◌, ◌≢◌, ◌⊎◌, ⊤, ℕ, Bool, true, false, List, [], ◌++◌, length, Result, Ok, Err}
+use Rattle.std.specs.List.{AllByRecursion}
+use Rattle.flow_gate.specs.declared.tail.ScanError.{ScanError}
+use Rattle.flow_gate.specs.declared.tail.ScanError.TheVariants.{Damaged, Fault, OutOfMemory}
+use Rattle.flow_codec.specs.declared.error.MessageError.{MessageError}
+use Rattle.flow_codec.specs.declared.file.FileError.{FileError}
+use Rattle.flow_codec.specs.Cutting.{IsCutOff, IsDivided, IsFileFault}
+use Rattle.flow_codec.specs.Fault.{IsFault}
+use Rattle.flow_codec.specs.Message.{joined, IsAccepted}
+use Rattle.flow_codec.specs.Raw.{Placed, RawMessage}
+use Rattle.flow_codec.specs.Templates.{AllTemplates}
+use Rattle.flow_measure.specs.History.{Accepted, AreAcceptedFrom, templates_from}
+use Rattle.flow_segment.specs.Carry.{octets_of}
+
+-- messages of octets, each accepted behind those before it, and the octets behind the last of them
+pub record AreRead (octets : List ℕ) (before : AllTemplates) (messages : List Accepted) (rest : List ℕ) : Type 0 where
+  pub divided : IsDivided octets (octets_of messages) rest
+  pub accepted : AreAcceptedFrom before messages
+
+abbrev pub HaveNoRecords : List Accepted → Type 0
+HaveNoRecords messages = AllByRecursion (λ a. a.message.records ≡ []) messages
+
+-- The octets are accepted messages without data records, read from nothing, that leave these templates.
+abbrev pub IsRestated : List ℕ → AllTemplates → Type 0
+IsRestated octets templates =
+    (messages : List Accepted) × AreRead octets [] messages [] × HaveNoRecords messages
+    × (templates ≡ templates_from [] messages)
+
+-- the octets of a message that is refused, or has data records
+abbrev pub IsNoRestatement : List ℕ → AllTemplates → Type 0
+IsNoRestatement octets before =
+    ((fault : MessageError) × IsFault octets before fault)
+    ⊎ ((m : RawMessage) × (after : AllTemplates) × IsAccepted octets before m after × (m.records ≢ []))
+
+-- No message of a prefix stands in front of these octets, whose place is `at`.
+abbrev pub IsNoPrefix : ℕ → AllTemplates → List ℕ → Type 0
+IsNoPrefix at before rest =
+    ((fault : FileError) × IsFileFault at rest fault)
+    ⊎ ((message : List ℕ) × (more : List ℕ) × IsCutOff message × (rest ≡ message ++ more)
+    × IsNoRestatement message before)
+
+-- Why octets of a file from its start on are no prefix: behind some messages of one, none stands at this place.
+abbrev pub IsPrefixToldOf : List ℕ → ℕ → ScanError → Type 0
+IsPrefixToldOf octets number (Damaged file at) =
+    (file ≡ number) × (messages : List Accepted) × (rest : List ℕ) × AreRead octets [] messages rest
+    × HaveNoRecords messages × (at ≡ length (joined (octets_of messages)))
+    × IsNoPrefix at (templates_from [] messages) rest
+IsPrefixToldOf octets number Fault = ⊤
+IsPrefixToldOf octets number OutOfMemory = ⊤
+
+-- ---- one message
+
+-- whether there were data records
+abbrev pub AreSeen : Bool → List Placed → Bool → Type 0
+AreSeen old taken true = (old ≡ true) ⊎ (taken ≢ [])
+AreSeen old taken false = (old ≡ false) × (taken ≡ [])
+
+-- what is answered of one message of a prefix, at this place of this file
+abbrev pub IsRestating : {X : Type 0} → ℕ → ℕ → List ℕ → AllTemplates → AllTemplates → Result X ScanError → Type 0
+IsRestating file at octets before after (Ok x) =
+    (m : RawMessage) × IsAccepted octets before m after × (m.records ≡ [])
+IsRestating file at octets before after (Err (Damaged f place)) =
+    (f ≡ file) × (place ≡ at) × IsNoRestatement octets before
+IsRestating file at octets before after (Err Fault) = ⊥
+IsRestating file at octets before after (Err OutOfMemory) = ⊤

@@ -1,0 +1,100 @@
+//! The templates that the prefix of a sealed segment restates.
+
+ghost use Rattle.std.specs.Prelude.{◌≡◌, ◌≤◌, IsTrue, IfOk, IfErr};
+ghost use Rattle.flow_disk.specs.Cause.{HasCause};
+ghost use Rattle.flow_segment.specs.Prefix.{IsPrefixToldOf, IsRestated, IsRestating};
+ghost use Rattle.flow_segment.specs.Segment.{part_octets};
+
+use crate::part::{Cursor, advance};
+use crate::sealed::SealedPart;
+use flow_codec::{
+    Definition, Header, MessageError, RecordSink, Templates, WalkError, walk_message,
+};
+use flow_disk::{Faults, SealedFile};
+use flow_gate::ScanError;
+use std::alloc::Global;
+use std::convert::Infallible;
+
+/// Whether there were data records.
+#[derive(Drop)]
+struct Seen {
+    any: bool,
+}
+
+impl RecordSink for Seen {
+    ghost use Rattle.flow_segment.specs.Prefix.{AreSeen};
+
+    type Error = Infallible;
+
+    ghost holds = { λ start taken now. AreSeen start.any taken now.any };
+
+    ghost refuses = { λ _ _ _ _. ⊥ };
+
+    fn record(
+        &mut self,
+        _header: &Header,
+        _id: u16,
+        _definition: &Definition,
+        _octets: &[u8],
+    ) -> Result<(), Infallible> {
+        self.any = true;
+        Ok(())
+    }
+}
+
+/// Takes in the templates of a message of a prefix, which stands at this place of this file.
+fn restate(
+    templates: &mut Templates,
+    alloc: Global,
+    octets: &[u8],
+    file: u64,
+    at: u64,
+) -> Result<(), ScanError>
+    ensures { IsRestating file at octets.now templates.old templates.new result }
+{
+    let mut records = Seen { any: false };
+    match walk_message(templates, alloc, octets, &mut records) {
+        Ok(_) => {
+            if records.any {
+                return Err(ScanError::Damaged(file, at));
+            }
+            Ok(())
+        }
+        Err(WalkError::Message(MessageError::OutOfMemory)) => Err(ScanError::OutOfMemory),
+        Err(WalkError::Message(_)) => Err(ScanError::Damaged(file, at)),
+        Err(WalkError::Sink(never)) => match never {},
+    }
+}
+
+/// The templates in force behind the prefix of a sealed segment. Where a message of it is refused, or has data records,
+/// or none stands, it answers `Damaged`, with the file and the place; `Fault` exactly where a read has raised `faults`;
+/// and `OutOfMemory`.
+pub fn templates_of<S: SealedFile>(
+    alloc: Global,
+    part: &SealedPart<S>,
+    faults: &mut Faults<S>,
+) -> Result<Templates, ScanError>
+    ensures cause { HasCause ScanError.Fault faults.old faults.new result }
+    // On an honest disk: the templates that accepted messages without data records leave; or why there are none.
+    ensures found { IsTrue (S.honest part.now.reader) → IfOk result
+        (λ templates. IsRestated (part_octets 0 part.now.prefix (S.octets part.now.reader)) templates) }
+    ensures told { IsTrue (S.honest part.now.reader) → IfErr result
+        (λ e. IsPrefixToldOf (part_octets 0 part.now.prefix (S.octets part.now.reader))
+        (S.number part.now.reader) e) }
+{
+    let mut cursor = Cursor::new(alloc, 0, part.prefix);
+    let mut templates = Templates::new(alloc);
+    'messages: loop {
+        let at = cursor.place();
+        if !advance(&mut cursor, alloc, &part.reader, faults)? {
+            return Ok(templates);
+        }
+        restate(
+            &mut templates,
+            alloc,
+            cursor.message(),
+            part.reader.file(),
+            at,
+        )?;
+    }
+}
