@@ -7,8 +7,8 @@ use flow_memory_disk::{FusedDisk, LyingDisk, MemoryDisk, OneFaultDisk, Room};
 use std::alloc::{AllocError, Global};
 use std::test::Fail;
 
-/// Just the room that `each_call` takes: two files of up to five octets, eight octets written by three calls of nine, of
-/// which two are removals and count twice.
+/// Just the room that `each_call` takes: two files of up to five octets, eight octets written by three calls of nine,
+/// of which two are removals and count twice.
 const ENOUGH: Room = Room {
     files: 2,
     octets: 5,
@@ -34,8 +34,8 @@ const NONE: Room = Room {
     written: 0,
 };
 
-/// What the calls of a disk told, of two files that were written: file 7 as 1 2 3 4 5, cut to four octets, then 6 7 over its
-/// third octet; file 2 as 9, removed behind the first list of files.
+/// What the calls of a disk told, of two files that were written: file 7 as 1 2 3 4 5, cut to four octets, then 6 7
+/// over its third octet; file 2 as 9, removed behind the first list of files.
 #[derive(Drop, PartialEq)]
 struct Told {
     listed: Vec<u64>,
@@ -403,7 +403,8 @@ impl<D: Disk> Counted<D> {
     }
 }
 
-/// How many of five calls answer a fault, each of which changes a file or freezes it: no more than the failures counted.
+/// How many of five calls answer a fault, each of which changes a file or freezes it: no more than the failures
+/// counted.
 fn faults_of<D: Disk>(disk: D) -> (D, u64)
     requires thawed { (n : ℕ) → (D.marks disk n).frozen ≡ false }
     requires settled { (n : ℕ) → (D.marks disk n).settled ≡ true }

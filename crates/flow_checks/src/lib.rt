@@ -1,5 +1,5 @@
-//! Tests of the disks in memory, and of the gate and the slots over them: what each call answers, what is read after a stop at
-//! each device call, what counts as damage, and a disk that lies.
+//! Tests of the disks in memory, and of the gate and the slots over them: what each call answers, what is read after
+//! a stop at each device call, what counts as damage, and a disk that lies.
 #![tactic(auto)]
 
 #[cfg(test)]

@@ -91,7 +91,8 @@ fn add<D: Disk>(disk: &mut D, messages: &[&[u8]]) -> Result<(), DiskError>
     requires messages { All IsWhole (slices messages.now) }
     requires room { 2 ≤ (D.marks disk.old 3).size }
     requires thawed { (D.marks disk.old 3).frozen ≡ false }
-    requires gated { IsTrue (D.honest disk.old) → (image : List ℕ) → IsImage (D.held disk.old 3) image → IsClosedAt image 0 }
+    requires gated { IsTrue (D.honest disk.old) → (image : List ℕ) → IsImage (D.held disk.old 3) image → IsClosedAt
+        image 0 }
 {
     place_batch(disk, FILE, 0, messages)?;
     open_gate(disk, FILE, 0)

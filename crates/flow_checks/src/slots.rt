@@ -1,4 +1,5 @@
-// The two slots by their octets: after a creation and after swaps, forged, after a stop at each device call, and on a disk that lies.
+// The two slots by their octets: after a creation and after swaps, forged, after a stop at each device call, and on a
+// disk that lies.
 ghost use Rattle.std.specs.Prelude.{◌≡◌, ◌+◌, ℕ, true, false};
 ghost use Rattle.flow_disk.specs.Cause.{HasCause};
 ghost use Rattle.flow_manifest.specs.declared.slots.Slot.{Slot};
@@ -203,8 +204,8 @@ fn holds<D: Disk>(
 }
 
 impl Archive {
-    /// A swap to the manifest in this slot, stopped after so many device calls: whether it answered Ok, and what the stop
-    /// left.
+    /// A swap to the manifest in this slot, stopped after so many device calls: whether it answered Ok, and what the
+    /// stop left.
     fn stopped(
         self,
         alloc: Global,
@@ -523,8 +524,8 @@ fn a_torn_slot_is_the_old_or_the_new_one(rt: HostRuntime) -> Result<(), Fail> {
     Ok(())
 }
 
-/// A swap stopped after so many calls, then once more the same swap, or the one that follows it, stopped again. What is then in
-/// force is what the first stop left, or what the second swap was to leave.
+/// A swap stopped after so many calls, then once more the same swap, or the one that follows it, stopped again. What
+/// is then in force is what the first stop left, or what the second swap was to leave.
 fn torn_again(
     alloc: Global,
     calls: u64,

@@ -101,7 +101,8 @@ module _ (input old : Option (List ℕ)) (reader : Progress) (here : AllTemplate
       }
 
   -- an accepted message, with a front of its lines
-  pub cuts_next : (unread : Option (List ℕ)) (m : HeldMessage) (next : Progress) (after : AllTemplates) (then : Option (List ℕ)) (e : Refusal)
+  pub cuts_next : (unread : Option (List ℕ)) (m : HeldMessage) (next : Progress) (after : AllTemplates)
+      (then : Option (List ℕ)) (e : Refusal)
       → IsNext reader here (Ok (Some m)) next after → IsCutIn now held then (message_text (message_of m)) e
       → IfSome input (λ octets. IsDumpedUntil octets unread old then e)
   cuts_next unread m next after then e step cut =
@@ -133,7 +134,8 @@ module _ (input old : Option (List ℕ)) (reader : Progress) (here : AllTemplate
       front_written old then (dump_text is.messages)
       (subst (λ (t : List ℕ). TellsFront old [] then t) (append-nil (dump_text is.messages)) all) in
       subst (λ (r : Refusal). IfSome input (λ octets. IsDumpedUntil octets unread old then r)) (sym write.1)
-      (implied input (λ octets. IsFront octets is.messages) (λ octets. IsDumpedUntil octets unread old then (Write write.0))
+      (implied input (λ octets. IsFront octets is.messages)
+      (λ octets. IsDumpedUntil octets unread old then (Write write.0))
       (λ octets f. (is.messages, f, written)) (reached input reader.rest reader.at is.messages here is.run))
 
   all_told : (then : Option (List ℕ)) (left : List ℕ) → Tells now held then left [] → left ≡ []

@@ -159,7 +159,8 @@ abbrev IsRefusedAt : MessageError → ℕ → List ℕ → Type 0
 IsRefusedAt fault number octets = (messages : List RawMessage) × (after : AllTemplates)
     × AcceptedFront octets messages after (refused fault) × (number ≡ length messages + 1)
 
-as_message : (fault : MessageError) (number : ℕ) (octets : List ℕ) (left : Option (List ℕ)) → IsRefusedAt fault number octets
+as_message : (fault : MessageError) (number : ℕ) (octets : List ℕ) (left : Option (List ℕ)) → IsRefusedAt fault number
+    octets
     → IsRefusedBy octets left (message_refusal fault number)
 as_message message.OutOfMemory number octets left h = tt
 as_message message.Short number octets left h = h
@@ -265,7 +266,8 @@ ended_by width old left ahead r0 r1 h0 t0 e s step short = by e step short
     by : (e : StreamError) → IsStep r0 (Err e) r1
         → ((failed : ReadFailed) → e ≡ stream.Read failed → IsShort r0 ahead left)
         → IfSome old (λ file. IsRefusedBy file left (stream_refusal e))
-    by (stream.File fault) step short = broke old fault (follows_broken old r0 r1 s.messages h0 fault s.going s.run step)
+    by (stream.File fault) step short = broke old fault
+        (follows_broken old r0 r1 s.messages h0 fault s.going s.run step)
     by (stream.Read failed) step short =
         let ahead_is = short failed refl in
         all old failed (read_up old r0.rest left r0.at s.messages h0 ahead s.run ahead_is.0 ahead_is.1)

@@ -19,7 +19,8 @@ use std::io::{Read, Write};
 /// The sums of all flows of the File that `input` reads, over intervals of this width.
 fn sums_of<R: Read>(alloc: Global, width: Width, input: &mut R) -> Result<Rows, Refusal>
     ensures sums { IfOk result (λ rows. IfSome (R.remaining input.old) (λ octets. HasSums width octets rows)) }
-    ensures refused { IfErr result (λ e. IfSome (R.remaining input.old) (λ octets. IsRefusedBy octets (R.remaining input.new) e)) }
+    ensures refused { IfErr result (λ e. IfSome (R.remaining input.old)
+        (λ octets. IsRefusedBy octets (R.remaining input.new) e)) }
     ensures unwritten { IfErr result (λ e. IsOfInput e) }
 {
     let mut reader = MessageReader::new(alloc)?;
@@ -113,7 +114,8 @@ pub fn measure<R: Read, W: Write>(
         (IfSome (R.remaining input.old) (λ octets. (lines : List ℕ) × HasTotals width octets lines
         × Appends (W.contents output.old) (W.contents output.new) lines)) }
     // A refusal is that of the first fault by place.
-    ensures refused { IfErr result (λ e. IfSome (R.remaining input.old) (λ octets. IsRefusedBy octets (R.remaining input.new) e)) }
+    ensures refused { IfErr result (λ e. IfSome (R.remaining input.old)
+        (λ octets. IsRefusedBy octets (R.remaining input.new) e)) }
     // After one nothing is written, or, where writing failed, a front of the lines.
     ensures kept { IfErr result
         (λ e. KeepsOrFront width (R.remaining input.old) (W.contents output.old) (W.contents output.new) e) }

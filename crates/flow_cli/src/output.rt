@@ -10,8 +10,8 @@ use std::io::Write;
 /// The octets of text that are held before they are written.
 pub(crate) const MOST_HELD: usize = 65_536;
 
-/// Text that is held until there is much of it. Room for that much, and for a line of totals behind it, is taken where it
-/// is made.
+/// Text that is held until there is much of it. Room for that much, and for a line of totals behind it, is taken
+/// where it is made.
 #[derive(Drop)]
 pub(crate) struct HeldText {
     pub(crate) alloc: Global,

@@ -1,6 +1,7 @@
 //! The definitions of one kind in an Observation Domain.
 
-ghost use Rattle.std.specs.Prelude.{◌≡◌, IsTrue, Some, ◌++◌, ◌<◌, ◌≤◌, ◌^◌, [], ◌==◌, nat_eq, length, OnOk, OnErr, IfOk};
+ghost use Rattle.std.specs.Prelude.{◌≡◌, IsTrue, Some, ◌++◌, ◌<◌, ◌≤◌, ◌^◌, [], ◌==◌, nat_eq, length, OnOk, OnErr};
+ghost use Rattle.std.specs.Prelude.{IfOk};
 ghost use Rattle.std.specs.Prelude.{unwrap_or};
 ghost use Rattle.std.specs.Map.{lookup};
 ghost use Rattle.std.specs.Option.{option_copied};

@@ -27,7 +27,8 @@ pub one_row_more : (w : ℕ) (rows : List RolledRow) (r : RolledRow)
       sums =
           sums_of (rows ++ r ∷ []);
     }
-one_row_more w rows r = ap (λ m. record { width = w; sums = m }) (gathered-again (entries_in rows) ((r.key, sums_in r) ∷ [])
+one_row_more w rows r = ap (λ m. record { width = w; sums = m })
+    (gathered-again (entries_in rows) ((r.key, sums_in r) ∷ [])
     ∙ ap gathered (sym (map-append (λ (x : RolledRow). (x.key, sums_in x)) rows (r ∷ []))))
 
 -- ---- a key whose row came last has sums

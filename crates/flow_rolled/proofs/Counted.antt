@@ -51,7 +51,8 @@ rollup_rows r rows t wide so h =
     )
 
 -- all rows were added
-pub added : (r : Reader) (rows : List RolledRow) (old new : Table) → IsRollup r.width r.part.octets (table_of r.width rows)
+pub added : (r : Reader) (rows : List RolledRow) (old new : Table) → IsRollup r.width r.part.octets
+    (table_of r.width rows)
     → new ≡ with_rows rows old → IsAdded r.width r.part.octets old new
 added r rows old new h is =
     record { table = table_of r.width rows; rollup = h; sums = is ∙ sums_added rows old }

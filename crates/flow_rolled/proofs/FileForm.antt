@@ -1,5 +1,6 @@
 -- A rolled file is an IPFIX File.
-use Rattle.std.proofs.Common.{◌≡◌, ℕ, ◌+◌, ◌*◌, ◌^◌, ◌<◌, ◌≤◌, ◌-◌, Bool, true, false, inl, inr, List, [], ◌∷◌, ◌++◌, length}
+use Rattle.std.proofs.Common.{◌≡◌, ℕ, ◌+◌, ◌*◌, ◌^◌, ◌<◌, ◌≤◌, ◌-◌, Bool, true, false, inl, inr, List, [], ◌∷◌, ◌++◌}
+use Rattle.std.proofs.Common.{length}
 use Rattle.std.proofs.Common.{map, Option, Some, None, refl, sym, ap, subst, ◌∙◌, arith}
 use Rattle.std.specs.Prelude.{filter, is_some, nat_eq, unwrap_or}
 use Rattle.std.specs.List.{flat_map, AllByRecursion}
@@ -17,11 +18,13 @@ use Rattle.flow_codec.specs.Templates.{AllTemplates, IsOnce, no_definitions, def
 use Rattle.flow_codec.specs.Templates.{template, IsTemplateRecord}
 use Rattle.flow_codec.specs.Working.{put_back}
 use Rattle.flow_codec.specs.Message as codec
-use Rattle.flow_codec.specs.Message.{AreRecords, AreTemplates, Division, IsData, IsSet, AreSets, IsMessage, joined, content}
+use Rattle.flow_codec.specs.Message.{AreRecords, AreTemplates, Division, IsData, IsSet, AreSets, IsMessage, joined}
+use Rattle.flow_codec.specs.Message.{content}
 use Rattle.flow_codec.proofs.Entries.{found, with_entry, remove-absent, lookup-insert, once_insert, found-insert-other}
 use Rattle.flow_codec.proofs.PuttingBack.{applied_put_back, put_found}
 use Rattle.flow_rolled.specs.declared.row.RolledRow.{RolledRow}
-use Rattle.flow_rolled.specs.Octets.{row_octets, rows_octets, set_octets, sets_of, head_sets, protocol_octets, part_octets}
+use Rattle.flow_rolled.specs.Octets.{row_octets, rows_octets, set_octets, sets_of, head_sets, protocol_octets}
+use Rattle.flow_rolled.specs.Octets.{part_octets}
 use Rattle.flow_rolled.specs.Octets.{parts_octets}
 use Rattle.flow_rolled.specs.Octets.{has_protocol, has_none, IsOf, AreOf, IsPart}
 use Rattle.flow_rolled.specs.Parts.{Part, RowsFollow, Follows, AllFollow}
@@ -33,7 +36,8 @@ use Rattle.flow_codec.proofs.Steps.{by_bool}
 use Rattle.std.proofs.lemmas.Bool.{eqb-true}
 use Rattle.flow_rolled.proofs.SoFar.{count_parted}
 use Rattle.flow_rolled.proofs.Breaking.{Known, follows_part, file_parts}
-use Rattle.flow_rolled.specs.AsFile.{field, with_protocol, without_protocol, distribution, in_domain, rows_under, records_of}
+use Rattle.flow_rolled.specs.AsFile.{field, with_protocol, without_protocol, distribution, in_domain, rows_under}
+use Rattle.flow_rolled.specs.AsFile.{records_of}
 use Rattle.flow_rolled.specs.AsFile.{message_of, messages_of}
 use Rattle.flow_rolled.proofs.PartOctets.{rows_long}
 use Rattle.flow_rolled.proofs.SameParts.{sets_long}
@@ -76,7 +80,8 @@ row_by w protocol r = to_be_bytes w64 (r.key.start * 1000) ++ to_be_bytes w64 ((
     ++ protocol_octets protocol ++ to_be_bytes w64 r.flows ++ to_be_bytes w64 r.octets ++ to_be_bytes w64 r.packets
 
 counted : (r : RolledRow) → AreFields (field 376 8 ∷ field 1 8 ∷ field 2 8 ∷ []) (counts r)
-    (value 376 (to_be_bytes w64 r.flows) ∷ value 1 (to_be_bytes w64 r.octets) ∷ value 2 (to_be_bytes w64 r.packets) ∷ [])
+    (value 376 (to_be_bytes w64 r.flows) ∷ value 1 (to_be_bytes w64 r.octets) ∷ value 2 (to_be_bytes w64 r.packets) ∷
+    [])
 counted r = (
   to_be_bytes w64 r.flows,
   to_be_bytes w64 r.octets ++ to_be_bytes w64 r.packets,
@@ -206,7 +211,8 @@ divisions : ℕ → ℕ → List RolledRow → List Division
 divisions w id [] = []
 divisions w id (r ∷ rs) = division w id (r ∷ rs) ∷ []
 
-module _ (w d : ℕ) (all : AllTemplates) (there : (b : Bool) → definition_of (id_of b) (definitions_of d all) ≡ Some (layout_of b)) where
+module _ (w d : ℕ) (all : AllTemplates)
+    (there : (b : Bool) → definition_of (id_of b) (definitions_of d all) ≡ Some (layout_of b)) where
   row_sets : (xs ys : List RolledRow) → length xs ≤ 1000 → length ys ≤ 1000 → AllByRecursion (IsOf w d true) xs
       → AllByRecursion (IsOf w d false) ys
       → AreSets d all (divisions w 256 xs ++ divisions w 257 ys)
@@ -221,8 +227,14 @@ module _ (w d : ℕ) (all : AllTemplates) (there : (b : Bool) → definition_of 
     (refl, refl),
     sym (append-nil (rows_under w 257 without_protocol (y ∷ ys))),
   )
-  row_sets (x ∷ xs) [] fx fy hx hy =
-      (rows_under w 256 with_protocol (x ∷ xs), [], all, row_set w d true all (x ∷ xs) fx hx (there true), (refl, refl), refl)
+  row_sets (x ∷ xs) [] fx fy hx hy = (
+    rows_under w 256 with_protocol (x ∷ xs),
+    [],
+    all,
+    row_set w d true all (x ∷ xs) fx hx (there true),
+    (refl, refl),
+    refl,
+  )
   row_sets (x ∷ xs) (y ∷ ys) fx fy hx hy = (
     rows_under w 256 with_protocol (x ∷ xs),
     rows_under w 257 without_protocol (y ∷ ys),
@@ -467,7 +479,8 @@ unfolding part_octets
 is_message w p before after h hold = record {
   sets = sets_in w p.rows;
   parts = ap (λ (l : List ℕ). codec.header_octets ((message_of w p).header) ++ l) (sym (sets_are w p.rows))
-      ∙ sym (append-nil (codec.header_octets ((message_of w p).header) ++ flat_map codec.set_octets (sets_in w p.rows)));
+      ∙ sym (append-nil (codec.header_octets ((message_of w p).header) ++ flat_map codec.set_octets
+      (sets_in w p.rows)));
   len = sym (part_size w p);
   place = omega arith;
   fits = record {
@@ -633,7 +646,8 @@ flow_with header w r p h =
     (sym (fields_are with_protocol.fields (row_by w (Some p) r) whole.0 whole.1))
     ∙ (λ i. record {
       domain = header.domain;
-      start = start_again header.time (number_of (to_be_bytes w64 (r.key.start * 1000))) r.key.start None first h.start i;
+      start = start_again header.time (number_of (to_be_bytes w64 (r.key.start * 1000))) r.key.start None first
+          h.start i;
       protocol = Some (one_again p i);
       octets = eight_again r.octets h.octets i;
       packets = eight_again r.packets h.packets i;
@@ -656,7 +670,8 @@ flow_none header w r h =
     (sym (fields_are without_protocol.fields (row_by w None r) whole.0 whole.1))
     ∙ (λ i. record {
       domain = header.domain;
-      start = start_again header.time (number_of (to_be_bytes w64 (r.key.start * 1000))) r.key.start None first h.start i;
+      start = start_again header.time (number_of (to_be_bytes w64 (r.key.start * 1000))) r.key.start None first
+          h.start i;
       protocol = None;
       octets = eight_again r.octets h.octets i;
       packets = eight_again r.packets h.packets i;

@@ -1,5 +1,6 @@
 -- Reading a rolled file piece by piece.
-use Rattle.std.proofs.Common.{◌≡◌, ℕ, suc, ◌+◌, ◌-◌, ◌<◌, ◌≤◌, ◌^◌, inl, inr, ◌⊎◌, List, [], ◌∷◌, ◌++◌, length, take, drop}
+use Rattle.std.proofs.Common.{◌≡◌, ℕ, suc, ◌+◌, ◌-◌, ◌<◌, ◌≤◌, ◌^◌, inl, inr, ◌⊎◌, List, [], ◌∷◌, ◌++◌, length, take}
+use Rattle.std.proofs.Common.{drop}
 use Rattle.std.proofs.Common.{Option, Some, None, refl, sym, ap, subst, ◌∙◌, arith, append_assoc, length-append}
 use Rattle.std.proofs.Common.{length-drop}
 use Rattle.std.proofs.lemmas.List.{drop-drop, drop_at, drop-take, take-append-drop, take_min, length-take, append-nil}
@@ -13,7 +14,8 @@ use Rattle.flow_rolled.specs.Parts.{Part, IsDone, last_part}
 use Rattle.flow_rolled.specs.Octets.{part_octets, parts_octets, IsPart}
 use Rattle.flow_rolled.specs.Rollup.{IsRollup, IsBroken}
 use Rattle.flow_rolled.specs.Reading.{Stands, IsStuck}
-use Rattle.flow_rolled.specs.Stored.{Rollup, Reader, HasRead, IsBehind, Gives, Progress, IsReady, IsOn, IsBare, IsBlocked, IsOver, fed}
+use Rattle.flow_rolled.specs.Stored.{Rollup, Reader, HasRead, IsBehind, Gives, Progress, IsReady, IsOn, IsBare}
+use Rattle.flow_rolled.specs.Stored.{IsBlocked, IsOver, fed}
 use Rattle.flow_rolled.specs.Stored.{Steps, table_of}
 use Rattle.flow_rolled.proofs.SameParts.{sets_long, part_long}
 use Rattle.flow_rolled.proofs.Breaking.{last_more, octets_more, stands_part, rollup_of, broken_at}
@@ -54,7 +56,8 @@ behind_on xs ahead front rest on is =
     let size : length ahead ≡ length front + length rest = ap (λ (l : List ℕ). length l) is
     ∙ length-append front rest in
     sym (drop_at front rest (length front) refl)
-    ∙ ap (drop (length front)) (sym is ∙ on ∙ ap (λ (n : ℕ). take n xs) size) ∙ drop-take (length front) (length rest) xs
+    ∙ ap (drop (length front)) (sym is ∙ on ∙ ap (λ (n : ℕ). take n xs) size) ∙ drop-take (length front) (length rest)
+    xs
 
 -- the front of what is ahead stands in the file
 front_on : (xs ahead front rest : List ℕ) → ahead ≡ take (length ahead) xs → ahead ≡ front ++ rest
@@ -68,7 +71,8 @@ front_on xs ahead front rest on is =
     ∙ drop_at front (rest ++ more) (length front) refl in
     whole ∙ ap (λ (l : List ℕ). front ++ l) (sym back)
 
-pub step_on : (octets : List ℕ) (file : ℕ) (old new : Progress) (result : Result (Option (Vec RolledRow Global)) RowError)
+pub step_on : (octets : List ℕ) (file : ℕ) (old new : Progress)
+    (result : Result (Option (Vec RolledRow Global)) RowError)
     → IsOn octets old → Steps file old result new → IsOn octets new
 step_on octets file old new (Ok (Some rows)) on h =
     let front = part_octets old.width h.message in
@@ -267,7 +271,8 @@ gives part rows file mid new (Ok (Some more)) same wide size within on ready h s
 gives part rows file mid new (Ok None) same wide size within on ready h so =
     let none = no_octets (drop mid.place part.octets) (none_left part.octets mid.place mid.end size h.0) in
     subst (λ l. IsRollup mid.width part.octets (table_of mid.width l)) (sym so.behind.rows_are)
-    (rollup_of mid.width part.octets so.front so.behind.follow (done_if mid.before (last_part None so.front) so.behind.stands h.1)
+    (rollup_of mid.width part.octets so.front so.behind.follow
+    (done_if mid.before (last_part None so.front) so.behind.stands h.1)
     (so.is ∙ ap (λ (l : List ℕ). parts_octets mid.width so.front ++ l) none
     ∙ append-nil (parts_octets mid.width so.front)))
 gives part rows file mid new (Err (Damaged f at)) same wide size within on ready h so = (

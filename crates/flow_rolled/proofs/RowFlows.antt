@@ -1,5 +1,6 @@
 -- The sums of the flows that rows are read as.
-use Rattle.std.proofs.Common.{◌≡◌, ℕ, ◌+◌, ◌^◌, ◌<◌, Bool, true, false, cond, List, [], ◌∷◌, map, Option, Some, None, refl}
+use Rattle.std.proofs.Common.{◌≡◌, ℕ, ◌+◌, ◌^◌, ◌<◌, Bool, true, false, cond, List, [], ◌∷◌, map, Option, Some, None}
+use Rattle.std.proofs.Common.{refl}
 use Rattle.std.proofs.Common.{sym, ap, subst, ◌∙◌, arith}
 use Rattle.std.specs.List.{AllByRecursion}
 use Rattle.std.specs.FinMap.{get}
@@ -27,7 +28,8 @@ same_joined (Some a) (Some b) (Some c) None h k = absurd k
 same_joined (Some a) (Some b) (Some c) (Some d) h k = ((λ i. h.0 i + k.0 i), (λ i. h.1 i + k.1 i))
 
 -- a row as a flow, and as it is
-same_one : (b : Bool) (r : RolledRow) → SameCounts (cond b (Some (counted (flow_of_row r))) None) (cond b (Some (sums_in r)) None)
+same_one : (b : Bool) (r : RolledRow) → SameCounts (cond b (Some (counted (flow_of_row r))) None)
+    (cond b (Some (sums_in r)) None)
 same_one true r = (refl, refl)
 same_one false r = tt
 

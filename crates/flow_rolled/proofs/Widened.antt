@@ -10,7 +10,8 @@ use Rattle.flow_measure.specs.declared.error.SumError.{SumError}
 use Rattle.flow_measure.specs.Sums.{Table, AllFit, IsRefused, gathered, with_entries, widened_key}
 use Rattle.flow_measure.specs.Sums.{widened_entries}
 use Rattle.flow_measure.proofs.Keys.{is_key-refl}
-use Rattle.flow_measure.proofs.Gathering.{joined, sum_at, sum_at-append, gathered-again, gathered-entries, gathered-same}
+use Rattle.flow_measure.proofs.Gathering.{joined, sum_at, sum_at-append, gathered-again, gathered-entries}
+use Rattle.flow_measure.proofs.Gathering.{gathered-same}
 use Rattle.flow_measure.proofs.Gathering.{with_one}
 use Rattle.flow_measure.proofs.Fitting.{front_fits}
 use Rattle.flow_measure.proofs.Widening.{rekeyed-gathered, joined-some}
@@ -97,7 +98,8 @@ key_after t last [] has = subst (λ u. HasKey u last) (sym (rows_none t)) has
 key_after t last (r ∷ rs) has = subst (λ u. HasKey u (last_from (Some r) rs)) (sym (rows_next r rs t))
     (key_after (with_row r t) (Some r) rs (key_put t r))
 
-pub last_behind : (o : Option RolledRow) (xs ys : List RolledRow) → last_from o (xs ++ ys) ≡ last_from (last_from o xs) ys
+pub last_behind : (o : Option RolledRow) (xs ys : List RolledRow) → last_from o (xs ++ ys) ≡ last_from
+    (last_from o xs) ys
 last_behind o [] ys = refl
 last_behind o (x ∷ xs) ys = last_behind (Some x) xs ys
 

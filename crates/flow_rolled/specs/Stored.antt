@@ -1,5 +1,6 @@
 -- Rolled files on a disk, and how far one has been read.
-use Rattle.std.specs.Prelude.{◌≡◌, ◌⊎◌, ℕ, ◌+◌, ◌<◌, ◌≤◌, Bool, List, [], ◌∷◌, ◌++◌, length, take, drop, Option, Some, None}
+use Rattle.std.specs.Prelude.{◌≡◌, ◌⊎◌, ℕ, ◌+◌, ◌<◌, ◌≤◌, Bool, List, [], ◌∷◌, ◌++◌, length, take, drop, Option, Some}
+use Rattle.std.specs.Prelude.{None}
 use Rattle.std.specs.Prelude.{Vec, Result, Ok, Err}
 use Rattle.std.specs.declared.alloc.Global.{Global}
 use Rattle.std.specs.FinMap.{entries, get}
@@ -53,8 +54,8 @@ pub record HasRead (r : Reader) (rows : List RolledRow) : Type 0 where
 abbrev pub table_of : ℕ → List RolledRow → Table
 table_of width rows = record { width = width; sums = sums_of rows }
 
--- What a reader that has read these rows gives: the rows of the next message, so that it has read these too; or no more,
--- and the file is the rolled file of the rows it has read; or damage at the place where the octets break off.
+-- What a reader that has read these rows gives: the rows of the next message, so that it has read these too; or no
+-- more, and the file is the rolled file of the rows it has read; or damage at the place where the octets break off.
 abbrev pub Gives : Reader → List RolledRow → Result (Option (Vec RolledRow Global)) RowError → Reader → Type 0
 Gives old rows (Ok (Some more)) new = HasRead new (rows ++ more.items)
 Gives old rows (Ok None) new = IsRollup old.width old.part.octets (table_of old.width rows)
@@ -107,8 +108,8 @@ NamesFile part sum.OutOfMemory = Unit {0}
 
 -- ---- a reader's octets, some of them ahead
 
--- Where reading stands: the octets that were read ahead, the place of the next message, which is the first of these, the
--- end of the file, and what is known of the message before.
+-- Where reading stands: the octets that were read ahead, the place of the next message, which is the first of these,
+-- the end of the file, and what is known of the message before.
 pub record Progress : Type 0 where
   pub width : ℕ
   pub ahead : List ℕ

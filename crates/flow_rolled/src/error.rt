@@ -1,7 +1,8 @@
 //! Why octets, or a file, are not read as a rolled file.
 
 ghost use Rattle.std.specs.Prelude.{◌≡◌, Some};
-ghost use Rattle.flow_rolled.specs.Printed.{printed, row_error, row_printed, row_sum_printed, told_of_rows, told_of_sums};
+ghost use Rattle.flow_rolled.specs.Printed.{printed, row_error, row_printed, row_sum_printed, told_of_rows};
+ghost use Rattle.flow_rolled.specs.Printed.{told_of_sums};
 ghost use Rattle.flow_rolled.specs.declared.error.RolledError.TheVariants.{OutOfMemory};
 ghost use Rattle.flow_rolled.specs.declared.error.RowError.TheVariants as row;
 

@@ -7,8 +7,8 @@ use flow_disk::{DiskError, Faults, SealedFile};
 use std::alloc::Global;
 use std::marker::Model;
 
-/// A frozen rolled file, with the number of messages that were rolled into it. It is seen as its number, this count, its
-/// length and its octets, which reads give where the disk is honest.
+/// A frozen rolled file, with the number of messages that were rolled into it. It is seen as its number, this count,
+/// its length and its octets, which reads give where the disk is honest.
 #[derive(Drop)]
 pub struct RolledPart<S: SealedFile> {
     reader: S,
@@ -94,7 +94,8 @@ impl<S: SealedFile> RolledPart<S> {
     ) -> Result<Vec<u8>, DiskError>
         requires { at + count ≤ self.now.length }
         ensures count { IfOk result (λ got. vec_len got ≡ count) }
-        ensures octets { IsTrue self.now.honest → IfOk result (λ got. got.items ≡ take count (drop at self.now.octets)) }
+        ensures octets { IsTrue self.now.honest → IfOk result
+            (λ got. got.items ≡ take count (drop at self.now.octets)) }
         ensures cause { HasCause DiskError.Fault faults.old faults.new result }
     {
         self.reader.read(alloc, faults, at, count)

@@ -1,6 +1,7 @@
 //! The rows of a rolled file on a disk, message by message.
 
-ghost use Rattle.std.specs.Prelude.{◌≡◌, ◌<◌, ◌≤◌, List, [], ◌++◌, None, IsTrue, OnErr, OnOk, IfOk, IfErr, IfSome, IfNone, vec_len};
+ghost use Rattle.std.specs.Prelude.{◌≡◌, ◌<◌, ◌≤◌, List, [], ◌++◌, None, IsTrue, OnErr, OnOk, IfOk, IfErr, IfSome};
+ghost use Rattle.std.specs.Prelude.{IfNone, vec_len};
 ghost use Rattle.flow_disk.specs.Cause.{HasCause};
 ghost use Rattle.flow_rolled.specs.declared.row.RolledRow.{RolledRow};
 ghost use Rattle.flow_rolled.specs.Stored.{HasGiven, HasRead, Gives, IsTold};

@@ -168,8 +168,8 @@ fn seventy_domains(rt: HostRuntime) -> Result<(), Fail> {
     Ok(())
 }
 
-/// Where a file of two domains, of one row each, is refused with this octet raised by one. It is another file's where it
-/// counts in a row, or is its protocol.
+/// Where a file of two domains, of one row each, is refused with this octet raised by one. It is another file's where
+/// it counts in a row, or is its protocol.
 fn refused_at(place: usize) -> Option<usize> {
     match place {
         4..8 | 12..16 => Some(100),

@@ -54,8 +54,8 @@ fn add_widened(rows: &mut Rows, list: &[RolledRow]) -> Result<(), SumError>
 /// under the key of the interval that holds its start. No list of them is made: it takes memory for one piece of the
 /// file, the rows of one message, and new keys.
 ///
-/// What `RowReader` refuses is refused so; 14 SumSpent where a sum would pass its type. After an `Err` some rows may have
-/// been added.
+/// What `RowReader` refuses is refused so; 14 SumSpent where a sum would pass its type. After an `Err` some rows may
+/// have been added.
 pub fn sum_rows<S: SealedFile>(
     alloc: Global,
     faults: &mut Faults<S>,

@@ -62,7 +62,8 @@ none_more (m ∷ ms) a each is = (each.0, none_more ms a each.1 is)
 
 -- one message more
 pub one_more : (Kind Next : List Accepted → Type 0) (octets : List ℕ) (from : ℕ) (before now after : AllTemplates)
-    (place next : ℕ) (rest more octets_of_one : List ℕ) (m : RawMessage) (b : Behind Kind octets from before now place rest)
+    (place next : ℕ) (rest more octets_of_one : List ℕ) (m : RawMessage)
+    (b : Behind Kind octets from before now place rest)
     → IsCutOff octets_of_one → rest ≡ octets_of_one ++ more → next ≡ place + length octets_of_one
     → IsAccepted octets_of_one now m after
     → Next (b.messages ++ record { octets = octets_of_one; message = m; after = after } ∷ [])
@@ -98,7 +99,8 @@ one_more Kind Next octets from before now after place next rest more one m b cut
 -- ---- a step over a part, and its message
 
 -- a message that stands at a cursor is one more
-pub step_more : (Kind Next : List Accepted → Type 0) (octets whole : List ℕ) (from file : ℕ) (before now after : AllTemplates)
+pub step_more : (Kind Next : List Accepted → Type 0) (octets whole : List ℕ) (from file : ℕ)
+    (before now after : AllTemplates)
     (old new : Cursor) (message : List ℕ) (m : RawMessage)
     (b : Behind Kind whole from before now old.place (rest_of octets old))
     → IsPartStep octets file old (Ok true) new → new.place ≡ old.place + length new.message → message ≡ new.message
@@ -106,7 +108,8 @@ pub step_more : (Kind Next : List Accepted → Type 0) (octets whole : List ℕ)
     → Next (b.messages ++ record { octets = message; message = m; after = after } ∷ [])
     → Behind Next whole from before after new.place (rest_of octets new)
 step_more Kind Next octets whole from file before now after old new message m b step place same is kind =
-    one_more Kind Next whole from before now after old.place new.place (rest_of octets old) (rest_of octets new) message m b
+    one_more Kind Next whole from before now after old.place new.place (rest_of octets old) (rest_of octets new)
+    message m b
     (subst IsCutOff (sym same) step.0)
     (step.1 ∙ ap (λ (t : List ℕ). t ++ rest_of octets new) (sym same))
     (place ∙ ap (λ (t : List ℕ). old.place + length t) (sym same)) is kind
@@ -134,7 +137,8 @@ prefix_more honest octets prefix file number at true now after old new message g
     let was = sofar h in
     let s = step h was.1 in
     let m : RawMessage = x.0 in (
-      step_more HaveNoRecords HaveNoRecords octets (part_octets 0 prefix octets) 0 file [] now after old new message m was.0 s.1
+      step_more HaveNoRecords HaveNoRecords octets (part_octets 0 prefix octets) 0 file [] now after old new message m
+          was.0 s.1
           moves.2 same x.1
           (none_more was.0.messages (record { octets = message; message = m; after = after }) was.0.kind x.2),
       s.0,

@@ -12,8 +12,8 @@ use flow_disk::{Disk, DiskError};
 /// The closed gate behind the messages of a segment that isn't sealed.
 const TRAILER: [u8; 2] = [0, 0];
 
-/// Makes the file of a segment without messages, whatever the file held: its prefix and a closed gate, settled. It takes
-/// no memory. Until Ok a stop may leave anything of this file.
+/// Makes the file of a segment without messages, whatever the file held: its prefix and a closed gate, settled. It
+/// takes no memory. Until Ok a stop may leave anything of this file.
 pub fn make_segment<D: Disk>(disk: &mut D, file: u64, prefix: &[u8]) -> Result<(), DiskError>
     requires thawed { (D.marks disk.old file).frozen ≡ false }
 

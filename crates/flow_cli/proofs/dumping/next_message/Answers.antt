@@ -9,7 +9,8 @@ returns-in-Ok-clause-next g c = λ fresh.
     let all = held_are c.in-Ok.header walked.0 c.new-held.result.records.items c.walk_message.new.sink.records.items
     c.new-held.ensures (walked.2 c.new-held.result) in
     accepted_next (progress c.args.reader.now (g.R.Read.remaining c.args.input.now))
-    (progress c.advance.new.self (g.R.Read.remaining c.advance.new.input)) c.args.templates.now c.walk_message.new.templates c.in-Ok.header
+    (progress c.advance.new.self (g.R.Read.remaining c.advance.new.input)) c.args.templates.now
+    c.walk_message.new.templates c.in-Ok.header
     walked.0 c.message.result.now (record {
       header = c.in-Ok.header;
       records =
@@ -22,6 +23,7 @@ returns-clause-next g c = λ fresh.
     let fault = rw c.in-Err-Message.field-0-is at c.in-Err-Message.ensures.fault in
     rw c.of_message.ensures.value
     (refused_by (progress c.args.reader.now (g.R.Read.remaining c.args.input.now))
-    (progress c.advance.new.self (g.R.Read.remaining c.advance.new.input)) c.args.templates.now c.walk_message.new.templates c.count.result
+    (progress c.advance.new.self (g.R.Read.remaining c.advance.new.input)) c.args.templates.now
+    c.walk_message.new.templates c.count.result
     c.message.result.now c.in_ok-advance.field-0 c.in_ok-advance.ensures.step c.if-not-branch.false
     c.message.ensures.value c.count.ensures.value c.in-Err-Message.fault fault)

@@ -15,9 +15,12 @@ messages-init g c = begun c.args.width
 
 pub messages-preserved : goal.messages-preserved
 messages-preserved g c =
-    let step = subst (λ (b : Bool). IsStep (progress c.messages.reader (g.R.Read.remaining c.messages.input)) (Ok b) (progress c.advance.new.self (g.R.Read.remaining c.advance.new.input))) c.if-branch.true
+    let step = subst (λ (b : Bool). IsStep (progress c.messages.reader (g.R.Read.remaining c.messages.input)) (Ok b)
+    (progress c.advance.new.self (g.R.Read.remaining c.advance.new.input))) c.if-branch.true
     c.in_ok-advance.ensures.step in
-    stepped c.args.width (g.R.Read.remaining c.args.input.now) (progress c.messages.reader (g.R.Read.remaining c.messages.input)) (progress c.advance.new.self (g.R.Read.remaining c.advance.new.input))
+    stepped c.args.width (g.R.Read.remaining c.args.input.now)
+    (progress c.messages.reader (g.R.Read.remaining c.messages.input))
+    (progress c.advance.new.self (g.R.Read.remaining c.advance.new.input))
     c.messages.templates c.walk_message.new.templates c.messages.totals c.walk_message.new.sink
     c.in_default.field-0 c.message.result.now
     c.messages.invariant step c.message.ensures.value (c.in_default.ensures.found)
@@ -26,25 +29,32 @@ pub returns-in_err-advance-clause-refused : goal.returns-in_err-advance-clause-r
 returns-in_err-advance-clause-refused g c =
     err_of c.from_residual-in_err-advance.result _ _ c.from_residual-in_err-advance.ensures.1
     (ended_by c.args.width
-    (g.R.Read.remaining c.args.input.now) _ c.advance.new.self.ahead (progress c.messages.reader (g.R.Read.remaining c.messages.input)) (progress c.advance.new.self (g.R.Read.remaining c.advance.new.input)) c.messages.templates
+    (g.R.Read.remaining c.args.input.now) _ c.advance.new.self.ahead
+    (progress c.messages.reader (g.R.Read.remaining c.messages.input))
+    (progress c.advance.new.self (g.R.Read.remaining c.advance.new.input)) c.messages.templates
     c.messages.totals c.in_err-advance.field-0.0 c.messages.invariant c.in_err-advance.ensures.step
     (short_at c.messages.reader c.advance.new.self _ _ _ c.messages.invariant.going c.in_err-advance.ensures.within))
 
 pub returns-in-Err-clause-refused : goal.returns-in-Err-clause-refused
 returns-in-Err-clause-refused g c =
-    let step = subst (λ (b : Bool). IsStep (progress c.messages.reader (g.R.Read.remaining c.messages.input)) (Ok b) (progress c.advance.new.self (g.R.Read.remaining c.advance.new.input))) c.if-branch.true
+    let step = subst (λ (b : Bool). IsStep (progress c.messages.reader (g.R.Read.remaining c.messages.input)) (Ok b)
+    (progress c.advance.new.self (g.R.Read.remaining c.advance.new.input))) c.if-branch.true
     c.in_ok-advance.ensures.step in
     let refused = stopped_at c.args.width
-    (g.R.Read.remaining c.args.input.now) _ (progress c.messages.reader (g.R.Read.remaining c.messages.input)) (progress c.advance.new.self (g.R.Read.remaining c.advance.new.input)) c.messages.templates
+    (g.R.Read.remaining c.args.input.now) _ (progress c.messages.reader (g.R.Read.remaining c.messages.input))
+    (progress c.advance.new.self (g.R.Read.remaining c.advance.new.input)) c.messages.templates
     c.messages.totals c.message.result.now c.in-Err.stop
     c.messages.invariant step c.message.ensures.value (omega (arith, c.message.ensures.most)) c.in-Err.ensures.fault in
     rw (c.refusal_of.ensures.value, c.count.ensures.value) refused
 
 pub returns-clause-sums : goal.returns-clause-sums
 returns-clause-sums g c =
-    let step = subst (λ (b : Bool). IsStep (progress c.messages.reader (g.R.Read.remaining c.messages.input)) (Ok b) (progress c.advance.new.self (g.R.Read.remaining c.advance.new.input))) c.if-branch.false
+    let step = subst (λ (b : Bool). IsStep (progress c.messages.reader (g.R.Read.remaining c.messages.input)) (Ok b)
+    (progress c.advance.new.self (g.R.Read.remaining c.advance.new.input))) c.if-branch.false
     c.in_ok-advance.ensures.step in
-    summed c.args.width (g.R.Read.remaining c.args.input.now) (progress c.messages.reader (g.R.Read.remaining c.messages.input)) (progress c.advance.new.self (g.R.Read.remaining c.advance.new.input)) c.messages.templates
+    summed c.args.width (g.R.Read.remaining c.args.input.now)
+    (progress c.messages.reader (g.R.Read.remaining c.messages.input))
+    (progress c.advance.new.self (g.R.Read.remaining c.advance.new.input)) c.messages.templates
     c.messages.totals c.messages.invariant step
 
 pub returns-in_err-advance-clause-unwritten : goal.returns-in_err-advance-clause-unwritten

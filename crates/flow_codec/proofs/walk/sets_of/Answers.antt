@@ -38,9 +38,11 @@ loop-rest-preserved g c =
       goes_on g.S.RecordSink.holds g.S.RecordSink.refuses c.args.header.now c.args.sink.now c.args.end
           c.args.header.now.domain c.args.octets.now _ c.loop-rest.sink
           (current c.args.header.now.domain c.args.before.now c.loop-rest.changed) c.loop-rest.rest.now
-          c.loop-rest.invariant.1 some c.in_ok-id.id c.in_ok-id.content.now c.in_ok-id.after.now c.in_ok-id.ensures.exact
+          c.loop-rest.invariant.1 some c.in_ok-id.id c.in_ok-id.content.now c.in_ok-id.after.now
+          c.in_ok-id.ensures.exact
           c.in_ok-id.ensures.len c.content_of.new.sink
-          (current c.args.header.now.domain c.args.before.now c.content_of.new.changed) c.in_ok-content_of.ensures.exact,
+          (current c.args.header.now.domain c.args.before.now c.content_of.new.changed)
+          c.in_ok-content_of.ensures.exact,
     )
 
 pub returns-clause-exact : goal.returns-clause-exact

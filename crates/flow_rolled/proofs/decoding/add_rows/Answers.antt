@@ -77,7 +77,8 @@ returns-in_err-put-clause-err c =
     c.args.rows.now.width in
     let r = get_or list i none in
     let s = c.sums_in.ensures in
-    let fit = fit_with c.loop-row.rows c.sums_in.result w (e ++ take i list) (drop (i + 1) list) r (c.loop-row.invariant e c.requires.1) s
+    let fit = fit_with c.loop-row.rows c.sums_in.result w (e ++ take i list) (drop (i + 1) list) r
+    (c.loop-row.invariant e c.requires.1) s
     (at_row w e list i none c.loop-row-test.true c.requires.2)
     (few_front e list i c.loop-row-test.true c.requires.3) in
     passed c.from_residual.result c.in_err-put.field-0.0 c.from_residual.ensures.1

@@ -78,7 +78,8 @@ loop-rest-preserved c =
     let list : c.deref.result.now ≡ p.rows = c.deref.ensures.value in
     let added = when_ok c.add_rows.result _ c.add_rows.ensures.ok (sym c.is_err.ensures.value ∙ c.if-is_err.false) in
     let new : c.add_rows.new.rows ≡ record { width = w; sums = sums_of (rows_within front ++ p.rows) } =
-    added (rows_within front) sums ∙ (λ i. record { width = width i; sums = sums_of (rows_within front ++ list i) }) in (
+    added (rows_within front) sums ∙ (λ i. record { width = width i; sums = sums_of (rows_within front ++ list i) })
+    in (
       front ++ p ∷ [],
       one_more w c.args.octets.now c.loop-rest.rest.now c.in-Some.after.now c.loop-rest.before
           c.loop-rest.rows c.add_rows.new.rows front p c.behind.result h found next

@@ -39,7 +39,8 @@ returns-then-count-eq0 g c =
     let within : w.end ≤ length w.octets.items = omega arith in
     let same = read_in w c.deref_mut.result.now read c.deref_mut.ensures.value (omega arith) c.read.auto.buffer in
     let bytes = c.in_ok-count.ensures.bytes in
-    let end = bytes.1 c.if-count-eq0.true (omega (arith, c.read.auto.buffer, length-take {A = ℕ}, length-drop {A = ℕ}, c.deref_mut.ensures.len)) in
+    let end = bytes.1 c.if-count-eq0.true
+    (omega (arith, c.read.auto.buffer, length-take {A = ℕ}, length-drop {A = ℕ}, c.deref_mut.ensures.len)) in
     let none : w.end + 0 ≡ w.end = omega arith in
     let room = length w.octets.items - w.end in
     rw c.if-count-eq0.true (

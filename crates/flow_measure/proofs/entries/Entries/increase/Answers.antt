@@ -39,7 +39,8 @@ invariant_of-self c =
     let at = found c.args.key items c.args.place
     (subst (λ es. place_of c.args.key es ≡ Some c.args.place) (sym c.self.view_is) c.requires) in
     let here = c.index_mut.ensures.value ∙ read items c.args.place c.index_mut.result.now (c.args.key, at.0) at.1 in
-    subst (λ (e : Key × Sums). ArePlaces c.self.inside.places.entries (slice_set items c.args.place (e.0, c.in-Some.sum)))
+    subst (λ (e : Key × Sums). ArePlaces c.self.inside.places.entries
+    (slice_set items c.args.place (e.0, c.in-Some.sum)))
     (sym here)
     (replaced c.self.inside.places.entries items c.args.place c.args.key at.0 c.in-Some.sum at.1 c.self.invariant)
 

@@ -21,7 +21,8 @@ returns-clause-steps c =
     ∙ sym (ap (λ (x : Progress). x.ahead) view) in
     let again : c.ahead-2.result.now ≡ c.ahead.result.now = c.ahead-2.ensures.value ∙ sym c.ahead.ensures.value in
     let n = length c.ahead-2.result.now - length c.in-Some-2.rest.now in
-    let cut = passed inside.piece.items c.ahead.result.now (part_octets w p) c.in-Some-2.rest.now inside.at n first found
+    let cut = passed inside.piece.items c.ahead.result.now (part_octets w p) c.in-Some-2.rest.now inside.at n first
+    found
     (ap (λ (l : List ℕ). length l - length c.in-Some-2.rest.now) again) in
     record {
       message = p;

@@ -1,7 +1,8 @@
 use Rattle.std.proofs.Common.{◌≡◌, ◌<◌, ◌≤◌, sym, ap, subst, ◌∙◌, refl, length}
 use Rattle.std.specs.Prelude.{IsTrue, IfOk, IfSome}
 use Rattle.flow_rolled.specs.Stored.{Rollup, Reader, HasGiven, HasRead, Gives}
-use Rattle.flow_rolled.proofs.Pieces.{IsMid, mid_fed, mid_near, reader_at, gives, step_on, step_end, step_further, step_given}
+use Rattle.flow_rolled.proofs.Pieces.{IsMid, mid_fed, mid_near, reader_at, gives, step_on, step_end, step_further}
+use Rattle.flow_rolled.proofs.Pieces.{step_given}
 use Rattle.flow_rolled.proofs.reader.RowReader.next.Given.{Over}
 use Rattle.flow_rolled.proofs.reader.RowReader.next.Goals.{then-is_short+in_ok-piece, else-is_short}
 use Rattle.flow_rolled.proofs.reader.RowReader.next.Goals as goal
@@ -48,7 +49,8 @@ returns-clause-further g c =
     let went = step_further c.file.result here.cursor c.step.new.self c.step.result c.step.ensures.within
     c.step.ensures.steps in
     let place : here.cursor.place ≡ c.args.self.now.place = ap (λ (r : Reader). r.place) was in
-    let end : here.cursor.end ≡ c.args.self.now.part.length = (ready g c).0.end ∙ ap (λ (r : Reader). r.part.length) was in
+    let end : here.cursor.end ≡ c.args.self.now.part.length = (ready g c).0.end ∙ ap (λ (r : Reader). r.part.length)
+    was in
     subst (λ n. IfOk c.step.result (λ o. IfSome o (λ _. (n < c.step.new.self.place)
     × (c.step.new.self.place ≤ c.args.self.now.part.length)))) place
     (subst (λ n. IfOk c.step.result (λ o. IfSome o (λ _. (here.cursor.place < c.step.new.self.place)
@@ -67,7 +69,8 @@ returns-clause-gives g c = λ honest rows so.
     let r = ready g c in
     let was = reader_was g c in
     let truly : IsTrue part.honest = subst (λ (q : Reader). IsTrue q.part.honest) (sym was) honest in
-    let whole = subst (λ (p : Rollup). IsTrue p.honest → length p.octets ≡ p.length) (sym r.1) c.self.invariant.1 truly in
+    let whole = subst (λ (p : Rollup). IsTrue p.honest → length p.octets ≡ p.length) (sym r.1) c.self.invariant.1
+    truly in
     subst (λ (q : Reader). Gives q rows c.step.result (reader_at part c.step.new.self)) was
     (gives part rows c.file.result here.cursor c.step.new.self c.step.result c.file.ensures c.step.ensures.wide
     (whole ∙ sym r.0.end) c.step.ensures.within (r.0.on truly) r.0.ready c.step.ensures.steps
