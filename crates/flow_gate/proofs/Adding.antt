@@ -1,6 +1,6 @@
 -- A batch that is placed and then opened.
 use Rattle.std.proofs.Common.{◌≡◌, inl, ℕ, ◌+◌, List, [], take, ◌∙◌, subst, arith}
-use Rattle.flow_gate.specs.Gate.{IsClosedAt, IsGated, octets_of}
+use Rattle.flow_gate.specs.Gate.{IsClosedAt, IsGated, octet_sum}
 use Rattle.flow_gate.specs.Steps.{KeepsLists, MayAdd, Adds}
 use Rattle.flow_gate.proofs.Rows.{shorter}
 
@@ -28,7 +28,7 @@ kept_then_adds end messages a b c kept opens = record {
 
 -- the closed gate behind the batch, where the next one goes
 pub closed_behind : (end : ℕ) (messages : List (List ℕ)) (before after : List ℕ) → IsClosedAt before end
-    → Adds end messages before after → IsClosedAt after (end + octets_of messages)
+    → Adds end messages before after → IsClosedAt after (end + octet_sum messages)
 closed_behind end messages before after closed adds =
     let here : IsGated before end [] =
     record { row = tt; closed = subst (λ (p : ℕ). IsClosedAt before p) (omega arith) closed } in

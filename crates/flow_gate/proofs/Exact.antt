@@ -3,7 +3,7 @@ use Rattle.std.proofs.Common.{◌≡◌, ◌≢◌, ⊎_elim, inl, inr, ℕ, ◌
 use Rattle.std.proofs.Common.{refl, sym, ◌∙◌, ap, subst, arith, length-drop, length-take}
 use Rattle.std.proofs.lemmas.List.{get_or-take, get_or-drop}
 use Rattle.flow_gate.specs.Gate.{IsWhole, IsMessageAt, IsClosedAt, IsFaultyAt, StandsAt, StandInRow, IsGated, IsDamaged}
-use Rattle.flow_gate.specs.Gate.{octets_of, length_field}
+use Rattle.flow_gate.specs.Gate.{octet_sum, length_field}
 
 module _ (octets : List ℕ) (place : ℕ) (message : List ℕ) (whole : IsWhole message)
     (stands : StandsAt octets place message) where
@@ -54,7 +54,7 @@ same_message octets place a b whole_a at_a whole_b at_b =
     ∙ field octets place b whole_b at_b) ∙ at_b
 
 rows_same : (octets : List ℕ) (place : ℕ) (a b : List (List ℕ)) → StandInRow octets place a
-    → IsClosedAt octets (place + octets_of a) → StandInRow octets place b → IsClosedAt octets (place + octets_of b)
+    → IsClosedAt octets (place + octet_sum a) → StandInRow octets place b → IsClosedAt octets (place + octet_sum b)
     → a ≡ b
 rows_same octets place [] [] row_a end_a row_b end_b = refl
 rows_same octets place [] (m ∷ b) row_a end_a row_b end_b =
@@ -75,7 +75,7 @@ one_list octets from a b gated_a gated_b =
     rows_same octets from a b gated_a.row gated_a.closed gated_b.row gated_b.closed
 
 rows_differ : (octets : List ℕ) (place : ℕ) (a b : List (List ℕ)) → StandInRow octets place a
-    → IsClosedAt octets (place + octets_of a) → StandInRow octets place b → IsFaultyAt octets (place + octets_of b) → ⊥
+    → IsClosedAt octets (place + octet_sum a) → StandInRow octets place b → IsFaultyAt octets (place + octet_sum b) → ⊥
 rows_differ octets place [] [] row_a end_a row_b end_b = closed_not_faulty octets (place + 0) end_a end_b
 rows_differ octets place [] (m ∷ b) row_a end_a row_b end_b =
     not_closed octets place m row_b.0 row_b.1 (subst (λ (p : ℕ). IsClosedAt octets p) (omega arith) end_a)
@@ -90,7 +90,7 @@ rows_differ octets place (m ∷ a) (n ∷ b) row_a end_a row_b end_b =
 
 -- two rows of as many octets are one
 pub one_row : (octets : List ℕ) (place : ℕ) (a b : List (List ℕ)) → StandInRow octets place a
-    → StandInRow octets place b → octets_of a ≡ octets_of b → a ≡ b
+    → StandInRow octets place b → octet_sum a ≡ octet_sum b → a ≡ b
 one_row octets place [] [] row_a row_b same = refl
 one_row octets place [] (n ∷ b) row_a row_b same = let whole = row_b.0 in absurd (omega (arith, whole.long, same))
 one_row octets place (m ∷ a) [] row_a row_b same = let whole = row_a.0 in absurd (omega (arith, whole.long, same))
@@ -105,9 +105,9 @@ some : (m : List ℕ) (a : List (List ℕ)) → m ∷ a ≢ []
 some m a same = cc
 
 faults_same : (octets : List ℕ) (place : ℕ) (a b : List (List ℕ)) → StandInRow octets place a
-    → (a ≢ [] → place + octets_of a + 2 ≤ length octets) → IsFaultyAt octets (place + octets_of a)
-    → StandInRow octets place b → (b ≢ [] → place + octets_of b + 2 ≤ length octets)
-    → IsFaultyAt octets (place + octets_of b) → octets_of a ≡ octets_of b
+    → (a ≢ [] → place + octet_sum a + 2 ≤ length octets) → IsFaultyAt octets (place + octet_sum a)
+    → StandInRow octets place b → (b ≢ [] → place + octet_sum b + 2 ≤ length octets)
+    → IsFaultyAt octets (place + octet_sum b) → octet_sum a ≡ octet_sum b
 faults_same octets place [] [] row_a fits_a end_a row_b fits_b end_b = refl
 faults_same octets place [] (n ∷ b) row_a fits_a end_a row_b fits_b end_b =
     absurd (not_faulty octets place n row_b.0 row_b.1 (omega (arith, fits_b (some n b)))

@@ -14,7 +14,7 @@ use Rattle.flow_gate.specs.declared.tail.ScanError.TheVariants.{Damaged, Fault, 
 use Rattle.flow_gate.specs.Scan.{IsTail, IsTold, IsTailRead, IsToldRead, IsGiven, IsRefused, IsNamed, texts}
 use Rattle.flow_gate.proofs.Exact.{one_list, never_both, one_place}
 use Rattle.flow_gate.specs.Gate.{IsWhole, IsClosedAt, IsFaultyAt, StandsAt, StandInRow, IsGated, IsDamaged}
-use Rattle.flow_gate.specs.Gate.{length_field, octets_of}
+use Rattle.flow_gate.specs.Gate.{length_field, octet_sum}
 
 module _ (octets : List ℕ) (from : ℕ) where
   octet : (place far : ℕ) → far ≡ from + place → get_or (drop from octets) place 0 ≡ get_or octets far 0
@@ -59,7 +59,7 @@ module _ (octets : List ℕ) (from : ℕ) where
   pub gated_behind : (list : List (List ℕ)) → IsGated (drop from octets) 0 list → IsGated octets from list
   gated_behind list gated = record {
     row = subst (λ (p : ℕ). StandInRow octets p list) (omega arith) (row_behind 0 list gated.row);
-    closed = subst (λ (p : ℕ). IsClosedAt octets p) (omega arith) (closed_behind (0 + octets_of list) gated.closed);
+    closed = subst (λ (p : ℕ). IsClosedAt octets p) (omega arith) (closed_behind (0 + octet_sum list) gated.closed);
   }
 
   pub damaged_behind : (place at : ℕ) → at ≡ from + place → from ≤ length octets → IsDamaged (drop from octets) 0 place
@@ -127,7 +127,7 @@ pub given_in : (reads : List ℕ) (file from : ℕ) (list : List (List ℕ)) →
     → IfErr result (λ e. IsTold reads file from e) → IsGiven list from result
 given_in reads file from list gated (Ok tail) found told =
     let same = one_list reads from (texts tail.messages.items) list found.gated gated in
-    (same, found.ends ∙ ap (λ l. from + octets_of l) same)
+    (same, found.ends ∙ ap (λ l. from + octet_sum l) same)
 given_in reads file from list gated (Err e) found told = given_of reads file from list gated e told
 
 -- damage is told at its place

@@ -4,10 +4,10 @@ use Rattle.std.proofs.Common.{◌≡◌, ◌≢◌, ◌⊎◌, inl, inr, ⊎_eli
 use Rattle.std.proofs.Common.{length, get_or, take, drop, sym, ◌∙◌, ap, subst, arith, length-drop}
 use Rattle.std.proofs.lemmas.List.{length-take-le, get_or-take, get_or-drop}
 use Rattle.flow_gate.specs.Gate.{IsWhole, IsMessageAt, StandsAt, StandInRow, IsClosedAt, IsFaultyAt, IsGated, IsDamaged}
-use Rattle.flow_gate.specs.Gate.{length_field, octets_of}
+use Rattle.flow_gate.specs.Gate.{length_field, octet_sum}
 use Rattle.flow_gate.specs.Scan.{IsOpenAt}
 use Rattle.flow_gate.proofs.Exact.{same_message, message_here, fits}
-use Rattle.flow_gate.proofs.Rows.{row_push, octets_of-push}
+use Rattle.flow_gate.proofs.Rows.{row_push, octet_sum-push}
 
 module _ (octets : List ℕ) (at count : ℕ) (found : IsMessageAt octets at count) where
   part : List ℕ
@@ -34,20 +34,20 @@ module _ (octets : List ℕ) (at count : ℕ) (found : IsMessageAt octets at cou
   }
 
   pub one_more : (from : ℕ) (list : List (List ℕ)) (message : List ℕ) → message ≡ take count (drop at octets)
-      → StandInRow octets from list → at ≡ from + octets_of list
-      → StandInRow octets from (list ++ message ∷ []) × (at + count ≡ from + octets_of (list ++ message ∷ []))
+      → StandInRow octets from list → at ≡ from + octet_sum list
+      → StandInRow octets from (list ++ message ∷ []) × (at + count ≡ from + octet_sum (list ++ message ∷ []))
   one_more from list message is row place = (
     row_push octets from list message row (subst (λ (m : List ℕ). IsWhole m) (sym is) whole)
         (subst (λ (p : ℕ). StandsAt octets p message) place
         (subst (λ (m : List ℕ). StandsAt octets at m) (sym is)
         (ap (λ (n : ℕ). take n (drop at octets)) part_long))),
-    omega (arith, place, octets_of-push list message, ap length is, part_long),
+    omega (arith, place, octet_sum-push list message, ap length is, part_long),
   )
 
 -- no other row fills the octets where this one can't go on
 pub no_fill : (octets : List ℕ) (place : ℕ) (a b : List (List ℕ)) → StandInRow octets place a
-    → ((count : ℕ) → IsMessageAt octets (place + octets_of a) count → ⊥) → (place + octets_of a ≡ length octets → ⊥)
-    → StandInRow octets place b → place + octets_of b ≡ length octets → ⊥
+    → ((count : ℕ) → IsMessageAt octets (place + octet_sum a) count → ⊥) → (place + octet_sum a ≡ length octets → ⊥)
+    → StandInRow octets place b → place + octet_sum b ≡ length octets → ⊥
 no_fill octets place [] [] row_a stops more row_b ends = more ends
 no_fill octets place [] (n ∷ b) row_a stops more row_b ends =
     stops (length n) (subst (λ (p : ℕ). IsMessageAt octets p (length n)) (omega arith)
@@ -135,7 +135,7 @@ message_more octets from count found rest =
         );
         place = omega (arith, long, damaged.place);
         fits = λ some. fits_more octets there.0 damaged.list damaged.fits
-            (λ none. omega (arith, found.room, damaged.place, ap octets_of none));
+            (λ none. omega (arith, found.room, damaged.place, ap octet_sum none));
         fault = damaged.fault;
       },
     ))

@@ -9,11 +9,11 @@ use Rattle.std.proofs.lemmas.List.Elements.{All-head, All-tail}
 use Rattle.std.proofs.lemmas.List.Folds.{concat-append}
 use Rattle.std.specs.List.{All, concat}
 use Rattle.flow_disk.specs.Disk.{put_at}
-use Rattle.flow_gate.specs.Gate.{IsWhole, IsClosedAt, StandsAt, StandInRow, IsGated, IsPlaced, octets_of, opened}
+use Rattle.flow_gate.specs.Gate.{IsWhole, IsClosedAt, StandsAt, StandInRow, IsGated, IsPlaced, octet_sum, opened}
 use Rattle.flow_gate.specs.Steps.{slices, put_behind, put_batch}
 use Rattle.flow_gate.proofs.Rows.{closed_front}
 
-pub length_concat : (list : List (List ℕ)) → length (concat list) ≡ octets_of list
+pub length_concat : (list : List (List ℕ)) → length (concat list) ≡ octet_sum list
 length_concat [] = refl
 length_concat (message ∷ list) = omega (arith, length-append message (concat list), length_concat list)
 
@@ -83,7 +83,7 @@ whole_at (message ∷ messages) whole (suc k) none lt =
 
 -- one message more
 pub put_next : (old : List ℕ) (end : ℕ) (done : List (List ℕ)) (message : List ℕ) (at kept : ℕ) (part : List ℕ)
-    → end + 2 ≤ length old → at ≡ end + octets_of done → IsNext end at kept
+    → end + 2 ≤ length old → at ≡ end + octet_sum done → IsNext end at kept
     → part ≡ take (length message - kept) (drop kept message)
     → put_at (put_behind old end done) (at + kept) part ≡ put_behind old end (done ++ message ∷ [])
 put_next old end done message at kept part within place next is =
@@ -109,8 +109,8 @@ put_next old end done message at kept part within place next is =
         next.next
 
 -- and the trailer
-pub put_trailer : (old : List ℕ) (end at : ℕ) (done : List (List ℕ)) → end + 2 ≤ length old → at ≡ end + octets_of done
-    → 2 ≤ octets_of done
+pub put_trailer : (old : List ℕ) (end at : ℕ) (done : List (List ℕ)) → end + 2 ≤ length old → at ≡ end + octet_sum done
+    → 2 ≤ octet_sum done
     → put_at (put_behind old end done) at (0 ∷ 0 ∷ []) ≡ put_batch old end done
 put_trailer old end at done within place some = ap (λ n. put_at (put_behind old end done) n (0 ∷ 0 ∷ [])) there
     ∙ put_more old (end + 2) (drop 2 (concat done)) (0 ∷ 0 ∷ []) within
@@ -154,22 +154,22 @@ gated_of before after list whole = record {
   row = row_of before (0 ∷ 0 ∷ after) list whole;
   closed = record {
     room = omega (arith, ap length flat, length-append (before ++ concat list) (0 ∷ 0 ∷ after), long);
-    zero_octet = ap (λ l. get_or l (length before + octets_of list) 0) flat
-        ∙ get_or_at (before ++ concat list) 0 (0 ∷ after) 0 (length before + octets_of list) long;
+    zero_octet = ap (λ l. get_or l (length before + octet_sum list) 0) flat
+        ∙ get_or_at (before ++ concat list) 0 (0 ∷ after) 0 (length before + octet_sum list) long;
     shut = λ ten. omega (arith, second, ten);
   };
 }
   where
-    long : length (before ++ concat list) ≡ length before + octets_of list
+    long : length (before ++ concat list) ≡ length before + octet_sum list
     long = omega (arith, length-append before (concat list), length_concat list)
 
     flat : before ++ (concat list ++ (0 ∷ 0 ∷ after)) ≡ (before ++ concat list) ++ (0 ∷ 0 ∷ after)
     flat = sym (append_assoc before (concat list) (0 ∷ 0 ∷ after))
 
-    second : get_or (before ++ (concat list ++ (0 ∷ 0 ∷ after))) (length before + octets_of list + 1) 0 ≡ 0
-    second = ap (λ l. get_or l (length before + octets_of list + 1) 0) (flat
+    second : get_or (before ++ (concat list ++ (0 ∷ 0 ∷ after))) (length before + octet_sum list + 1) 0 ≡ 0
+    second = ap (λ l. get_or l (length before + octet_sum list + 1) 0) (flat
         ∙ sym (append_assoc (before ++ concat list) (0 ∷ []) (0 ∷ after)))
-        ∙ get_or_at ((before ++ concat list) ++ (0 ∷ [])) 0 after 0 (length before + octets_of list + 1)
+        ∙ get_or_at ((before ++ concat list) ++ (0 ∷ [])) 0 after 0 (length before + octet_sum list + 1)
         (omega (arith, length-append (before ++ concat list) (0 ∷ []), long))
 
 -- whole messages begin with the open gate

@@ -31,9 +31,9 @@ StandInRow octets place (message ∷ list) = IsWhole message × StandsAt octets 
     × StandInRow octets (place + length message) list
 
 -- how many octets they have
-abbrev pub octets_of : List (List ℕ) → ℕ
-octets_of [] = 0
-octets_of (message ∷ list) = length message + octets_of list
+abbrev pub octet_sum : List (List ℕ) → ℕ
+octet_sum [] = 0
+octet_sum (message ∷ list) = length message + octet_sum list
 
 -- A whole message of so many octets stands at a place, as far as the gate looks.
 pub record IsMessageAt (octets : List ℕ) (place count : ℕ) : Type 0 where
@@ -46,12 +46,12 @@ pub record IsMessageAt (octets : List ℕ) (place count : ℕ) : Type 0 where
 -- Whole messages stand from a place on, up to the end: a list without a gate behind it.
 pub record IsRow (octets : List ℕ) (from : ℕ) (list : List (List ℕ)) : Type 0 where
   pub row : StandInRow octets from list
-  pub ends : from + octets_of list ≡ length octets
+  pub ends : from + octet_sum list ≡ length octets
 
 -- The gated list: these messages from a place on, and then a closed gate.
 pub record IsGated (octets : List ℕ) (place : ℕ) (list : List (List ℕ)) : Type 0 where
   pub row : StandInRow octets place list
-  pub closed : IsClosedAt octets (place + octets_of list)
+  pub closed : IsClosedAt octets (place + octet_sum list)
 
 -- neither a closed gate nor a message that fits with 2 octets behind it
 abbrev pub IsFaultyAt : List ℕ → ℕ → Type 0
@@ -63,7 +63,7 @@ IsFaultyAt octets place = (length octets < place + 2) ⊎ (get_or octets place 0
 pub record IsDamaged (octets : List ℕ) (from at : ℕ) : Type 0 where
   pub list : List (List ℕ)
   pub row : StandInRow octets from list
-  pub place : at ≡ from + octets_of list
+  pub place : at ≡ from + octet_sum list
   pub fits : list ≢ [] → at + 2 ≤ length octets
   pub fault : IsFaultyAt octets at
 

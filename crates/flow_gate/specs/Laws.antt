@@ -1,7 +1,7 @@
 -- Laws of gated lists.
 use Rattle.std.specs.Prelude.{◌≡◌, ◌⊎◌, ℕ, ◌+◌, ◌≤◌, List, take, drop}
 use Rattle.std.specs.List.{concat}
-use Rattle.flow_gate.specs.Gate.{StandInRow, IsGated, IsDamaged, octets_of}
+use Rattle.flow_gate.specs.Gate.{StandInRow, IsGated, IsDamaged, octet_sum}
 
 -- At most one gated list fits.
 abbrev pub OneListFits : Type 0
@@ -24,19 +24,19 @@ OnePlaceDamaged = (octets : List ℕ) (from a b : ℕ) → IsDamaged octets from
 -- A row is its messages' octets,
 abbrev pub RowIsItsOctets : Type 0
 RowIsItsOctets = (octets : List ℕ) (from : ℕ) (list : List (List ℕ)) → StandInRow octets from list
-    → take (octets_of list) (drop from octets) ≡ concat list
+    → take (octet_sum list) (drop from octets) ≡ concat list
 
 -- stays where the file is cut behind it,
 abbrev pub RowStaysInCut : Type 0
-RowStaysInCut = (octets : List ℕ) (from count : ℕ) (list : List (List ℕ)) → from + octets_of list ≤ count
+RowStaysInCut = (octets : List ℕ) (from count : ℕ) (list : List (List ℕ)) → from + octet_sum list ≤ count
     → StandInRow octets from list → StandInRow (take count octets) from list
 
 -- and no other one has as many octets.
 abbrev pub OneRowFits : Type 0
 OneRowFits = (octets : List ℕ) (from : ℕ) (a b : List (List ℕ)) → StandInRow octets from a → StandInRow octets from b
-    → octets_of a ≡ octets_of b → a ≡ b
+    → octet_sum a ≡ octet_sum b → a ≡ b
 
 -- A gated list stays where the file is cut behind its gate.
 abbrev pub ListStaysInCut : Type 0
-ListStaysInCut = (octets : List ℕ) (from count : ℕ) (list : List (List ℕ)) → from + octets_of list + 2 ≤ count
+ListStaysInCut = (octets : List ℕ) (from count : ℕ) (list : List (List ℕ)) → from + octet_sum list + 2 ≤ count
     → IsGated octets from list → IsGated (take count octets) from list

@@ -9,7 +9,7 @@ use Rattle.flow_gate.specs.declared.tail.Found.TheVariants.{Closed, Message, Dam
 use Rattle.flow_gate.specs.declared.tail.Tail.{Tail}
 use Rattle.flow_gate.specs.declared.tail.ScanError.{ScanError}
 use Rattle.flow_gate.specs.declared.tail.ScanError.TheVariants.{Damaged, Fault, OutOfMemory}
-use Rattle.flow_gate.specs.Gate.{IsClosedAt, IsFaultyAt, IsMessageAt, IsGated, IsDamaged, octets_of}
+use Rattle.flow_gate.specs.Gate.{IsClosedAt, IsFaultyAt, IsMessageAt, IsGated, IsDamaged, octet_sum}
 
 -- the octets of each message
 abbrev pub texts : List (Vec ℕ Global) → List (List ℕ)
@@ -18,7 +18,7 @@ texts messages = map (λ (message : Vec ℕ Global). message.items) messages
 -- The list that stands from a place on, and where it ends.
 pub record IsTail (octets : List ℕ) (from end : ℕ) (messages : List (Vec ℕ Global)) : Type 0 where
   pub gated : IsGated octets from (texts messages)
-  pub ends : end ≡ from + octets_of (texts messages)
+  pub ends : end ≡ from + octet_sum (texts messages)
 
 -- Damage is told of this file alone, at its place.
 abbrev pub IsTold : List ℕ → ℕ → ℕ → ScanError → Type 0
@@ -34,7 +34,7 @@ IsNamed file from OutOfMemory = Unit {0}
 
 -- Where this list stands it is given, and no damage is told.
 abbrev pub IsGiven : List (List ℕ) → ℕ → Result Tail ScanError → Type 0
-IsGiven list from (Ok tail) = (texts tail.messages.items ≡ list) × (tail.end ≡ from + octets_of list)
+IsGiven list from (Ok tail) = (texts tail.messages.items ≡ list) × (tail.end ≡ from + octet_sum list)
 IsGiven list from (Err (Damaged of at)) = ⊥
 IsGiven list from (Err Fault) = Unit {0}
 IsGiven list from (Err OutOfMemory) = Unit {0}
@@ -49,7 +49,7 @@ IsRefused file place (Err OutOfMemory) = Unit {0}
 -- the same of octets that were read from place `from` on
 pub record IsTailRead (octets : List ℕ) (from end : ℕ) (messages : List (Vec ℕ Global)) : Type 0 where
   pub gated : IsGated octets 0 (texts messages)
-  pub ends : end ≡ from + octets_of (texts messages)
+  pub ends : end ≡ from + octet_sum (texts messages)
 
 abbrev pub IsToldRead : List ℕ → ℕ → ℕ → ScanError → Type 0
 IsToldRead octets file from (Damaged of at) = (of ≡ file) × (place : ℕ) × (at ≡ from + place) × IsDamaged octets 0 place

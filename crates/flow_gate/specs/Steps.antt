@@ -3,7 +3,7 @@ use Rattle.std.specs.Prelude.{◌≡◌, ◌⊎◌, ℕ, ◌+◌, List, [], ◌�
 use Rattle.std.specs.Borrow.{Bor}
 use Rattle.std.specs.List.{concat}
 use Rattle.flow_disk.specs.Disk.{put_at}
-use Rattle.flow_gate.specs.Gate.{IsGated, IsPlaced, octets_of}
+use Rattle.flow_gate.specs.Gate.{IsGated, IsPlaced, octet_sum}
 
 -- the octets of each message
 abbrev pub slices : List (Bor (List ℕ)) → List (List ℕ)
@@ -20,7 +20,7 @@ put_batch octets end messages = put_at octets (end + 2) (drop 2 (concat messages
 -- What stands up to the gate at `end` is as it was, and so is each list that ends there.
 pub record KeepsLists (end : ℕ) (before after : List ℕ) : Type 0 where
   pub front : take (end + 2) after ≡ take (end + 2) before
-  pub lists : (from : ℕ) (list : List (List ℕ)) → IsGated before from list → from + octets_of list ≡ end
+  pub lists : (from : ℕ) (list : List (List ℕ)) → IsGated before from list → from + octet_sum list ≡ end
       → IsGated after from list
 
 -- The same, and the messages stand behind the gate.
@@ -31,11 +31,11 @@ pub record Places (end : ℕ) (messages : List (List ℕ)) (before after : List 
 -- Each list that ended at `end` is as it was, or has all these messages more.
 pub record MayAdd (end : ℕ) (messages : List (List ℕ)) (before after : List ℕ) : Type 0 where
   pub front : take end after ≡ take end before
-  pub lists : (from : ℕ) (list : List (List ℕ)) → IsGated before from list → from + octets_of list ≡ end
+  pub lists : (from : ℕ) (list : List (List ℕ)) → IsGated before from list → from + octet_sum list ≡ end
       → IsGated after from list ⊎ IsGated after from (list ++ messages)
 
 -- Each list that ended at `end` has all these messages more.
 pub record Adds (end : ℕ) (messages : List (List ℕ)) (before after : List ℕ) : Type 0 where
   pub front : take end after ≡ take end before
-  pub lists : (from : ℕ) (list : List (List ℕ)) → IsGated before from list → from + octets_of list ≡ end
+  pub lists : (from : ℕ) (list : List (List ℕ)) → IsGated before from list → from + octet_sum list ≡ end
       → IsGated after from (list ++ messages)

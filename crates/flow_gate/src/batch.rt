@@ -4,7 +4,7 @@ ghost use Rattle.std.specs.List.{All};
 ghost use Rattle.flow_disk.specs.Disk.{IsImage, AllImages, ComesOf, InFile};
 ghost use Rattle.flow_disk.specs.Moments.{LeavesOnly};
 ghost use Rattle.flow_disk.specs.Cause.{FailsOnlyByFault};
-ghost use Rattle.flow_gate.specs.Gate.{IsWhole, IsClosedAt, octets_of, opened};
+ghost use Rattle.flow_gate.specs.Gate.{IsWhole, IsClosedAt, octet_sum, opened};
 ghost use Rattle.flow_gate.specs.Steps.{MayAdd, Adds, slices, put_batch};
 
 use crate::gate::{open_gate, place_batch};
@@ -34,7 +34,7 @@ pub fn add_batch<D: Disk>(
     ensures settled { OnOk result ((D.marks disk.new file).settled ≡ true) }
     ensures listed { OnOk result ((D.marks disk.new file).listed ≡ true) }
     ensures size { OnOk result ((D.marks disk.new file).size
-        ≡ max (D.marks disk.old file).size (end + octets_of (slices messages.now) + 2)) }
+        ≡ max (D.marks disk.old file).size (end + octet_sum (slices messages.now) + 2)) }
     ensures cause { FailsOnlyByFault (D.faults disk.old) (D.faults disk.new) result }
 
     // On an honest one: what the file reads as, and that each of its images holds the lists that were there, with all

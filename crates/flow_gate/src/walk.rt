@@ -4,7 +4,7 @@ ghost use Rattle.std.specs.List.{All};
 ghost use Rattle.flow_disk.specs.Disk.{IsDiskImage, Stays};
 ghost use Rattle.flow_disk.specs.Moments.{LeavesOnly};
 ghost use Rattle.flow_disk.specs.Cause.{HasCause};
-ghost use Rattle.flow_gate.specs.Gate.{IsWhole, IsGated, IsDamaged, octets_of};
+ghost use Rattle.flow_gate.specs.Gate.{IsWhole, IsGated, IsDamaged, octet_sum};
 ghost use Rattle.flow_gate.specs.Scan.{IsFoundAt, IsTail, IsTold, IsTailRead, IsToldRead, IsGiven, IsRefused, IsNamed};
 ghost use Rattle.flow_gate.specs.Scan.{texts};
 
@@ -25,7 +25,7 @@ pub fn scan<D: Disk>(alloc: Global, disk: &mut D, file: u64, from: u64) -> Resul
     ensures frozen { (D.marks disk.new file).frozen ≡ (D.marks disk.old file).frozen }
     ensures listed { (D.marks disk.new file).listed ≡ (D.marks disk.old file).listed }
     ensures size { IfOk result (λ tail. tail.end + 2 ≤ (D.marks disk.new file).size) }
-    ensures ends { IfOk result (λ tail. tail.end ≡ from + octets_of (texts tail.messages.items)) }
+    ensures ends { IfOk result (λ tail. tail.end ≡ from + octet_sum (texts tail.messages.items)) }
     ensures whole { IfOk result (λ tail. All IsWhole (texts tail.messages.items)) }
     ensures names { IfErr result (λ e. IsNamed file from e) }
     ensures cause { HasCause ScanError.Fault (D.faults disk.old) (D.faults disk.new) result }

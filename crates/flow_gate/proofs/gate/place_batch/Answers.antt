@@ -2,9 +2,9 @@ use Rattle.std.proofs.Common.{◌≡◌, inl, inr, ⊎_elim, ℕ, ◌+◌, ◌-�
 use Rattle.std.proofs.Common.{take, drop, refl, sym, ◌∙◌, ap, subst, arith, rules, length-drop}
 use Rattle.std.proofs.lemmas.List.{take_rest, map_more, take_all}
 use Rattle.flow_disk.specs.Disk.{Held, Marks, put_at}
-use Rattle.flow_gate.specs.Gate.{IsPlaced, octets_of}
+use Rattle.flow_gate.specs.Gate.{IsPlaced, octet_sum}
 use Rattle.flow_gate.specs.Steps.{slices, put_behind, put_batch}
-use Rattle.flow_gate.proofs.Rows.{octets_of-push}
+use Rattle.flow_gate.proofs.Rows.{octet_sum-push}
 use Rattle.flow_gate.proofs.Written.{IsNext, next_behind, next_within, whole_at, put_next, put_trailer, put_nothing}
 use Rattle.flow_gate.proofs.Written.{placed}
 use Rattle.flow_gate.proofs.Placing.{begins, inside, writes_behind, syncs, settles}
@@ -126,8 +126,8 @@ loop-message-preserved g c =
     let part_long : length part ≡ length m - kept = ap length (take_rest m kept) ∙ length-drop kept m in
     let more : slices (take (i + 1) ms) ≡ slices (take i ms) ++ m ∷ [] =
     map_more (λ (message : Bor (List ℕ)). message.now) ms i none c.loop-message-test.true in
-    let count : octets_of (slices (take (i + 1) ms)) ≡ octets_of (slices (take i ms)) + length m = ap octets_of more
-    ∙ octets_of-push (slices (take i ms)) m in
+    let count : octet_sum (slices (take (i + 1) ms)) ≡ octet_sum (slices (take i ms)) + length m = ap octet_sum more
+    ∙ octet_sum-push (slices (take i ms)) m in
     let was = c.loop-message.invariant in
     let marks = c.in_ok-write_at.ensures.marks in
     let size = ap (λ (f : Marks). f.size) marks.done in
@@ -228,7 +228,7 @@ returns-clause-octets g c h =
     let all : slices (take c.loop-message.message-index ms) ≡ slices ms =
     ap slices (take_all c.loop-message.message-index ms c.loop-message-test.false) in
     let room : end + 2 ≤ length old = omega (arith, c.requires.room, g.met.D.Disk.has_size d file h) in
-    let place : at ≡ end + octets_of (slices ms) = was.place ∙ ap (λ l. end + octets_of l) all in
+    let place : at ≡ end + octet_sum (slices ms) = was.place ∙ ap (λ l. end + octet_sum l) all in
     let octets : (D.held c.write_at-2.new.self file).reads ≡ put_batch old end (slices ms) =
     let wrote = c.in_ok-write_at-2.ensures.held h1 in
     ap (λ (f : Held). f.reads) wrote.done
@@ -255,7 +255,7 @@ returns-clause-placed g c h =
     let all : slices (take c.loop-message.message-index ms) ≡ slices ms =
     ap slices (take_all c.loop-message.message-index ms c.loop-message-test.false) in
     let room : end + 2 ≤ length old = omega (arith, c.requires.room, g.met.D.Disk.has_size d file h) in
-    let place : at ≡ end + octets_of (slices ms) = was.place ∙ ap (λ l. end + octets_of l) all in
+    let place : at ≡ end + octet_sum (slices ms) = was.place ∙ ap (λ l. end + octet_sum l) all in
     let octets : (D.held c.write_at-2.new.self file).reads ≡ put_batch old end (slices ms) =
     let wrote = c.in_ok-write_at-2.ensures.held h1 in
     ap (λ (f : Held). f.reads) wrote.done
@@ -264,7 +264,7 @@ returns-clause-placed g c h =
     let h2 = subst IsTrue (sym c.write_at-2.ensures.honest) h1 in
     let synced = c.in_ok-sync.ensures.held h2 in
     let gate = c.requires.gated h old (g.met.D.Disk.reads_image d file h) in
-    let some : slices ms ≡ [] → ⊥ = λ none. omega (arith, place, behind, ap octets_of none) in
+    let some : slices ms ≡ [] → ⊥ = λ none. omega (arith, place, behind, ap octet_sum none) in
     let stands : IsPlaced (put_batch old end (slices ms)) end (slices ms) =
     placed old end (slices ms) gate some c.requires.messages in
     subst (λ l. IsPlaced l end (slices ms)) (sym (ap (λ (f : Held). f.reads) synced.done ∙ octets)) stands
@@ -291,14 +291,14 @@ returns-clause-after g c h =
     let all : slices (take c.loop-message.message-index ms) ≡ slices ms =
     ap slices (take_all c.loop-message.message-index ms c.loop-message-test.false) in
     let room : end + 2 ≤ length old = omega (arith, c.requires.room, g.met.D.Disk.has_size d file h) in
-    let place : at ≡ end + octets_of (slices ms) = was.place ∙ ap (λ l. end + octets_of l) all in
+    let place : at ≡ end + octet_sum (slices ms) = was.place ∙ ap (λ l. end + octet_sum l) all in
     let octets : (D.held c.write_at-2.new.self file).reads ≡ put_batch old end (slices ms) =
     let wrote = c.in_ok-write_at-2.ensures.held h1 in
     ap (λ (f : Held). f.reads) wrote.done
     ∙ ap (λ l. put_at l at (0 ∷ 0 ∷ [])) (was.reads h ∙ ap (λ l. put_behind old end l) all)
     ∙ put_trailer old end at (slices ms) room place (omega (arith, place, behind)) in
     let gate = c.requires.gated h old (g.met.D.Disk.reads_image d file h) in
-    let some : slices ms ≡ [] → ⊥ = λ none. omega (arith, place, behind, ap octets_of none) in
+    let some : slices ms ≡ [] → ⊥ = λ none. omega (arith, place, behind, ap octet_sum none) in
     let stands : IsPlaced (put_batch old end (slices ms)) end (slices ms) =
     placed old end (slices ms) gate some c.requires.messages in
     let synced = c.in_ok-sync.ensures.held h2 in

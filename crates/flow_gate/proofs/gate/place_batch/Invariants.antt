@@ -1,12 +1,12 @@
 use Rattle.std.proofs.Common.{◌≡◌, ◌≢◌, ◌⊎◌, ℕ, ◌+◌, ◌≤◌, max, false, IsTrue, take}
-use Rattle.flow_gate.specs.Gate.{octets_of}
+use Rattle.flow_gate.specs.Gate.{octet_sum}
 use Rattle.flow_gate.specs.Steps.{slices, put_behind}
 use Rattle.flow_gate.proofs.Placing.{IsUnderWay}
 use Rattle.flow_gate.proofs.gate.place_batch.Given as goal
 
 abbrev pub invariant-loop-message : goal.invariant-loop-message
 invariant-loop-message g l = let D = g.D.Disk in record {
-  place : l.at ≡ l.end + octets_of (slices (take l.message-index l.messages));
+  place : l.at ≡ l.end + octet_sum (slices (take l.message-index l.messages));
   first : (l.at ≡ l.end) ⊎ (l.end + 16 ≤ l.at);
   some : 1 ≤ l.message-index → l.end + 16 ≤ l.at;
   honest : D.honest l.disk ≡ D.honest l.fn.disk;

@@ -2,7 +2,7 @@ use Rattle.std.proofs.Common.{◌≡◌, ℕ, ◌+◌, [], ◌∷◌, ◌++◌, 
 use Rattle.std.proofs.Common.{Vec}
 use Rattle.std.specs.declared.alloc.Global.{Global}
 use Rattle.std.proofs.lemmas.List.{map_push}
-use Rattle.flow_gate.specs.Gate.{IsMessageAt, StandInRow, octets_of}
+use Rattle.flow_gate.specs.Gate.{IsMessageAt, StandInRow, octet_sum}
 use Rattle.flow_gate.specs.Scan.{texts}
 use Rattle.flow_gate.proofs.Walking.{one_more, no_fill}
 use Rattle.flow_gate.proofs.messages.messages_from.Goals as goal
@@ -21,7 +21,7 @@ messages-preserved c =
     ∙ map_push (λ (m : Vec ℕ Global). m.items) c.messages.messages.items part in
     record {
       row = subst (λ l. StandInRow octets c.args.from l) (sym is) more.0;
-      place = more.1 ∙ ap (λ l. c.args.from + octets_of l) (sym is);
+      place = more.1 ∙ ap (λ l. c.args.from + octet_sum l) (sym is);
       within = omega (arith, found.room);
     }
 

@@ -1,7 +1,7 @@
 use Rattle.std.proofs.Common.{◌≡◌, ℕ, ◌+◌, [], ◌∷◌, ◌++◌, take, drop, ap, ◌∙◌, sym, subst, rules, arith, Vec}
 use Rattle.std.specs.declared.alloc.Global.{Global}
 use Rattle.std.proofs.lemmas.List.{map_push}
-use Rattle.flow_gate.specs.Gate.{StandInRow, octets_of}
+use Rattle.flow_gate.specs.Gate.{StandInRow, octet_sum}
 use Rattle.flow_gate.specs.Scan.{texts}
 use Rattle.flow_gate.proofs.Walking.{one_more}
 use Rattle.flow_gate.proofs.walk.walk.Goals as goal
@@ -17,6 +17,6 @@ messages-preserved c =
     ∙ map_push (λ (m : Vec ℕ Global). m.items) c.messages.messages.items part in
     record {
       row = subst (λ l. StandInRow c.args.octets.now 0 l) (sym is) more.0;
-      place = more.1 ∙ ap (λ l. 0 + octets_of l) (sym is);
+      place = more.1 ∙ ap (λ l. 0 + octet_sum l) (sym is);
       fits = λ some. omega (arith, c.in-Message.ensures);
     }
