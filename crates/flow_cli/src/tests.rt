@@ -31,27 +31,14 @@ const UNKNOWN: &str =
 /// The line of the plain message.
 const PLAIN_LINE: &str = "1699999800 7 6 1 1500 10\n";
 
-/// Appends the octets that a text writes in hexadecimal; what stands between the digits only parts them.
-fn push_octets(octets: &mut Vec<u8>, text: &str) -> Result<(), Fail> {
-    let mut high = None;
-    for letter in text.as_bytes() {
-        let digit = match *letter {
-            b'0'..=b'9' => *letter - b'0',
-            b'A'..=b'F' => *letter - b'A' + 10,
-            _ => continue,
-        };
-        match high.take() {
-            None => high = Some(digit),
-            Some(first) => octets.push(first.wrapping_mul(16).wrapping_add(digit))?,
+/// The octets of words of hexadecimal digits, parted by spaces and bars.
+pub(crate) fn decoded(alloc: Global, text: &str) -> Result<Vec<u8>, Fail> {
+    let mut octets = Vec::new(alloc);
+    for word in text.split_whitespace() {
+        if word != "|" {
+            octets.extend_from_slice(&hex::decode(alloc, word)?)?;
         }
     }
-    Ok(())
-}
-
-/// The octets that a text writes in hexadecimal.
-pub(crate) fn octets_of(alloc: Global, text: &str) -> Result<Vec<u8>, Fail> {
-    let mut octets = Vec::new(alloc);
-    push_octets(&mut octets, text)?;
     Ok(octets)
 }
 
@@ -125,7 +112,7 @@ fn totals_of_files(rt: HostRuntime) -> Result<(), Fail> {
             "4294967100 7 - 1 1 0\n",
         ),
     ] {
-        let file = octets_of(alloc, text)?;
+        let file = decoded(alloc, text)?;
         measures(&rt, rt.alloc(), file.as_slice(), 0, lines, "")?;
     }
     Ok(())
@@ -133,12 +120,12 @@ fn totals_of_files(rt: HostRuntime) -> Result<(), Fail> {
 
 #[test]
 fn a_redefinition_counts_from_its_place_on(rt: HostRuntime) -> Result<(), Fail> {
-    let mut file = octets_of(rt.alloc(), PLAIN)?;
-    push_octets(
-        &mut file,
+    let mut file = decoded(rt.alloc(), PLAIN)?;
+    file.extend_from_slice(&decoded(
+        rt.alloc(),
         "000A003D 6553F13C 00000001 00000007 | 00020018 0100 0004 00960004 00040001 00010008 00020004 | \
          01000015 6553F13C 06 00000000000005DC 0000000A",
-    )?;
+    )?)?;
     measures(
         &rt,
         rt.alloc(),
@@ -163,7 +150,7 @@ fn refusals_by_place(rt: HostRuntime) -> Result<(), Fail> {
             "flowvault: 7 ScopeCount 20 message 1\n",
         ),
     ] {
-        let file = octets_of(alloc, text)?;
+        let file = decoded(alloc, text)?;
         measures(&rt, alloc, file.as_slice(), 1, "", told)?;
     }
     Ok(())
@@ -173,7 +160,7 @@ fn refusals_by_place(rt: HostRuntime) -> Result<(), Fail> {
 #[test]
 fn cut_files(rt: HostRuntime) -> Result<(), Fail> {
     let alloc = rt.alloc();
-    let file = octets_of(alloc, PLAIN)?;
+    let file = decoded(alloc, PLAIN)?;
     for count in 1..file.len() {
         measures(&rt, alloc, &file[..count], 1, "", "flowvault: 15 Cut 0\n")?;
     }
@@ -183,7 +170,7 @@ fn cut_files(rt: HostRuntime) -> Result<(), Fail> {
 #[test]
 fn widths_on_the_command_line(rt: HostRuntime) -> Result<(), Fail> {
     let alloc = rt.alloc();
-    let file = octets_of(alloc, PLAIN)?;
+    let file = decoded(alloc, PLAIN)?;
     for (word, status, lines) in [
         ("300", 0, PLAIN_LINE),
         ("00300", 0, PLAIN_LINE),
@@ -243,7 +230,7 @@ impl Write for Slow {
 #[test]
 fn a_writer_that_is_slow_or_fails(rt: HostRuntime) -> Result<(), Fail> {
     let alloc = rt.alloc();
-    let file = octets_of(alloc, PLAIN)?;
+    let file = decoded(alloc, PLAIN)?;
     let words = ["flowvault", "measure", "300"];
     for room in [0, 1, 24, 25] {
         let mut output = Slow {
@@ -377,7 +364,7 @@ impl Write for Closed {
 #[test]
 fn a_writer_that_takes_nothing(rt: HostRuntime) -> Result<(), Fail> {
     let alloc = rt.alloc();
-    let file = octets_of(alloc, PLAIN)?;
+    let file = decoded(alloc, PLAIN)?;
     for words in [
         ["flowvault", "measure", "300"].as_slice(),
         ["flowvault", "dump"].as_slice(),

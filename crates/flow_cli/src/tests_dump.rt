@@ -1,5 +1,5 @@
 use crate::dumping::dump;
-use crate::tests::octets_of;
+use crate::tests::decoded;
 use std::alloc::Global;
 use std::io;
 use std::io::{ErrorKind, Read, Write};
@@ -16,7 +16,7 @@ const PLAIN_LINES: &str =
 
 /// What `dump` writes of a File in hexadecimal, and behind it what it answers.
 fn dumped(alloc: Global, text: &str) -> Result<String, Fail> {
-    let file = octets_of(alloc, text)?;
+    let file = decoded(alloc, text)?;
     let mut output = Vec::new(alloc);
     let answer = dump(alloc, &mut file.as_slice(), &mut output);
     told(alloc, output.as_slice(), answer)
@@ -131,7 +131,7 @@ fn follows_a_redefinition(rt: HostRuntime) -> Result<(), Fail> {
 
 /// A message of 4,000 records.
 fn records(alloc: Global) -> Result<Vec<u8>, Fail> {
-    let mut file = octets_of(
+    let mut file = decoded(
         alloc,
         "000A 0FC0 6553F100 00000000 00000007 | 0002 000C 0100 0001 0004 0001 | 0100 0FA4",
     )?;
@@ -186,7 +186,7 @@ impl Write for Narrow {
 #[test]
 fn writes_in_pieces(rt: HostRuntime) -> Result<(), Fail> {
     let alloc = rt.alloc();
-    let file = octets_of(alloc, PLAIN)?;
+    let file = decoded(alloc, PLAIN)?;
     for (piece, room, want) in [
         (1, 1_000, ""),
         (7, 1_000, ""),
@@ -234,7 +234,7 @@ impl Read for Failing<'_> {
 #[test]
 fn keeps_the_lines_before_a_failed_read(rt: HostRuntime) -> Result<(), Fail> {
     let alloc = rt.alloc();
-    let file = octets_of(alloc, format!(in alloc; "{PLAIN}{PLAIN}")?.as_str())?;
+    let file = decoded(alloc, format!(in alloc; "{PLAIN}{PLAIN}")?.as_str())?;
     for count in 0..=file.len() {
         let mut input = Failing {
             octets: &file[..count],

@@ -122,7 +122,6 @@ are_fixed fields = list_all (λ f. nat_lt f.1 65535) fields
 abbrev pub plan_of : List (ElementId × ℕ) → Plan
 plan_of fields = record {
   smallest = sum_by (λ f. least f.1) fields;
-  is_fixed = are_fixed fields;
   steps = steps_of fields;
   places = if are_fixed fields then Some (places_of fields) else None;
 }

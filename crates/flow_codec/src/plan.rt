@@ -55,7 +55,6 @@ pub struct Places {
 #[derive(Clone, Debug, Drop)]
 pub struct Plan {
     pub smallest: usize,
-    pub is_fixed: bool,
     pub steps: Items<Step>,
     pub places: Option<Places>,
 }
@@ -209,12 +208,10 @@ pub(crate) fn plan_of(alloc: Global, fields: &[(ElementId, u16)]) -> Result<Plan
     requires { length fields.now < 2 ^ 16 }
     ensures { IfOk result (λ plan. plan ≡ plan_of fields.now) }
 {
-    let is_fixed = are_fixed(fields);
     Ok(Plan {
         smallest: smallest_of(fields),
-        is_fixed,
         steps: Items::from_vec(steps_of(alloc, fields)?),
-        places: if is_fixed {
+        places: if are_fixed(fields) {
             Some(places_of(fields))
         } else {
             None

@@ -8,19 +8,15 @@ use std::test::*;
 
 /// A template and a record of it.
 const PLAIN: &str =
-    "000A 0039 6553F100 00000000 00000007 | 0002 0018 0100 0004 0096 0004 0004 0001 0001 0004 0002 0004 | 0100 0011 6553F100 06 000005DC 0000000A";
+    "000A 0039 6553F100 00000000 00000007 | 0002 0018 0100 0004 0096 0004 0004 0001 0001 0004 0002 0004 | \
+     0100 0011 6553F100 06 000005DC 0000000A";
 
-/// The octets that hexadecimal digits tell; other characters part them.
-fn octets_of(rt: HostRuntime, text: &str) -> Result<Vec<u8>, AllocError> {
+/// The octets of words of hexadecimal digits, parted by spaces and bars.
+fn decoded(rt: HostRuntime, text: &str) -> Result<Vec<u8>, Fail> {
     let mut octets = Vec::new(rt.alloc());
-    let mut high: Option<u8> = None;
-    for c in text.chars() {
-        let Some(digit) = c.to_digit(16) else {
-            continue;
-        };
-        match high.take() {
-            None => high = Some(digit as u8),
-            Some(first) => octets.push(first.wrapping_mul(16).wrapping_add(digit as u8))?,
+    for word in text.split_whitespace() {
+        if word != "|" {
+            octets.extend_from_slice(&hex::decode(rt.alloc(), word)?)?;
         }
     }
     Ok(octets)
@@ -66,11 +62,11 @@ fn walked(
 }
 
 /// What reading answers, as text.
-fn read(rt: HostRuntime, templates: &mut Templates, text: &str) -> Result<String, AllocError> {
-    let octets = octets_of(rt, text)?;
+fn read(rt: HostRuntime, templates: &mut Templates, text: &str) -> Result<String, Fail> {
+    let octets = decoded(rt, text)?;
     match answered(read_message(templates, rt.alloc(), &octets))? {
-        Ok(message) => text_of(rt, &message),
-        Err(fault) => format!(in rt.alloc(); "{fault}"),
+        Ok(message) => Ok(text_of(rt, &message)?),
+        Err(fault) => Ok(format!(in rt.alloc(); "{fault}")?),
     }
 }
 
@@ -91,7 +87,8 @@ fn messages(rt: HostRuntime) -> Result<(), Fail> {
         ),
         // Both spellings of a length.
         (
-            "000A 0036 6553F100 00000000 00000007 | 0002 0010 012C 0002 0001 0004 00D2 FFFF | 012C 0016 00000064 03 AABBCC 00000064 FF 0003 AABBCC",
+            "000A 0036 6553F100 00000000 00000007 | 0002 0010 012C 0002 0001 0004 00D2 FFFF | \
+             012C 0016 00000064 03 AABBCC 00000064 FF 0003 AABBCC",
             "[300 1=00000064 210=aabbcc][300 1=00000064 210=aabbcc]",
         ),
         // No Set.
@@ -148,7 +145,7 @@ fn front_fault(length: u8) -> Option<MessageError> {
 /// The front of a message, of each length, with the Length of the whole and with its own.
 #[test]
 fn cuts(rt: HostRuntime) -> Result<(), Fail> {
-    let mut front = octets_of(rt, PLAIN)?;
+    let mut front = decoded(rt, PLAIN)?;
     for cut in 1..42u8 {
         let n = 57 - cut;
         front.truncate(n as usize);
@@ -188,7 +185,7 @@ fn defines_plain(rt: HostRuntime, templates: &Templates) -> Result<bool, AllocEr
 fn definitions(rt: HostRuntime) -> Result<(), Fail> {
     let mut templates = Templates::new(rt.alloc());
     let mut count = Count { records: 0 };
-    let plain = octets_of(rt, PLAIN)?;
+    let plain = decoded(rt, PLAIN)?;
     assert!(rt; walked(rt, &mut templates, &plain, &mut count)?.is_ok());
     assert!(rt; count.records == 1 && defines_plain(rt, &templates)?);
     let copy = templates.try_copy()?;

@@ -28,7 +28,7 @@ use std::alloc::Global;
 const FIRST_DATA_SET: u16 = 256;
 
 /// The octets of a field of fixed length in the record at `at`, by their count.
-fn octets_of(at: usize, len: usize, octets: &[u8]) -> Result<(&[u8], &[u8]), MessageError>
+fn octets_at(at: usize, len: usize, octets: &[u8]) -> Result<(&[u8], &[u8]), MessageError>
     ensures { Gives (λ x. (x.0.now, x.1.now)) result (octets_at at len octets.now) }
 {
     if octets.len() < len {
@@ -48,10 +48,10 @@ fn counted_of(at: usize, octets: &[u8]) -> Result<(&[u8], &[u8]), MessageError>
         return Err(cut);
     };
     if *first < 255 {
-        return octets_of(at, 1 + *first as usize, octets);
+        return octets_at(at, 1 + *first as usize, octets);
     }
     let (len, _) = u16_at(cut, rest)?;
-    octets_of(at, 3 + len as usize, octets)
+    octets_at(at, 3 + len as usize, octets)
 }
 
 /// The octets that one step passes over in the record at `at`, and those behind them.
@@ -63,8 +63,8 @@ fn step_over<'a>(
     ensures { Gives (λ x. (x.0.now, x.1.now)) result (step_at at step.now octets.now) }
 {
     match step {
-        Step::Skip(count) => octets_of(at, *count, octets),
-        Step::Fixed(_, len) => octets_of(at, *len as usize, octets),
+        Step::Skip(count) => octets_at(at, *count, octets),
+        Step::Fixed(_, len) => octets_at(at, *len as usize, octets),
         Step::Variable(_) => counted_of(at, octets),
     }
 }
@@ -96,8 +96,8 @@ fn extent_of<'a>(
         × (length x.0.now + length x.1.now ≡ length octets.now) × (smallest definition.now ≤ length x.0.now)) }
 {
     let plan = definition.plan();
-    if plan.is_fixed {
-        return octets_of(at, plan.smallest, octets);
+    if plan.places.is_some() {
+        return octets_at(at, plan.smallest, octets);
     }
     stepped_over(at, plan.steps.as_slice(), octets)
 }

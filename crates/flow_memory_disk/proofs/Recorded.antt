@@ -4,9 +4,9 @@ use Rattle.std.proofs.lemmas.List.{take-append-le, drop-append-le}
 use Rattle.flow_memory_disk.specs.declared.deed.Deed.{Deed}
 use Rattle.flow_memory_disk.specs.declared.deed.Deed.TheVariants.{Wrote, Cut, Synced, Abandoned, Removed}
 use Rattle.flow_memory_disk.specs.Calls.{Call, written}
-use Rattle.flow_memory_disk.specs.Record.{call_of, calls_of, count_of, octets_of}
+use Rattle.flow_memory_disk.specs.Record.{call_of, calls_of, count_of, count_all}
 
-pub octets_push : (deeds : List Deed) (deed : Deed) → octets_of (deeds ++ deed ∷ []) ≡ octets_of deeds + count_of deed
+pub octets_push : (deeds : List Deed) (deed : Deed) → count_all (deeds ++ deed ∷ []) ≡ count_all deeds + count_of deed
 octets_push [] deed = omega arith
 octets_push (first ∷ deeds) deed = omega (arith, octets_push deeds deed)
 
@@ -22,7 +22,7 @@ no_octets : (octets : List ℕ) → 0 ≡ length octets → octets ≡ []
 no_octets [] is = refl
 no_octets (x ∷ octets) is = absurd (omega (arith, is))
 
-pub calls_push : (deeds : List Deed) (deed : Deed) (octets more : List ℕ) → octets_of deeds ≡ length octets
+pub calls_push : (deeds : List Deed) (deed : Deed) (octets more : List ℕ) → count_all deeds ≡ length octets
     → calls_of (deeds ++ deed ∷ []) (octets ++ more) ≡ calls_of deeds octets ++ call_of deed more ∷ []
 calls_push [] deed octets more whole = ap (λ (l : List ℕ). call_of deed (l ++ more) ∷ []) (no_octets octets whole)
 calls_push (first ∷ deeds) deed octets more whole =

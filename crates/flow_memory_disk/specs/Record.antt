@@ -18,9 +18,9 @@ count_of (Synced file) = 0
 count_of (Abandoned file) = 0
 count_of (Removed file) = 0
 
-abbrev pub octets_of : List Deed → ℕ
-octets_of [] = 0
-octets_of (deed ∷ deeds) = count_of deed + octets_of deeds
+abbrev pub count_all : List Deed → ℕ
+count_all [] = 0
+count_all (deed ∷ deeds) = count_of deed + count_all deeds
 
 abbrev pub call_of : Deed → List ℕ → Call
 call_of (Wrote file at count) octets = written file at (take count octets)

@@ -1,7 +1,7 @@
 // The record of the calls that changed a file.
 ghost use Rattle.std.specs.Prelude.{◌≡◌, ◌||◌, nat_lt, ◌+◌, ◌<◌, ◌≤◌, length, IfOk, vec_len, vec_capacity, [], ◌∷◌};
 ghost use Rattle.std.specs.Prelude.{◌++◌};
-ghost use Rattle.flow_memory_disk.specs.Record.{octets_of, calls_of, call_of, count_of};
+ghost use Rattle.flow_memory_disk.specs.Record.{count_all, calls_of, call_of, count_of};
 
 use crate::deed::Deed;
 use crate::reserved::append;
@@ -13,7 +13,7 @@ use std::alloc::{AllocError, Global};
 pub(crate) struct Record {
     deeds: Vec<Deed>,
     octets: Vec<u8>,
-    ghost whole: { octets_of deeds.items ≡ length octets.items },
+    ghost whole: { count_all deeds.items ≡ length octets.items },
 }
 
 impl Record {
