@@ -21,7 +21,7 @@ use Rattle.flow_measure.specs.Query.{totals_in_view, flows_between, flows_in_vie
 use Rattle.flow_measure.proofs.Gathering.{sum_at-append, sum_at-entries, get-gathered, gathered-same, joined, sum_at}
 use Rattle.flow_measure.proofs.SumLaws.{merged-table_of}
 
-flows-append : (ms ns : List Accepted) → flows_in (ms ++ ns) ≡ flows_in ms ++ flows_in ns
+pub flows-append : (ms ns : List Accepted) → flows_in (ms ++ ns) ≡ flows_in ms ++ flows_in ns
 flows-append ms ns = flat_map-append (λ (a : Accepted). flows_of (in_fields a.message)) ms ns
 
 -- what is gathered behind may be gathered before
@@ -31,11 +31,11 @@ gathered-behind es fs = gathered-same (es ++ fs) (es ++ entries (gathered fs)) (
     ∙ sym (sum_at-append q es (entries (gathered fs))))
 
 -- sums of flows and of others, gathered, are the sums of all
-both_sums : (width : ℕ) (fs gs : List Flow)
+pub both_sums : (width : ℕ) (fs gs : List Flow)
     → gathered (entries (sums_by width fs) ++ entries (sums_by width gs)) ≡ sums_by width (fs ++ gs)
 both_sums width fs gs = ap (λ (t : Table). t.sums) (merged-table_of width fs gs)
 
-no_sums : (width : ℕ) → gathered [] ≡ sums_by width []
+pub no_sums : (width : ℕ) → gathered [] ≡ sums_by width []
 unfolding sums_by
 no_sums width = refl
 
@@ -44,7 +44,7 @@ none [] h = refl
 none (m ∷ ms) h = absurd (omega arith)
 
 -- the sums of parts, gathered, are the sums of the whole
-parts_sum : (width : ℕ) (counts : List ℕ) (ms : List Accepted) → length ms ≤ sum counts
+pub parts_sum : (width : ℕ) (counts : List ℕ) (ms : List Accepted) → length ms ≤ sum counts
     → gathered_all (map (λ part. sums_by width (flows_in part)) (parted counts ms)) ≡ sums_by width (flows_in ms)
 parts_sum width [] ms h = no_sums width ∙ ap (λ (ns : List Accepted). sums_by width (flows_in ns)) (sym (none ms h))
 parts_sum width (n ∷ ns) ms h =

@@ -177,7 +177,7 @@ fn counts_at(octets: &[u8], places: &Places) -> Counts
 }
 
 /// The flow of a whole record of a Template. Where each field is of fixed length, its numbers are read at their places.
-pub(crate) fn flow_of(header: &Header, definition: &Definition, octets: &[u8]) -> Flow
+pub fn flow_of(header: &Header, definition: &Definition, octets: &[u8]) -> Flow
     requires { IsWhole definition.now octets.now }
     ensures { result ≡ flow_from header.now (values_of (fields_in definition.now.fields octets.now)) }
 {

@@ -17,6 +17,7 @@ mod rows;
 mod sinks;
 mod walk;
 
+pub use counts::flow_of;
 pub use error::SumError;
 pub use fields::flows_of_message;
 pub use flow::{Flow, interval_of};

@@ -1,5 +1,5 @@
 -- What a segment hands on.
-use Rattle.std.proofs.Common.{◌≡◌, ◌≢◌, ℕ, ◌+◌, ◌%◌, ◌^◌, ◌<◌, ◌≤◌, true, false, cond, List, [], ◌∷◌, ◌++◌}
+use Rattle.std.proofs.Common.{◌≡◌, ◌≢◌, ℕ, ◌+◌, ◌%◌, ◌^◌, ◌<◌, ◌≤◌, Bool, true, false, cond, List, [], ◌∷◌, ◌++◌}
 use Rattle.std.proofs.Common.{length, map, Option, Some, None, refl, sym, ap, subst, ◌∙◌, append_assoc, arith, inl, inr}
 use Rattle.std.specs.Prelude.{nat_eq, unwrap_or, Ok, Err, Result, IfOk, IfErr, IsErrAnd}
 use Rattle.std.specs.List.{AllByRecursion}
@@ -21,13 +21,14 @@ use Rattle.flow_codec.proofs.Entries.{same, found, without, with_entry, lookup-i
 use Rattle.flow_codec.proofs.Entries.{found-remove-other, holds-found}
 use Rattle.flow_codec.proofs.KeyLaws.{first_once}
 use Rattle.flow_codec.proofs.Kept.{in_force}
-use Rattle.flow_codec.proofs.Sizes.{others_left}
+use Rattle.flow_codec.proofs.Sizes.{few_records, others_left, short_enough}
 use Rattle.flow_codec.proofs.SlotLaws.{front-lacks}
 use Rattle.flow_codec.proofs.FaultLaws.{one_message, one_state}
 use Rattle.flow_codec.proofs.Restating.{restated as is_restated}
 use Rattle.flow_codec.proofs.RestatingAll.{message_cut, due_fits}
 use Rattle.flow_measure.specs.History.{Accepted, AreAcceptedFrom, templates_from}
-use Rattle.flow_segment.specs.Carry.{Carry, numbered, kept_as, AreNext, IsCounted, IsTaken, no_carry, due_after}
+use Rattle.flow_segment.specs.Carry.{Carry, numbered, kept_as, AreNext, IsCounted, IsTaken, IsTakenAs, no_carry}
+use Rattle.flow_segment.specs.Carry.{due_after}
 use Rattle.flow_segment.specs.Carry.{carry_with, carry_from, IsCarry, restated_from, restated, IsReadBack}
 use Rattle.flow_segment.specs.Carry.{octets_of, segment_octets}
 
@@ -449,3 +450,42 @@ taken_only octets old new a taken is own =
     one_message old.templates octets b.message a.message b.after a.after taken.2 is in
     let after : b.after ≡ a.after = one_state old.templates octets b.message a.message b.after a.after taken.2 is in
     taken.3 ∙ rw (message, after) refl
+
+-- and whether it has data records
+pub taken_as : (octets : List ℕ) (old : Carry) (before after : AllTemplates) (due ready new : List (ℕ × ℕ)) (time : ℕ)
+    (header : Header) (count : ℕ) (bare : Bool) → IsCarry (kept_as before due time) → kept_as before due time ≡ old
+    → ready ≡ due → IsCounted octets before after header count
+    → AreNext header.domain ((header.sequence + count) % 2 ^ 32) after ready new
+    → count < 2 ^ 32 → bare ≡ nat_eq count 0
+    → IsTakenAs bare octets old (kept_as after new header.time)
+taken_as octets old before after due ready new time header count bare is view same_due found next small flag =
+    let taken = (taken_in octets old before after due ready new time header count is view same_due found next).1 in
+    let a = taken.0 in
+    let m : RawMessage = record { header = header; records = found.0 } in
+    let accepted : IsAccepted octets old.templates m after =
+    subst (λ (x : Carry). IsAccepted octets x.templates m after) view found.1 in
+    let same : a.message ≡ m = one_message old.templates octets a.message m a.after after taken.2 accepted in
+    let few = few_records octets before m after found.1.0 in
+    let short = (short_enough octets before m after found.1.0).1 in
+    let number : count ≡ length a.message.records =
+    omega (arith, found.2 0, few, short, ap (λ (x : RawMessage). length x.records) same) in
+    as_counted bare count a taken.1 taken.2 taken.3 number flag
+  where
+    none_left : (xs : List RawRecord) → 0 ≡ length xs → xs ≡ []
+    none_left [] is = refl
+    none_left (x ∷ xs) is = absurd (omega (arith, is))
+
+    as_counted : (bare : Bool) (count : ℕ) (a : Accepted) → a.octets ≡ octets
+        → IsAccepted octets old.templates a.message a.after → kept_as after new header.time ≡ carry_with old a
+        → count ≡ length a.message.records → bare ≡ nat_eq count 0
+            → IsTakenAs bare octets old (kept_as after new header.time)
+    as_counted true count a own accepted with number flag =
+        (a, own, accepted, with, none_left a.message.records (sym (eqb-true _ _ (sym flag)) ∙ number))
+    as_counted false count a own accepted with number flag =
+        (a, own, accepted, with, λ none. eqb-false _ _ (sym flag) (number
+            ∙ ap (λ (xs : List RawRecord). length xs) none))
+
+pub was_taken : (bare : Bool) (octets : List ℕ) (old new : Carry) → IsTakenAs bare octets old new
+    → IsTaken octets old new
+was_taken true octets old new taken = (taken.0, taken.1, taken.2, taken.3)
+was_taken false octets old new taken = (taken.0, taken.1, taken.2, taken.3)

@@ -1,5 +1,5 @@
 -- The flows of a part's messages, taken one message after the other.
-use Rattle.std.proofs.Common.{◌≡◌, ◌≢◌, ℕ, ◌+◌, ◌≤◌, Bool, true, false, List, [], ◌∷◌, ◌++◌, length, refl, sym, ap}
+use Rattle.std.proofs.Common.{◌≡◌, ◌≢◌, ℕ, ◌+◌, ◌≤◌, Bool, true, false, List, [], ◌∷◌, ◌++◌, length, refl, sym}
 use Rattle.std.proofs.Common.{subst}
 use Rattle.std.proofs.Common.{◌∙◌, inl, inr, arith}
 use Rattle.std.proofs.lemmas.List.{length-append}
@@ -8,24 +8,20 @@ use Rattle.flow_disk.specs.Cause.{HasCause}
 use Rattle.flow_codec.specs.Cutting.{IsFileFault}
 use Rattle.flow_gate.specs.declared.tail.ScanError.{ScanError}
 use Rattle.flow_gate.specs.declared.tail.ScanError.TheVariants.{Damaged, Fault, OutOfMemory}
-use Rattle.flow_codec.specs.Fault.{IsFault}
-use Rattle.flow_codec.specs.Message.{in_fields, IsAccepted}
-use Rattle.flow_codec.specs.Raw.{under, RawMessage}
+use Rattle.flow_codec.specs.Message.{IsAccepted}
+use Rattle.flow_codec.specs.Raw.{under, Placed, RawMessage, Took}
 use Rattle.flow_codec.specs.Templates.{AllTemplates}
-use Rattle.flow_measure.specs.declared.flow.Flow.{Flow}
-use Rattle.flow_measure.specs.Flows.{flows_of, flows_of_records}
-use Rattle.flow_measure.specs.History.{Accepted, flows_in, templates_from}
-use Rattle.flow_measure.proofs.Histories.{flows_then}
-use Rattle.flow_measure.proofs.SinkSteps.{flows-in_fields}
+use Rattle.flow_measure.specs.History.{Accepted, templates_from}
 use Rattle.flow_segment.specs.Part.{rest_of, Cursor, IsOn, IsPartStep, Moves}
-use Rattle.flow_segment.specs.PartFlows.{AreFlowsBehind, IsPartToldOf, IsStoppedAt, IsWalkedInto}
-use Rattle.flow_segment.specs.Prefix.{IsRestated}
+use Rattle.flow_segment.specs.PartFlows.{records_in, ArePartMessages, IsDamage, IsStoppedAt, IsWalkedInto, TookAll}
+use Rattle.flow_segment.specs.Prefix.{AreRead, IsFaulty}
 use Rattle.flow_segment.specs.Segment.{part_octets}
 use Rattle.flow_segment.proofs.Restating.{step_more, Behind}
+use Rattle.flow_segment.proofs.Taking.{records_then, took_then}
 
--- so many messages, and their flows
-abbrev pub AreFlowsSoFar : List Flow → ℕ → List Accepted → Type 0
-AreFlowsSoFar flows count messages = (flows ≡ flows_in messages) × (count ≡ length messages)
+-- so many messages, whose records a sink took
+abbrev pub AreTaken : {S : Type 0} → (S → List Placed → S → Type 0) → S → S → ℕ → List Accepted → Type 0
+AreTaken holds old now count messages = TookAll holds old (records_in messages) now × (count ≡ length messages)
 
 -- what holds of a part that is read as far as a cursor stands
 abbrev pub PartSoFar : (List Accepted → Type 0) → Bool → List ℕ → ℕ → ℕ → AllTemplates → AllTemplates → Cursor → Type 0
@@ -33,35 +29,37 @@ PartSoFar Kind honest octets start end before now c =
     IsTrue honest → Behind Kind (part_octets start end octets) start before now c.place (rest_of octets c)
     × IsOn octets c
 
-flows_more : (flows new : List Flow) (count : ℕ) (messages : List Accepted) (a : Accepted)
-    → AreFlowsSoFar flows count messages → AreFlowsBehind flows new a.message
-    → AreFlowsSoFar new (count + 1) (messages ++ a ∷ [])
-flows_more flows new count messages a h is = (
-  is ∙ ap (λ (t : List Flow). t ++ flows_of (in_fields a.message)) h.0
-      ∙ ap (λ (t : List Flow). flows_in messages ++ t) (flows-in_fields a.message) ∙ sym (flows_then messages a),
+taken_more : {S : Type 0} (holds : S → List Placed → S → Type 0) (old now new : S) (count : ℕ)
+    (messages : List Accepted) (a : Accepted) → AreTaken holds old now count messages
+    → Took holds a.message.header now a.message.records new
+    → AreTaken holds old new (count + 1) (messages ++ a ∷ [])
+taken_more holds old now new count messages a h took = (
+  subst (λ (t : List Placed). TookAll holds old t new) (sym (records_then messages a))
+      (took_then holds old now new (records_in messages) (under a.message.header a.message.records) h.0 took),
   omega (arith, h.1, length-append messages (a ∷ [])),
 )
 
-pub part_more : (honest : Bool) (octets : List ℕ) (start end file number at count : ℕ) (flows flows_new : List Flow)
+pub part_more : {S : Type 0} (holds : S → List Placed → S → Type 0) (first sink sink_new : S)
+    (honest : Bool) (octets : List ℕ) (start end file number at count : ℕ)
     (more : Bool) (before now after : AllTemplates) (old new : Cursor) (message : List ℕ) → more ≡ true
-    → PartSoFar (AreFlowsSoFar flows count) honest octets start end before now old → Moves old (Ok more) new
+    → PartSoFar (AreTaken holds first sink count) honest octets start end before now old → Moves old (Ok more) new
     → (IsTrue honest → IsOn octets old → IsOn octets new × IsPartStep octets file old (Ok more) new)
     → message ≡ new.message
-    → (m : RawMessage) × IsAccepted message now m after × AreFlowsBehind flows flows_new m
-    → PartSoFar (AreFlowsSoFar flows_new (count + 1)) honest octets start end before after new
-part_more honest octets start end file number at count flows flows_new false before now after old new message go sofar
-    moves step same x =
+    → (m : RawMessage) × IsAccepted message now m after × Took holds m.header sink m.records sink_new
+    → PartSoFar (AreTaken holds first sink_new (count + 1)) honest octets start end before after new
+part_more holds first sink sink_new honest octets start end file number at count false before now after old new message
+    go sofar moves step same x =
     absurd cc
-part_more honest octets start end file number at count flows flows_new true before now after old new message go sofar
-    moves step same x = λ h.
+part_more holds first sink sink_new honest octets start end file number at count true before now after old new message
+    go sofar moves step same x = λ h.
     let was = sofar h in
     let s = step h was.1 in
     let m : RawMessage = x.0 in
     let b = was.0 in
     let a : Accepted = record { octets = message; message = m; after = after } in
-    let kind = flows_more flows flows_new count b.messages a b.kind x.2 in (
-      step_more (AreFlowsSoFar flows count) (AreFlowsSoFar flows_new (count + 1)) octets (part_octets start end octets)
-          start file before now after old new message m b s.1 moves.2 same x.1 kind,
+    let kind = taken_more holds first sink sink_new count b.messages a b.kind x.2 in (
+      step_more (AreTaken holds first sink count) (AreTaken holds first sink_new (count + 1)) octets
+          (part_octets start end octets) start file before now after old new message m b s.1 moves.2 same x.1 kind,
       s.0,
     )
 
@@ -93,11 +91,8 @@ part_told Kind takes honest octets start end file number at count true before no
             rest_of octets new,
             s.0,
             s.1,
-            (
-              x.2.0,
-              subst (λ (t : List ℕ). IsFault t (templates_from before b.messages) x.2.0) same
-                  (subst (λ (ts : AllTemplates). IsFault message ts x.2.0) b.same x.2.1),
-            ),
+            subst (λ (t : List ℕ). IsFaulty t (templates_from before b.messages)) same
+                (subst (λ (ts : AllTemplates). IsFaulty message ts) b.same x.2),
           ),
         ),
       ),
@@ -110,32 +105,27 @@ pub walked_told : (Kind : List Accepted → Type 0) (takes : RawMessage → Type
     → (IsTrue honest → IsOn octets old → IsOn octets new × IsPartStep octets file old (Ok more) new)
     → message ≡ new.message → number ≡ file → at ≡ old.place
     → IsWalkedInto {X = Unit {0}} takes number at message now after (Err e) → IsTrue honest
-    → IsRestated (part_octets 0 start octets) before
-    → IsPartToldOf (part_octets 0 start octets) (part_octets start end octets) file start end count e
+    → IsDamage (part_octets start end octets) before file start end count e
 walked_told Kind takes honest octets start end file number at count more before now after old new message (Damaged f p)
-    go sofar moves step same is there x h restated =
+    go sofar moves step same is there x h =
     let t = part_told Kind takes honest octets start end file number at count more before now after old new message f p
     go sofar moves step same there x h in
-    inr (t.0 ∙ is, before, restated, t.1)
+    (t.0 ∙ is, t.1)
 walked_told Kind takes honest octets start end file number at count more before now after old new message Fault
-    go sofar moves step same is there x h restated = tt
+    go sofar moves step same is there x h = tt
 walked_told Kind takes honest octets start end file number at count more before now after old new message OutOfMemory
-    go sofar moves step same is there x h restated = tt
+    go sofar moves step same is there x h = tt
 
 pub advance_told : (Kind : List Accepted → Type 0) (honest : Bool) (octets : List ℕ) (start end file count : ℕ)
     (before now : AllTemplates) (old new : Cursor) (e : ScanError)
     → PartSoFar Kind honest octets start end before now old
     → (IsTrue honest → IsOn octets old → IsOn octets new × IsPartStep octets file old (Err e) new)
-    → IsTrue honest → IsRestated (part_octets 0 start octets) before
-    → IsPartToldOf (part_octets 0 start octets) (part_octets start end octets) file start end count e
-advance_told Kind honest octets start end file count before now old new (Damaged f at) sofar step h restated =
+    → IsTrue honest → IsDamage (part_octets start end octets) before file start end count e
+advance_told Kind honest octets start end file count before now old new (Damaged f at) sofar step h =
     let was = sofar h in
     let b = was.0 in
-    let s = (step h was.1).1 in
-    inr (
+    let s = (step h was.1).1 in (
       s.0,
-      before,
-      restated,
       (
         b.messages,
         rest_of octets old,
@@ -146,27 +136,45 @@ advance_told Kind honest octets start end file count before now old new (Damaged
         ),
       ),
     )
-advance_told Kind honest octets start end file count before now old new Fault sofar step h restated = tt
-advance_told Kind honest octets start end file count before now old new OutOfMemory sofar step h restated = tt
+advance_told Kind honest octets start end file count before now old new Fault sofar step h = tt
+advance_told Kind honest octets start end file count before now old new OutOfMemory sofar step h = tt
 
-pub count_told : (flows : List Flow) (more honest : Bool) (octets : List ℕ) (start end file number count all : ℕ)
-    (before now : AllTemplates) (old new : Cursor) → more ≡ false
-    → PartSoFar (AreFlowsSoFar flows count) honest octets start end before now old
+pub count_told : {S : Type 0} (holds : S → List Placed → S → Type 0) (first sink : S) (more honest : Bool)
+    (octets : List ℕ) (start end file number count all : ℕ) (before now : AllTemplates) (old new : Cursor)
+    → more ≡ false → PartSoFar (AreTaken holds first sink count) honest octets start end before now old
     → (IsTrue honest → IsOn octets old → IsOn octets new × IsPartStep octets file old (Ok more) new)
-    → IsTrue honest → IsRestated (part_octets 0 start octets) before → count ≢ all → number ≡ file
-    → IsPartToldOf (part_octets 0 start octets) (part_octets start end octets) file start end all (Damaged number end)
-count_told flows true honest octets start end file number count all before now old new go sofar step h restated differ
+    → IsTrue honest → count ≢ all → number ≡ file
+    → IsDamage (part_octets start end octets) before file start end all (Damaged number end)
+count_told holds first sink true honest octets start end file number count all before now old new go sofar step h differ
     is = absurd cc
-count_told flows false honest octets start end file number count all before now old new go sofar step h restated differ
-    is =
+count_told holds first sink false honest octets start end file number count all before now old new go sofar step h
+    differ is =
     let was = sofar h in
     let b = was.0 in
     let s = (step h was.1).1 in
-    inr (
-      is,
-      before,
-      restated,
-      (b.messages, rest_of octets old, b.read, inr (refl, s.0, λ same. differ (b.kind.1 ∙ same))),
+    (is, (b.messages, rest_of octets old, b.read, inr (refl, s.0, λ same. differ (b.kind.1 ∙ same))))
+
+-- all messages, where there are as many as there are to be
+pub all_found : {S : Type 0} (holds : S → List Placed → S → Type 0) (first sink : S) (more honest : Bool)
+    (octets : List ℕ) (start end file count all : ℕ) (before now : AllTemplates) (old new : Cursor)
+    → more ≡ false → PartSoFar (AreTaken holds first sink count) honest octets start end before now old
+    → (IsTrue honest → IsOn octets old → IsOn octets new × IsPartStep octets file old (Ok more) new)
+    → IsTrue honest → count ≡ all
+    → (messages : List Accepted) × ArePartMessages (part_octets start end octets) before all messages
+    × (now ≡ templates_from before messages) × TookAll holds first (records_in messages) sink
+all_found holds first sink true honest octets start end file count all before now old new go sofar step h same =
+    absurd cc
+all_found holds first sink false honest octets start end file count all before now old new go sofar step h same =
+    let was = sofar h in
+    let b = was.0 in
+    let s = (step h was.1).1 in (
+      b.messages,
+      record {
+        read = subst (λ (t : List ℕ). AreRead (part_octets start end octets) before b.messages t) s.0 b.read;
+        all = sym b.kind.1 ∙ same;
+      },
+      b.same,
+      b.kind.0,
     )
 
 not_fault : (takes : RawMessage → Type 0) (number at : ℕ) (message : List ℕ) (now after : AllTemplates) (e : ScanError)
@@ -189,10 +197,6 @@ walked_cause {X = X} takes number at message now after e (Err x) before later gi
   risen = λ fault. absurd (not_fault takes number at message now after e is (sym given ∙ err_same {X = X} x fault));
   other = λ _. same;
 }
-
-pub walked_flows : (m : RawMessage) (old new : List Flow)
-    → new ≡ old ++ flows_of_records (under m.header m.records) → AreFlowsBehind old new m
-walked_flows m old new h = h ∙ ap (λ (t : List Flow). old ++ t) (sym (flows-in_fields m))
 
 pub count_within : (old new : Cursor) (count : ℕ) (more : Bool) → more ≡ true → Moves old (Ok more) new
     → count ≤ old.place → count + 1 ≤ new.place

@@ -4,4 +4,8 @@ pub mod Sealing
 pub mod Parts
 pub mod Collecting
 pub mod Restating
+pub mod Taking
 pub mod Flowing
+pub mod Uniqueness
+pub mod Summed
+pub mod FewMessages

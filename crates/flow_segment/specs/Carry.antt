@@ -1,5 +1,6 @@
 -- What a segment hands to the next one, and the messages that restate it.
-use Rattle.std.specs.Prelude.{◌≡◌, ℕ, ◌+◌, ◌%◌, ◌<◌, ◌^◌, List, [], ◌∷◌, ◌++◌, length, map, nat_eq, false, Some}
+use Rattle.std.specs.Prelude.{◌≡◌, ◌≢◌, ℕ, ◌+◌, ◌%◌, ◌<◌, ◌^◌, List, [], ◌∷◌, ◌++◌, length, map, nat_eq, Bool, true}
+use Rattle.std.specs.Prelude.{false, Some}
 use Rattle.std.specs.Prelude.{if◌then◌else◌, Result, Ok, Err}
 use Rattle.std.specs.List.{AllByRecursion}
 use Rattle.std.specs.Map.{lookup}
@@ -103,6 +104,13 @@ segment_octets c messages = prefix_of c ++ joined (octets_of messages)
 abbrev pub IsTaken : List ℕ → Carry → Carry → Type 0
 IsTaken octets old new =
     (a : Accepted) × (a.octets ≡ octets) × IsAccepted octets old.templates a.message a.after × (new ≡ carry_with old a)
+
+-- and whether the message has no data records
+abbrev pub IsTakenAs : Bool → List ℕ → Carry → Carry → Type 0
+IsTakenAs true octets old new = (a : Accepted) × (a.octets ≡ octets)
+    × IsAccepted octets old.templates a.message a.after × (new ≡ carry_with old a) × (a.message.records ≡ [])
+IsTakenAs false octets old new = (a : Accepted) × (a.octets ≡ octets)
+    × IsAccepted octets old.templates a.message a.after × (new ≡ carry_with old a) × (a.message.records ≢ [])
 
 -- where this message stands it is taken in, unless memory runs out
 abbrev pub TakesOnly : {X : Type 0} → Accepted → Carry → Carry → Result X MessageError → Type 0

@@ -6,7 +6,7 @@ use Rattle.flow_gate.specs.declared.tail.ScanError.TheVariants.{Damaged, Fault, 
 use Rattle.flow_codec.specs.declared.error.MessageError.{MessageError}
 use Rattle.flow_codec.specs.declared.file.FileError.{FileError}
 use Rattle.flow_codec.specs.Cutting.{IsCutOff, IsDivided, IsFileFault}
-use Rattle.flow_codec.specs.Fault.{IsFault}
+use Rattle.flow_codec.specs.Fault.{IsFault, IsOctets}
 use Rattle.flow_codec.specs.Message.{joined, IsAccepted}
 use Rattle.flow_codec.specs.Raw.{Placed, RawMessage}
 use Rattle.flow_codec.specs.Templates.{AllTemplates}
@@ -27,10 +27,14 @@ IsRestated octets templates =
     (messages : List Accepted) × AreRead octets [] messages [] × HaveNoRecords messages
     × (templates ≡ templates_from [] messages)
 
+-- the octets of a message that is refused
+abbrev pub IsFaulty : List ℕ → AllTemplates → Type 0
+IsFaulty octets before = IsOctets octets × ((fault : MessageError) × IsFault octets before fault)
+
 -- the octets of a message that is refused, or has data records
 abbrev pub IsNoRestatement : List ℕ → AllTemplates → Type 0
 IsNoRestatement octets before =
-    ((fault : MessageError) × IsFault octets before fault)
+    IsFaulty octets before
     ⊎ ((m : RawMessage) × (after : AllTemplates) × IsAccepted octets before m after × (m.records ≢ []))
 
 -- No message of a prefix stands in front of these octets, whose place is `at`.
@@ -48,6 +52,13 @@ IsPrefixToldOf octets number (Damaged file at) =
     × IsNoPrefix at (templates_from [] messages) rest
 IsPrefixToldOf octets number Fault = ⊤
 IsPrefixToldOf octets number OutOfMemory = ⊤
+
+-- These templates are given, unless a read fails or memory runs out.
+abbrev pub AreTemplatesGiven : AllTemplates → Result AllTemplates ScanError → Type 0
+AreTemplatesGiven all (Ok templates) = templates ≡ all
+AreTemplatesGiven all (Err (Damaged file at)) = ⊥
+AreTemplatesGiven all (Err Fault) = ⊤
+AreTemplatesGiven all (Err OutOfMemory) = ⊤
 
 -- ---- one message
 

@@ -1,11 +1,12 @@
 //! What a segment hands to the next one.
 
-ghost use Rattle.std.specs.Prelude.{◌≡◌, ◌⊎◌, ◌<◌, OnOk, OnErr, IfOk, IfErr};
+ghost use Rattle.std.specs.Prelude.{◌≡◌, ◌⊎◌, ◌<◌, ◌^◌, nat_eq, OnOk, OnErr, IfOk, IfErr};
 ghost use Rattle.indexmap.specs.IndexMap.{spare};
 ghost use Rattle.flow_codec.specs.Fault.{IsFault};
 ghost use Rattle.flow_codec.specs.Message.{IsAccepted};
 ghost use Rattle.flow_measure.specs.History.{Accepted};
-ghost use Rattle.flow_segment.specs.Carry.{no_carry, prefix_of, AreNext, IsCarry, IsCounted, IsTaken, TakesOnly};
+ghost use Rattle.flow_segment.specs.Carry.{no_carry, prefix_of, AreNext, IsCarry, IsCounted, IsTaken};
+ghost use Rattle.flow_segment.specs.Carry.{IsTakenAs, TakesOnly};
 
 use flow_codec::{
     Count, Header, MessageError, Templates, WalkError, walk_message, write_templates,
@@ -60,12 +61,25 @@ impl Carry {
             (λ e. (e ≡ MessageError.OutOfMemory) ⊎ IsFault octets.now self.old.templates e) }
         ensures kept { IfErr result (λ _. self.new ≡ self.old) }
     {
+        self.restate(alloc, octets)?;
+        Ok(())
+    }
+
+    /// The same, and answers whether the message has no data records: one of a prefix has none.
+    pub fn restate(&mut self, alloc: Global, octets: &[u8]) -> Result<bool, MessageError>
+        ensures taken { IfOk result (λ bare. IsTakenAs bare octets.now self.old self.new) }
+        ensures only { (a : Accepted) → a.octets ≡ octets.now
+            → IsAccepted octets.now self.old.templates a.message a.after → TakesOnly a self.old self.new result }
+        ensures refused { IfErr result
+            (λ e. (e ≡ MessageError.OutOfMemory) ⊎ IsFault octets.now self.old.templates e) }
+        ensures kept { IfErr result (λ _. self.new ≡ self.old) }
+    {
         self.due.reserve(1)?;
         let (header, count) = counted(&mut self.templates, alloc, octets)?;
         let due = header.sequence.wrapping_add(count);
         put_due(&mut self.due, &self.templates, header.domain, due);
         self.time = header.time;
-        Ok(())
+        Ok(is_none(count))
     }
 
     /// The octets of the next segment's prefix: an IPFIX File (RFC 5655) without data records that restates all this.
@@ -107,6 +121,14 @@ fn counted(
         Err(WalkError::Message(fault)) => Err(fault),
         Err(WalkError::Sink(never)) => match never {},
     }
+}
+
+/// Whether a count is 0.
+fn is_none(count: u32) -> bool
+    ensures value { result ≡ nat_eq count 0 }
+    ensures range { count < 2 ^ 32 }
+{
+    count == 0
 }
 
 /// Sets a domain's next sequence number, where it has definitions in force.

@@ -1,37 +1,109 @@
-//! The flows of a sealed segment.
+//! The flows of a sealed segment, and their sums.
 
-ghost use Rattle.std.specs.Prelude.{◌≡◌, ◌≤◌, IsTrue, IfOk, IfErr};
+ghost use Rattle.std.specs.Prelude.{◌≡◌, ◌≤◌, List, [], IsTrue, IfOk, IfErr, OnOk, OnErr};
 ghost use Rattle.flow_disk.specs.Cause.{HasCause};
-ghost use Rattle.flow_segment.specs.PartFlows.{AreFlowsBehind, ArePartFlows, IsPartToldOf, IsWalkedInto};
+ghost use Rattle.flow_measure.specs.declared.flow.Flow.{Flow};
+ghost use Rattle.flow_measure.specs.History.{Accepted};
+ghost use Rattle.flow_measure.specs.Sums.{empty_table};
+ghost use Rattle.flow_segment.specs.PartFlows.{AreAdded, AreCollected, AreFlowsGiven, ArePartFlows, ArePartMessages};
+ghost use Rattle.flow_segment.specs.PartFlows.{HasMessages, IsDamage, IsNotAdded, IsPartToldOf};
 ghost use Rattle.flow_segment.specs.Segment.{part_octets};
 
-use crate::part::{Cursor, advance};
+use crate::error::PartSumError;
 use crate::restated::templates_of;
 use crate::sealed::SealedPart;
-use flow_codec::{MessageError, Templates, WalkError, walk_message};
+use crate::sinks::{Adding, Chosen};
+use crate::walking::walk_part;
+use flow_codec::Templates;
 use flow_disk::{Faults, SealedFile};
 use flow_gate::ScanError;
-use flow_measure::{Flow, Flows};
+use flow_measure::{Flow, Flows, Rows};
 use std::alloc::Global;
+use std::mem::replace;
 
-/// Takes the flows of a message, which stands at this place of this file.
-fn take_flows(
-    templates: &mut Templates,
+/// Adds the flows of the messages of a sealed segment to rows, and takes the messages' templates in: those given are in
+/// force in front of the first message, as `templates_of` or the segment before leaves them. It keeps no list of flows
+/// or of messages, and holds one piece of the file at a time.
+///
+/// Where a message is refused, or none stands, it answers `Damaged`, with the file and the place; where there is
+/// another count of messages, with the file and its length; `SumSpent` where all messages are accepted and a sum would
+/// pass its type; `Fault` exactly where a read has raised `faults`; and `OutOfMemory`. After an `Err` the rows are
+/// empty, and the templates are those behind some of the messages.
+pub fn add_flows<S: SealedFile>(
     alloc: Global,
-    octets: &[u8],
-    file: u64,
-    at: u64,
-    flows: &mut Flows,
-) -> Result<(), ScanError>
-    ensures { IsWalkedInto (AreFlowsBehind flows.old.flows.items flows.new.flows.items) file at octets.now templates.old
-        templates.new result }
+    part: &SealedPart<S>,
+    templates: &mut Templates,
+    rows: &mut Rows,
+    faults: &mut Faults<S>,
+) -> Result<(), PartSumError>
+    // On every disk.
+    ensures width { rows.new.width ≡ rows.old.width }
+    ensures none { OnErr result (rows.new ≡ empty_table rows.old.width) }
+    ensures cause { HasCause PartSumError.Fault faults.old faults.new result }
+    // On an honest one: accepted messages fill the part; or why nothing is added.
+    ensures found { IsTrue (S.honest part.now.reader) → OnOk result
+        (HasMessages (part_octets part.now.prefix part.now.length (S.octets part.now.reader)) templates.old
+        part.now.messages) }
+    ensures told { IsTrue (S.honest part.now.reader) → IfErr result
+        (λ e. IsNotAdded (part_octets part.now.prefix part.now.length (S.octets part.now.reader)) templates.old
+        (S.number part.now.reader) part.now.prefix part.now.length part.now.messages e) }
+    // Where messages fill the part, their flows are added, unless a sum would pass its type.
+    ensures given { IsTrue (S.honest part.now.reader) → (messages : List Accepted)
+        → ArePartMessages (part_octets part.now.prefix part.now.length (S.octets part.now.reader)) templates.old
+        part.now.messages messages → AreAdded templates.old rows.old messages result templates.new rows.new }
 {
-    match walk_message(templates, alloc, octets, flows) {
-        Ok(_) => Ok(()),
-        Err(WalkError::Message(MessageError::OutOfMemory)) => Err(ScanError::OutOfMemory),
-        Err(WalkError::Message(_)) => Err(ScanError::Damaged(file, at)),
-        Err(WalkError::Sink(_)) => Err(ScanError::OutOfMemory),
+    let none = Rows::new(alloc, rows.width());
+    let mut adding = Adding {
+        rows: replace(rows, none),
+        spent: false,
+    };
+    walk_part(alloc, part, templates, &mut adding, faults)?;
+    if adding.spent {
+        return Err(PartSumError::SumSpent);
     }
+    *rows = adding.rows;
+    Ok(())
+}
+
+/// Puts the flows of the messages of a sealed segment that start from `from` on and before `to`, in seconds since
+/// 1970-01-01 00:00 UTC, behind those in a list, in the order of their records, and takes the messages' templates in:
+/// those given are in force in front of the first message, as `templates_of` or the segment before leaves them.
+///
+/// It refuses as `add_flows` does, but for sums. After an `Err` the list is empty, and the templates are those behind
+/// some of the messages.
+pub fn collect_flows<S: SealedFile>(
+    alloc: Global,
+    part: &SealedPart<S>,
+    templates: &mut Templates,
+    from: u64,
+    to: u64,
+    flows: &mut Vec<Flow>,
+    faults: &mut Faults<S>,
+) -> Result<(), ScanError>
+    // On every disk.
+    ensures none { OnErr result (flows.new.items ≡ []) }
+    ensures cause { HasCause ScanError.Fault faults.old faults.new result }
+    // On an honest one: accepted messages fill the part; or why there are no flows.
+    ensures found { IsTrue (S.honest part.now.reader) → OnOk result
+        (HasMessages (part_octets part.now.prefix part.now.length (S.octets part.now.reader)) templates.old
+        part.now.messages) }
+    ensures told { IsTrue (S.honest part.now.reader) → IfErr result
+        (λ e. IsDamage (part_octets part.now.prefix part.now.length (S.octets part.now.reader)) templates.old
+        (S.number part.now.reader) part.now.prefix part.now.length part.now.messages e) }
+    // Where messages fill the part, their flows are given.
+    ensures given { IsTrue (S.honest part.now.reader) → (messages : List Accepted)
+        → ArePartMessages (part_octets part.now.prefix part.now.length (S.octets part.now.reader)) templates.old
+        part.now.messages messages
+        → AreCollected templates.old from to flows.old.items messages result templates.new flows.new.items }
+{
+    let mut chosen = Chosen {
+        flows: replace(flows, Vec::new(alloc)),
+        from,
+        to,
+    };
+    walk_part(alloc, part, templates, &mut chosen, faults)?;
+    *flows = chosen.flows;
+    Ok(())
 }
 
 /// The flows of the messages of a sealed segment, in order, under the templates that its prefix restates. Where a
@@ -52,28 +124,14 @@ pub fn flows_of<S: SealedFile>(
         (λ e. IsPartToldOf (part_octets 0 part.now.prefix (S.octets part.now.reader))
         (part_octets part.now.prefix part.now.length (S.octets part.now.reader)) (S.number part.now.reader)
         part.now.prefix part.now.length part.now.messages e) }
+    // Where a part has these flows, they are given.
+    ensures given { IsTrue (S.honest part.now.reader) → (list : List Flow)
+        → ArePartFlows (part_octets 0 part.now.prefix (S.octets part.now.reader))
+        (part_octets part.now.prefix part.now.length (S.octets part.now.reader)) part.now.messages list
+        → AreFlowsGiven list result }
 {
     let mut templates = templates_of(alloc, part, faults)?;
-    let mut cursor = Cursor::new(alloc, part.prefix, part.length);
     let mut flows = Flows::new(alloc);
-    let mut count = 0;
-    'messages: loop {
-        let at = cursor.place();
-        if !advance(&mut cursor, alloc, &part.reader, faults)? {
-            if count != part.messages {
-                return Err(ScanError::Damaged(part.reader.file(), part.length));
-            }
-            return Ok(flows.flows);
-        }
-        let file = part.reader.file();
-        take_flows(
-            &mut templates,
-            alloc,
-            cursor.message(),
-            file,
-            at,
-            &mut flows,
-        )?;
-        count += 1;
-    }
+    walk_part(alloc, part, &mut templates, &mut flows, faults)?;
+    Ok(flows.flows)
 }

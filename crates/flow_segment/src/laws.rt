@@ -1,6 +1,6 @@
 //! Laws of segments.
 
-ghost use Rattle.std.specs.Prelude.{◌≡◌, ℕ, List, [], ◌∷◌, ◌++◌, map};
+ghost use Rattle.std.specs.Prelude.{◌≡◌, ℕ, ◌+◌, ◌*◌, ◌<◌, ◌^◌, length, List, [], ◌∷◌, ◌++◌, map};
 ghost use Rattle.flow_codec.specs.File.{IsFile};
 ghost use Rattle.flow_codec.specs.Message.{IsAccepted};
 ghost use Rattle.flow_measure.specs.History.{Accepted, AreAcceptedFrom, read_from, templates_from};
@@ -10,6 +10,12 @@ ghost use Rattle.std.specs.List.{AllByRecursion};
 ghost use Rattle.flow_codec.specs.Cutting.{IsCutOff};
 ghost use Rattle.flow_codec.specs.Message.{joined};
 ghost use Rattle.flow_segment.specs.Part.{rest_of, Cursor, Gives};
+ghost use Rattle.flow_codec.specs.Templates.{AllTemplates};
+ghost use Rattle.flow_measure.specs.declared.flow.Flow.{Flow};
+ghost use Rattle.flow_measure.specs.Flows.{FlowFits};
+ghost use Rattle.flow_measure.specs.History.{flows_in};
+ghost use Rattle.flow_measure.specs.Sums.{table_of, AllFit};
+ghost use Rattle.flow_segment.specs.PartFlows.{with_flows};
 
 /// What a segment hands on.
 pub fn handed_on()
@@ -34,4 +40,13 @@ pub fn read_to_the_end()
     ensures { (octets : List ℕ) (file : ℕ) (c last : Cursor) (messages parts : List (List ℕ))
         → Gives octets file c messages last → rest_of octets c ≡ joined parts → AllByRecursion IsCutOff parts
         → messages ≡ parts }
+{}
+
+/// The sums of flows and of those of messages behind them fit their types, where they are few: a message has fewer than
+/// 65,536 flows. To add these is never refused by 14.
+pub fn few_messages_fit()
+    ensures { (width : ℕ) (before : AllTemplates) (flows : List Flow) (messages : List Accepted)
+        → AreAcceptedFrom before messages → AllByRecursion FlowFits flows → AllByRecursion FlowFits (flows_in messages)
+        → length flows + 65536 * length messages < 2 ^ 64
+        → AllFit (with_flows (flows_in messages) (table_of width flows)) }
 {}

@@ -8,24 +8,33 @@
 //! reads the messages of a part of a file one by one, a piece of the file at a time: what it gives to the end are the
 //! part's messages, and where none stands it tells that place. A `PartReader` does so for a sealed segment, and a
 //! refusal leaves it as it was; `messages_of` gives the messages of a sealed segment at once, `templates_of` the
-//! templates that its prefix restates, and `flows_of` the flows of its messages under these.
+//! templates that its prefix restates, and `flows_of` the flows of its messages under these. `add_flows` adds the flows
+//! of a sealed segment to sums, and `collect_flows` puts those of a span of time behind others, each under the
+//! templates that are given and piece by piece. Of a segment that is good none of these is refused by damage.
 #![tactic(auto)]
 
 mod carry;
+mod error;
 mod files;
 mod flows;
 mod laws;
 mod part;
 mod restated;
 mod sealed;
+mod sinks;
+mod walking;
 
 pub use carry::Carry;
+pub use error::PartSumError;
 pub use files::{make_segment, seal_tail};
-pub use flows::flows_of;
-pub use laws::{handed_on, read_to_the_end};
+pub use flows::{add_flows, collect_flows, flows_of};
+pub use laws::{few_messages_fit, handed_on, read_to_the_end};
 pub use part::{Cursor, advance, advance_on};
 pub use restated::templates_of;
 pub use sealed::{PartReader, SealedPart, messages_of};
+pub use sinks::{Adding, Chosen};
 
+#[cfg(test)]
+mod sum_tests;
 #[cfg(test)]
 mod tests;

@@ -99,7 +99,7 @@ impl Cursor {
     }
 
     /// The place of the next message.
-    pub(crate) fn place(&self) -> u64
+    pub fn place(&self) -> u64
         ensures { result ≡ self.now.place }
     {
         self.place
@@ -142,9 +142,7 @@ impl Cursor {
             }
         }
     }
-}
 
-impl Cursor {
     /// Stands before the message that is held again.
     pub(crate) fn step_back(&mut self)
         ensures { self.new ≡ before_message self.old }
@@ -164,7 +162,8 @@ fn keep_field(octets: &[u8])
 
 /// Reads the next message of a part of a frozen file, which the cursor then holds; `false` at the part's end. Where no
 /// message stands it answers `Damaged`, with the file and the place; `Fault` exactly where this read has raised
-/// `faults`; and `OutOfMemory`. After an `Err` the cursor stands where it stood.
+/// `faults`; and `OutOfMemory`. After an `Err` the cursor stands where it stood; behind `Damaged` it holds no message
+/// any more, behind the others the one that it held.
 ///
 /// It reads 262,144 octets at a time, so the device is read once for many messages.
 pub fn advance<F: SealedFile>(

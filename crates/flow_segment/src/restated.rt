@@ -2,7 +2,8 @@
 
 ghost use Rattle.std.specs.Prelude.{◌≡◌, ◌≤◌, IsTrue, IfOk, IfErr};
 ghost use Rattle.flow_disk.specs.Cause.{HasCause};
-ghost use Rattle.flow_segment.specs.Prefix.{IsPrefixToldOf, IsRestated, IsRestating};
+ghost use Rattle.flow_codec.specs.Templates.{AllTemplates};
+ghost use Rattle.flow_segment.specs.Prefix.{AreTemplatesGiven, IsPrefixToldOf, IsRestated, IsRestating};
 ghost use Rattle.flow_segment.specs.Segment.{part_octets};
 
 use crate::part::{Cursor, advance};
@@ -70,6 +71,27 @@ fn restate(
 /// or none stands, it answers `Damaged`, with the file and the place; `Fault` exactly where a read has raised `faults`;
 /// and `OutOfMemory`.
 pub fn templates_of<S: SealedFile>(
+    alloc: Global,
+    part: &SealedPart<S>,
+    faults: &mut Faults<S>,
+) -> Result<Templates, ScanError>
+    ensures cause { HasCause ScanError.Fault faults.old faults.new result }
+    // On an honest disk: the templates that accepted messages without data records leave; or why there are none.
+    ensures found { IsTrue (S.honest part.now.reader) → IfOk result
+        (λ templates. IsRestated (part_octets 0 part.now.prefix (S.octets part.now.reader)) templates) }
+    ensures told { IsTrue (S.honest part.now.reader) → IfErr result
+        (λ e. IsPrefixToldOf (part_octets 0 part.now.prefix (S.octets part.now.reader))
+        (S.number part.now.reader) e) }
+    // Where a prefix restates these, they are given.
+    ensures given { IsTrue (S.honest part.now.reader) → (all : AllTemplates)
+        → IsRestated (part_octets 0 part.now.prefix (S.octets part.now.reader)) all
+        → AreTemplatesGiven all result }
+{
+    read_prefix(alloc, part, faults)
+}
+
+/// Reads the prefix, message by message.
+fn read_prefix<S: SealedFile>(
     alloc: Global,
     part: &SealedPart<S>,
     faults: &mut Faults<S>,

@@ -13,7 +13,7 @@ use std::alloc::Global;
 use std::test::Fail;
 
 /// A message of 57 octets in domain 7: Template 256 of four elements, and a flow.
-const FLOW: [u8; 57] = [
+pub(crate) const FLOW: [u8; 57] = [
     0, 10, 0, 57, 0x65, 0x53, 0xf1, 0, 0, 0, 0, 0, 0, 0, 0, 7, //
     0, 2, 0, 24, 1, 0, 0, 4, 0, 150, 0, 4, 0, 4, 0, 1, 0, 1, 0, 4, 0, 2, 0, 4, //
     1, 0, 0, 17, 0x65, 0x53, 0xf1, 0, 6, 0, 0, 5, 0xdc, 0, 0, 0, 10,
@@ -33,7 +33,7 @@ const WITHDRAWAL: [u8; 24] = [
 ];
 
 /// The file of the segment.
-const FILE: u64 = 4;
+pub(crate) const FILE: u64 = 4;
 
 const ROOM: Room = Room {
     files: 1,
@@ -52,7 +52,7 @@ fn segment_of(alloc: Global, carry: &Carry) -> Result<Vec<u8>, DiskError> {
 }
 
 /// Takes a message in. A refusal other than for want of memory is told as a fault.
-fn take(alloc: Global, carry: &mut Carry, message: &[u8]) -> Result<(), DiskError> {
+pub(crate) fn take(alloc: Global, carry: &mut Carry, message: &[u8]) -> Result<(), DiskError> {
     match carry.take(alloc, message) {
         Ok(()) => Ok(()),
         Err(MessageError::OutOfMemory) => Err(DiskError::OutOfMemory),
@@ -61,7 +61,7 @@ fn take(alloc: Global, carry: &mut Carry, message: &[u8]) -> Result<(), DiskErro
 }
 
 /// What messages hand on.
-fn carry_of(alloc: Global, messages: &[&[u8]]) -> Result<Carry, DiskError> {
+pub(crate) fn carry_of(alloc: Global, messages: &[&[u8]]) -> Result<Carry, DiskError> {
     let mut carry = Carry::new(alloc);
     for message in messages {
         take(alloc, &mut carry, message)?;
@@ -219,7 +219,7 @@ fn the_messages_of_a_sealed_segment(rt: HostRuntime) -> Result<(), Fail> {
 }
 
 /// A message of 33 octets of the same domain: the flow alone, with no template beside it.
-const FLOW_ALONE: [u8; 33] = [
+pub(crate) const FLOW_ALONE: [u8; 33] = [
     0, 10, 0, 33, 0x65, 0x53, 0xf1, 0, 0, 0, 0, 1, 0, 0, 0, 7, //
     1, 0, 0, 17, 0x65, 0x53, 0xf1, 0, 6, 0, 0, 5, 0xdc, 0, 0, 0, 10,
 ];

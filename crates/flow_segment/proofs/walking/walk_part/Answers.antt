@@ -1,0 +1,54 @@
+use Rattle.std.proofs.Common.{◌∙◌, ◌++◌}
+use Rattle.flow_gate.specs.declared.tail.ScanError.{ScanError}
+use Rattle.flow_codec.specs.Raw.{under, Took}
+use Rattle.flow_segment.specs.PartFlows.{IsDamage}
+use Rattle.flow_segment.specs.Segment.{part_octets}
+use Rattle.flow_segment.proofs.Carrying.{err_of}
+use Rattle.flow_segment.proofs.Restating.{moves_within}
+use Rattle.flow_segment.proofs.Flowing.{count_within, part_more, walked_told, AreTaken}
+use Rattle.flow_segment.proofs.Taking.{took_then}
+use Rattle.flow_segment.proofs.walking.walk_part.Goals as goal
+
+pub returns-in_err-hand_over-clause-told : goal.returns-in_err-hand_over-clause-told
+returns-in_err-hand_over-clause-told g c = λ h.
+    let S = g.S.SealedFile in
+    let holds = g.R.RecordSink.holds in
+    let part = c.args.part.now in
+    let file = part.reader in
+    err_of {X = Unit {0}} {E = ScanError} c.from_residual-in_err-hand_over.result c.in_err-hand_over.field-0.0
+    (λ e. IsDamage (part_octets part.prefix part.length (S.octets file)) c.args.templates.now (S.number file)
+    part.prefix part.length part.messages e)
+    c.from_residual-in_err-hand_over.ensures.1
+    (walked_told (AreTaken holds c.args.sink.now c.messages.sink c.messages.count)
+    (λ m. Took holds m.header c.messages.sink m.records c.hand_over.new.sink)
+    (S.honest file) (S.octets file) part.prefix part.length (S.number file) c.file-file.result c.place-at.result
+    part.messages c.in_ok-advance.field-0 c.args.templates.now c.messages.templates c.hand_over.new.templates
+    c.messages.cursor c.advance.new.cursor c.message.result.now c.in_err-hand_over.field-0.0
+    c.if-not-branch.false c.messages.invariant.0 c.in_ok-advance.ensures.moves c.in_ok-advance.ensures.step
+    c.message.ensures c.file-file.ensures c.place-at.ensures c.in_err-hand_over.ensures h)
+
+pub messages-preserved : goal.messages-preserved
+messages-preserved g c =
+    let S = g.S.SealedFile in
+    let holds = g.R.RecordSink.holds in
+    let part = c.args.part.now in
+    let file = part.reader in
+    let x = c.in_ok-hand_over.ensures in
+    let some = c.messages.invariant.5 in (
+      part_more holds c.args.sink.now c.messages.sink c.hand_over.new.sink (S.honest file) (S.octets file) part.prefix
+          part.length (S.number file) c.file-file.result c.place-at.result c.messages.count c.in_ok-advance.field-0
+          c.args.templates.now c.messages.templates c.hand_over.new.templates c.messages.cursor c.advance.new.cursor
+          c.message.result.now c.if-not-branch.false c.messages.invariant.0 c.in_ok-advance.ensures.moves
+          c.in_ok-advance.ensures.step c.message.ensures x,
+      c.in_ok-advance.ensures.end ∙ c.messages.invariant.1,
+      moves_within c.messages.cursor c.advance.new.cursor c.in_ok-advance.field-0 c.if-not-branch.false
+          c.in_ok-advance.ensures.moves,
+      c.in_ok-advance.ensures.cause.done ∙ c.messages.invariant.3,
+      count_within c.messages.cursor c.advance.new.cursor c.messages.count c.in_ok-advance.field-0
+          c.if-not-branch.false c.in_ok-advance.ensures.moves c.messages.invariant.4,
+      (
+        some.0 ++ under (x.0).header (x.0).records,
+        took_then holds c.args.sink.now c.messages.sink c.hand_over.new.sink some.0 (under (x.0).header (x.0).records)
+            some.1 x.2,
+      ),
+    )

@@ -1,0 +1,99 @@
+//! What takes the flows of a part's data records.
+
+ghost use Rattle.std.specs.Prelude.{◌≡◌, nat_le, nat_lt, ◌&&◌};
+
+use flow_codec::{Definition, Header, RecordSink};
+use flow_measure::{Flow, Rows, SumError, flow_of};
+use std::alloc::AllocError;
+
+/// Adds flows to rows, up to the first with which a sum would pass its type.
+#[derive(Drop)]
+pub struct Adding {
+    /// The sums, with the flows of the records taken.
+    pub rows: Rows,
+    /// Whether a sum would pass its type.
+    pub spent: bool,
+}
+
+impl RecordSink for Adding {
+    ghost use Rattle.flow_segment.specs.PartFlows.{HasAdded};
+
+    type Error = AllocError;
+
+    ghost holds = { λ start taken now. HasAdded start.rows taken now.rows now.spent };
+
+    ghost refuses = { λ _ _ _ _. Unit {0} };
+
+    fn record(
+        &mut self,
+        header: &Header,
+        _id: u16,
+        definition: &Definition,
+        octets: &[u8],
+    ) -> Result<(), AllocError> {
+        if definition.options() {
+            return Ok(());
+        }
+        let flow = flow_of(header, definition, octets);
+        if self.spent {
+            return Ok(());
+        }
+        match self.rows.add(&flow) {
+            Ok(()) => Ok(()),
+            Err(SumError::SumSpent) => {
+                self.spent = true;
+                Ok(())
+            }
+            Err(SumError::OutOfMemory) => Err(AllocError),
+        }
+    }
+}
+
+/// Takes the flows that start from one moment on and before another.
+#[derive(Drop)]
+pub struct Chosen {
+    /// The flows of the records taken, in their order.
+    pub flows: Vec<Flow>,
+    /// The first second.
+    pub from: u64,
+    /// The second behind the last one.
+    pub to: u64,
+}
+
+impl Chosen {
+    /// Whether a flow starts within.
+    fn takes(&self, flow: &Flow) -> bool
+        ensures { result ≡ (nat_le self.now.from flow.now.start && nat_lt flow.now.start self.now.to) }
+    {
+        let start = u64::from(flow.start);
+        self.from <= start && start < self.to
+    }
+}
+
+impl RecordSink for Chosen {
+    ghost use Rattle.flow_segment.specs.PartFlows.{HasChosen};
+
+    type Error = AllocError;
+
+    ghost holds = { λ start taken now. HasChosen start.from start.to start.flows.items taken now.from now.to
+        now.flows.items };
+
+    ghost refuses = { λ _ _ _ _. Unit {0} };
+
+    fn record(
+        &mut self,
+        header: &Header,
+        _id: u16,
+        definition: &Definition,
+        octets: &[u8],
+    ) -> Result<(), AllocError> {
+        if definition.options() {
+            return Ok(());
+        }
+        let flow = flow_of(header, definition, octets);
+        if self.takes(&flow) {
+            self.flows.push(flow)?;
+        }
+        Ok(())
+    }
+}

@@ -1,0 +1,76 @@
+//! The data records of a part's messages, handed to a sink.
+
+ghost use Rattle.std.specs.Prelude.{◌≡◌, ◌≤◌, List, IsTrue, IfErr, OnOk};
+ghost use Rattle.flow_disk.specs.Cause.{HasCause};
+ghost use Rattle.flow_codec.specs.Raw.{Placed, Took};
+ghost use Rattle.flow_measure.specs.History.{Accepted, templates_from};
+ghost use Rattle.flow_segment.specs.PartFlows.{records_in, ArePartMessages, IsDamage, IsWalkedInto, TookAll};
+ghost use Rattle.flow_segment.specs.Segment.{part_octets};
+
+use crate::part::{Cursor, advance};
+use crate::sealed::SealedPart;
+use flow_codec::{MessageError, RecordSink, Templates, WalkError, walk_message};
+use flow_disk::{Faults, SealedFile};
+use flow_gate::ScanError;
+use std::alloc::{AllocError, Global};
+
+/// Hands the data records of a message, which stands at this place of this file, to a sink.
+fn hand_over<R: RecordSink<Error = AllocError>>(
+    alloc: Global,
+    templates: &mut Templates,
+    octets: &[u8],
+    file: u64,
+    at: u64,
+    sink: &mut R,
+) -> Result<(), ScanError>
+    ensures { IsWalkedInto (λ m. Took R.holds m.header sink.old m.records sink.new) file at octets.now templates.old
+        templates.new result }
+{
+    match walk_message(templates, alloc, octets, sink) {
+        Ok(_) => Ok(()),
+        Err(WalkError::Message(MessageError::OutOfMemory)) => Err(ScanError::OutOfMemory),
+        Err(WalkError::Message(_)) => Err(ScanError::Damaged(file, at)),
+        Err(WalkError::Sink(_)) => Err(ScanError::OutOfMemory),
+    }
+}
+
+/// Hands the data records of the messages of a sealed segment to a sink, in order, and takes their templates in: those
+/// given are in force in front of the first. A piece of the file is held at a time.
+///
+/// Where a message is refused, or none stands, it answers `Damaged`, with the file and the place; where there is
+/// another count of messages, with the file and its length; `Fault` exactly where a read has raised `faults`; and
+/// `OutOfMemory`, also where the sink refuses a record.
+pub(crate) fn walk_part<S: SealedFile, R: RecordSink<Error = AllocError>>(
+    alloc: Global,
+    part: &SealedPart<S>,
+    templates: &mut Templates,
+    sink: &mut R,
+    faults: &mut Faults<S>,
+) -> Result<(), ScanError>
+    ensures cause { HasCause ScanError.Fault faults.old faults.new result }
+    // On every disk: the sink took some records.
+    ensures taken { OnOk result ((records : List Placed) × TookAll R.holds sink.old records sink.new) }
+    // On an honest one: those of accepted messages that fill the part; or why there are none.
+    ensures found { IsTrue (S.honest part.now.reader) → OnOk result ((messages : List Accepted)
+        × ArePartMessages (part_octets part.now.prefix part.now.length (S.octets part.now.reader)) templates.old
+        part.now.messages messages × (templates.new ≡ templates_from templates.old messages)
+        × TookAll R.holds sink.old (records_in messages) sink.new) }
+    ensures told { IsTrue (S.honest part.now.reader) → IfErr result
+        (λ e. IsDamage (part_octets part.now.prefix part.now.length (S.octets part.now.reader)) templates.old
+        (S.number part.now.reader) part.now.prefix part.now.length part.now.messages e) }
+{
+    let mut cursor = Cursor::new(alloc, part.prefix, part.length);
+    let mut count = 0;
+    'messages: loop {
+        let at = cursor.place();
+        if !advance(&mut cursor, alloc, &part.reader, faults)? {
+            if count != part.messages {
+                return Err(ScanError::Damaged(part.reader.file(), part.length));
+            }
+            return Ok(());
+        }
+        let file = part.reader.file();
+        hand_over(alloc, templates, cursor.message(), file, at, sink)?;
+        count += 1;
+    }
+}
