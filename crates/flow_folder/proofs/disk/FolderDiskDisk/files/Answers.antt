@@ -1,0 +1,10 @@
+use Rattle.std.proofs.Common.{sym, subst}
+use Rattle.std.specs.List.Sorted.{IsStrictlyIncreasing}
+use Rattle.std.proofs.lemmas.List.Filters.{dedup_is}
+use Rattle.std.proofs.lemmas.Map.Keys.{IsStrictlyIncreasing-dedup}
+use Rattle.flow_folder.proofs.disk.FolderDiskDisk.files.Goals as goal
+
+pub returns-in-Ok-clause-ascending : goal.returns-in-Ok-clause-ascending
+returns-in-Ok-clause-ascending g c =
+    subst IsStrictlyIncreasing (sym (dedup_is _ _ _ c.dedup.ensures.filtered))
+    (IsStrictlyIncreasing-dedup _ c.sort_unstable.ensures.sorted)

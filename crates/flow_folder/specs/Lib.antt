@@ -1,0 +1,4 @@
+pub mod Naming
+pub mod Table
+pub mod Honesty
+pub mod Written

@@ -1,0 +1,295 @@
+// A folder as a disk.
+ghost use Rattle.std.specs.Prelude.{◌≡◌, ◌≤◌, ℕ, true, false, is_some, OnOk, OnErr, IfOk};
+ghost use Rattle.std.specs.Ordering.{nat_cmp};
+ghost use Rattle.std.specs.BTreeMap.{get};
+ghost use Rattle.flow_disk.specs.Cause.{HasRisen, FailsOnlyByFault};
+ghost use Rattle.flow_folder.specs.Table.{marks_in};
+
+use crate::folder::Folder;
+use crate::sealed::FolderSealed;
+use crate::system::{FolderError, Lockable};
+use crate::told::{LIMIT, Table, Told};
+use flow_disk::{Disk, DiskError, SealedFile};
+use std::alloc::{AllocGlobal, Global};
+use std::fs::Files;
+use std::io::ErrorKind;
+use std::os::unix::fs::FileExt;
+
+/// A folder of the system as a disk. No file of it passes 2^62 octets: a longer one, and a write past them, is a fault,
+/// as is a read or a cut that finds fewer octets than were told. A file that isn't there is an empty one.
+#[derive(Drop)]
+pub struct FolderDisk<'a, R: Files> {
+    folder: Folder<'a, R>,
+    table: Table,
+    failed: u64,
+    ghost settled: { (n : ℕ) → (marks_in table n).settled ≡ true → is_some (get nat_cmp folder.pending n) ≡ false },
+}
+
+impl<'a, R: Files + AllocGlobal + Clone + Drop> FolderDisk<'a, R>
+where
+    R::File: FileExt + Lockable,
+{
+    ghost use Rattle.flow_disk.specs.Disk.{Changes, Stays};
+    ghost use Rattle.flow_disk.specs.Files.{MarkedByRemoval};
+    ghost use Rattle.flow_folder.specs.Table.{marks_of};
+
+    /// Opens a folder that exists, and locks it as long as the disk or a frozen file of it is there.
+    pub fn new(rt: &'a R, folder: &'a str) -> Result<Self, FolderError>
+        ensures { IfOk result (λ disk. (n : ℕ) → (marks_in disk.table n).frozen ≡ false) }
+    {
+        Ok(FolderDisk {
+            folder: Folder::open(rt, folder)?,
+            table: Table::new(rt.alloc()),
+            failed: 0,
+        })
+    }
+
+    /// Counts a fault.
+    fn fault(&mut self) -> DiskError
+        ensures fault { result ≡ DiskError.Fault }
+        ensures table { self.new.table ≡ self.old.table }
+        ensures folder { self.new.folder ≡ self.old.folder }
+        ensures later { self.old.failed ≤ self.new.failed }
+        ensures risen { HasRisen self.old.failed self.new.failed }
+    {
+        self.failed = self.failed.saturating_add(1);
+        DiskError::Fault
+    }
+
+    /// Tells this of a file from now on, where there is memory. Only a file without a pending change is told settled.
+    fn tell(&mut self, file: u64, told: Told) -> Result<(), DiskError>
+        requires { told.settled ≡ true → is_some (get nat_cmp self.old.folder.pending file) ≡ false }
+        ensures folder { self.new.folder ≡ self.old.folder }
+        ensures done { OnOk result (Changes (marks_in self.old.table) (marks_in self.new.table) file (marks_of told)) }
+        ensures failed { OnErr result (Stays (marks_in self.old.table) (marks_in self.new.table)) }
+        ensures cause { FailsOnlyByFault self.old.failed self.new.failed result }
+    {
+        match self.table.tell(file, told) {
+            Ok(()) => Ok(()),
+            Err(_) => Err(self.fault()),
+        }
+    }
+
+    /// Removes a file, frozen or not.
+    fn take_away(&mut self, file: u64) -> Result<(), DiskError>
+        ensures marks { MarkedByRemoval (marks_in self.old.table) (marks_in self.new.table) file result }
+        ensures cause { FailsOnlyByFault self.old.failed self.new.failed result }
+    {
+        let told = self.table.of(file);
+        self.tell(
+            file,
+            Told {
+                size: told.size,
+                settled: false,
+                frozen: told.frozen,
+                listed: told.listed,
+            },
+        )?;
+        if self.folder.remove(file).is_err() {
+            return Err(self.fault());
+        }
+        self.tell(
+            file,
+            Told {
+                size: 0,
+                settled: true,
+                frozen: false,
+                listed: false,
+            },
+        )
+    }
+}
+
+impl<'a, R: Files + AllocGlobal + Clone + Drop> Disk for FolderDisk<'a, R>
+where
+    R::File: FileExt + Lockable,
+{
+    type Sealed = FolderSealed<'a, R>;
+
+    ghost use Rattle.std.specs.Prelude.{◌+◌, []};
+    ghost use Rattle.flow_disk.specs.Disk.{settled_at};
+    ghost use Rattle.flow_folder.specs.Honesty.{never};
+    ghost use Rattle.flow_folder.specs.Table.{limited};
+
+    ghost honest = { λ _. false };
+
+    ghost marks = { λ d. marks_in d.table };
+
+    ghost held = { λ _ n. settled_at [] };
+
+    ghost moment = { λ _. 0 };
+
+    ghost left_since = { λ _ t image. ⊥ };
+
+    ghost faults = { λ d. d.failed };
+
+    ghost reads_image = { λ d n h. never h };
+
+    ghost fast_within = { λ d n h. never h };
+
+    ghost fast_whole = { λ d n h. never h };
+
+    ghost settled_alone = { λ d n image h. never h };
+
+    ghost has_size = { λ d n h. never h };
+
+    ghost within_limit = { λ d n. limited d.table n };
+
+    ghost counts_now = { λ d t image h. never h };
+
+    ghost only_now = { λ d image h. never h };
+
+    fn length(&mut self, file: u64) -> Result<u64, DiskError> {
+        match self.folder.length(file) {
+            Ok(size) if size <= LIMIT => {
+                let told = self.table.of(file);
+                self.tell(
+                    file,
+                    Told {
+                        size,
+                        settled: told.settled,
+                        frozen: told.frozen,
+                        listed: told.listed,
+                    },
+                )?;
+                Ok(size)
+            }
+            _ => Err(self.fault()),
+        }
+    }
+
+    fn read(
+        &mut self,
+        alloc: Global,
+        file: u64,
+        at: u64,
+        count: usize,
+    ) -> Result<Vec<u8>, DiskError> {
+        let mut octets = vec![in alloc; 0u8; count]?;
+        match self.folder.read(file, at, &mut octets) {
+            Ok(()) => Ok(octets),
+            Err(e) if e.kind() == ErrorKind::OutOfMemory => Err(DiskError::OutOfMemory),
+            Err(_) => Err(self.fault()),
+        }
+    }
+
+    fn write_at(&mut self, file: u64, at: u64, octets: &[u8]) -> Result<(), DiskError> {
+        let told = self.table.of(file);
+        let count = octets.len() as u64;
+        if count > LIMIT - at {
+            return Err(self.fault());
+        }
+        self.tell(
+            file,
+            Told {
+                size: told.size,
+                settled: false,
+                frozen: false,
+                listed: told.listed,
+            },
+        )?;
+        if self.folder.write(file, at, octets).is_err() {
+            return Err(self.fault());
+        }
+        self.tell(
+            file,
+            Told {
+                size: told.size.max(at + count),
+                settled: false,
+                frozen: false,
+                listed: true,
+            },
+        )
+    }
+
+    fn cut(&mut self, file: u64, count: u64) -> Result<(), DiskError> {
+        let told = self.table.of(file);
+        self.tell(
+            file,
+            Told {
+                size: told.size,
+                settled: false,
+                frozen: false,
+                listed: told.listed,
+            },
+        )?;
+        if self.folder.cut(file, count).is_err() {
+            return Err(self.fault());
+        }
+        self.tell(
+            file,
+            Told {
+                size: count,
+                settled: false,
+                frozen: false,
+                listed: true,
+            },
+        )
+    }
+
+    fn sync(&mut self, file: u64) -> Result<(), DiskError> {
+        let told = self.table.of(file);
+        self.tell(
+            file,
+            Told {
+                size: told.size,
+                settled: false,
+                frozen: told.frozen,
+                listed: told.listed,
+            },
+        )?;
+        if self.folder.sync(file).is_err() {
+            return Err(self.fault());
+        }
+        self.tell(
+            file,
+            Told {
+                size: told.size,
+                settled: true,
+                frozen: told.frozen,
+                listed: true,
+            },
+        )
+    }
+
+    fn remove(&mut self, file: u64) -> Result<(), DiskError> {
+        self.take_away(file)
+    }
+
+    fn files(&mut self, alloc: Global) -> Result<Vec<u64>, DiskError> {
+        match self.folder.files(alloc) {
+            Ok(mut files) => {
+                files.sort_unstable();
+                files.dedup();
+                Ok(files)
+            }
+            Err(e) if e.kind() == ErrorKind::OutOfMemory => Err(DiskError::OutOfMemory),
+            Err(_) => Err(self.fault()),
+        }
+    }
+
+    fn freeze(&mut self, file: u64) -> Result<FolderSealed<'a, R>, DiskError> {
+        let told = self.table.of(file);
+        match self.folder.length(file) {
+            Ok(size) if size == told.size => {}
+            _ => return Err(self.fault()),
+        }
+        let Ok(sealed) = self.folder.seal(file, told.size) else {
+            return Err(self.fault());
+        };
+        self.tell(
+            file,
+            Told {
+                size: told.size,
+                settled: true,
+                frozen: true,
+                listed: told.listed,
+            },
+        )?;
+        Ok(sealed)
+    }
+
+    fn retire(&mut self, sealed: FolderSealed<'a, R>) -> Result<(), DiskError> {
+        self.take_away(sealed.file())
+    }
+}

@@ -1,0 +1,70 @@
+// What a disk has told of its files.
+ghost use Rattle.std.specs.Prelude.{◌≡◌, ◌≤◌, ◌^◌, ℕ};
+
+use std::alloc::Global;
+use std::collections::BTreeMap;
+
+/// The most octets that a file has.
+pub(crate) const LIMIT: u64 = 1 << 62;
+
+/// What was told of a file: how many octets it has, and whether it is settled, frozen and listed.
+#[derive(Clone, Copy)]
+pub(crate) struct Told {
+    pub(crate) size: u64,
+    pub(crate) settled: bool,
+    pub(crate) frozen: bool,
+    pub(crate) listed: bool,
+    ghost within: { size ≤ 2 ^ 62 },
+}
+
+/// What was told of each file. Of a file that no call has named nothing was told but that it isn't frozen.
+#[derive(Drop)]
+pub(crate) struct Table {
+    told: BTreeMap<u64, Told>,
+}
+
+impl Table {
+    ghost use Rattle.std.specs.Prelude.{◌≢◌, OnOk, OnErr, false};
+    ghost use Rattle.flow_disk.specs.Disk.{Changes, Stays};
+    ghost use Rattle.flow_folder.specs.Table.{marks_of, marks_in};
+
+    /// No call has named a file.
+    pub(crate) fn new(alloc: Global) -> Self
+        ensures frozen { (n : ℕ) → (marks_in result n).frozen ≡ false }
+        ensures settled { (n : ℕ) → (marks_in result n).settled ≡ false }
+    {
+        Table {
+            told: BTreeMap::new(alloc),
+        }
+    }
+
+    /// What was told of a file.
+    pub(crate) fn of(&self, file: u64) -> Told
+        ensures { marks_of result ≡ marks_in self.now file }
+    {
+        match self.told.get(&file) {
+            Some(told) => *told,
+            None => Told {
+                size: 0,
+                settled: false,
+                frozen: false,
+                listed: false,
+            },
+        }
+    }
+
+    /// Tells this of a file from now on. Answers whether there was memory.
+    pub(crate) fn tell(&mut self, file: u64, told: Told) -> Result<(), NoRoom>
+        ensures done { OnOk result (Changes (marks_in self.old) (marks_in self.new) file (marks_of told)) }
+        ensures failed { OnErr result (Stays (marks_in self.old) (marks_in self.new)) }
+    {
+        match self.told.insert(file, told) {
+            Ok(_) => Ok(()),
+            Err(_) => Err(NoRoom),
+        }
+    }
+}
+
+/// No memory was found.
+#[derive(Drop)]
+pub(crate) struct NoRoom;
