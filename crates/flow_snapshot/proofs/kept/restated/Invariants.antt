@@ -1,0 +1,12 @@
+use Rattle.std.proofs.Common.{length}
+use Rattle.flow_codec.specs.Templates.{AllTemplates}
+use Rattle.flow_segment.specs.Prefix.{IsRestated}
+use Rattle.flow_snapshot.proofs.KeptFlows.{IsStillRestated}
+use Rattle.flow_snapshot.proofs.kept.restated.Given as goal
+
+-- what is left restates the templates behind those so far
+abbrev pub invariant-messages : goal.invariant-messages
+invariant-messages l = (all : AllTemplates) → IsRestated l.prefix all → IsStillRestated l.rest l.templates all
+
+abbrev pub decreases-messages : goal.decreases-messages
+decreases-messages l = length l.rest

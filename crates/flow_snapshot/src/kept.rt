@@ -1,0 +1,134 @@
+//! The flows of kept messages.
+
+ghost use Rattle.std.specs.Prelude.{◌≡◌, ◌≢◌, ◌++◌, IsTrue, IfErr, List, map};
+ghost use Rattle.std.specs.List.{list_all};
+ghost use Rattle.flow_codec.specs.Message.{IsAccepted};
+ghost use Rattle.flow_codec.specs.Raw.{Took};
+ghost use Rattle.flow_codec.specs.Templates.{AllTemplates};
+ghost use Rattle.flow_disk.specs.Cause.{HasCause};
+ghost use Rattle.flow_measure.specs.History.{Accepted, AreAcceptedFrom, flows_in, templates_from};
+ghost use Rattle.flow_segment.specs.Carry.{octets_of};
+ghost use Rattle.flow_segment.specs.PartFlows.{flows_within, AreCollected};
+ghost use Rattle.flow_segment.specs.Prefix.{IsRestated};
+ghost use Rattle.flow_snapshot.specs.Files.{is_honest, segment_of, shared};
+ghost use Rattle.flow_snapshot.specs.Shelf.{messages_in};
+ghost use Rattle.flow_snapshot.specs.Told.{IsAnswered};
+
+use crate::error::QueryError;
+use bytes::Bytes;
+use flow_codec::{Count, MessageError, RecordSink, Templates, WalkError, front_of, walk_message};
+use flow_disk::{Faults, SealedFile};
+use flow_gate::ScanError;
+use flow_measure::Flow;
+use flow_segment::{Chosen, SealedPart, collect_flows};
+use std::alloc::{AllocError, Global};
+use std::mem::replace;
+use std::sync::Arc;
+
+/// What is told of a message in memory that is none: of no file, since it stands in none.
+const NO_MESSAGE: QueryError = QueryError::Damaged(0, 0);
+
+/// Takes in the templates of a message in memory.
+fn take_in(alloc: Global, templates: &mut Templates, octets: &[u8]) -> Result<(), QueryError>
+    ensures given { (a : Accepted) → a.octets ≡ octets.now → IsAccepted octets.now templates.old a.message a.after
+        → IsAnswered (λ _. templates.new ≡ a.after) result }
+    ensures quiet { IfErr result (λ e. e ≢ QueryError.Fault) }
+{
+    let mut records = Count { records: 0 };
+    match walk_message(templates, alloc, octets, &mut records) {
+        Ok(_) => Ok(()),
+        Err(WalkError::Message(MessageError::OutOfMemory)) => Err(QueryError::OutOfMemory),
+        Err(WalkError::Message(_)) => Err(NO_MESSAGE),
+        Err(WalkError::Sink(never)) => match never {},
+    }
+}
+
+/// Hands the data records of a message in memory to a sink.
+fn hand_over<R: RecordSink<Error = AllocError>>(
+    alloc: Global,
+    templates: &mut Templates,
+    octets: &[u8],
+    sink: &mut R,
+) -> Result<(), QueryError>
+    ensures given { (a : Accepted) → a.octets ≡ octets.now → IsAccepted octets.now templates.old a.message a.after
+        → IsAnswered (λ _. (templates.new ≡ a.after)
+        × Took R.holds a.message.header sink.old a.message.records sink.new) result }
+    ensures quiet { IfErr result (λ e. e ≢ QueryError.Fault) }
+{
+    match walk_message(templates, alloc, octets, sink) {
+        Ok(_) => Ok(()),
+        Err(WalkError::Message(MessageError::OutOfMemory)) => Err(QueryError::OutOfMemory),
+        Err(WalkError::Message(_)) => Err(NO_MESSAGE),
+        Err(WalkError::Sink(_)) => Err(QueryError::OutOfMemory),
+    }
+}
+
+/// The templates that a prefix in memory restates.
+pub(crate) fn restated(alloc: Global, prefix: &[u8]) -> Result<Templates, QueryError>
+    ensures given { (all : AllTemplates) → IsRestated prefix.now all
+        → IsAnswered (λ templates. templates ≡ all) result }
+    ensures quiet { IfErr result (λ e. e ≢ QueryError.Fault) }
+{
+    let mut templates = Templates::new(alloc);
+    let mut rest = prefix;
+    'messages: while !rest.is_empty() {
+        let Ok(length) = front_of(0, rest) else {
+            return Err(NO_MESSAGE);
+        };
+        let (message, more) = rest.split_at(length);
+        take_in(alloc, &mut templates, message)?;
+        rest = more;
+    }
+    Ok(templates)
+}
+
+/// Puts the flows of sealed segments' messages that start from `from` on and before `to` behind those in a list.
+pub(crate) fn collect_sealed<S: SealedFile>(
+    alloc: Global,
+    parts: &[Arc<SealedPart<S>>],
+    templates: &mut Templates,
+    from: u64,
+    to: u64,
+    flows: &mut Vec<Flow>,
+    faults: &mut Faults<S>,
+) -> Result<(), ScanError>
+    ensures cause { HasCause ScanError.Fault faults.old faults.new result }
+    // On honest disks: those of accepted messages behind the templates given.
+    ensures given { IsTrue (list_all is_honest (shared parts.now)) → (messages : List Accepted)
+        → AreAcceptedFrom templates.old messages
+        → octets_of messages ≡ messages_in (map segment_of (shared parts.now))
+        → AreCollected templates.old from to flows.old.items messages result templates.new flows.new.items }
+{
+    for part in parts {
+        if part.messages > 0 {
+            collect_flows(alloc, part, templates, from, to, flows, faults)?;
+        }
+    }
+    Ok(())
+}
+
+/// The same of messages in memory.
+pub(crate) fn collect_active(
+    alloc: Global,
+    messages: &[Bytes],
+    templates: &mut Templates,
+    from: u64,
+    to: u64,
+    flows: &mut Vec<Flow>,
+) -> Result<(), QueryError>
+    ensures given { (list : List Accepted) → AreAcceptedFrom templates.old list → octets_of list ≡ messages.now
+        → IsAnswered (λ _. (templates.new ≡ templates_from templates.old list)
+        × (flows.new.items ≡ flows.old.items ++ flows_within from to (flows_in list))) result }
+    ensures quiet { IfErr result (λ e. e ≢ QueryError.Fault) }
+{
+    let mut chosen = Chosen {
+        flows: replace(flows, Vec::new(alloc)),
+        from,
+        to,
+    };
+    for message in messages {
+        hand_over(alloc, templates, message.as_slice(), &mut chosen)?;
+    }
+    *flows = chosen.flows;
+    Ok(())
+}

@@ -1,0 +1,24 @@
+//! What an archive is, apart from its disk: the octets of its files in order, and what they mean.
+//!
+//! Promised to the layers above: a shelf has one view at most, and each change that may be made takes the view of a
+//! history to that of the history after it. A `Directory` takes steps whole or not at all, and a copy shares every file
+//! with it; a `Snapshot` never changes, and takes no memory to be made. Its position and cuts are those of its shelf;
+//! the flows that it answers are, on honest disks, those of each view of its files, so that damage is told only where
+//! there is none, and 30 only where a read failed in that call.
+#![tactic(auto)]
+
+mod counting;
+mod directory;
+mod error;
+mod files;
+mod kept;
+mod laws;
+mod snapshot;
+mod step;
+
+pub use directory::Directory;
+pub use error::QueryError;
+pub use files::Files;
+pub use laws::{one_view, parts_are, views_follow};
+pub use snapshot::Snapshot;
+pub use step::{Mark, Step};
