@@ -1,0 +1,258 @@
+-- Messages that are read from a part one after the other.
+use Rattle.std.proofs.Common.{◌≡◌, ◌≢◌, ◌⊎◌, inl, inr, ⊎_elim, ℕ, ◌+◌, ◌-◌, ◌<◌, ◌≤◌, Bool, true, false, IsTrue, List}
+use Rattle.std.proofs.Common.{[], ◌∷◌, ◌++◌, length, take, drop, refl, sym, ◌∙◌, ap, subst, arith, append_assoc, Ok}
+use Rattle.std.proofs.Common.{Err, Result}
+use Rattle.std.specs.List.{AllByRecursion}
+use Rattle.std.proofs.lemmas.List.{append-nil, length-append}
+use Rattle.flow_codec.specs.declared.file.FileError.{FileError}
+use Rattle.flow_codec.specs.Cutting.{IsCutOff, IsDivided, IsFileFault}
+use Rattle.flow_codec.specs.Message.{joined, IsAccepted}
+use Rattle.flow_codec.specs.Raw.{RawMessage}
+use Rattle.flow_codec.specs.Templates.{AllTemplates}
+use Rattle.flow_codec.proofs.Dividing.{no_message, one_message}
+use Rattle.flow_codec.proofs.FaultLaws as accepted
+use Rattle.flow_measure.specs.History.{Accepted, AreAcceptedFrom, templates_from}
+use Rattle.flow_segment.specs.Carry.{Carry, carry_from, carry_with, octets_of}
+use Rattle.flow_segment.specs.Prefix.{AreRead}
+use Rattle.flow_segment.specs.Part.{Cursor, IsOn, IsPartStep, Moves, rest_of}
+use Rattle.flow_segment.specs.Segment.{part_octets}
+use Rattle.flow_segment.specs.Carry.{IsTakenAs, no_carry}
+use Rattle.flow_segment.proofs.Restating.{Behind, step_more}
+use Rattle.flow_gate.specs.declared.tail.ScanError.{ScanError}
+use Rattle.flow_gate.specs.declared.tail.ScanError.TheVariants.{Damaged, Fault, OutOfMemory}
+use Rattle.flow_recover.specs.declared.error.RecoverError.{RecoverError}
+use Rattle.flow_recover.specs.declared.error.RecoverError.TheVariants as opening
+use Rattle.flow_recover.specs.Opening.{of_scan, IsDeviceOrMemory}
+use Rattle.flow_recover.specs.declared.segments.Section.{Section}
+use Rattle.flow_recover.specs.declared.segments.Section.TheVariants.{Prefix, Messages}
+use Rattle.flow_recover.specs.Reading.{is_misplaced, AreOf, IsOf, IsRestatement}
+
+-- the next message of other messages that fill the same octets
+pub record IsNextOf (section : Section) (now : AllTemplates) (rest : List ℕ) : Type 0 where
+  pub message : Accepted
+  pub more : List ℕ
+  pub cut : IsCutOff message.octets
+  pub parts : rest ≡ message.octets ++ more
+  pub accepted : IsAccepted message.octets now message.message message.after
+  pub kind : IsOf section message
+
+-- Messages that fill octets go on where others of them end.
+pub next_of : (section : Section) (octets rest : List ℕ) (before : AllTemplates) (ms others : List Accepted)
+    → AreRead octets before ms rest → AreRead octets before others [] → AreOf section others
+    → (rest ≡ []) ⊎ IsNextOf section (templates_from before ms) rest
+next_of section octets rest before [] [] read other kind = inl (sym read.divided.whole ∙ other.divided.whole)
+next_of section octets rest before [] (a ∷ others) read other kind = inr (record {
+  message = a;
+  more = joined (octets_of others) ++ [];
+  cut = other.divided.each.0;
+  parts = sym read.divided.whole ∙ other.divided.whole ∙ append_assoc a.octets (joined (octets_of others)) [];
+  accepted = other.accepted.0;
+  kind = kind.0;
+})
+next_of section octets rest before (m ∷ ms) [] read other kind =
+    let cut : IsCutOff m.octets = read.divided.each.0 in
+    let none : length (m.octets ++ (joined (octets_of ms) ++ rest)) ≡ 0 = ap (λ (l : List ℕ). length l) (sym
+    (append_assoc m.octets (joined (octets_of ms)) rest) ∙ sym read.divided.whole ∙ other.divided.whole) in
+    absurd (omega (arith, none, cut.long, length-append m.octets (joined (octets_of ms) ++ rest)))
+next_of section octets rest before (m ∷ ms) (a ∷ others) read other kind =
+    let whole : m.octets ++ (joined (octets_of ms) ++ rest) ≡ a.octets ++ (joined (octets_of others) ++ []) =
+    sym (append_assoc m.octets (joined (octets_of ms)) rest) ∙ sym read.divided.whole ∙ other.divided.whole
+    ∙ append_assoc a.octets (joined (octets_of others)) [] in
+    let heads = one_message m.octets a.octets (joined (octets_of ms) ++ rest) (joined
+    (octets_of others) ++ []) read.divided.each.0 other.divided.each.0 whole in
+    let there : IsAccepted m.octets before a.message a.after = subst (λ
+    (l : List ℕ). IsAccepted l before a.message a.after) (sym heads.0) other.accepted.0 in
+    let after : m.after ≡ a.after = accepted.one_state before m.octets m.message a.message m.after a.after
+    read.accepted.0 there in
+    next_of section (joined (octets_of ms) ++ rest) rest m.after ms others
+    (record { divided = record { whole = refl; each = read.divided.each.1 }; accepted = read.accepted.1 })
+    (record {
+      divided = record { whole = heads.1; each = other.divided.each.1 };
+      accepted = subst (λ
+          (ts : AllTemplates). AreAcceptedFrom ts others) (sym after) other.accepted.1;
+    })
+    kind.1
+
+-- ---- one message more
+
+pub carry_push : (c : Carry) (ms : List Accepted) (a : Accepted) → carry_from c (ms ++ a ∷ []) ≡ carry_with
+    (carry_from c ms) a
+carry_push c [] a = refl
+carry_push c (m ∷ ms) a = carry_push (carry_with c m) ms a
+
+pub carry_join : (c : Carry) (ms more : List Accepted) → carry_from c (ms ++ more) ≡ carry_from (carry_from c ms) more
+carry_join c [] more = refl
+carry_join c (m ∷ ms) more = carry_join (carry_with c m) ms more
+
+pub carry_templates : (c : Carry) (ms : List Accepted) → (carry_from c ms).templates ≡ templates_from c.templates ms
+carry_templates c [] = refl
+carry_templates c (m ∷ ms) = carry_templates (carry_with c m) ms
+
+pub of_push : (section : Section) (ms : List Accepted) (a : Accepted) → AreOf section ms → IsOf section a
+    → AreOf section (ms ++ a ∷ [])
+of_push section [] a all is = (is, tt)
+of_push section (m ∷ ms) a all is = (all.0, of_push section ms a all.1 is)
+
+pub taken_of : (section : Section) (bare : Bool) (octets : List ℕ) (old new : Carry)
+    → is_misplaced section bare ≡ false → IsTakenAs bare octets old new
+    → (a : Accepted) × (a.octets ≡ octets) × IsAccepted octets old.templates a.message a.after × IsOf section a ×
+    (new ≡ carry_with old a)
+taken_of Prefix true octets old new placed taken = (taken.0, taken.1, taken.2, taken.4, taken.3)
+taken_of Prefix false octets old new placed taken = absurd (cc)
+taken_of Messages true octets old new placed taken = (taken.0, taken.1, taken.2, tt, taken.3)
+taken_of Messages false octets old new placed taken = (taken.0, taken.1, taken.2, tt, taken.3)
+
+pub misplaced_none : (section : Section) (bare : Bool) (octets : List ℕ) (old new : Carry)
+    → is_misplaced section bare ≡ true → IsTakenAs bare octets old new
+    → (a : Accepted) → IsAccepted octets old.templates a.message a.after → IsOf section a → ⊥
+misplaced_none Prefix true octets old new placed taken a is kind = absurd (cc)
+misplaced_none Prefix false octets old new placed taken a is kind =
+    let b = taken.0 in
+    let same : b.message ≡ a.message = accepted.one_message old.templates octets b.message a.message b.after a.after
+    taken.2 is in
+    taken.4 (ap (λ (m : RawMessage). m.records) same ∙ kind)
+misplaced_none Messages bare octets old new placed taken a is kind = absurd (cc)
+
+-- ---- a part that is read as far as a cursor stands
+
+pub record IsSoFar (section : Section) (old now : Carry) (count : ℕ) (messages : List Accepted) : Type 0 where
+  pub kind : AreOf section messages
+  pub carry : now ≡ carry_from old messages
+  pub count_is : length messages ≡ count
+
+pub record IsPartRead (section : Section) (reads : List ℕ) (from end : ℕ) (old now : Carry) (c : Cursor)
+    (count : ℕ) : Type 0 where
+  pub behind : Behind (IsSoFar section old now count)
+      (part_octets from end reads) from old.templates now.templates c.place (rest_of reads c)
+  pub on : IsOn reads c
+
+pub part_begun : (section : Section) (reads : List ℕ) (from end : ℕ) (old : Carry) (c : Cursor)
+    → c ≡ record { ahead = []; message = []; place = from; end = end } → IsPartRead section reads from end old old c 0
+part_begun section reads from end old c is = subst (λ (x : Cursor). IsPartRead section reads from end old old x 0)
+    (sym is) (record {
+      behind = record {
+        messages = [];
+        read = record { divided = record { whole = refl; each = tt }; accepted = tt };
+        kind = record { kind = tt; carry = refl; count_is = refl };
+        same = refl;
+        at = omega arith;
+      };
+      on = refl;
+    })
+
+pub part_more : (section : Section) (reads : List ℕ) (from end file : ℕ) (old now new : Carry) (c next : Cursor)
+    (count : ℕ) (message : List ℕ) (more : Bool) → more ≡ true
+    → IsPartRead section reads from end old now c count → IsOn reads next × IsPartStep reads file c (Ok more) next
+    → Moves c (Ok more) next → message ≡ next.message
+    → (a : Accepted) × (a.octets ≡ message) × IsAccepted message now.templates a.message a.after × IsOf section a ×
+    (new ≡ carry_with now a)
+    → IsPartRead section reads from end old new next (count + 1)
+part_more section reads from end file old now new c next count message false go was step moves same taken = absurd (cc)
+part_more section reads from end file old now new c next count message true go was step moves same taken =
+    let a = taken.0 in
+    let b = was.behind in
+    let x : Accepted = record { octets = message; message = a.message; after = a.after } in
+    let carried : new ≡ carry_from old (b.messages ++ x ∷ []) = taken.4 ∙ ap (λ
+    (k : Carry). carry_with k a) b.kind.carry ∙ sym (carry_push old b.messages x) in
+    let next_kind : IsSoFar section old new (count + 1) (b.messages ++ x ∷ []) = record {
+      kind = of_push section b.messages x b.kind.kind (of_same section a x refl taken.3);
+      carry = carried;
+      count_is = omega (arith, length-append b.messages (x ∷ []), b.kind.count_is);
+    } in
+    let there : new.templates ≡ a.after = ap (λ (k : Carry). k.templates) taken.4 in
+    record {
+      behind = subst (λ (ts : AllTemplates). Behind (IsSoFar section old new (count + 1))
+          (part_octets from end reads) from old.templates ts next.place (rest_of reads next)) (sym there)
+          (step_more (IsSoFar section old now count) (IsSoFar section old new (count + 1)) reads
+          (part_octets from end reads) from file old.templates now.templates a.after c next message a.message b
+          step.1 moves.2 same taken.2 next_kind);
+      on = step.0;
+    }
+  where
+    of_same : (section : Section) (a x : Accepted) → a.message ≡ x.message → IsOf section a → IsOf section x
+    of_same Prefix a x is kind = ap (λ (m : RawMessage). m.records) (sym is) ∙ kind
+    of_same Messages a x is kind = tt
+
+-- where other messages fill the part, the next one stands at the cursor
+pub part_next : (section : Section) (reads : List ℕ) (from end : ℕ) (old now : Carry) (c : Cursor) (count : ℕ)
+    (others : List Accepted)
+    → IsPartRead section reads from end old now c count → AreRead
+    (part_octets from end reads) old.templates others [] → AreOf section others
+    → (rest_of reads c ≡ []) ⊎ IsNextOf section now.templates (rest_of reads c)
+part_next section reads from end old now c count others was other kind =
+    let b = was.behind in
+    subst (λ (ts : AllTemplates). (rest_of reads c ≡ []) ⊎ IsNextOf section ts (rest_of reads c)) (sym b.same)
+    (next_of section (part_octets from end reads) (rest_of reads c) old.templates b.messages others b.read other kind)
+
+-- so no refusal of octets is told there
+pub step_refused : (section : Section) (reads : List ℕ) (from end file : ℕ) (old now : Carry) (c next : Cursor)
+    (count : ℕ) (others : List Accepted) (e : ScanError)
+    → IsPartRead section reads from end old now c count → AreRead
+    (part_octets from end reads) old.templates others [] → AreOf section others
+    → IsPartStep reads file c (Err e) next → IsDeviceOrMemory (of_scan e)
+step_refused section reads from end file old now c next count others Fault was other kind step = inl refl
+step_refused section reads from end file old now c next count others OutOfMemory was other kind step = inr refl
+step_refused section reads from end file old now c next count others (Damaged f at) was other kind step =
+    let fault = step.2 in
+    absurd (⊎_elim (λ none. no_fault fault.0 (subst (λ (l : List ℕ). IsFileFault c.place l fault.0) none fault.1))
+    (λ there. no_message c.place there.message.octets there.more fault.0 there.cut (subst (λ
+    (l : List ℕ). IsFileFault c.place l fault.0) there.parts fault.1))
+    (part_next section reads from end old now c count others was other kind))
+  where
+    no_fault : (f : FileError) → IsFileFault c.place [] f → ⊥
+    no_fault f (inl short) = omega (arith, short.0)
+    no_fault f (inr (inl long)) = omega (arith, long.0)
+    no_fault f (inr (inr long)) = omega (arith, long.0)
+
+-- and the message that is held is the next one
+pub message_refused : (section : Section) (reads : List ℕ) (from end file : ℕ) (old now : Carry) (c next : Cursor)
+    (count : ℕ) (others : List Accepted) (message : List ℕ) (e : RecoverError) (more : Bool) → more ≡ true
+    → IsPartRead section reads from end old now c count → AreRead
+    (part_octets from end reads) old.templates others [] → AreOf section others
+    → IsPartStep reads file c (Ok more) next → message ≡ next.message
+    → ((a : Accepted) → IsAccepted message now.templates a.message a.after → IsOf section a
+    → e ≡ opening.OutOfMemory) → IsDeviceOrMemory e
+message_refused section reads from end file old now c next count others message e false go was other kind step same
+    refused = absurd (cc)
+message_refused section reads from end file old now c next count others message e true go was other kind step same
+    refused =
+    ⊎_elim (λ none. let cut : IsCutOff next.message = step.0 in
+    absurd (omega (
+      arith,
+      cut.long,
+      length-append next.message (rest_of reads next),
+      ap (λ (l : List ℕ). length l)
+          (sym step.1 ∙ none),
+    )))
+    (λ there. let heads = one_message next.message there.message.octets
+    (rest_of reads next) there.more step.0 there.cut (sym step.1 ∙ there.parts) in
+    inr (refused there.message (subst (λ
+    (l : List ℕ). IsAccepted l now.templates there.message.message there.message.after) (sym (same
+    ∙ heads.0)) there.accepted) there.kind))
+    (part_next section reads from end old now c count others was other kind)
+
+pub few_more : (old new : Cursor) (more : Bool) (count : ℕ) → more ≡ true → Moves old (Ok more) new
+    → count ≤ old.place → count + 1 ≤ new.place
+few_more old new false count go moves few = absurd (cc)
+few_more old new true count go moves few = omega (arith, moves.0, moves.2, few)
+
+pub step_on : (a b : List ℕ) (file : ℕ) (c next : Cursor) (result : Result Bool ScanError) → a ≡ b → IsOn b c
+    → (IsOn a c → IsOn a next × IsPartStep a file c result next) → IsOn b next × IsPartStep b file c result next
+step_on a b file c next result same on step = subst (λ (l : List ℕ). IsOn l c → IsOn l next
+    × IsPartStep l file c result next) same step on
+
+pub from_start : (count : ℕ) (octets : List ℕ) → part_octets 0 count octets ≡ take count octets
+from_start count octets = ap (λ (n : ℕ). take n octets) (omega arith)
+
+-- a prefix that was read from no carry
+pub restated_by : (count : ℕ) (octets : List ℕ) (start carry : Carry) → start ≡ no_carry 0
+    → (ms : List Accepted) × AreRead (part_octets 0 count octets) start.templates ms [] × AreOf Prefix ms ×
+    (carry ≡ carry_from start ms)
+    → IsRestatement (take count octets) carry
+restated_by count octets start carry is found = (
+  found.0,
+  subst (λ (l : List ℕ). AreRead l [] found.0 []) (from_start count octets) (subst (λ (k : Carry). AreRead
+      (part_octets 0 count octets) k.templates found.0 []) is found.1),
+  found.2,
+  found.3 ∙ ap (λ (k : Carry). carry_from k found.0) is,
+)

@@ -1,0 +1,5 @@
+pub mod Viewing
+pub mod History
+pub mod Stand
+pub mod Recovering
+pub mod Accepting

@@ -1,0 +1,123 @@
+use Rattle.std.proofs.Common.{◌≡◌, ◌⊎◌, inl, inr, ⊎_elim, ℕ, ◌+◌, ◌-◌, ◌≤◌, IsTrue, List, length, get_or, refl, sym}
+use Rattle.std.proofs.Common.{◌∙◌, ap, subst, arith, true}
+use Rattle.std.specs.List.{AllByRecursion}
+use Rattle.flow_disk.specs.Disk.{Held, Marks, IsImage, IsDiskImage, AllImages}
+use Rattle.flow_disk.proofs.Moments.{one_run, by}
+use Rattle.flow_disk.proofs.Results.{passed_on}
+use Rattle.flow_manifest.specs.declared.manifest.Entry.{Entry}
+use Rattle.flow_manifest.specs.declared.manifest.Manifest.{Manifest}
+use Rattle.flow_manifest.specs.declared.slots.Slot.{Slot}
+use Rattle.flow_manifest.specs.Slots.{file_of, other, reads_of}
+use Rattle.flow_manifest.specs.Following.{active_of, no_entry}
+use Rattle.flow_manifest.proofs.EntryLists.{all_by}
+use Rattle.flow_recover.specs.State.{State, at_rest, part_of}
+use Rattle.flow_recover.specs.Chain.{IsChained}
+use Rattle.flow_recover.specs.Standing.{IsKnown, StandsFor}
+use Rattle.flow_recover.specs.Opening.{IsDeviceOrMemory, StandsForNone}
+use Rattle.flow_recover.proofs.Stand.{slot_below}
+use Rattle.flow_recover.proofs.Recovering.{agreed, stand_same, told_of_files}
+use Rattle.flow_manifest.proofs.Swaps.{same_slots}
+use Rattle.flow_recover.proofs.opening.find.Goals as goal
+
+pub read_files-requires-clause-last : goal.read_files-requires-clause-last
+read_files-requires-clause-last g c = c.last_of-last.ensures ∙ ap (λ (l : List Entry). get_or l
+    (length l - 1) no_entry) c.as_slice.ensures
+
+pub returns-clause-last : goal.returns-clause-last
+returns-clause-last g c = c.last_of-last.ensures ∙ ap (λ (l : List Entry). get_or l
+    (length l - 1) no_entry) c.as_slice.ensures
+
+pub returns-clause-frozen : goal.returns-clause-frozen
+returns-clause-frozen g c n = c.read_files.ensures.frozen n ∙ c.settle_all.ensures.frozen n
+
+pub returns-in_err-files-clause-frozen : goal.returns-in_err-files-clause-frozen
+returns-in_err-files-clause-frozen g c n = c.read_files.ensures.frozen n ∙ c.settle_all.ensures.frozen n
+
+pub returns-clause-slots : goal.returns-clause-slots
+returns-clause-slots g c slot =
+    let same = c.read_files.ensures.slots (file_of slot) (slot_below slot) in
+    let was = c.in_ok-slots.ensures.slots slot in
+    (ap (λ (k : Marks). k.settled) same ∙ was.0, subst (λ (k : Marks). 1 ≤ k.size) (sym same) was.1)
+
+pub returns-clause-settled : goal.returns-clause-settled
+returns-clause-settled g c =
+    let D = g.D.Disk in
+    let d1 = c.settle_all.new.disk in
+    let d2 = c.read_files.new.disk in
+    all_by (λ (e : Entry). (D.marks d1 e.file).settled ≡ true) (λ (e : Entry). (D.marks d2 e.file).settled ≡ true)
+    (λ e was. c.read_files.ensures.settled e.file ∙ was)
+    c.in_ok-slots.slots.current.entries c.in_ok-slots.ensures.settled
+
+pub returns-clause-narrows : goal.returns-clause-narrows
+returns-clause-narrows g c h image is =
+    let h1 = subst IsTrue (sym c.settle_all.ensures.honest) h in
+    let held = c.read_files.ensures.held h1 in
+    c.settle_all.ensures.narrows h image (λ n. subst (λ (f : Held). IsImage f (image n)) (held n) (is n))
+
+pub returns-in_err-files-clause-narrows : goal.returns-in_err-files-clause-narrows
+returns-in_err-files-clause-narrows g c h image is =
+    let h1 = subst IsTrue (sym c.settle_all.ensures.honest) h in
+    let held = c.read_files.ensures.held h1 in
+    c.settle_all.ensures.narrows h image (λ n. subst (λ (f : Held). IsImage f (image n)) (held n) (is n))
+
+pub returns-clause-any_moment : goal.returns-clause-any_moment
+returns-clause-any_moment g c h =
+    let D = g.D.Disk in
+    let d0 = c.args.disk.now in
+    let d1 = c.settle_all.new.disk in
+    let d2 = c.read_files.new.disk in
+    let P = IsDiskImage (D.held d0) in
+    let h1 = subst IsTrue (sym c.settle_all.ensures.honest) h in
+    one_run D.moment D.left_since d0 d1 d2 P (c.settle_all.ensures.any_moment h) (by D.moment D.left_since d1 d2
+    (IsDiskImage (D.held d1)) P (c.read_files.ensures.any_moment h1) (c.settle_all.ensures.narrows h))
+
+pub returns-in_err-files-clause-any_moment : goal.returns-in_err-files-clause-any_moment
+returns-in_err-files-clause-any_moment g c h =
+    let D = g.D.Disk in
+    let d0 = c.args.disk.now in
+    let d1 = c.settle_all.new.disk in
+    let d2 = c.read_files.new.disk in
+    let P = IsDiskImage (D.held d0) in
+    let h1 = subst IsTrue (sym c.settle_all.ensures.honest) h in
+    one_run D.moment D.left_since d0 d1 d2 P (c.settle_all.ensures.any_moment h) (by D.moment D.left_since d1 d2
+    (IsDiskImage (D.held d1)) P (c.read_files.ensures.any_moment h1) (c.settle_all.ensures.narrows h))
+
+pub returns-in_err-files-clause-told : goal.returns-in_err-files-clause-told
+returns-in_err-files-clause-told g c h =
+    let D = g.D.Disk in
+    let d0 = c.args.disk.now in
+    let d1 = c.settle_all.new.disk in
+    let h1 = subst IsTrue (sym c.settle_all.ensures.honest) h in
+    passed_on c.from_residual-in_err-files.result (c.in_err-files.field-0).0 (λ e. IsDeviceOrMemory e ⊎ StandsForNone
+    (reads_of (D.held d0))) c.from_residual-in_err-files.ensures.1
+    (told_of_files c.in_ok-slots.slots (reads_of (D.held d0)) (reads_of (D.held d1)) (c.in_err-files.field-0).0
+    (c.in_ok-slots.ensures.reads h) (c.in_ok-slots.ensures.found h) (c.in_err-files.ensures.refused h1))
+
+pub returns-clause-read : goal.returns-clause-read
+returns-clause-read g c h =
+    let D = g.D.Disk in
+    let d0 = c.args.disk.now in
+    let d1 = c.settle_all.new.disk in
+    let h1 = subst IsTrue (sym c.settle_all.ensures.honest) h in
+    let slots = c.in_ok-slots.slots in
+    let m = slots.current in
+    let found = c.in_ok-files.ensures.found h1 in
+    let held = c.read_files.ensures.held h1 in
+    let s = at_rest m found.0 (part_of c.in_ok-files.files.active) in
+    let same : (n : ℕ) → (D.held d0 n).reads ≡ (D.held d1 n).reads = λ n. sym (c.in_ok-slots.ensures.reads h n) in (
+      found.0,
+      record {
+        slots_are = same_slots slots (reads_of (D.held d1)) (reads_of (D.held d0)) (c.in_ok-slots.ensures.found h)
+            (same (file_of slots.current_slot)) (same (file_of (other slots.current_slot)));
+        stand = stand_same s (reads_of (D.held d1)) (reads_of (D.held d0)) same found.1;
+        known = λ chained image is.
+            let was : IsDiskImage (D.held d1) image = λ n. subst (λ (f : Held). IsImage f (image n)) (held n) (is n) in
+            agreed slots s (reads_of (D.held d1)) image (c.in_ok-slots.ensures.found h) refl
+            (record { parts = found.1.parts; active = found.1.active; within = found.1.within; chained = chained })
+            (λ slot. g.met.D.Disk.settled_alone d1 (file_of slot) (image (file_of slot)) h1
+            (c.in_ok-slots.ensures.slots slot).0 (was (file_of slot)))
+            (all_by (λ (e : Entry). (D.marks d1 e.file).settled ≡ true) (λ e. image e.file ≡ (D.held d1 e.file).reads)
+            (λ e settled. g.met.D.Disk.settled_alone d1 e.file (image e.file) h1 settled
+            (was e.file)) m.entries c.in_ok-slots.ensures.settled);
+      },
+    )

@@ -1,0 +1,22 @@
+use Rattle.std.proofs.Common.{◌≡◌, ◌≢◌, ℕ, ◌<◌, ◌≤◌, IsTrue, List, length, take, map, vec_len}
+use Rattle.std.specs.Prelude.{vec_capacity}
+use Rattle.flow_disk.specs.Disk.{IsDiskImage, Stays}
+use Rattle.flow_disk.specs.Moments.{LeavesOnly}
+use Rattle.flow_manifest.specs.Slots.{reads_of}
+use Rattle.flow_recover.specs.Standing.{PartsStand}
+use Rattle.flow_recover.specs.State.{Part}
+use Rattle.flow_recover.proofs.reading.read_entries.Given as goal
+
+abbrev pub invariant-entries : goal.invariant-entries
+invariant-entries g l = let D = g.D.Disk in record {
+  honest : D.honest l.disk ≡ D.honest l.fn.disk;
+  settled : (n : ℕ) → (D.marks l.disk n).settled ≡ (D.marks l.fn.disk n).settled;
+  frozen : (n : ℕ) → (D.marks l.disk n).frozen ≡ (D.marks l.fn.disk n).frozen;
+  slots : (n : ℕ) → n < 3 → D.marks l.disk n ≡ D.marks l.fn.disk n;
+  faults : D.faults l.disk ≡ D.faults l.fn.disk;
+  held : IsTrue (D.honest l.fn.disk) → Stays (D.held l.fn.disk) (D.held l.disk);
+  run : IsTrue (D.honest l.fn.disk) → LeavesOnly D.moment D.left_since l.fn.disk l.disk (IsDiskImage
+      (D.held l.fn.disk));
+  found : IsTrue (D.honest l.fn.disk) → (parts : List Part) × PartsStand (reads_of (D.held l.fn.disk))
+      (take l.entry-index l.entries) parts;
+}

@@ -1,0 +1,28 @@
+use Rattle.std.proofs.Common.{◌≡◌, ◌≢◌, ℕ, ◌≤◌, IsTrue, length, take, vec_len}
+use Rattle.std.specs.Prelude.{vec_capacity}
+use Rattle.std.specs.List.{AllByRecursion}
+use Rattle.flow_disk.specs.Disk.{AllImages}
+use Rattle.flow_disk.specs.Moments.{LeavesOnly}
+use Rattle.flow_manifest.specs.declared.manifest.Entry.{Entry}
+use Rattle.flow_manifest.specs.declared.slots.Slots.{Slots}
+use Rattle.flow_recover.specs.State.{State}
+use Rattle.flow_recover.specs.Standing.{IsKnown}
+use Rattle.flow_manifest.specs.Following.{front_of}
+use Rattle.flow_recover.specs.Opening.{FrozenStand}
+use Rattle.flow_recover.proofs.tidying.freeze_files.Given as goal
+
+abbrev pub invariant-entries : goal.invariant-entries
+invariant-entries g l = let D = g.D.Disk in record {
+  honest : D.honest l.disk ≡ D.honest l.fn.disk;
+  others : (n : ℕ) → AllByRecursion (λ (e : Entry). e.file ≢ n) (take l.entry-index l.entries)
+      → D.marks l.disk n ≡ D.marks l.fn.disk n;
+  run : IsTrue (D.honest l.fn.disk) → (slots : Slots) (s : State) → front_of s.manifest ≡ l.entries → AllImages
+      (D.held l.fn.disk) (IsKnown slots s) → LeavesOnly D.moment D.left_since l.fn.disk l.disk (IsKnown slots s);
+  frozen : IsTrue (D.honest l.fn.disk) → (slots : Slots) (s : State) → front_of s.manifest ≡ l.entries → AllImages
+      (D.held l.fn.disk) (IsKnown slots s)
+      → FrozenStand g.D.Sealed.SealedFile.octets (take l.entry-index l.entries)
+      (take l.entry-index s.parts) l.parts.items;
+  room : length l.entries ≤ vec_capacity l.parts;
+  count : vec_len l.parts ≡ l.entry-index;
+  faults : D.faults l.disk ≡ D.faults l.fn.disk;
+}

@@ -1,0 +1,44 @@
+use Rattle.std.proofs.Common.{◌≡◌, false, refl, ap, rules}
+use Rattle.flow_disk.specs.Disk.{InFile, ComesOf}
+use Rattle.flow_disk.proofs.Moments.{started, by}
+use Rattle.flow_disk.proofs.Calls.{starts, changes}
+use Rattle.flow_segment.specs.Steps.{IsAnything}
+use Rattle.flow_recover.specs.Standing.{is_file_of, SameNamed}
+use Rattle.flow_recover.proofs.tidying.remove_one.Goals as goal
+
+pub returns-then-is_named-clause-any_moment : goal.returns-then-is_named-clause-any_moment
+returns-then-is_named-clause-any_moment g c h =
+    let D = g.D.Disk in
+    let d0 = c.args.disk.now in
+    started D.moment D.left_since d0 (ComesOf (D.held d0) (SameNamed c.args.manifest.now)) (λ image left.
+    (image, g.met.D.Disk.only_now d0 image h left, λ n named. refl))
+
+pub returns-in_err-remove-clause-any_moment : goal.returns-in_err-remove-clause-any_moment
+returns-in_err-remove-clause-any_moment g c h =
+    let D = g.D.Disk in
+    let d0 = c.args.disk.now in
+    let d1 = c.remove.new.self in
+    let f = c.args.file in
+    let m = c.args.manifest.now in
+    let run0 = starts D.moment D.left_since D.held d0 f IsAnything
+    (λ image left. g.met.D.Disk.only_now d0 image h left) (λ octets is. tt) in
+    let run1 = changes D.moment D.left_since D.held d0 d0 d1 f IsAnything _ run0 (λ k differs. refl)
+    (c.remove.ensures.time h) (λ octets is. ((D.held d0 f).reads, g.met.D.Disk.reads_image d0 f h, tt)) in
+    let unnamed : is_file_of m f ≡ false = search rules in
+    by D.moment D.left_since d0 d1 (ComesOf (D.held d0) (InFile f IsAnything)) (ComesOf (D.held d0) (SameNamed m)) run1
+    (λ image came. (came.0, came.1, λ n named. came.2.others n (λ is. let same = ap (is_file_of m) is in absurd (cc))))
+
+pub returns-clause-any_moment : goal.returns-clause-any_moment
+returns-clause-any_moment g c h =
+    let D = g.D.Disk in
+    let d0 = c.args.disk.now in
+    let d1 = c.remove.new.self in
+    let f = c.args.file in
+    let m = c.args.manifest.now in
+    let run0 = starts D.moment D.left_since D.held d0 f IsAnything
+    (λ image left. g.met.D.Disk.only_now d0 image h left) (λ octets is. tt) in
+    let run1 = changes D.moment D.left_since D.held d0 d0 d1 f IsAnything _ run0 (λ k differs. refl)
+    (c.remove.ensures.time h) (λ octets is. ((D.held d0 f).reads, g.met.D.Disk.reads_image d0 f h, tt)) in
+    let unnamed : is_file_of m f ≡ false = search rules in
+    by D.moment D.left_since d0 d1 (ComesOf (D.held d0) (InFile f IsAnything)) (ComesOf (D.held d0) (SameNamed m)) run1
+    (λ image came. (came.0, came.1, λ n named. came.2.others n (λ is. let same = ap (is_file_of m) is in absurd (cc))))

@@ -1,0 +1,38 @@
+-- What holds of an archive that is open, on its disk.
+use Rattle.std.specs.Prelude.{◌≡◌, ◌⊎◌, ℕ, ◌+◌, ◌≤◌, Bool, true, false, IsTrue, length}
+use Rattle.flow_disk.specs.Disk.{Held, Marks, AllImages}
+use Rattle.flow_manifest.specs.declared.manifest.Entry.{Entry}
+use Rattle.flow_manifest.specs.declared.slots.Slot.{Slot}
+use Rattle.flow_manifest.specs.declared.slots.Slots.{Slots}
+use Rattle.flow_manifest.specs.Manifest.{IsValidManifest}
+use Rattle.flow_manifest.specs.Slots.{file_of}
+use Rattle.flow_manifest.specs.Following.{active_of, messages_of}
+use Rattle.flow_recover.specs.State.{State, end_of}
+use Rattle.flow_recover.specs.Standing.{IsKnown, IsWithinLimits}
+
+-- What is counted of a state, whatever the disk: its last entry, the end of its messages, how many there are in all.
+pub record IsCounted (s : State) (last : Entry) (end total : ℕ) : Type 0 where
+  pub valid : IsValidManifest s.manifest
+  pub next : s.manifest.next ≤ s.next
+  pub last_is : last ≡ active_of s.manifest
+  pub end_is : end ≡ end_of s
+  pub long : 1 ≤ length s.active.messages → last.prefix + 16 ≤ end
+  pub total_is : total ≡ messages_of s.manifest.entries + length s.active.messages
+  pub within : IsWithinLimits s
+
+-- What is known of the files whatever the disk: the slots and the active file are settled and long enough, they and the
+-- next files are not frozen.
+pub record IsReadyFor (marks : ℕ → Marks) (active next end : ℕ) : Type 0 where
+  pub slot_room : (slot : Slot) → 1 ≤ (marks (file_of slot)).size
+  pub slot_settled : (slot : Slot) → (marks (file_of slot)).settled ≡ true
+  pub slot_thawed : (slot : Slot) → (marks (file_of slot)).frozen ≡ false
+  pub room : end + 2 ≤ (marks active).size
+  pub settled : (marks active).settled ≡ true
+  pub thawed : (n : ℕ) → (n ≡ active) ⊎ (next ≤ n) → (marks n).frozen ≡ false
+
+-- and on an honest disk each image is known
+pub record IsKept {D : Type 0} (honest : D → Bool) (marks : D → ℕ → Marks) (held : D → ℕ → Held) (disk : D)
+    (slots : Slots) (last : Entry) (end total : ℕ) (s : State) : Type 0 where
+  pub counted : IsCounted s last end total
+  pub ready : IsReadyFor (marks disk) last.file s.next end
+  pub known : IsTrue (honest disk) → AllImages (held disk) (IsKnown slots s)

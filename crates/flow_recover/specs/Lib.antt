@@ -1,0 +1,9 @@
+pub mod State
+pub mod Chain
+pub mod Standing
+pub mod Kept
+pub mod Reading
+pub mod Opening
+pub mod Printed
+pub mod Laws
+pub mod Shelved

@@ -1,0 +1,94 @@
+-- Opening an archive, and why it may be refused.
+use Rattle.std.specs.Prelude.{◌≡◌, ◌⊎◌, ℕ, Bool, true, IsTrue, List, [], ◌∷◌}
+use Rattle.flow_disk.specs.Disk.{AllImages, Held, Marks}
+use Rattle.flow_disk.specs.declared.error.DiskError.{DiskError}
+use Rattle.flow_disk.specs.declared.error.DiskError.TheVariants as disk
+use Rattle.flow_gate.specs.declared.tail.ScanError.{ScanError}
+use Rattle.flow_gate.specs.declared.tail.ScanError.TheVariants as scan
+use Rattle.flow_manifest.specs.declared.error.OpenError.{OpenError}
+use Rattle.flow_manifest.specs.declared.error.OpenError.TheVariants as slot
+use Rattle.flow_manifest.specs.declared.manifest.Entry.{Entry}
+use Rattle.flow_recover.specs.Chain.{IsChained}
+use Rattle.flow_rolled.specs.declared.error.RowError.{RowError}
+use Rattle.flow_rolled.specs.declared.error.RowError.TheVariants as row
+use Rattle.flow_recover.specs.declared.error.RecoverError.{RecoverError}
+use Rattle.flow_recover.specs.declared.error.RecoverError.TheVariants.{Damaged, Format, Entries, Cut, NoArchive, Fault}
+use Rattle.flow_recover.specs.declared.error.RecoverError.TheVariants.{OutOfMemory}
+use Rattle.flow_recover.specs.State.{Part, State, at_rest}
+use Rattle.flow_recover.specs.Standing.{IsActiveAt, IsKnown, IsWithinLimits, PartsStand, StandsAs, StandsFor}
+use Rattle.flow_recover.specs.Kept.{IsCounted, IsReadyFor}
+use Rattle.flow_manifest.specs.Following.{active_of, front_of}
+use Rattle.flow_manifest.specs.Slots.{AreSlots}
+use Rattle.flow_manifest.specs.declared.slots.Slots.{Slots}
+
+-- the refusals of the layers below, told of an opening
+abbrev pub of_disk : DiskError → RecoverError
+of_disk disk.Fault = Fault
+of_disk disk.OutOfMemory = OutOfMemory
+
+abbrev pub of_slots : OpenError → RecoverError
+of_slots (slot.Damaged file at) = Damaged file at
+of_slots (slot.Format file) = Format file
+of_slots (slot.Entries file) = Entries file
+of_slots (slot.Cut file) = Cut file
+of_slots slot.NoArchive = NoArchive
+of_slots slot.Fault = Fault
+of_slots slot.OutOfMemory = OutOfMemory
+
+abbrev pub of_scan : ScanError → RecoverError
+of_scan (scan.Damaged file at) = Damaged file at
+of_scan scan.Fault = Fault
+of_scan scan.OutOfMemory = OutOfMemory
+
+abbrev pub of_rows : RowError → RecoverError
+of_rows (row.Damaged file at) = Damaged file at
+of_rows row.Fault = Fault
+of_rows row.OutOfMemory = OutOfMemory
+
+-- the refusals that tell nothing of what the disk holds
+abbrev pub IsDeviceOrMemory : RecoverError → Type 0
+IsDeviceOrMemory e = (e ≡ Fault) ⊎ (e ≡ OutOfMemory)
+
+-- an image that stands for no state
+abbrev pub StandsForNone : (ℕ → List ℕ) → Type 0
+StandsForNone image = (s : State) → StandsFor image s → ⊥
+
+-- The files that the manifest names hold this, whether or not their messages are accepted and chained.
+pub record FilesStand (image : ℕ → List ℕ) (s : State) : Type 0 where
+  pub parts : PartsStand image (front_of s.manifest) s.parts
+  pub active : IsActiveAt (image (active_of s.manifest).file) (active_of s.manifest) s.active
+  pub within : IsWithinLimits s
+
+-- What is read, and what is then known of each image.
+pub record IsRead (files : ℕ → Held) (reads : ℕ → List ℕ) (slots : Slots) (s : State) : Type 0 where
+  pub slots_are : AreSlots slots reads
+  pub stand : FilesStand reads s
+  pub known : IsChained s → AllImages files (IsKnown slots s)
+
+-- files are settled, and nothing else
+pub record OnlySettles (old new : ℕ → Marks) : Type 0 where
+  pub size : (n : ℕ) → (new n).size ≡ (old n).size
+  pub settled : (n : ℕ) → (old n).settled ≡ true → (new n).settled ≡ true
+
+-- Frozen files hold what these parts say.
+abbrev pub FrozenStand : {S : Type 0} → (S → List ℕ) → List Entry → List Part → List S → Type 0
+FrozenStand octets [] [] [] = Unit {0}
+FrozenStand octets [] [] (x ∷ frozen) = ⊥
+FrozenStand octets [] (part ∷ parts) frozen = ⊥
+FrozenStand octets (entry ∷ entries) [] frozen = ⊥
+FrozenStand octets (entry ∷ entries) (part ∷ parts) [] = ⊥
+FrozenStand octets (entry ∷ entries) (part ∷ parts) (x ∷ frozen) =
+    StandsAs entry.kind (octets x) entry part × FrozenStand octets entries parts frozen
+
+-- What an opening has found: a state whose numbers are counted on every disk; on an honest one, if its files are
+-- chained, each image is known to stand for it, and the frozen files hold its parts.
+pub record IsRecovered {D S : Type 0} (honest : D → Bool) (marks : D → ℕ → Marks) (held : D → ℕ → Held)
+    (octets : S → List ℕ) (disk : D) (slots : Slots) (last : Entry) (end total : ℕ) (active : Part)
+    (frozen : List S) : Type 0 where
+  pub parts : List Part
+  pub counted : IsCounted (at_rest slots.current parts active) last end total
+  pub ready : IsReadyFor (marks disk) last.file slots.current.next end
+  pub known : IsTrue (honest disk) → IsChained (at_rest slots.current parts active)
+      → AllImages (held disk) (IsKnown slots (at_rest slots.current parts active))
+  pub frozen_stand : IsTrue (honest disk) → IsChained (at_rest slots.current parts active)
+      → FrozenStand octets (front_of slots.current) parts frozen

@@ -1,0 +1,25 @@
+-- The messages of segments, as an opening reads them.
+use Rattle.std.specs.Prelude.{◌≡◌, ℕ, Bool, false, not, List, []}
+use Rattle.std.specs.List.{AllByRecursion}
+use Rattle.flow_measure.specs.History.{Accepted}
+use Rattle.flow_segment.specs.Carry.{Carry, carry_from, no_carry}
+use Rattle.flow_segment.specs.Prefix.{AreRead}
+use Rattle.flow_recover.specs.declared.segments.Section.{Section}
+use Rattle.flow_recover.specs.declared.segments.Section.TheVariants.{Prefix, Messages}
+
+-- A message of a prefix has no data records.
+abbrev pub IsOf : Section → Accepted → Type 0
+IsOf Prefix a = a.message.records ≡ []
+IsOf Messages a = Unit {0}
+
+abbrev pub is_misplaced : Section → Bool → Bool
+is_misplaced Prefix bare = not bare
+is_misplaced Messages bare = false
+
+abbrev pub AreOf : Section → List Accepted → Type 0
+AreOf section messages = AllByRecursion (IsOf section) messages
+
+-- Octets are accepted messages without data records, read from no templates, which hand this on.
+abbrev pub IsRestatement : List ℕ → Carry → Type 0
+IsRestatement octets carry = (messages : List Accepted) × AreRead octets [] messages [] × AreOf Prefix messages
+    × (carry ≡ carry_from (no_carry 0) messages)

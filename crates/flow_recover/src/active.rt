@@ -1,0 +1,10 @@
+//! The active segment, as its file holds it.
+
+/// A segment's prefix and its messages.
+#[derive(Drop)]
+pub struct ActiveSegment {
+    /// The octets in front of the messages.
+    pub prefix: Vec<u8>,
+    /// Each message's octets, in order.
+    pub messages: Vec<Vec<u8>>,
+}

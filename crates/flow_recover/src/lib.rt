@@ -1,0 +1,25 @@
+//! Opening an archive: what an image of a disk stands for, and the state that is found on it.
+//!
+//! Promised to the layers above: an image stands for one state at most, files that its manifest doesn't name play no
+//! part, and what an open archive knows of an image is that it stands for what is left of the archive on a disk.
+//! The shelf of a state has one view, and an archive's events move its history.
+//! Opening keeps at every moment what each image stood for, and refuses for other reasons than the device and memory
+//! only where what is read stands for no state. What it finds is the state for which what is read stands, provided that
+//! the messages are accepted and chained: that it doesn't look at yet.
+#![tactic(auto)]
+
+mod active;
+mod error;
+mod laws;
+mod meaning;
+mod opening;
+mod reading;
+mod segments;
+mod settling;
+mod tidying;
+
+pub use active::ActiveSegment;
+pub use error::RecoverError;
+pub use laws::what_an_image_stands_for;
+pub use meaning::{events_and_history, one_view_of_a_state};
+pub use opening::{Recovered, recover};

@@ -1,0 +1,115 @@
+//! Opening.
+
+ghost use Rattle.std.specs.Prelude.{◌≡◌, ◌⊎◌, ℕ, ◌-◌, ◌≤◌, ◌+◌, ◌<◌, ◌^◌, length, get_or, true, false, IsTrue, List};
+ghost use Rattle.std.specs.Prelude.{OnOk, IfOk, IfErr};
+ghost use Rattle.std.specs.List.{AllByRecursion};
+ghost use Rattle.flow_disk.specs.Disk.{AllImages, IsDiskImage};
+ghost use Rattle.flow_disk.specs.Moments.{LeavesOnly};
+ghost use Rattle.flow_disk.specs.Cause.{HasCause};
+ghost use Rattle.flow_manifest.specs.declared.slots.Slot.{Slot};
+ghost use Rattle.flow_manifest.specs.Manifest.{IsValidManifest};
+ghost use Rattle.flow_manifest.specs.Slots.{file_of, reads_of};
+ghost use Rattle.flow_manifest.specs.Following.{active_of, no_entry};
+ghost use Rattle.flow_recover.specs.State.{Part, State, at_rest, part_of};
+ghost use Rattle.flow_recover.specs.Standing.{StandsForEither};
+ghost use Rattle.flow_recover.specs.Kept.{IsCounted};
+ghost use Rattle.flow_recover.specs.Opening.{IsDeviceOrMemory, IsRead, IsRecovered, StandsForNone};
+
+use crate::active::ActiveSegment;
+use crate::error::RecoverError;
+use crate::reading::{Files, read_files};
+use crate::settling::settle_all;
+use crate::tidying::tidy;
+use flow_disk::Disk;
+use flow_manifest::{Entry, Slots};
+use std::alloc::Global;
+
+/// What an opening finds.
+#[derive(Drop)]
+pub struct Recovered<D: Disk> {
+    /// The slots, with the manifest in force.
+    pub slots: Slots,
+    /// The active entry.
+    pub last: Entry,
+    /// The place of the closed gate in the active file.
+    pub end: u64,
+    /// How many messages there are in all.
+    pub total: u64,
+    /// The active segment.
+    pub active: ActiveSegment,
+    /// The files in front of the active one, in the manifest's order.
+    pub parts: Vec<D::Sealed>,
+}
+
+/// What is found before anything is changed.
+#[derive(Drop)]
+struct Found {
+    slots: Slots,
+    last: Entry,
+    files: Files,
+}
+
+/// Makes what the disk reads as all that a stop may leave, and tells what archive that is.
+pub fn recover<D: Disk>(alloc: Global, disk: &mut D) -> Result<Recovered<D>, RecoverError>
+    requires thawed { (n : ℕ) → (D.marks disk.old n).frozen ≡ false }
+    ensures honest { D.honest disk.new ≡ D.honest disk.old }
+    ensures cause { HasCause RecoverError.Fault (D.faults disk.old) (D.faults disk.new) result }
+    ensures recovered { IfOk result
+        (λ r. IsRecovered D.honest D.marks D.held D.Sealed.octets disk.new r.slots r.last r.end
+        r.total (part_of r.active) r.parts.items) }
+    ensures told { IsTrue (D.honest disk.old)
+        → IfErr result (λ e. IsDeviceOrMemory e ⊎ StandsForNone (reads_of (D.held disk.old))) }
+    ensures any_moment { IsTrue (D.honest disk.old) → (a b : State) → AllImages (D.held disk.old) (StandsForEither a b)
+        → LeavesOnly D.moment D.left_since disk.old disk.new (StandsForEither a b) }
+{
+    let Found { slots, last, files } = find(alloc, disk)?;
+    let parts = tidy(alloc, disk, &slots.current, last, files.end)?;
+    Ok(Recovered {
+        slots,
+        last,
+        end: files.end,
+        total: files.total,
+        active: files.active,
+        parts,
+    })
+}
+
+/// Settles what counts of the disk, and reads it.
+fn find<D: Disk>(alloc: Global, disk: &mut D) -> Result<Found, RecoverError>
+    // On every disk.
+    ensures honest { D.honest disk.new ≡ D.honest disk.old }
+    ensures frozen { (n : ℕ) → (D.marks disk.new n).frozen ≡ (D.marks disk.old n).frozen }
+    ensures slots { OnOk result ((slot : Slot) → ((D.marks disk.new (file_of slot)).settled ≡ true)
+        × (1 ≤ (D.marks disk.new (file_of slot)).size)) }
+    ensures settled { IfOk result
+        (λ f. AllByRecursion (λ e. (D.marks disk.new e.file).settled ≡ true) f.slots.current.entries) }
+    ensures valid { IfOk result (λ f. IsValidManifest f.slots.current) }
+    ensures last { IfOk result (λ f. f.last ≡ active_of f.slots.current) }
+    ensures small { IfOk result (λ f. f.files.end + 2 < 2 ^ 64) }
+    ensures counted { IfOk result (λ f. (parts : List Part)
+        → IsCounted (at_rest f.slots.current parts (part_of f.files.active)) f.last f.files.end f.files.total) }
+    ensures cause { HasCause RecoverError.Fault (D.faults disk.old) (D.faults disk.new) result }
+
+    // On an honest one.
+    ensures narrows { IsTrue (D.honest disk.old) → AllImages (D.held disk.new) (IsDiskImage (D.held disk.old)) }
+    ensures any_moment { IsTrue (D.honest disk.old)
+        → LeavesOnly D.moment D.left_since disk.old disk.new (IsDiskImage (D.held disk.old)) }
+    ensures read { IsTrue (D.honest disk.old) → IfOk result (λ f. (parts : List Part)
+        × IsRead (D.held disk.new) (reads_of (D.held disk.old)) f.slots
+        (at_rest f.slots.current parts (part_of f.files.active))) }
+    ensures told { IsTrue (D.honest disk.old)
+        → IfErr result (λ e. IsDeviceOrMemory e ⊎ StandsForNone (reads_of (D.held disk.old))) }
+{
+    let slots = settle_all(alloc, disk)?;
+    let last = last_of(slots.current.entries.as_slice());
+    let files = read_files(alloc, disk, &slots.current, last)?;
+    Ok(Found { slots, last, files })
+}
+
+/// The active entry.
+fn last_of(entries: &[Entry]) -> Entry
+    requires { 1 ≤ length entries.now }
+    ensures { result ≡ get_or entries.now (length entries.now - 1) no_entry }
+{
+    entries[entries.len() - 1]
+}
