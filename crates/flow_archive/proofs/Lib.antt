@@ -1,1 +1,11 @@
 pub mod Appending
+pub mod Stand
+pub mod Turning
+pub mod Chaining
+pub mod Ready
+pub mod Stepping
+pub mod Whole
+pub mod Parting
+pub mod Moved
+pub mod Answering
+pub mod Running

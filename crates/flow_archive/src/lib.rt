@@ -4,13 +4,29 @@
 //! compared with. `append` takes in an accepted message and answers its number, from 1 on; other octets are refused by
 //! their first fault, and a refusal leaves the history as it was. `totals` answers the sums of the flows of all
 //! messages. No sum ever passes its type.
+//!
+//! An `Archive` is one over a disk. Each append, batch or seal is answered by the first refusal that holds, or taken. A
+//! stop at any moment, inside device calls too, leaves what stands for the archive before the event or after it: after
+//! Ok after it, after a refusal but 30 before it. After 30 the archive is closed: no call changes anything any more.
+//! `run` takes lists of events, of which a stop leaves some front.
 #![tactic(auto)]
 
+mod archive;
 mod error;
+mod event;
+mod events;
+mod moving;
+mod next;
 mod plain;
+mod refusal;
+mod taking;
 
+pub use archive::Archive;
 pub use error::PlainError;
+pub use event::{Answer, Event};
+pub use events::{run, take_event};
 pub use plain::PlainArchive;
+pub use refusal::ArchiveError;
 
 #[cfg(test)]
 mod tests;

@@ -1,0 +1,228 @@
+-- What segments hand on, as messages are added to them and new ones begin.
+use Rattle.std.proofs.Common.{◌≡◌, ◌⊎◌, inl, inr, ℕ, ◌+◌, ◌*◌, ◌<◌, ◌≤◌, ◌^◌, Bor, List, [], ◌∷◌, ◌++◌, length}
+use Rattle.std.proofs.Common.{take, drop, get_or, refl, sym, ◌∙◌, ap, subst, arith, length-append, append_assoc}
+use Rattle.std.specs.Prelude.{Option, Some, None, unwrap_or}
+use Rattle.std.specs.List.{AllByRecursion}
+use Rattle.std.proofs.lemmas.List.{append-nil, map-append, map_more, length-map, take-append-drop}
+use Rattle.flow_codec.specs.declared.error.MessageError.{MessageError}
+use Rattle.flow_codec.specs.declared.error.MessageError.TheVariants.{OutOfMemory}
+use Rattle.flow_codec.specs.Cutting.{IsCutOff}
+use Rattle.flow_codec.specs.Fault.{IsFault}
+use Rattle.flow_codec.specs.Message.{joined, IsAccepted}
+use Rattle.flow_codec.specs.Templates.{AllTemplates}
+use Rattle.flow_codec.proofs.RestatingAll.{message_cut}
+use Rattle.flow_gate.specs.Steps.{slices}
+use Rattle.flow_manifest.specs.declared.manifest.Kind.{Kind}
+use Rattle.flow_manifest.specs.declared.manifest.Kind.TheVariants.{Wide, Rolled, Sealed, Active}
+use Rattle.flow_manifest.specs.declared.manifest.Entry.{Entry}
+use Rattle.flow_manifest.specs.declared.manifest.Manifest.{Manifest}
+use Rattle.flow_manifest.specs.Manifest.{IsValidManifest}
+use Rattle.flow_manifest.specs.Following.{active_of, front_of, sealed_entry}
+use Rattle.flow_manifest.proofs.Followers.{next_front}
+use Rattle.flow_measure.specs.History.{Accepted, AreAcceptedFrom, templates_from}
+use Rattle.flow_rolled.specs.Rollup.{IsRollup}
+use Rattle.flow_segment.specs.Carry.{Carry, carry_from, carry_with, no_carry, octets_of, prefix_of, restated, IsCarry}
+use Rattle.flow_segment.specs.Carry.{IsReadBack, IsTaken}
+use Rattle.flow_segment.proofs.Carrying.{is_read_back}
+use Rattle.flow_recover.specs.State.{Part, State, appended, end_of, moved_on}
+use Rattle.flow_recover.specs.Chain.{ArePartsBehind, HandsOn, IsPartBehind, IsSegment}
+use Rattle.flow_archive.specs.Answers.{AreTaken, IsFirstFault}
+
+-- ---- messages behind others
+
+pub templates_carried : (c : Carry) (xs : List Accepted) → (carry_from c xs).templates ≡ templates_from c.templates xs
+templates_carried c [] = refl
+templates_carried c (x ∷ xs) = templates_carried (carry_with c x) xs
+
+pub carried_then : (c : Carry) (xs ys : List Accepted) → carry_from c (xs ++ ys) ≡ carry_from (carry_from c xs) ys
+carried_then c [] ys = refl
+carried_then c (x ∷ xs) ys = carried_then (carry_with c x) xs ys
+
+pub accepted_join : (before : AllTemplates) (xs ys : List Accepted) → AreAcceptedFrom before xs
+    → AreAcceptedFrom (templates_from before xs) ys → AreAcceptedFrom before (xs ++ ys)
+accepted_join before [] ys h k = k
+accepted_join before (x ∷ xs) ys h k = (h.0, accepted_join x.after xs ys h.1 k)
+
+templates_join : (before : AllTemplates) (xs ys : List Accepted)
+    → templates_from before (xs ++ ys) ≡ templates_from (templates_from before xs) ys
+templates_join before [] ys = refl
+templates_join before (x ∷ xs) ys = templates_join x.after xs ys
+
+pub none_taken : (c : Carry) → AreTaken [] c c
+none_taken c = ([], refl, tt, refl)
+
+pub taken_more : (done : List (List ℕ)) (octets : List ℕ) (old mid new : Carry) → AreTaken done old mid
+    → IsTaken octets mid new → AreTaken (done ++ octets ∷ []) old new
+taken_more done octets old mid new are one =
+    let xs = are.0 in
+    let a = one.0 in
+    let here : mid.templates ≡ templates_from old.templates xs =
+    ap (λ (c : Carry). c.templates) are.3 ∙ templates_carried old xs in (
+      xs ++ a ∷ [],
+      map-append (λ (x : Accepted). x.octets) xs (a ∷ []) ∙ ap (λ (l : List (List ℕ)). l ++ a.octets ∷ []) are.1
+          ∙ ap (λ (o : List ℕ). done ++ o ∷ []) one.1,
+      accepted_join old.templates xs (a ∷ []) are.2 (
+        subst (λ (o : List ℕ). IsAccepted o (templates_from old.templates xs) a.message a.after) (sym one.1)
+            (subst (λ (t : AllTemplates). IsAccepted octets t a.message a.after) here one.2),
+        tt,
+      ),
+      one.3 ∙ ap (λ (c : Carry). carry_with c a) are.3 ∙ sym (carried_then old xs (a ∷ [])),
+    )
+
+-- ---- a segment
+
+segment_templates : (part : Part) (carry : Carry) (segment : IsSegment part carry)
+    → carry.templates ≡ templates_from (templates_from [] segment.prefix) segment.messages
+segment_templates part carry segment =
+    ap (λ (c : Carry). c.templates) segment.hands_on
+    ∙ templates_carried (no_carry segment.time) (segment.prefix ++ segment.messages)
+    ∙ templates_join [] segment.prefix segment.messages
+
+pub segment_more : (part : Part) (octets : List (List ℕ)) (old new : Carry) → IsSegment part old
+    → AreTaken octets old new → IsSegment (record { front = part.front; messages = part.messages ++ octets }) new
+segment_more part octets old new segment are = record {
+  prefix = segment.prefix;
+  messages = segment.messages ++ are.0;
+  front = segment.front;
+  restated = segment.restated;
+  octets = map-append (λ (x : Accepted). x.octets) segment.messages are.0
+      ∙ ap (λ (l : List (List ℕ)). l ++ octets_of are.0) segment.octets
+      ∙ ap (λ (l : List (List ℕ)). part.messages ++ l) are.1;
+  accepted = accepted_join (templates_from [] segment.prefix) segment.messages are.0 segment.accepted
+      (subst (λ (t : AllTemplates). AreAcceptedFrom t are.0) (segment_templates part old segment) are.2);
+  time = segment.time;
+  small = segment.small;
+  hands_on = are.3 ∙ ap (λ (c : Carry). carry_from c are.0) segment.hands_on
+      ∙ sym (carried_then (no_carry segment.time) (segment.prefix ++ segment.messages) are.0)
+      ∙ ap (λ (l : List Accepted). carry_from (no_carry segment.time) l)
+      (append_assoc segment.prefix segment.messages are.0);
+}
+
+cut_each : (before : AllTemplates) (xs : List Accepted) → AreAcceptedFrom before xs
+    → AllByRecursion IsCutOff (octets_of xs)
+cut_each before [] h = tt
+cut_each before (x ∷ xs) h = (message_cut x.octets before x.message x.after h.0.0, cut_each x.after xs h.1)
+
+-- the one that a segment calls for
+pub segment_called : (c : Carry) → IsCarry c → IsSegment (record { front = prefix_of c; messages = [] }) c
+segment_called c h = record {
+  prefix = restated c;
+  messages = [];
+  front = record {
+    divided = record {
+      whole = sym (append-nil (joined (octets_of (restated c))) ∙ ap joined back.octets);
+      each = cut_each [] (restated c) back.accepted;
+    };
+    accepted = back.accepted;
+  };
+  restated = back.none;
+  octets = refl;
+  accepted = tt;
+  time = c.time;
+  small = h.time;
+  hands_on = sym (ap (λ (l : List Accepted). carry_from (no_carry c.time) l) (append-nil (restated c)) ∙ back.again);
+}
+  where
+    back : IsReadBack c (restated c)
+    back = is_read_back c h
+
+-- ---- an archive
+
+-- the carry of a segment that hands it on
+pub handed_segment : (s : State) (carry : Carry) → HandsOn s carry → IsSegment s.active carry
+handed_segment s carry h = subst (λ (c : Carry). IsSegment s.active c)
+    (sym (ap (λ (o : Option Carry). unwrap_or o carry) h.active.3)) h.active.2
+
+pub hands_more : (s : State) (octets : List (List ℕ)) (old new : Carry) → HandsOn s old → AreTaken octets old new
+    → HandsOn (appended s octets) new
+hands_more s octets old new h are = record {
+  sealed = h.sealed;
+  parts = h.parts;
+  active = (new, h.active.1, segment_more s.active octets old new (handed_segment s old h) are, refl);
+}
+
+part_same : (m n : Manifest) → n.width ≡ m.width → n.wide ≡ m.wide → (kind : Kind) (before after : Option Carry)
+    (part : Part) → IsPartBehind m kind before part after → IsPartBehind n kind before part after
+part_same m n width wide Wide before after part is =
+    ((is.0.0, subst (λ (w : ℕ). IsRollup w part.front is.0.0) (sym wide) is.0.1), is.1)
+part_same m n width wide Rolled before after part is =
+    ((is.0.0, subst (λ (w : ℕ). IsRollup w part.front is.0.0) (sym width) is.0.1), is.1)
+part_same m n width wide Sealed before after part is = is
+part_same m n width wide Active before after part is = is
+
+behind_push : (m n : Manifest) → n.width ≡ m.width → n.wide ≡ m.wide → (entry : Entry) (part : Part)
+    (mid after : Option Carry) → IsPartBehind n entry.kind mid part after
+    → (before : Option Carry) (entries : List Entry) (parts : List Part) → ArePartsBehind m before entries parts mid
+    → ArePartsBehind n before (entries ++ entry ∷ []) (parts ++ part ∷ []) after
+behind_push m n width wide entry part mid after last before [] [] is =
+    (after, subst (λ (o : Option Carry). IsPartBehind n entry.kind o part after) is last, refl)
+behind_push m n width wide entry part mid after last before [] (p ∷ parts) is = absurd is
+behind_push m n width wide entry part mid after last before (e ∷ entries) [] is = absurd is
+behind_push m n width wide entry part mid after last before (e ∷ entries) (p ∷ parts) is = (
+  is.0,
+  part_same m n width wide e.kind before is.0 p is.1,
+  behind_push m n width wide entry part mid after last is.0 entries parts is.2,
+)
+
+-- after a seal
+pub hands_next : (s : State) (carry : Carry) → IsValidManifest s.manifest → IsCarry carry → HandsOn s carry
+    → HandsOn (moved_on s (prefix_of carry)) carry
+hands_next s carry valid h hands = record {
+  sealed = Some carry;
+  parts = subst (λ (l : List Entry). ArePartsBehind (moved_on s (prefix_of carry)).manifest None l
+      (s.parts ++ s.active ∷ []) (Some carry))
+      (sym (next_front s.manifest valid (end_of s) (length s.active.messages) s.next (length (prefix_of carry))))
+      (behind_push s.manifest (moved_on s (prefix_of carry)).manifest refl refl sealed s.active hands.sealed
+      (Some carry) (carry, hands.active.1, handed_segment s carry hands, refl) None (front_of s.manifest) s.parts
+      hands.parts);
+  active = (carry, refl, segment_called carry h, refl);
+}
+  where
+    sealed : Entry
+    sealed = sealed_entry (active_of s.manifest) (end_of s) (length s.active.messages)
+
+-- ---- how long a prefix is
+
+joined_long : (before : AllTemplates) (xs : List Accepted) → AreAcceptedFrom before xs
+    → length (joined (octets_of xs)) ≤ 65535 * length xs
+joined_long before [] h = omega arith
+joined_long before (x ∷ xs) h =
+    let front = h.0.0 in
+    let long : length x.octets < 65536 = omega (arith, front.len, (front.fits).len) in
+    omega (arith, length-append x.octets (joined (octets_of xs)), long, joined_long x.after xs h.1)
+
+pub prefix_fits : (c : Carry) → IsCarry c → length (prefix_of c) < 2 ^ 32
+prefix_fits c h =
+    let back = is_read_back c h in
+    let whole : length (prefix_of c) ≡ length (joined (octets_of (restated c))) =
+    ap (λ (l : List (List ℕ)). length (joined l)) (sym back.octets) in
+    let count : length (restated c) ≡ length c.templates =
+    sym (length-map (restated c) (λ (x : Accepted). x.octets)) ∙ ap (λ (l : List (List ℕ)). length l) back.octets
+    ∙ length-map c.templates _ in
+    omega (arith, whole, joined_long [] (restated c) back.accepted, count, (h.templates).count)
+
+-- ---- a batch that is taken in
+
+-- the messages so far, one more, and the others
+pub one_of : (messages : List (Bor (List ℕ))) (i : ℕ) (none : Bor (List ℕ)) → i < length messages
+    → slices messages ≡ slices (take i messages) ++ (get_or messages i none).now ∷ slices (drop (i + 1) messages)
+one_of messages i none lt =
+    ap slices (sym (take-append-drop (i + 1) messages))
+    ∙ map-append (λ (m : Bor (List ℕ)). m.now) (take (i + 1) messages) (drop (i + 1) messages)
+    ∙ ap (λ (l : List (List ℕ)). l ++ slices (drop (i + 1) messages))
+    (map_more (λ (m : Bor (List ℕ)). m.now) messages i none lt)
+    ∙ append_assoc (slices (take i messages)) ((get_or messages i none).now ∷ []) (slices (drop (i + 1) messages))
+
+pub first_fault : (octets done rest : List (List ℕ)) (message : List ℕ) (old mid : Carry) (e : MessageError)
+    → octets ≡ done ++ message ∷ rest → AreTaken done old mid
+    → (e ≡ OutOfMemory) ⊎ IsFault message mid.templates e → (e ≡ OutOfMemory) ⊎ IsFirstFault octets old.templates e
+first_fault octets done rest message old mid e is are (inl memory) = inl memory
+first_fault octets done rest message old mid e is are (inr fault) = inr (
+  are.0,
+  message,
+  rest,
+  is ∙ ap (λ (l : List (List ℕ)). l ++ message ∷ rest) (sym are.1),
+  are.2,
+  subst (λ (t : AllTemplates). IsFault message t e)
+      (ap (λ (c : Carry). c.templates) are.3 ∙ templates_carried old are.0) fault,
+)

@@ -1,0 +1,214 @@
+-- Runs of events.
+use Rattle.std.proofs.Common.{◌≡◌, ◌⊎◌, inl, inr, ⊎_elim, ℕ, zero, suc, Bool, true, false, IsTrue, List, []}
+use Rattle.std.proofs.Common.{◌∷◌, ◌++◌, take, drop, Result, Ok, Err, refl, sym, ◌∙◌, ap, subst, arith}
+use Rattle.flow_disk.specs.Moments.{LeavesOnly}
+use Rattle.flow_disk.proofs.Moments.{by, one_run, started}
+use Rattle.flow_recover.specs.State.{State, reopened}
+use Rattle.flow_recover.specs.Standing.{StandsFor}
+use Rattle.flow_archive.specs.declared.event.Answer.{Answer}
+use Rattle.flow_archive.specs.declared.event.Event.{Event}
+use Rattle.flow_archive.specs.declared.refusal.ArchiveError.{ArchiveError}
+use Rattle.flow_archive.specs.declared.refusal.ArchiveError.TheVariants.{Message, OutOfMemory, NumbersSpent, NotEmpty}
+use Rattle.flow_archive.specs.declared.refusal.ArchiveError.TheVariants.{Fault, NoRoom, ManifestFull, NothingToSeal}
+use Rattle.flow_archive.specs.declared.refusal.ArchiveError.TheVariants.{Closed}
+use Rattle.flow_archive.specs.Answers.{Answers, Takes}
+use Rattle.flow_archive.specs.Runs.{IsAfter, IsRun, IsSince, Leads, StandsForSome}
+use Rattle.flow_archive.specs.Seen.{Seen, IsStep, StandsBeforeOrAfter}
+
+module _ {D : Type 0} (honest : D → Bool) (moment : D → ℕ) (left_since : D → ℕ → (ℕ → List ℕ) → Type 0) where
+  -- one event more
+  pub run_more : (old : Seen D) (events : List Event) (answers : List (Result Answer ArchiveError)) (mid new : Seen D)
+      (e : Event) (a : Result Answer ArchiveError) → IsRun honest moment left_since old events answers mid
+      → Answers (honest mid.disk) mid.closed mid.state e a new.state
+      → IsStep honest moment left_since mid new (Takes true mid.state e) a
+      → IsRun honest moment left_since old (events ++ e ∷ []) (answers ++ a ∷ []) new
+  run_more old [] [] mid new e a run answers step = (
+    new,
+    subst (λ (s : Seen D). Answers (honest s.disk) s.closed s.state e a new.state) run answers,
+    subst (λ (s : Seen D). IsStep honest moment left_since s new (Takes true s.state e) a) run step,
+    refl,
+  )
+  run_more old [] (b ∷ answers) mid new e a run told step = absurd run
+  run_more old (f ∷ events) [] mid new e a run told step = absurd run
+  run_more old (f ∷ events) (b ∷ answers) mid new e a run told step =
+      (run.0, run.1, run.2, run_more run.0 events answers mid new e a run.3 told step)
+
+  -- in a closed archive nothing happens
+  closed_step : (old new : Seen D) (After : State → Type 0) (a : Result Answer ArchiveError)
+      → IsStep honest moment left_since old new After a → old.closed ≡ true → new ≡ old
+  closed_step old new After (Ok done) step closed = let was = step.done.2 in absurd (cc)
+  closed_step old new After (Err Fault) step closed = let was = (step.fault refl).2 in absurd (cc)
+  closed_step old new After (Err (Message fault)) step closed = step.refused (λ is. cc)
+  closed_step old new After (Err OutOfMemory) step closed = step.refused (λ is. cc)
+  closed_step old new After (Err NumbersSpent) step closed = step.refused (λ is. cc)
+  closed_step old new After (Err NotEmpty) step closed = step.refused (λ is. cc)
+  closed_step old new After (Err NoRoom) step closed = step.refused (λ is. cc)
+  closed_step old new After (Err ManifestFull) step closed = step.refused (λ is. cc)
+  closed_step old new After (Err NothingToSeal) step closed = step.refused (λ is. cc)
+  closed_step old new After (Err Closed) step closed = step.refused (λ is. cc)
+
+  pub closed_run : (old : Seen D) (events : List Event) (answers : List (Result Answer ArchiveError)) (new : Seen D)
+      → IsRun honest moment left_since old events answers new → old.closed ≡ true → new ≡ old
+  closed_run old [] [] new run closed = run
+  closed_run old [] (b ∷ answers) new run closed = absurd run
+  closed_run old (f ∷ events) [] new run closed = absurd run
+  closed_run old (f ∷ events) (b ∷ answers) new run closed =
+      let same = closed_step old run.0 (Takes true old.state f) b run.2 closed in
+      closed_run run.0 events answers new run.3 (ap (λ (s : Seen D). s.closed) same ∙ closed) ∙ same
+
+  -- from a moment at which all images stand for the state
+  pub record IsStanding (s : Seen D) : Type 0 where
+    pub images : (image : ℕ → List ℕ) → left_since s.disk (moment s.disk) image → StandsFor image (reopened s.state)
+
+  further : (old mid new : Seen D) (e : Event) (a : Result Answer ArchiveError) (events : List Event)
+      (answers : List (Result Answer ArchiveError)) → Leads old.state e a mid.state
+      → LeavesOnly moment left_since mid.disk new.disk (StandsForSome mid.state events answers)
+      → LeavesOnly moment left_since mid.disk new.disk (StandsForSome old.state (e ∷ events) (a ∷ answers))
+  further old mid new e a events answers leads run =
+      by moment left_since mid.disk new.disk (StandsForSome mid.state events answers)
+      (StandsForSome old.state (e ∷ events) (a ∷ answers)) run
+      (λ image some. (suc some.0, omega (arith, some.1), some.2, (mid.state, leads, some.3), some.4))
+
+  -- after the step that this answer tells of, if the archive is still open
+  open_step : (old mid : Seen D) (e : Event) (a : Result Answer ArchiveError)
+      → IsStep honest moment left_since old mid (Takes true old.state e) a → IsTrue (honest old.disk)
+      → old.closed ≡ false → (mid.closed ≡ true) ⊎ ((mid.closed ≡ false) × Leads old.state e a mid.state)
+  open_step old mid e (Ok done) step h still = inr (step.done.1, step.done.0 h)
+  open_step old mid e (Err Fault) step h still = inl (step.fault refl).1
+  open_step old mid e (Err (Message fault)) step h still =
+      let same = step.refused (λ is. cc) in
+      inr (ap (λ (s : Seen D). s.closed) same ∙ still, ap (λ (s : Seen D). s.state) same)
+  open_step old mid e (Err OutOfMemory) step h still =
+      let same = step.refused (λ is. cc) in
+      inr (ap (λ (s : Seen D). s.closed) same ∙ still, ap (λ (s : Seen D). s.state) same)
+  open_step old mid e (Err NumbersSpent) step h still =
+      let same = step.refused (λ is. cc) in
+      inr (ap (λ (s : Seen D). s.closed) same ∙ still, ap (λ (s : Seen D). s.state) same)
+  open_step old mid e (Err NotEmpty) step h still =
+      let same = step.refused (λ is. cc) in
+      inr (ap (λ (s : Seen D). s.closed) same ∙ still, ap (λ (s : Seen D). s.state) same)
+  open_step old mid e (Err NoRoom) step h still =
+      let same = step.refused (λ is. cc) in
+      inr (ap (λ (s : Seen D). s.closed) same ∙ still, ap (λ (s : Seen D). s.state) same)
+  open_step old mid e (Err ManifestFull) step h still =
+      let same = step.refused (λ is. cc) in
+      inr (ap (λ (s : Seen D). s.closed) same ∙ still, ap (λ (s : Seen D). s.state) same)
+  open_step old mid e (Err NothingToSeal) step h still =
+      let same = step.refused (λ is. cc) in
+      inr (ap (λ (s : Seen D). s.closed) same ∙ still, ap (λ (s : Seen D). s.state) same)
+  open_step old mid e (Err Closed) step h still =
+      let same = step.refused (λ is. cc) in
+      inr (ap (λ (s : Seen D). s.closed) same ∙ still, ap (λ (s : Seen D). s.state) same)
+
+  -- a refusal that changed nothing
+  nothing : (old mid : Seen D) (e : Event) (a : Result Answer ArchiveError) (events : List Event)
+      (answers : List (Result Answer ArchiveError)) → mid ≡ old → IsStanding old
+      → LeavesOnly moment left_since old.disk mid.disk (StandsForSome old.state (e ∷ events) (a ∷ answers))
+  nothing old mid e a events answers same stands =
+      subst (λ (s : Seen D). LeavesOnly moment left_since old.disk s.disk
+      (StandsForSome old.state (e ∷ events) (a ∷ answers))) (sym same)
+      (started moment left_since old.disk (StandsForSome old.state (e ∷ events) (a ∷ answers))
+      (λ image left. (0, omega arith, old.state, refl, stands.images image left)))
+
+  -- what a stop in the first step leaves
+  first : (old mid : Seen D) (e : Event) (a : Result Answer ArchiveError) (events : List Event)
+      (answers : List (Result Answer ArchiveError))
+      → IsStep honest moment left_since old mid (Takes true old.state e) a → IsTrue (honest old.disk)
+      → old.closed ≡ false → IsStanding old
+      → LeavesOnly moment left_since old.disk mid.disk (StandsForSome old.state (e ∷ events) (a ∷ answers))
+  first old mid e (Ok done) events answers step h still stands =
+      by moment left_since old.disk mid.disk (StandsBeforeOrAfter old.state (Takes true old.state e))
+      (StandsForSome old.state (e ∷ events) (Ok done ∷ answers)) (step.any_moment h still)
+      (λ image either. ⊎_elim (λ before. (0, omega arith, old.state, refl, before))
+      (λ done_too. (1, omega arith, done_too.0, (done_too.0, done_too.1, refl), done_too.2)) either)
+  first old mid e (Err Fault) events answers step h still stands =
+      by moment left_since old.disk mid.disk (StandsBeforeOrAfter old.state (Takes true old.state e))
+      (StandsForSome old.state (e ∷ events) (Err Fault ∷ answers)) (step.any_moment h still)
+      (λ image either. ⊎_elim (λ before. (0, omega arith, old.state, refl, before))
+      (λ done_too. (1, omega arith, done_too.0, (done_too.0, done_too.1, refl), done_too.2)) either)
+  first old mid e (Err (Message fault)) events answers step h still stands =
+      nothing old mid e (Err (Message fault)) events answers (step.refused (λ is. cc)) stands
+  first old mid e (Err OutOfMemory) events answers step h still stands =
+      nothing old mid e (Err OutOfMemory) events answers (step.refused (λ is. cc)) stands
+  first old mid e (Err NumbersSpent) events answers step h still stands =
+      nothing old mid e (Err NumbersSpent) events answers (step.refused (λ is. cc)) stands
+  first old mid e (Err NotEmpty) events answers step h still stands =
+      nothing old mid e (Err NotEmpty) events answers (step.refused (λ is. cc)) stands
+  first old mid e (Err NoRoom) events answers step h still stands =
+      nothing old mid e (Err NoRoom) events answers (step.refused (λ is. cc)) stands
+  first old mid e (Err ManifestFull) events answers step h still stands =
+      nothing old mid e (Err ManifestFull) events answers (step.refused (λ is. cc)) stands
+  first old mid e (Err NothingToSeal) events answers step h still stands =
+      nothing old mid e (Err NothingToSeal) events answers (step.refused (λ is. cc)) stands
+  first old mid e (Err Closed) events answers step h still stands =
+      nothing old mid e (Err Closed) events answers (step.refused (λ is. cc)) stands
+
+  -- each image of a moment since the first event began stands for the state after some of the events
+  pub all_moments : (old : Seen D) (events : List Event) (answers : List (Result Answer ArchiveError)) (new : Seen D)
+      → IsRun honest moment left_since old events answers new → IsTrue (honest old.disk) → old.closed ≡ false
+      → IsStanding old → LeavesOnly moment left_since old.disk new.disk (StandsForSome old.state events answers)
+  all_moments old [] [] new run h still stands =
+      subst (λ (s : Seen D). LeavesOnly moment left_since old.disk s.disk (StandsForSome old.state [] [])) (sym run)
+      (started moment left_since old.disk (StandsForSome old.state [] [])
+      (λ image left. (0, omega arith, old.state, refl, stands.images image left)))
+  all_moments old [] (b ∷ answers) new run h still stands = absurd run
+  all_moments old (e ∷ events) [] new run h still stands = absurd run
+  all_moments old (e ∷ events) (a ∷ answers) new run h still stands =
+      let mid = run.0 in
+      let early = first old mid e a events answers run.2 h still stands in
+      ⊎_elim
+      (λ closed. subst (λ (s : Seen D). LeavesOnly moment left_since old.disk s.disk
+      (StandsForSome old.state (e ∷ events) (a ∷ answers)))
+      (sym (closed_run mid events answers new run.3 closed)) early)
+      (λ goes. let h1 = subst IsTrue (sym run.2.honest_too) h in
+      one_run moment left_since old.disk mid.disk new.disk (StandsForSome old.state (e ∷ events) (a ∷ answers)) early
+      (further old mid new e a events answers goes.1
+      (all_moments mid events answers new run.3 h1 goes.0 (record { images = run.2.stands h1 goes.0 }))))
+      (open_step old mid e a run.2 h still)
+
+  split : (i : ℕ) (old : Seen D) (events : List Event) (answers : List (Result Answer ArchiveError)) (new : Seen D)
+      → IsRun honest moment left_since old events answers new
+      → (mid : Seen D) × IsRun honest moment left_since old (take i events) (take i answers) mid
+      × IsRun honest moment left_since mid (drop i events) (drop i answers) new
+  split zero old events answers new run = (old, refl, run)
+  split (suc i) old [] [] new run = (old, refl, run)
+  split (suc i) old [] (a ∷ answers) new run = absurd run
+  split (suc i) old (e ∷ events) [] new run = absurd run
+  split (suc i) old (e ∷ events) (a ∷ answers) new run =
+      let rest = split i run.0 events answers new run.3 in (rest.0, (run.0, run.1, run.2, rest.1), rest.2)
+
+  -- an archive that is still open was open all along
+  stood : (old : Seen D) (events : List Event) (answers : List (Result Answer ArchiveError)) (new : Seen D)
+      → IsRun honest moment left_since old events answers new → IsTrue (honest old.disk) → old.closed ≡ false
+      → IsStanding old → new.closed ≡ false
+      → IsStanding new × IsAfter old.state events answers new.state × IsTrue (honest new.disk)
+  stood old [] [] new run h still stands now =
+      subst (λ (s : Seen D). IsStanding s × (s.state ≡ old.state) × IsTrue (honest s.disk)) (sym run) (stands, refl, h)
+  stood old [] (b ∷ answers) new run h still stands now = absurd run
+  stood old (e ∷ events) [] new run h still stands now = absurd run
+  stood old (e ∷ events) (a ∷ answers) new run h still stands now =
+      let mid = run.0 in
+      ⊎_elim
+      (λ closed. let same = ap (λ (s : Seen D). s.closed) (closed_run mid events answers new run.3 closed) in
+      absurd (cc))
+      (λ goes. let h1 = subst IsTrue (sym run.2.honest_too) h in
+      let rest = stood mid events answers new run.3 h1 goes.0 (record { images = run.2.stands h1 goes.0 }) now in
+      (rest.0, (mid.state, goes.1, rest.1), rest.2))
+      (open_step old mid e a run.2 h still)
+
+  pub since : (i : ℕ) (old : Seen D) (events : List Event) (answers : List (Result Answer ArchiveError)) (new : Seen D)
+      → IsRun honest moment left_since old events answers new → IsTrue (honest old.disk) → old.closed ≡ false
+      → IsStanding old → IsSince honest moment left_since old new events answers i
+  since i old events answers new run h still stands =
+      let parts = split i old events answers new run in
+      let there = λ (now : parts.0.closed ≡ false).
+      stood old (take i events) (take i answers) parts.0 parts.1 h still stands now in
+      record {
+        mid = parts.0;
+        run_before = parts.1;
+        run_after = parts.2;
+        closed_too = closed_run parts.0 (drop i events) (drop i answers) new parts.2;
+        reached = λ now. (there now).1;
+        any_moment = λ now. all_moments parts.0 (drop i events) (drop i answers) new parts.2 (there now).2 now
+            (there now).0;
+      }

@@ -1,0 +1,112 @@
+-- Steps of an archive.
+use Rattle.std.proofs.Common.{◌≡◌, inl, inr, ⊎_elim, ℕ, Bool, true, false, IsTrue, List, Result, Ok, Err, refl}
+use Rattle.std.proofs.Common.{sym, ap, subst}
+use Rattle.std.specs.Prelude.{IsErrAnd}
+use Rattle.flow_disk.specs.Disk.{Held, IsDiskImage, AllImages}
+use Rattle.flow_disk.specs.Moments.{LeavesOnly}
+use Rattle.flow_disk.proofs.Moments.{by, started}
+use Rattle.flow_recover.specs.State.{State, reopened}
+use Rattle.flow_recover.specs.Standing.{StandsFor}
+use Rattle.flow_archive.specs.declared.refusal.ArchiveError.{ArchiveError}
+use Rattle.flow_archive.specs.declared.refusal.ArchiveError.TheVariants as refusal
+use Rattle.flow_archive.specs.Seen.{Seen, IsStep, StandsBeforeOrAfter}
+use Rattle.flow_archive.proofs.Answering.{err_is}
+
+-- a refusal before the first call of the disk
+pub refused : {D T : Type 0} (honest : D → Bool) (moment : D → ℕ) (left_since : D → ℕ → (ℕ → List ℕ) → Type 0)
+    (held : D → ℕ → Held) (old new : Seen D) (After : State → Type 0) (e : ArchiveError) → new ≡ old
+    → (e ≡ refusal.Fault → ⊥)
+    → (IsTrue (honest old.disk) → (image : ℕ → List ℕ) → left_since old.disk (moment old.disk) image
+    → IsDiskImage (held old.disk) image)
+    → (IsTrue (honest old.disk) → old.closed ≡ false
+    → AllImages (held old.disk) (λ image. StandsFor image (reopened old.state)))
+    → IsStep {D = D} {T = T} honest moment left_since old new After (Err e)
+refused {D} {T} honest moment left_since held old new After e same other only stands =
+    subst (λ (s : Seen D). IsStep {D = D} {T = T} honest moment left_since old s After (Err e)) (sym same) (record {
+      honest_too = refl;
+      any_moment = λ h still. started moment left_since old.disk (StandsBeforeOrAfter old.state After)
+          (λ image left. inl (stands h still image (only h image left)));
+      done = tt;
+      fault = λ is. absurd (other (cc));
+      stands = λ h still image left. stands h still image (only h image left);
+      refused = λ differs. refl;
+    })
+
+-- the same, of a refusal that is passed on
+pub refused_by : {D T : Type 0} (honest : D → Bool) (moment : D → ℕ) (left_since : D → ℕ → (ℕ → List ℕ) → Type 0)
+    (held : D → ℕ → Held) (old new : Seen D) (After : State → Type 0) (e : ArchiveError) (r : Result T ArchiveError)
+    → IsErrAnd r (λ x. x ≡ e) → new ≡ old → (e ≡ refusal.Fault → ⊥)
+    → (IsTrue (honest old.disk) → (image : ℕ → List ℕ) → left_since old.disk (moment old.disk) image
+    → IsDiskImage (held old.disk) image)
+    → (IsTrue (honest old.disk) → old.closed ≡ false
+    → AllImages (held old.disk) (λ image. StandsFor image (reopened old.state)))
+    → IsStep {D = D} {T = T} honest moment left_since old new After r
+refused_by {D} {T} honest moment left_since held old new After e r is same other only stands =
+    err_is r e (λ (x : Result T ArchiveError). IsStep {D = D} {T = T} honest moment left_since old new After x) is
+    (refused {D = D} {T = T} honest moment left_since held old new After e same other only stands)
+
+pub acknowledged : {D T : Type 0} (honest : D → Bool) (moment : D → ℕ) (left_since : D → ℕ → (ℕ → List ℕ) → Type 0)
+    (old new : Seen D) (After : State → Type 0) (answer : T) → honest new.disk ≡ honest old.disk
+    → (IsTrue (honest old.disk)
+    → LeavesOnly moment left_since old.disk new.disk (StandsBeforeOrAfter old.state After))
+    → (IsTrue (honest old.disk) → After new.state) → new.closed ≡ false → old.closed ≡ false
+    → (IsTrue (honest new.disk) → (image : ℕ → List ℕ) → left_since new.disk (moment new.disk) image
+    → StandsFor image (reopened new.state)) → IsStep {D = D} {T = T} honest moment left_since old new After (Ok answer)
+acknowledged honest moment left_since old new After answer honest_too run state still was stands = record {
+  honest_too = honest_too;
+  any_moment = λ h _. run h;
+  done = (state, still, was);
+  fault = λ is. absurd (cc);
+  stands = λ h _. stands h;
+  refused = tt;
+}
+
+pub failed : {D T : Type 0} (honest : D → Bool) (moment : D → ℕ) (left_since : D → ℕ → (ℕ → List ℕ) → Type 0)
+    (old new : Seen D) (After : State → Type 0) → honest new.disk ≡ honest old.disk
+    → (IsTrue (honest old.disk)
+    → LeavesOnly moment left_since old.disk new.disk (StandsBeforeOrAfter old.state After))
+    → new.state ≡ old.state → new.closed ≡ true → old.closed ≡ false
+    → IsStep {D = D} {T = T} honest moment left_since old new After (Err refusal.Fault)
+failed honest moment left_since old new After honest_too run state still was = record {
+  honest_too = honest_too;
+  any_moment = λ h _. run h;
+  done = tt;
+  fault = λ is. (state, still, was);
+  stands = λ h open_still. absurd (cc);
+  refused = λ differs. absurd (differs refl);
+}
+
+-- an answer, told as that of an event
+pub told : {D T U : Type 0} (honest : D → Bool) (moment : D → ℕ) (left_since : D → ℕ → (ℕ → List ℕ) → Type 0)
+    (old new : Seen D) (A B : State → Type 0) (x : T) (y : U) → ((s : State) → A s → B s)
+    → IsStep {D = D} {T = T} honest moment left_since old new A (Ok x)
+    → IsStep {D = D} {T = U} honest moment left_since old new B (Ok y)
+told honest moment left_since old new A B x y so step = record {
+  honest_too = step.honest_too;
+  any_moment = λ h still.
+      by moment left_since old.disk new.disk (StandsBeforeOrAfter old.state A) (StandsBeforeOrAfter old.state B)
+      (step.any_moment h still)
+      (λ image either. ⊎_elim (λ before. inl before) (λ after. inr (after.0, so after.0 after.1, after.2)) either);
+  done = ((λ h. so new.state (step.done.0 h)), step.done.1, step.done.2);
+  fault = λ is. absurd (cc);
+  stands = step.stands;
+  refused = tt;
+}
+
+pub told_refused : {D T U : Type 0} (honest : D → Bool) (moment : D → ℕ) (left_since : D → ℕ → (ℕ → List ℕ) → Type 0)
+    (old new : Seen D) (A B : State → Type 0) (e : ArchiveError) (r : Result U ArchiveError)
+    → IsErrAnd r (λ x. x ≡ e) → ((s : State) → A s → B s)
+    → IsStep {D = D} {T = T} honest moment left_since old new A (Err e)
+    → IsStep {D = D} {T = U} honest moment left_since old new B r
+told_refused {D} {T} {U} honest moment left_since old new A B e r is so step =
+    err_is r e (λ (x : Result U ArchiveError). IsStep {D = D} {T = U} honest moment left_since old new B x) is (record {
+      honest_too = step.honest_too;
+      any_moment = λ h still.
+          by moment left_since old.disk new.disk (StandsBeforeOrAfter old.state A) (StandsBeforeOrAfter old.state B)
+          (step.any_moment h still)
+          (λ image either. ⊎_elim (λ before. inl before) (λ after. inr (after.0, so after.0 after.1, after.2)) either);
+      done = tt;
+      fault = λ same. let fault : e ≡ refusal.Fault = cc in step.fault (ap (λ (x : ArchiveError). Err x) fault);
+      stands = step.stands;
+      refused = step.refused;
+    })

@@ -1,0 +1,678 @@
+use Rattle.std.proofs.Common.{◌≡◌, ◌≢◌, inl, inr, ⊎_elim, ℕ, true, IsTrue}
+use Rattle.std.proofs.Common.{List, [], ◌∷◌, ◌++◌, length, refl, sym, ◌∙◌, ap, subst, arith, rules, Vec}
+use Rattle.std.proofs.Common.{vec_len}
+use Rattle.std.proofs.lemmas.List.{length-map, nil_from_length}
+use Rattle.std.specs.declared.alloc.Global.{Global}
+use Rattle.flow_disk.specs.Disk.{AllImages}
+use Rattle.flow_disk.proofs.Moments.{by}
+use Rattle.flow_gate.specs.Scan.{texts}
+use Rattle.flow_manifest.specs.declared.manifest.Entry.{Entry}
+use Rattle.flow_manifest.specs.declared.manifest.Kind.TheVariants.{Active}
+use Rattle.flow_manifest.specs.declared.manifest.Manifest.{Manifest}
+use Rattle.flow_manifest.specs.declared.slots.Slot.{Slot}
+use Rattle.flow_manifest.specs.Manifest.{IsValidManifest, manifest_octets}
+use Rattle.flow_manifest.specs.Following.{active_of, next_manifest}
+use Rattle.flow_manifest.specs.Slots.{file_of, other, HasGate}
+use Rattle.flow_manifest.proofs.Followers.{are_entries}
+use Rattle.flow_segment.specs.Carry.{prefix_of}
+use Rattle.flow_recover.specs.State.{State, end_of, moved_on, reopened}
+use Rattle.flow_recover.specs.Chain.{IsChained}
+use Rattle.flow_recover.specs.Standing.{IsKnown, StandsFor, StandsForEither}
+use Rattle.flow_archive.specs.Answers.{IsMovedOn, MaySeal}
+use Rattle.flow_archive.specs.Moving.{IsMove, MovesMarks}
+use Rattle.flow_archive.specs.Seen.{IsArchive, StandsBeforeOrAfter, state_in}
+use Rattle.flow_archive.specs.declared.refusal.ArchiveError.TheVariants as refusal
+use Rattle.flow_archive.proofs.Chaining.{hands_next, prefix_fits}
+use Rattle.flow_archive.proofs.Moved.{is_moved, moved_archive, same_state}
+use Rattle.flow_archive.proofs.Stand.{stands_for}
+use Rattle.flow_archive.proofs.Stepping.{refused, acknowledged, failed}
+use Rattle.flow_archive.proofs.Turning.{has_gate}
+use Rattle.flow_archive.proofs.archive.Archive.seal.Goals.{then-self-2-via-then-self-2}
+use Rattle.flow_archive.proofs.archive.Archive.seal.Goals.{then-self-2-via-else-self-2+then-file}
+use Rattle.flow_archive.proofs.archive.Archive.seal.Goals as goal
+
+pub returns-then-count-eq0-clause-step : goal.returns-then-count-eq0-clause-step
+returns-then-count-eq0-clause-step g c =
+    let D = g.D.Disk in
+    let octets = g.D.Sealed.SealedFile.octets in
+    let inside = c.self.inside in
+    rw (← c.self.view_is) (refused D.honest D.moment D.left_since D.held _ _ _ refusal.NothingToSeal
+    refl
+    (λ is. cc) (λ h image left. g.met.D.Disk.only_now inside.disk image h left)
+    (λ h still image is. stands_for inside.slots _ image (((c.self.invariant).still_open still).kept.known h image is)))
+
+pub returns-then-count-eq0-clause-answers : goal.returns-then-count-eq0-clause-answers
+returns-then-count-eq0-clause-answers g c =
+    let D = g.D.Disk in
+    let octets = g.D.Sealed.SealedFile.octets in
+    let inside = c.self.inside in
+    let d = inside.disk in
+    let m = inside.slots.current in
+    let s : State = state_in octets m inside.files.items inside.prefix.items (texts inside.messages.items) in
+    let counted = (c.self.invariant).counted in
+    let len : vec_len inside.messages ≡ length inside.messages.items = search rules in
+    let count : c.len-count.result ≡ length s.active.messages =
+    c.len-count.ensures ∙ len ∙ sym (length-map inside.messages.items (λ (v : Vec ℕ Global). v.items)) in
+    let none : s.active.messages ≡ [] = nil_from_length s.active.messages (omega (arith, c.if-count-eq0.true, count)) in
+    rw (← c.self.view_is) (c.if-self.false, none, refl)
+
+pub returns-then-len-ge-MOST_ENTRIES-clause-step : goal.returns-then-len-ge-MOST_ENTRIES-clause-step
+returns-then-len-ge-MOST_ENTRIES-clause-step g c =
+    let D = g.D.Disk in
+    let octets = g.D.Sealed.SealedFile.octets in
+    let inside = c.self.inside in
+    rw (← c.self.view_is) (refused D.honest D.moment D.left_since D.held _ _ _ refusal.ManifestFull
+    refl
+    (λ is. cc) (λ h image left. g.met.D.Disk.only_now inside.disk image h left)
+    (λ h still image is. stands_for inside.slots _ image (((c.self.invariant).still_open still).kept.known h image is)))
+
+pub returns-then-len-ge-MOST_ENTRIES-clause-answers : goal.returns-then-len-ge-MOST_ENTRIES-clause-answers
+returns-then-len-ge-MOST_ENTRIES-clause-answers g c =
+    let D = g.D.Disk in
+    let octets = g.D.Sealed.SealedFile.octets in
+    let inside = c.self.inside in
+    let d = inside.disk in
+    let m = inside.slots.current in
+    let s : State = state_in octets m inside.files.items inside.prefix.items (texts inside.messages.items) in
+    let counted = (c.self.invariant).counted in
+    let len : vec_len inside.messages ≡ length inside.messages.items = search rules in
+    let count : c.len-count.result ≡ length s.active.messages =
+    c.len-count.ensures ∙ len ∙ sym (length-map inside.messages.items (λ (v : Vec ℕ Global). v.items)) in
+    let some : s.active.messages ≢ [] =
+    λ is. omega (arith, c.if-count-eq0.false, count, ap (λ (l : List (List ℕ)). length l) is) in
+    rw (← c.self.view_is) (c.if-self.false, some, omega (arith, c.if-len-ge-MOST_ENTRIES.true), refl)
+
+pub returns-then-self-2-clause-step : goal.returns-then-self-2-clause-step
+returns-then-self-2-clause-step g c =
+    let D = g.D.Disk in
+    let octets = g.D.Sealed.SealedFile.octets in
+    let inside = c.self.inside in
+    rw (← c.self.view_is) (refused D.honest D.moment D.left_since D.held _ _ _ refusal.NumbersSpent
+    refl
+    (λ is. cc) (λ h image left. g.met.D.Disk.only_now inside.disk image h left)
+    (λ h still image is. stands_for inside.slots _ image (((c.self.invariant).still_open still).kept.known h image is)))
+
+pub returns-then-self-2-clause-answers : goal.returns-then-self-2-clause-answers
+returns-then-self-2-clause-answers g c =
+    let D = g.D.Disk in
+    let octets = g.D.Sealed.SealedFile.octets in
+    let inside = c.self.inside in
+    let d = inside.disk in
+    let m = inside.slots.current in
+    let s : State = state_in octets m inside.files.items inside.prefix.items (texts inside.messages.items) in
+    let counted = (c.self.invariant).counted in
+    let len : vec_len inside.messages ≡ length inside.messages.items = search rules in
+    let count : c.len-count.result ≡ length s.active.messages =
+    c.len-count.ensures ∙ len ∙ sym (length-map inside.messages.items (λ (v : Vec ℕ Global). v.items)) in
+    let some : s.active.messages ≢ [] =
+    λ is. omega (arith, c.if-count-eq0.false, count, ap (λ (l : List (List ℕ)). length l) is) in
+    rw (← c.self.view_is) (
+      c.if-self.false,
+      some,
+      omega (arith, c.if-len-ge-MOST_ENTRIES.false),
+      (λ numbers. elim c.then-self-2.branch [
+        | then-self-2-via-then-self-2 w ↦ omega (arith, numbers.1, w.if-self-2.true)
+        | then-self-2-via-else-self-2+then-file w ↦ omega (arith, numbers.0, w.if-file.true)
+      ]),
+      refl,
+    )
+
+pub returns-in_default-clause-step : goal.returns-in_default-clause-step
+returns-in_default-clause-step g c =
+    let D = g.D.Disk in
+    let octets = g.D.Sealed.SealedFile.octets in
+    let inside = c.self.inside in
+    rw (← c.self.view_is) (refused D.honest D.moment D.left_since D.held _ _ _ refusal.OutOfMemory
+    refl
+    (λ is. cc) (λ h image left. g.met.D.Disk.only_now inside.disk image h left)
+    (λ h still image is. stands_for inside.slots _ image (((c.self.invariant).still_open still).kept.known h image is)))
+
+pub returns-in_default-clause-answers : goal.returns-in_default-clause-answers
+returns-in_default-clause-answers g c =
+    let D = g.D.Disk in
+    let octets = g.D.Sealed.SealedFile.octets in
+    let inside = c.self.inside in
+    let d = inside.disk in
+    let m = inside.slots.current in
+    let s : State = state_in octets m inside.files.items inside.prefix.items (texts inside.messages.items) in
+    let counted = (c.self.invariant).counted in
+    rw (← c.self.view_is) (c.if-self.false, refl)
+
+pub returns-in_default-reserve-clause-step : goal.returns-in_default-reserve-clause-step
+returns-in_default-reserve-clause-step g c =
+    let D = g.D.Disk in
+    let octets = g.D.Sealed.SealedFile.octets in
+    let inside = c.self.inside in
+    rw (← c.self.view_is) (refused D.honest D.moment D.left_since D.held _ _ _ refusal.OutOfMemory
+    (ap (λ (l : List g.row.D-Sealed.Denot). record {
+      disk = inside.disk;
+      state = state_in octets inside.slots.current l inside.prefix.items (texts inside.messages.items);
+      closed = inside.closed;
+    }) c.reserve.ensures.items)
+    (λ is. cc) (λ h image left. g.met.D.Disk.only_now inside.disk image h left)
+    (λ h still image is. stands_for inside.slots _ image (((c.self.invariant).still_open still).kept.known h image is)))
+
+pub returns-in_default-reserve-clause-answers : goal.returns-in_default-reserve-clause-answers
+returns-in_default-reserve-clause-answers g c =
+    let D = g.D.Disk in
+    let octets = g.D.Sealed.SealedFile.octets in
+    let inside = c.self.inside in
+    let d = inside.disk in
+    let m = inside.slots.current in
+    let s : State = state_in octets m inside.files.items inside.prefix.items (texts inside.messages.items) in
+    let counted = (c.self.invariant).counted in
+    rw (← c.self.view_is) (
+      c.if-self.false,
+      (ap (λ (l : List g.row.D-Sealed.Denot). state_in octets m l inside.prefix.items (texts inside.messages.items))
+          c.reserve.ensures.items),
+    )
+
+pub next_segment-requires-clause-valid : goal.next_segment-requires-clause-valid
+next_segment-requires-clause-valid g c = (c.self.invariant).counted.valid
+
+pub next_segment-requires-clause-long : goal.next_segment-requires-clause-long
+next_segment-requires-clause-long g c =
+    let D = g.D.Disk in
+    let octets = g.D.Sealed.SealedFile.octets in
+    let inside = c.self.inside in
+    let d = inside.disk in
+    let m = inside.slots.current in
+    let s : State = state_in octets m inside.files.items inside.prefix.items (texts inside.messages.items) in
+    let counted = (c.self.invariant).counted in
+    let len : vec_len inside.messages ≡ length inside.messages.items = search rules in
+    let count : c.len-count.result ≡ length s.active.messages =
+    c.len-count.ensures ∙ len ∙ sym (length-map inside.messages.items (λ (v : Vec ℕ Global). v.items)) in
+    let start : inside.last.prefix ≡ (active_of m).prefix = ap (λ (x : Entry). x.prefix) counted.last_is in
+    omega (arith, counted.long (omega (arith, c.if-count-eq0.false, count)), start)
+
+pub next_segment-requires-clause-within : goal.next_segment-requires-clause-within
+next_segment-requires-clause-within g c =
+    let D = g.D.Disk in
+    let octets = g.D.Sealed.SealedFile.octets in
+    let inside = c.self.inside in
+    let d = inside.disk in
+    let m = inside.slots.current in
+    let s : State = state_in octets m inside.files.items inside.prefix.items (texts inside.messages.items) in
+    let counted = (c.self.invariant).counted in
+    omega (arith, counted.end_is, counted.within.limit)
+
+pub next_segment-requires-clause-all : goal.next_segment-requires-clause-all
+next_segment-requires-clause-all g c =
+    let D = g.D.Disk in
+    let octets = g.D.Sealed.SealedFile.octets in
+    let inside = c.self.inside in
+    let d = inside.disk in
+    let m = inside.slots.current in
+    let s : State = state_in octets m inside.files.items inside.prefix.items (texts inside.messages.items) in
+    let counted = (c.self.invariant).counted in
+    let len : vec_len inside.messages ≡ length inside.messages.items = search rules in
+    let count : c.len-count.result ≡ length s.active.messages =
+    c.len-count.ensures ∙ len ∙ sym (length-map inside.messages.items (λ (v : Vec ℕ Global). v.items)) in
+    omega (arith, counted.within.all, count)
+
+pub next_segment-requires-clause-some : goal.next_segment-requires-clause-some
+next_segment-requires-clause-some g c = omega (arith, c.if-count-eq0.false)
+
+pub move_on-requires-clause-active : goal.move_on-requires-clause-active
+move_on-requires-clause-active g c =
+    let D = g.D.Disk in
+    let octets = g.D.Sealed.SealedFile.octets in
+    let inside = c.self.inside in
+    let d = inside.disk in
+    let m = inside.slots.current in
+    let s : State = state_in octets m inside.files.items inside.prefix.items (texts inside.messages.items) in
+    let counted = (c.self.invariant).counted in
+    let are = are_entries m counted.valid in
+    let file = ap (λ (x : Entry). x.file) counted.last_is in
+    (omega (arith, file, are.active.file_from), omega (arith, file, are.active.file_below))
+
+pub move_on-requires-clause-gate : goal.move_on-requires-clause-gate
+move_on-requires-clause-gate g c h =
+    let D = g.D.Disk in
+    let octets = g.D.Sealed.SealedFile.octets in
+    let inside = c.self.inside in
+    let d = inside.disk in
+    let m = inside.slots.current in
+    let s : State = state_in octets m inside.files.items inside.prefix.items (texts inside.messages.items) in
+    let counted = (c.self.invariant).counted in
+    let still = (c.self.invariant).still_open c.if-self.false in
+    let known = still.kept.known h (λ n. (D.held d n).reads) (λ n. g.met.D.Disk.reads_image d n h) in
+    subst (λ (n : ℕ). HasGate inside.slots.other_open (D.held d n).reads)
+    (sym (c.file.ensures ∙ ap file_of c.other-slot.ensures))
+    (has_gate inside.slots.other_open m (D.held d (file_of (other inside.slots.current_slot))).reads
+    known.slots_are.beside)
+
+pub returns-in-Err-clause-answers : goal.returns-in-Err-clause-answers
+returns-in-Err-clause-answers g c =
+    let D = g.D.Disk in
+    let octets = g.D.Sealed.SealedFile.octets in
+    let inside = c.self.inside in
+    let d = inside.disk in
+    let m = inside.slots.current in
+    let s : State = state_in octets m inside.files.items inside.prefix.items (texts inside.messages.items) in
+    let counted = (c.self.invariant).counted in
+    let len : vec_len inside.messages ≡ length inside.messages.items = search rules in
+    let count : c.len-count.result ≡ length s.active.messages =
+    c.len-count.ensures ∙ len ∙ sym (length-map inside.messages.items (λ (v : Vec ℕ Global). v.items)) in
+    let some : s.active.messages ≢ [] =
+    λ is. omega (arith, c.if-count-eq0.false, count, ap (λ (l : List (List ℕ)). length l) is) in
+    let still = (c.self.invariant).still_open c.if-self.false in
+    let next = c.in-Ok.next in
+    let carry = inside.carry in
+    let prefix = prefix_of carry in
+    let after = moved_on s prefix in
+    let d1 = c.move_on.new.disk in
+    let given = c.as_slice.result.now in
+    let kept_prefix : given ≡ prefix = c.as_slice.ensures.value ∙ c.in-Ok.ensures.prefix in
+    let made : next.manifest ≡ after.manifest = c.in-Ok.ensures.manifest
+    ∙ ap (λ (n : ℕ). next_manifest m n c.len-count.result m.next (length prefix)) counted.end_is
+    ∙ ap (λ (n : ℕ). next_manifest m (end_of s) n m.next (length prefix)) count in
+    let valid : IsValidManifest after.manifest = subst IsValidManifest made c.in-Ok.ensures.valid in
+    let slot_is : c.file.result ≡ file_of (other inside.slots.current_slot) =
+    c.file.ensures ∙ ap file_of c.other-slot.ensures in
+    let move : IsTrue (D.honest d) → IsMove (D.held d) inside.slots inside.last.file inside.end m.next c.file.result
+    inside.slots.other_open given c.as_slice-2.result.now s = λ h. record {
+      active_is = ap (λ (x : Entry). x.file) (sym counted.last_is);
+      next_is = refl;
+      next_from = omega arith;
+      end_is = sym counted.end_is;
+      slot_is = sym slot_is;
+      open_is = refl;
+      valid = subst (λ (l : List ℕ). IsValidManifest (moved_on s l).manifest) (sym kept_prefix) valid;
+      chained = subst (λ (l : List ℕ). IsChained (moved_on s l)) (sym kept_prefix)
+          (carry, hands_next s carry counted.valid c.next_segment.ensures.carry (still.hands_on h));
+      body_is = c.as_slice-2.ensures.value ∙ c.in-Ok.ensures.body ∙ ap manifest_octets made
+          ∙ ap (λ (l : List ℕ). manifest_octets (moved_on s l).manifest) (sym kept_prefix);
+      known = still.kept.known h;
+    } in
+    let may : MaySeal s = record {
+      some = some;
+      few = omega (arith, c.if-len-ge-MOST_ENTRIES.false);
+      numbers = (omega arith, omega arith);
+    } in
+    rw (← c.self.view_is) (
+      c.if-self.false,
+      may,
+      (ap (λ (l : List g.row.D-Sealed.Denot). state_in octets m l inside.prefix.items (texts inside.messages.items))
+          c.reserve.ensures.items),
+    )
+
+pub returns-in-Err-clause-step : goal.returns-in-Err-clause-step
+returns-in-Err-clause-step g c =
+    let D = g.D.Disk in
+    let octets = g.D.Sealed.SealedFile.octets in
+    let inside = c.self.inside in
+    let d = inside.disk in
+    let m = inside.slots.current in
+    let s : State = state_in octets m inside.files.items inside.prefix.items (texts inside.messages.items) in
+    let counted = (c.self.invariant).counted in
+    let len : vec_len inside.messages ≡ length inside.messages.items = search rules in
+    let count : c.len-count.result ≡ length s.active.messages =
+    c.len-count.ensures ∙ len ∙ sym (length-map inside.messages.items (λ (v : Vec ℕ Global). v.items)) in
+    let some : s.active.messages ≢ [] =
+    λ is. omega (arith, c.if-count-eq0.false, count, ap (λ (l : List (List ℕ)). length l) is) in
+    let still = (c.self.invariant).still_open c.if-self.false in
+    let next = c.in-Ok.next in
+    let carry = inside.carry in
+    let prefix = prefix_of carry in
+    let after = moved_on s prefix in
+    let d1 = c.move_on.new.disk in
+    let given = c.as_slice.result.now in
+    let kept_prefix : given ≡ prefix = c.as_slice.ensures.value ∙ c.in-Ok.ensures.prefix in
+    let made : next.manifest ≡ after.manifest = c.in-Ok.ensures.manifest
+    ∙ ap (λ (n : ℕ). next_manifest m n c.len-count.result m.next (length prefix)) counted.end_is
+    ∙ ap (λ (n : ℕ). next_manifest m (end_of s) n m.next (length prefix)) count in
+    let valid : IsValidManifest after.manifest = subst IsValidManifest made c.in-Ok.ensures.valid in
+    let slot_is : c.file.result ≡ file_of (other inside.slots.current_slot) =
+    c.file.ensures ∙ ap file_of c.other-slot.ensures in
+    let move : IsTrue (D.honest d) → IsMove (D.held d) inside.slots inside.last.file inside.end m.next c.file.result
+    inside.slots.other_open given c.as_slice-2.result.now s = λ h. record {
+      active_is = ap (λ (x : Entry). x.file) (sym counted.last_is);
+      next_is = refl;
+      next_from = omega arith;
+      end_is = sym counted.end_is;
+      slot_is = sym slot_is;
+      open_is = refl;
+      valid = subst (λ (l : List ℕ). IsValidManifest (moved_on s l).manifest) (sym kept_prefix) valid;
+      chained = subst (λ (l : List ℕ). IsChained (moved_on s l)) (sym kept_prefix)
+          (carry, hands_next s carry counted.valid c.next_segment.ensures.carry (still.hands_on h));
+      body_is = c.as_slice-2.ensures.value ∙ c.in-Ok.ensures.body ∙ ap manifest_octets made
+          ∙ ap (λ (l : List ℕ). manifest_octets (moved_on s l).manifest) (sym kept_prefix);
+      known = still.kept.known h;
+    } in
+    let may : MaySeal s = record {
+      some = some;
+      few = omega (arith, c.if-len-ge-MOST_ENTRIES.false);
+      numbers = (omega arith, omega arith);
+    } in
+    rw (← c.self.view_is) (failed D.honest D.moment D.left_since _ _ _ c.move_on.ensures.honest
+    (λ h. by D.moment D.left_since d d1 (StandsForEither (reopened s) (reopened (moved_on s given)))
+    (StandsBeforeOrAfter s (λ x. IsMovedOn true s x)) (c.move_on.ensures.any_moment h inside.slots s (move h))
+    (λ image either. ⊎_elim (λ before. inl before)
+    (λ later. inr (
+      moved_on s prefix,
+      (carry, s.active, still.segment, (λ t. refl), refl),
+      subst (λ (l : List ℕ). StandsFor image (reopened (moved_on s l))) kept_prefix later,
+    )) either))
+    (ap (λ (l : List g.row.D-Sealed.Denot). state_in octets m l inside.prefix.items (texts inside.messages.items))
+    c.reserve.ensures.items)
+    refl c.if-self.false)
+
+pub invariant_of-self-in-Ok-move_on : goal.invariant_of-self-in-Ok-move_on
+invariant_of-self-in-Ok-move_on g c =
+    let D = g.D.Disk in
+    let octets = g.D.Sealed.SealedFile.octets in
+    let inside = c.self.inside in
+    let d = inside.disk in
+    let m = inside.slots.current in
+    let s : State = state_in octets m inside.files.items inside.prefix.items (texts inside.messages.items) in
+    let counted = (c.self.invariant).counted in
+    let len : vec_len inside.messages ≡ length inside.messages.items = search rules in
+    let count : c.len-count.result ≡ length s.active.messages =
+    c.len-count.ensures ∙ len ∙ sym (length-map inside.messages.items (λ (v : Vec ℕ Global). v.items)) in
+    let some : s.active.messages ≢ [] =
+    λ is. omega (arith, c.if-count-eq0.false, count, ap (λ (l : List (List ℕ)). length l) is) in
+    let still = (c.self.invariant).still_open c.if-self.false in
+    let next = c.in-Ok.next in
+    let carry = inside.carry in
+    let prefix = prefix_of carry in
+    let after = moved_on s prefix in
+    let d1 = c.move_on.new.disk in
+    let given = c.as_slice.result.now in
+    let kept_prefix : given ≡ prefix = c.as_slice.ensures.value ∙ c.in-Ok.ensures.prefix in
+    let made : next.manifest ≡ after.manifest = c.in-Ok.ensures.manifest
+    ∙ ap (λ (n : ℕ). next_manifest m n c.len-count.result m.next (length prefix)) counted.end_is
+    ∙ ap (λ (n : ℕ). next_manifest m (end_of s) n m.next (length prefix)) count in
+    let valid : IsValidManifest after.manifest = subst IsValidManifest made c.in-Ok.ensures.valid in
+    let slot_is : c.file.result ≡ file_of (other inside.slots.current_slot) =
+    c.file.ensures ∙ ap file_of c.other-slot.ensures in
+    let move : IsTrue (D.honest d) → IsMove (D.held d) inside.slots inside.last.file inside.end m.next c.file.result
+    inside.slots.other_open given c.as_slice-2.result.now s = λ h. record {
+      active_is = ap (λ (x : Entry). x.file) (sym counted.last_is);
+      next_is = refl;
+      next_from = omega arith;
+      end_is = sym counted.end_is;
+      slot_is = sym slot_is;
+      open_is = refl;
+      valid = subst (λ (l : List ℕ). IsValidManifest (moved_on s l).manifest) (sym kept_prefix) valid;
+      chained = subst (λ (l : List ℕ). IsChained (moved_on s l)) (sym kept_prefix)
+          (carry, hands_next s carry counted.valid c.next_segment.ensures.carry (still.hands_on h));
+      body_is = c.as_slice-2.ensures.value ∙ c.in-Ok.ensures.body ∙ ap manifest_octets made
+          ∙ ap (λ (l : List ℕ). manifest_octets (moved_on s l).manifest) (sym kept_prefix);
+      known = still.kept.known h;
+    } in
+    let may : MaySeal s = record {
+      some = some;
+      few = omega (arith, c.if-len-ge-MOST_ENTRIES.false);
+      numbers = (omega arith, omega arith);
+    } in
+    let part = c.in-Ok-move_on.part in
+    let files = inside.files.items in
+    let front = inside.prefix.items in
+    let messages = texts inside.messages.items in
+    let part_is = λ (h : IsTrue (D.honest d)). c.in-Ok-move_on.ensures.part h inside.slots s (move h) in
+    let all = (c.self.invariant).all in
+    let new_prefix : next.prefix.items ≡ prefix = c.in-Ok.ensures.prefix in
+    let new_files : c.push_reserved.new.self.items ≡ files ++ part ∷ [] = c.push_reserved.ensures.items
+    ∙ ap (λ (l : List g.row.D-Sealed.Denot). l ++ part ∷ []) c.reserve.ensures.items in
+    let new_messages : texts c.new.result.items ≡ [] = ap texts c.new.ensures.items in
+    let new_state : state_in octets next.manifest c.push_reserved.new.self.items next.prefix.items (texts
+    c.new.result.items)
+    ≡ state_in octets after.manifest (files ++ part ∷ []) prefix [] =
+    ap (λ (x : Manifest). state_in octets x c.push_reserved.new.self.items next.prefix.items (texts
+    c.new.result.items)) made
+    ∙ ap (λ (l : List g.row.D-Sealed.Denot). state_in octets after.manifest l next.prefix.items (texts
+    c.new.result.items))
+    new_files
+    ∙ ap (λ (l : List ℕ). state_in octets after.manifest (files ++ part ∷ []) l (texts c.new.result.items)) new_prefix
+    ∙ ap (λ (l : List (List ℕ)). state_in octets after.manifest (files ++ part ∷ []) prefix l) new_messages in
+    let size : vec_len next.prefix ≡ length next.prefix.items = search rules in
+    let long : length next.prefix.items ≡ length prefix = ap (λ (l : List ℕ). length l) new_prefix in
+    let first_long : c.len-in-Ok-move_on.result ≡ length prefix = omega (
+      arith,
+      c.len-in-Ok-move_on.ensures,
+      size,
+      long,
+    ) in
+    let second_long : c.len-in-Ok-move_on-2.result ≡ length prefix =
+    omega (arith, c.len-in-Ok-move_on-2.ensures, size, long) in
+    let moves = subst (λ (n : ℕ). MovesMarks (D.marks d) (D.marks d1) inside.last.file m.next n (length prefix)) slot_is
+    (subst (λ (l : List ℕ). MovesMarks (D.marks d) (D.marks d1) inside.last.file m.next c.file.result (length l))
+    kept_prefix c.in-Ok-move_on.ensures.marks) in
+    let known = λ (h : IsTrue (D.honest d)). subst (λ (l : List ℕ). AllImages (D.held d1) (IsKnown (record {
+      current = (moved_on s l).manifest;
+      current_slot = other inside.slots.current_slot;
+      other_open = true;
+    }) (moved_on s l))) kept_prefix (c.in-Ok-move_on.ensures.after h inside.slots s (move h)) in
+    let P : Manifest → Slot → ℕ → ℕ → List g.row.D-Sealed.Denot → State → Type 0 = λ made_now slot p e list x.
+    IsArchive D.honest D.marks D.held octets d1
+    (record { current = made_now; current_slot = slot; other_open = true })
+    (record { kind = Active; prefix = p; file = m.next; length = 0; messages = 0 }) e inside.total carry list x
+    inside.closed in
+    let now : P after.manifest (other inside.slots.current_slot) (length prefix) (length prefix) (files ++ part ∷ [])
+    (state_in octets after.manifest (files ++ part ∷ []) prefix []) =
+    moved_archive D.honest D.marks D.held octets d d1 inside.slots inside.last inside.end inside.total carry files front
+    messages part inside.closed c.self.invariant c.if-self.false c.next_segment.ensures.carry c.move_on.ensures.honest
+    valid moves known part_is in
+    subst (λ (x : Manifest). P x c.other-slot.result c.len-in-Ok-move_on.result c.len-in-Ok-move_on-2.result
+    c.push_reserved.new.self.items
+    (state_in octets next.manifest c.push_reserved.new.self.items next.prefix.items (texts c.new.result.items)))
+    (sym made)
+    (subst (λ (x : Slot). P after.manifest x c.len-in-Ok-move_on.result c.len-in-Ok-move_on-2.result
+    c.push_reserved.new.self.items
+    (state_in octets next.manifest c.push_reserved.new.self.items next.prefix.items (texts c.new.result.items)))
+    (sym c.other-slot.ensures)
+    (subst (λ (n : ℕ). P after.manifest (other inside.slots.current_slot) n c.len-in-Ok-move_on-2.result
+    c.push_reserved.new.self.items
+    (state_in octets next.manifest c.push_reserved.new.self.items next.prefix.items (texts c.new.result.items)))
+    (sym first_long)
+    (subst (λ (n : ℕ). P after.manifest (other inside.slots.current_slot) (length prefix) n
+    c.push_reserved.new.self.items
+    (state_in octets next.manifest c.push_reserved.new.self.items next.prefix.items (texts c.new.result.items)))
+    (sym second_long)
+    (subst (λ (l : List g.row.D-Sealed.Denot). P after.manifest (other inside.slots.current_slot) (length prefix)
+    (length prefix) l
+    (state_in octets next.manifest c.push_reserved.new.self.items next.prefix.items (texts c.new.result.items)))
+    (sym new_files)
+    (subst (λ (x : State). P after.manifest (other inside.slots.current_slot) (length prefix) (length prefix)
+    (files ++ part ∷ []) x) (sym new_state) now)))))
+
+pub returns-in-Ok-move_on-clause-answers : goal.returns-in-Ok-move_on-clause-answers
+returns-in-Ok-move_on-clause-answers g c =
+    let D = g.D.Disk in
+    let octets = g.D.Sealed.SealedFile.octets in
+    let inside = c.self.inside in
+    let d = inside.disk in
+    let m = inside.slots.current in
+    let s : State = state_in octets m inside.files.items inside.prefix.items (texts inside.messages.items) in
+    let counted = (c.self.invariant).counted in
+    let len : vec_len inside.messages ≡ length inside.messages.items = search rules in
+    let count : c.len-count.result ≡ length s.active.messages =
+    c.len-count.ensures ∙ len ∙ sym (length-map inside.messages.items (λ (v : Vec ℕ Global). v.items)) in
+    let some : s.active.messages ≢ [] =
+    λ is. omega (arith, c.if-count-eq0.false, count, ap (λ (l : List (List ℕ)). length l) is) in
+    let still = (c.self.invariant).still_open c.if-self.false in
+    let next = c.in-Ok.next in
+    let carry = inside.carry in
+    let prefix = prefix_of carry in
+    let after = moved_on s prefix in
+    let d1 = c.move_on.new.disk in
+    let given = c.as_slice.result.now in
+    let kept_prefix : given ≡ prefix = c.as_slice.ensures.value ∙ c.in-Ok.ensures.prefix in
+    let made : next.manifest ≡ after.manifest = c.in-Ok.ensures.manifest
+    ∙ ap (λ (n : ℕ). next_manifest m n c.len-count.result m.next (length prefix)) counted.end_is
+    ∙ ap (λ (n : ℕ). next_manifest m (end_of s) n m.next (length prefix)) count in
+    let valid : IsValidManifest after.manifest = subst IsValidManifest made c.in-Ok.ensures.valid in
+    let slot_is : c.file.result ≡ file_of (other inside.slots.current_slot) =
+    c.file.ensures ∙ ap file_of c.other-slot.ensures in
+    let move : IsTrue (D.honest d) → IsMove (D.held d) inside.slots inside.last.file inside.end m.next c.file.result
+    inside.slots.other_open given c.as_slice-2.result.now s = λ h. record {
+      active_is = ap (λ (x : Entry). x.file) (sym counted.last_is);
+      next_is = refl;
+      next_from = omega arith;
+      end_is = sym counted.end_is;
+      slot_is = sym slot_is;
+      open_is = refl;
+      valid = subst (λ (l : List ℕ). IsValidManifest (moved_on s l).manifest) (sym kept_prefix) valid;
+      chained = subst (λ (l : List ℕ). IsChained (moved_on s l)) (sym kept_prefix)
+          (carry, hands_next s carry counted.valid c.next_segment.ensures.carry (still.hands_on h));
+      body_is = c.as_slice-2.ensures.value ∙ c.in-Ok.ensures.body ∙ ap manifest_octets made
+          ∙ ap (λ (l : List ℕ). manifest_octets (moved_on s l).manifest) (sym kept_prefix);
+      known = still.kept.known h;
+    } in
+    let may : MaySeal s = record {
+      some = some;
+      few = omega (arith, c.if-len-ge-MOST_ENTRIES.false);
+      numbers = (omega arith, omega arith);
+    } in
+    let part = c.in-Ok-move_on.part in
+    let files = inside.files.items in
+    let front = inside.prefix.items in
+    let messages = texts inside.messages.items in
+    let part_is = λ (h : IsTrue (D.honest d)). c.in-Ok-move_on.ensures.part h inside.slots s (move h) in
+    let all = (c.self.invariant).all in
+    let new_prefix : next.prefix.items ≡ prefix = c.in-Ok.ensures.prefix in
+    let new_files : c.push_reserved.new.self.items ≡ files ++ part ∷ [] = c.push_reserved.ensures.items
+    ∙ ap (λ (l : List g.row.D-Sealed.Denot). l ++ part ∷ []) c.reserve.ensures.items in
+    let new_messages : texts c.new.result.items ≡ [] = ap texts c.new.ensures.items in
+    let new_state : state_in octets next.manifest c.push_reserved.new.self.items next.prefix.items (texts
+    c.new.result.items)
+    ≡ state_in octets after.manifest (files ++ part ∷ []) prefix [] =
+    ap (λ (x : Manifest). state_in octets x c.push_reserved.new.self.items next.prefix.items (texts
+    c.new.result.items)) made
+    ∙ ap (λ (l : List g.row.D-Sealed.Denot). state_in octets after.manifest l next.prefix.items (texts
+    c.new.result.items))
+    new_files
+    ∙ ap (λ (l : List ℕ). state_in octets after.manifest (files ++ part ∷ []) l (texts c.new.result.items)) new_prefix
+    ∙ ap (λ (l : List (List ℕ)). state_in octets after.manifest (files ++ part ∷ []) prefix l) new_messages in
+    rw (← c.self.view_is) (
+      c.if-self.false,
+      may,
+      subst (λ (x : State). IsMovedOn (D.honest d) s x) (sym new_state)
+          (is_moved D.honest D.marks D.held octets d d1 inside.slots inside.last inside.end inside.total carry files
+          front
+          messages part counted.valid all still part_is),
+      ap (λ (x : Entry). x.file) counted.last_is,
+    )
+
+pub returns-in-Ok-move_on-clause-step : goal.returns-in-Ok-move_on-clause-step
+returns-in-Ok-move_on-clause-step g c =
+    let D = g.D.Disk in
+    let octets = g.D.Sealed.SealedFile.octets in
+    let inside = c.self.inside in
+    let d = inside.disk in
+    let m = inside.slots.current in
+    let s : State = state_in octets m inside.files.items inside.prefix.items (texts inside.messages.items) in
+    let counted = (c.self.invariant).counted in
+    let len : vec_len inside.messages ≡ length inside.messages.items = search rules in
+    let count : c.len-count.result ≡ length s.active.messages =
+    c.len-count.ensures ∙ len ∙ sym (length-map inside.messages.items (λ (v : Vec ℕ Global). v.items)) in
+    let some : s.active.messages ≢ [] =
+    λ is. omega (arith, c.if-count-eq0.false, count, ap (λ (l : List (List ℕ)). length l) is) in
+    let still = (c.self.invariant).still_open c.if-self.false in
+    let next = c.in-Ok.next in
+    let carry = inside.carry in
+    let prefix = prefix_of carry in
+    let after = moved_on s prefix in
+    let d1 = c.move_on.new.disk in
+    let given = c.as_slice.result.now in
+    let kept_prefix : given ≡ prefix = c.as_slice.ensures.value ∙ c.in-Ok.ensures.prefix in
+    let made : next.manifest ≡ after.manifest = c.in-Ok.ensures.manifest
+    ∙ ap (λ (n : ℕ). next_manifest m n c.len-count.result m.next (length prefix)) counted.end_is
+    ∙ ap (λ (n : ℕ). next_manifest m (end_of s) n m.next (length prefix)) count in
+    let valid : IsValidManifest after.manifest = subst IsValidManifest made c.in-Ok.ensures.valid in
+    let slot_is : c.file.result ≡ file_of (other inside.slots.current_slot) =
+    c.file.ensures ∙ ap file_of c.other-slot.ensures in
+    let move : IsTrue (D.honest d) → IsMove (D.held d) inside.slots inside.last.file inside.end m.next c.file.result
+    inside.slots.other_open given c.as_slice-2.result.now s = λ h. record {
+      active_is = ap (λ (x : Entry). x.file) (sym counted.last_is);
+      next_is = refl;
+      next_from = omega arith;
+      end_is = sym counted.end_is;
+      slot_is = sym slot_is;
+      open_is = refl;
+      valid = subst (λ (l : List ℕ). IsValidManifest (moved_on s l).manifest) (sym kept_prefix) valid;
+      chained = subst (λ (l : List ℕ). IsChained (moved_on s l)) (sym kept_prefix)
+          (carry, hands_next s carry counted.valid c.next_segment.ensures.carry (still.hands_on h));
+      body_is = c.as_slice-2.ensures.value ∙ c.in-Ok.ensures.body ∙ ap manifest_octets made
+          ∙ ap (λ (l : List ℕ). manifest_octets (moved_on s l).manifest) (sym kept_prefix);
+      known = still.kept.known h;
+    } in
+    let may : MaySeal s = record {
+      some = some;
+      few = omega (arith, c.if-len-ge-MOST_ENTRIES.false);
+      numbers = (omega arith, omega arith);
+    } in
+    let part = c.in-Ok-move_on.part in
+    let files = inside.files.items in
+    let front = inside.prefix.items in
+    let messages = texts inside.messages.items in
+    let part_is = λ (h : IsTrue (D.honest d)). c.in-Ok-move_on.ensures.part h inside.slots s (move h) in
+    let all = (c.self.invariant).all in
+    let new_prefix : next.prefix.items ≡ prefix = c.in-Ok.ensures.prefix in
+    let new_files : c.push_reserved.new.self.items ≡ files ++ part ∷ [] = c.push_reserved.ensures.items
+    ∙ ap (λ (l : List g.row.D-Sealed.Denot). l ++ part ∷ []) c.reserve.ensures.items in
+    let new_messages : texts c.new.result.items ≡ [] = ap texts c.new.ensures.items in
+    let new_state : state_in octets next.manifest c.push_reserved.new.self.items next.prefix.items (texts
+    c.new.result.items)
+    ≡ state_in octets after.manifest (files ++ part ∷ []) prefix [] =
+    ap (λ (x : Manifest). state_in octets x c.push_reserved.new.self.items next.prefix.items (texts
+    c.new.result.items)) made
+    ∙ ap (λ (l : List g.row.D-Sealed.Denot). state_in octets after.manifest l next.prefix.items (texts
+    c.new.result.items))
+    new_files
+    ∙ ap (λ (l : List ℕ). state_in octets after.manifest (files ++ part ∷ []) l (texts c.new.result.items)) new_prefix
+    ∙ ap (λ (l : List (List ℕ)). state_in octets after.manifest (files ++ part ∷ []) prefix l) new_messages in
+    rw (← c.self.view_is) (acknowledged D.honest D.moment D.left_since _ _ _ _ c.move_on.ensures.honest
+    (λ h. by D.moment D.left_since d d1 (StandsForEither (reopened s) (reopened (moved_on s given)))
+    (StandsBeforeOrAfter s (λ x. IsMovedOn true s x)) (c.move_on.ensures.any_moment h inside.slots s (move h))
+    (λ image either. ⊎_elim (λ before. inl before)
+    (λ later. inr (
+      moved_on s prefix,
+      (carry, s.active, still.segment, (λ t. refl), refl),
+      subst (λ (l : List ℕ). StandsFor image (reopened (moved_on s l))) kept_prefix later,
+    )) either))
+    (λ h. (
+      carry,
+      s.active,
+      still.segment,
+      (λ t. refl),
+      new_state
+          ∙ same_state D.honest D.marks D.held octets d d1 inside.slots inside.last inside.end inside.total carry
+          files front
+          messages part counted.valid all (part_is h),
+    ))
+    c.if-self.false c.if-self.false
+    (λ h image left. stands_for _ _ image
+    (((invariant_of-self-in-Ok-move_on g c).still_open c.if-self.false).kept.known h image
+    (g.met.D.Disk.only_now d1 image h left))))
+
+pub overflow_cast-self : goal.overflow_cast-self
+overflow_cast-self g c =
+    let next = c.in-Ok.next in
+    let size : vec_len next.prefix ≡ length next.prefix.items = search rules in
+    let long : length next.prefix.items ≡ length (prefix_of c.self.inside.carry) =
+    ap (λ (l : List ℕ). length l) c.in-Ok.ensures.prefix in
+    record {
+      fits = omega (
+        arith,
+        c.len-in-Ok-move_on.ensures,
+        size,
+        long,
+        prefix_fits c.self.inside.carry c.next_segment.ensures.carry,
+      );
+    }
+
+pub invariant_of-self : goal.invariant_of-self
+invariant_of-self g c =
+    let D = g.D.Disk in
+    let octets = g.D.Sealed.SealedFile.octets in
+    let inside = c.self.inside in
+    let d = inside.disk in
+    let m = inside.slots.current in
+    let s : State = state_in octets m inside.files.items inside.prefix.items (texts inside.messages.items) in
+    let counted = (c.self.invariant).counted in
+    subst (λ (l : List g.row.D-Sealed.Denot). IsArchive D.honest D.marks D.held octets d inside.slots inside.last
+    inside.end
+    inside.total inside.carry l (state_in octets m l inside.prefix.items (texts inside.messages.items)) inside.closed)
+    (sym c.reserve.ensures.items) c.self.invariant

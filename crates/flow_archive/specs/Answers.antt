@@ -1,0 +1,173 @@
+-- What an archive answers to each event.
+use Rattle.std.specs.Prelude.{◌≡◌, ◌≢◌, ℕ, ◌+◌, ◌<◌, ◌≤◌, ◌^◌, Bool, true, false, IsTrue, List, [], ◌∷◌, ◌++◌}
+use Rattle.std.specs.Prelude.{length, Option, Some, None, Result, Ok, Err}
+use Rattle.flow_codec.specs.declared.error.MessageError.{MessageError}
+use Rattle.flow_codec.specs.Fault.{IsFault}
+use Rattle.flow_codec.specs.Templates.{AllTemplates}
+use Rattle.flow_gate.specs.Gate.{octet_sum}
+use Rattle.flow_gate.specs.Scan.{texts}
+use Rattle.flow_manifest.specs.Following.{active_of, messages_of}
+use Rattle.flow_measure.specs.History.{Accepted, AreAcceptedFrom, templates_from}
+use Rattle.flow_segment.specs.Carry.{Carry, carry_from, octets_of, prefix_of}
+use Rattle.flow_recover.specs.State.{Job, Part, StagedFile, State, appended, moved_on}
+use Rattle.flow_recover.specs.Chain.{IsSegment}
+use Rattle.flow_archive.specs.declared.event.Answer.{Answer}
+use Rattle.flow_archive.specs.declared.event.Answer.TheVariants.{Position, Sealed}
+use Rattle.flow_archive.specs.declared.event.Event.{Event}
+use Rattle.flow_archive.specs.declared.event.Event.TheVariants.{Append, AppendBatch, Seal}
+use Rattle.flow_archive.specs.declared.refusal.ArchiveError.{ArchiveError}
+use Rattle.flow_archive.specs.declared.refusal.ArchiveError.TheVariants.{Message, OutOfMemory, NumbersSpent, NotEmpty}
+use Rattle.flow_archive.specs.declared.refusal.ArchiveError.TheVariants.{Fault, NoRoom, ManifestFull, NothingToSeal}
+use Rattle.flow_archive.specs.declared.refusal.ArchiveError.TheVariants.{Closed}
+
+-- ---- messages behind others
+
+-- These octets are messages, each accepted behind those before it.
+abbrev pub AreTaken : List (List ℕ) → Carry → Carry → Type 0
+AreTaken octets old new =
+    (messages : List Accepted) × (octets_of messages ≡ octets) × AreAcceptedFrom old.templates messages
+    × (new ≡ carry_from old messages)
+
+-- The first of these that isn't a message accepted behind those before it has this fault.
+abbrev pub IsFirstFault : List (List ℕ) → AllTemplates → MessageError → Type 0
+IsFirstFault octets before fault =
+    (front : List Accepted) × (message : List ℕ) × (rest : List (List ℕ))
+    × (octets ≡ octets_of front ++ message ∷ rest) × AreAcceptedFrom before front
+    × IsFault message (templates_from before front) fault
+
+-- Why these octets aren't admitted behind a carry, with room for so many octets, and numbers for so many messages: the
+-- first of the refusals 1 to 10, 40, 25 that holds, or 11.
+abbrev pub IsNotAdmitted : List (List ℕ) → Carry → ℕ → ℕ → ArchiveError → Type 0
+IsNotAdmitted octets carry room positions (Message fault) = IsFirstFault octets carry.templates fault
+IsNotAdmitted octets carry room positions NoRoom =
+    ((new : Carry) × AreTaken octets carry new) × (room < octet_sum octets)
+IsNotAdmitted octets carry room positions NumbersSpent =
+    ((new : Carry) × AreTaken octets carry new) × (octet_sum octets ≤ room) × (positions < length octets)
+IsNotAdmitted octets carry room positions OutOfMemory = Unit {0}
+IsNotAdmitted octets carry room positions Fault = ⊥
+IsNotAdmitted octets carry room positions NotEmpty = ⊥
+IsNotAdmitted octets carry room positions ManifestFull = ⊥
+IsNotAdmitted octets carry room positions NothingToSeal = ⊥
+IsNotAdmitted octets carry room positions Closed = ⊥
+
+-- ---- numbers
+
+-- how many messages an archive has, rolled and kept: the number of the last one
+abbrev pub position_of : State → ℕ
+position_of s = messages_of s.manifest.entries + length s.active.messages
+
+-- so many octets more are within the limit of the active segment
+abbrev pub HasRoom : State → ℕ → Type 0
+HasRoom s octets = octet_sum s.active.messages + octets ≤ s.manifest.limit
+
+-- and so many messages within that of all
+abbrev pub HasPositions : State → ℕ → Type 0
+HasPositions s count = position_of s + count < 2 ^ 48
+
+-- a file that is staged will take a generation
+abbrev pub staged_generations : Option StagedFile → ℕ
+staged_generations None = 0
+staged_generations (Some staged) = 1
+
+abbrev pub job_generations : Option Job → ℕ
+job_generations None = 0
+job_generations (Some job) = staged_generations job.staged
+
+-- There is a number for the next file and one for the next manifest, and the one that a staged file will take.
+abbrev pub HasNumbers : State → Type 0
+HasNumbers s = (s.next + 1 < 2 ^ 64) × (s.manifest.generation + 1 + job_generations s.job < 2 ^ 64)
+
+-- ---- an append
+
+-- the messages are accepted behind those of the active segment,
+abbrev pub AreAccepted : State → List (List ℕ) → Type 0
+AreAccepted s octets = (old : Carry) × (new : Carry) × IsSegment s.active old × AreTaken octets old new
+
+-- or one of them is the first that isn't
+abbrev pub IsRefused : State → List (List ℕ) → MessageError → Type 0
+IsRefused s octets fault = (carry : Carry) × IsSegment s.active carry × IsFirstFault octets carry.templates fault
+
+-- nothing speaks against an append
+pub record MayAppend (s : State) (octets : List (List ℕ)) : Type 0 where
+  pub accepted : AreAccepted s octets
+  pub room : HasRoom s (octet_sum octets)
+  pub positions : HasPositions s (length octets)
+
+-- The position of the last message; or the first of the refusals 49, 1 to 10, 40, 25 that holds. In place of any but
+-- 49 it
+-- may be 11, in place of an Ok 30.
+abbrev pub AnswersAppend : Bool → State → List (List ℕ) → Result ℕ ArchiveError → State → Type 0
+AnswersAppend closed s octets (Ok position) after =
+    (closed ≡ false) × MayAppend s octets × (after ≡ appended s octets) × (position ≡ position_of after)
+AnswersAppend closed s octets (Err Closed) after = (closed ≡ true) × (after ≡ s)
+AnswersAppend closed s octets (Err (Message fault)) after =
+    (closed ≡ false) × IsRefused s octets fault × (after ≡ s)
+AnswersAppend closed s octets (Err NoRoom) after =
+    (closed ≡ false) × AreAccepted s octets × (HasRoom s (octet_sum octets) → ⊥) × (after ≡ s)
+AnswersAppend closed s octets (Err NumbersSpent) after =
+    (closed ≡ false) × AreAccepted s octets × HasRoom s (octet_sum octets) × (HasPositions s (length octets) → ⊥)
+    × (after ≡ s)
+AnswersAppend closed s octets (Err OutOfMemory) after = (closed ≡ false) × (after ≡ s)
+AnswersAppend closed s octets (Err Fault) after = (closed ≡ false) × MayAppend s octets × (after ≡ s)
+AnswersAppend closed s octets (Err NotEmpty) after = ⊥
+AnswersAppend closed s octets (Err ManifestFull) after = ⊥
+AnswersAppend closed s octets (Err NothingToSeal) after = ⊥
+
+-- ---- a seal
+
+-- The active segment is sealed, and a new one has the prefix that it calls for. On a disk that isn't honest the sealed
+-- file may hold anything.
+abbrev pub IsMovedOn : Bool → State → State → Type 0
+IsMovedOn honest s after =
+    (carry : Carry) × (sealed : Part) × IsSegment s.active carry × (IsTrue honest → sealed ≡ s.active)
+    × (after ≡ record (moved_on s (prefix_of carry)) { parts = s.parts ++ sealed ∷ [] })
+
+-- nothing speaks against a seal
+pub record MaySeal (s : State) : Type 0 where
+  pub some : s.active.messages ≢ []
+  pub few : length s.manifest.entries < 4096
+  pub numbers : HasNumbers s
+
+-- The sealed file's number; or the first of the refusals 49, 42, 41, 25 that holds. In place of any but 49 it may be
+-- 11,
+-- in place of an Ok 30.
+abbrev pub AnswersSeal : Bool → Bool → State → Result ℕ ArchiveError → State → Type 0
+AnswersSeal honest closed s (Ok file) after =
+    (closed ≡ false) × MaySeal s × IsMovedOn honest s after × (file ≡ (active_of s.manifest).file)
+AnswersSeal honest closed s (Err Closed) after = (closed ≡ true) × (after ≡ s)
+AnswersSeal honest closed s (Err NothingToSeal) after =
+    (closed ≡ false) × (s.active.messages ≡ []) × (after ≡ s)
+AnswersSeal honest closed s (Err ManifestFull) after =
+    (closed ≡ false) × (s.active.messages ≢ []) × (4096 ≤ length s.manifest.entries) × (after ≡ s)
+AnswersSeal honest closed s (Err NumbersSpent) after =
+    (closed ≡ false) × (s.active.messages ≢ []) × (length s.manifest.entries < 4096) × (HasNumbers s → ⊥) × (after ≡ s)
+AnswersSeal honest closed s (Err OutOfMemory) after = (closed ≡ false) × (after ≡ s)
+AnswersSeal honest closed s (Err Fault) after = (closed ≡ false) × MaySeal s × (after ≡ s)
+AnswersSeal honest closed s (Err (Message fault)) after = ⊥
+AnswersSeal honest closed s (Err NoRoom) after = ⊥
+AnswersSeal honest closed s (Err NotEmpty) after = ⊥
+
+-- ---- events
+
+-- what an accepted event makes of a state
+abbrev pub Takes : Bool → State → Event → State → Type 0
+Takes honest s (Append message) after = after ≡ appended s (message.items ∷ [])
+Takes honest s (AppendBatch messages) after = after ≡ appended s (texts messages.items)
+Takes honest s Seal after = IsMovedOn honest s after
+
+-- a number, as the answer of an event
+abbrev pub told_as : (ℕ → Answer) → Result ℕ ArchiveError → Result Answer ArchiveError
+told_as answer (Ok number) = Ok (answer number)
+told_as answer (Err e) = Err e
+
+-- Of an archive on an honest disk or not, closed or not, and in this state: this event, its answer, and the state
+-- after it.
+abbrev pub Answers : Bool → Bool → State → Event → Result Answer ArchiveError → State → Type 0
+Answers honest closed s (Append message) answer after =
+    (position : Result ℕ ArchiveError) × (answer ≡ told_as Position position)
+    × AnswersAppend closed s (message.items ∷ []) position after
+Answers honest closed s (AppendBatch messages) answer after =
+    (position : Result ℕ ArchiveError) × (answer ≡ told_as Position position)
+    × AnswersAppend closed s (texts messages.items) position after
+Answers honest closed s Seal answer after =
+    (file : Result ℕ ArchiveError) × (answer ≡ told_as Sealed file) × AnswersSeal honest closed s file after

@@ -1,0 +1,41 @@
+-- What the frozen files of an archive hold, by the entries that name them.
+use Rattle.std.specs.Prelude.{ℕ, List, [], ◌∷◌, take, drop, zero, suc}
+use Rattle.flow_gate.specs.Gate.{length_field}
+use Rattle.flow_manifest.specs.declared.manifest.Kind.{Kind}
+use Rattle.flow_manifest.specs.declared.manifest.Kind.TheVariants.{Wide, Rolled, Sealed, Active}
+use Rattle.flow_manifest.specs.declared.manifest.Entry.{Entry}
+use Rattle.flow_recover.specs.State.{Part}
+use Rattle.flow_recover.specs.Standing.{StandsAs}
+
+-- So many messages, as their Length fields tell. On a disk that isn't honest a file may hold anything, and this is
+-- what it
+-- is taken for.
+abbrev pub messages_in : ℕ → List ℕ → List (List ℕ)
+messages_in zero octets = []
+messages_in (suc count) octets = take (length_field octets 0) octets ∷ messages_in count (drop (length_field octets
+    0) octets)
+
+-- a segment is its prefix and its messages; in a rolled or wide file all counts as its front
+abbrev pub part_at : Kind → Entry → List ℕ → Part
+part_at Wide entry octets = record { front = take entry.length octets; messages = [] }
+part_at Rolled entry octets = record { front = take entry.length octets; messages = [] }
+part_at Sealed entry octets =
+    record { front = take entry.prefix octets; messages = messages_in entry.messages (drop entry.prefix octets) }
+part_at Active entry octets = record { front = []; messages = [] }
+
+-- each of these files, by the entry that names it
+abbrev pub parts_at : {S : Type 0} → (S → List ℕ) → List Entry → List S → List Part
+parts_at octets [] files = []
+parts_at octets (entry ∷ entries) [] = []
+parts_at octets (entry ∷ entries) (file ∷ files) =
+    part_at entry.kind entry (octets file) ∷ parts_at octets entries files
+
+-- the frozen files stand as their parts
+abbrev pub FrozenStand : {S : Type 0} → (S → List ℕ) → List Entry → List Part → List S → Type 0
+FrozenStand octets [] [] [] = Unit {0}
+FrozenStand octets [] [] (file ∷ files) = ⊥
+FrozenStand octets [] (part ∷ parts) files = ⊥
+FrozenStand octets (entry ∷ entries) [] files = ⊥
+FrozenStand octets (entry ∷ entries) (part ∷ parts) [] = ⊥
+FrozenStand octets (entry ∷ entries) (part ∷ parts) (file ∷ files) =
+    StandsAs entry.kind (octets file) entry part × FrozenStand octets entries parts files

@@ -1,0 +1,71 @@
+-- Lists of events.
+use Rattle.std.specs.Prelude.{◌≡◌, ℕ, ◌≤◌, Bool, true, false, List, [], ◌∷◌, length, take, drop, Result, Ok, Err}
+use Rattle.flow_disk.specs.Moments.{LeavesOnly}
+use Rattle.flow_recover.specs.State.{State, reopened}
+use Rattle.flow_recover.specs.Standing.{StandsFor}
+use Rattle.flow_archive.specs.declared.event.Answer.{Answer}
+use Rattle.flow_archive.specs.declared.event.Event.{Event}
+use Rattle.flow_archive.specs.declared.event.Event.TheVariants.{Append, AppendBatch, Seal}
+use Rattle.flow_archive.specs.declared.refusal.ArchiveError.{ArchiveError}
+use Rattle.flow_archive.specs.declared.refusal.ArchiveError.TheVariants.{Message, OutOfMemory, NumbersSpent, NotEmpty}
+use Rattle.flow_archive.specs.declared.refusal.ArchiveError.TheVariants.{Fault, NoRoom, ManifestFull, NothingToSeal}
+use Rattle.flow_archive.specs.declared.refusal.ArchiveError.TheVariants.{Closed}
+use Rattle.flow_archive.specs.Answers.{Answers, Takes}
+use Rattle.flow_archive.specs.Seen.{Seen, IsStep}
+
+-- a batch has from 1 to 64 messages
+abbrev pub IsEvent : Event → Type 0
+IsEvent (Append message) = Unit {0}
+IsEvent (AppendBatch messages) = (1 ≤ length messages.items) × (length messages.items ≤ 64)
+IsEvent Seal = Unit {0}
+
+-- What an event with this answer may have made of a state. One that met a fault of the device counts as taken: the disk
+-- may have it.
+abbrev pub Leads : State → Event → Result Answer ArchiveError → State → Type 0
+Leads s event (Ok answer) after = Takes true s event after
+Leads s event (Err Fault) after = Takes true s event after
+Leads s event (Err (Message fault)) after = after ≡ s
+Leads s event (Err OutOfMemory) after = after ≡ s
+Leads s event (Err NumbersSpent) after = after ≡ s
+Leads s event (Err NotEmpty) after = after ≡ s
+Leads s event (Err NoRoom) after = after ≡ s
+Leads s event (Err ManifestFull) after = after ≡ s
+Leads s event (Err NothingToSeal) after = after ≡ s
+Leads s event (Err Closed) after = after ≡ s
+
+-- the state after these events
+abbrev pub IsAfter : State → List Event → List (Result Answer ArchiveError) → State → Type 0
+IsAfter s [] answers after = after ≡ s
+IsAfter s (event ∷ events) [] after = after ≡ s
+IsAfter s (event ∷ events) (answer ∷ answers) after =
+    (next : State) × Leads s event answer next × IsAfter next events answers after
+
+-- these events with these answers, one step each
+abbrev pub IsRun : {D : Type 0} → (D → Bool) → (D → ℕ) → (D → ℕ → (ℕ → List ℕ) → Type 0) → Seen D → List Event
+    → List (Result Answer ArchiveError) → Seen D → Type 0
+IsRun honest moment left_since old [] [] new = new ≡ old
+IsRun honest moment left_since old [] (answer ∷ answers) new = ⊥
+IsRun honest moment left_since old (event ∷ events) [] new = ⊥
+IsRun {D} honest moment left_since old (event ∷ events) (answer ∷ answers) new =
+    (mid : Seen D) × Answers (honest old.disk) old.closed old.state event answer mid.state
+    × IsStep honest moment left_since old mid (Takes true old.state event) answer
+    × IsRun honest moment left_since mid events answers new
+
+-- the state after some front of the events
+abbrev pub StandsForSome : State → List Event → List (Result Answer ArchiveError) → (ℕ → List ℕ) → Type 0
+StandsForSome s events answers image =
+    (m : ℕ) × (m ≤ length events) × (after : State) × IsAfter s (take m events) (take m answers) after
+    × StandsFor image (reopened after)
+
+-- The archive before event i (from 0), and what a stop leaves from then on. Where it was closed by then, nothing
+-- happens
+-- any more.
+pub record IsSince {D : Type 0} (honest : D → Bool) (moment : D → ℕ) (left_since : D → ℕ → (ℕ → List ℕ) → Type 0)
+    (old new : Seen D) (events : List Event) (answers : List (Result Answer ArchiveError)) (i : ℕ) : Type 0 where
+  pub mid : Seen D
+  pub run_before : IsRun honest moment left_since old (take i events) (take i answers) mid
+  pub run_after : IsRun honest moment left_since mid (drop i events) (drop i answers) new
+  pub closed_too : mid.closed ≡ true → new ≡ mid
+  pub reached : mid.closed ≡ false → IsAfter old.state (take i events) (take i answers) mid.state
+  pub any_moment : mid.closed ≡ false → LeavesOnly moment left_since mid.disk new.disk
+      (StandsForSome mid.state (drop i events) (drop i answers))

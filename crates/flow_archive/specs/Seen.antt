@@ -1,0 +1,77 @@
+-- An archive as its callers see it, and what one call makes of it.
+use Rattle.std.specs.Prelude.{◌≡◌, ◌≢◌, ◌⊎◌, ℕ, Bool, true, false, IsTrue, List, [], length, Result, OnOk, IfErr}
+use Rattle.std.specs.Prelude.{IsErrOf, None}
+use Rattle.flow_disk.specs.Disk.{Held, Marks}
+use Rattle.flow_disk.specs.Moments.{LeavesOnly}
+use Rattle.flow_manifest.specs.declared.manifest.Entry.{Entry}
+use Rattle.flow_manifest.specs.declared.manifest.Manifest.{Manifest}
+use Rattle.flow_manifest.specs.declared.slots.Slots.{Slots}
+use Rattle.flow_manifest.specs.Following.{front_of}
+use Rattle.flow_segment.specs.Carry.{Carry}
+use Rattle.flow_recover.specs.State.{State, reopened}
+use Rattle.flow_recover.specs.Chain.{HandsOn, IsSegment}
+use Rattle.flow_recover.specs.Kept.{IsCounted, IsKept}
+use Rattle.flow_recover.specs.Standing.{StandsFor}
+use Rattle.flow_archive.specs.declared.refusal.ArchiveError.{ArchiveError}
+use Rattle.flow_archive.specs.declared.refusal.ArchiveError.TheVariants.{Fault}
+use Rattle.flow_archive.specs.Parts.{parts_at, FrozenStand}
+
+pub record Seen (D : Type 0) : Type 0 where
+  pub disk : D
+  pub state : State
+  pub closed : Bool
+
+-- ---- what an archive keeps
+
+-- with nothing under way
+abbrev pub state_in : {S : Type 0} → (S → List ℕ) → Manifest → List S → List ℕ → List (List ℕ) → State
+state_in octets m files prefix messages = record {
+  manifest = m;
+  parts = parts_at octets (front_of m) files;
+  active = record { front = prefix; messages = messages };
+  next = m.next;
+  job = None;
+  waiting = [];
+  shared = false;
+}
+
+-- while it is open
+pub record IsOpen {D S : Type 0} (honest : D → Bool) (marks : D → ℕ → Marks) (held : D → ℕ → Held)
+    (octets : S → List ℕ) (disk : D) (slots : Slots) (last : Entry) (end total : ℕ) (carry : Carry) (files : List S)
+    (s : State) : Type 0 where
+  pub kept : IsKept honest marks held disk slots last end total s
+  pub segment : IsSegment s.active carry
+  pub hands_on : IsTrue (honest disk) → HandsOn s carry
+  pub frozen : IsTrue (honest disk) → FrozenStand octets (front_of s.manifest) s.parts files
+
+-- and always
+pub record IsArchive {D S : Type 0} (honest : D → Bool) (marks : D → ℕ → Marks) (held : D → ℕ → Held)
+    (octets : S → List ℕ) (disk : D) (slots : Slots) (last : Entry) (end total : ℕ) (carry : Carry) (files : List S)
+    (s : State) (closed : Bool) : Type 0 where
+  pub counted : IsCounted s last end total
+  pub all : length files ≡ length (front_of s.manifest)
+  pub still_open : closed ≡ false → IsOpen honest marks held octets disk slots last end total carry files s
+
+-- ---- one call
+
+-- what a stop may leave: the state before the event, or one after it
+abbrev pub StandsBeforeOrAfter : State → (State → Type 0) → (ℕ → List ℕ) → Type 0
+StandsBeforeOrAfter before After image =
+    StandsFor image (reopened before) ⊎ ((after : State) × After after × StandsFor image (reopened after))
+
+-- One step of an archive, by an event that makes of its state what has `After`. In a closed one nothing happens.
+pub record IsStep {D T : Type 0} (honest : D → Bool) (moment : D → ℕ) (left_since : D → ℕ → (ℕ → List ℕ) → Type 0)
+    (old new : Seen D) (After : State → Type 0) (result : Result T ArchiveError) : Type 0 where
+  pub honest_too : honest new.disk ≡ honest old.disk
+  -- A stop at any moment since the event began leaves the state before it or the one after it.
+  pub any_moment : IsTrue (honest old.disk) → old.closed ≡ false
+      → LeavesOnly moment left_since old.disk new.disk (StandsBeforeOrAfter old.state After)
+  -- At Ok it is the one after it.
+  pub done : OnOk result ((IsTrue (honest old.disk) → After new.state) × (new.closed ≡ false) × (old.closed ≡ false))
+  -- After a fault of the device the archive is closed.
+  pub fault : IsErrOf result Fault → (new.state ≡ old.state) × (new.closed ≡ true) × (old.closed ≡ false)
+  -- While it is open, each image stands for its state.
+  pub stands : IsTrue (honest new.disk) → new.closed ≡ false → (image : ℕ → List ℕ)
+      → left_since new.disk (moment new.disk) image → StandsFor image (reopened new.state)
+  -- Every other refusal leaves all as it was.
+  pub refused : IfErr result (λ e. e ≢ Fault → new ≡ old)

@@ -1,0 +1,230 @@
+//! The archive over a disk.
+
+ghost use Rattle.std.specs.Prelude.{◌≡◌, ◌↔◌, ◌≤◌, true, false, IsTrue, [], ◌∷◌, length, IsErrOf};
+ghost use Rattle.flow_disk.specs.Disk.{AllImages};
+ghost use Rattle.flow_disk.specs.Cause.{HasRisen};
+ghost use Rattle.flow_gate.specs.Steps.{slices};
+ghost use Rattle.flow_manifest.specs.declared.manifest.Kind.TheVariants.{Rolled, Sealed};
+ghost use Rattle.flow_manifest.specs.Following.{count_of};
+ghost use Rattle.flow_recover.specs.State.{appended, reopened};
+ghost use Rattle.flow_recover.specs.Standing.{StandsFor};
+ghost use Rattle.flow_archive.specs.Answers.{AnswersAppend, AnswersSeal, HasRoom, IsMovedOn};
+ghost use Rattle.flow_archive.specs.Seen.{Seen, IsStep};
+ghost use Rattle.flow_archive.specs.declared.refusal.ArchiveError.TheVariants.{Fault};
+
+use crate::moving::move_on;
+use crate::next::next_segment;
+use crate::refusal::ArchiveError;
+use crate::taking::{admitted, put_all};
+use flow_disk::Disk;
+use flow_gate::add_batch;
+use flow_manifest::{Entry, Kind, Slots, count_of};
+use flow_segment::Carry;
+use std::alloc::Global;
+use std::marker::Model;
+
+/// The most entries of a manifest.
+const MOST_ENTRIES: usize = 4_096;
+
+/// The most messages of an archive: 2^48 - 1.
+const MOST_MESSAGES: u64 = 281_474_976_710_655;
+
+/// An archive of IPFIX messages on a disk. Each change is on the disk when it is answered, and a stop at any moment
+/// leaves it whole or not at all.
+#[derive(Drop)]
+pub struct Archive<D: Disk> {
+    disk: D,
+    slots: Slots,
+    last: Entry,
+    end: u64,
+    total: u64,
+    carry: Carry,
+    files: Vec<D::Sealed>,
+    prefix: Vec<u8>,
+    messages: Vec<Vec<u8>>,
+    closed: bool,
+}
+
+impl<D: Disk> Model for Archive<D> {
+    ghost use Rattle.flow_gate.specs.Scan.{texts};
+    ghost use Rattle.flow_archive.specs.Seen.{Seen, IsArchive, state_in};
+
+    ghost Value = { Seen D };
+
+    ghost view = { λ a. record {
+      disk = a.disk;
+      state = state_in D.Sealed.octets a.slots.current a.files.items a.prefix.items (texts a.messages.items);
+      closed = a.closed;
+    } };
+
+    ghost invariant = { λ a. IsArchive D.honest D.marks D.held D.Sealed.octets a.disk a.slots a.last a.end a.total
+        a.carry a.files.items
+        (state_in D.Sealed.octets a.slots.current a.files.items a.prefix.items (texts a.messages.items)) a.closed };
+}
+
+impl<D: Disk> Archive<D> {
+    /// Whether a fault of the device has closed it: it takes no more changes, and is to be given up and opened again.
+    pub fn is_closed(&self) -> bool
+        ensures closed { result ≡ self.now.closed }
+        // While it is open, all that a stop would leave stands for its state.
+        ensures stands { IsTrue (D.honest self.now.disk) → self.now.closed ≡ false
+            → AllImages (D.held self.now.disk) (λ image. StandsFor image (reopened self.now.state)) }
+    {
+        self.closed
+    }
+
+    /// Whether so many octets of messages more are within the limit of the active segment.
+    pub fn has_room(&self, octets: u64) -> bool
+        ensures { (result ≡ true) ↔ HasRoom self.now.state octets }
+    {
+        octets <= u64::from(self.last.prefix) + u64::from(self.slots.current.limit) - self.end
+    }
+
+    /// How many octets of messages a segment takes.
+    pub fn limit(&self) -> u32
+        ensures { result ≡ self.now.state.manifest.limit }
+    {
+        self.slots.current.limit
+    }
+
+    /// How many segments are sealed, and not rolled.
+    pub fn sealed_count(&self) -> usize
+        ensures { result ≡ count_of Sealed self.now.state.manifest.entries }
+    {
+        count_of(self.slots.current.entries.as_slice(), Kind::Sealed)
+    }
+
+    /// How many rolled files there are, without the wide ones.
+    pub fn rolled_count(&self) -> usize
+        ensures { result ≡ count_of Rolled self.now.state.manifest.entries }
+    {
+        count_of(self.slots.current.entries.as_slice(), Kind::Rolled)
+    }
+
+    /// Gives the archive up, and its disk back as it is.
+    pub fn into_disk(self) -> D
+        ensures { result ≡ self.disk }
+    {
+        self.disk
+    }
+
+    /// Adds one message, and answers its number: a batch of one.
+    pub fn append(&mut self, alloc: Global, message: &[u8]) -> Result<u64, ArchiveError>
+        ensures answers { AnswersAppend self.old.closed self.old.state (message.now ∷ []) result self.new.state }
+        ensures step { IsStep D.honest D.moment D.left_since self.old self.new
+            (λ after. after ≡ appended self.old.state (message.now ∷ [])) result }
+        ensures cause { IsErrOf result Fault → HasRisen (D.faults self.old.disk) (D.faults self.new.disk) }
+    {
+        self.append_batch(alloc, &[message])
+    }
+
+    /// Adds messages, from 1 to 64, all of them or none, and answers the number of the last one. At Ok they are on the
+    /// disk. Refusals, the first that holds: 49 Closed; 1 to 10, the first fault of the first message that isn't
+    /// accepted behind those before it; 40 NoRoom; 25 NumbersSpent; and 11 OutOfMemory, which changes nothing either.
+    /// After 30 Fault the archive is closed.
+    pub fn append_batch(&mut self, alloc: Global, messages: &[&[u8]]) -> Result<u64, ArchiveError>
+        requires some { 1 ≤ length messages.now }
+        requires few { length messages.now ≤ 64 }
+        ensures answers { AnswersAppend self.old.closed self.old.state (slices messages.now) result self.new.state }
+        ensures step { IsStep D.honest D.moment D.left_since self.old self.new
+            (λ after. after ≡ appended self.old.state (slices messages.now)) result }
+        ensures cause { IsErrOf result Fault → HasRisen (D.faults self.old.disk) (D.faults self.new.disk) }
+    {
+        if self.closed {
+            return Err(ArchiveError::Closed);
+        }
+        let Ok(()) = self.messages.reserve(messages.len()) else {
+            return Err(ArchiveError::OutOfMemory);
+        };
+        let room = u64::from(self.last.prefix) + u64::from(self.slots.current.limit) - self.end;
+        let positions = MOST_MESSAGES - self.total;
+        let batch = admitted(alloc, &self.carry, messages, room, positions)?;
+        match add_batch(&mut self.disk, self.last.file, self.end, messages) {
+            Ok(()) => {
+                put_all(&mut self.messages, batch.copies);
+                self.carry = batch.carry;
+                self.end += batch.count;
+                self.total += messages.len() as u64;
+                Ok(self.total)
+            }
+            Err(_) => {
+                self.closed = true;
+                Err(ArchiveError::Fault)
+            }
+        }
+    }
+
+    /// Makes the active segment a sealed one, begins a new one with the prefix that it calls for, and answers the
+    /// number
+    /// of the sealed file. Refusals, the first that holds: 49 Closed; 42 NothingToSeal; 41 ManifestFull; 25
+    /// NumbersSpent; and 11 OutOfMemory, which changes nothing either. After 30 Fault the archive is closed.
+    pub fn seal(&mut self, alloc: Global) -> Result<u64, ArchiveError>
+        ensures answers { AnswersSeal (D.honest self.old.disk) self.old.closed self.old.state result self.new.state }
+        ensures step { IsStep D.honest D.moment D.left_since self.old self.new
+            (λ after. IsMovedOn true self.old.state after) result }
+        ensures cause { IsErrOf result Fault → HasRisen (D.faults self.old.disk) (D.faults self.new.disk) }
+    {
+        if self.closed {
+            return Err(ArchiveError::Closed);
+        }
+        let count = self.messages.len();
+        if count == 0 {
+            return Err(ArchiveError::NothingToSeal);
+        }
+        if self.slots.current.entries.len() >= MOST_ENTRIES {
+            return Err(ArchiveError::ManifestFull);
+        }
+        let file = self.slots.current.next;
+        if self.slots.current.generation == u64::MAX || file == u64::MAX {
+            return Err(ArchiveError::NumbersSpent);
+        }
+        let Ok(next) = next_segment(
+            alloc,
+            &self.slots.current,
+            &self.carry,
+            self.end,
+            count as u64,
+        ) else {
+            return Err(ArchiveError::OutOfMemory);
+        };
+        let Ok(()) = self.files.reserve(1) else {
+            return Err(ArchiveError::OutOfMemory);
+        };
+        let slot = self.slots.current_slot.other();
+        match move_on(
+            &mut self.disk,
+            self.last.file,
+            self.end,
+            file,
+            slot.file(),
+            self.slots.other_open,
+            next.prefix.as_slice(),
+            next.body.as_slice(),
+        ) {
+            Ok(part) => {
+                let sealed = self.last.file;
+                self.files.push_reserved(part);
+                self.last = Entry {
+                    kind: Kind::Active,
+                    prefix: next.prefix.len() as u32,
+                    file,
+                    length: 0,
+                    messages: 0,
+                };
+                self.end = next.prefix.len() as u64;
+                self.prefix = next.prefix;
+                self.messages = Vec::new(alloc);
+                self.slots = Slots {
+                    current: next.manifest,
+                    current_slot: slot,
+                    other_open: true,
+                };
+                Ok(sealed)
+            }
+            Err(_) => {
+                self.closed = true;
+                Err(ArchiveError::Fault)
+            }
+        }
+    }
+}

@@ -1,0 +1,88 @@
+//! Lists of events.
+
+ghost use Rattle.std.specs.Prelude.{◌≡◌, ℕ, true, false, IsTrue, All, IfOk};
+ghost use Rattle.flow_disk.specs.Moments.{LeavesOnly};
+ghost use Rattle.flow_gate.specs.Scan.{texts};
+ghost use Rattle.flow_gate.specs.Steps.{slices};
+ghost use Rattle.flow_archive.specs.Answers.{Answers, Takes};
+ghost use Rattle.flow_archive.specs.Runs.{IsEvent, IsRun, IsSince, StandsForSome};
+ghost use Rattle.flow_archive.specs.Seen.{IsStep};
+
+use crate::archive::Archive;
+use crate::event::{Answer, Event};
+use crate::refusal::ArchiveError;
+use flow_disk::Disk;
+use std::alloc::{AllocError, Global};
+
+/// The octets of messages.
+fn slices_of<'a>(alloc: Global, messages: &'a [Vec<u8>]) -> Result<Vec<&'a [u8]>, AllocError>
+    ensures { IfOk result (λ octets. slices octets.items ≡ texts messages.now) }
+{
+    let mut octets = Vec::with_capacity(alloc, messages.len())?;
+    for message in messages {
+        octets.push_reserved(message.as_slice());
+    }
+    Ok(octets)
+}
+
+/// Takes one event.
+pub fn take_event<D: Disk>(
+    archive: &mut Archive<D>,
+    alloc: Global,
+    event: &Event,
+) -> Result<Answer, ArchiveError>
+    requires { IsEvent event.now }
+    ensures answers { Answers (D.honest archive.old.disk) archive.old.closed archive.old.state event.now result
+        archive.new.state }
+    ensures step { IsStep D.honest D.moment D.left_since archive.old archive.new
+        (Takes true archive.old.state event.now) result }
+{
+    match event {
+        Event::Append(message) => {
+            let position = archive.append_batch(alloc, &[message.as_slice()])?;
+            Ok(Answer::Position(position))
+        }
+        Event::AppendBatch(messages) => {
+            if archive.is_closed() {
+                return Err(ArchiveError::Closed);
+            }
+            let octets = slices_of(alloc, messages.as_slice())?;
+            let position = archive.append_batch(alloc, octets.as_slice())?;
+            Ok(Answer::Position(position))
+        }
+        Event::Seal => {
+            let file = archive.seal(alloc)?;
+            Ok(Answer::Sealed(file))
+        }
+    }
+}
+
+/// Takes events in order, and answers each. The room for the answers is made first; where it is refused, nothing ran.
+pub fn run<D: Disk>(
+    archive: &mut Archive<D>,
+    alloc: Global,
+    events: &[Event],
+) -> Result<Vec<Result<Answer, ArchiveError>>, AllocError>
+    requires { All IsEvent events.now }
+    ensures run { IfOk result (λ answers. IsRun D.honest D.moment D.left_since archive.old events.now answers.items
+        archive.new) }
+
+    // A stop at any moment leaves the archive after some front of the events.
+    ensures any_moment { IsTrue (D.honest archive.old.disk) → archive.old.closed ≡ false
+        → IfOk result (λ answers. LeavesOnly D.moment D.left_since archive.old.disk archive.new.disk
+        (StandsForSome archive.old.state events.now answers.items)) }
+
+    // And so from each event on.
+    ensures since { IsTrue (D.honest archive.old.disk) → archive.old.closed ≡ false
+        → IfOk result (λ answers. (i : ℕ) → IsSince D.honest D.moment D.left_since archive.old archive.new events.now
+        answers.items i) }
+{
+    // Its contract tells what all images stand for at the start.
+    let _closed = archive.is_closed();
+    let mut answers = Vec::with_capacity(alloc, events.len())?;
+    'events: for event in events {
+        let answer = take_event(archive, alloc, event);
+        answers.push_reserved(answer);
+    }
+    Ok(answers)
+}

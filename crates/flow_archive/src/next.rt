@@ -1,0 +1,54 @@
+//! What a seal writes.
+
+ghost use Rattle.std.specs.Prelude.{◌≡◌, ◌+◌, ◌<◌, ◌≤◌, ◌^◌, length, IfOk};
+ghost use Rattle.flow_manifest.specs.Manifest.{IsValidManifest, manifest_octets};
+ghost use Rattle.flow_manifest.specs.Following.{messages_of, active_of, next_manifest};
+ghost use Rattle.flow_segment.specs.Carry.{prefix_of, IsCarry};
+
+use flow_manifest::{Manifest, encode, next_manifest};
+use flow_segment::Carry;
+use std::alloc::{AllocError, Global};
+
+/// What a seal writes.
+#[derive(Drop)]
+pub(crate) struct Next {
+    /// The prefix of the next segment.
+    pub(crate) prefix: Vec<u8>,
+    /// The manifest that names it.
+    pub(crate) manifest: Manifest,
+    /// That manifest's octets.
+    pub(crate) body: Vec<u8>,
+}
+
+/// The prefix that a segment calls for that ends at `end` and has `count` messages, and the manifest after its seal.
+pub(crate) fn next_segment(
+    alloc: Global,
+    now: &Manifest,
+    carry: &Carry,
+    end: u64,
+    count: u64,
+) -> Result<Next, AllocError>
+    requires valid { IsValidManifest now.now }
+    requires generation { now.now.generation + 1 < 2 ^ 64 }
+    requires few { length now.now.entries < 4096 }
+    requires next { now.now.next + 1 < 2 ^ 64 }
+    requires some { 1 ≤ count }
+    requires long { (active_of now.now).prefix + 16 ≤ end }
+    requires within { end ≤ (active_of now.now).prefix + now.now.limit }
+    requires all { messages_of now.now.entries + count < 2 ^ 48 }
+    ensures prefix { IfOk result (λ next. next.prefix.items ≡ prefix_of carry.now) }
+    ensures carry { IsCarry carry.now }
+    ensures manifest { IfOk result (λ next. next.manifest
+        ≡ next_manifest now.now end count now.now.next (length (prefix_of carry.now))) }
+    ensures valid { IfOk result (λ next. IsValidManifest next.manifest) }
+    ensures body { IfOk result (λ next. next.body.items ≡ manifest_octets next.manifest) }
+{
+    let prefix = carry.prefix(alloc)?;
+    let manifest = next_manifest(alloc, now, end, count, now.next, prefix.len() as u32)?;
+    let body = encode(alloc, &manifest)?;
+    Ok(Next {
+        prefix,
+        manifest,
+        body,
+    })
+}

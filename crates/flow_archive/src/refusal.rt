@@ -1,0 +1,80 @@
+//! Why an archive refuses an event.
+
+ghost use Rattle.std.specs.Prelude.{◌≡◌, Some};
+ghost use Rattle.flow_archive.specs.Refusals.{archive_text, refusal_of};
+ghost use Rattle.flow_archive.specs.declared.refusal.ArchiveError.TheVariants.{OutOfMemory};
+
+use flow_codec::MessageError;
+use std::alloc::{AllocError, AllocFailed};
+use std::error::Error;
+use std::fmt;
+
+/// Why an archive refuses an event, printed as its number, its name and what it carries.
+#[derive(Clone, Copy, Debug, PartialEq, Eq)]
+pub enum ArchiveError {
+    /// The first fault of a message, 1 to 10.
+    Message(MessageError),
+    /// A growth of memory was refused.
+    OutOfMemory,
+    /// The next file, manifest or message would have a number past its limit.
+    NumbersSpent,
+    /// The disk of a new archive has files.
+    NotEmpty,
+    /// The device failed in this call.
+    Fault,
+    /// The messages would pass the limit of the active segment.
+    NoRoom,
+    /// The manifest has 4,096 entries.
+    ManifestFull,
+    /// The active segment has no messages.
+    NothingToSeal,
+    /// The device failed in an earlier call.
+    Closed,
+}
+
+impl fmt::Display for ArchiveError {
+    ghost output = { λ e. Some (archive_text e) };
+
+    fn fmt<W: fmt::Write>(&self, f: &mut fmt::Formatter<W>) -> fmt::Result {
+        match self {
+            ArchiveError::Message(fault) => write!(f, "{fault}"),
+            ArchiveError::OutOfMemory => write!(f, "11 OutOfMemory"),
+            ArchiveError::NumbersSpent => write!(f, "25 NumbersSpent"),
+            ArchiveError::NotEmpty => write!(f, "27 NotEmpty"),
+            ArchiveError::Fault => write!(f, "30 Fault"),
+            ArchiveError::NoRoom => write!(f, "40 NoRoom"),
+            ArchiveError::ManifestFull => write!(f, "41 ManifestFull"),
+            ArchiveError::NothingToSeal => write!(f, "42 NothingToSeal"),
+            ArchiveError::Closed => write!(f, "49 Closed"),
+        }
+    }
+}
+
+impl Error for ArchiveError {}
+
+impl From<AllocError> for ArchiveError {
+    ghost from_gives = { λ _ e. e ≡ OutOfMemory };
+
+    fn from(_e: AllocError) -> ArchiveError {
+        ArchiveError::OutOfMemory
+    }
+}
+
+impl<T: Drop> From<AllocFailed<T>> for ArchiveError {
+    ghost from_gives = { λ _ e. e ≡ OutOfMemory };
+
+    fn from(_e: AllocFailed<T>) -> ArchiveError {
+        ArchiveError::OutOfMemory
+    }
+}
+
+impl From<MessageError> for ArchiveError {
+    ghost from_gives = { λ fault e. e ≡ refusal_of fault };
+
+    fn from(fault: MessageError) -> ArchiveError {
+        match fault {
+            MessageError::OutOfMemory => ArchiveError::OutOfMemory,
+            fault => ArchiveError::Message(fault),
+        }
+    }
+}

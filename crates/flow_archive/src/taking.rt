@@ -1,0 +1,127 @@
+//! The messages of an append, as they are taken in.
+
+ghost use Rattle.std.specs.Prelude.{◌≡◌, ◌⊎◌, ◌+◌, ◌<◌, ◌≤◌, ◌++◌, length, OnOk, IfOk, IfErr, IfSome, IfNone, vec_len};
+ghost use Rattle.std.specs.Prelude.{vec_capacity};
+ghost use Rattle.flow_gate.specs.Gate.{octet_sum};
+ghost use Rattle.flow_gate.specs.Scan.{texts};
+ghost use Rattle.flow_gate.specs.Steps.{slices};
+ghost use Rattle.flow_codec.specs.declared.error.MessageError.{MessageError};
+ghost use Rattle.flow_archive.specs.Answers.{AreTaken, IsFirstFault, IsNotAdmitted};
+ghost use Rattle.flow_archive.specs.declared.refusal.ArchiveError.TheVariants.{Message, OutOfMemory};
+
+use crate::refusal::ArchiveError;
+use flow_codec::MessageError;
+use flow_segment::Carry;
+use std::alloc::{AllocError, Global};
+
+/// Takes in the messages of a batch, one behind the other; else answers the first fault of the first one that isn't
+/// accepted behind those before it, or `OutOfMemory`. After an `Err` some of them are taken in.
+pub(crate) fn take_all(
+    carry: &mut Carry,
+    alloc: Global,
+    messages: &[&[u8]],
+) -> Result<(), MessageError>
+    ensures taken { OnOk result (AreTaken (slices messages.now) carry.old carry.new) }
+    ensures refused { IfErr result
+        (λ e. (e ≡ MessageError.OutOfMemory) ⊎ IsFirstFault (slices messages.now) carry.old.templates e) }
+{
+    for message in messages {
+        carry.take(alloc, message)?;
+    }
+    Ok(())
+}
+
+/// What is carried behind the messages of a batch; else why the first of them that is refused is refused.
+fn carried(alloc: Global, carry: &Carry, messages: &[&[u8]]) -> Result<Carry, ArchiveError>
+    ensures taken { IfOk result (λ new. AreTaken (slices messages.now) carry.now new) }
+    ensures refused { IfErr result (λ e. (e ≡ OutOfMemory)
+        ⊎ ((fault : MessageError) × IsFirstFault (slices messages.now) carry.now.templates fault
+        × (e ≡ Message fault))) }
+{
+    let mut new = carry.try_copy()?;
+    take_all(&mut new, alloc, messages)?;
+    Ok(new)
+}
+
+/// A batch that is accepted, and within the limits.
+#[derive(Drop)]
+pub(crate) struct Batch {
+    /// What is carried behind it.
+    pub(crate) carry: Carry,
+    /// Copies of its messages.
+    pub(crate) copies: Vec<Vec<u8>>,
+    /// How many octets they have.
+    pub(crate) count: u64,
+}
+
+/// A batch behind a carry, with room for so many octets and numbers for so many messages; else the first of the
+/// refusals
+/// 1 to 10, 40, 25 that holds, or 11.
+pub(crate) fn admitted(
+    alloc: Global,
+    carry: &Carry,
+    messages: &[&[u8]],
+    room: u64,
+    positions: u64,
+) -> Result<Batch, ArchiveError>
+    ensures taken { IfOk result (λ batch. AreTaken (slices messages.now) carry.now batch.carry) }
+    ensures copies { IfOk result (λ batch. texts batch.copies.items ≡ slices messages.now) }
+    ensures count { IfOk result (λ batch. batch.count ≡ octet_sum (slices messages.now)) }
+    ensures room { IfOk result (λ batch. batch.count ≤ room) }
+    ensures positions { IfOk result (λ batch. length messages.now ≤ positions) }
+    ensures refused { IfErr result (IsNotAdmitted (slices messages.now) carry.now room positions) }
+{
+    let new = carried(alloc, carry, messages)?;
+    let Some(count) = count_within(messages, room) else {
+        return Err(ArchiveError::NoRoom);
+    };
+    if messages.len() as u64 > positions {
+        return Err(ArchiveError::NumbersSpent);
+    }
+    let copies = copies_of(alloc, messages)?;
+    Ok(Batch {
+        carry: new,
+        copies,
+        count,
+    })
+}
+
+/// How many octets messages have, if there is room for them.
+pub(crate) fn count_within(messages: &[&[u8]], room: u64) -> Option<u64>
+    ensures found { IfSome result (λ count. (count ≡ octet_sum (slices messages.now)) × (count ≤ room)) }
+    ensures none { IfNone result (room < octet_sum (slices messages.now)) }
+{
+    let mut count = 0;
+    for message in messages {
+        let more = message.len() as u64;
+        if more > room - count {
+            return None;
+        }
+        count += more;
+    }
+    Some(count)
+}
+
+/// Copies of the messages of a batch.
+pub(crate) fn copies_of(alloc: Global, messages: &[&[u8]]) -> Result<Vec<Vec<u8>>, AllocError>
+    ensures { IfOk result (λ copies. texts copies.items ≡ slices messages.now) }
+{
+    let mut copies = Vec::with_capacity(alloc, messages.len())?;
+    for message in messages {
+        let Ok(copy) = message.to_vec(alloc) else {
+            return Err(AllocError);
+        };
+        copies.push_reserved(copy);
+    }
+    Ok(copies)
+}
+
+/// Puts messages behind those kept, where there is room.
+pub(crate) fn put_all(kept: &mut Vec<Vec<u8>>, copies: Vec<Vec<u8>>)
+    requires { vec_len kept.old + vec_len copies ≤ vec_capacity kept.old }
+    ensures { texts kept.new.items ≡ texts kept.old.items ++ texts copies.items }
+{
+    for copy in copies {
+        kept.push_reserved(copy);
+    }
+}
