@@ -478,12 +478,17 @@ taken_as octets old before after due ready new time header count bare is view sa
     as_counted : (bare : Bool) (count : ℕ) (a : Accepted) → a.octets ≡ octets
         → IsAccepted octets old.templates a.message a.after → kept_as after new header.time ≡ carry_with old a
         → count ≡ length a.message.records → bare ≡ nat_eq count 0
-            → IsTakenAs bare octets old (kept_as after new header.time)
+        → IsTakenAs bare octets old (kept_as after new header.time)
     as_counted true count a own accepted with number flag =
         (a, own, accepted, with, none_left a.message.records (sym (eqb-true _ _ (sym flag)) ∙ number))
-    as_counted false count a own accepted with number flag =
-        (a, own, accepted, with, λ none. eqb-false _ _ (sym flag) (number
-            ∙ ap (λ (xs : List RawRecord). length xs) none))
+    as_counted false count a own accepted with number flag = (
+      a,
+      own,
+      accepted,
+      with,
+      λ none. eqb-false _ _ (sym flag) (number
+          ∙ ap (λ (xs : List RawRecord). length xs) none),
+    )
 
 pub was_taken : (bare : Bool) (octets : List ℕ) (old new : Carry) → IsTakenAs bare octets old new
     → IsTaken octets old new

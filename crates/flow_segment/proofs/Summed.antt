@@ -29,7 +29,7 @@ use Rattle.flow_segment.proofs.Uniqueness.{not_stopped, not_told, same_read, sam
 with_nothing : (t : Table) → with_flows [] t ≡ t
 with_nothing t =
     ap (λ (e : Table). let s : Table = record { width = t.width; sums = gathered (entries t.sums ++ entries e.sums) } in
-        s)
+    s)
     (none_summed t.width)
     ∙ ap (λ es. let s : Table = record { width = t.width; sums = gathered (entries t.sums ++ es) } in s) entries_of_none
     ∙ ap (λ es. let s : Table = record { width = t.width; sums = gathered es } in s) (append-nil (entries t.sums))
@@ -151,7 +151,7 @@ not_collected octets before number start end count from to messages e old new af
     absurd given
 not_collected octets before number start end count from to messages e old new after {X = X} (Err x) given are told =
     subst (λ (y : ScanError). AreCollected {X = X} before from to old messages (Err y) after new) (sym given)
-        (by e told)
+    (by e told)
   where
     by : (e : ScanError) → IsDamage octets before number start end count e
         → AreCollected {X = X} before from to old messages (Err e) after new

@@ -139,7 +139,7 @@ pub took_then : {S : Type 0} (holds : S → List Placed → S → Type 0) (old m
     → TookAll holds old xs mid → TookAll holds mid ys new → TookAll holds old (xs ++ ys) new
 took_then holds old mid new xs ys h k = λ start before is.
     subst (λ (t : List Placed). holds start t new) (append_assoc before xs ys)
-        (k start (before ++ xs) (h start before is))
+    (k start (before ++ xs) (h start before is))
 
 pub records_then : (messages : List Accepted) (a : Accepted)
     → records_in (messages ++ a ∷ []) ≡ records_in messages ++ under a.message.header a.message.records

@@ -194,7 +194,7 @@ module _ (s : Shelf) (h : History) (hist : IsHistory h) (is : IsViewOf s (view_o
 
   module _ (file : Rollup) (k : ℕ) (count : file.messages ≡ length (messages_in (take k s.sealed)))
       (rolled : IsRollup s.width file.octets (table_of s.width
-          (flows_in (take file.messages (drop h.cut h.all))))) where
+      (flows_in (take file.messages (drop h.cut h.all))))) where
     left : kept_of s ≡ messages_in (take k s.sealed) ++ (messages_in (drop k s.sealed) ++ s.active)
     left = ap (λ (os : List (List ℕ)). os ++ s.active) (segments_split k s.sealed)
         ∙ append_assoc (messages_in (take k s.sealed)) (messages_in (drop k s.sealed)) s.active

@@ -336,7 +336,7 @@ sealed_err {Y = Y} Has from to old flows more last before templates after final 
     by e (Err OutOfMemory) is h = tt
     by e (Err (Damaged file at)) is h =
         subst (λ (x : ScanError). AreCollected {X = Unit {0}} templates from to flows p.next.own (Err x) after more)
-            (sym is) h
+        (sym is) h
 
 -- ---- a prefix
 

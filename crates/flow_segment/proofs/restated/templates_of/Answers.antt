@@ -7,5 +7,5 @@ returns-clause-given g c = λ h all are.
     let S = g.S.SealedFile in
     let part = c.args.part.now in
     templates_given (part_octets 0 part.prefix (S.octets part.reader))
-        (S.number part.reader) all c.read_prefix.result are
+    (S.number part.reader) all c.read_prefix.result are
     (c.read_prefix.ensures.found h) (c.read_prefix.ensures.told h)

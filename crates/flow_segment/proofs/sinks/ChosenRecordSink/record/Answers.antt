@@ -24,7 +24,7 @@ returns-in_ok-push-clause-taken c = λ start taken h.
       h.1,
       chosen_more start.from start.to c.args.self.now.from c.args.self.now.to start.flows.items
           c.args.self.now.flows.items c.push.new.self.items taken x f more h.0 h.1 h.2 (sym c.takes.ensures
-              ∙ c.if-takes.true)
+          ∙ c.if-takes.true)
           c.in_ok-push.ensures.items,
     )
 

@@ -14,7 +14,7 @@ returns-in_err-collect_sealed-clause-given g c = λ honest v is.
     let inside = c.self.inside in
     let files = inside.files in
     let sums = list_all is_honest_sum (shared files.merged.items) && list_all is_honest_sum
-        (shared files.rolled.items) in
+    (shared files.rolled.items) in
     let all = honest_sealed sums (list_all (is_honest {files = g.S.SealedFile}) (shared files.sealed.items))
     (subst (λ (x : Sight). IsTrue x.honest) (sym c.self.view_is) honest) in
     let here = subst (λ (x : Sight). IsViewOf x.shelf v) (sym c.self.view_is) is in
@@ -31,7 +31,7 @@ returns-in_err-collect_active-clause-given g c = λ honest v is.
     let inside = c.self.inside in
     let files = inside.files in
     let sums = list_all is_honest_sum (shared files.merged.items) && list_all is_honest_sum
-        (shared files.rolled.items) in
+    (shared files.rolled.items) in
     let all = honest_sealed sums (list_all (is_honest {files = g.S.SealedFile}) (shared files.sealed.items))
     (subst (λ (x : Sight). IsTrue x.honest) (sym c.self.view_is) honest) in
     let here = subst (λ (x : Sight). IsViewOf x.shelf v) (sym c.self.view_is) is in
@@ -49,7 +49,7 @@ returns-clause-given g c = λ honest v is.
     let inside = c.self.inside in
     let files = inside.files in
     let sums = list_all is_honest_sum (shared files.merged.items) && list_all is_honest_sum
-        (shared files.rolled.items) in
+    (shared files.rolled.items) in
     let all = honest_sealed sums (list_all (is_honest {files = g.S.SealedFile}) (shared files.sealed.items))
     (subst (λ (x : Sight). IsTrue x.honest) (sym c.self.view_is) honest) in
     let here = subst (λ (x : Sight). IsViewOf x.shelf v) (sym c.self.view_is) is in

@@ -12,7 +12,7 @@ pub returns-in_err-templates_of-in-Some-clause-given : goal.returns-in_err-templ
 returns-in_err-templates_of-in-Some-clause-given g c = λ honest before restated.
     let files = c.self.inside.files in
     let sums = list_all is_honest_sum (shared files.merged.items) && list_all is_honest_sum
-        (shared files.rolled.items) in
+    (shared files.rolled.items) in
     let first = first_item c.deref.result.now c.in-Some.part.now c.in-Some.ensures.value in
     let right = first_templates files.sealed.items first.0 c.in-Some.part.now c.deref-in-Some.result.now sums before
     files.prefix (sym c.deref.ensures.value ∙ first.1) c.deref-in-Some.ensures
@@ -26,7 +26,7 @@ pub returns-in_ok-templates_of-in-Some-clause-given : goal.returns-in_ok-templat
 returns-in_ok-templates_of-in-Some-clause-given g c = λ honest before restated.
     let files = c.self.inside.files in
     let sums = list_all is_honest_sum (shared files.merged.items) && list_all is_honest_sum
-        (shared files.rolled.items) in
+    (shared files.rolled.items) in
     let first = first_item c.deref.result.now c.in-Some.part.now c.in-Some.ensures.value in
     let right = first_templates files.sealed.items first.0 c.in-Some.part.now c.deref-in-Some.result.now sums before
     files.prefix (sym c.deref.ensures.value ∙ first.1) c.deref-in-Some.ensures
