@@ -1,4 +1,3 @@
-pub mod Groups
 pub mod Reached
 pub mod Joining
 pub mod Holding
@@ -6,3 +5,4 @@ pub mod Printing
 pub mod Told
 pub mod Summing
 pub mod Reading
+pub mod Putting

@@ -1,7 +1,8 @@
 -- What `dump` answers of a File, and what it writes.
-use Rattle.std.specs.Prelude.{◌≡◌, ℕ, ◌+◌, ◌-◌, ◌<◌, ◌^◌, List, length, map, ⊤, Option, Some, None, Result, Ok, Err}
+use Rattle.std.specs.Prelude.{◌≡◌, ℕ, ◌+◌, ◌-◌, ◌<◌, ◌^◌, List, [], ◌∷◌, ◌++◌, length, map, take, drop, sum_by, ⊤}
+use Rattle.std.specs.Prelude.{Option, Some, None, Result, Ok, Err}
 use Rattle.std.specs.Io.KnownBytes.{Appends, Consumes, IsAtEnd}
-use Rattle.flow_codec.specs.Raw.{RawRecord, RawMessage, raw}
+use Rattle.flow_codec.specs.Raw.{RawRecord, RawMessage, Placed, raw}
 use Rattle.flow_codec.specs.Templates.{AllTemplates}
 use Rattle.flow_codec.specs.Message.{IsAccepted}
 use Rattle.flow_codec.specs.Fault.{IsFault}
@@ -10,6 +11,7 @@ use Rattle.flow_codec.specs.Stream.{Held, Progress, IsFaultNext, IsMessageNext, 
 use Rattle.flow_codec.specs.declared.stream.StreamError.TheVariants.{Read as ReadStopped}
 use Rattle.flow_codec.specs.File.{AcceptedFront, whole, broken, refused}
 use Rattle.flow_cli.specs.declared.dumping.HeldRecord.{HeldRecord}
+use Rattle.flow_cli.specs.declared.dumping.HeldRecords.{HeldRecords}
 use Rattle.flow_cli.specs.declared.dumping.HeldMessage.{HeldMessage}
 use Rattle.flow_cli.specs.declared.refusal.Refusal.{Refusal}
 use Rattle.flow_cli.specs.declared.refusal.Refusal.TheVariants.{Message, File, OutOfMemory, SumSpent, NumbersSpent}
@@ -20,13 +22,24 @@ use Rattle.flow_cli.specs.Writing.{AppendsFront}
 
 -- ---- one message
 
--- the record that is held
-abbrev pub raw_of : HeldRecord → RawRecord
-raw_of r = raw r.id r.definition.value r.octets.items
+-- the records that are held, each as many octets behind the one before as it has
+abbrev pub records_in : List HeldRecord → List ℕ → List RawRecord
+records_in [] octets = []
+records_in (r ∷ rs) octets = raw r.id r.definition (take r.len octets) ∷ records_in rs (drop r.len octets)
 
 -- the message that is held
 abbrev pub message_of : HeldMessage → RawMessage
-message_of m = record { header = m.header; records = map raw_of m.records.items }
+message_of m = record { header = m.header; records = records_in m.held.records.items m.held.octets.items }
+
+-- records that have just the octets that are held
+abbrev pub AreWhole : HeldRecords → Type 0
+AreWhole h = sum_by (λ r. r.len) h.records.items ≡ length h.octets.items
+
+-- from the first state on these records were taken
+abbrev pub HasTaken : HeldRecords → List Placed → HeldRecords → Type 0
+HasTaken old taken new = AreWhole old → AreWhole new
+    × (records_in new.records.items new.octets.items
+    ≡ records_in old.records.items old.octets.items ++ map (λ x. x.1) taken)
 
 -- The next message of a File is accepted and held, or there is none, or it is refused.
 abbrev pub IsNext : Progress → AllTemplates → Result (Option HeldMessage) Refusal → Progress → AllTemplates → Type 0

@@ -1,83 +1,74 @@
 //! The command `dump`.
 
-ghost use Rattle.std.specs.Prelude.{◌≡◌, [], None, List, map, OnOk, IfOk, IfErr, IfSome};
+ghost use Rattle.std.specs.Prelude.{◌≡◌, ◌≤◌, ◌++◌, [], None, List, drop, vec_len, OnOk, IfErr, IfSome};
 ghost use Rattle.std.specs.List.{flat_map};
 ghost use Rattle.flow_codec.specs.Fields.{fields_in};
 ghost use Rattle.flow_cli.specs.Lines.{field_text, record_line, message_text};
 ghost use Rattle.flow_cli.specs.Telling.{Tells, TellsFront, IsCutIn};
 ghost use Rattle.flow_codec.specs.Stream.{progress};
-ghost use Rattle.flow_cli.specs.Dump.{raw_of, message_of, IsNext, ReadsWithin, IsDumped, IsDumpedUntil};
+ghost use Rattle.flow_codec.specs.Raw.{raw};
+ghost use Rattle.flow_cli.specs.Dump.{records_in, message_of, IsNext, ReadsWithin, IsDumped, IsDumpedUntil};
 
+use crate::line::{end_by_field, end_by_record};
 use crate::output::{HeldText, MOST_HELD};
 use crate::refusal::Refusal;
-use crate::text::{push_field, push_message_line, push_start};
+use crate::text::{push_message_line, push_start};
 use flow_codec::{
     Definition, Header, MessageReader, RecordSink, Templates, WalkError, split_field, walk_message,
 };
 use flow_elements::ElementId;
 use std::alloc::{AllocError, Global};
-use std::collections::BTreeMap;
 use std::io::{Read, Write};
-use std::rc::Rc;
 
-/// A data record, with the definition that it stands under.
+/// The most octets of a field's text beside two for each of its value's.
+const MOST_FIELD: usize = 64;
+
+/// A data record: the definition that it stands under, and how many octets it has.
 #[derive(Drop)]
 struct HeldRecord {
     id: u16,
-    definition: Rc<Definition>,
-    octets: Vec<u8>,
+    definition: Definition,
+    len: usize,
 }
 
-/// Holds the data records of a message.
+/// Holds the data records of a message, their octets one behind the other. Its memory is kept for the next message.
 #[derive(Drop)]
 struct HeldRecords {
-    alloc: Global,
-    /// The latest definition of each ID.
-    latest: BTreeMap<u16, Rc<Definition>>,
     records: Vec<HeldRecord>,
+    octets: Vec<u8>,
 }
 
 /// An accepted message.
 #[derive(Drop)]
 struct HeldMessage {
     header: Header,
-    records: Vec<HeldRecord>,
+    held: HeldRecords,
 }
 
 impl HeldRecords {
-    fn new(alloc: Global) -> Self
-        ensures { result.records.items ≡ [] }
-    {
+    fn new(alloc: Global) -> Self {
         HeldRecords {
-            alloc,
-            latest: BTreeMap::new(alloc),
             records: Vec::new(alloc),
+            octets: Vec::new(alloc),
         }
     }
 
-    /// The definition of an ID, held once while the ID keeps it.
-    fn held(&mut self, id: u16, definition: &Definition) -> Result<Rc<Definition>, AllocError>
-        ensures value { IfOk result (λ held. held.value ≡ definition.now) }
-        ensures records { self.new.records ≡ self.old.records }
+    /// Leaves nothing held.
+    fn clear(&mut self)
+        ensures records { self.new.records.items ≡ [] }
+        ensures octets { self.new.octets.items ≡ [] }
     {
-        if let Some(held) = self.latest.get(&id) {
-            if held.is_same(definition) {
-                return held.clone();
-            }
-        }
-        let held = Rc::new(self.alloc, definition.clone()?)?;
-        self.latest.insert(id, held.clone()?)?;
-        Ok(held)
+        self.records.clear();
+        self.octets.clear();
     }
 }
 
 impl RecordSink for HeldRecords {
-    ghost use Rattle.std.specs.Prelude.{◌≡◌, ◌++◌, map};
-    ghost use Rattle.flow_cli.specs.Dump.{raw_of};
+    ghost use Rattle.flow_cli.specs.Dump.{HasTaken};
 
     type Error = AllocError;
 
-    ghost holds = { λ s taken t. map raw_of t.records.items ≡ map raw_of s.records.items ++ map (λ x. x.1) taken };
+    ghost holds = { λ s taken t. HasTaken s taken t };
 
     ghost refuses = { λ _ _ _ _. Unit {0} };
 
@@ -88,23 +79,23 @@ impl RecordSink for HeldRecords {
         definition: &Definition,
         octets: &[u8],
     ) -> Result<(), AllocError> {
-        let definition = self.held(id, definition)?;
-        let octets = Vec::from_slice(self.alloc, octets)?;
         self.records.push(HeldRecord {
             id,
-            definition,
-            octets,
+            definition: definition.clone()?,
+            len: octets.len(),
         })?;
+        self.octets.extend_from_slice(octets)?;
         Ok(())
     }
 }
 
-/// Reads the next message and accepts it whole; `None` at the File's end.
+/// Reads the next message and accepts it whole, in memory that held another; `None` at the File's end.
 fn next_message<R: Read>(
     alloc: Global,
     input: &mut R,
     reader: &mut MessageReader,
     templates: &mut Templates,
+    mut held: HeldRecords,
 ) -> Result<Option<HeldMessage>, Refusal>
     ensures next { reader.old.stopped ≡ None → IsNext (progress reader.old (R.remaining input.old)) templates.old result
         (progress reader.new (R.remaining input.new)) templates.new }
@@ -114,18 +105,45 @@ fn next_message<R: Read>(
     if !reader.advance(input)? {
         return Ok(None);
     }
-    let mut held = HeldRecords::new(alloc);
+    held.clear();
     match walk_message(templates, alloc, reader.message(), &mut held) {
-        Ok(header) => Ok(Some(HeldMessage {
-            header,
-            records: held.records,
-        })),
+        Ok(header) => Ok(Some(HeldMessage { header, held })),
         Err(WalkError::Sink(_)) => Err(Refusal::OutOfMemory),
         Err(WalkError::Message(fault)) => Err(Refusal::of_message(fault, reader.count())),
     }
 }
 
 impl HeldText {
+    /// Room for a line of so many octets.
+    fn widen(&mut self, len: usize) -> Result<(), AllocError>
+        ensures { self.new.text ≡ self.old.text }
+    {
+        if self.line.len() < len {
+            self.line.resize(len, 0)?;
+        }
+        Ok(())
+    }
+
+    /// Puts what the line holds from a place on behind the text.
+    fn push_line(&mut self, start: usize) -> Result<(), AllocError>
+        requires { start ≤ vec_len self.old.line }
+        ensures { OnOk result (self.new.text.items ≡ self.old.text.items ++ drop start self.old.line.items) }
+    {
+        self.text.extend_from_slice(&self.line[start..])
+    }
+
+    /// Puts a field of a record behind the text.
+    fn push_field(&mut self, id: ElementId, octets: &[u8]) -> Result<(), AllocError>
+        ensures { OnOk result (self.new.text.items
+            ≡ self.old.text.items ++ field_text (record { id = id; octets = octets.now })) }
+    {
+        self.widen(octets.len().saturating_mul(2).saturating_add(MOST_FIELD))?;
+        match end_by_field(&mut self.line, id, octets) {
+            Some(start) => self.push_line(start),
+            None => Err(AllocError),
+        }
+    }
+
     /// Takes a field of a record, and writes what is held where that is much.
     fn put_field<W: Write>(
         &mut self,
@@ -140,7 +158,7 @@ impl HeldText {
             (IsCutIn (W.contents output.old) self.old.text.items (W.contents output.new)
             (field_text (record { id = id; octets = octets.now }))) }
     {
-        push_field(self.alloc, &mut self.text, id, octets)?;
+        self.push_field(id, octets)?;
         if self.text.len() >= MOST_HELD {
             self.flush(output)?;
         }
@@ -170,36 +188,71 @@ impl HeldText {
         Ok(())
     }
 
-    /// Takes the line of a record.
-    fn put_record<W: Write>(&mut self, output: &mut W, held: &HeldRecord) -> Result<(), Refusal>
+    /// Takes the line of a record, field by field.
+    fn put_any_record<W: Write>(
+        &mut self,
+        output: &mut W,
+        id: u16,
+        definition: &Definition,
+        octets: &[u8],
+    ) -> Result<(), Refusal>
         ensures told { OnOk result
             (Tells (W.contents output.old) self.old.text.items (W.contents output.new) self.new.text.items
-            (record_line (raw_of held.now))) }
+            (record_line (raw id definition.now octets.now))) }
         ensures front { IfErr result
             (IsCutIn (W.contents output.old) self.old.text.items (W.contents output.new)
-            (record_line (raw_of held.now))) }
+            (record_line (raw id definition.now octets.now))) }
     {
-        push_start(&mut self.text, held.definition.options(), held.id)?;
-        self.put_fields(output, held.definition.fields(), held.octets.as_slice())?;
+        push_start(&mut self.text, definition.options(), id)?;
+        self.put_fields(output, definition.fields(), octets)?;
         self.text.push(b'\n')?;
         Ok(())
     }
 
-    /// Takes the lines of records.
+    /// Takes the line of a record: where its fields are of fixed lengths and its line isn't long, at once.
+    fn put_record<W: Write>(
+        &mut self,
+        output: &mut W,
+        id: u16,
+        definition: &Definition,
+        octets: &[u8],
+    ) -> Result<(), Refusal>
+        ensures told { OnOk result
+            (Tells (W.contents output.old) self.old.text.items (W.contents output.new) self.new.text.items
+            (record_line (raw id definition.now octets.now))) }
+        ensures front { IfErr result
+            (IsCutIn (W.contents output.old) self.old.text.items (W.contents output.new)
+            (record_line (raw id definition.now octets.now))) }
+    {
+        let Some(start) = end_by_record(&mut self.line, id, definition, octets) else {
+            return self.put_any_record(output, id, definition, octets);
+        };
+        self.push_line(start)?;
+        if self.text.len() >= MOST_HELD {
+            self.flush(output)?;
+        }
+        Ok(())
+    }
+
+    /// Takes the lines of records, whose octets stand one behind the other.
     fn put_records<W: Write>(
         &mut self,
         output: &mut W,
         records: &[HeldRecord],
+        octets: &[u8],
     ) -> Result<(), Refusal>
         ensures told { OnOk result
             (Tells (W.contents output.old) self.old.text.items (W.contents output.new) self.new.text.items
-            (flat_map record_line (map raw_of records.now))) }
+            (flat_map record_line (records_in records.now octets.now))) }
         ensures front { IfErr result
             (IsCutIn (W.contents output.old) self.old.text.items (W.contents output.new)
-            (flat_map record_line (map raw_of records.now))) }
+            (flat_map record_line (records_in records.now octets.now))) }
     {
+        let mut rest = octets;
         for record in records {
-            self.put_record(output, record)?;
+            let (own, after) = rest.split_at(record.len.min(rest.len()));
+            self.put_record(output, record.id, &record.definition, own)?;
+            rest = after;
         }
         Ok(())
     }
@@ -218,7 +271,8 @@ impl HeldText {
             (message_text (message_of message.now))) }
     {
         push_message_line(&mut self.text, &message.header)?;
-        self.put_records(output, message.records.as_slice())
+        let HeldRecords { records, octets } = &message.held;
+        self.put_records(output, records.as_slice(), octets.as_slice())
     }
 }
 
@@ -237,9 +291,13 @@ pub fn dump<R: Read, W: Write>(alloc: Global, input: &mut R, output: &mut W) -> 
     let mut reader = MessageReader::new(alloc)?;
     let mut templates = Templates::new(alloc);
     let mut lines = HeldText::new(alloc)?;
+    let mut held = HeldRecords::new(alloc);
     'messages: loop {
-        match next_message(alloc, input, &mut reader, &mut templates) {
-            Ok(Some(message)) => lines.put_message(output, &message)?,
+        match next_message(alloc, input, &mut reader, &mut templates, held) {
+            Ok(Some(message)) => {
+                lines.put_message(output, &message)?;
+                held = message.held;
+            }
             Ok(None) => {
                 lines.flush(output)?;
                 return Ok(());

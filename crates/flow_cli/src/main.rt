@@ -5,6 +5,7 @@
 #![tactic(auto)]
 
 mod dumping;
+mod line;
 mod measuring;
 mod numbers;
 mod output;

@@ -10,12 +10,15 @@ use std::io::Write;
 /// The octets of text that are held before they are written.
 pub(crate) const MOST_HELD: usize = 65_536;
 
+/// The octets of the room in which a record's line is written, until a longer field comes.
+const LINE_ROOM: usize = 8_192;
+
 /// Text that is held until there is much of it. Room for that much, and for a line of totals behind it, is taken
-/// where it is made.
+/// where it is made; so is room for one line that is written before it is held.
 #[derive(Drop)]
 pub(crate) struct HeldText {
-    pub(crate) alloc: Global,
     pub(crate) text: Vec<u8>,
+    pub(crate) line: Vec<u8>,
     patience: Patience,
 }
 
@@ -28,8 +31,8 @@ impl HeldText {
         ensures room { IfOk result (λ held. 65782 ≤ vec_capacity held.text) }
     {
         Ok(HeldText {
-            alloc,
             text: Vec::with_capacity(alloc, MOST_HELD + MOST_LINE)?,
+            line: Vec::from_elem(alloc, 0u8, LINE_ROOM)?,
             patience: Patience::new(),
         })
     }

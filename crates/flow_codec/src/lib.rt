@@ -48,6 +48,3 @@ pub use sink::{RecordSink, WalkError};
 pub use stream::{MessageReader, StreamError};
 pub use templates::{Definition, Templates};
 pub use walk::{judge_message, walk_message};
-
-#[cfg(test)]
-mod tests;

@@ -2,6 +2,7 @@
 
 ghost use Rattle.std.specs.Prelude.{◌≡◌, option_map};
 ghost use Rattle.flow_elements.specs.Elements.{type_of, name_of};
+ghost use Rattle.flow_elements.specs.Lending.{listed_of};
 
 /// An information element (RFC 7011, section 3.2).
 #[derive(Clone, Copy, Debug, PartialEq, Eq)]
@@ -40,24 +41,63 @@ pub enum ElementType {
     Other,
 }
 
+/// The name of a listed element, as in IANA's registry, and its type.
+pub fn listed_element(id: ElementId) -> Option<(&'static str, ElementType)>
+    ensures { option_map (λ e. (e.0.now, e.1)) result ≡ listed_of id }
+{
+    if id.enterprise.is_some() {
+        return None;
+    }
+    match id.number {
+        1 => Some(("octetDeltaCount", ElementType::Unsigned(Width::Eight))),
+        2 => Some(("packetDeltaCount", ElementType::Unsigned(Width::Eight))),
+        4 => Some(("protocolIdentifier", ElementType::Unsigned(Width::One))),
+        5 => Some(("ipClassOfService", ElementType::Unsigned(Width::One))),
+        7 => Some(("sourceTransportPort", ElementType::Unsigned(Width::Two))),
+        8 => Some(("sourceIPv4Address", ElementType::Address4)),
+        10 => Some(("ingressInterface", ElementType::Unsigned(Width::Four))),
+        11 => Some((
+            "destinationTransportPort",
+            ElementType::Unsigned(Width::Two),
+        )),
+        12 => Some(("destinationIPv4Address", ElementType::Address4)),
+        14 => Some(("egressInterface", ElementType::Unsigned(Width::Four))),
+        16 => Some(("bgpSourceAsNumber", ElementType::Unsigned(Width::Four))),
+        17 => Some(("bgpDestinationAsNumber", ElementType::Unsigned(Width::Four))),
+        27 => Some(("sourceIPv6Address", ElementType::Address6)),
+        28 => Some(("destinationIPv6Address", ElementType::Address6)),
+        56 => Some(("sourceMacAddress", ElementType::Mac)),
+        58 => Some(("vlanId", ElementType::Unsigned(Width::Two))),
+        60 => Some(("ipVersion", ElementType::Unsigned(Width::One))),
+        80 => Some(("destinationMacAddress", ElementType::Mac)),
+        85 => Some(("octetTotalCount", ElementType::Unsigned(Width::Eight))),
+        86 => Some(("packetTotalCount", ElementType::Unsigned(Width::Eight))),
+        136 => Some(("flowEndReason", ElementType::Unsigned(Width::One))),
+        144 => Some(("exportingProcessId", ElementType::Unsigned(Width::Four))),
+        145 => Some(("templateId", ElementType::Unsigned(Width::Two))),
+        148 => Some(("flowId", ElementType::Unsigned(Width::Eight))),
+        149 => Some(("observationDomainId", ElementType::Unsigned(Width::Four))),
+        150 => Some(("flowStartSeconds", ElementType::Seconds)),
+        151 => Some(("flowEndSeconds", ElementType::Seconds)),
+        152 => Some(("flowStartMilliseconds", ElementType::Milliseconds)),
+        153 => Some(("flowEndMilliseconds", ElementType::Milliseconds)),
+        210 => Some(("paddingOctets", ElementType::Other)),
+        376 => Some((
+            "originalFlowsInitiated",
+            ElementType::Unsigned(Width::Eight),
+        )),
+        384 => Some(("valueDistributionMethod", ElementType::Unsigned(Width::One))),
+        _ => None,
+    }
+}
+
 /// The type of an element: of RFC 7012 for those listed, else `Other`.
 pub fn element_type(id: ElementId) -> ElementType
     ensures { result ≡ type_of id }
 {
-    if id.enterprise.is_some() {
-        return ElementType::Other;
-    }
-    match id.number {
-        1 | 2 | 85 | 86 | 148 | 376 => ElementType::Unsigned(Width::Eight),
-        10 | 14 | 16 | 17 | 144 | 149 => ElementType::Unsigned(Width::Four),
-        7 | 11 | 58 | 145 => ElementType::Unsigned(Width::Two),
-        4 | 5 | 60 | 136 | 384 => ElementType::Unsigned(Width::One),
-        8 | 12 => ElementType::Address4,
-        27 | 28 => ElementType::Address6,
-        56 | 80 => ElementType::Mac,
-        150 | 151 => ElementType::Seconds,
-        152 | 153 => ElementType::Milliseconds,
-        _ => ElementType::Other,
+    match listed_element(id) {
+        Some((_, kind)) => kind,
+        None => ElementType::Other,
     }
 }
 
@@ -65,42 +105,8 @@ pub fn element_type(id: ElementId) -> ElementType
 pub fn element_name(id: ElementId) -> Option<&'static str>
     ensures { option_map (λ name. name.now) result ≡ name_of id }
 {
-    if id.enterprise.is_some() {
-        return None;
-    }
-    match id.number {
-        1 => Some("octetDeltaCount"),
-        2 => Some("packetDeltaCount"),
-        4 => Some("protocolIdentifier"),
-        5 => Some("ipClassOfService"),
-        7 => Some("sourceTransportPort"),
-        8 => Some("sourceIPv4Address"),
-        10 => Some("ingressInterface"),
-        11 => Some("destinationTransportPort"),
-        12 => Some("destinationIPv4Address"),
-        14 => Some("egressInterface"),
-        16 => Some("bgpSourceAsNumber"),
-        17 => Some("bgpDestinationAsNumber"),
-        27 => Some("sourceIPv6Address"),
-        28 => Some("destinationIPv6Address"),
-        56 => Some("sourceMacAddress"),
-        58 => Some("vlanId"),
-        60 => Some("ipVersion"),
-        80 => Some("destinationMacAddress"),
-        85 => Some("octetTotalCount"),
-        86 => Some("packetTotalCount"),
-        136 => Some("flowEndReason"),
-        144 => Some("exportingProcessId"),
-        145 => Some("templateId"),
-        148 => Some("flowId"),
-        149 => Some("observationDomainId"),
-        150 => Some("flowStartSeconds"),
-        151 => Some("flowEndSeconds"),
-        152 => Some("flowStartMilliseconds"),
-        153 => Some("flowEndMilliseconds"),
-        210 => Some("paddingOctets"),
-        376 => Some("originalFlowsInitiated"),
-        384 => Some("valueDistributionMethod"),
-        _ => None,
+    match listed_element(id) {
+        Some((name, _)) => Some(name),
+        None => None,
     }
 }

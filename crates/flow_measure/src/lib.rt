@@ -24,6 +24,3 @@ pub use flow::{Flow, interval_of};
 pub use rows::{Key, Row, Rows, Sums};
 pub use sinks::{Flows, Totals};
 pub use walk::InOrder;
-
-#[cfg(test)]
-mod tests;

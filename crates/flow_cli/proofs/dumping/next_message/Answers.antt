@@ -6,15 +6,14 @@ use Rattle.flow_cli.proofs.dumping.next_message.Goals as goal
 pub returns-in-Ok-clause-next : goal.returns-in-Ok-clause-next
 returns-in-Ok-clause-next g c = λ fresh.
     let walked = c.in-Ok.ensures.found in
-    let all = held_are c.in-Ok.header walked.0 c.new-held.result.records.items c.walk_message.new.sink.records.items
-    c.new-held.ensures (walked.2 c.new-held.result) in
+    let all = held_are c.in-Ok.header walked.0 c.clear.new.self c.walk_message.new.sink c.clear.ensures.records
+    c.clear.ensures.octets (walked.2 c.clear.new.self) in
     accepted_next (progress c.args.reader.now (g.R.Read.remaining c.args.input.now))
     (progress c.advance.new.self (g.R.Read.remaining c.advance.new.input)) c.args.templates.now
     c.walk_message.new.templates c.in-Ok.header
     walked.0 c.message.result.now (record {
       header = c.in-Ok.header;
-      records =
-          c.walk_message.new.sink.records;
+      held = c.walk_message.new.sink;
     }) c.in_ok-advance.field-0 c.in_ok-advance.ensures.step c.if-not-branch.false
     c.message.ensures.value refl all walked.1
 

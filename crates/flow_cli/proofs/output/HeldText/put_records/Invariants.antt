@@ -6,5 +6,5 @@ use Rattle.flow_cli.proofs.output.HeldText.put_records.Given as goal
 abbrev pub invariant-loop-record : goal.invariant-loop-record
 invariant-loop-record g l =
     IsTelling (g.W.Write.contents l.initial.output) l.initial.self.text.items
-    (g.W.Write.contents l.output) l.self.text.items (records_text l.records)
-    (records_text (drop l.record-index l.records))
+    (g.W.Write.contents l.output) l.self.text.items (records_text l.records l.octets)
+    (records_text (drop l.record-index l.records) l.rest)

@@ -1,4 +1,8 @@
-use super::*;
+//! Values of the listed elements, worked out by hand.
+
+use flow_elements::{
+    ElementId, ElementType, Items, Value, Width, element_name, element_type, read_value,
+};
 use std::test::*;
 
 fn listed(number: u16) -> ElementId {

@@ -1,6 +1,9 @@
 //! Messages whose reading was worked out by hand, octet by octet.
 
-use super::*;
+use flow_codec::{
+    Count, Definition, Header, Message, MessageError, Templates, WalkError, judge_message,
+    read_message, split_field, walk_message,
+};
 use std::alloc::AllocError;
 use std::fmt::Write;
 use std::ops::Range;

@@ -1,8 +1,10 @@
-use super::*;
+//! Flows and their sums, worked out by hand.
+
 use flow_codec::{
     DataRecord, Field, Header, Message, MessageError, Templates, WalkError, walk_message,
 };
 use flow_elements::{ElementId, Items};
+use flow_measure::{Flow, Flows, Key, Row, Rows, SumError, Sums, Totals, flows_of_message};
 use std::test::*;
 
 fn flow(start: u32, protocol: Option<u8>) -> Flow {

@@ -1,0 +1,9 @@
+use Rattle.std.proofs.Common.{length}
+use Rattle.flow_cli.proofs.Putting.{IsPutting}
+use Rattle.flow_cli.proofs.line.put_fields.Given as goal
+
+abbrev pub invariant-fields : goal.invariant-fields
+invariant-fields l = IsPutting l.initial.line l.at l.line l.start l.specifiers l.left l.octets l.rest
+
+abbrev pub decreases-fields : goal.decreases-fields
+decreases-fields l = length l.left
