@@ -6,3 +6,7 @@ pub mod Sharing
 pub mod PartMessages
 pub mod KeptFlows
 pub mod Asking
+pub mod Places
+pub mod Adding
+pub mod BothRows
+pub mod Totalling

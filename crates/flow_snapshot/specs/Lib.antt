@@ -6,3 +6,4 @@ pub mod Files
 pub mod Steps
 pub mod Directories
 pub mod Told
+pub mod Totals

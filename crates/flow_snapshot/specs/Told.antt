@@ -1,5 +1,6 @@
 -- What queries answer, and how refusals are told.
-use Rattle.std.specs.Prelude.{⊤, ℕ, ◌++◌, List, codes, Result, Ok, Err}
+use Rattle.std.specs.Prelude.{⊤, ℕ, ◌++◌, List, Vec, Option, Some, None, codes, Result, Ok, Err}
+use Rattle.std.specs.declared.alloc.Global.{Global}
 use Rattle.std.specs.Fmt.{decimal}
 use Rattle.flow_gate.specs.declared.tail.ScanError.{ScanError}
 use Rattle.flow_gate.specs.declared.tail.ScanError.TheVariants as scan
@@ -28,3 +29,13 @@ IsNoDamage OutOfMemory = ⊤
 abbrev pub IsAnswered : {X : Type 0} → (X → Type 0) → Result X QueryError → Type 0
 IsAnswered right (Ok x) = right x
 IsAnswered right (Err e) = IsNoDamage e
+
+-- What is read is right, unless a read fails or memory runs out: damage is never told.
+abbrev pub IsFound : {X : Type 0} → (X → Type 0) → Result X ScanError → Type 0
+IsFound right (Ok x) = right x
+IsFound right (Err e) = IsNoDamage (told_of_scan e)
+
+-- the octets of a message, if it is there
+abbrev pub octets_in : Option (Vec ℕ Global) → Option (List ℕ)
+octets_in None = None
+octets_in (Some message) = Some message.items

@@ -44,7 +44,7 @@ fn take_in(alloc: Global, templates: &mut Templates, octets: &[u8]) -> Result<()
 }
 
 /// Hands the data records of a message in memory to a sink.
-fn hand_over<R: RecordSink<Error = AllocError>>(
+pub(crate) fn hand_over<R: RecordSink<Error = AllocError>>(
     alloc: Global,
     templates: &mut Templates,
     octets: &[u8],

@@ -3,18 +3,22 @@
 //! Promised to the layers above: a shelf has one view at most, and each change that may be made takes the view of a
 //! history to that of the history after it. A `Directory` takes steps whole or not at all, and a copy shares every file
 //! with it; a `Snapshot` never changes, and takes no memory to be made. Its position and cuts are those of its shelf;
-//! the flows that it answers are, on honest disks, those of each view of its files, so that damage is told only where
-//! there is none, and 30 only where a read failed in that call.
+//! the messages, the flows and the totals that it answers are, on honest disks, those of each view of its files. So
+//! damage is told only where there is none, or where a sum of the view would pass its type, which no sum of a history
+//! within the limits does; and 30 only where a read failed in that call.
 #![tactic(auto)]
 
 mod counting;
 mod directory;
 mod error;
 mod files;
+mod interleaving;
 mod kept;
 mod laws;
+mod numbered;
 mod snapshot;
 mod step;
+mod summing;
 
 pub use directory::Directory;
 pub use error::QueryError;

@@ -1,22 +1,30 @@
 //! A snapshot, and what is asked of it.
 
-ghost use Rattle.std.specs.Prelude.{◌≡◌, ◌<◌, min, IsTrue};
+ghost use Rattle.std.specs.Prelude.{◌≡◌, ◌<◌, ℕ, min, IsTrue, List};
 ghost use Rattle.flow_codec.specs.Templates.{AllTemplates};
 ghost use Rattle.flow_disk.specs.Cause.{HasCause};
-ghost use Rattle.flow_measure.specs.Query.{flows_in_view};
-ghost use Rattle.flow_measure.specs.View.{View};
+ghost use Rattle.flow_measure.specs.History.{flows_in, History, IsHistory};
+ghost use Rattle.flow_measure.specs.Query.{flows_in_view, message_in_view, narrow_table_in, totals_between};
+ghost use Rattle.flow_measure.specs.Query.{totals_in_view};
+ghost use Rattle.flow_measure.specs.Sums.{AllFit};
+ghost use Rattle.flow_measure.specs.View.{view_of, AreCountsOf, View};
+ghost use Rattle.flow_segment.specs.PartFlows.{with_flows};
 ghost use Rattle.flow_snapshot.specs.Directories.{sight_of};
 ghost use Rattle.flow_snapshot.specs.Shelf.{cut_of, position_of, second_of};
-ghost use Rattle.flow_snapshot.specs.Told.{IsAnswered};
+ghost use Rattle.flow_snapshot.specs.Told.{octets_in, IsAnswered};
+ghost use Rattle.flow_snapshot.specs.Totals.{first_file, wide_table_in, IsMade, IsWithinLimits, SumsFit};
 ghost use Rattle.flow_snapshot.specs.Views.{AreRestated, IsViewOf};
 
 use crate::counting::{rolled_count, sealed_count};
 use crate::error::QueryError;
 use crate::files::Files;
+use crate::interleaving::rows_of_both;
 use crate::kept::{collect_active, collect_sealed, restated};
+use crate::numbered::sealed_message;
+use crate::summing::{add_active, add_rolled, add_sealed};
 use flow_codec::Templates;
 use flow_disk::{Faults, SealedFile};
-use flow_measure::Flow;
+use flow_measure::{Flow, Row, Rows};
 use flow_segment::templates_of;
 use std::alloc::Global;
 use std::marker::Model;
@@ -115,5 +123,157 @@ impl<S: SealedFile> Snapshot<S> {
         let active = self.files.active.as_slice();
         collect_active(alloc, active, &mut templates, from, to, &mut flows)?;
         Ok(flows)
+    }
+
+    /// The octets of the message with this number, if it is kept: where it is above `cut` and not above `position`. It
+    /// is found by the segments' counts and, in its own, by Lengths; no records are walked.
+    ///
+    /// Where a file isn't what its archive wrote, it answers `Damaged`, with the file and the place; `Fault` exactly
+    /// where a read has raised `faults`; and `OutOfMemory`.
+    pub fn message(
+        &self,
+        alloc: Global,
+        n: u64,
+        faults: &mut Faults<S>,
+    ) -> Result<Option<Vec<u8>>, QueryError>
+        ensures cause { HasCause QueryError.Fault faults.old faults.new result }
+        // On honest disks: what is answered by each view of the files; damage is told where there is none alone.
+        ensures given { IsTrue self.now.honest → (v : View) → IsViewOf self.now.shelf v
+            → IsAnswered (λ message. octets_in message ≡ message_in_view n v) result }
+    {
+        let cut = self.cut();
+        if n <= cut {
+            return Ok(None);
+        }
+        let place = n - cut - 1;
+        let sealed = self.files.sealed.as_slice();
+        let count = sealed_count(sealed);
+        if place < count {
+            return Ok(sealed_message(alloc, sealed, place, faults)?);
+        }
+        match self.files.active.get((place - count) as usize) {
+            Some(message) => Ok(Some(Vec::from_slice(alloc, message.as_slice())?)),
+            None => Ok(None),
+        }
+    }
+
+    /// The file of the first part: of a wide one, else of a rolled one, else of a sealed segment; 0 where there is
+    /// none.
+    fn first_file(&self) -> u64
+        ensures { result ≡ first_file self.now.shelf }
+    {
+        if let Some(part) = self.files.merged.first() {
+            return part.file();
+        }
+        if let Some(part) = self.files.rolled.first() {
+            return part.file();
+        }
+        match self.files.sealed.first() {
+            Some(part) => part.reader.file(),
+            None => 0,
+        }
+    }
+
+    /// Adds the flows of all kept messages.
+    fn add_kept(
+        &self,
+        alloc: Global,
+        rows: &mut Rows,
+        first: u64,
+        faults: &mut Faults<S>,
+    ) -> Result<(), QueryError>
+        ensures cause { HasCause QueryError.Fault faults.old faults.new result }
+        ensures given { IsTrue self.now.honest → (v : View) → IsViewOf self.now.shelf v
+            → IsMade first (AllFit (with_flows (flows_in v.kept) rows.old))
+            (λ _. rows.new ≡ with_flows (flows_in v.kept) rows.old) result }
+    {
+        let mut templates = self.templates(alloc, faults)?;
+        let sealed = self.files.sealed.as_slice();
+        add_sealed(alloc, sealed, &mut templates, rows, first, faults)?;
+        let active = self.files.active.as_slice();
+        add_active(alloc, active, &mut templates, rows, first)
+    }
+
+    /// The sums, by the width, of all flows that aren't summed over wide intervals: of rolled files, and of kept
+    /// messages.
+    fn narrow_rows(
+        &self,
+        alloc: Global,
+        first: u64,
+        faults: &mut Faults<S>,
+    ) -> Result<Rows, QueryError>
+        ensures cause { HasCause QueryError.Fault faults.old faults.new result }
+        ensures given { IsTrue self.now.honest → (v : View) → IsViewOf self.now.shelf v
+            → IsMade first (AllFit (narrow_table_in v)) (λ rows. rows ≡ narrow_table_in v) result }
+    {
+        let mut rows = Rows::new(alloc, self.width);
+        let rolled = self.files.rolled.as_slice();
+        add_rolled(alloc, rolled, &mut rows, first, faults)?;
+        self.add_kept(alloc, &mut rows, first, faults)?;
+        Ok(rows)
+    }
+
+    /// The sums over wide intervals.
+    fn wide_rows(
+        &self,
+        alloc: Global,
+        first: u64,
+        faults: &mut Faults<S>,
+    ) -> Result<Rows, QueryError>
+        ensures cause { HasCause QueryError.Fault faults.old faults.new result }
+        ensures given { IsTrue self.now.honest → (v : View) → IsViewOf self.now.shelf v
+            → IsMade first (AllFit (wide_table_in v)) (λ rows. rows ≡ wide_table_in v) result }
+    {
+        let mut rows = Rows::new(alloc, self.wide);
+        let merged = self.files.merged.as_slice();
+        add_rolled(alloc, merged, &mut rows, first, faults)?;
+        Ok(rows)
+    }
+
+    /// What `totals` answers.
+    fn rows_between(
+        &self,
+        alloc: Global,
+        from: u64,
+        to: u64,
+        faults: &mut Faults<S>,
+    ) -> Result<Vec<Row>, QueryError>
+        ensures cause { HasCause QueryError.Fault faults.old faults.new result }
+        ensures given { IsTrue self.now.honest → (v : View) → IsViewOf self.now.shelf v
+            → IsMade (first_file self.now.shelf) (SumsFit v) (λ rows. rows.items ≡ totals_in_view from to v) result }
+    {
+        let first = self.first_file();
+        let narrow = self.narrow_rows(alloc, first, faults)?;
+        let wide = self.wide_rows(alloc, first, faults)?;
+        rows_of_both(alloc, from, to, narrow, &wide, first)
+    }
+
+    /// The sums of all flows by interval, domain and protocol, of those intervals that start from `from` on and before
+    /// `to`, both in seconds since 1970-01-01 00:00 UTC, in the order of their keys: over wide intervals of messages up
+    /// to `second_cut`, over intervals of the width of those behind it. Of two rows of one key the narrow one comes
+    /// first; where both widths are one, they are one row. Each rolled file is read once, and each kept message once, a
+    /// piece at a time.
+    ///
+    /// Where a file isn't what its archive wrote, it answers `Damaged`, with the file and the place, and where a sum
+    /// would pass its type, with the first part's file and 0; `Fault` exactly where a read has raised `faults`; and
+    /// `OutOfMemory`.
+    pub fn totals(
+        &self,
+        alloc: Global,
+        from: u64,
+        to: u64,
+        faults: &mut Faults<S>,
+    ) -> Result<Vec<Row>, QueryError>
+        ensures cause { HasCause QueryError.Fault faults.old faults.new result }
+        // On honest disks: what is answered by each view of the files; where its sums fit their types no damage is
+        // told.
+        ensures given { IsTrue self.now.honest → (v : View) → IsViewOf self.now.shelf v
+            → IsMade (first_file self.now.shelf) (SumsFit v) (λ rows. rows.items ≡ totals_in_view from to v) result }
+        // Where the view is that of a history within the limits: its totals, and never damage.
+        ensures answered { IsTrue self.now.honest → (h : History) (counts : List ℕ) → IsHistory h → AreCountsOf h counts
+            → IsWithinLimits h → IsViewOf self.now.shelf (view_of h counts)
+            → IsAnswered (λ rows. rows.items ≡ totals_between from to h) result }
+    {
+        self.rows_between(alloc, from, to, faults)
     }
 }

@@ -1,0 +1,44 @@
+use Rattle.std.proofs.Common.{◌<◌, ◌≤◌, subst, sym, ◌∙◌, arith}
+use Rattle.flow_snapshot.proofs.Places.{found_err, is_own_honest, own_fill, own_place, passed_by}
+use Rattle.flow_snapshot.proofs.numbered.sealed_message.Goals as goal
+
+pub returns-in_err-message_behind-clause-given : goal.returns-in_err-message_behind-clause-given
+returns-in_err-message_behind-clause-given g c = λ honest each.
+    let parts = c.args.parts.now in
+    let i = c.loop-part.part-index in
+    let item = c.part-item.result in
+    let part = c.deref-then-left-deref.result.now in
+    let same = c.deref-then-left-deref.ensures in
+    let own : c.loop-part.left < part.messages = subst (λ p. c.loop-part.left < p.messages)
+    (c.deref.ensures ∙ sym same) c.if-left-deref.true in
+    let fill = own_fill parts i item part c.loop-part-test.true c.part-item.is same each (omega (arith, own)) in
+    found_err _ c.from_residual.result c.in_err-message_behind.field-0.0 c.from_residual.ensures.1
+    (c.in_err-message_behind.ensures.given
+    (is_own_honest parts i item part c.loop-part-test.true c.part-item.is same honest) _ fill own)
+
+pub returns-then-left-deref-clause-given : goal.returns-then-left-deref-clause-given
+returns-then-left-deref-clause-given g c = λ honest each.
+    let parts = c.args.parts.now in
+    let i = c.loop-part.part-index in
+    let item = c.part-item.result in
+    let part = c.deref-then-left-deref.result.now in
+    let same = c.deref-then-left-deref.ensures in
+    let own : c.loop-part.left < part.messages = subst (λ p. c.loop-part.left < p.messages)
+    (c.deref.ensures ∙ sym same) c.if-left-deref.true in
+    let fill = own_fill parts i item part c.loop-part-test.true c.part-item.is same each (omega (arith, own)) in
+    c.in_ok-message_behind.ensures.given
+    (is_own_honest parts i item part c.loop-part-test.true c.part-item.is same honest) _ fill own
+    ∙ own_place parts i item part c.loop-part-test.true c.part-item.is same c.loop-part.left own
+    ∙ c.loop-part.invariant.there
+
+pub loop-part-preserved : goal.loop-part-preserved
+loop-part-preserved g c =
+    let part = c.deref-in-loop-part.result.now in
+    let same = c.deref-in-loop-part.ensures in
+    let past : part.messages ≤ c.loop-part.left = subst (λ p. p.messages ≤ c.loop-part.left)
+    (c.deref.ensures ∙ sym same) c.if-left-deref.false in
+    record {
+      faults = c.loop-part.invariant.faults;
+      there = passed_by c.args.parts.now c.loop-part.part-index c.part-item.result part c.loop-part-test.true
+          c.part-item.is same c.loop-part.left past ∙ c.loop-part.invariant.there;
+    }

@@ -1,0 +1,48 @@
+use Rattle.std.proofs.Common.{subst, sym, ap, ◌∙◌}
+use Rattle.std.specs.Prelude.{IsTrue, ◌&&◌}
+use Rattle.std.specs.List.{list_all}
+use Rattle.flow_measure.specs.Sums.{AllFit, Table}
+use Rattle.flow_snapshot.specs.Directories.{sight_of}
+use Rattle.flow_snapshot.specs.Files.{is_honest, is_honest_sum, shared}
+use Rattle.flow_snapshot.specs.Sight.{Sight}
+use Rattle.flow_snapshot.specs.Totals.{wide_table_in, with_maps}
+use Rattle.flow_snapshot.specs.Views.{AreRolled, IsViewOf}
+use Rattle.flow_snapshot.proofs.Adding.{made_err}
+use Rattle.flow_snapshot.proofs.Sharing.{first_of_two}
+use Rattle.flow_snapshot.proofs.Totalling.{wide_is}
+use Rattle.flow_snapshot.proofs.snapshot.Snapshot.wide_rows.Goals as goal
+
+pub returns-in_err-add_rolled-clause-given : goal.returns-in_err-add_rolled-clause-given
+returns-in_err-add_rolled-clause-given g c = λ honest v is.
+    let inside = c.self.inside in
+    let files = inside.files in
+    let s = (sight_of inside.width inside.wide files).shelf in
+    let here = subst (λ (x : Sight). IsViewOf x.shelf v) (sym c.self.view_is) is in
+    let merged = list_all is_honest_sum (shared files.merged.items) in
+    let rolled = list_all is_honest_sum (shared files.rolled.items) in
+    let sealed = list_all (is_honest {files = g.S.SealedFile}) (shared files.sealed.items) in
+    let sums = first_of_two merged rolled (first_of_two (merged && rolled) sealed
+    (subst (λ (x : Sight). IsTrue x.honest) (sym c.self.view_is) honest)) in
+    let start = c.new-rows.result in
+    let are = subst (λ w. AreRolled w s.merged here.merged.0) (sym (ap (λ (t : Table). t.width) c.new-rows.ensures))
+    here.merged.1 in
+    let given = rw c.as_slice-merged.ensures.value at c.in_err-add_rolled.ensures.given in
+    made_err _ c.args.first (AllFit (with_maps here.merged.0 start)) (AllFit (wide_table_in v)) c.from_residual.result
+    c.in_err-add_rolled.field-0.0 (λ fit. subst AllFit (sym (wide_is s v here start c.new-rows.ensures)) fit)
+    c.from_residual.ensures.1 (given sums here.merged.0 are)
+
+pub returns-clause-given : goal.returns-clause-given
+returns-clause-given g c = λ honest v is.
+    let inside = c.self.inside in
+    let files = inside.files in
+    let s = (sight_of inside.width inside.wide files).shelf in
+    let here = subst (λ (x : Sight). IsViewOf x.shelf v) (sym c.self.view_is) is in
+    let merged = list_all is_honest_sum (shared files.merged.items) in
+    let rolled = list_all is_honest_sum (shared files.rolled.items) in
+    let sealed = list_all (is_honest {files = g.S.SealedFile}) (shared files.sealed.items) in
+    let sums = first_of_two merged rolled (first_of_two (merged && rolled) sealed
+    (subst (λ (x : Sight). IsTrue x.honest) (sym c.self.view_is) honest)) in
+    let are = subst (λ w. AreRolled w s.merged here.merged.0) (sym (ap (λ (t : Table). t.width) c.new-rows.ensures))
+    here.merged.1 in
+    let given = rw c.as_slice-merged.ensures.value at c.in_ok-add_rolled.ensures.given in
+    given sums here.merged.0 are ∙ wide_is s v here c.new-rows.result c.new-rows.ensures

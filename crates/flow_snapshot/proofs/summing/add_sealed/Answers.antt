@@ -1,0 +1,77 @@
+use Rattle.std.proofs.Common.{◌<◌, [], ap, refl, subst, sym, ◌∙◌, map, arith}
+use Rattle.std.proofs.lemmas.List.{drop_all}
+use Rattle.flow_snapshot.specs.Files.{segment_of, shared}
+use Rattle.flow_snapshot.specs.Shelf.{messages_in}
+use Rattle.flow_snapshot.proofs.KeptFlows.{next_part, skipped_part, taken_all}
+use Rattle.flow_snapshot.proofs.Adding.{sums_err, sums_step, with_nothing, HasSums}
+use Rattle.flow_snapshot.proofs.summing.add_sealed.Goals.{then-deref-gt0+in_ok-add_part, else-deref-gt0}
+use Rattle.flow_snapshot.proofs.summing.add_sealed.Goals as goal
+
+pub loop-part-preserved : goal.loop-part-preserved
+loop-part-preserved g c =
+    let before = c.args.templates.now in
+    let so_far = HasSums c.args.rows.now c.loop-part.rows in
+    let parts = c.args.parts.now in
+    let i = c.loop-part.part-index in
+    elim c.if-deref-gt0.branch [
+      | then-deref-gt0+in_ok-add_part w ↦
+          let part = w.deref-then-deref-gt0.result.now in
+          let some : 0 < part.messages = subst (λ p. 0 < p.messages)
+          (c.deref.ensures ∙ sym w.deref-then-deref-gt0.ensures) w.if-deref-gt0.true in
+          record {
+            faults = w.faults-is ∙ w.in_ok-add_part.ensures.cause.done ∙ c.loop-part.invariant.faults;
+            taken = λ honest messages accepted octets.
+                let next = next_part so_far before messages c.loop-part.templates parts i c.part-item.result part
+                c.loop-part-test.true c.part-item.is w.deref-then-deref-gt0.ensures honest accepted
+                (c.loop-part.invariant.taken honest messages accepted octets) in
+                rw (w.templates-is, w.rows-is) (sums_step c.args.rows.now c.loop-part.rows w.add_part.new.rows before
+                c.loop-part.templates w.add_part.new.templates messages _ part next some
+                w.in_ok-add_part.ensures.given);
+          }
+      | else-deref-gt0 w ↦
+          let part = c.deref.result.now in
+          record {
+            faults = w.faults-is ∙ c.loop-part.invariant.faults;
+            taken = λ honest messages accepted octets.
+                let next = next_part so_far before messages c.loop-part.templates parts i c.part-item.result part
+                c.loop-part-test.true c.part-item.is c.deref.ensures honest accepted
+                (c.loop-part.invariant.taken honest messages accepted octets) in
+                rw (w.templates-is, w.rows-is) (skipped_part so_far before messages _ c.loop-part.templates part
+                (omega (arith, w.if-deref-gt0.false)) next);
+          }
+    ]
+
+pub returns-in_err-add_part-clause-given : goal.returns-in_err-add_part-clause-given
+returns-in_err-add_part-clause-given g c = λ honest messages accepted octets.
+    let before = c.args.templates.now in
+    let so_far = HasSums c.args.rows.now c.loop-part.rows in
+    let part = c.deref-then-deref-gt0.result.now in
+    let some : 0 < part.messages = subst (λ p. 0 < p.messages)
+    (c.deref.ensures ∙ sym c.deref-then-deref-gt0.ensures) c.if-deref-gt0.true in
+    let next = next_part so_far before messages c.loop-part.templates c.args.parts.now c.loop-part.part-index
+    c.part-item.result part c.loop-part-test.true c.part-item.is c.deref-then-deref-gt0.ensures honest accepted
+    (c.loop-part.invariant.taken honest messages accepted octets) in
+    sums_err c.args.rows.now c.loop-part.rows _ before c.loop-part.templates messages _ part c.args.first
+    c.from_residual.result c.in_err-add_part.field-0.0 next some c.from_residual.ensures.1
+    c.in_err-add_part.ensures.given
+
+pub returns-clause-given : goal.returns-clause-given
+returns-clause-given g c = λ honest messages accepted octets.
+    let parts = c.args.parts.now in
+    let none = drop_all c.loop-part.part-index parts c.loop-part-test.false in
+    taken_all (HasSums c.args.rows.now c.loop-part.rows) c.args.templates.now messages _ c.loop-part.templates
+    (ap (λ ps. messages_in (map (segment_of {files = g.S.SealedFile}) (shared ps))) none)
+    (c.loop-part.invariant.taken honest messages accepted octets)
+
+pub loop-part-init : goal.loop-part-init
+loop-part-init g c = record {
+  faults = refl;
+  taken = λ honest messages accepted octets. record {
+    front = [];
+    rest = messages;
+    whole = refl;
+    octets = octets;
+    moved = refl;
+    has = sym (with_nothing c.args.rows.now);
+  };
+}

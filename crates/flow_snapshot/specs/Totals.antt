@@ -1,0 +1,77 @@
+-- The sums that totals are of, and what is answered of them.
+use Rattle.std.specs.Prelude.{◌≡◌, ⊤, ℕ, ◌<◌, ◌^◌, List, [], ◌∷◌, ◌++◌, length, map, Result, Ok, Err}
+use Rattle.std.specs.List.{flat_map, AllByRecursion}
+use Rattle.std.specs.FinMap.{FinMap, entries}
+use Rattle.flow_measure.specs.declared.rows.Sums.{Sums}
+use Rattle.flow_measure.specs.declared.error.SumError.{SumError}
+use Rattle.flow_measure.specs.declared.error.SumError.TheVariants as measure
+use Rattle.flow_measure.specs.Flows.{FlowFits}
+use Rattle.flow_measure.specs.History.{History, flows_in}
+use Rattle.flow_measure.specs.Query.{narrow_table_in}
+use Rattle.flow_measure.specs.Sums.{key_cmp, gathered, merged, AllFit, Table}
+use Rattle.flow_measure.specs.View.{View}
+use Rattle.flow_rolled.specs.declared.error.RowSumError.{RowSumError}
+use Rattle.flow_rolled.specs.declared.error.RowSumError.TheVariants as rolled
+use Rattle.flow_segment.specs.declared.error.PartSumError.{PartSumError}
+use Rattle.flow_segment.specs.declared.error.PartSumError.TheVariants as part
+use Rattle.flow_snapshot.specs.declared.error.QueryError.{QueryError}
+use Rattle.flow_snapshot.specs.declared.error.QueryError.TheVariants.{Damaged, Fault, OutOfMemory}
+use Rattle.flow_snapshot.specs.Shelf.{Shelf}
+
+-- a table, with the sums of these maps added
+abbrev pub with_maps : List (FinMap key_cmp Sums) → Table → Table
+with_maps maps t = record { width = t.width; sums = gathered (entries t.sums ++ flat_map entries maps) }
+
+abbrev pub wide_table_in : View → Table
+wide_table_in v = record { width = v.wide; sums = v.merged }
+
+-- The sums of a view fit their types; where both widths are one, those of all flows together too.
+pub record SumsFit (v : View) : Type 0 where
+  pub narrow : AllFit (narrow_table_in v)
+  pub wide : AllFit (wide_table_in v)
+  pub both : v.width ≡ v.wide → AllFit (merged (narrow_table_in v) (wide_table_in v))
+
+-- A history within the limits of an archive: its messages are fewer than 2^48, and the counts of each flow fit their
+-- types.
+pub record IsWithinLimits (h : History) : Type 0 where
+  pub few : length h.all < 2 ^ 48
+  pub fit : AllByRecursion FlowFits (flows_in h.all)
+
+-- ---- the first part
+
+abbrev pub first_of : List ℕ → ℕ
+first_of [] = 0
+first_of (file ∷ files) = file
+
+-- the file of the first part: of a wide one, else of a rolled one, else of a sealed segment; 0 where there is none
+abbrev pub first_file : Shelf → ℕ
+first_file s = first_of (map (λ r. r.file) s.merged ++ map (λ r. r.file) s.rolled ++ map (λ g. g.file) s.sealed)
+
+-- Damage is told of this file at its start alone, and only where sums don't fit their types.
+abbrev pub IsSpent : ℕ → Type 0 → QueryError → Type 0
+IsSpent first fit (Damaged file at) = (file ≡ first) × (at ≡ 0) × (fit → ⊥)
+IsSpent first fit Fault = ⊤
+IsSpent first fit OutOfMemory = ⊤
+
+-- What is made is right, unless a read fails or memory runs out, or sums don't fit their types.
+abbrev pub IsMade : {X : Type 0} → ℕ → Type 0 → (X → Type 0) → Result X QueryError → Type 0
+IsMade first fit right (Ok x) = right x
+IsMade first fit right (Err e) = IsSpent first fit e
+
+-- ---- refusals, told of totals
+
+abbrev pub told_of_rows : ℕ → RowSumError → QueryError
+told_of_rows first (rolled.Damaged file at) = Damaged file at
+told_of_rows first rolled.SumSpent = Damaged first 0
+told_of_rows first rolled.Fault = Fault
+told_of_rows first rolled.OutOfMemory = OutOfMemory
+
+abbrev pub told_of_part : ℕ → PartSumError → QueryError
+told_of_part first (part.Damaged file at) = Damaged file at
+told_of_part first part.SumSpent = Damaged first 0
+told_of_part first part.Fault = Fault
+told_of_part first part.OutOfMemory = OutOfMemory
+
+abbrev pub told_of_sums : ℕ → SumError → QueryError
+told_of_sums first measure.SumSpent = Damaged first 0
+told_of_sums first measure.OutOfMemory = OutOfMemory

@@ -1,0 +1,69 @@
+//! Kept messages by their places.
+
+ghost use Rattle.std.specs.Prelude.{◌≡◌, ◌<◌, ℕ, IsTrue, List, Some, map, slice_get};
+ghost use Rattle.std.specs.List.{list_all, AllByRecursion};
+ghost use Rattle.flow_codec.specs.Cutting.{IsCutOff};
+ghost use Rattle.flow_disk.specs.Cause.{HasCause};
+ghost use Rattle.flow_segment.specs.Segment.{part_octets, AreMessagesOf};
+ghost use Rattle.flow_snapshot.specs.Files.{is_honest, segment_of, shared};
+ghost use Rattle.flow_snapshot.specs.Shelf.{messages_in};
+ghost use Rattle.flow_snapshot.specs.Told.{octets_in, IsFound};
+
+use flow_disk::{Faults, SealedFile};
+use flow_gate::ScanError;
+use flow_segment::{Cursor, SealedPart, advance};
+use std::alloc::Global;
+use std::sync::Arc;
+
+/// The message of a sealed segment behind `skipped` others. No records are walked: the others are skipped by their
+/// Lengths, a piece of the file at a time.
+fn message_behind<S: SealedFile>(
+    alloc: Global,
+    part: &SealedPart<S>,
+    skipped: u64,
+    faults: &mut Faults<S>,
+) -> Result<Vec<u8>, ScanError>
+    ensures cause { HasCause ScanError.Fault faults.old faults.new result }
+    // On an honest disk: of messages that fill the part, as many as there are to be.
+    ensures given { IsTrue (S.honest part.now.reader) → (list : List (List ℕ))
+        → AreMessagesOf (part_octets part.now.prefix part.now.length (S.octets part.now.reader)) part.now.messages list
+        → skipped < part.now.messages
+        → IsFound (λ message. Some message.items ≡ slice_get list skipped) result }
+{
+    let mut cursor = Cursor::new(alloc, part.prefix, part.length);
+    let mut left = skipped;
+    'messages: loop {
+        if !advance(&mut cursor, alloc, &part.reader, faults)? {
+            return Err(ScanError::Damaged(part.reader.file(), part.length));
+        }
+        if left == 0 {
+            return Ok(Vec::from_slice(alloc, cursor.message())?);
+        }
+        left -= 1;
+    }
+}
+
+/// The message at a place, from 0, among those of sealed segments; none where they are fewer. The segments before it
+/// are skipped by their counts.
+pub(crate) fn sealed_message<S: SealedFile>(
+    alloc: Global,
+    parts: &[Arc<SealedPart<S>>],
+    place: u64,
+    faults: &mut Faults<S>,
+) -> Result<Option<Vec<u8>>, ScanError>
+    ensures cause { HasCause ScanError.Fault faults.old faults.new result }
+    // On honest disks: of messages that are each cut off by their own header.
+    ensures given { IsTrue (list_all is_honest (shared parts.now))
+        → AllByRecursion IsCutOff (messages_in (map segment_of (shared parts.now)))
+        → IsFound (λ message. octets_in message ≡ slice_get (messages_in (map segment_of (shared parts.now))) place)
+        result }
+{
+    let mut left = place;
+    for part in parts {
+        if left < part.messages {
+            return Ok(Some(message_behind(alloc, part, left, faults)?));
+        }
+        left -= part.messages;
+    }
+    Ok(None)
+}
