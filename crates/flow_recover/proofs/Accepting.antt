@@ -1,11 +1,12 @@
 -- Messages that are read from a part one after the other.
-use Rattle.std.proofs.Common.{◌≡◌, ◌≢◌, ◌⊎◌, inl, inr, ⊎_elim, ℕ, ◌+◌, ◌-◌, ◌<◌, ◌≤◌, Bool, true, false, IsTrue, List}
+use Rattle.std.proofs.Common.{◌≡◌, ◌⊎◌, inl, inr, ⊎_elim, ℕ, ◌+◌, ◌<◌, ◌≤◌, Bool, true, false, List}
 use Rattle.std.proofs.Common.{[], ◌∷◌, ◌++◌, length, take, drop, refl, sym, ◌∙◌, ap, subst, arith, append_assoc, Ok}
-use Rattle.std.proofs.Common.{Err, Result}
-use Rattle.std.specs.List.{AllByRecursion}
-use Rattle.std.proofs.lemmas.List.{append-nil, length-append}
+use Rattle.std.proofs.Common.{Err, Result, Vec, get_or, zero, suc}
+use Rattle.std.specs.declared.alloc.Global.{Global}
+use Rattle.std.proofs.lemmas.List.{drop-drop, length-append, length-drop, length-take-le}
+use Rattle.std.proofs.lemmas.List.{nil_from_length, take-append-drop}
 use Rattle.flow_codec.specs.declared.file.FileError.{FileError}
-use Rattle.flow_codec.specs.Cutting.{IsCutOff, IsDivided, IsFileFault}
+use Rattle.flow_codec.specs.Cutting.{IsCutOff, IsFileFault}
 use Rattle.flow_codec.specs.Message.{joined, IsAccepted}
 use Rattle.flow_codec.specs.Raw.{RawMessage}
 use Rattle.flow_codec.specs.Templates.{AllTemplates}
@@ -17,7 +18,8 @@ use Rattle.flow_segment.specs.Prefix.{AreRead}
 use Rattle.flow_segment.specs.Part.{Cursor, IsOn, IsPartStep, Moves, rest_of}
 use Rattle.flow_segment.specs.Segment.{part_octets}
 use Rattle.flow_segment.specs.Carry.{IsTakenAs, no_carry}
-use Rattle.flow_segment.proofs.Restating.{Behind, step_more}
+use Rattle.flow_segment.proofs.Restating.{one_more, Behind, step_more}
+use Rattle.flow_gate.specs.Scan.{texts}
 use Rattle.flow_gate.specs.declared.tail.ScanError.{ScanError}
 use Rattle.flow_gate.specs.declared.tail.ScanError.TheVariants.{Damaged, Fault, OutOfMemory}
 use Rattle.flow_recover.specs.declared.error.RecoverError.{RecoverError}
@@ -140,6 +142,10 @@ part_begun section reads from end old c is = subst (λ (x : Cursor). IsPartRead 
       on = refl;
     })
 
+of_same : (section : Section) (a x : Accepted) → a.message ≡ x.message → IsOf section a → IsOf section x
+of_same Prefix a x is kind = ap (λ (m : RawMessage). m.records) (sym is) ∙ kind
+of_same Messages a x is kind = tt
+
 pub part_more : (section : Section) (reads : List ℕ) (from end file : ℕ) (old now new : Carry) (c next : Cursor)
     (count : ℕ) (message : List ℕ) (more : Bool) → more ≡ true
     → IsPartRead section reads from end old now c count → IsOn reads next × IsPartStep reads file c (Ok more) next
@@ -168,10 +174,6 @@ part_more section reads from end file old now new c next count message true go w
           step.1 moves.2 same taken.2 next_kind);
       on = step.0;
     }
-  where
-    of_same : (section : Section) (a x : Accepted) → a.message ≡ x.message → IsOf section a → IsOf section x
-    of_same Prefix a x is kind = ap (λ (m : RawMessage). m.records) (sym is) ∙ kind
-    of_same Messages a x is kind = tt
 
 -- where other messages fill the part, the next one stands at the cursor
 pub part_next : (section : Section) (reads : List ℕ) (from end : ℕ) (old now : Carry) (c : Cursor) (count : ℕ)
@@ -256,3 +258,178 @@ restated_by count octets start carry is found = (
   found.2,
   found.3 ∙ ap (λ (k : Carry). carry_from k found.0) is,
 )
+
+pub restated_all : (count : ℕ) (octets : List ℕ) (start carry : Carry) → start ≡ no_carry 0
+    → (ms : List Accepted) × AreRead octets start.templates ms [] × AreOf Prefix ms ×
+    (carry ≡ carry_from start ms) × (length ms ≡ count)
+    → IsRestatement octets carry
+restated_all count octets start carry is found = (
+  found.0,
+  subst (λ (k : Carry). AreRead octets k.templates found.0 []) is found.1,
+  found.2,
+  found.3 ∙ ap (λ (k : Carry). carry_from k found.0) is,
+)
+
+pub any_messages : (ms : List Accepted) → AreOf Messages ms
+any_messages [] = tt
+any_messages (m ∷ ms) = (tt, any_messages ms)
+
+-- ---- octets in memory that are read as far as a place
+
+abbrev pub AreOctetsRead : Section → List ℕ → Carry → Carry → ℕ → ℕ → Type 0
+AreOctetsRead section octets old now count at =
+    Behind (IsSoFar section old now count) octets 0 old.templates now.templates at (drop at octets)
+
+pub octets_begun : (section : Section) (octets : List ℕ) (old : Carry) → AreOctetsRead section octets old old 0 0
+octets_begun section octets old = record {
+  messages = [];
+  read = record { divided = record { whole = refl; each = tt }; accepted = tt };
+  kind = record { kind = tt; carry = refl; count_is = refl };
+  same = refl;
+  at = omega arith;
+}
+
+-- the message that stands at the place is one more
+pub octets_more : (section : Section) (octets : List ℕ) (old now new : Carry) (count at n : ℕ)
+    → AreOctetsRead section octets old now count at → n ≤ length (drop at octets) → IsCutOff (take n (drop at octets))
+    → (a : Accepted) × (a.octets ≡ take n (drop at octets))
+    × IsAccepted (take n (drop at octets)) now.templates a.message a.after × IsOf section a × (new ≡ carry_with now a)
+    → AreOctetsRead section octets old new (count + 1) (at + n)
+octets_more section octets old now new count at n was fits cut taken =
+    let a = taken.0 in
+    let one = take n (drop at octets) in
+    let x : Accepted = record { octets = one; message = a.message; after = a.after } in
+    let carried : new ≡ carry_from old (was.messages ++ x ∷ []) = taken.4 ∙ ap (λ
+    (k : Carry). carry_with k a) was.kind.carry ∙ sym (carry_push old was.messages x) in
+    let next_kind : IsSoFar section old new (count + 1) (was.messages ++ x ∷ []) = record {
+      kind = of_push section was.messages x was.kind.kind (of_same section a x refl taken.3);
+      carry = carried;
+      count_is = omega (arith, length-append was.messages (x ∷ []), was.kind.count_is);
+    } in
+    let there : new.templates ≡ a.after = ap (λ (k : Carry). k.templates) taken.4 in
+    let long : length one ≡ n = length-take-le n (drop at octets) fits in
+    let split : drop at octets ≡ one ++ drop (at + n) octets =
+    sym (take-append-drop n (drop at octets)) ∙ ap (λ (l : List ℕ). one ++ l) (drop-drop n at octets) in
+    subst (λ (ts : AllTemplates). Behind (IsSoFar section old new (count + 1))
+    octets 0 old.templates ts (at + n) (drop (at + n) octets)) (sym there)
+    (one_more (IsSoFar section old now count) (IsSoFar section old new (count + 1)) octets 0 old.templates
+    now.templates a.after at (at + n) (drop at octets) (drop (at + n) octets) one a.message was cut split
+    (omega (arith, long)) taken.2 next_kind)
+
+-- where other messages fill the octets, no fault stands at the place
+pub octets_fault : (section : Section) (octets : List ℕ) (old now : Carry) (count at place : ℕ)
+    (others : List Accepted) (fault : FileError) → AreOctetsRead section octets old now count at
+    → at < length octets → AreRead octets old.templates others [] → AreOf section others
+    → IsFileFault place (drop at octets) fault → ⊥
+octets_fault section octets old now count at place others fault was below other kind bad =
+    ⊎_elim (λ none. omega (arith, below, length-drop at octets, ap (λ (l : List ℕ). length l) none))
+    (λ there. no_message place there.message.octets there.more fault there.cut (subst (λ
+    (l : List ℕ). IsFileFault place l fault) there.parts bad))
+    (next_of section octets (drop at octets) old.templates was.messages others was.read other kind)
+
+-- and the one that is cut off there is the next of them
+pub octets_refused : (section : Section) (octets : List ℕ) (old now : Carry) (count at n : ℕ)
+    (others : List Accepted) (P : Type 0) → AreOctetsRead section octets old now count at
+    → at < length octets → IsCutOff (take n (drop at octets))
+    → AreRead octets old.templates others [] → AreOf section others
+    → ((a : Accepted) → IsAccepted (take n (drop at octets)) now.templates a.message a.after → IsOf section a → P) → P
+octets_refused section octets old now count at n others P was below cut other kind refused =
+    ⊎_elim (λ none. absurd (omega (arith, below, length-drop at octets, ap (λ (l : List ℕ). length l) none)))
+    (λ there.
+    let one = take n (drop at octets) in
+    let heads = one_message one there.message.octets (drop n (drop at octets)) there.more cut there.cut
+    (take-append-drop n (drop at octets) ∙ there.parts) in
+    refused there.message (subst (λ (ts : AllTemplates). IsAccepted one ts there.message.message there.message.after)
+    (sym was.same) (subst (λ (l : List ℕ). IsAccepted l (templates_from old.templates was.messages)
+    there.message.message there.message.after) (sym heads.0) there.accepted)) there.kind)
+    (next_of section octets (drop at octets) old.templates was.messages others was.read other kind)
+
+-- all of them
+pub octets_whole : (section : Section) (octets : List ℕ) (old now : Carry) (count at : ℕ)
+    → AreOctetsRead section octets old now count at → length octets ≤ at
+    → (messages : List Accepted) × AreRead octets old.templates messages [] × AreOf section messages
+    × (now ≡ carry_from old messages) × (length messages ≡ count)
+octets_whole section octets old now count at was past = (
+  was.messages,
+  subst (λ (l : List ℕ). AreRead octets old.templates was.messages l)
+      (nil_from_length (drop at octets) (omega (arith, past, length-drop at octets))) was.read,
+  was.kind.kind,
+  was.kind.carry,
+  was.kind.count_is,
+)
+
+-- ---- a list of messages
+
+-- these octets are taken in
+abbrev pub AreTakenIn : List (List ℕ) → Carry → Carry → Type 0
+AreTakenIn octets old new = (all : List Accepted) × (octets_of all ≡ octets) × AreAcceptedFrom old.templates all
+    × (new ≡ carry_from old all)
+
+pub taken_more : (octets : List (List ℕ)) (one : List ℕ) (old now new : Carry) → AreTakenIn octets old now
+    → (a : Accepted) × (a.octets ≡ one) × IsAccepted one now.templates a.message a.after × IsOf Messages a ×
+    (new ≡ carry_with now a)
+    → AreTakenIn (octets ++ one ∷ []) old new
+taken_more octets one old now new was taken =
+    let a = taken.0 in
+    let before : now.templates ≡ templates_from old.templates was.0 =
+    ap (λ (k : Carry). k.templates) was.3 ∙ carry_templates old was.0 in (
+      was.0 ++ a ∷ [],
+      octets_push was.0 a ∙ ap (λ (l : List (List ℕ)). l ++ a.octets ∷ []) was.1
+          ∙ ap (λ (o : List ℕ). octets ++ o ∷ []) taken.1,
+      accepted_push old.templates was.0 a was.2 (subst (λ (o : List ℕ). IsAccepted o
+          (templates_from old.templates was.0) a.message a.after) (sym taken.1) (subst (λ
+          (ts : AllTemplates). IsAccepted one ts a.message a.after) before taken.2)),
+      taken.4 ∙ ap (λ (k : Carry). carry_with k a) was.3 ∙ sym (carry_push old was.0 a),
+    )
+  where
+    octets_push : (xs : List Accepted) (a : Accepted) → octets_of (xs ++ a ∷ []) ≡ octets_of xs ++ a.octets ∷ []
+    octets_push [] a = refl
+    octets_push (x ∷ xs) a = ap (λ (l : List (List ℕ)). x.octets ∷ l) (octets_push xs a)
+
+    accepted_push : (before : AllTemplates) (xs : List Accepted) (a : Accepted) → AreAcceptedFrom before xs
+        → IsAccepted a.octets (templates_from before xs) a.message a.after → AreAcceptedFrom before (xs ++ a ∷ [])
+    accepted_push before [] a all is = (is, tt)
+    accepted_push before (x ∷ xs) a all is = (all.0, accepted_push x.after xs a all.1 is)
+
+-- the next one of accepted messages
+next_accepted : (before : AllTemplates) (ms others : List Accepted) (one : List ℕ) (rest : List (List ℕ))
+    → AreAcceptedFrom before ms → AreAcceptedFrom before others → octets_of others ≡ octets_of ms ++ one ∷ rest
+    → (a : Accepted) × IsAccepted one (templates_from before ms) a.message a.after
+next_accepted before [] [] one rest all also is = absurd (cc)
+next_accepted before [] (a ∷ others) one rest all also is =
+    let same : a.octets ≡ one = cc in (a, subst (λ (o : List ℕ). IsAccepted o before a.message a.after) same also.0)
+next_accepted before (m ∷ ms) [] one rest all also is = absurd (cc)
+next_accepted before (m ∷ ms) (a ∷ others) one rest all also is =
+    let same : a.octets ≡ m.octets = cc in
+    let more : octets_of others ≡ octets_of ms ++ one ∷ rest = cc in
+    let there : IsAccepted m.octets before a.message a.after = subst (λ
+    (o : List ℕ). IsAccepted o before a.message a.after) same also.0 in
+    let after : m.after ≡ a.after =
+    accepted.one_state before m.octets m.message a.message m.after a.after all.0 there in
+    next_accepted m.after ms others one rest all.1
+    (subst (λ (ts : AllTemplates). AreAcceptedFrom ts others) (sym after) also.1) more
+
+pub next_taken : (octets rest : List (List ℕ)) (one : List ℕ) (old now : Carry) (others : List Accepted)
+    → AreTakenIn octets old now → octets_of others ≡ octets ++ one ∷ rest → AreAcceptedFrom old.templates others
+    → (a : Accepted) × IsAccepted one now.templates a.message a.after
+next_taken octets rest one old now others was is also =
+    let next = next_accepted old.templates was.0 others one rest was.2 also (is ∙ ap (λ (l : List (List ℕ)).
+    l ++ one ∷ rest) (sym was.1)) in
+    let before : now.templates ≡ templates_from old.templates was.0 =
+    ap (λ (k : Carry). k.templates) was.3 ∙ carry_templates old was.0 in (
+      next.0,
+      subst (λ (ts : AllTemplates). IsAccepted one ts next.0.message next.0.after) (sym before) next.1,
+    )
+
+-- a list by one of its messages
+pub texts_at : (ms : List (Vec ℕ Global)) (i : ℕ) (v : Vec ℕ Global) → i < length ms → v ≡ get_or ms i v
+    → texts ms ≡ texts (take i ms) ++ v.items ∷ texts (drop (suc i) ms)
+texts_at [] i v lt is = absurd (omega (arith, lt))
+texts_at (m ∷ ms) zero v lt is = ap (λ (x : Vec ℕ Global). x.items ∷ texts ms) (sym is)
+texts_at (m ∷ ms) (suc i) v lt is = ap (λ (l : List (List ℕ)). m.items ∷ l) (texts_at ms i v (omega (arith, lt)) is)
+
+pub texts_more : (ms : List (Vec ℕ Global)) (i : ℕ) (v : Vec ℕ Global) → i < length ms → v ≡ get_or ms i v
+    → texts (take (suc i) ms) ≡ texts (take i ms) ++ v.items ∷ []
+texts_more [] i v lt is = absurd (omega (arith, lt))
+texts_more (m ∷ ms) zero v lt is = ap (λ (x : Vec ℕ Global). x.items ∷ []) (sym is)
+texts_more (m ∷ ms) (suc i) v lt is = ap (λ (l : List (List ℕ)). m.items ∷ l) (texts_more ms i v (omega (arith, lt)) is)

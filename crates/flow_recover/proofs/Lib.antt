@@ -3,3 +3,4 @@ pub mod History
 pub mod Stand
 pub mod Recovering
 pub mod Accepting
+pub mod Behind

@@ -1,7 +1,7 @@
 -- What an opening's phases make of what images stand for.
 use Rattle.std.proofs.Common.{◌≡◌, ◌≢◌, ◌⊎◌, inl, inr, ⊎_elim, IsTrue, ℕ, zero, suc, ◌+◌, ◌<◌, ◌≤◌, ◌==◌, Bool, true}
 use Rattle.std.proofs.Common.{false, List, [], ◌∷◌, ◌++◌, length, take, get_or, refl, sym, ◌∙◌, ap, subst, arith}
-use Rattle.std.proofs.Common.{eq-eqb, None}
+use Rattle.std.proofs.Common.{eq-eqb}
 use Rattle.std.specs.Prelude.{◌||◌}
 use Rattle.std.specs.List.{AllByRecursion, list_any}
 use Rattle.flow_disk.specs.Disk.{AllImages, Held, InFile, IsDiskImage}
@@ -27,7 +27,7 @@ use Rattle.flow_recover.specs.declared.error.RecoverError.{RecoverError}
 use Rattle.flow_recover.specs.declared.error.RecoverError.TheVariants.{Damaged, Format, Entries, Cut, NoArchive, Fault}
 use Rattle.flow_recover.specs.declared.error.RecoverError.TheVariants.{OutOfMemory}
 use Rattle.flow_recover.specs.Opening.{FilesStand, FrozenStand, IsDeviceOrMemory, IsRead, StandsForNone}
-use Rattle.flow_recover.specs.Chain.{IsChained}
+use Rattle.flow_segment.specs.Carry.{Carry}
 use Rattle.flow_manifest.proofs.Followers.{split, IsOther, AreEntries, are_entries}
 use Rattle.flow_manifest.proofs.EntryLists.{all_by}
 use Rattle.flow_recover.proofs.Stand.{all_first, all_last, own_first, slot_below, parts_along, files_same, valid_of}
@@ -45,7 +45,7 @@ keeps_then count a b c first second = record {
 
 -- ---- one state
 
-one_part : (kind : Kind) (octets : List ℕ) (e : Entry) (p q : Part) → StandsAs kind octets e p
+pub one_part : (kind : Kind) (octets : List ℕ) (e : Entry) (p q : Part) → StandsAs kind octets e p
     → StandsAs kind octets e q → p ≡ q
 one_part Wide octets e p q a b =
     ap (λ (l : List ℕ). record { front = l; messages = p.messages }) (sym a.front ∙ b.front) ∙ ap (λ (l : List
@@ -92,15 +92,6 @@ same_held image s t same a b =
 pub files_stand : (image : ℕ → List ℕ) (s : State) → HoldsFiles image s → FilesStand image s
 files_stand image s files = record { parts = files.parts; active = files.active; within = files.within }
 
--- what stands as a state that is chained is chained
-pub chained_too : (image : ℕ → List ℕ) (slots : Slots) (s t : State) → AreSlots slots image
-    → t.manifest ≡ slots.current → t ≡ reopened t
-    → FilesStand image t → StandsFor image s → IsChained t
-chained_too image slots s t are current rest stand stands =
-    let same = same_held image s t (one_in_force image s.manifest slots.current stands.force (slots, refl, are)
-    ∙ sym current) (files_stand image s stands.files) stand in
-    subst IsChained (stands.at_rest ∙ same ∙ sym rest) stands.files.chained
-
 pub one_state : (image : ℕ → List ℕ) (s t : State) → StandsFor image s → StandsFor image t → s ≡ t
 one_state image s t a b = a.at_rest ∙ same_held image s t (one_in_force image s.manifest t.manifest a.force b.force)
     (files_stand image s a.files) (files_stand image t b.files) ∙ sym b.at_rest
@@ -135,7 +126,7 @@ same_reads s a b same stands =
     all_same [] = tt
     all_same (e ∷ entries) = (same e.file, all_same entries)
 
-pub stand_same : (s : State) (a b : ℕ → List ℕ) → ((n : ℕ) → b n ≡ a n) → FilesStand a s → FilesStand b s
+stand_same : (s : State) (a b : ℕ → List ℕ) → ((n : ℕ) → b n ≡ a n) → FilesStand a s → FilesStand b s
 stand_same s a b same stand = record {
   parts = parts_along a b (λ e. b e.file ≡ a e.file) (λ e p is at. subst (λ (l : List ℕ). StandsAs e.kind l e p)
       (sym is) at) (front_of s.manifest) s.parts (all_same (front_of s.manifest)) stand.parts;
@@ -183,6 +174,11 @@ pub entries_named : (m : Manifest) → AllByRecursion (λ e. is_file_of m e.file
 entries_named m = all_by (λ e. list_any (λ y. y.file == e.file) m.entries ≡ true) (λ e. is_file_of m e.file ≡ true)
     (λ e is. or_right (e.file == 1 || e.file == 2) (list_any (λ y. y.file == e.file) m.entries) is) m.entries
     (every_listed m.entries)
+
+pub files_along : (s : State) (a b : ℕ → List ℕ) → ((n : ℕ) → b n ≡ a n) → HoldsFiles a s → HoldsFiles b s
+files_along s a b same files =
+    let stand = stand_same s a b same (files_stand a s files) in
+    record { parts = stand.parts; active = stand.active; within = stand.within; chained = files.chained }
 
 -- files that the manifest doesn't name are removed
 pub removing : (slots : Slots) (s : State) (a b : ℕ → List ℕ) → IsKnown slots s a → SameNamed s.manifest a b
@@ -413,36 +409,11 @@ either_known image slots a b s rest (inr is) known = inr (subst (StandsFor image
   at_rest = rest;
 }))
 
--- a refusal of what comes behind reading
-pub told_behind : (files : ℕ → Held) (before : ℕ → List ℕ) (slots : Slots) (t : State) (e : RecoverError)
-    → t.manifest ≡ slots.current → t ≡ reopened t
-    → IsRead files before slots t → (AllImages files (IsKnown slots t) → IsDeviceOrMemory e) → IsDeviceOrMemory e
-    ⊎ StandsForNone before
-told_behind files before slots t e current rest read refused = told_or e (λ s stands. refused (read.known
-    (chained_too before slots s t read.slots_are current rest read.stand stands)))
-  where
-    told_or : (e : RecoverError) → ((s : State) → StandsFor before s → IsDeviceOrMemory e) → IsDeviceOrMemory e
-        ⊎ StandsForNone before
-    told_or Fault none = inl (inl refl)
-    told_or OutOfMemory none = inl (inr refl)
-    told_or (Damaged file at) none = inr (λ s stands. ⊎_elim (λ is. absurd (cc)) (λ is. absurd (cc)) (none s stands))
-    told_or (Format file) none = inr (λ s stands. ⊎_elim (λ is. absurd (cc)) (λ is. absurd (cc)) (none s stands))
-    told_or (Entries file) none = inr (λ s stands. ⊎_elim (λ is. absurd (cc)) (λ is. absurd (cc)) (none s stands))
-    told_or (Cut file) none = inr (λ s stands. ⊎_elim (λ is. absurd (cc)) (λ is. absurd (cc)) (none s stands))
-    told_or NoArchive none = inr (λ s stands. ⊎_elim (λ is. absurd (cc)) (λ is. absurd (cc)) (none s stands))
-
 -- where each image stood for one of two states, what was read is one of them
-pub known_either : (before files : ℕ → Held) (slots : Slots) (a b t : State) → t.manifest ≡ slots.current
-    → t ≡ reopened t
-    → IsRead files (reads_of before) slots t → IsDiskImage before (reads_of before) → IsDiskImage files (reads_of files)
+pub known_either : (before files : ℕ → Held) (slots : Slots) (a b t : State) (carry : Carry) → t ≡ reopened t
+    → IsRead files (reads_of before) slots t carry → IsDiskImage files (reads_of files)
     → AllImages files (IsDiskImage before) → AllImages before (StandsForEither a b)
-    → AllImages files (IsKnown slots t) × ((t ≡ a) ⊎ (t ≡ b))
-known_either before files slots a b t current rest read was now narrows all =
-    let either = all (reads_of before) was in
-    let chained = ⊎_elim (λ is. chained_too (reads_of before) slots a t read.slots_are current rest read.stand is)
-    (λ is. chained_too (reads_of before) slots b t read.slots_are current rest read.stand is) either in
-    let known = read.known chained in (
-      known,
-      is_either (reads_of files) slots a b t rest (known (reads_of files) now) (all (reads_of files) (narrows
-          (reads_of files) now)),
-    )
+    → (t ≡ a) ⊎ (t ≡ b)
+known_either before files slots a b t carry rest read now narrows all =
+    is_either (reads_of files) slots a b t rest (read.known (reads_of files) now) (all (reads_of files) (narrows
+    (reads_of files) now))

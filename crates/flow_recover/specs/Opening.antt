@@ -1,5 +1,5 @@
 -- Opening an archive, and why it may be refused.
-use Rattle.std.specs.Prelude.{◌≡◌, ◌⊎◌, ℕ, Bool, true, IsTrue, List, [], ◌∷◌}
+use Rattle.std.specs.Prelude.{◌≡◌, ◌⊎◌, ℕ, Bool, true, IsTrue, List, [], ◌∷◌, length}
 use Rattle.flow_disk.specs.Disk.{AllImages, Held, Marks}
 use Rattle.flow_disk.specs.declared.error.DiskError.{DiskError}
 use Rattle.flow_disk.specs.declared.error.DiskError.TheVariants as disk
@@ -8,14 +8,16 @@ use Rattle.flow_gate.specs.declared.tail.ScanError.TheVariants as scan
 use Rattle.flow_manifest.specs.declared.error.OpenError.{OpenError}
 use Rattle.flow_manifest.specs.declared.error.OpenError.TheVariants as slot
 use Rattle.flow_manifest.specs.declared.manifest.Entry.{Entry}
-use Rattle.flow_recover.specs.Chain.{IsChained}
+use Rattle.flow_recover.specs.Chain.{HandsOn, IsSegment}
+use Rattle.flow_segment.specs.Carry.{Carry}
 use Rattle.flow_rolled.specs.declared.error.RowError.{RowError}
 use Rattle.flow_rolled.specs.declared.error.RowError.TheVariants as row
 use Rattle.flow_recover.specs.declared.error.RecoverError.{RecoverError}
 use Rattle.flow_recover.specs.declared.error.RecoverError.TheVariants.{Damaged, Format, Entries, Cut, NoArchive, Fault}
 use Rattle.flow_recover.specs.declared.error.RecoverError.TheVariants.{OutOfMemory}
 use Rattle.flow_recover.specs.State.{Part, State, at_rest}
-use Rattle.flow_recover.specs.Standing.{IsActiveAt, IsKnown, IsWithinLimits, PartsStand, StandsAs, StandsFor}
+use Rattle.flow_recover.specs.Standing.{HoldsFiles, IsActiveAt, IsKnown, IsWithinLimits, PartsStand}
+use Rattle.flow_recover.specs.Standing.{StandsAs, StandsFor}
 use Rattle.flow_recover.specs.Kept.{IsCounted, IsReadyFor}
 use Rattle.flow_manifest.specs.Following.{active_of, front_of}
 use Rattle.flow_manifest.specs.Slots.{AreSlots}
@@ -59,11 +61,12 @@ pub record FilesStand (image : ℕ → List ℕ) (s : State) : Type 0 where
   pub active : IsActiveAt (image (active_of s.manifest).file) (active_of s.manifest) s.active
   pub within : IsWithinLimits s
 
--- What is read, and what is then known of each image.
-pub record IsRead (files : ℕ → Held) (reads : ℕ → List ℕ) (slots : Slots) (s : State) : Type 0 where
+-- What is read, and what is known of each image.
+pub record IsRead (files : ℕ → Held) (reads : ℕ → List ℕ) (slots : Slots) (s : State) (carry : Carry) : Type 0 where
   pub slots_are : AreSlots slots reads
-  pub stand : FilesStand reads s
-  pub known : IsChained s → AllImages files (IsKnown slots s)
+  pub holds : HoldsFiles reads s
+  pub hands_on : HandsOn s carry
+  pub known : AllImages files (IsKnown slots s)
 
 -- files are settled, and nothing else
 pub record OnlySettles (old new : ℕ → Marks) : Type 0 where
@@ -80,15 +83,18 @@ FrozenStand octets (entry ∷ entries) (part ∷ parts) [] = ⊥
 FrozenStand octets (entry ∷ entries) (part ∷ parts) (x ∷ frozen) =
     StandsAs entry.kind (octets x) entry part × FrozenStand octets entries parts frozen
 
--- What an opening has found: a state whose numbers are counted on every disk; on an honest one, if its files are
--- chained, each image is known to stand for it, and the frozen files hold its parts.
+-- What an opening has found: a state whose numbers are counted on every disk, and whose active segment is one of
+-- accepted messages. On an honest disk what was read stands for it, its files are an archive's, each image is known to
+-- hold it, and the frozen files hold its parts.
 pub record IsRecovered {D S : Type 0} (honest : D → Bool) (marks : D → ℕ → Marks) (held : D → ℕ → Held)
-    (octets : S → List ℕ) (disk : D) (slots : Slots) (last : Entry) (end total : ℕ) (active : Part)
-    (frozen : List S) : Type 0 where
+    (octets : S → List ℕ) (reads : ℕ → List ℕ) (disk : D) (slots : Slots) (last : Entry) (end total : ℕ) (active : Part)
+    (carry : Carry) (frozen : List S) : Type 0 where
   pub parts : List Part
   pub counted : IsCounted (at_rest slots.current parts active) last end total
   pub ready : IsReadyFor (marks disk) last.file slots.current.next end
-  pub known : IsTrue (honest disk) → IsChained (at_rest slots.current parts active)
-      → AllImages (held disk) (IsKnown slots (at_rest slots.current parts active))
-  pub frozen_stand : IsTrue (honest disk) → IsChained (at_rest slots.current parts active)
-      → FrozenStand octets (front_of slots.current) parts frozen
+  pub all : length frozen ≡ length (front_of slots.current)
+  pub segment : IsSegment active carry
+  pub hands_on : IsTrue (honest disk) → HandsOn (at_rest slots.current parts active) carry
+  pub read : IsTrue (honest disk) → StandsFor reads (at_rest slots.current parts active)
+  pub known : IsTrue (honest disk) → AllImages (held disk) (IsKnown slots (at_rest slots.current parts active))
+  pub frozen_stand : IsTrue (honest disk) → FrozenStand octets (front_of slots.current) parts frozen

@@ -1,8 +1,9 @@
 -- The messages of segments, as an opening reads them.
-use Rattle.std.specs.Prelude.{◌≡◌, ℕ, Bool, false, not, List, []}
+use Rattle.std.specs.Prelude.{◌≡◌, ℕ, Bool, false, not, List, [], Option, Some, None, Vec}
+use Rattle.std.specs.declared.alloc.Global.{Global}
 use Rattle.std.specs.List.{AllByRecursion}
 use Rattle.flow_measure.specs.History.{Accepted}
-use Rattle.flow_segment.specs.Carry.{Carry, carry_from, no_carry}
+use Rattle.flow_segment.specs.Carry.{Carry, carry_from, no_carry, prefix_of}
 use Rattle.flow_segment.specs.Prefix.{AreRead}
 use Rattle.flow_recover.specs.declared.segments.Section.{Section}
 use Rattle.flow_recover.specs.declared.segments.Section.TheVariants.{Prefix, Messages}
@@ -23,3 +24,17 @@ AreOf section messages = AllByRecursion (IsOf section) messages
 abbrev pub IsRestatement : List ℕ → Carry → Type 0
 IsRestatement octets carry = (messages : List Accepted) × AreRead octets [] messages [] × AreOf Prefix messages
     × (carry ≡ carry_from (no_carry 0) messages)
+
+-- ---- the prefix that is called for, as an opening holds it
+
+-- these octets are it
+abbrev pub IsCalled : Option (Vec ℕ Global) → List ℕ → Type 0
+IsCalled None octets = Unit {0}
+IsCalled (Some called) octets = octets ≡ called.items
+
+-- what is handed on calls for it; in front of all segments nothing does
+abbrev pub IsHeldBehind : Option Carry → Option (Vec ℕ Global) → Type 0
+IsHeldBehind None None = Unit {0}
+IsHeldBehind None (Some called) = ⊥
+IsHeldBehind (Some carry) None = ⊥
+IsHeldBehind (Some carry) (Some called) = called.items ≡ prefix_of carry

@@ -3,12 +3,14 @@
 //! Promised to the layers above: an image stands for one state at most, files that its manifest doesn't name play no
 //! part, and what an open archive knows of an image is that it stands for what is left of the archive on a disk.
 //! The shelf of a state has one view, and an archive's events move its history.
-//! Opening keeps at every moment what each image stood for, and refuses for other reasons than the device and memory
-//! only where what is read stands for no state. What it finds is the state for which what is read stands, provided that
-//! the messages are accepted and chained: that it doesn't look at yet.
+//! Opening looks at what the files mean: messages are accepted, each prefix is the one that the segment before calls
+//! for, and rolled files are sums. It keeps at every moment what each image stood for, and refuses for other reasons
+//! than the device and memory only where what is read stands for no state. What it finds is the state for which what is
+//! read stands, with what its active segment hands on.
 #![tactic(auto)]
 
 mod active;
+mod chaining;
 mod error;
 mod laws;
 mod meaning;

@@ -12,6 +12,7 @@ ghost use Rattle.flow_manifest.specs.Slots.{file_of, reads_of};
 ghost use Rattle.flow_manifest.specs.Following.{active_of, no_entry};
 ghost use Rattle.flow_recover.specs.State.{Part, State, at_rest, part_of};
 ghost use Rattle.flow_recover.specs.Standing.{StandsForEither};
+ghost use Rattle.flow_recover.specs.Chain.{IsSegment};
 ghost use Rattle.flow_recover.specs.Kept.{IsCounted};
 ghost use Rattle.flow_recover.specs.Opening.{IsDeviceOrMemory, IsRead, IsRecovered, StandsForNone};
 
@@ -22,6 +23,7 @@ use crate::settling::settle_all;
 use crate::tidying::tidy;
 use flow_disk::Disk;
 use flow_manifest::{Entry, Slots};
+use flow_segment::Carry;
 use std::alloc::Global;
 
 /// What an opening finds.
@@ -37,6 +39,8 @@ pub struct Recovered<D: Disk> {
     pub total: u64,
     /// The active segment.
     pub active: ActiveSegment,
+    /// What the active segment hands on.
+    pub carry: Carry,
     /// The files in front of the active one, in the manifest's order.
     pub parts: Vec<D::Sealed>,
 }
@@ -55,8 +59,8 @@ pub fn recover<D: Disk>(alloc: Global, disk: &mut D) -> Result<Recovered<D>, Rec
     ensures honest { D.honest disk.new ≡ D.honest disk.old }
     ensures cause { HasCause RecoverError.Fault (D.faults disk.old) (D.faults disk.new) result }
     ensures recovered { IfOk result
-        (λ r. IsRecovered D.honest D.marks D.held D.Sealed.octets disk.new r.slots r.last r.end
-        r.total (part_of r.active) r.parts.items) }
+        (λ r. IsRecovered D.honest D.marks D.held D.Sealed.octets (reads_of (D.held disk.old)) disk.new r.slots r.last
+        r.end r.total (part_of r.active) r.carry r.parts.items) }
     ensures told { IsTrue (D.honest disk.old)
         → IfErr result (λ e. IsDeviceOrMemory e ⊎ StandsForNone (reads_of (D.held disk.old))) }
     ensures any_moment { IsTrue (D.honest disk.old) → (a b : State) → AllImages (D.held disk.old) (StandsForEither a b)
@@ -70,6 +74,7 @@ pub fn recover<D: Disk>(alloc: Global, disk: &mut D) -> Result<Recovered<D>, Rec
         end: files.end,
         total: files.total,
         active: files.active,
+        carry: files.carry,
         parts,
     })
 }
@@ -88,6 +93,7 @@ fn find<D: Disk>(alloc: Global, disk: &mut D) -> Result<Found, RecoverError>
     ensures small { IfOk result (λ f. f.files.end + 2 < 2 ^ 64) }
     ensures counted { IfOk result (λ f. (parts : List Part)
         → IsCounted (at_rest f.slots.current parts (part_of f.files.active)) f.last f.files.end f.files.total) }
+    ensures segment { IfOk result (λ f. IsSegment (part_of f.files.active) f.files.carry) }
     ensures cause { HasCause RecoverError.Fault (D.faults disk.old) (D.faults disk.new) result }
 
     // On an honest one.
@@ -96,7 +102,7 @@ fn find<D: Disk>(alloc: Global, disk: &mut D) -> Result<Found, RecoverError>
         → LeavesOnly D.moment D.left_since disk.old disk.new (IsDiskImage (D.held disk.old)) }
     ensures read { IsTrue (D.honest disk.old) → IfOk result (λ f. (parts : List Part)
         × IsRead (D.held disk.new) (reads_of (D.held disk.old)) f.slots
-        (at_rest f.slots.current parts (part_of f.files.active))) }
+        (at_rest f.slots.current parts (part_of f.files.active)) f.files.carry) }
     ensures told { IsTrue (D.honest disk.old)
         → IfErr result (λ e. IsDeviceOrMemory e ⊎ StandsForNone (reads_of (D.held disk.old))) }
 {

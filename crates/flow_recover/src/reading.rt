@@ -1,7 +1,7 @@
 //! What the files of an archive hold.
 
 ghost use Rattle.std.specs.Prelude.{◌≡◌, ◌≢◌, ℕ, ◌+◌, ◌^◌, ◌<◌, ◌≤◌, map, true, false, IsTrue, List, length, OnOk};
-ghost use Rattle.std.specs.Prelude.{IfOk, IfErr, IfSome, IfNone};
+ghost use Rattle.std.specs.Prelude.{IfOk, IfErr, IfSome, IfNone, Option, None};
 ghost use Rattle.std.specs.List.{All, AllByRecursion, sum_by};
 ghost use Rattle.flow_disk.specs.Disk.{IsDiskImage, AllImages, Stays};
 ghost use Rattle.flow_disk.specs.Moments.{LeavesOnly};
@@ -15,13 +15,18 @@ ghost use Rattle.flow_recover.specs.State.{Part, State, at_rest, part_of};
 ghost use Rattle.flow_recover.specs.Standing.{StandsAs, IsActiveAt, IsWithinLimits, HoldsFiles, PartsStand};
 ghost use Rattle.flow_manifest.specs.Following.{active_of, messages_of};
 ghost use Rattle.flow_recover.specs.Kept.{IsCounted};
-ghost use Rattle.flow_recover.specs.Opening.{FilesStand, IsDeviceOrMemory};
+ghost use Rattle.flow_recover.specs.Chain.{ArePartsBehind, HandsOn, IsPartBehind, IsSegment};
+ghost use Rattle.flow_recover.specs.Reading.{IsHeldBehind};
+ghost use Rattle.flow_recover.specs.Opening.{IsDeviceOrMemory};
+ghost use Rattle.flow_segment.specs.Carry.{Carry};
 
 use crate::active::ActiveSegment;
+use crate::chaining::{kept_of, read_segment};
 use crate::error::RecoverError;
 use flow_disk::Disk;
-use flow_gate::{messages_from, scan};
-use flow_manifest::{Entry, Kind, Manifest};
+use flow_gate::scan;
+use flow_manifest::{Entry, Manifest};
+use flow_segment::Carry;
 use std::alloc::Global;
 
 const TOO_MANY_MESSAGES: u64 = 1 << 48;
@@ -35,6 +40,8 @@ pub(crate) struct Files {
     pub(crate) end: u64,
     /// How many messages there are in all.
     pub(crate) total: u64,
+    /// What the active segment hands on.
+    pub(crate) carry: Carry,
 }
 
 /// Reads each file that a manifest names. It only reads.
@@ -54,6 +61,7 @@ pub(crate) fn read_files<D: Disk>(
     ensures counted { IfOk result (λ f. (parts : List Part)
         → IsCounted (at_rest manifest.now parts (part_of f.active)) last f.end f.total) }
     ensures small { IfOk result (λ f. f.end + 2 < 2 ^ 64) }
+    ensures segment { IfOk result (λ f. IsSegment (part_of f.active) f.carry) }
     ensures cause { HasCause RecoverError.Fault (D.faults disk.old) (D.faults disk.new) result }
 
     // On an honest one: what the files hold, where they hold an archive's.
@@ -61,12 +69,13 @@ pub(crate) fn read_files<D: Disk>(
     ensures any_moment { IsTrue (D.honest disk.old) → LeavesOnly D.moment D.left_since disk.old disk.new
         (IsDiskImage (D.held disk.old)) }
     ensures found { IsTrue (D.honest disk.old) → IfOk result (λ f. (parts : List Part)
-        × FilesStand (reads_of (D.held disk.old)) (at_rest manifest.now parts (part_of f.active))) }
+        × HoldsFiles (reads_of (D.held disk.old)) (at_rest manifest.now parts (part_of f.active))
+        × HandsOn (at_rest manifest.now parts (part_of f.active)) f.carry) }
     ensures refused { IsTrue (D.honest disk.old) → (s : State) → s.manifest ≡ manifest.now
         → HoldsFiles (reads_of (D.held disk.old)) s → IfErr result IsDeviceOrMemory }
 {
     let entries = manifest.entries.as_slice();
-    read_entries(alloc, disk, &entries[..entries.len() - 1])?;
+    let called = read_entries(alloc, disk, manifest, &entries[..entries.len() - 1])?;
     let (active, end) = read_active(alloc, disk, last)?;
     let limit = u64::from(last.prefix) + u64::from(manifest.limit);
     if end > limit {
@@ -75,7 +84,13 @@ pub(crate) fn read_files<D: Disk>(
     let Some(total) = total_of(entries, active.messages.len()) else {
         return Err(RecoverError::Damaged(last.file, u64::from(last.prefix)));
     };
-    Ok(Files { active, end, total })
+    let carry = read_segment(alloc, &called, last, &active)?;
+    Ok(Files {
+        active,
+        end,
+        total,
+        carry,
+    })
 }
 
 /// How many messages an archive has, if they are not too many.
@@ -129,9 +144,16 @@ fn read_active<D: Disk>(
     Ok((segment, tail.end))
 }
 
-/// Reads the files in front of the active one.
-fn read_entries<D: Disk>(alloc: Global, disk: &mut D, entries: &[Entry]) -> Result<(), RecoverError>
-    requires { AllByRecursion (λ (e : Entry). 3 ≤ e.file) entries.now }
+/// Reads the files in front of the active one, and tells the prefix that the last segment among them calls for.
+fn read_entries<D: Disk>(
+    alloc: Global,
+    disk: &mut D,
+    manifest: &Manifest,
+    entries: &[Entry],
+) -> Result<Option<Vec<u8>>, RecoverError>
+    requires width { 0 < manifest.now.width }
+    requires wide { 0 < manifest.now.wide }
+    requires files { AllByRecursion (λ (e : Entry). 3 ≤ e.file) entries.now }
     ensures honest { D.honest disk.new ≡ D.honest disk.old }
     ensures settled { (n : ℕ) → (D.marks disk.new n).settled ≡ (D.marks disk.old n).settled }
     ensures frozen { (n : ℕ) → (D.marks disk.new n).frozen ≡ (D.marks disk.old n).frozen }
@@ -140,20 +162,31 @@ fn read_entries<D: Disk>(alloc: Global, disk: &mut D, entries: &[Entry]) -> Resu
     ensures held { IsTrue (D.honest disk.old) → Stays (D.held disk.old) (D.held disk.new) }
     ensures any_moment { IsTrue (D.honest disk.old) → LeavesOnly D.moment D.left_since disk.old disk.new
         (IsDiskImage (D.held disk.old)) }
-    ensures found { IsTrue (D.honest disk.old) → OnOk result ((parts : List Part)
-        × PartsStand (reads_of (D.held disk.old)) entries.now parts) }
-    ensures refused { IsTrue (D.honest disk.old) → (parts : List Part)
-        → PartsStand (reads_of (D.held disk.old)) entries.now parts → IfErr result IsDeviceOrMemory }
+    ensures found { IsTrue (D.honest disk.old) → IfOk result (λ called. (parts : List Part) × (after : Option Carry)
+        × PartsStand (reads_of (D.held disk.old)) entries.now parts
+        × ArePartsBehind manifest.now None entries.now parts after × IsHeldBehind after called) }
+    ensures refused { IsTrue (D.honest disk.old) → (parts : List Part) (after : Option Carry)
+        → PartsStand (reads_of (D.held disk.old)) entries.now parts
+        → ArePartsBehind manifest.now None entries.now parts after → IfErr result IsDeviceOrMemory }
 {
+    let mut called = None;
     'entries: for entry in entries {
-        read_part(alloc, disk, *entry)?;
+        called = read_part(alloc, disk, manifest, called, *entry)?;
     }
-    Ok(())
+    Ok(called)
 }
 
-/// Reads the file of an entry.
-fn read_part<D: Disk>(alloc: Global, disk: &mut D, entry: Entry) -> Result<(), RecoverError>
-    requires { 3 ≤ entry.file }
+/// Reads the file of an entry, behind files that call for this prefix, and tells what is called for behind it.
+fn read_part<D: Disk>(
+    alloc: Global,
+    disk: &mut D,
+    manifest: &Manifest,
+    called: Option<Vec<u8>>,
+    entry: Entry,
+) -> Result<Option<Vec<u8>>, RecoverError>
+    requires width { 0 < manifest.now.width }
+    requires wide { 0 < manifest.now.wide }
+    requires file { 3 ≤ entry.file }
     ensures honest { D.honest disk.new ≡ D.honest disk.old }
     ensures settled { (n : ℕ) → (D.marks disk.new n).settled ≡ (D.marks disk.old n).settled }
     ensures frozen { (n : ℕ) → (D.marks disk.new n).frozen ≡ (D.marks disk.old n).frozen }
@@ -162,42 +195,19 @@ fn read_part<D: Disk>(alloc: Global, disk: &mut D, entry: Entry) -> Result<(), R
     ensures held { IsTrue (D.honest disk.old) → Stays (D.held disk.old) (D.held disk.new) }
     ensures any_moment { IsTrue (D.honest disk.old) → LeavesOnly D.moment D.left_since disk.old disk.new
         (IsDiskImage (D.held disk.old)) }
-    ensures found { IsTrue (D.honest disk.old) → OnOk result ((p : Part)
-        × StandsAs entry.kind (D.held disk.old entry.file).reads entry p) }
-    ensures refused { IsTrue (D.honest disk.old) → (p : Part) → StandsAs entry.kind
-        (D.held disk.old entry.file).reads entry p → IfErr result IsDeviceOrMemory }
+    ensures found { IsTrue (D.honest disk.old) → (before : Option Carry) → IsHeldBehind before called
+        → IfOk result (λ next. (p : Part) × (after : Option Carry)
+        × StandsAs entry.kind (D.held disk.old entry.file).reads entry p
+        × IsPartBehind manifest.now entry.kind before p after × IsHeldBehind after next) }
+    ensures refused { IsTrue (D.honest disk.old) → (before : Option Carry) → IsHeldBehind before called
+        → (p : Part) (after : Option Carry)
+        → StandsAs entry.kind (D.held disk.old entry.file).reads entry p
+        → IsPartBehind manifest.now entry.kind before p after → IfErr result IsDeviceOrMemory }
 {
     let size = disk.length(entry.file)?;
     if entry.length > size {
         return Err(RecoverError::Damaged(entry.file, size));
     }
     let octets = disk.read(alloc, entry.file, 0, entry.length as usize)?;
-    kept_of(alloc, entry, &octets)
-}
-
-/// What the octets of an entry's file hold.
-fn kept_of(alloc: Global, entry: Entry, octets: &[u8]) -> Result<(), RecoverError>
-    requires { length octets.now ≡ entry.length }
-    ensures found { OnOk result ((p : Part) × StandsAs entry.kind octets.now entry p) }
-    ensures refused { (p : Part) → StandsAs entry.kind octets.now entry p
-        → IfErr result (λ e. e ≡ RecoverError.OutOfMemory) }
-    ensures device { IfErr result (λ e. e ≢ RecoverError.Fault) }
-{
-    match entry.kind {
-        Kind::Wide | Kind::Rolled => Ok(()),
-        Kind::Sealed => {
-            let prefix = entry.prefix as usize;
-            if prefix > octets.len() {
-                return Err(RecoverError::Damaged(entry.file, entry.length));
-            }
-            let Some(messages) = messages_from(alloc, octets, prefix)? else {
-                return Err(RecoverError::Damaged(entry.file, u64::from(entry.prefix)));
-            };
-            if messages.len() as u64 != entry.messages {
-                return Err(RecoverError::Damaged(entry.file, entry.length));
-            }
-            Ok(())
-        }
-        Kind::Active => Err(RecoverError::Damaged(entry.file, 0)),
-    }
+    kept_of(alloc, manifest, called, entry, &octets)
 }

@@ -1,24 +1,16 @@
 //! The messages of segments, each accepted behind those before it.
 
-ghost use Rattle.std.specs.Prelude.{◌≡◌, ◌≢◌, ◌⊎◌, ℕ, ◌-◌, ◌≤◌, true, false, IsTrue, List, [], length, take, drop};
-ghost use Rattle.std.specs.Prelude.{OnOk};
-ghost use Rattle.std.specs.Prelude.{IfOk, IfErr};
-ghost use Rattle.flow_disk.specs.Cause.{HasCause};
-ghost use Rattle.flow_disk.specs.Disk.{IsDiskImage, Stays};
-ghost use Rattle.flow_disk.specs.Moments.{LeavesOnly};
+ghost use Rattle.std.specs.Prelude.{◌≡◌, ◌≢◌, ◌+◌, ◌<◌, ◌^◌, List, [], length, IfOk, IfErr, OnOk};
 ghost use Rattle.flow_codec.specs.Message.{IsAccepted};
 ghost use Rattle.flow_gate.specs.Scan.{texts};
 ghost use Rattle.flow_measure.specs.History.{Accepted, AreAcceptedFrom};
-ghost use Rattle.flow_segment.specs.Carry.{carry_from, carry_with, no_carry, octets_of, Carry};
+ghost use Rattle.flow_segment.specs.Carry.{carry_from, carry_with, octets_of, Carry};
 ghost use Rattle.flow_segment.specs.Prefix.{AreRead};
-ghost use Rattle.flow_segment.specs.Segment.{part_octets};
 ghost use Rattle.flow_recover.specs.Reading.{is_misplaced, AreOf, IsOf};
-ghost use Rattle.flow_recover.specs.Opening.{IsDeviceOrMemory};
 
 use crate::error::RecoverError;
-use flow_codec::MessageError;
-use flow_disk::Disk;
-use flow_segment::{Carry, Cursor, advance_on};
+use flow_codec::{MessageError, front_of};
+use flow_segment::Carry;
 use std::alloc::Global;
 
 /// Which messages of a segment are read.
@@ -78,44 +70,63 @@ fn told(fault: MessageError, file: u64, at: u64) -> RecoverError
     }
 }
 
-/// Takes in the messages of a file from one place to another, and counts them. It only reads.
-pub(crate) fn take_part<D: Disk>(
+/// Takes in the messages of these octets, which stand at a place of a file, and counts them.
+pub(crate) fn take_octets(
     carry: &mut Carry,
     alloc: Global,
-    disk: &mut D,
+    octets: &[u8],
     section: Section,
     file: u64,
     from: u64,
-    end: u64,
 ) -> Result<u64, RecoverError>
-    requires order { from ≤ end }
-    requires room { end ≤ (D.marks disk.old file).size }
-
-    // On every disk.
-    ensures honest { D.honest disk.new ≡ D.honest disk.old }
-    ensures marks { Stays (D.marks disk.old) (D.marks disk.new) }
-    ensures cause { HasCause RecoverError.Fault (D.faults disk.old) (D.faults disk.new) result }
-
-    // On an honest one: these are accepted messages, so many; where there are such, it is the device's fault or
-    // memory's.
-    ensures held { IsTrue (D.honest disk.old) → Stays (D.held disk.old) (D.held disk.new) }
-    ensures any_moment { IsTrue (D.honest disk.old)
-        → LeavesOnly D.moment D.left_since disk.old disk.new (IsDiskImage (D.held disk.old)) }
-    ensures found { IsTrue (D.honest disk.old) → IfOk result (λ count. (messages : List Accepted)
-        × AreRead (part_octets from end (D.held disk.old file).reads) carry.old.templates messages []
-        × AreOf section messages × (carry.new ≡ carry_from carry.old messages) × (length messages ≡ count)) }
-    ensures refused { IsTrue (D.honest disk.old) → (messages : List Accepted)
-        → AreRead (part_octets from end (D.held disk.old file).reads) carry.old.templates messages []
-        → AreOf section messages → IfErr result IsDeviceOrMemory }
+    requires { from + length octets.now < 2 ^ 64 }
+    ensures found { IfOk result (λ count. (messages : List Accepted)
+        × AreRead octets.now carry.old.templates messages [] × AreOf section messages
+        × (carry.new ≡ carry_from carry.old messages) × (length messages ≡ count)) }
+    ensures refused { (messages : List Accepted) → AreRead octets.now carry.old.templates messages []
+        → AreOf section messages → IfErr result (λ e. e ≡ RecoverError.OutOfMemory) }
+    ensures device { IfErr result (λ e. e ≢ RecoverError.Fault) }
 {
-    let mut cursor = Cursor::new(alloc, from, end);
+    let mut at = 0;
     let mut count = 0;
-    'messages: loop {
-        let at = cursor.place();
-        if !advance_on(&mut cursor, alloc, disk, file)? {
-            return Ok(count);
-        }
-        take_message(carry, alloc, cursor.message(), section, file, at)?;
+    'messages: while at < octets.len() {
+        let rest = &octets[at..];
+        let place = from + at as u64;
+        let Ok(length) = front_of(place, rest) else {
+            return Err(RecoverError::Damaged(file, place));
+        };
+        take_message(carry, alloc, &rest[..length], section, file, place)?;
+        at += length;
         count += 1;
     }
+    Ok(count)
+}
+
+/// Takes in these messages, the first of which stands at a place of a file.
+pub(crate) fn take_list(
+    carry: &mut Carry,
+    alloc: Global,
+    messages: &[Vec<u8>],
+    file: u64,
+    from: u64,
+) -> Result<(), RecoverError>
+    ensures taken { OnOk result ((all : List Accepted) × (octets_of all ≡ texts messages.now)
+        × AreAcceptedFrom carry.old.templates all × (carry.new ≡ carry_from carry.old all)) }
+    ensures refused { (all : List Accepted) → octets_of all ≡ texts messages.now
+        → AreAcceptedFrom carry.old.templates all → IfErr result (λ e. e ≡ RecoverError.OutOfMemory) }
+    ensures device { IfErr result (λ e. e ≢ RecoverError.Fault) }
+{
+    let mut at = from;
+    'messages: for message in messages {
+        take_message(
+            carry,
+            alloc,
+            message.as_slice(),
+            Section::Messages,
+            file,
+            at,
+        )?;
+        at = at.saturating_add(message.len() as u64);
+    }
+    Ok(())
 }

@@ -81,6 +81,7 @@ pub(crate) fn freeze_files<D: Disk>(
     ensures any_moment { IsTrue (D.honest disk.old) → (slots : Slots) (s : State) → front_of s.manifest ≡ entries.now
         → AllImages (D.held disk.old) (IsKnown slots s)
         → LeavesOnly D.moment D.left_since disk.old disk.new (IsKnown slots s) }
+    ensures all { IfOk result (λ parts. length parts.items ≡ length entries.now) }
     ensures parts { IsTrue (D.honest disk.old) → (slots : Slots) (s : State) → front_of s.manifest ≡ entries.now
         → AllImages (D.held disk.old) (IsKnown slots s)
         → IfOk result (λ parts. FrozenStand D.Sealed.octets entries.now s.parts parts.items) }
@@ -170,6 +171,7 @@ pub(crate) fn tidy<D: Disk>(
     ensures any_moment { IsTrue (D.honest disk.old) → (slots : Slots) (s : State) → s.manifest ≡ manifest.now
         → end_of s ≡ end → AllImages (D.held disk.old) (IsKnown slots s)
         → LeavesOnly D.moment D.left_since disk.old disk.new (IsKnown slots s) }
+    ensures all { IfOk result (λ parts. length parts.items ≡ length (front_of manifest.now)) }
     ensures parts { IsTrue (D.honest disk.old) → (slots : Slots) (s : State) → s.manifest ≡ manifest.now
         → AllImages (D.held disk.old) (IsKnown slots s)
         → IfOk result (λ parts. FrozenStand D.Sealed.octets (front_of manifest.now) s.parts parts.items) }

@@ -1,21 +1,16 @@
-use Rattle.std.proofs.Common.{◌≡◌, ◌⊎◌, inl, inr, ⊎_elim, ℕ, ◌+◌, ◌-◌, ◌≤◌, IsTrue, List, length, get_or, refl, sym}
-use Rattle.std.proofs.Common.{◌∙◌, ap, subst, arith, true}
-use Rattle.std.specs.List.{AllByRecursion}
-use Rattle.flow_disk.specs.Disk.{Held, Marks, IsImage, IsDiskImage, AllImages}
+use Rattle.std.proofs.Common.{◌≡◌, ◌⊎◌, ℕ, ◌-◌, ◌≤◌, IsTrue, List, length, get_or, refl, sym}
+use Rattle.std.proofs.Common.{◌∙◌, ap, subst, true}
+use Rattle.flow_disk.specs.Disk.{Held, Marks, IsImage, IsDiskImage}
 use Rattle.flow_disk.proofs.Moments.{one_run, by}
 use Rattle.flow_disk.proofs.Results.{passed_on}
 use Rattle.flow_manifest.specs.declared.manifest.Entry.{Entry}
-use Rattle.flow_manifest.specs.declared.manifest.Manifest.{Manifest}
-use Rattle.flow_manifest.specs.declared.slots.Slot.{Slot}
 use Rattle.flow_manifest.specs.Slots.{file_of, other, reads_of}
-use Rattle.flow_manifest.specs.Following.{active_of, no_entry}
+use Rattle.flow_manifest.specs.Following.{no_entry}
 use Rattle.flow_manifest.proofs.EntryLists.{all_by}
-use Rattle.flow_recover.specs.State.{State, at_rest, part_of}
-use Rattle.flow_recover.specs.Chain.{IsChained}
-use Rattle.flow_recover.specs.Standing.{IsKnown, StandsFor}
+use Rattle.flow_recover.specs.State.{at_rest, part_of}
 use Rattle.flow_recover.specs.Opening.{IsDeviceOrMemory, StandsForNone}
 use Rattle.flow_recover.proofs.Stand.{slot_below}
-use Rattle.flow_recover.proofs.Recovering.{agreed, stand_same, told_of_files}
+use Rattle.flow_recover.proofs.Recovering.{agreed, files_along, told_of_files}
 use Rattle.flow_manifest.proofs.Swaps.{same_slots}
 use Rattle.flow_recover.proofs.opening.find.Goals as goal
 
@@ -109,11 +104,11 @@ returns-clause-read g c h =
       record {
         slots_are = same_slots slots (reads_of (D.held d1)) (reads_of (D.held d0)) (c.in_ok-slots.ensures.found h)
             (same (file_of slots.current_slot)) (same (file_of (other slots.current_slot)));
-        stand = stand_same s (reads_of (D.held d1)) (reads_of (D.held d0)) same found.1;
-        known = λ chained image is.
+        holds = files_along s (reads_of (D.held d1)) (reads_of (D.held d0)) same found.1;
+        hands_on = found.2;
+        known = λ image is.
             let was : IsDiskImage (D.held d1) image = λ n. subst (λ (f : Held). IsImage f (image n)) (held n) (is n) in
-            agreed slots s (reads_of (D.held d1)) image (c.in_ok-slots.ensures.found h) refl
-            (record { parts = found.1.parts; active = found.1.active; within = found.1.within; chained = chained })
+            agreed slots s (reads_of (D.held d1)) image (c.in_ok-slots.ensures.found h) refl found.1
             (λ slot. g.met.D.Disk.settled_alone d1 (file_of slot) (image (file_of slot)) h1
             (c.in_ok-slots.ensures.slots slot).0 (was (file_of slot)))
             (all_by (λ (e : Entry). (D.marks d1 e.file).settled ≡ true) (λ e. image e.file ≡ (D.held d1 e.file).reads)

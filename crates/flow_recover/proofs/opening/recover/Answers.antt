@@ -1,15 +1,39 @@
-use Rattle.std.proofs.Common.{◌≡◌, ◌⊎◌, inl, inr, ⊎_elim, ℕ, IsTrue, Bool, List, refl, sym, ◌∙◌, ap, subst}
-use Rattle.flow_disk.specs.Disk.{Held, Marks, IsImage, IsDiskImage, AllImages}
-use Rattle.flow_disk.specs.Moments.{LeavesOnly}
+use Rattle.std.proofs.Common.{◌≡◌, ◌⊎◌, inl, ℕ, IsTrue, List, refl, sym, ◌∙◌, subst}
+use Rattle.std.proofs.Common.{arith, IsErrAnd, Result, Ok, Err}
+use Rattle.flow_disk.specs.Cause.{HasCause, HasRisen}
+use Rattle.flow_disk.specs.Disk.{IsDiskImage}
 use Rattle.flow_disk.proofs.Moments.{one_run, by, now_all}
 use Rattle.flow_disk.proofs.Results.{passed_on}
 use Rattle.flow_manifest.specs.Slots.{reads_of}
-use Rattle.flow_recover.specs.State.{Part, State, at_rest, part_of}
-use Rattle.flow_recover.specs.Chain.{IsChained}
+use Rattle.flow_recover.specs.State.{Part, at_rest, part_of}
 use Rattle.flow_recover.specs.Standing.{IsKnown, StandsForEither}
+use Rattle.flow_recover.specs.declared.error.RecoverError.{RecoverError}
+use Rattle.flow_recover.specs.declared.error.RecoverError.TheVariants.{Fault}
 use Rattle.flow_recover.specs.Opening.{IsDeviceOrMemory, IsRead, StandsForNone}
-use Rattle.flow_recover.proofs.Recovering.{chosen, either_known, is_either, known_either, told_behind}
+use Rattle.flow_recover.proofs.Recovering.{chosen, either_known, known_either}
 use Rattle.flow_recover.proofs.opening.recover.Goals as goal
+
+-- a refusal that is passed on, behind a call that did not fail
+told_on : {T U : Type 0} (old mid now : ℕ) (e : RecoverError) (result : Result U RecoverError) → mid ≡ old
+    → HasCause {T = T} Fault mid now (Err e) → IsErrAnd result (λ x. x ≡ e) → HasCause Fault old now result
+told_on old mid now e (Ok x) same cause is = absurd is
+told_on {T} {U} old mid now e (Err x) same cause is =
+    subst (λ (y : RecoverError). HasCause {T = U} Fault old now (Err y)) (sym is) (record {
+      later = omega (arith, cause.later, same);
+      done = tt;
+      risen = λ f.
+          let fault : e ≡ Fault = cc in
+          let there : ◌≡◌ {A = Result T RecoverError} (Err e) (Err Fault) = cc in
+          subst (λ (n : ℕ). HasRisen n now) same (cause.risen there);
+      other = λ differs. cause.other differs ∙ same;
+    })
+
+pub returns-in_err-parts-clause-cause : goal.returns-in_err-parts-clause-cause
+returns-in_err-parts-clause-cause g c =
+    let D = g.D.Disk in
+    told_on (D.faults c.args.disk.now) (D.faults c.find.new.disk) (D.faults c.tidy.new.disk) (c.in_err-parts.field-0).0
+    c.from_residual-in_err-parts.result c.in_ok-slots.ensures.cause.done c.in_err-parts.ensures.cause
+    c.from_residual-in_err-parts.ensures.1
 
 pub returns-in_err-slots-clause-any_moment : goal.returns-in_err-slots-clause-any_moment
 returns-in_err-slots-clause-any_moment g c h a b all =
@@ -31,8 +55,7 @@ returns-in_err-parts-clause-told g c h =
     let counted = c.in_ok-slots.ensures.counted read.0 in
     passed_on c.from_residual-in_err-parts.result (c.in_err-parts.field-0).0 (λ e. IsDeviceOrMemory e ⊎ StandsForNone
     (reads_of (D.held d0))) c.from_residual-in_err-parts.ensures.1
-    (told_behind (D.held d1) (reads_of (D.held d0)) slots s (c.in_err-parts.field-0).0 refl refl read.1
-    (λ known. c.in_err-parts.ensures.refused h1 slots s refl (sym counted.end_is) known))
+    (inl (c.in_err-parts.ensures.refused h1 slots s refl (sym counted.end_is) read.1.known))
 
 pub returns-in_err-parts-clause-any_moment : goal.returns-in_err-parts-clause-any_moment
 returns-in_err-parts-clause-any_moment g c h a b all =
@@ -47,11 +70,11 @@ returns-in_err-parts-clause-any_moment g c h a b all =
     let s = at_rest slots.current read.0 (part_of c.in_ok-slots.field-0.files.active) in
     let counted = c.in_ok-slots.ensures.counted read.0 in
     let first = by D.moment D.left_since d0 d1 (IsDiskImage (D.held d0)) P (c.find.ensures.any_moment h) all in
-    let which = known_either (D.held d0) (D.held d1) slots a b s refl refl read.1
-    (λ n. g.met.D.Disk.reads_image d0 n h) (λ n. g.met.D.Disk.reads_image d1 n h1) (c.find.ensures.narrows h) all in
+    let which = known_either (D.held d0) (D.held d1) slots a b s c.in_ok-slots.field-0.files.carry refl read.1
+    (λ n. g.met.D.Disk.reads_image d1 n h1) (c.find.ensures.narrows h) all in
     one_run D.moment D.left_since d0 d1 d2 P first (by D.moment D.left_since d1 d2 (IsKnown slots s) P
-    (c.tidy.ensures.any_moment h1 slots s refl (sym counted.end_is) which.0)
-    (λ image known. either_known image slots a b s refl which.1 known))
+    (c.tidy.ensures.any_moment h1 slots s refl (sym counted.end_is) read.1.known)
+    (λ image known. either_known image slots a b s refl which known))
 
 pub returns-clause-any_moment : goal.returns-clause-any_moment
 returns-clause-any_moment g c h a b all =
@@ -66,11 +89,11 @@ returns-clause-any_moment g c h a b all =
     let s = at_rest slots.current read.0 (part_of c.in_ok-slots.field-0.files.active) in
     let counted = c.in_ok-slots.ensures.counted read.0 in
     let first = by D.moment D.left_since d0 d1 (IsDiskImage (D.held d0)) P (c.find.ensures.any_moment h) all in
-    let which = known_either (D.held d0) (D.held d1) slots a b s refl refl read.1
-    (λ n. g.met.D.Disk.reads_image d0 n h) (λ n. g.met.D.Disk.reads_image d1 n h1) (c.find.ensures.narrows h) all in
+    let which = known_either (D.held d0) (D.held d1) slots a b s c.in_ok-slots.field-0.files.carry refl read.1
+    (λ n. g.met.D.Disk.reads_image d1 n h1) (c.find.ensures.narrows h) all in
     one_run D.moment D.left_since d0 d1 d2 P first (by D.moment D.left_since d1 d2 (IsKnown slots s) P
-    (c.tidy.ensures.any_moment h1 slots s refl (sym counted.end_is) which.0)
-    (λ image known. either_known image slots a b s refl which.1 known))
+    (c.tidy.ensures.any_moment h1 slots s refl (sym counted.end_is) read.1.known)
+    (λ image known. either_known image slots a b s refl which known))
 
 pub returns-clause-recovered : goal.returns-clause-recovered
 returns-clause-recovered g c =
@@ -80,21 +103,27 @@ returns-clause-recovered g c =
     let d2 = c.tidy.new.disk in
     let slots = c.in_ok-slots.field-0.slots in
     let active = part_of c.in_ok-slots.field-0.files.active in
+    let carry = c.in_ok-slots.field-0.files.carry in
     let P : List Part → Type 0 = λ parts. IsRead (D.held d1) (reads_of (D.held d0)) slots
-    (at_rest slots.current parts active) in
+    (at_rest slots.current parts active) carry in
     let parts = chosen (D.honest d0) P (λ h. c.in_ok-slots.ensures.read h) in
     let s = at_rest slots.current parts.0 active in
     let counted = c.in_ok-slots.ensures.counted parts.0 in
     let back : IsTrue (D.honest d2) → IsTrue (D.honest d1) = λ h2. subst IsTrue c.tidy.ensures.honest h2 in
-    let known : IsTrue (D.honest d1) → IsChained s → AllImages (D.held d1) (IsKnown slots s) = λ h1 chained. (parts.1
-    (subst IsTrue c.find.ensures.honest h1)).known chained in
+    let is : IsTrue (D.honest d1) → IsRead (D.held d1) (reads_of (D.held d0)) slots s carry = λ h1. parts.1
+    (subst IsTrue c.find.ensures.honest h1) in
     record {
       parts = parts.0;
       counted = counted;
       ready = c.in_ok-parts.ensures.ready;
-      known = λ h2 chained. let h1 = back h2 in
-          let run = c.tidy.ensures.any_moment h1 slots s refl (sym counted.end_is) (known h1 chained) in
-          now_all D.moment D.left_since D.held d1 d2 (IsKnown slots s) run (λ image is. g.met.D.Disk.counts_now d2
-          (D.moment d1) image h2 run.later is);
-      frozen_stand = λ h2 chained. let h1 = back h2 in c.in_ok-parts.ensures.parts h1 slots s refl (known h1 chained);
+      all = c.in_ok-parts.ensures.all;
+      segment = c.in_ok-slots.ensures.segment;
+      hands_on = λ h2. (is (back h2)).hands_on;
+      read = λ h2. let there = is (back h2) in
+          record { force = (slots, refl, there.slots_are); files = there.holds; at_rest = refl };
+      known = λ h2. let h1 = back h2 in
+          let run = c.tidy.ensures.any_moment h1 slots s refl (sym counted.end_is) (is h1).known in
+          now_all D.moment D.left_since D.held d1 d2 (IsKnown slots s) run (λ image left. g.met.D.Disk.counts_now d2
+          (D.moment d1) image h2 run.later left);
+      frozen_stand = λ h2. let h1 = back h2 in c.in_ok-parts.ensures.parts h1 slots s refl (is h1).known;
     }

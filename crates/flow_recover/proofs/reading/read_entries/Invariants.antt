@@ -1,8 +1,10 @@
-use Rattle.std.proofs.Common.{◌≡◌, ◌≢◌, ℕ, ◌<◌, ◌≤◌, IsTrue, List, length, take, map, vec_len}
-use Rattle.std.specs.Prelude.{vec_capacity}
+use Rattle.std.proofs.Common.{◌≡◌, ℕ, ◌<◌, IsTrue, List, take, None, Option}
 use Rattle.flow_disk.specs.Disk.{IsDiskImage, Stays}
 use Rattle.flow_disk.specs.Moments.{LeavesOnly}
 use Rattle.flow_manifest.specs.Slots.{reads_of}
+use Rattle.flow_recover.specs.Chain.{ArePartsBehind}
+use Rattle.flow_recover.specs.Reading.{IsHeldBehind}
+use Rattle.flow_segment.specs.Carry.{Carry}
 use Rattle.flow_recover.specs.Standing.{PartsStand}
 use Rattle.flow_recover.specs.State.{Part}
 use Rattle.flow_recover.proofs.reading.read_entries.Given as goal
@@ -17,6 +19,7 @@ invariant-entries g l = let D = g.D.Disk in record {
   held : IsTrue (D.honest l.fn.disk) → Stays (D.held l.fn.disk) (D.held l.disk);
   run : IsTrue (D.honest l.fn.disk) → LeavesOnly D.moment D.left_since l.fn.disk l.disk (IsDiskImage
       (D.held l.fn.disk));
-  found : IsTrue (D.honest l.fn.disk) → (parts : List Part) × PartsStand (reads_of (D.held l.fn.disk))
-      (take l.entry-index l.entries) parts;
+  found : IsTrue (D.honest l.fn.disk) → (parts : List Part) × (before : Option Carry)
+      × PartsStand (reads_of (D.held l.fn.disk)) (take l.entry-index l.entries) parts
+      × ArePartsBehind l.manifest None (take l.entry-index l.entries) parts before × IsHeldBehind before l.called;
 }

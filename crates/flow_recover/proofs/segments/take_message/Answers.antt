@@ -1,6 +1,5 @@
-use Rattle.std.proofs.Common.{◌≡◌, ◌∙◌, refl, sym}
-use Rattle.flow_measure.specs.History.{Accepted}
-use Rattle.flow_recover.proofs.Accepting.{misplaced_none, taken_of}
+use Rattle.std.proofs.Common.{◌∙◌, refl, sym}
+use Rattle.flow_recover.proofs.Accepting.{misplaced_none}
 use Rattle.flow_recover.proofs.segments.take_message.Goals as goal
 
 pub returns-then-is_misplaced-clause-refused : goal.returns-then-is_misplaced-clause-refused

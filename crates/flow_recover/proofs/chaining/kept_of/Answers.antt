@@ -1,0 +1,51 @@
+use Rattle.std.proofs.Common.{◌≡◌}
+use Rattle.flow_disk.proofs.Results.{passed_on}
+use Rattle.flow_recover.specs.declared.error.RecoverError.TheVariants.{OutOfMemory}
+use Rattle.flow_recover.proofs.Behind.{is_called, rolled_kept, rolled_there, sealed_kept, sealed_there, wide_kept}
+use Rattle.flow_recover.proofs.Behind.{wide_there}
+use Rattle.flow_recover.proofs.chaining.kept_of.Goals as goal
+
+pub returns-in_ok-read_rolled-in-Wide-clause-found : goal.returns-in_ok-read_rolled-in-Wide-clause-found
+returns-in_ok-read_rolled-in-Wide-clause-found c before calls =
+    let e = c.args.entry in
+    wide_kept c.args.manifest.now c.args.octets.now e e.kind before c.args.called c.in-Wide.is c.requires.whole
+    c.in_ok-read_rolled-in-Wide.ensures.found calls
+
+pub returns-in_ok-read_rolled-in-Rolled-clause-found : goal.returns-in_ok-read_rolled-in-Rolled-clause-found
+returns-in_ok-read_rolled-in-Rolled-clause-found c before calls =
+    let e = c.args.entry in
+    rolled_kept c.args.manifest.now c.args.octets.now e e.kind before c.args.called c.in-Rolled.is c.requires.whole
+    c.in_ok-read_rolled-in-Rolled.ensures.found calls
+
+pub returns-in_err-read_rolled-in-Wide-clause-refused : goal.returns-in_err-read_rolled-in-Wide-clause-refused
+returns-in_err-read_rolled-in-Wide-clause-refused c before calls p after stands behind =
+    let e = c.args.entry in
+    let there = wide_there c.args.manifest.now c.args.octets.now e e.kind before after p c.in-Wide.is c.requires.whole
+    stands behind in
+    passed_on c.from_residual.result (c.in_err-read_rolled-in-Wide.field-0).0 (λ x. x ≡ OutOfMemory)
+    c.from_residual.ensures.1 (c.in_err-read_rolled-in-Wide.ensures.refused there.0 there.1)
+
+pub returns-in_err-read_rolled-in-Rolled-clause-refused : goal.returns-in_err-read_rolled-in-Rolled-clause-refused
+returns-in_err-read_rolled-in-Rolled-clause-refused c before calls p after stands behind =
+    let e = c.args.entry in
+    let there = rolled_there c.args.manifest.now c.args.octets.now e e.kind before after p c.in-Rolled.is
+    c.requires.whole stands behind in
+    passed_on c.from_residual-in_err-read_rolled-in-Rolled.result (c.in_err-read_rolled-in-Rolled.field-0).0
+    (λ x. x ≡ OutOfMemory) c.from_residual-in_err-read_rolled-in-Rolled.ensures.1
+    (c.in_err-read_rolled-in-Rolled.ensures.refused there.0 there.1)
+
+pub returns-in_err-next-in-Sealed-clause-refused : goal.returns-in_err-next-in-Sealed-clause-refused
+returns-in_err-next-in-Sealed-clause-refused c before calls p after stands behind =
+    let e = c.args.entry in
+    let there = sealed_there c.args.manifest.now c.args.octets.now e e.kind before after p c.in-Sealed.is stands
+    behind in
+    passed_on c.from_residual-in_err-next-in-Sealed.result (c.in_err-next-in-Sealed.field-0).0 (λ x. x ≡ OutOfMemory)
+    c.from_residual-in_err-next-in-Sealed.ensures.1
+    (c.in_err-next-in-Sealed.ensures.refused p there.1.0 there.0 (is_called before c.args.called p.front calls
+    there.1.1) there.1.2)
+
+pub returns-in_ok-next-in-Sealed-clause-found : goal.returns-in_ok-next-in-Sealed-clause-found
+returns-in_ok-next-in-Sealed-clause-found c before calls =
+    let e = c.args.entry in
+    sealed_kept c.args.manifest.now c.args.octets.now e e.kind before c.args.called c.in_ok-next-in-Sealed.next
+    c.in-Sealed.is calls c.in_ok-next-in-Sealed.ensures.found

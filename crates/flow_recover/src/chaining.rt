@@ -1,0 +1,197 @@
+//! What the octets of an archive's files are: sums, and segments of accepted messages, each behind the one before it.
+
+ghost use Rattle.std.specs.Prelude.{◌≡◌, ◌≢◌, ◌<◌, List, [], Option, length, OnOk, IfOk, IfErr};
+ghost use Rattle.flow_measure.specs.History.{Accepted};
+ghost use Rattle.flow_measure.specs.Sums.{Table};
+ghost use Rattle.flow_rolled.specs.Rollup.{IsRollup};
+ghost use Rattle.flow_segment.specs.Carry.{no_carry, prefix_of, Carry};
+ghost use Rattle.flow_segment.specs.Prefix.{AreRead};
+ghost use Rattle.flow_recover.specs.State.{part_of, Part};
+ghost use Rattle.flow_recover.specs.Chain.{IsPartBehind, IsSegment};
+ghost use Rattle.flow_recover.specs.Reading.{AreOf, IsHeldBehind, IsCalled, IsRestatement};
+ghost use Rattle.flow_recover.specs.Standing.{IsSealedAt, StandsAs};
+
+use crate::active::ActiveSegment;
+use crate::error::RecoverError;
+use crate::segments::{Section, take_list, take_octets};
+use flow_manifest::{Entry, Kind, Manifest};
+use flow_rolled::{RolledError, decode_rows};
+use flow_segment::Carry;
+use std::alloc::Global;
+
+/// Takes in a segment's prefix, which is to be these octets, if the segment isn't the first one.
+fn read_prefix(
+    carry: &mut Carry,
+    alloc: Global,
+    called: &Option<Vec<u8>>,
+    file: u64,
+    octets: &[u8],
+) -> Result<(), RecoverError>
+    requires { carry.old ≡ no_carry 0 }
+    ensures found { OnOk result (IsRestatement octets.now carry.new × IsCalled called.now octets.now) }
+    ensures refused { (messages : List Accepted) → AreRead octets.now [] messages [] → AreOf Section.Prefix messages
+        → IsCalled called.now octets.now → IfErr result (λ e. e ≡ RecoverError.OutOfMemory) }
+    ensures device { IfErr result (λ e. e ≢ RecoverError.Fault) }
+{
+    take_octets(carry, alloc, octets, Section::Prefix, file, 0)?;
+    let Some(called) = called else {
+        return Ok(());
+    };
+    if octets != called.as_slice() {
+        return Err(RecoverError::Damaged(file, 0));
+    }
+    Ok(())
+}
+
+/// Takes in the active segment.
+fn take_active(
+    carry: &mut Carry,
+    alloc: Global,
+    called: &Option<Vec<u8>>,
+    last: Entry,
+    segment: &ActiveSegment,
+) -> Result<(), RecoverError>
+    requires { carry.old ≡ no_carry 0 }
+    ensures found { OnOk result (IsCalled called.now (part_of segment.now).front
+        × IsSegment (part_of segment.now) carry.new) }
+    ensures refused { (whole : Carry) → IsCalled called.now (part_of segment.now).front
+        → IsSegment (part_of segment.now) whole → IfErr result (λ e. e ≡ RecoverError.OutOfMemory) }
+    ensures device { IfErr result (λ e. e ≢ RecoverError.Fault) }
+{
+    read_prefix(carry, alloc, called, last.file, segment.prefix.as_slice())?;
+    let place = u64::from(last.prefix);
+    take_list(carry, alloc, segment.messages.as_slice(), last.file, place)?;
+    Ok(())
+}
+
+/// What the active segment hands on, whose prefix is to be these octets, if it isn't the first segment.
+pub(crate) fn read_segment(
+    alloc: Global,
+    called: &Option<Vec<u8>>,
+    last: Entry,
+    segment: &ActiveSegment,
+) -> Result<Carry, RecoverError>
+    ensures found { IfOk result (λ carry. IsCalled called.now (part_of segment.now).front
+        × IsSegment (part_of segment.now) carry) }
+    ensures refused { (whole : Carry) → IsCalled called.now (part_of segment.now).front
+        → IsSegment (part_of segment.now) whole → IfErr result (λ e. e ≡ RecoverError.OutOfMemory) }
+    ensures device { IfErr result (λ e. e ≢ RecoverError.Fault) }
+{
+    let mut carry = Carry::new(alloc);
+    take_active(&mut carry, alloc, called, last, segment)?;
+    Ok(carry)
+}
+
+/// Takes in a sealed segment with these octets.
+fn take_sealed(
+    carry: &mut Carry,
+    alloc: Global,
+    called: &Option<Vec<u8>>,
+    entry: Entry,
+    octets: &[u8],
+) -> Result<(), RecoverError>
+    requires new { carry.old ≡ no_carry 0 }
+    requires whole { length octets.now ≡ entry.length }
+    ensures found { OnOk result ((p : Part) × IsSealedAt octets.now entry p × IsCalled called.now p.front
+        × IsSegment p carry.new) }
+    ensures refused { (p : Part) (whole : Carry) → IsSealedAt octets.now entry p → IsCalled called.now p.front
+        → IsSegment p whole → IfErr result (λ e. e ≡ RecoverError.OutOfMemory) }
+    ensures device { IfErr result (λ e. e ≢ RecoverError.Fault) }
+{
+    let prefix = entry.prefix as usize;
+    if prefix > octets.len() {
+        return Err(RecoverError::Damaged(entry.file, entry.length));
+    }
+    let front = &octets[..prefix];
+    let messages = &octets[prefix..];
+    read_prefix(carry, alloc, called, entry.file, front)?;
+    let place = u64::from(entry.prefix);
+    let count = take_octets(carry, alloc, messages, Section::Messages, entry.file, place)?;
+    if count != entry.messages {
+        return Err(RecoverError::Damaged(entry.file, entry.length));
+    }
+    Ok(())
+}
+
+/// The prefix that a sealed segment with these octets calls for, whose own prefix is to be these octets, if it isn't
+/// the first segment.
+fn read_sealed(
+    alloc: Global,
+    called: &Option<Vec<u8>>,
+    entry: Entry,
+    octets: &[u8],
+) -> Result<Vec<u8>, RecoverError>
+    requires { length octets.now ≡ entry.length }
+    ensures found { IfOk result (λ next. (p : Part) × (carry : Carry) × IsSealedAt octets.now entry p
+        × IsCalled called.now p.front × IsSegment p carry × (next.items ≡ prefix_of carry)) }
+    ensures refused { (p : Part) (whole : Carry) → IsSealedAt octets.now entry p → IsCalled called.now p.front
+        → IsSegment p whole → IfErr result (λ e. e ≡ RecoverError.OutOfMemory) }
+    ensures device { IfErr result (λ e. e ≢ RecoverError.Fault) }
+{
+    let mut carry = Carry::new(alloc);
+    take_sealed(&mut carry, alloc, called, entry, octets)?;
+    let next = carry.prefix(alloc)?;
+    Ok(next)
+}
+
+/// Looks whether octets are the rolled file of some sums by a width.
+fn read_rolled(alloc: Global, width: u32, file: u64, octets: &[u8]) -> Result<(), RecoverError>
+    requires { 0 < width }
+    ensures found { OnOk result ((table : Table) × IsRollup width octets.now table) }
+    ensures refused { (table : Table) → IsRollup width octets.now table
+        → IfErr result (λ e. e ≡ RecoverError.OutOfMemory) }
+    ensures device { IfErr result (λ e. e ≢ RecoverError.Fault) }
+{
+    match decode_rows(alloc, octets, width) {
+        Ok(_rows) => Ok(()),
+        Err(fault) => Err(told(fault, file)),
+    }
+}
+
+/// Why octets are no rolled file, told of their file.
+fn told(fault: RolledError, file: u64) -> RecoverError
+    ensures memory { fault ≡ RolledError.OutOfMemory → result ≡ RecoverError.OutOfMemory }
+    ensures device { result ≢ RecoverError.Fault }
+{
+    match fault {
+        RolledError::NotRolled(at) => RecoverError::Damaged(file, at as u64),
+        RolledError::OutOfMemory => RecoverError::OutOfMemory,
+    }
+}
+
+/// Looks whether the octets of an entry's file are what they are to be, behind files that call for this prefix, and
+/// tells what is called for behind it.
+pub(crate) fn kept_of(
+    alloc: Global,
+    manifest: &Manifest,
+    called: Option<Vec<u8>>,
+    entry: Entry,
+    octets: &[u8],
+) -> Result<Option<Vec<u8>>, RecoverError>
+    requires width { 0 < manifest.now.width }
+    requires wide { 0 < manifest.now.wide }
+    requires whole { length octets.now ≡ entry.length }
+    ensures found { (before : Option Carry) → IsHeldBehind before called → IfOk result (λ next. (p : Part)
+        × (after : Option Carry) × StandsAs entry.kind octets.now entry p
+        × IsPartBehind manifest.now entry.kind before p after × IsHeldBehind after next) }
+    ensures refused { (before : Option Carry) → IsHeldBehind before called → (p : Part) (after : Option Carry)
+        → StandsAs entry.kind octets.now entry p → IsPartBehind manifest.now entry.kind before p after
+        → IfErr result (λ e. e ≡ RecoverError.OutOfMemory) }
+    ensures device { IfErr result (λ e. e ≢ RecoverError.Fault) }
+{
+    match entry.kind {
+        Kind::Wide => {
+            read_rolled(alloc, manifest.wide, entry.file, octets)?;
+            Ok(called)
+        }
+        Kind::Rolled => {
+            read_rolled(alloc, manifest.width, entry.file, octets)?;
+            Ok(called)
+        }
+        Kind::Sealed => {
+            let next = read_sealed(alloc, &called, entry, octets)?;
+            Ok(Some(next))
+        }
+        Kind::Active => Err(RecoverError::Damaged(entry.file, 0)),
+    }
+}
