@@ -1,6 +1,7 @@
 -- What is answered to an append.
-use Rattle.std.proofs.Common.{◌≡◌, ◌⊎◌, inl, inr, ℕ, ◌<◌, ◌≤◌, Bool, false, List, length, Result, Ok, Err}
-use Rattle.std.proofs.Common.{refl, sym, subst}
+use Rattle.std.proofs.Common.{◌≡◌, ◌≢◌, ◌⊎◌, inl, inr, ⊎_elim, ℕ, ◌<◌, ◌≤◌, Bool, false, List, [], length, Result, Ok}
+use Rattle.std.proofs.Common.{Err, refl, sym, ap, subst, arith}
+use Rattle.std.proofs.lemmas.List.{nil_from_length}
 use Rattle.std.specs.Prelude.{IsErrAnd}
 use Rattle.flow_codec.specs.declared.error.MessageError.{MessageError}
 use Rattle.flow_codec.specs.declared.error.MessageError.TheVariants as message
@@ -13,7 +14,8 @@ use Rattle.flow_archive.specs.declared.refusal.ArchiveError.{ArchiveError}
 use Rattle.flow_archive.specs.declared.refusal.ArchiveError.TheVariants.{Message, OutOfMemory, NumbersSpent, NotEmpty}
 use Rattle.flow_archive.specs.declared.refusal.ArchiveError.TheVariants.{Fault, NoRoom, ManifestFull, NothingToSeal}
 use Rattle.flow_archive.specs.declared.refusal.ArchiveError.TheVariants.{Closed}
-use Rattle.flow_archive.specs.Answers.{AnswersAppend, HasPositions, HasRoom, IsFirstFault, IsNotAdmitted}
+use Rattle.flow_archive.specs.Answers.{AnswersAppend, AnswersSeal, HasPositions, HasRoom, IsFirstFault, IsNotAdmitted}
+use Rattle.flow_archive.specs.Answers.{IsNotFollowed}
 use Rattle.flow_archive.specs.Refusals.{refusal_of}
 
 -- what holds of a refusal that is passed on
@@ -81,3 +83,26 @@ carried_not octets carry room positions e (inl memory) =
     subst (IsNotAdmitted octets carry room positions) (sym memory) tt
 carried_not octets carry room positions e (inr fault) =
     subst (IsNotAdmitted octets carry room positions) (sym fault.2) fault.1
+
+-- a seal that no manifest follows is refused, and nothing changes
+pub not_followed : (honest closed : Bool) (s : State) (count : ℕ) (e : ArchiveError) → closed ≡ false
+    → count ≡ length s.active.messages → s.next ≡ s.manifest.next → IsNotFollowed s.manifest count e
+    → AnswersSeal honest closed s (Err e) s
+not_followed honest closed s count NothingToSeal still all next is =
+    (still, nil_from_length s.active.messages (omega (arith, all, is)), refl)
+not_followed honest closed s count ManifestFull still all next is =
+    (still, (λ none. omega (arith, all, is.0, ap (λ (l : List (List ℕ)). length l) none)), is.1, refl)
+not_followed honest closed s count NumbersSpent still all next is = (
+  still,
+  (λ none. omega (arith, all, is.0, ap (λ (l : List (List ℕ)). length l) none)),
+  is.1,
+  (λ numbers. ⊎_elim (λ file. omega (arith, numbers.0, next, file))
+      (λ generation. omega (arith, numbers.1, generation)) is.2),
+  refl,
+)
+not_followed honest closed s count OutOfMemory still all next is = (still, refl)
+not_followed honest closed s count (Message fault) still all next is = absurd is
+not_followed honest closed s count NotEmpty still all next is = absurd is
+not_followed honest closed s count Fault still all next is = absurd is
+not_followed honest closed s count NoRoom still all next is = absurd is
+not_followed honest closed s count Closed still all next is = absurd is

@@ -9,3 +9,5 @@ pub mod Parting
 pub mod Moved
 pub mod Answering
 pub mod Running
+pub mod Empty
+pub mod Reopened

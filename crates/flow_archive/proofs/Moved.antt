@@ -13,10 +13,11 @@ use Rattle.flow_segment.specs.Carry.{Carry, prefix_of, IsCarry}
 use Rattle.flow_recover.specs.State.{Part, State, end_of, moved_on}
 use Rattle.flow_recover.specs.Chain.{HandsOn}
 use Rattle.flow_recover.specs.Kept.{IsCounted}
+use Rattle.flow_recover.specs.Opening.{FrozenStand}
 use Rattle.flow_recover.specs.Standing.{IsKnown, IsSealedAt}
 use Rattle.flow_archive.specs.Answers.{IsMovedOn}
 use Rattle.flow_archive.specs.Moving.{MovesMarks}
-use Rattle.flow_archive.specs.Parts.{part_at, parts_at, FrozenStand}
+use Rattle.flow_archive.specs.Parts.{part_at, parts_at}
 use Rattle.flow_archive.specs.Seen.{IsArchive, IsOpen, state_in}
 use Rattle.flow_archive.proofs.Chaining.{hands_next, segment_called}
 use Rattle.flow_archive.proofs.Parting.{frozen_push, one_sealed, parts_at_push}

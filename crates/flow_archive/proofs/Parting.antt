@@ -6,8 +6,9 @@ use Rattle.flow_gate.specs.Gate.{IsWhole, StandInRow, length_field}
 use Rattle.flow_manifest.specs.declared.manifest.Kind.TheVariants.{Sealed}
 use Rattle.flow_manifest.specs.declared.manifest.Entry.{Entry}
 use Rattle.flow_recover.specs.State.{Part}
+use Rattle.flow_recover.specs.Opening.{FrozenStand}
 use Rattle.flow_recover.specs.Standing.{IsSealedAt, StandsAs}
-use Rattle.flow_archive.specs.Parts.{messages_in, part_at, parts_at, FrozenStand}
+use Rattle.flow_archive.specs.Parts.{messages_in, part_at, parts_at}
 
 pub parts_at_push : {S : Type 0} (octets : S → List ℕ) (e : Entry) (x : S) (entries : List Entry) (files : List S)
     → length files ≡ length entries → parts_at octets (entries ++ e ∷ []) (files ++ x ∷ [])

@@ -1,11 +1,12 @@
 -- What an archive answers to each event.
-use Rattle.std.specs.Prelude.{◌≡◌, ◌≢◌, ℕ, ◌+◌, ◌<◌, ◌≤◌, ◌^◌, Bool, true, false, IsTrue, List, [], ◌∷◌, ◌++◌}
+use Rattle.std.specs.Prelude.{◌≡◌, ◌≢◌, ◌⊎◌, ℕ, ◌+◌, ◌<◌, ◌≤◌, ◌^◌, Bool, true, false, IsTrue, List, [], ◌∷◌, ◌++◌}
 use Rattle.std.specs.Prelude.{length, Option, Some, None, Result, Ok, Err}
 use Rattle.flow_codec.specs.declared.error.MessageError.{MessageError}
 use Rattle.flow_codec.specs.Fault.{IsFault}
 use Rattle.flow_codec.specs.Templates.{AllTemplates}
 use Rattle.flow_gate.specs.Gate.{octet_sum}
 use Rattle.flow_gate.specs.Scan.{texts}
+use Rattle.flow_manifest.specs.declared.manifest.Manifest.{Manifest}
 use Rattle.flow_manifest.specs.Following.{active_of, messages_of}
 use Rattle.flow_measure.specs.History.{Accepted, AreAcceptedFrom, templates_from}
 use Rattle.flow_segment.specs.Carry.{Carry, carry_from, octets_of, prefix_of}
@@ -94,8 +95,7 @@ pub record MayAppend (s : State) (octets : List (List ℕ)) : Type 0 where
   pub positions : HasPositions s (length octets)
 
 -- The position of the last message; or the first of the refusals 49, 1 to 10, 40, 25 that holds. In place of any but
--- 49 it
--- may be 11, in place of an Ok 30.
+-- 49 it may be 11, in place of an Ok 30.
 abbrev pub AnswersAppend : Bool → State → List (List ℕ) → Result ℕ ArchiveError → State → Type 0
 AnswersAppend closed s octets (Ok position) after =
     (closed ≡ false) × MayAppend s octets × (after ≡ appended s octets) × (position ≡ position_of after)
@@ -122,6 +122,26 @@ IsMovedOn honest s after =
     (carry : Carry) × (sealed : Part) × IsSegment s.active carry × (IsTrue honest → sealed ≡ s.active)
     × (after ≡ record (moved_on s (prefix_of carry)) { parts = s.parts ++ sealed ∷ [] })
 
+-- nothing of a manifest, and of the count of its active segment's messages, speaks against a seal
+pub record MayFollow (m : Manifest) (count : ℕ) : Type 0 where
+  pub some : 1 ≤ count
+  pub few : length m.entries < 4096
+  pub next : m.next + 1 < 2 ^ 64
+  pub generation : m.generation + 1 < 2 ^ 64
+
+-- Why no manifest follows: the first of the refusals 42, 41, 25 that holds, or 11.
+abbrev pub IsNotFollowed : Manifest → ℕ → ArchiveError → Type 0
+IsNotFollowed m count NothingToSeal = count ≡ 0
+IsNotFollowed m count ManifestFull = (1 ≤ count) × (4096 ≤ length m.entries)
+IsNotFollowed m count NumbersSpent =
+    (1 ≤ count) × (length m.entries < 4096) × ((2 ^ 64 ≤ m.next + 1) ⊎ (2 ^ 64 ≤ m.generation + 1))
+IsNotFollowed m count OutOfMemory = Unit {0}
+IsNotFollowed m count (Message fault) = ⊥
+IsNotFollowed m count NotEmpty = ⊥
+IsNotFollowed m count Fault = ⊥
+IsNotFollowed m count NoRoom = ⊥
+IsNotFollowed m count Closed = ⊥
+
 -- nothing speaks against a seal
 pub record MaySeal (s : State) : Type 0 where
   pub some : s.active.messages ≢ []
@@ -129,8 +149,7 @@ pub record MaySeal (s : State) : Type 0 where
   pub numbers : HasNumbers s
 
 -- The sealed file's number; or the first of the refusals 49, 42, 41, 25 that holds. In place of any but 49 it may be
--- 11,
--- in place of an Ok 30.
+-- 11, in place of an Ok 30.
 abbrev pub AnswersSeal : Bool → Bool → State → Result ℕ ArchiveError → State → Type 0
 AnswersSeal honest closed s (Ok file) after =
     (closed ≡ false) × MaySeal s × IsMovedOn honest s after × (file ≡ (active_of s.manifest).file)

@@ -6,3 +6,4 @@ pub mod Moving
 pub mod Seen
 pub mod Answers
 pub mod Runs
+pub mod Beginning

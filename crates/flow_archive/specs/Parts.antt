@@ -5,15 +5,13 @@ use Rattle.flow_manifest.specs.declared.manifest.Kind.{Kind}
 use Rattle.flow_manifest.specs.declared.manifest.Kind.TheVariants.{Wide, Rolled, Sealed, Active}
 use Rattle.flow_manifest.specs.declared.manifest.Entry.{Entry}
 use Rattle.flow_recover.specs.State.{Part}
-use Rattle.flow_recover.specs.Standing.{StandsAs}
 
--- So many messages, as their Length fields tell. On a disk that isn't honest a file may hold anything, and this is
--- what it
--- is taken for.
+-- So many messages, as their Length fields tell. On a disk that isn't honest a file may hold anything, and this is what
+-- it is taken for.
 abbrev pub messages_in : ℕ → List ℕ → List (List ℕ)
 messages_in zero octets = []
-messages_in (suc count) octets = take (length_field octets 0) octets ∷ messages_in count (drop (length_field octets
-    0) octets)
+messages_in (suc count) octets =
+    take (length_field octets 0) octets ∷ messages_in count (drop (length_field octets 0) octets)
 
 -- a segment is its prefix and its messages; in a rolled or wide file all counts as its front
 abbrev pub part_at : Kind → Entry → List ℕ → Part
@@ -29,13 +27,3 @@ parts_at octets [] files = []
 parts_at octets (entry ∷ entries) [] = []
 parts_at octets (entry ∷ entries) (file ∷ files) =
     part_at entry.kind entry (octets file) ∷ parts_at octets entries files
-
--- the frozen files stand as their parts
-abbrev pub FrozenStand : {S : Type 0} → (S → List ℕ) → List Entry → List Part → List S → Type 0
-FrozenStand octets [] [] [] = Unit {0}
-FrozenStand octets [] [] (file ∷ files) = ⊥
-FrozenStand octets [] (part ∷ parts) files = ⊥
-FrozenStand octets (entry ∷ entries) [] files = ⊥
-FrozenStand octets (entry ∷ entries) (part ∷ parts) [] = ⊥
-FrozenStand octets (entry ∷ entries) (part ∷ parts) (file ∷ files) =
-    StandsAs entry.kind (octets file) entry part × FrozenStand octets entries parts files

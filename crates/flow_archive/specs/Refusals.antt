@@ -3,6 +3,8 @@ use Rattle.std.specs.Prelude.{ℕ, List, codes}
 use Rattle.flow_codec.specs.declared.error.MessageError.{MessageError}
 use Rattle.flow_codec.specs.declared.error.MessageError.TheVariants as message
 use Rattle.flow_codec.specs.Printed.{message_text}
+use Rattle.flow_disk.specs.declared.error.DiskError.{DiskError}
+use Rattle.flow_disk.specs.declared.error.DiskError.TheVariants as disk
 use Rattle.flow_archive.specs.declared.refusal.ArchiveError.{ArchiveError}
 use Rattle.flow_archive.specs.declared.refusal.ArchiveError.TheVariants as refusal
 
@@ -21,3 +23,8 @@ archive_text refusal.Closed = codes "49 Closed"
 abbrev pub refusal_of : MessageError → ArchiveError
 refusal_of message.OutOfMemory = refusal.OutOfMemory
 refusal_of fault = refusal.Message fault
+
+-- the fault of a disk
+abbrev pub of_disk : DiskError → ArchiveError
+of_disk disk.Fault = refusal.Fault
+of_disk disk.OutOfMemory = refusal.OutOfMemory

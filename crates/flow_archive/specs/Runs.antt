@@ -58,8 +58,7 @@ StandsForSome s events answers image =
     × StandsFor image (reopened after)
 
 -- The archive before event i (from 0), and what a stop leaves from then on. Where it was closed by then, nothing
--- happens
--- any more.
+-- happens any more.
 pub record IsSince {D : Type 0} (honest : D → Bool) (moment : D → ℕ) (left_since : D → ℕ → (ℕ → List ℕ) → Type 0)
     (old new : Seen D) (events : List Event) (answers : List (Result Answer ArchiveError)) (i : ℕ) : Type 0 where
   pub mid : Seen D

@@ -1,6 +1,6 @@
 -- An archive as its callers see it, and what one call makes of it.
 use Rattle.std.specs.Prelude.{◌≡◌, ◌≢◌, ◌⊎◌, ℕ, Bool, true, false, IsTrue, List, [], length, Result, OnOk, IfErr}
-use Rattle.std.specs.Prelude.{IsErrOf, None}
+use Rattle.std.specs.Prelude.{IsErrOf}
 use Rattle.flow_disk.specs.Disk.{Held, Marks}
 use Rattle.flow_disk.specs.Moments.{LeavesOnly}
 use Rattle.flow_manifest.specs.declared.manifest.Entry.{Entry}
@@ -8,13 +8,14 @@ use Rattle.flow_manifest.specs.declared.manifest.Manifest.{Manifest}
 use Rattle.flow_manifest.specs.declared.slots.Slots.{Slots}
 use Rattle.flow_manifest.specs.Following.{front_of}
 use Rattle.flow_segment.specs.Carry.{Carry}
-use Rattle.flow_recover.specs.State.{State, reopened}
+use Rattle.flow_recover.specs.State.{State, at_rest, reopened}
 use Rattle.flow_recover.specs.Chain.{HandsOn, IsSegment}
 use Rattle.flow_recover.specs.Kept.{IsCounted, IsKept}
+use Rattle.flow_recover.specs.Opening.{FrozenStand}
 use Rattle.flow_recover.specs.Standing.{StandsFor}
 use Rattle.flow_archive.specs.declared.refusal.ArchiveError.{ArchiveError}
 use Rattle.flow_archive.specs.declared.refusal.ArchiveError.TheVariants.{Fault}
-use Rattle.flow_archive.specs.Parts.{parts_at, FrozenStand}
+use Rattle.flow_archive.specs.Parts.{parts_at}
 
 pub record Seen (D : Type 0) : Type 0 where
   pub disk : D
@@ -23,17 +24,10 @@ pub record Seen (D : Type 0) : Type 0 where
 
 -- ---- what an archive keeps
 
--- with nothing under way
+-- what it stands for, with nothing under way
 abbrev pub state_in : {S : Type 0} → (S → List ℕ) → Manifest → List S → List ℕ → List (List ℕ) → State
-state_in octets m files prefix messages = record {
-  manifest = m;
-  parts = parts_at octets (front_of m) files;
-  active = record { front = prefix; messages = messages };
-  next = m.next;
-  job = None;
-  waiting = [];
-  shared = false;
-}
+state_in octets m files prefix messages =
+    at_rest m (parts_at octets (front_of m) files) (record { front = prefix; messages = messages })
 
 -- while it is open
 pub record IsOpen {D S : Type 0} (honest : D → Bool) (marks : D → ℕ → Marks) (held : D → ℕ → Held)

@@ -1,8 +1,8 @@
 //! The archive over a disk.
 
-ghost use Rattle.std.specs.Prelude.{◌≡◌, ◌↔◌, ◌≤◌, true, false, IsTrue, [], ◌∷◌, length, IsErrOf};
+ghost use Rattle.std.specs.Prelude.{◌≡◌, ◌↔◌, ◌≤◌, true, false, IsTrue, [], ◌∷◌, length};
 ghost use Rattle.flow_disk.specs.Disk.{AllImages};
-ghost use Rattle.flow_disk.specs.Cause.{HasRisen};
+ghost use Rattle.flow_disk.specs.Cause.{HasCause};
 ghost use Rattle.flow_gate.specs.Steps.{slices};
 ghost use Rattle.flow_manifest.specs.declared.manifest.Kind.TheVariants.{Rolled, Sealed};
 ghost use Rattle.flow_manifest.specs.Following.{count_of};
@@ -10,7 +10,6 @@ ghost use Rattle.flow_recover.specs.State.{appended, reopened};
 ghost use Rattle.flow_recover.specs.Standing.{StandsFor};
 ghost use Rattle.flow_archive.specs.Answers.{AnswersAppend, AnswersSeal, HasRoom, IsMovedOn};
 ghost use Rattle.flow_archive.specs.Seen.{Seen, IsStep};
-ghost use Rattle.flow_archive.specs.declared.refusal.ArchiveError.TheVariants.{Fault};
 
 use crate::moving::move_on;
 use crate::next::next_segment;
@@ -23,9 +22,6 @@ use flow_segment::Carry;
 use std::alloc::Global;
 use std::marker::Model;
 
-/// The most entries of a manifest.
-const MOST_ENTRIES: usize = 4_096;
-
 /// The most messages of an archive: 2^48 - 1.
 const MOST_MESSAGES: u64 = 281_474_976_710_655;
 
@@ -33,16 +29,16 @@ const MOST_MESSAGES: u64 = 281_474_976_710_655;
 /// leaves it whole or not at all.
 #[derive(Drop)]
 pub struct Archive<D: Disk> {
-    disk: D,
-    slots: Slots,
-    last: Entry,
-    end: u64,
-    total: u64,
-    carry: Carry,
-    files: Vec<D::Sealed>,
-    prefix: Vec<u8>,
-    messages: Vec<Vec<u8>>,
-    closed: bool,
+    pub(crate) disk: D,
+    pub(crate) slots: Slots,
+    pub(crate) last: Entry,
+    pub(crate) end: u64,
+    pub(crate) total: u64,
+    pub(crate) carry: Carry,
+    pub(crate) files: Vec<D::Sealed>,
+    pub(crate) prefix: Vec<u8>,
+    pub(crate) messages: Vec<Vec<u8>>,
+    pub(crate) closed: bool,
 }
 
 impl<D: Disk> Model for Archive<D> {
@@ -113,7 +109,7 @@ impl<D: Disk> Archive<D> {
         ensures answers { AnswersAppend self.old.closed self.old.state (message.now ∷ []) result self.new.state }
         ensures step { IsStep D.honest D.moment D.left_since self.old self.new
             (λ after. after ≡ appended self.old.state (message.now ∷ [])) result }
-        ensures cause { IsErrOf result Fault → HasRisen (D.faults self.old.disk) (D.faults self.new.disk) }
+        ensures cause { HasCause ArchiveError.Fault (D.faults self.old.disk) (D.faults self.new.disk) result }
     {
         self.append_batch(alloc, &[message])
     }
@@ -128,7 +124,7 @@ impl<D: Disk> Archive<D> {
         ensures answers { AnswersAppend self.old.closed self.old.state (slices messages.now) result self.new.state }
         ensures step { IsStep D.honest D.moment D.left_since self.old self.new
             (λ after. after ≡ appended self.old.state (slices messages.now)) result }
-        ensures cause { IsErrOf result Fault → HasRisen (D.faults self.old.disk) (D.faults self.new.disk) }
+        ensures cause { HasCause ArchiveError.Fault (D.faults self.old.disk) (D.faults self.new.disk) result }
     {
         if self.closed {
             return Err(ArchiveError::Closed);
@@ -155,41 +151,28 @@ impl<D: Disk> Archive<D> {
     }
 
     /// Makes the active segment a sealed one, begins a new one with the prefix that it calls for, and answers the
-    /// number
-    /// of the sealed file. Refusals, the first that holds: 49 Closed; 42 NothingToSeal; 41 ManifestFull; 25
+    /// number of the sealed file. Refusals, the first that holds: 49 Closed; 42 NothingToSeal; 41 ManifestFull; 25
     /// NumbersSpent; and 11 OutOfMemory, which changes nothing either. After 30 Fault the archive is closed.
     pub fn seal(&mut self, alloc: Global) -> Result<u64, ArchiveError>
         ensures answers { AnswersSeal (D.honest self.old.disk) self.old.closed self.old.state result self.new.state }
         ensures step { IsStep D.honest D.moment D.left_since self.old self.new
             (λ after. IsMovedOn true self.old.state after) result }
-        ensures cause { IsErrOf result Fault → HasRisen (D.faults self.old.disk) (D.faults self.new.disk) }
+        ensures cause { HasCause ArchiveError.Fault (D.faults self.old.disk) (D.faults self.new.disk) result }
     {
         if self.closed {
             return Err(ArchiveError::Closed);
         }
-        let count = self.messages.len();
-        if count == 0 {
-            return Err(ArchiveError::NothingToSeal);
-        }
-        if self.slots.current.entries.len() >= MOST_ENTRIES {
-            return Err(ArchiveError::ManifestFull);
-        }
-        let file = self.slots.current.next;
-        if self.slots.current.generation == u64::MAX || file == u64::MAX {
-            return Err(ArchiveError::NumbersSpent);
-        }
-        let Ok(next) = next_segment(
+        let next = next_segment(
             alloc,
             &self.slots.current,
             &self.carry,
             self.end,
-            count as u64,
-        ) else {
-            return Err(ArchiveError::OutOfMemory);
-        };
+            self.messages.len() as u64,
+        )?;
         let Ok(()) = self.files.reserve(1) else {
             return Err(ArchiveError::OutOfMemory);
         };
+        let file = self.slots.current.next;
         let slot = self.slots.current_slot.other();
         match move_on(
             &mut self.disk,

@@ -1,6 +1,7 @@
 //! Lists of events.
 
-ghost use Rattle.std.specs.Prelude.{◌≡◌, ℕ, true, false, IsTrue, All, IfOk};
+ghost use Rattle.std.specs.Prelude.{◌≡◌, ℕ, true, false, IsTrue, All, IfOk, IfErr};
+ghost use Rattle.flow_disk.specs.Cause.{HasCause};
 ghost use Rattle.flow_disk.specs.Moments.{LeavesOnly};
 ghost use Rattle.flow_gate.specs.Scan.{texts};
 ghost use Rattle.flow_gate.specs.Steps.{slices};
@@ -36,6 +37,7 @@ pub fn take_event<D: Disk>(
         archive.new.state }
     ensures step { IsStep D.honest D.moment D.left_since archive.old archive.new
         (Takes true archive.old.state event.now) result }
+    ensures cause { HasCause ArchiveError.Fault (D.faults archive.old.disk) (D.faults archive.new.disk) result }
 {
     match event {
         Event::Append(message) => {
@@ -66,6 +68,7 @@ pub fn run<D: Disk>(
     requires { All IsEvent events.now }
     ensures run { IfOk result (λ answers. IsRun D.honest D.moment D.left_since archive.old events.now answers.items
         archive.new) }
+    ensures kept { IfErr result (λ _. archive.new ≡ archive.old) }
 
     // A stop at any moment leaves the archive after some front of the events.
     ensures any_moment { IsTrue (D.honest archive.old.disk) → archive.old.closed ≡ false

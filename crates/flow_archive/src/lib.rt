@@ -5,18 +5,23 @@
 //! their first fault, and a refusal leaves the history as it was. `totals` answers the sums of the flows of all
 //! messages. No sum ever passes its type.
 //!
-//! An `Archive` is one over a disk. Each append, batch or seal is answered by the first refusal that holds, or taken. A
-//! stop at any moment, inside device calls too, leaves what stands for the archive before the event or after it: after
-//! Ok after it, after a refusal but 30 before it. After 30 the archive is closed: no call changes anything any more.
-//! `run` takes lists of events, of which a stop leaves some front.
+//! An `Archive` is one over a disk. `create` makes one without messages, on a disk without files. `open` finds the state
+//! for which what the disk reads stands: after a stop one of the two that it may have left, and while it opens each image
+//! stands for one of them; it refuses for other reasons than the device and memory only where that is none. Each append,
+//! batch or seal is answered by the first refusal that holds, or taken. A stop at any moment, inside device calls too,
+//! leaves what stands for the archive before the event or after it: after Ok after it, after a refusal but 30 before it.
+//! After 30 the archive is closed: no call changes anything any more. `run` takes lists of events, of which a stop leaves
+//! some front.
 #![tactic(auto)]
 
 mod archive;
+mod creating;
 mod error;
 mod event;
 mod events;
 mod moving;
 mod next;
+mod opening;
 mod plain;
 mod refusal;
 mod taking;
@@ -26,7 +31,4 @@ pub use error::PlainError;
 pub use event::{Answer, Event};
 pub use events::{run, take_event};
 pub use plain::PlainArchive;
-pub use refusal::ArchiveError;
-
-#[cfg(test)]
-mod tests;
+pub use refusal::{ArchiveError, Refused};

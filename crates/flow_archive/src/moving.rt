@@ -16,8 +16,7 @@ use flow_manifest::{open_slot, prepare_slot};
 use flow_segment::{make_segment, seal_tail};
 
 /// Makes the next segment, puts the manifest that names it in force, and then cuts and freezes the segment before,
-/// whose
-/// messages end at `end`. It takes no memory.
+/// whose messages end at `end`. It takes no memory.
 pub(crate) fn move_on<D: Disk>(
     disk: &mut D,
     active: u64,

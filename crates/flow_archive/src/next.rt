@@ -1,13 +1,18 @@
 //! What a seal writes.
 
-ghost use Rattle.std.specs.Prelude.{◌≡◌, ◌+◌, ◌<◌, ◌≤◌, ◌^◌, length, IfOk};
+ghost use Rattle.std.specs.Prelude.{◌≡◌, ◌+◌, ◌<◌, ◌≤◌, ◌^◌, length, OnOk, IfOk, IfErr};
 ghost use Rattle.flow_manifest.specs.Manifest.{IsValidManifest, manifest_octets};
 ghost use Rattle.flow_manifest.specs.Following.{messages_of, active_of, next_manifest};
 ghost use Rattle.flow_segment.specs.Carry.{prefix_of, IsCarry};
+ghost use Rattle.flow_archive.specs.Answers.{IsNotFollowed, MayFollow};
 
+use crate::refusal::ArchiveError;
 use flow_manifest::{Manifest, encode, next_manifest};
 use flow_segment::Carry;
-use std::alloc::{AllocError, Global};
+use std::alloc::Global;
+
+/// The most entries of a manifest.
+const MOST_ENTRIES: usize = 4_096;
 
 /// What a seal writes.
 #[derive(Drop)]
@@ -20,29 +25,37 @@ pub(crate) struct Next {
     pub(crate) body: Vec<u8>,
 }
 
-/// The prefix that a segment calls for that ends at `end` and has `count` messages, and the manifest after its seal.
+/// The prefix that a segment calls for that ends at `end` and has `count` messages, and the manifest after its seal;
+/// else the first of the refusals 42, 41, 25 that holds, or 11.
 pub(crate) fn next_segment(
     alloc: Global,
     now: &Manifest,
     carry: &Carry,
     end: u64,
     count: u64,
-) -> Result<Next, AllocError>
+) -> Result<Next, ArchiveError>
     requires valid { IsValidManifest now.now }
-    requires generation { now.now.generation + 1 < 2 ^ 64 }
-    requires few { length now.now.entries < 4096 }
-    requires next { now.now.next + 1 < 2 ^ 64 }
-    requires some { 1 ≤ count }
-    requires long { (active_of now.now).prefix + 16 ≤ end }
+    requires long { 1 ≤ count → (active_of now.now).prefix + 16 ≤ end }
     requires within { end ≤ (active_of now.now).prefix + now.now.limit }
     requires all { messages_of now.now.entries + count < 2 ^ 48 }
+    ensures may { OnOk result (MayFollow now.now count) }
+    ensures refused { IfErr result (IsNotFollowed now.now count) }
     ensures prefix { IfOk result (λ next. next.prefix.items ≡ prefix_of carry.now) }
-    ensures carry { IsCarry carry.now }
+    ensures carry { OnOk result (IsCarry carry.now) }
     ensures manifest { IfOk result (λ next. next.manifest
         ≡ next_manifest now.now end count now.now.next (length (prefix_of carry.now))) }
     ensures valid { IfOk result (λ next. IsValidManifest next.manifest) }
     ensures body { IfOk result (λ next. next.body.items ≡ manifest_octets next.manifest) }
 {
+    if count == 0 {
+        return Err(ArchiveError::NothingToSeal);
+    }
+    if now.entries.len() >= MOST_ENTRIES {
+        return Err(ArchiveError::ManifestFull);
+    }
+    if now.generation == u64::MAX || now.next == u64::MAX {
+        return Err(ArchiveError::NumbersSpent);
+    }
     let prefix = carry.prefix(alloc)?;
     let manifest = next_manifest(alloc, now, end, count, now.next, prefix.len() as u32)?;
     let body = encode(alloc, &manifest)?;

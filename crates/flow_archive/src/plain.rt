@@ -87,8 +87,7 @@ impl PlainArchive {
     }
 
     /// The sums of the flows of all messages whose intervals start from `from` on and before `to`, in seconds since
-    /// 1970-01-01 00:00 UTC,
-    /// in the order of their keys.
+    /// 1970-01-01 00:00 UTC, in the order of their keys.
     pub fn totals(&self, alloc: Global, from: u64, to: u64) -> Result<Vec<Row>, AllocError>
         ensures rows { IfOk result (λ rows. rows.items ≡ totals_between from to self.now) }
         ensures history { IsHistory self.now }

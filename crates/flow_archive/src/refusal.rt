@@ -1,10 +1,11 @@
 //! Why an archive refuses an event.
 
 ghost use Rattle.std.specs.Prelude.{◌≡◌, Some};
-ghost use Rattle.flow_archive.specs.Refusals.{archive_text, refusal_of};
+ghost use Rattle.flow_archive.specs.Refusals.{archive_text, of_disk, refusal_of};
 ghost use Rattle.flow_archive.specs.declared.refusal.ArchiveError.TheVariants.{OutOfMemory};
 
 use flow_codec::MessageError;
+use flow_disk::DiskError;
 use std::alloc::{AllocError, AllocFailed};
 use std::error::Error;
 use std::fmt;
@@ -68,6 +69,17 @@ impl<T: Drop> From<AllocFailed<T>> for ArchiveError {
     }
 }
 
+impl From<DiskError> for ArchiveError {
+    ghost from_gives = { λ e told. told ≡ of_disk e };
+
+    fn from(e: DiskError) -> ArchiveError {
+        match e {
+            DiskError::Fault => ArchiveError::Fault,
+            DiskError::OutOfMemory => ArchiveError::OutOfMemory,
+        }
+    }
+}
+
 impl From<MessageError> for ArchiveError {
     ghost from_gives = { λ fault e. e ≡ refusal_of fault };
 
@@ -77,4 +89,13 @@ impl From<MessageError> for ArchiveError {
             fault => ArchiveError::Message(fault),
         }
     }
+}
+
+/// A disk that is given back, and why: no archive was made on it, or opened.
+#[derive(Drop)]
+pub struct Refused<D, E> {
+    /// The disk. An opening that was refused may have frozen files of it.
+    pub disk: D,
+    /// Why.
+    pub error: E,
 }

@@ -55,8 +55,7 @@ pub(crate) struct Batch {
 }
 
 /// A batch behind a carry, with room for so many octets and numbers for so many messages; else the first of the
-/// refusals
-/// 1 to 10, 40, 25 that holds, or 11.
+/// refusals 1 to 10, 40, 25 that holds, or 11.
 pub(crate) fn admitted(
     alloc: Global,
     carry: &Carry,

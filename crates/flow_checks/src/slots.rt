@@ -167,7 +167,7 @@ fn created(alloc: Global) -> Result<Archive, Fail> {
 }
 
 /// All octets of a file.
-fn octets_of<D: Disk>(alloc: Global, disk: &mut D, file: u64) -> Result<Vec<u8>, DiskError>
+fn contents<D: Disk>(alloc: Global, disk: &mut D, file: u64) -> Result<Vec<u8>, DiskError>
     ensures frozen { (n : ℕ) → (D.marks disk.new n).frozen ≡ (D.marks disk.old n).frozen }
     ensures settled { (n : ℕ) → (D.marks disk.new n).settled ≡ (D.marks disk.old n).settled }
 {
@@ -181,7 +181,7 @@ fn in_force<D: Disk>(alloc: Global, disk: &mut D) -> Result<Vec<u8>, OpenError>
     ensures settled { (n : ℕ) → (D.marks disk.new n).settled ≡ (D.marks disk.old n).settled }
 {
     let slots = read_slots(alloc, disk)?;
-    Ok(octets_of(alloc, disk, slots.current_slot.file())?)
+    Ok(contents(alloc, disk, slots.current_slot.file())?)
 }
 
 /// Whether the slots hold these octets, both are open, and this one is in force.
@@ -192,8 +192,8 @@ fn holds<D: Disk>(
     second: &[u8],
     current: Slot,
 ) -> Result<bool, OpenError> {
-    let one = octets_of(alloc, &mut disk, 1)?;
-    let two = octets_of(alloc, &mut disk, 2)?;
+    let one = contents(alloc, &mut disk, 1)?;
+    let two = contents(alloc, &mut disk, 2)?;
     let slots = read_slots(alloc, &mut disk)?;
     Ok(
         one.as_slice() == first

@@ -38,8 +38,3 @@ pub use part::RolledPart;
 pub use reader::RowReader;
 pub use row::RolledRow;
 pub use summing::sum_rows;
-
-#[cfg(test)]
-mod reader_tests;
-#[cfg(test)]
-mod tests;

@@ -33,8 +33,3 @@ pub use part::{Cursor, advance, advance_on};
 pub use restated::templates_of;
 pub use sealed::{PartReader, SealedPart, messages_of};
 pub use sinks::{Adding, Chosen};
-
-#[cfg(test)]
-mod sum_tests;
-#[cfg(test)]
-mod tests;

@@ -1,7 +1,7 @@
 use Rattle.std.proofs.Common.{◌≡◌, ◌≢◌, inl, inr, ⊎_elim, ℕ, true, IsTrue}
 use Rattle.std.proofs.Common.{List, [], ◌∷◌, ◌++◌, length, refl, sym, ◌∙◌, ap, subst, arith, rules, Vec}
 use Rattle.std.proofs.Common.{vec_len}
-use Rattle.std.proofs.lemmas.List.{length-map, nil_from_length}
+use Rattle.std.proofs.lemmas.List.{length-map}
 use Rattle.std.specs.declared.alloc.Global.{Global}
 use Rattle.flow_disk.specs.Disk.{AllImages}
 use Rattle.flow_disk.proofs.Moments.{by}
@@ -18,128 +18,46 @@ use Rattle.flow_segment.specs.Carry.{prefix_of}
 use Rattle.flow_recover.specs.State.{State, end_of, moved_on, reopened}
 use Rattle.flow_recover.specs.Chain.{IsChained}
 use Rattle.flow_recover.specs.Standing.{IsKnown, StandsFor, StandsForEither}
-use Rattle.flow_archive.specs.Answers.{IsMovedOn, MaySeal}
+use Rattle.flow_archive.specs.Answers.{AnswersSeal, IsMovedOn, IsNotFollowed, MaySeal}
 use Rattle.flow_archive.specs.Moving.{IsMove, MovesMarks}
 use Rattle.flow_archive.specs.Seen.{IsArchive, StandsBeforeOrAfter, state_in}
 use Rattle.flow_archive.specs.declared.refusal.ArchiveError.TheVariants as refusal
+use Rattle.flow_archive.proofs.Answering.{err_is, not_followed}
 use Rattle.flow_archive.proofs.Chaining.{hands_next, prefix_fits}
 use Rattle.flow_archive.proofs.Moved.{is_moved, moved_archive, same_state}
 use Rattle.flow_archive.proofs.Stand.{stands_for}
-use Rattle.flow_archive.proofs.Stepping.{refused, acknowledged, failed}
+use Rattle.flow_archive.proofs.Stepping.{refused, refused_by, acknowledged, failed}
 use Rattle.flow_archive.proofs.Turning.{has_gate}
-use Rattle.flow_archive.proofs.archive.Archive.seal.Goals.{then-self-2-via-then-self-2}
-use Rattle.flow_archive.proofs.archive.Archive.seal.Goals.{then-self-2-via-else-self-2+then-file}
 use Rattle.flow_archive.proofs.archive.Archive.seal.Goals as goal
 
-pub returns-then-count-eq0-clause-step : goal.returns-then-count-eq0-clause-step
-returns-then-count-eq0-clause-step g c =
-    let D = g.D.Disk in
-    let octets = g.D.Sealed.SealedFile.octets in
-    let inside = c.self.inside in
-    rw (← c.self.view_is) (refused D.honest D.moment D.left_since D.held _ _ _ refusal.NothingToSeal
-    refl
-    (λ is. cc) (λ h image left. g.met.D.Disk.only_now inside.disk image h left)
-    (λ h still image is. stands_for inside.slots _ image (((c.self.invariant).still_open still).kept.known h image is)))
-
-pub returns-then-count-eq0-clause-answers : goal.returns-then-count-eq0-clause-answers
-returns-then-count-eq0-clause-answers g c =
+pub returns-in_err-next-clause-answers : goal.returns-in_err-next-clause-answers
+returns-in_err-next-clause-answers g c =
     let D = g.D.Disk in
     let octets = g.D.Sealed.SealedFile.octets in
     let inside = c.self.inside in
     let d = inside.disk in
     let m = inside.slots.current in
     let s : State = state_in octets m inside.files.items inside.prefix.items (texts inside.messages.items) in
-    let counted = (c.self.invariant).counted in
     let len : vec_len inside.messages ≡ length inside.messages.items = search rules in
-    let count : c.len-count.result ≡ length s.active.messages =
-    c.len-count.ensures ∙ len ∙ sym (length-map inside.messages.items (λ (v : Vec ℕ Global). v.items)) in
-    let none : s.active.messages ≡ [] = nil_from_length s.active.messages (omega (arith, c.if-count-eq0.true, count)) in
-    rw (← c.self.view_is) (c.if-self.false, none, refl)
+    let count : c.len.result ≡ length s.active.messages =
+    c.len.ensures ∙ len ∙ sym (length-map inside.messages.items (λ (v : Vec ℕ Global). v.items)) in
+    let e = c.in_err-next.field-0.0 in
+    rw (← c.self.view_is) (err_is c.from_residual.result e
+    (λ r. AnswersSeal (D.honest d) inside.closed s r s) c.from_residual.ensures.1
+    (not_followed (D.honest d) inside.closed s c.len.result e c.if-self.false count refl c.in_err-next.ensures.refused))
 
-pub returns-then-len-ge-MOST_ENTRIES-clause-step : goal.returns-then-len-ge-MOST_ENTRIES-clause-step
-returns-then-len-ge-MOST_ENTRIES-clause-step g c =
+pub returns-in_err-next-clause-step : goal.returns-in_err-next-clause-step
+returns-in_err-next-clause-step g c =
     let D = g.D.Disk in
-    let octets = g.D.Sealed.SealedFile.octets in
     let inside = c.self.inside in
-    rw (← c.self.view_is) (refused D.honest D.moment D.left_since D.held _ _ _ refusal.ManifestFull
-    refl
-    (λ is. cc) (λ h image left. g.met.D.Disk.only_now inside.disk image h left)
+    let e = c.in_err-next.field-0.0 in
+    rw (← c.self.view_is) (refused_by D.honest D.moment D.left_since D.held _ _ _ e _ c.from_residual.ensures.1 refl
+    (λ same. subst (IsNotFollowed inside.slots.current c.len.result) same c.in_err-next.ensures.refused)
+    (λ h image left. g.met.D.Disk.only_now inside.disk image h left)
     (λ h still image is. stands_for inside.slots _ image (((c.self.invariant).still_open still).kept.known h image is)))
-
-pub returns-then-len-ge-MOST_ENTRIES-clause-answers : goal.returns-then-len-ge-MOST_ENTRIES-clause-answers
-returns-then-len-ge-MOST_ENTRIES-clause-answers g c =
-    let D = g.D.Disk in
-    let octets = g.D.Sealed.SealedFile.octets in
-    let inside = c.self.inside in
-    let d = inside.disk in
-    let m = inside.slots.current in
-    let s : State = state_in octets m inside.files.items inside.prefix.items (texts inside.messages.items) in
-    let counted = (c.self.invariant).counted in
-    let len : vec_len inside.messages ≡ length inside.messages.items = search rules in
-    let count : c.len-count.result ≡ length s.active.messages =
-    c.len-count.ensures ∙ len ∙ sym (length-map inside.messages.items (λ (v : Vec ℕ Global). v.items)) in
-    let some : s.active.messages ≢ [] =
-    λ is. omega (arith, c.if-count-eq0.false, count, ap (λ (l : List (List ℕ)). length l) is) in
-    rw (← c.self.view_is) (c.if-self.false, some, omega (arith, c.if-len-ge-MOST_ENTRIES.true), refl)
-
-pub returns-then-self-2-clause-step : goal.returns-then-self-2-clause-step
-returns-then-self-2-clause-step g c =
-    let D = g.D.Disk in
-    let octets = g.D.Sealed.SealedFile.octets in
-    let inside = c.self.inside in
-    rw (← c.self.view_is) (refused D.honest D.moment D.left_since D.held _ _ _ refusal.NumbersSpent
-    refl
-    (λ is. cc) (λ h image left. g.met.D.Disk.only_now inside.disk image h left)
-    (λ h still image is. stands_for inside.slots _ image (((c.self.invariant).still_open still).kept.known h image is)))
-
-pub returns-then-self-2-clause-answers : goal.returns-then-self-2-clause-answers
-returns-then-self-2-clause-answers g c =
-    let D = g.D.Disk in
-    let octets = g.D.Sealed.SealedFile.octets in
-    let inside = c.self.inside in
-    let d = inside.disk in
-    let m = inside.slots.current in
-    let s : State = state_in octets m inside.files.items inside.prefix.items (texts inside.messages.items) in
-    let counted = (c.self.invariant).counted in
-    let len : vec_len inside.messages ≡ length inside.messages.items = search rules in
-    let count : c.len-count.result ≡ length s.active.messages =
-    c.len-count.ensures ∙ len ∙ sym (length-map inside.messages.items (λ (v : Vec ℕ Global). v.items)) in
-    let some : s.active.messages ≢ [] =
-    λ is. omega (arith, c.if-count-eq0.false, count, ap (λ (l : List (List ℕ)). length l) is) in
-    rw (← c.self.view_is) (
-      c.if-self.false,
-      some,
-      omega (arith, c.if-len-ge-MOST_ENTRIES.false),
-      (λ numbers. elim c.then-self-2.branch [
-        | then-self-2-via-then-self-2 w ↦ omega (arith, numbers.1, w.if-self-2.true)
-        | then-self-2-via-else-self-2+then-file w ↦ omega (arith, numbers.0, w.if-file.true)
-      ]),
-      refl,
-    )
 
 pub returns-in_default-clause-step : goal.returns-in_default-clause-step
 returns-in_default-clause-step g c =
-    let D = g.D.Disk in
-    let octets = g.D.Sealed.SealedFile.octets in
-    let inside = c.self.inside in
-    rw (← c.self.view_is) (refused D.honest D.moment D.left_since D.held _ _ _ refusal.OutOfMemory
-    refl
-    (λ is. cc) (λ h image left. g.met.D.Disk.only_now inside.disk image h left)
-    (λ h still image is. stands_for inside.slots _ image (((c.self.invariant).still_open still).kept.known h image is)))
-
-pub returns-in_default-clause-answers : goal.returns-in_default-clause-answers
-returns-in_default-clause-answers g c =
-    let D = g.D.Disk in
-    let octets = g.D.Sealed.SealedFile.octets in
-    let inside = c.self.inside in
-    let d = inside.disk in
-    let m = inside.slots.current in
-    let s : State = state_in octets m inside.files.items inside.prefix.items (texts inside.messages.items) in
-    let counted = (c.self.invariant).counted in
-    rw (← c.self.view_is) (c.if-self.false, refl)
-
-pub returns-in_default-reserve-clause-step : goal.returns-in_default-reserve-clause-step
-returns-in_default-reserve-clause-step g c =
     let D = g.D.Disk in
     let octets = g.D.Sealed.SealedFile.octets in
     let inside = c.self.inside in
@@ -152,8 +70,8 @@ returns-in_default-reserve-clause-step g c =
     (λ is. cc) (λ h image left. g.met.D.Disk.only_now inside.disk image h left)
     (λ h still image is. stands_for inside.slots _ image (((c.self.invariant).still_open still).kept.known h image is)))
 
-pub returns-in_default-reserve-clause-answers : goal.returns-in_default-reserve-clause-answers
-returns-in_default-reserve-clause-answers g c =
+pub returns-in_default-clause-answers : goal.returns-in_default-clause-answers
+returns-in_default-clause-answers g c =
     let D = g.D.Disk in
     let octets = g.D.Sealed.SealedFile.octets in
     let inside = c.self.inside in
@@ -171,7 +89,7 @@ pub next_segment-requires-clause-valid : goal.next_segment-requires-clause-valid
 next_segment-requires-clause-valid g c = (c.self.invariant).counted.valid
 
 pub next_segment-requires-clause-long : goal.next_segment-requires-clause-long
-next_segment-requires-clause-long g c =
+next_segment-requires-clause-long g c some =
     let D = g.D.Disk in
     let octets = g.D.Sealed.SealedFile.octets in
     let inside = c.self.inside in
@@ -180,10 +98,10 @@ next_segment-requires-clause-long g c =
     let s : State = state_in octets m inside.files.items inside.prefix.items (texts inside.messages.items) in
     let counted = (c.self.invariant).counted in
     let len : vec_len inside.messages ≡ length inside.messages.items = search rules in
-    let count : c.len-count.result ≡ length s.active.messages =
-    c.len-count.ensures ∙ len ∙ sym (length-map inside.messages.items (λ (v : Vec ℕ Global). v.items)) in
+    let count : c.len.result ≡ length s.active.messages =
+    c.len.ensures ∙ len ∙ sym (length-map inside.messages.items (λ (v : Vec ℕ Global). v.items)) in
     let start : inside.last.prefix ≡ (active_of m).prefix = ap (λ (x : Entry). x.prefix) counted.last_is in
-    omega (arith, counted.long (omega (arith, c.if-count-eq0.false, count)), start)
+    omega (arith, counted.long (omega (arith, some, count)), start)
 
 pub next_segment-requires-clause-within : goal.next_segment-requires-clause-within
 next_segment-requires-clause-within g c =
@@ -206,12 +124,9 @@ next_segment-requires-clause-all g c =
     let s : State = state_in octets m inside.files.items inside.prefix.items (texts inside.messages.items) in
     let counted = (c.self.invariant).counted in
     let len : vec_len inside.messages ≡ length inside.messages.items = search rules in
-    let count : c.len-count.result ≡ length s.active.messages =
-    c.len-count.ensures ∙ len ∙ sym (length-map inside.messages.items (λ (v : Vec ℕ Global). v.items)) in
+    let count : c.len.result ≡ length s.active.messages =
+    c.len.ensures ∙ len ∙ sym (length-map inside.messages.items (λ (v : Vec ℕ Global). v.items)) in
     omega (arith, counted.within.all, count)
-
-pub next_segment-requires-clause-some : goal.next_segment-requires-clause-some
-next_segment-requires-clause-some g c = omega (arith, c.if-count-eq0.false)
 
 pub move_on-requires-clause-active : goal.move_on-requires-clause-active
 move_on-requires-clause-active g c =
@@ -252,22 +167,22 @@ returns-in-Err-clause-answers g c =
     let s : State = state_in octets m inside.files.items inside.prefix.items (texts inside.messages.items) in
     let counted = (c.self.invariant).counted in
     let len : vec_len inside.messages ≡ length inside.messages.items = search rules in
-    let count : c.len-count.result ≡ length s.active.messages =
-    c.len-count.ensures ∙ len ∙ sym (length-map inside.messages.items (λ (v : Vec ℕ Global). v.items)) in
+    let count : c.len.result ≡ length s.active.messages =
+    c.len.ensures ∙ len ∙ sym (length-map inside.messages.items (λ (v : Vec ℕ Global). v.items)) in
     let some : s.active.messages ≢ [] =
-    λ is. omega (arith, c.if-count-eq0.false, count, ap (λ (l : List (List ℕ)). length l) is) in
+    λ is. omega (arith, (c.in_ok-next.ensures.may).some, count, ap (λ (l : List (List ℕ)). length l) is) in
     let still = (c.self.invariant).still_open c.if-self.false in
-    let next = c.in-Ok.next in
+    let next = c.in_ok-next.next in
     let carry = inside.carry in
     let prefix = prefix_of carry in
     let after = moved_on s prefix in
     let d1 = c.move_on.new.disk in
     let given = c.as_slice.result.now in
-    let kept_prefix : given ≡ prefix = c.as_slice.ensures.value ∙ c.in-Ok.ensures.prefix in
-    let made : next.manifest ≡ after.manifest = c.in-Ok.ensures.manifest
-    ∙ ap (λ (n : ℕ). next_manifest m n c.len-count.result m.next (length prefix)) counted.end_is
+    let kept_prefix : given ≡ prefix = c.as_slice.ensures.value ∙ c.in_ok-next.ensures.prefix in
+    let made : next.manifest ≡ after.manifest = c.in_ok-next.ensures.manifest
+    ∙ ap (λ (n : ℕ). next_manifest m n c.len.result m.next (length prefix)) counted.end_is
     ∙ ap (λ (n : ℕ). next_manifest m (end_of s) n m.next (length prefix)) count in
-    let valid : IsValidManifest after.manifest = subst IsValidManifest made c.in-Ok.ensures.valid in
+    let valid : IsValidManifest after.manifest = subst IsValidManifest made c.in_ok-next.ensures.valid in
     let slot_is : c.file.result ≡ file_of (other inside.slots.current_slot) =
     c.file.ensures ∙ ap file_of c.other-slot.ensures in
     let move : IsTrue (D.honest d) → IsMove (D.held d) inside.slots inside.last.file inside.end m.next c.file.result
@@ -280,15 +195,18 @@ returns-in-Err-clause-answers g c =
       open_is = refl;
       valid = subst (λ (l : List ℕ). IsValidManifest (moved_on s l).manifest) (sym kept_prefix) valid;
       chained = subst (λ (l : List ℕ). IsChained (moved_on s l)) (sym kept_prefix)
-          (carry, hands_next s carry counted.valid c.next_segment.ensures.carry (still.hands_on h));
-      body_is = c.as_slice-2.ensures.value ∙ c.in-Ok.ensures.body ∙ ap manifest_octets made
+          (carry, hands_next s carry counted.valid c.in_ok-next.ensures.carry (still.hands_on h));
+      body_is = c.as_slice-2.ensures.value ∙ c.in_ok-next.ensures.body ∙ ap manifest_octets made
           ∙ ap (λ (l : List ℕ). manifest_octets (moved_on s l).manifest) (sym kept_prefix);
       known = still.kept.known h;
     } in
     let may : MaySeal s = record {
       some = some;
-      few = omega (arith, c.if-len-ge-MOST_ENTRIES.false);
-      numbers = (omega arith, omega arith);
+      few = (c.in_ok-next.ensures.may).few;
+      numbers = (
+        (c.in_ok-next.ensures.may).next,
+        omega (arith, (c.in_ok-next.ensures.may).generation),
+      );
     } in
     rw (← c.self.view_is) (
       c.if-self.false,
@@ -307,22 +225,22 @@ returns-in-Err-clause-step g c =
     let s : State = state_in octets m inside.files.items inside.prefix.items (texts inside.messages.items) in
     let counted = (c.self.invariant).counted in
     let len : vec_len inside.messages ≡ length inside.messages.items = search rules in
-    let count : c.len-count.result ≡ length s.active.messages =
-    c.len-count.ensures ∙ len ∙ sym (length-map inside.messages.items (λ (v : Vec ℕ Global). v.items)) in
+    let count : c.len.result ≡ length s.active.messages =
+    c.len.ensures ∙ len ∙ sym (length-map inside.messages.items (λ (v : Vec ℕ Global). v.items)) in
     let some : s.active.messages ≢ [] =
-    λ is. omega (arith, c.if-count-eq0.false, count, ap (λ (l : List (List ℕ)). length l) is) in
+    λ is. omega (arith, (c.in_ok-next.ensures.may).some, count, ap (λ (l : List (List ℕ)). length l) is) in
     let still = (c.self.invariant).still_open c.if-self.false in
-    let next = c.in-Ok.next in
+    let next = c.in_ok-next.next in
     let carry = inside.carry in
     let prefix = prefix_of carry in
     let after = moved_on s prefix in
     let d1 = c.move_on.new.disk in
     let given = c.as_slice.result.now in
-    let kept_prefix : given ≡ prefix = c.as_slice.ensures.value ∙ c.in-Ok.ensures.prefix in
-    let made : next.manifest ≡ after.manifest = c.in-Ok.ensures.manifest
-    ∙ ap (λ (n : ℕ). next_manifest m n c.len-count.result m.next (length prefix)) counted.end_is
+    let kept_prefix : given ≡ prefix = c.as_slice.ensures.value ∙ c.in_ok-next.ensures.prefix in
+    let made : next.manifest ≡ after.manifest = c.in_ok-next.ensures.manifest
+    ∙ ap (λ (n : ℕ). next_manifest m n c.len.result m.next (length prefix)) counted.end_is
     ∙ ap (λ (n : ℕ). next_manifest m (end_of s) n m.next (length prefix)) count in
-    let valid : IsValidManifest after.manifest = subst IsValidManifest made c.in-Ok.ensures.valid in
+    let valid : IsValidManifest after.manifest = subst IsValidManifest made c.in_ok-next.ensures.valid in
     let slot_is : c.file.result ≡ file_of (other inside.slots.current_slot) =
     c.file.ensures ∙ ap file_of c.other-slot.ensures in
     let move : IsTrue (D.honest d) → IsMove (D.held d) inside.slots inside.last.file inside.end m.next c.file.result
@@ -335,15 +253,18 @@ returns-in-Err-clause-step g c =
       open_is = refl;
       valid = subst (λ (l : List ℕ). IsValidManifest (moved_on s l).manifest) (sym kept_prefix) valid;
       chained = subst (λ (l : List ℕ). IsChained (moved_on s l)) (sym kept_prefix)
-          (carry, hands_next s carry counted.valid c.next_segment.ensures.carry (still.hands_on h));
-      body_is = c.as_slice-2.ensures.value ∙ c.in-Ok.ensures.body ∙ ap manifest_octets made
+          (carry, hands_next s carry counted.valid c.in_ok-next.ensures.carry (still.hands_on h));
+      body_is = c.as_slice-2.ensures.value ∙ c.in_ok-next.ensures.body ∙ ap manifest_octets made
           ∙ ap (λ (l : List ℕ). manifest_octets (moved_on s l).manifest) (sym kept_prefix);
       known = still.kept.known h;
     } in
     let may : MaySeal s = record {
       some = some;
-      few = omega (arith, c.if-len-ge-MOST_ENTRIES.false);
-      numbers = (omega arith, omega arith);
+      few = (c.in_ok-next.ensures.may).few;
+      numbers = (
+        (c.in_ok-next.ensures.may).next,
+        omega (arith, (c.in_ok-next.ensures.may).generation),
+      );
     } in
     rw (← c.self.view_is) (failed D.honest D.moment D.left_since _ _ _ c.move_on.ensures.honest
     (λ h. by D.moment D.left_since d d1 (StandsForEither (reopened s) (reopened (moved_on s given)))
@@ -368,22 +289,22 @@ invariant_of-self-in-Ok-move_on g c =
     let s : State = state_in octets m inside.files.items inside.prefix.items (texts inside.messages.items) in
     let counted = (c.self.invariant).counted in
     let len : vec_len inside.messages ≡ length inside.messages.items = search rules in
-    let count : c.len-count.result ≡ length s.active.messages =
-    c.len-count.ensures ∙ len ∙ sym (length-map inside.messages.items (λ (v : Vec ℕ Global). v.items)) in
+    let count : c.len.result ≡ length s.active.messages =
+    c.len.ensures ∙ len ∙ sym (length-map inside.messages.items (λ (v : Vec ℕ Global). v.items)) in
     let some : s.active.messages ≢ [] =
-    λ is. omega (arith, c.if-count-eq0.false, count, ap (λ (l : List (List ℕ)). length l) is) in
+    λ is. omega (arith, (c.in_ok-next.ensures.may).some, count, ap (λ (l : List (List ℕ)). length l) is) in
     let still = (c.self.invariant).still_open c.if-self.false in
-    let next = c.in-Ok.next in
+    let next = c.in_ok-next.next in
     let carry = inside.carry in
     let prefix = prefix_of carry in
     let after = moved_on s prefix in
     let d1 = c.move_on.new.disk in
     let given = c.as_slice.result.now in
-    let kept_prefix : given ≡ prefix = c.as_slice.ensures.value ∙ c.in-Ok.ensures.prefix in
-    let made : next.manifest ≡ after.manifest = c.in-Ok.ensures.manifest
-    ∙ ap (λ (n : ℕ). next_manifest m n c.len-count.result m.next (length prefix)) counted.end_is
+    let kept_prefix : given ≡ prefix = c.as_slice.ensures.value ∙ c.in_ok-next.ensures.prefix in
+    let made : next.manifest ≡ after.manifest = c.in_ok-next.ensures.manifest
+    ∙ ap (λ (n : ℕ). next_manifest m n c.len.result m.next (length prefix)) counted.end_is
     ∙ ap (λ (n : ℕ). next_manifest m (end_of s) n m.next (length prefix)) count in
-    let valid : IsValidManifest after.manifest = subst IsValidManifest made c.in-Ok.ensures.valid in
+    let valid : IsValidManifest after.manifest = subst IsValidManifest made c.in_ok-next.ensures.valid in
     let slot_is : c.file.result ≡ file_of (other inside.slots.current_slot) =
     c.file.ensures ∙ ap file_of c.other-slot.ensures in
     let move : IsTrue (D.honest d) → IsMove (D.held d) inside.slots inside.last.file inside.end m.next c.file.result
@@ -396,15 +317,18 @@ invariant_of-self-in-Ok-move_on g c =
       open_is = refl;
       valid = subst (λ (l : List ℕ). IsValidManifest (moved_on s l).manifest) (sym kept_prefix) valid;
       chained = subst (λ (l : List ℕ). IsChained (moved_on s l)) (sym kept_prefix)
-          (carry, hands_next s carry counted.valid c.next_segment.ensures.carry (still.hands_on h));
-      body_is = c.as_slice-2.ensures.value ∙ c.in-Ok.ensures.body ∙ ap manifest_octets made
+          (carry, hands_next s carry counted.valid c.in_ok-next.ensures.carry (still.hands_on h));
+      body_is = c.as_slice-2.ensures.value ∙ c.in_ok-next.ensures.body ∙ ap manifest_octets made
           ∙ ap (λ (l : List ℕ). manifest_octets (moved_on s l).manifest) (sym kept_prefix);
       known = still.kept.known h;
     } in
     let may : MaySeal s = record {
       some = some;
-      few = omega (arith, c.if-len-ge-MOST_ENTRIES.false);
-      numbers = (omega arith, omega arith);
+      few = (c.in_ok-next.ensures.may).few;
+      numbers = (
+        (c.in_ok-next.ensures.may).next,
+        omega (arith, (c.in_ok-next.ensures.may).generation),
+      );
     } in
     let part = c.in-Ok-move_on.part in
     let files = inside.files.items in
@@ -412,7 +336,7 @@ invariant_of-self-in-Ok-move_on g c =
     let messages = texts inside.messages.items in
     let part_is = λ (h : IsTrue (D.honest d)). c.in-Ok-move_on.ensures.part h inside.slots s (move h) in
     let all = (c.self.invariant).all in
-    let new_prefix : next.prefix.items ≡ prefix = c.in-Ok.ensures.prefix in
+    let new_prefix : next.prefix.items ≡ prefix = c.in_ok-next.ensures.prefix in
     let new_files : c.push_reserved.new.self.items ≡ files ++ part ∷ [] = c.push_reserved.ensures.items
     ∙ ap (λ (l : List g.row.D-Sealed.Denot). l ++ part ∷ []) c.reserve.ensures.items in
     let new_messages : texts c.new.result.items ≡ [] = ap texts c.new.ensures.items in
@@ -452,7 +376,7 @@ invariant_of-self-in-Ok-move_on g c =
     let now : P after.manifest (other inside.slots.current_slot) (length prefix) (length prefix) (files ++ part ∷ [])
     (state_in octets after.manifest (files ++ part ∷ []) prefix []) =
     moved_archive D.honest D.marks D.held octets d d1 inside.slots inside.last inside.end inside.total carry files front
-    messages part inside.closed c.self.invariant c.if-self.false c.next_segment.ensures.carry c.move_on.ensures.honest
+    messages part inside.closed c.self.invariant c.if-self.false c.in_ok-next.ensures.carry c.move_on.ensures.honest
     valid moves known part_is in
     subst (λ (x : Manifest). P x c.other-slot.result c.len-in-Ok-move_on.result c.len-in-Ok-move_on-2.result
     c.push_reserved.new.self.items
@@ -487,22 +411,22 @@ returns-in-Ok-move_on-clause-answers g c =
     let s : State = state_in octets m inside.files.items inside.prefix.items (texts inside.messages.items) in
     let counted = (c.self.invariant).counted in
     let len : vec_len inside.messages ≡ length inside.messages.items = search rules in
-    let count : c.len-count.result ≡ length s.active.messages =
-    c.len-count.ensures ∙ len ∙ sym (length-map inside.messages.items (λ (v : Vec ℕ Global). v.items)) in
+    let count : c.len.result ≡ length s.active.messages =
+    c.len.ensures ∙ len ∙ sym (length-map inside.messages.items (λ (v : Vec ℕ Global). v.items)) in
     let some : s.active.messages ≢ [] =
-    λ is. omega (arith, c.if-count-eq0.false, count, ap (λ (l : List (List ℕ)). length l) is) in
+    λ is. omega (arith, (c.in_ok-next.ensures.may).some, count, ap (λ (l : List (List ℕ)). length l) is) in
     let still = (c.self.invariant).still_open c.if-self.false in
-    let next = c.in-Ok.next in
+    let next = c.in_ok-next.next in
     let carry = inside.carry in
     let prefix = prefix_of carry in
     let after = moved_on s prefix in
     let d1 = c.move_on.new.disk in
     let given = c.as_slice.result.now in
-    let kept_prefix : given ≡ prefix = c.as_slice.ensures.value ∙ c.in-Ok.ensures.prefix in
-    let made : next.manifest ≡ after.manifest = c.in-Ok.ensures.manifest
-    ∙ ap (λ (n : ℕ). next_manifest m n c.len-count.result m.next (length prefix)) counted.end_is
+    let kept_prefix : given ≡ prefix = c.as_slice.ensures.value ∙ c.in_ok-next.ensures.prefix in
+    let made : next.manifest ≡ after.manifest = c.in_ok-next.ensures.manifest
+    ∙ ap (λ (n : ℕ). next_manifest m n c.len.result m.next (length prefix)) counted.end_is
     ∙ ap (λ (n : ℕ). next_manifest m (end_of s) n m.next (length prefix)) count in
-    let valid : IsValidManifest after.manifest = subst IsValidManifest made c.in-Ok.ensures.valid in
+    let valid : IsValidManifest after.manifest = subst IsValidManifest made c.in_ok-next.ensures.valid in
     let slot_is : c.file.result ≡ file_of (other inside.slots.current_slot) =
     c.file.ensures ∙ ap file_of c.other-slot.ensures in
     let move : IsTrue (D.honest d) → IsMove (D.held d) inside.slots inside.last.file inside.end m.next c.file.result
@@ -515,15 +439,18 @@ returns-in-Ok-move_on-clause-answers g c =
       open_is = refl;
       valid = subst (λ (l : List ℕ). IsValidManifest (moved_on s l).manifest) (sym kept_prefix) valid;
       chained = subst (λ (l : List ℕ). IsChained (moved_on s l)) (sym kept_prefix)
-          (carry, hands_next s carry counted.valid c.next_segment.ensures.carry (still.hands_on h));
-      body_is = c.as_slice-2.ensures.value ∙ c.in-Ok.ensures.body ∙ ap manifest_octets made
+          (carry, hands_next s carry counted.valid c.in_ok-next.ensures.carry (still.hands_on h));
+      body_is = c.as_slice-2.ensures.value ∙ c.in_ok-next.ensures.body ∙ ap manifest_octets made
           ∙ ap (λ (l : List ℕ). manifest_octets (moved_on s l).manifest) (sym kept_prefix);
       known = still.kept.known h;
     } in
     let may : MaySeal s = record {
       some = some;
-      few = omega (arith, c.if-len-ge-MOST_ENTRIES.false);
-      numbers = (omega arith, omega arith);
+      few = (c.in_ok-next.ensures.may).few;
+      numbers = (
+        (c.in_ok-next.ensures.may).next,
+        omega (arith, (c.in_ok-next.ensures.may).generation),
+      );
     } in
     let part = c.in-Ok-move_on.part in
     let files = inside.files.items in
@@ -531,7 +458,7 @@ returns-in-Ok-move_on-clause-answers g c =
     let messages = texts inside.messages.items in
     let part_is = λ (h : IsTrue (D.honest d)). c.in-Ok-move_on.ensures.part h inside.slots s (move h) in
     let all = (c.self.invariant).all in
-    let new_prefix : next.prefix.items ≡ prefix = c.in-Ok.ensures.prefix in
+    let new_prefix : next.prefix.items ≡ prefix = c.in_ok-next.ensures.prefix in
     let new_files : c.push_reserved.new.self.items ≡ files ++ part ∷ [] = c.push_reserved.ensures.items
     ∙ ap (λ (l : List g.row.D-Sealed.Denot). l ++ part ∷ []) c.reserve.ensures.items in
     let new_messages : texts c.new.result.items ≡ [] = ap texts c.new.ensures.items in
@@ -565,22 +492,22 @@ returns-in-Ok-move_on-clause-step g c =
     let s : State = state_in octets m inside.files.items inside.prefix.items (texts inside.messages.items) in
     let counted = (c.self.invariant).counted in
     let len : vec_len inside.messages ≡ length inside.messages.items = search rules in
-    let count : c.len-count.result ≡ length s.active.messages =
-    c.len-count.ensures ∙ len ∙ sym (length-map inside.messages.items (λ (v : Vec ℕ Global). v.items)) in
+    let count : c.len.result ≡ length s.active.messages =
+    c.len.ensures ∙ len ∙ sym (length-map inside.messages.items (λ (v : Vec ℕ Global). v.items)) in
     let some : s.active.messages ≢ [] =
-    λ is. omega (arith, c.if-count-eq0.false, count, ap (λ (l : List (List ℕ)). length l) is) in
+    λ is. omega (arith, (c.in_ok-next.ensures.may).some, count, ap (λ (l : List (List ℕ)). length l) is) in
     let still = (c.self.invariant).still_open c.if-self.false in
-    let next = c.in-Ok.next in
+    let next = c.in_ok-next.next in
     let carry = inside.carry in
     let prefix = prefix_of carry in
     let after = moved_on s prefix in
     let d1 = c.move_on.new.disk in
     let given = c.as_slice.result.now in
-    let kept_prefix : given ≡ prefix = c.as_slice.ensures.value ∙ c.in-Ok.ensures.prefix in
-    let made : next.manifest ≡ after.manifest = c.in-Ok.ensures.manifest
-    ∙ ap (λ (n : ℕ). next_manifest m n c.len-count.result m.next (length prefix)) counted.end_is
+    let kept_prefix : given ≡ prefix = c.as_slice.ensures.value ∙ c.in_ok-next.ensures.prefix in
+    let made : next.manifest ≡ after.manifest = c.in_ok-next.ensures.manifest
+    ∙ ap (λ (n : ℕ). next_manifest m n c.len.result m.next (length prefix)) counted.end_is
     ∙ ap (λ (n : ℕ). next_manifest m (end_of s) n m.next (length prefix)) count in
-    let valid : IsValidManifest after.manifest = subst IsValidManifest made c.in-Ok.ensures.valid in
+    let valid : IsValidManifest after.manifest = subst IsValidManifest made c.in_ok-next.ensures.valid in
     let slot_is : c.file.result ≡ file_of (other inside.slots.current_slot) =
     c.file.ensures ∙ ap file_of c.other-slot.ensures in
     let move : IsTrue (D.honest d) → IsMove (D.held d) inside.slots inside.last.file inside.end m.next c.file.result
@@ -593,15 +520,18 @@ returns-in-Ok-move_on-clause-step g c =
       open_is = refl;
       valid = subst (λ (l : List ℕ). IsValidManifest (moved_on s l).manifest) (sym kept_prefix) valid;
       chained = subst (λ (l : List ℕ). IsChained (moved_on s l)) (sym kept_prefix)
-          (carry, hands_next s carry counted.valid c.next_segment.ensures.carry (still.hands_on h));
-      body_is = c.as_slice-2.ensures.value ∙ c.in-Ok.ensures.body ∙ ap manifest_octets made
+          (carry, hands_next s carry counted.valid c.in_ok-next.ensures.carry (still.hands_on h));
+      body_is = c.as_slice-2.ensures.value ∙ c.in_ok-next.ensures.body ∙ ap manifest_octets made
           ∙ ap (λ (l : List ℕ). manifest_octets (moved_on s l).manifest) (sym kept_prefix);
       known = still.kept.known h;
     } in
     let may : MaySeal s = record {
       some = some;
-      few = omega (arith, c.if-len-ge-MOST_ENTRIES.false);
-      numbers = (omega arith, omega arith);
+      few = (c.in_ok-next.ensures.may).few;
+      numbers = (
+        (c.in_ok-next.ensures.may).next,
+        omega (arith, (c.in_ok-next.ensures.may).generation),
+      );
     } in
     let part = c.in-Ok-move_on.part in
     let files = inside.files.items in
@@ -609,7 +539,7 @@ returns-in-Ok-move_on-clause-step g c =
     let messages = texts inside.messages.items in
     let part_is = λ (h : IsTrue (D.honest d)). c.in-Ok-move_on.ensures.part h inside.slots s (move h) in
     let all = (c.self.invariant).all in
-    let new_prefix : next.prefix.items ≡ prefix = c.in-Ok.ensures.prefix in
+    let new_prefix : next.prefix.items ≡ prefix = c.in_ok-next.ensures.prefix in
     let new_files : c.push_reserved.new.self.items ≡ files ++ part ∷ [] = c.push_reserved.ensures.items
     ∙ ap (λ (l : List g.row.D-Sealed.Denot). l ++ part ∷ []) c.reserve.ensures.items in
     let new_messages : texts c.new.result.items ≡ [] = ap texts c.new.ensures.items in
@@ -649,17 +579,17 @@ returns-in-Ok-move_on-clause-step g c =
 
 pub overflow_cast-self : goal.overflow_cast-self
 overflow_cast-self g c =
-    let next = c.in-Ok.next in
+    let next = c.in_ok-next.next in
     let size : vec_len next.prefix ≡ length next.prefix.items = search rules in
     let long : length next.prefix.items ≡ length (prefix_of c.self.inside.carry) =
-    ap (λ (l : List ℕ). length l) c.in-Ok.ensures.prefix in
+    ap (λ (l : List ℕ). length l) c.in_ok-next.ensures.prefix in
     record {
       fits = omega (
         arith,
         c.len-in-Ok-move_on.ensures,
         size,
         long,
-        prefix_fits c.self.inside.carry c.next_segment.ensures.carry,
+        prefix_fits c.self.inside.carry c.in_ok-next.ensures.carry,
       );
     }
 

@@ -1,13 +1,15 @@
-use crate::tests::{FILE, FLOW, FLOW_ALONE, take};
-use crate::{
-    Carry, PartSumError, SealedPart, add_flows, collect_flows, few_messages_fit, flows_of,
-    make_segment, seal_tail,
-};
+//! Sums and flows of a part.
+
+use crate::segments::{FILE, FLOW, FLOW_ALONE, take};
 use flow_codec::Templates;
 use flow_disk::{Disk, DiskError, Faults, SealedFile};
 use flow_gate::ScanError;
 use flow_measure::{Flow, Key, Row, Rows, Sums};
 use flow_memory_disk::{FusedDisk, FusedFile, MemoryDisk, MemorySealed, Room};
+use flow_segment::{
+    Carry, PartSumError, SealedPart, add_flows, collect_flows, few_messages_fit, flows_of,
+    make_segment, seal_tail,
+};
 use std::alloc::{AllocError, Global};
 use std::test::Fail;
 

@@ -1,5 +1,7 @@
-use super::*;
+//! Rolled files, octet by octet.
+
 use flow_measure::{Flow, Rows};
+use flow_rolled::{RolledError, decode_rows, encode_rows};
 use std::test::*;
 
 /// The Export Time.

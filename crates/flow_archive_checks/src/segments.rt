@@ -1,14 +1,16 @@
+//! Segments: prefixes, sealing, and the messages of a part.
+
 ghost use Rattle.std.specs.Prelude.{◌≤◌};
 
-use crate::{
-    Carry, Cursor, PartReader, SealedPart, advance, advance_on, flows_of, handed_on, make_segment,
-    messages_of, read_to_the_end, seal_tail,
-};
 use flow_codec::MessageError;
 use flow_disk::{Disk, DiskError, Faults, SealedFile};
 use flow_gate::ScanError;
 use flow_measure::Flow;
 use flow_memory_disk::{MemoryDisk, OneFaultDisk, Room};
+use flow_segment::{
+    Carry, Cursor, PartReader, SealedPart, advance, advance_on, flows_of, handed_on, make_segment,
+    messages_of, read_to_the_end, seal_tail,
+};
 use std::alloc::Global;
 use std::test::Fail;
 
@@ -20,7 +22,7 @@ pub(crate) const FLOW: [u8; 57] = [
 ];
 
 /// The segment behind it: its prefix of 40 octets, and a closed gate.
-const BEHIND: [u8; 42] = [
+pub(crate) const BEHIND: [u8; 42] = [
     0, 10, 0, 40, 0x65, 0x53, 0xf1, 0, 0, 0, 0, 1, 0, 0, 0, 7, //
     0, 2, 0, 24, 1, 0, 0, 4, 0, 150, 0, 4, 0, 4, 0, 1, 0, 1, 0, 4, 0, 2, 0, 4, //
     0, 0,

@@ -1,9 +1,14 @@
+//! Rolled files, read from disks whose reads may fail.
+
 ghost use Rattle.std.specs.Prelude.{◌≡◌, ◌+◌, ◌≤◌, IsTrue, IfOk, IsErrOf, take, drop, vec_len};
 ghost use Rattle.flow_disk.specs.Cause.{HasCause};
 
-use super::*;
 use flow_disk::{DiskError, Faults, MayFail, SealedFile};
 use flow_measure::{Flow, Key, Rows, Sums};
+use flow_rolled::{
+    RolledError, RolledPart, RolledRow, RowError, RowReader, RowSumError, decode_rows, encode_rows,
+    sum_rows,
+};
 use std::alloc::Global;
 use std::test::*;
 
