@@ -30,6 +30,3 @@ pub use manifest::{Entries, Entry, Kind, Manifest};
 pub use reading::read_slots;
 pub use slots::{Slot, Slots, commit, prepare};
 pub use swap::{open_slot, prepare_slot};
-
-#[cfg(test)]
-mod tests;
