@@ -1,19 +1,17 @@
 -- An archive without messages.
-use Rattle.std.proofs.Common.{◌≡◌, ℕ, ◌<◌, ◌≤◌, ◌^◌, Bool, true, false, IsTrue, List, [], ◌∷◌, length, get_or, refl}
-use Rattle.std.proofs.Common.{sym, ◌∙◌, ap, subst, arith}
+use Rattle.std.proofs.Common.{◌≡◌, ℕ, ◌≤◌, Bool, false, IsTrue, List, [], ◌∷◌, refl}
+use Rattle.std.proofs.Common.{sym, subst, arith}
 use Rattle.std.specs.Prelude.{None}
 use Rattle.flow_disk.specs.Disk.{Held, Marks, AllImages}
 use Rattle.flow_gate.specs.Gate.{IsGated}
-use Rattle.flow_manifest.specs.declared.manifest.Manifest.{Manifest}
-use Rattle.flow_manifest.specs.declared.slots.Slots.{Slots}
-use Rattle.flow_manifest.specs.Following.{active_entry, active_of}
+use Rattle.flow_manifest.specs.Following.{active_entry}
 use Rattle.flow_manifest.specs.Manifest.{IsInRange, IsValidManifest, head_of}
 use Rattle.flow_manifest.specs.Slots.{AreSlots}
-use Rattle.flow_segment.specs.Carry.{Carry, no_carry}
-use Rattle.flow_recover.specs.State.{Part, State, empty_state, first_manifest}
+use Rattle.flow_segment.specs.Carry.{no_carry}
+use Rattle.flow_recover.specs.State.{empty_state, first_manifest}
 use Rattle.flow_recover.specs.Chain.{HandsOn, IsSegment}
 use Rattle.flow_recover.specs.Kept.{IsCounted, IsReadyFor}
-use Rattle.flow_recover.specs.Standing.{HoldsFiles, IsKnown, IsWithinLimits}
+use Rattle.flow_recover.specs.Standing.{HoldsFiles, IsKnown}
 use Rattle.flow_archive.specs.Beginning.{first_slots}
 use Rattle.flow_archive.specs.Seen.{IsArchive}
 use Rattle.flow_archive.proofs.Turning.{empty_list}
@@ -107,20 +105,20 @@ pub known_empty : (width wide limit : ℕ) (image : ℕ → List ℕ) → image 
 known_empty width wide limit image is slots =
     record { slots_are = slots; current = refl; files = holds_empty width wide limit image is }
 
-pub empty_archive : {D S : Type 0} (honest : D → Bool) (marks : D → ℕ → Marks) (held : D → ℕ → Held)
-    (octets : S → List ℕ) (d : D) (width wide limit : ℕ) → IsValidManifest (first_manifest 1 width wide limit)
+pub empty_archive : {D : Type 0} (honest : D → Bool) (marks : D → ℕ → Marks) (held : D → ℕ → Held) (d : D)
+    (width wide limit : ℕ) → IsValidManifest (first_manifest 1 width wide limit)
     → IsReadyFor (marks d) 3 4 0
     → (IsTrue (honest d)
     → AllImages (held d) (IsKnown (first_slots width wide limit) (empty_state width wide limit)))
-    → IsArchive honest marks held octets d (first_slots width wide limit) (active_entry 3 0) 0 0 (no_carry 0) []
+    → IsArchive honest marks held d (first_slots width wide limit) (active_entry 3 0) 0 0 (no_carry 0) []
     (empty_state width wide limit) false
-empty_archive honest marks held octets d width wide limit valid ready known = record {
+empty_archive honest marks held d width wide limit valid ready known = record {
   counted = counted_empty width wide limit valid;
-  all = refl;
+  files_are = tt;
+  stand = λ _. tt;
   still_open = λ _. record {
     kept = record { counted = counted_empty width wide limit valid; ready = ready; known = known };
     segment = no_segment;
     hands_on = λ _. empty_hands_on width wide limit;
-    frozen = λ _. tt;
   };
 }

@@ -11,3 +11,6 @@ pub mod Answering
 pub mod Running
 pub mod Empty
 pub mod Reopened
+pub mod Owning
+pub mod Shelving
+pub mod Directing

@@ -1,6 +1,6 @@
 -- An archive after a seal.
 use Rattle.std.proofs.Common.{◌≡◌, ℕ, Bool, true, false, IsTrue, List, [], ◌∷◌, ◌++◌, length, sym, ◌∙◌}
-use Rattle.std.proofs.Common.{ap, subst, arith, length-append}
+use Rattle.std.proofs.Common.{ap, subst, arith}
 use Rattle.flow_disk.specs.Disk.{Held, Marks, AllImages}
 use Rattle.flow_manifest.specs.declared.manifest.Entry.{Entry}
 use Rattle.flow_manifest.specs.declared.manifest.Kind.TheVariants.{Sealed}
@@ -17,17 +17,19 @@ use Rattle.flow_recover.specs.Opening.{FrozenStand}
 use Rattle.flow_recover.specs.Standing.{IsKnown, IsSealedAt}
 use Rattle.flow_archive.specs.Answers.{IsMovedOn}
 use Rattle.flow_archive.specs.Moving.{MovesMarks}
+use Rattle.flow_archive.specs.Owned.{octets_in, AreHeldAs, Frozen, IsHeldAs}
 use Rattle.flow_archive.specs.Parts.{part_at, parts_at}
 use Rattle.flow_archive.specs.Seen.{IsArchive, IsOpen, state_in}
 use Rattle.flow_archive.proofs.Chaining.{hands_next, segment_called}
+use Rattle.flow_archive.proofs.Owning.{as_many, held_push}
 use Rattle.flow_archive.proofs.Parting.{frozen_push, one_sealed, parts_at_push}
 use Rattle.flow_archive.proofs.Ready.{counted_moved, ready_moved}
 
-module _ {D S : Type 0} (honest : D → Bool) (marks : D → ℕ → Marks) (held : D → ℕ → Held) (octets : S → List ℕ)
-    (d d1 : D) (slots : Slots) (last : Entry) (end total : ℕ) (carry : Carry) (files : List S) (front : List ℕ)
-    (messages : List (List ℕ)) (part : S) where
+module _ {D : Type 0} (honest : D → Bool) (marks : D → ℕ → Marks) (held : D → ℕ → Held) (shared : Bool)
+    (d d1 : D) (slots : Slots) (last : Entry) (end total : ℕ) (carry : Carry) (files : List Frozen) (front : List ℕ)
+    (messages : List (List ℕ)) (part : Frozen) where
   abbrev s : State
-  s = state_in octets slots.current files front messages
+  s = state_in shared slots.current files front messages
 
   abbrev prefix : List ℕ
   prefix = prefix_of carry
@@ -36,7 +38,7 @@ module _ {D S : Type 0} (honest : D → Bool) (marks : D → ℕ → Marks) (hel
   sealed = sealed_entry (active_of slots.current) (end_of s) (length messages)
 
   abbrev pub after_state : State
-  after_state = state_in octets (moved_on s prefix).manifest (files ++ part ∷ []) prefix []
+  after_state = state_in shared (moved_on s prefix).manifest (files ++ part ∷ []) prefix []
 
   abbrev pub after_slots : Slots
   after_slots = record {
@@ -49,39 +51,40 @@ module _ {D S : Type 0} (honest : D → Bool) (marks : D → ℕ → Marks) (hel
       sealed ∷ []
   front_is valid = next_front slots.current valid (end_of s) (length messages) slots.current.next (length prefix)
 
-  parts_are : IsValidManifest slots.current → length files ≡ length (front_of slots.current)
-      → after_state.parts ≡ s.parts ++ part_at Sealed sealed (octets part) ∷ []
-  parts_are valid all = ap (λ (l : List Entry). parts_at octets l (files ++ part ∷ [])) (front_is valid)
-      ∙ parts_at_push octets sealed part (front_of slots.current) files all
+  parts_are : IsValidManifest slots.current → AreHeldAs (honest d) (front_of slots.current) files
+      → after_state.parts ≡ s.parts ++ part_at Sealed sealed part.octets ∷ []
+  parts_are valid all = ap (λ (l : List Entry). parts_at octets_in l (files ++ part ∷ [])) (front_is valid)
+      ∙ parts_at_push octets_in sealed part (front_of slots.current) files
+      (as_many (honest d) (front_of slots.current) files all)
 
   abbrev with_parts : List Part → State
   with_parts parts = record (moved_on s prefix) { parts = parts }
 
-  pub is_moved : IsValidManifest slots.current → length files ≡ length (front_of slots.current)
-      → IsOpen honest marks held octets d slots last end total carry files s
-      → (IsTrue (honest d) → IsSealedAt (octets part) sealed s.active) → IsMovedOn (honest d) s after_state
+  pub is_moved : IsValidManifest slots.current → AreHeldAs (honest d) (front_of slots.current) files
+      → IsOpen honest marks held d slots last end total carry s
+      → (IsTrue (honest d) → IsSealedAt part.octets sealed s.active) → IsMovedOn (honest d) s after_state
   is_moved valid all still part_is = (
     carry,
-    part_at Sealed sealed (octets part),
+    part_at Sealed sealed part.octets,
     still.segment,
-    (λ h. one_sealed (octets part) sealed s.active (part_is h)),
+    (λ h. one_sealed part.octets sealed s.active (part_is h)),
     ap with_parts (parts_are valid all),
   )
 
-  pub same_state : IsValidManifest slots.current → length files ≡ length (front_of slots.current)
-      → IsSealedAt (octets part) sealed s.active → after_state ≡ moved_on s prefix
+  pub same_state : IsValidManifest slots.current → AreHeldAs (honest d) (front_of slots.current) files
+      → IsSealedAt part.octets sealed s.active → after_state ≡ moved_on s prefix
   same_state valid all is = ap with_parts (parts_are valid all)
-      ∙ ap (λ (p : Part). with_parts (s.parts ++ p ∷ [])) (one_sealed (octets part) sealed s.active is)
+      ∙ ap (λ (p : Part). with_parts (s.parts ++ p ∷ [])) (one_sealed part.octets sealed s.active is)
 
-  pub moved_archive : (closed : Bool) → IsArchive honest marks held octets d slots last end total carry files s closed
+  pub moved_archive : (closed : Bool) → IsArchive honest marks held d slots last end total carry files s closed
       → closed ≡ false → IsCarry carry → honest d1 ≡ honest d → IsValidManifest (moved_on s prefix).manifest
       → MovesMarks (marks d) (marks d1) last.file slots.current.next (file_of (other slots.current_slot)) (length
       prefix)
       → (IsTrue (honest d) → AllImages (held d1) (IsKnown after_slots (moved_on s prefix)))
-      → (IsTrue (honest d) → IsSealedAt (octets part) sealed s.active)
-      → IsArchive honest marks held octets d1 after_slots (active_entry slots.current.next (length prefix))
+      → (IsTrue (honest d) → IsSealedAt part.octets sealed s.active) → IsHeldAs (honest d) sealed part
+      → IsArchive honest marks held d1 after_slots (active_entry slots.current.next (length prefix))
       (length prefix) total carry (files ++ part ∷ []) after_state closed
-  moved_archive closed archive was is_carry honest_too valid moves known part_is =
+  moved_archive closed archive was is_carry honest_too valid moves known part_is named =
       let counted = archive.counted in
       let still = archive.still_open was in
       let are = are_entries slots.current counted.valid in
@@ -97,16 +100,19 @@ module _ {D S : Type 0} (honest : D → Bool) (marks : D → ℕ → Marks) (hel
         within = record { limit = moved.within.limit; all = moved.within.all };
       } in
       let back = λ (h1 : IsTrue (honest d1)). subst IsTrue honest_too h1 in
-      let same = λ (h : IsTrue (honest d)). same_state counted.valid archive.all (part_is h) in
+      let same = λ (h : IsTrue (honest d)). same_state counted.valid archive.files_are (part_is h) in
       record {
         counted = now;
-        all = omega (
-          arith,
-          length-append files (part ∷ []),
-          archive.all,
-          ap (λ (l : List Entry). length l) (front_is counted.valid),
-          length-append (front_of slots.current) (sealed ∷ []),
-        );
+        files_are = subst (λ (h : Bool). AreHeldAs h (front_of after_state.manifest) (files ++ part ∷ []))
+            (sym honest_too)
+            (subst (λ (l : List Entry). AreHeldAs (honest d) l (files ++ part ∷ [])) (sym (front_is counted.valid))
+            (held_push (honest d) sealed part named (front_of slots.current) files archive.files_are));
+        stand = λ h1. subst (λ (l : List Entry). FrozenStand octets_in l after_state.parts (files ++ part ∷ []))
+            (sym (front_is counted.valid))
+            (subst (λ (l : List Part). FrozenStand octets_in (front_of slots.current ++ sealed ∷ []) l
+            (files ++ part ∷ [])) (sym (ap (λ (x : State). x.parts) (same (back h1))))
+            (frozen_push octets_in sealed s.active part (part_is (back h1)) (front_of slots.current) s.parts files
+            (archive.stand (back h1))));
         still_open = λ _. record {
           kept = record {
             counted = now;
@@ -119,11 +125,5 @@ module _ {D S : Type 0} (honest : D → Bool) (marks : D → ℕ → Marks) (hel
           segment = segment_called carry is_carry;
           hands_on = λ h1. subst (λ (x : State). HandsOn x carry) (sym (same (back h1)))
               (hands_next s carry counted.valid is_carry (still.hands_on (back h1)));
-          frozen = λ h1. subst (λ (l : List Entry). FrozenStand octets l after_state.parts (files ++ part ∷ []))
-              (sym (front_is counted.valid))
-              (subst (λ (l : List Part). FrozenStand octets (front_of slots.current ++ sealed ∷ []) l
-              (files ++ part ∷ [])) (sym (ap (λ (x : State). x.parts) (same (back h1))))
-              (frozen_push octets sealed s.active part (part_is (back h1)) (front_of slots.current) s.parts files
-              (still.frozen (back h1))));
         };
       }

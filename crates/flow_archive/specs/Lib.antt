@@ -2,6 +2,7 @@ pub mod Plain
 pub mod Printed
 pub mod Refusals
 pub mod Parts
+pub mod Owned
 pub mod Moving
 pub mod Seen
 pub mod Answers

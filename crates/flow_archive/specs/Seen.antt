@@ -1,5 +1,5 @@
 -- An archive as its callers see it, and what one call makes of it.
-use Rattle.std.specs.Prelude.{◌≡◌, ◌≢◌, ◌⊎◌, ℕ, Bool, true, false, IsTrue, List, [], length, Result, OnOk, IfErr}
+use Rattle.std.specs.Prelude.{◌≡◌, ◌≢◌, ◌⊎◌, ℕ, Bool, true, false, IsTrue, List, Result, OnOk, IfErr}
 use Rattle.std.specs.Prelude.{IsErrOf}
 use Rattle.flow_disk.specs.Disk.{Held, Marks}
 use Rattle.flow_disk.specs.Moments.{LeavesOnly}
@@ -8,6 +8,7 @@ use Rattle.flow_manifest.specs.declared.manifest.Manifest.{Manifest}
 use Rattle.flow_manifest.specs.declared.slots.Slots.{Slots}
 use Rattle.flow_manifest.specs.Following.{front_of}
 use Rattle.flow_segment.specs.Carry.{Carry}
+use Rattle.flow_snapshot.specs.Shelf.{Shelf}
 use Rattle.flow_recover.specs.State.{State, at_rest, reopened}
 use Rattle.flow_recover.specs.Chain.{HandsOn, IsSegment}
 use Rattle.flow_recover.specs.Kept.{IsCounted, IsKept}
@@ -15,6 +16,7 @@ use Rattle.flow_recover.specs.Opening.{FrozenStand}
 use Rattle.flow_recover.specs.Standing.{StandsFor}
 use Rattle.flow_archive.specs.declared.refusal.ArchiveError.{ArchiveError}
 use Rattle.flow_archive.specs.declared.refusal.ArchiveError.TheVariants.{Fault}
+use Rattle.flow_archive.specs.Owned.{octets_in, AreHeldAs, Frozen}
 use Rattle.flow_archive.specs.Parts.{parts_at}
 
 pub record Seen (D : Type 0) : Type 0 where
@@ -25,26 +27,36 @@ pub record Seen (D : Type 0) : Type 0 where
 -- ---- what an archive keeps
 
 -- what it stands for, with nothing under way
-abbrev pub state_in : {S : Type 0} → (S → List ℕ) → Manifest → List S → List ℕ → List (List ℕ) → State
-state_in octets m files prefix messages =
-    at_rest m (parts_at octets (front_of m) files) (record { front = prefix; messages = messages })
+abbrev pub state_in : Bool → Manifest → List Frozen → List ℕ → List (List ℕ) → State
+state_in shared m files prefix messages =
+    record (at_rest m (parts_at octets_in (front_of m) files) (record { front = prefix; messages = messages })) {
+      shared = shared;
+    }
 
 -- while it is open
-pub record IsOpen {D S : Type 0} (honest : D → Bool) (marks : D → ℕ → Marks) (held : D → ℕ → Held)
-    (octets : S → List ℕ) (disk : D) (slots : Slots) (last : Entry) (end total : ℕ) (carry : Carry) (files : List S)
-    (s : State) : Type 0 where
+pub record IsOpen {D : Type 0} (honest : D → Bool) (marks : D → ℕ → Marks) (held : D → ℕ → Held) (disk : D)
+    (slots : Slots) (last : Entry) (end total : ℕ) (carry : Carry) (s : State) : Type 0 where
   pub kept : IsKept honest marks held disk slots last end total s
   pub segment : IsSegment s.active carry
   pub hands_on : IsTrue (honest disk) → HandsOn s carry
-  pub frozen : IsTrue (honest disk) → FrozenStand octets (front_of s.manifest) s.parts files
 
 -- and always
-pub record IsArchive {D S : Type 0} (honest : D → Bool) (marks : D → ℕ → Marks) (held : D → ℕ → Held)
-    (octets : S → List ℕ) (disk : D) (slots : Slots) (last : Entry) (end total : ℕ) (carry : Carry) (files : List S)
-    (s : State) (closed : Bool) : Type 0 where
+pub record IsArchive {D : Type 0} (honest : D → Bool) (marks : D → ℕ → Marks) (held : D → ℕ → Held) (disk : D)
+    (slots : Slots) (last : Entry) (end total : ℕ) (carry : Carry) (files : List Frozen) (s : State) (closed : Bool)
+    : Type 0 where
   pub counted : IsCounted s last end total
-  pub all : length files ≡ length (front_of s.manifest)
-  pub still_open : closed ≡ false → IsOpen honest marks held octets disk slots last end total carry files s
+  pub files_are : AreHeldAs (honest disk) (front_of s.manifest) files
+  pub stand : IsTrue (honest disk) → FrozenStand octets_in (front_of s.manifest) s.parts files
+  pub still_open : closed ≡ false → IsOpen honest marks held disk slots last end total carry s
+
+-- ---- a directory
+
+-- the widths, and the active segment
+pub record HasActive (s : State) (shelf : Shelf) : Type 0 where
+  pub width : shelf.width ≡ s.manifest.width
+  pub wide : shelf.wide ≡ s.manifest.wide
+  pub prefix : shelf.prefix ≡ s.active.front
+  pub active : shelf.active ≡ s.active.messages
 
 -- ---- one call
 

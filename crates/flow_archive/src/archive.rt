@@ -1,25 +1,33 @@
 //! The archive over a disk.
 
-ghost use Rattle.std.specs.Prelude.{◌≡◌, ◌↔◌, ◌≤◌, true, false, IsTrue, [], ◌∷◌, length};
+ghost use Rattle.std.specs.Prelude.{◌≡◌, ◌↔◌, ◌≤◌, true, false, IsTrue, IfOk, [], ◌∷◌, length};
 ghost use Rattle.flow_disk.specs.Disk.{AllImages};
 ghost use Rattle.flow_disk.specs.Cause.{HasCause};
 ghost use Rattle.flow_gate.specs.Steps.{slices};
 ghost use Rattle.flow_manifest.specs.declared.manifest.Kind.TheVariants.{Rolled, Sealed};
 ghost use Rattle.flow_manifest.specs.Following.{count_of};
+ghost use Rattle.flow_measure.specs.History.{History};
+ghost use Rattle.flow_measure.specs.View.{view_of};
+ghost use Rattle.flow_snapshot.specs.Changes.{counts_of};
+ghost use Rattle.flow_snapshot.specs.Views.{IsViewOf};
+ghost use Rattle.flow_recover.specs.Shelved.{HasHistory, shelf_of};
 ghost use Rattle.flow_recover.specs.State.{appended, reopened};
 ghost use Rattle.flow_recover.specs.Standing.{StandsFor};
 ghost use Rattle.flow_archive.specs.Answers.{AnswersAppend, AnswersSeal, HasRoom, IsMovedOn};
-ghost use Rattle.flow_archive.specs.Seen.{Seen, IsStep};
+ghost use Rattle.flow_archive.specs.Seen.{HasActive, Seen, IsStep};
 
 use crate::moving::move_on;
 use crate::next::next_segment;
+use crate::owned::{FrozenFile, shared_files};
 use crate::refusal::ArchiveError;
 use crate::taking::{admitted, put_all};
+use bytes::Bytes;
 use flow_disk::Disk;
 use flow_gate::add_batch;
 use flow_manifest::{Entry, Kind, Slots, count_of};
 use flow_segment::Carry;
-use std::alloc::Global;
+use flow_snapshot::Directory;
+use std::alloc::{AllocError, Global};
 use std::marker::Model;
 
 /// The most messages of an archive: 2^48 - 1.
@@ -35,27 +43,26 @@ pub struct Archive<D: Disk> {
     pub(crate) end: u64,
     pub(crate) total: u64,
     pub(crate) carry: Carry,
-    pub(crate) files: Vec<D::Sealed>,
-    pub(crate) prefix: Vec<u8>,
-    pub(crate) messages: Vec<Vec<u8>>,
+    pub(crate) files: Vec<FrozenFile<D::Sealed>>,
+    pub(crate) prefix: Bytes,
+    pub(crate) messages: Vec<Bytes>,
+    pub(crate) shared: bool,
     pub(crate) closed: bool,
 }
 
 impl<D: Disk> Model for Archive<D> {
-    ghost use Rattle.flow_gate.specs.Scan.{texts};
     ghost use Rattle.flow_archive.specs.Seen.{Seen, IsArchive, state_in};
 
     ghost Value = { Seen D };
 
     ghost view = { λ a. record {
       disk = a.disk;
-      state = state_in D.Sealed.octets a.slots.current a.files.items a.prefix.items (texts a.messages.items);
+      state = state_in a.shared a.slots.current a.files.items a.prefix a.messages.items;
       closed = a.closed;
     } };
 
-    ghost invariant = { λ a. IsArchive D.honest D.marks D.held D.Sealed.octets a.disk a.slots a.last a.end a.total
-        a.carry a.files.items
-        (state_in D.Sealed.octets a.slots.current a.files.items a.prefix.items (texts a.messages.items)) a.closed };
+    ghost invariant = { λ a. IsArchive D.honest D.marks D.held a.disk a.slots a.last a.end a.total a.carry
+        a.files.items (state_in a.shared a.slots.current a.files.items a.prefix a.messages.items) a.closed };
 }
 
 impl<D: Disk> Archive<D> {
@@ -95,6 +102,28 @@ impl<D: Disk> Archive<D> {
         ensures { result ≡ count_of Rolled self.now.state.manifest.entries }
     {
         count_of(self.slots.current.entries.as_slice(), Kind::Rolled)
+    }
+
+    /// Its files, shared: what there is now, for readers, which learn of later steps one by one. From now on the archive
+    /// is shared, also where memory is refused, which changes nothing else. No octets are copied, and nothing is read. A
+    /// closed archive has one too.
+    pub fn directory(&mut self, alloc: Global) -> Result<Directory<D::Sealed>, AllocError>
+        ensures disk { self.new.disk ≡ self.old.disk }
+        ensures closed { self.new.closed ≡ self.old.closed }
+        ensures state { self.new.state ≡ record self.old.state { shared = true } }
+        // On every disk it has the widths, and the active segment.
+        ensures active { IfOk result (λ d. HasActive self.old.state d.shelf) }
+        // On an honest disk it has the files of the archive's state, which read as they are.
+        ensures shown { IsTrue (D.honest self.old.disk)
+            → IfOk result (λ d. (d.shelf ≡ shelf_of self.old.state) × (d.honest ≡ true)) }
+        // Then its files have the view of each history that the archive has.
+        ensures history { IsTrue (D.honest self.old.disk) → (h : History) → HasHistory self.old.state h
+            → IfOk result (λ d. IsViewOf d.shelf (view_of h (counts_of d.shelf))) }
+    {
+        self.shared = true;
+        let files = shared_files(alloc, &mut self.files, &self.prefix, &self.messages)?;
+        let manifest = &self.slots.current;
+        Ok(Directory::new(manifest.width, manifest.wide, files))
     }
 
     /// Gives the archive up, and its disk back as it is.
@@ -162,13 +191,8 @@ impl<D: Disk> Archive<D> {
         if self.closed {
             return Err(ArchiveError::Closed);
         }
-        let next = next_segment(
-            alloc,
-            &self.slots.current,
-            &self.carry,
-            self.end,
-            self.messages.len() as u64,
-        )?;
+        let count = self.messages.len() as u64;
+        let next = next_segment(alloc, &self.slots.current, &self.carry, self.end, count)?;
         let Ok(()) = self.files.reserve(1) else {
             return Err(ArchiveError::OutOfMemory);
         };
@@ -185,8 +209,13 @@ impl<D: Disk> Archive<D> {
             next.body.as_slice(),
         ) {
             Ok(part) => {
-                let sealed = self.last.file;
-                self.files.push_reserved(part);
+                let sealed = Entry {
+                    kind: Kind::Sealed,
+                    length: self.end,
+                    messages: count,
+                    ..self.last
+                };
+                self.files.push_reserved(FrozenFile::named(part, sealed));
                 self.last = Entry {
                     kind: Kind::Active,
                     prefix: next.prefix.len() as u32,
@@ -202,7 +231,7 @@ impl<D: Disk> Archive<D> {
                     current_slot: slot,
                     other_open: true,
                 };
-                Ok(sealed)
+                Ok(sealed.file)
             }
             Err(_) => {
                 self.closed = true;

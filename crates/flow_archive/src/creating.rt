@@ -11,6 +11,7 @@ ghost use Rattle.flow_archive.specs.Beginning.{HasFiles, IsNotMade, answer_of, d
 
 use crate::archive::Archive;
 use crate::refusal::{ArchiveError, Refused};
+use bytes::Bytes;
 use flow_disk::{Disk, DiskError};
 use flow_manifest::{Entries, Entry, Kind, Manifest, Slot, Slots, create_slots, encode};
 use flow_segment::{Carry, make_segment};
@@ -106,8 +107,9 @@ impl<D: Disk> Archive<D> {
                 total: 0,
                 carry: Carry::new(alloc),
                 files: Vec::new(alloc),
-                prefix: Vec::new(alloc),
+                prefix: Bytes::new(),
                 messages: Vec::new(alloc),
+                shared: false,
                 closed: false,
             }),
             Err(error) => Err(Refused { disk, error }),

@@ -11,7 +11,8 @@
 //! batch or seal is answered by the first refusal that holds, or taken. A stop at any moment, inside device calls too,
 //! leaves what stands for the archive before the event or after it: after Ok after it, after a refusal but 30 before it.
 //! After 30 the archive is closed: no call changes anything any more. `run` takes lists of events, of which a stop leaves
-//! some front.
+//! some front. `directory` hands out the files that there are, shared: on an honest disk its shelf is that of the
+//! archive's state, so that a snapshot of it answers for each history that the archive has.
 #![tactic(auto)]
 
 mod archive;
@@ -22,6 +23,7 @@ mod events;
 mod moving;
 mod next;
 mod opening;
+mod owned;
 mod plain;
 mod refusal;
 mod taking;

@@ -7,6 +7,7 @@ ghost use Rattle.flow_segment.specs.Carry.{prefix_of, IsCarry};
 ghost use Rattle.flow_archive.specs.Answers.{IsNotFollowed, MayFollow};
 
 use crate::refusal::ArchiveError;
+use bytes::Bytes;
 use flow_manifest::{Manifest, encode, next_manifest};
 use flow_segment::Carry;
 use std::alloc::Global;
@@ -18,7 +19,7 @@ const MOST_ENTRIES: usize = 4_096;
 #[derive(Drop)]
 pub(crate) struct Next {
     /// The prefix of the next segment.
-    pub(crate) prefix: Vec<u8>,
+    pub(crate) prefix: Bytes,
     /// The manifest that names it.
     pub(crate) manifest: Manifest,
     /// That manifest's octets.
@@ -40,7 +41,7 @@ pub(crate) fn next_segment(
     requires all { messages_of now.now.entries + count < 2 ^ 48 }
     ensures may { OnOk result (MayFollow now.now count) }
     ensures refused { IfErr result (IsNotFollowed now.now count) }
-    ensures prefix { IfOk result (λ next. next.prefix.items ≡ prefix_of carry.now) }
+    ensures prefix { IfOk result (λ next. next.prefix ≡ prefix_of carry.now) }
     ensures carry { OnOk result (IsCarry carry.now) }
     ensures manifest { IfOk result (λ next. next.manifest
         ≡ next_manifest now.now end count now.now.next (length (prefix_of carry.now))) }
@@ -56,7 +57,8 @@ pub(crate) fn next_segment(
     if now.generation == u64::MAX || now.next == u64::MAX {
         return Err(ArchiveError::NumbersSpent);
     }
-    let prefix = carry.prefix(alloc)?;
+    let octets = carry.prefix(alloc)?;
+    let prefix = Bytes::from_vec(octets)?;
     let manifest = next_manifest(alloc, now, end, count, now.next, prefix.len() as u32)?;
     let body = encode(alloc, &manifest)?;
     Ok(Next {

@@ -1,20 +1,27 @@
 //! An archive that is opened.
 
-ghost use Rattle.std.specs.Prelude.{◌≡◌, ◌⊎◌, ℕ, List, false, IsTrue, IfOk, IfErr};
+ghost use Rattle.std.specs.Prelude.{◌≡◌, ◌⊎◌, ℕ, Bool, List, false, IsTrue, IfOk, IfErr};
+ghost use Rattle.std.specs.List.{AllByRecursion};
 ghost use Rattle.flow_disk.specs.Disk.{AllImages};
 ghost use Rattle.flow_disk.specs.Moments.{LeavesOnly};
 ghost use Rattle.flow_disk.specs.Cause.{HasCause};
+ghost use Rattle.flow_gate.specs.Scan.{texts};
 ghost use Rattle.flow_manifest.specs.Slots.{reads_of};
+ghost use Rattle.flow_recover.specs.Kept.{AreFilesOf};
 ghost use Rattle.flow_recover.specs.State.{State, part_of, reopened};
 ghost use Rattle.flow_recover.specs.Standing.{StandsFor, StandsForEither};
 ghost use Rattle.flow_recover.specs.Opening.{IsDeviceOrMemory, IsRecovered, StandsForNone};
 ghost use Rattle.flow_archive.specs.Beginning.{answer_of, disk_of};
+ghost use Rattle.flow_archive.specs.Owned.{all_frozen, MayBeFrozen};
 
 use crate::archive::Archive;
+use crate::owned::{FrozenFile, frozen_files};
 use crate::refusal::Refused;
-use flow_disk::Disk;
-use flow_recover::{RecoverError, Recovered, recover};
-use std::alloc::Global;
+use bytes::Bytes;
+use flow_disk::{Disk, SealedFile};
+use flow_manifest::Entry;
+use flow_recover::{ActiveSegment, RecoverError, Recovered, recover};
+use std::alloc::{AllocError, Global};
 
 impl<D: Disk> Archive<D> {
     /// Opens the archive on a disk, of which nothing is frozen.
@@ -41,35 +48,94 @@ impl<D: Disk> Archive<D> {
     {
         let mut disk = disk;
         match recover(alloc, &mut disk) {
-            Ok(found) => Ok(resumed(disk, found)),
+            Ok(found) => resumed(alloc, disk, found),
             Err(error) => Err(Refused { disk, error }),
         }
     }
 }
 
-/// The archive that an opening has found on a disk.
-pub(crate) fn resumed<D: Disk>(disk: D, found: Recovered<D>) -> Archive<D>
-    requires { (reads : ℕ → List ℕ) × IsRecovered D.honest D.marks D.held D.Sealed.octets reads disk found.slots
-        found.last found.end found.total (part_of found.active) found.carry found.parts.items }
-    ensures disk { result.disk ≡ disk }
-    ensures still_open { result.closed ≡ false }
-    ensures at_rest { result.state ≡ reopened result.state }
-    // Where what was read stood for the state that was found, it stands for this one.
-    ensures read { (reads : ℕ → List ℕ) → IsRecovered D.honest D.marks D.held D.Sealed.octets reads disk found.slots
-        found.last found.end found.total (part_of found.active) found.carry found.parts.items
-        → IsTrue (D.honest disk) → StandsFor reads result.state }
-    ensures stands { IsTrue (D.honest disk) → AllImages (D.held disk) (λ image. StandsFor image result.state) }
+/// What an archive keeps of what an opening has found.
+#[derive(Drop)]
+struct Kept<S: SealedFile> {
+    /// Its frozen files.
+    files: Vec<FrozenFile<S>>,
+    /// The prefix of its active segment.
+    prefix: Bytes,
+    /// The messages of its active segment.
+    messages: Vec<Bytes>,
+}
+
+/// Messages, each as it may be shared.
+fn shared_messages(alloc: Global, messages: Vec<Vec<u8>>) -> Result<Vec<Bytes>, AllocError>
+    ensures { IfOk result (λ shared. shared.items ≡ texts messages.items) }
 {
-    Archive {
+    let mut shared = Vec::with_capacity(alloc, messages.len())?;
+    for message in messages {
+        shared.push_reserved(Bytes::from_vec(message)?);
+    }
+    Ok(shared)
+}
+
+/// The frozen files that these entries name, and an active segment, as an archive keeps them.
+fn kept_of<S: SealedFile>(
+    alloc: Global,
+    entries: &[Entry],
+    files: Vec<S>,
+    active: ActiveSegment,
+) -> Result<Kept<S>, AllocError>
+    requires files { (honest : Bool) × AreFilesOf S.number S.size S.honest honest entries.now files.items }
+    requires entries { AllByRecursion (λ e. MayBeFrozen e.kind e) entries.now }
+    ensures files { IfOk result (λ kept. kept.files.items ≡ all_frozen S.honest S.octets entries.now files.items) }
+    ensures prefix { IfOk result (λ kept. kept.prefix ≡ active.prefix.items) }
+    ensures messages { IfOk result (λ kept. kept.messages.items ≡ texts active.messages.items) }
+{
+    Ok(Kept {
+        files: frozen_files(alloc, entries, files)?,
+        prefix: Bytes::from_vec(active.prefix)?,
+        messages: shared_messages(alloc, active.messages)?,
+    })
+}
+
+/// The archive that an opening has found on a disk; or the disk, where memory is refused.
+pub(crate) fn resumed<D: Disk>(
+    alloc: Global,
+    disk: D,
+    found: Recovered<D>,
+) -> Result<Archive<D>, Refused<D, RecoverError>>
+    requires { (reads : ℕ → List ℕ) × IsRecovered D.honest D.marks D.held D.Sealed.octets D.Sealed.number D.Sealed.size
+        D.Sealed.honest reads disk found.slots found.last found.end found.total (part_of found.active) found.carry
+        found.parts.items }
+    ensures disk { disk_of result ≡ disk }
+    ensures refused { IfErr result (λ r. r.error ≡ RecoverError.OutOfMemory) }
+    ensures still_open { IfOk result (λ a. a.closed ≡ false) }
+    ensures at_rest { IfOk result (λ a. a.state ≡ reopened a.state) }
+    // Where what was read stood for the state that was found, it stands for this one.
+    ensures read { (reads : ℕ → List ℕ) → IsRecovered D.honest D.marks D.held D.Sealed.octets D.Sealed.number D.Sealed.size
+        D.Sealed.honest reads disk found.slots found.last found.end found.total (part_of found.active) found.carry
+        found.parts.items
+        → IsTrue (D.honest disk) → IfOk result (λ a. StandsFor reads a.state) }
+    ensures stands { IsTrue (D.honest disk)
+        → IfOk result (λ a. AllImages (D.held a.disk) (λ image. StandsFor image a.state)) }
+{
+    let (files, active) = (found.parts, found.active);
+    let named = &found.slots.current.entries.as_slice()[..files.len()];
+    let Ok(kept) = kept_of(alloc, named, files, active) else {
+        return Err(Refused {
+            disk,
+            error: RecoverError::OutOfMemory,
+        });
+    };
+    Ok(Archive {
         disk,
         slots: found.slots,
         last: found.last,
         end: found.end,
         total: found.total,
         carry: found.carry,
-        files: found.parts,
-        prefix: found.active.prefix,
-        messages: found.active.messages,
+        files: kept.files,
+        prefix: kept.prefix,
+        messages: kept.messages,
+        shared: false,
         closed: false,
-    }
+    })
 }

@@ -3,13 +3,13 @@
 ghost use Rattle.std.specs.Prelude.{◌≡◌, ◌⊎◌, ◌+◌, ◌<◌, ◌≤◌, ◌++◌, length, OnOk, IfOk, IfErr, IfSome, IfNone, vec_len};
 ghost use Rattle.std.specs.Prelude.{vec_capacity};
 ghost use Rattle.flow_gate.specs.Gate.{octet_sum};
-ghost use Rattle.flow_gate.specs.Scan.{texts};
 ghost use Rattle.flow_gate.specs.Steps.{slices};
 ghost use Rattle.flow_codec.specs.declared.error.MessageError.{MessageError};
 ghost use Rattle.flow_archive.specs.Answers.{AreTaken, IsFirstFault, IsNotAdmitted};
 ghost use Rattle.flow_archive.specs.declared.refusal.ArchiveError.TheVariants.{Message, OutOfMemory};
 
 use crate::refusal::ArchiveError;
+use bytes::Bytes;
 use flow_codec::MessageError;
 use flow_segment::Carry;
 use std::alloc::{AllocError, Global};
@@ -49,7 +49,7 @@ pub(crate) struct Batch {
     /// What is carried behind it.
     pub(crate) carry: Carry,
     /// Copies of its messages.
-    pub(crate) copies: Vec<Vec<u8>>,
+    pub(crate) copies: Vec<Bytes>,
     /// How many octets they have.
     pub(crate) count: u64,
 }
@@ -64,7 +64,7 @@ pub(crate) fn admitted(
     positions: u64,
 ) -> Result<Batch, ArchiveError>
     ensures taken { IfOk result (λ batch. AreTaken (slices messages.now) carry.now batch.carry) }
-    ensures copies { IfOk result (λ batch. texts batch.copies.items ≡ slices messages.now) }
+    ensures copies { IfOk result (λ batch. batch.copies.items ≡ slices messages.now) }
     ensures count { IfOk result (λ batch. batch.count ≡ octet_sum (slices messages.now)) }
     ensures room { IfOk result (λ batch. batch.count ≤ room) }
     ensures positions { IfOk result (λ batch. length messages.now ≤ positions) }
@@ -102,23 +102,20 @@ pub(crate) fn count_within(messages: &[&[u8]], room: u64) -> Option<u64>
 }
 
 /// Copies of the messages of a batch.
-pub(crate) fn copies_of(alloc: Global, messages: &[&[u8]]) -> Result<Vec<Vec<u8>>, AllocError>
-    ensures { IfOk result (λ copies. texts copies.items ≡ slices messages.now) }
+pub(crate) fn copies_of(alloc: Global, messages: &[&[u8]]) -> Result<Vec<Bytes>, AllocError>
+    ensures { IfOk result (λ copies. copies.items ≡ slices messages.now) }
 {
     let mut copies = Vec::with_capacity(alloc, messages.len())?;
     for message in messages {
-        let Ok(copy) = message.to_vec(alloc) else {
-            return Err(AllocError);
-        };
-        copies.push_reserved(copy);
+        copies.push_reserved(Bytes::copy_from_slice(alloc, message)?);
     }
     Ok(copies)
 }
 
 /// Puts messages behind those kept, where there is room.
-pub(crate) fn put_all(kept: &mut Vec<Vec<u8>>, copies: Vec<Vec<u8>>)
+pub(crate) fn put_all(kept: &mut Vec<Bytes>, copies: Vec<Bytes>)
     requires { vec_len kept.old + vec_len copies ≤ vec_capacity kept.old }
-    ensures { texts kept.new.items ≡ texts kept.old.items ++ texts copies.items }
+    ensures { kept.new.items ≡ kept.old.items ++ copies.items }
 {
     for copy in copies {
         kept.push_reserved(copy);

@@ -17,9 +17,9 @@ pub(crate) const ROOM: Room = Room {
     written: 4_096,
 };
 
-/// An archive without messages.
-pub(crate) fn created(alloc: Global) -> Result<Archive<MemoryDisk>, ArchiveError> {
-    let disk = MemoryDisk::new(alloc, ROOM)?;
+/// An archive without messages, on a disk with this room.
+pub(crate) fn created(alloc: Global, room: Room) -> Result<Archive<MemoryDisk>, ArchiveError> {
+    let disk = MemoryDisk::new(alloc, room)?;
     match Archive::create(alloc, disk, 300, 65_535) {
         Ok(archive) => Ok(archive),
         Err(refused) => Err(refused.error),
@@ -27,7 +27,11 @@ pub(crate) fn created(alloc: Global) -> Result<Archive<MemoryDisk>, ArchiveError
 }
 
 /// All octets of a file.
-fn contents<D: Disk>(alloc: Global, disk: &mut D, file: u64) -> Result<Vec<u8>, ArchiveError> {
+pub(crate) fn contents<D: Disk>(
+    alloc: Global,
+    disk: &mut D,
+    file: u64,
+) -> Result<Vec<u8>, ArchiveError> {
     let count = disk.length(file)?;
     Ok(disk.read(alloc, file, 0, count as usize)?)
 }
@@ -35,7 +39,7 @@ fn contents<D: Disk>(alloc: Global, disk: &mut D, file: u64) -> Result<Vec<u8>, 
 #[test]
 fn appended_and_sealed(rt: HostRuntime) -> Result<(), Fail> {
     let alloc = rt.alloc();
-    let mut archive = created(alloc)?;
+    let mut archive = created(alloc, ROOM)?;
     assert!(rt; archive.has_room(65_535) && !archive.has_room(65_536));
     assert_eq!(rt; archive.limit(), 65_535);
     assert_eq!(rt; archive.seal(alloc), Err(ArchiveError::NothingToSeal));
@@ -54,7 +58,7 @@ fn appended_and_sealed(rt: HostRuntime) -> Result<(), Fail> {
 
 /// The octets of files 3 and 4 of an archive whose one message was sealed, and why no archive is made on its disk.
 fn sealed(alloc: Global) -> Result<(Vec<u8>, Vec<u8>, Option<ArchiveError>), ArchiveError> {
-    let mut archive = created(alloc)?;
+    let mut archive = created(alloc, ROOM)?;
     archive.append(alloc, PLAIN.as_slice())?;
     archive.seal(alloc)?;
     let mut disk = archive.into_disk();

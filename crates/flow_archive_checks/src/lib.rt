@@ -7,6 +7,16 @@ mod archives;
 #[cfg(test)]
 mod damage;
 #[cfg(test)]
+mod directories;
+#[cfg(test)]
+mod formats;
+#[cfg(test)]
+mod held;
+#[cfg(test)]
+mod limits;
+#[cfg(test)]
+mod lying;
+#[cfg(test)]
 mod openings;
 #[cfg(test)]
 mod plain;
@@ -20,3 +30,5 @@ mod segment_sums;
 mod segments;
 #[cfg(test)]
 mod snapshots;
+#[cfg(test)]
+mod thawed;

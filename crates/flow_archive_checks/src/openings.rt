@@ -67,7 +67,7 @@ fn stopped(alloc: Global, call: u64) -> Result<(u64, FusedDisk<MemoryDisk>), Arc
 }
 
 /// How many messages the archive on a disk has, by the number of the next one.
-fn count_in(alloc: Global, disk: MemoryDisk) -> Option<u64>
+pub(crate) fn count_in(alloc: Global, disk: MemoryDisk) -> Option<u64>
     requires { (n : ℕ) → ((story_of disk).marks n).frozen ≡ false }
 {
     let Ok(mut archive) = Archive::open(alloc, disk) else {

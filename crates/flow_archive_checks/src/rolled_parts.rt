@@ -1,9 +1,7 @@
 //! Rolled files, read from disks whose reads may fail.
 
-ghost use Rattle.std.specs.Prelude.{◌≡◌, ◌+◌, ◌≤◌, IsTrue, IfOk, IsErrOf, take, drop, vec_len};
-ghost use Rattle.flow_disk.specs.Cause.{HasCause};
-
-use flow_disk::{DiskError, Faults, MayFail, SealedFile};
+use crate::held::Held;
+use flow_disk::Faults;
 use flow_measure::{Flow, Key, Rows, Sums};
 use flow_rolled::{
     RolledError, RolledPart, RolledRow, RowError, RowReader, RowSumError, decode_rows, encode_rows,
@@ -18,69 +16,10 @@ const TIME: u32 = 1_700_000_000;
 /// The number of each test's file.
 const FILE: u64 = 5;
 
-/// The octets of a test's file, of which reads that reach one of them fail.
-#[derive(Drop)]
-struct Held {
-    octets: Vec<u8>,
-    bad: u64,
-}
-
-struct Failed;
-
-impl MayFail for Held {
-    type Failure = Failed;
-}
-
-impl SealedFile for Held {
-    ghost use Rattle.std.specs.Prelude.{length, true, refl};
-
-    ghost octets = { λ f. f.octets.items };
-
-    ghost number = { λ _. 5 };
-
-    ghost size = { λ f. length f.octets.items };
-
-    ghost honest = { λ _. true };
-
-    ghost can_fail = { λ _ at count. Unit {0} };
-
-    ghost whole = { λ f h. refl };
-
-    fn file(&self) -> u64 {
-        FILE
-    }
-
-    fn length(&self) -> u64 {
-        self.octets.len() as u64
-    }
-
-    fn read(
-        &self,
-        alloc: Global,
-        faults: &mut Faults<Self>,
-        at: u64,
-        count: usize,
-    ) -> Result<Vec<u8>, DiskError> {
-        if at + count as u64 > self.bad {
-            faults.raise(&Failed);
-            return Err(DiskError::Fault);
-        }
-        let at = at as usize;
-        Ok(self.octets[at..at + count].to_vec(alloc)?)
-    }
-}
-
 /// The rolled file of these octets, of which no read fails.
 fn part(octets: Vec<u8>) -> RolledPart<Held> {
     let size = octets.len() as u64;
-    RolledPart::new(
-        Held {
-            octets,
-            bad: u64::MAX,
-        },
-        1,
-        size,
-    )
+    RolledPart::new(Held::whole(FILE, octets), 1, size)
 }
 
 fn flow(domain: u32, start: u32, protocol: Option<u8>) -> Flow {
@@ -258,8 +197,12 @@ fn several_pieces(rt: HostRuntime) -> Result<(), Fail> {
 fn failing_piece(rt: HostRuntime) -> Result<(), Fail> {
     let octets = encode_rows(rt.alloc(), &many(rt.alloc())?, TIME)?;
     let size = octets.len() as u64;
-    let bad = 262_145;
-    let broken = RolledPart::new(Held { octets, bad }, 1, size);
+    let held = Held {
+        number: FILE,
+        octets,
+        bad: 262_145,
+    };
+    let broken = RolledPart::new(held, 1, size);
     let mut reader = RowReader::new(rt.alloc(), &broken, 300);
     for _ in 0..7 {
         assert!(rt; next_count(rt.alloc(), &mut reader)?.is_some());

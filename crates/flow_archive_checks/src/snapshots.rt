@@ -1,7 +1,9 @@
 //! Snapshots of files made by hand: totals by both widths, flows, messages, and reads that fail.
 
+use crate::held::Held;
+use crate::segments::{FLOW, FLOW_ALONE};
 use bytes::Bytes;
-use flow_disk::{DiskError, Faults, MayFail, SealedFile};
+use flow_disk::Faults;
 use flow_measure::{Flow, Key, Row, Rows, Sums};
 use flow_rolled::{RolledPart, encode_rows};
 use flow_segment::SealedPart;
@@ -9,19 +11,6 @@ use flow_snapshot::{Directory, Files, QueryError, Snapshot};
 use std::alloc::{AllocError, Global};
 use std::sync::Arc;
 use std::test::Fail;
-
-/// A message of 57 octets in domain 7: Template 256 of four elements, and a flow.
-const FLOW: [u8; 57] = [
-    0, 10, 0, 57, 0x65, 0x53, 0xf1, 0, 0, 0, 0, 0, 0, 0, 0, 7, //
-    0, 2, 0, 24, 1, 0, 0, 4, 0, 150, 0, 4, 0, 4, 0, 1, 0, 1, 0, 4, 0, 2, 0, 4, //
-    1, 0, 0, 17, 0x65, 0x53, 0xf1, 0, 6, 0, 0, 5, 0xdc, 0, 0, 0, 10,
-];
-
-/// A message of 33 octets with such a flow, under the Template of the other.
-const FLOW_ALONE: [u8; 33] = [
-    0, 10, 0, 33, 0x65, 0x53, 0xf1, 0, 0, 0, 0, 1, 0, 0, 0, 7, //
-    1, 0, 0, 17, 0x65, 0x53, 0xf1, 0, 6, 0, 0, 5, 0xdc, 0, 0, 0, 10,
-];
 
 /// The flow of each message.
 const THE_FLOW: Flow = Flow {
@@ -35,59 +24,6 @@ const THE_FLOW: Flow = Flow {
 /// Behind each start.
 const NEVER: u64 = 1 << 32;
 
-/// The octets of a file, of which each read fails that reaches octet `bad`.
-#[derive(Drop)]
-struct Held {
-    number: u64,
-    octets: Vec<u8>,
-    bad: u64,
-}
-
-struct Failed;
-
-impl MayFail for Held {
-    type Failure = Failed;
-}
-
-impl SealedFile for Held {
-    ghost use Rattle.std.specs.Prelude.{length, true, refl};
-
-    ghost octets = { λ f. f.octets.items };
-
-    ghost number = { λ f. f.number };
-
-    ghost size = { λ f. length f.octets.items };
-
-    ghost honest = { λ _. true };
-
-    ghost can_fail = { λ _ at count. Unit {0} };
-
-    ghost whole = { λ f h. refl };
-
-    fn file(&self) -> u64 {
-        self.number
-    }
-
-    fn length(&self) -> u64 {
-        self.octets.len() as u64
-    }
-
-    fn read(
-        &self,
-        alloc: Global,
-        faults: &mut Faults<Self>,
-        at: u64,
-        count: usize,
-    ) -> Result<Vec<u8>, DiskError> {
-        if at + count as u64 > self.bad {
-            faults.raise(&Failed);
-            return Err(DiskError::Fault);
-        }
-        let at = at as usize;
-        Ok(self.octets[at..at + count].to_vec(alloc)?)
-    }
-}
-
 /// The rolled file with this number of the flow of one message, by this width.
 fn rolled(alloc: Global, number: u64, width: u32) -> Result<Arc<RolledPart<Held>>, Fail> {
     let mut rows = Rows::new(alloc, width.max(1));
@@ -99,13 +35,8 @@ fn rolled(alloc: Global, number: u64, width: u32) -> Result<Arc<RolledPart<Held>
 fn rolled_of(alloc: Global, number: u64, rows: &Rows) -> Result<Arc<RolledPart<Held>>, Fail> {
     let octets = encode_rows(alloc, rows, 1_700_000_000)?;
     let size = octets.len() as u64;
-    let bad = u64::MAX;
-    let held = Held {
-        number,
-        octets,
-        bad,
-    };
-    Ok(Arc::new(alloc, RolledPart::new(held, 1, size))?)
+    let part = RolledPart::new(Held::whole(number, octets), 1, size);
+    Ok(Arc::new(alloc, part)?)
 }
 
 /// The sealed segment in file 4 without a prefix of these octets, of one message.

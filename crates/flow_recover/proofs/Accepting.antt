@@ -1,10 +1,10 @@
--- Messages that are read from a part one after the other.
+-- Messages that are read one after the other.
 use Rattle.std.proofs.Common.{◌≡◌, ◌⊎◌, inl, inr, ⊎_elim, ℕ, ◌+◌, ◌<◌, ◌≤◌, Bool, true, false, List}
-use Rattle.std.proofs.Common.{[], ◌∷◌, ◌++◌, length, take, drop, refl, sym, ◌∙◌, ap, subst, arith, append_assoc, Ok}
-use Rattle.std.proofs.Common.{Err, Result, Vec, get_or, zero, suc}
+use Rattle.std.proofs.Common.{[], ◌∷◌, ◌++◌, length, take, drop, refl, sym, ◌∙◌, ap, subst, arith, append_assoc}
+use Rattle.std.proofs.Common.{Vec, get_or, zero, suc}
 use Rattle.std.specs.declared.alloc.Global.{Global}
 use Rattle.std.proofs.lemmas.List.{drop-drop, length-append, length-drop, length-take-le}
-use Rattle.std.proofs.lemmas.List.{nil_from_length, take-append-drop}
+use Rattle.std.proofs.lemmas.List.{take-append-drop}
 use Rattle.flow_codec.specs.declared.file.FileError.{FileError}
 use Rattle.flow_codec.specs.Cutting.{IsCutOff, IsFileFault}
 use Rattle.flow_codec.specs.Message.{joined, IsAccepted}
@@ -15,16 +15,9 @@ use Rattle.flow_codec.proofs.FaultLaws as accepted
 use Rattle.flow_measure.specs.History.{Accepted, AreAcceptedFrom, templates_from}
 use Rattle.flow_segment.specs.Carry.{Carry, carry_from, carry_with, octets_of}
 use Rattle.flow_segment.specs.Prefix.{AreRead}
-use Rattle.flow_segment.specs.Part.{Cursor, IsOn, IsPartStep, Moves, rest_of}
-use Rattle.flow_segment.specs.Segment.{part_octets}
 use Rattle.flow_segment.specs.Carry.{IsTakenAs, no_carry}
-use Rattle.flow_segment.proofs.Restating.{one_more, Behind, step_more}
+use Rattle.flow_segment.proofs.Restating.{one_more, Behind}
 use Rattle.flow_gate.specs.Scan.{texts}
-use Rattle.flow_gate.specs.declared.tail.ScanError.{ScanError}
-use Rattle.flow_gate.specs.declared.tail.ScanError.TheVariants.{Damaged, Fault, OutOfMemory}
-use Rattle.flow_recover.specs.declared.error.RecoverError.{RecoverError}
-use Rattle.flow_recover.specs.declared.error.RecoverError.TheVariants as opening
-use Rattle.flow_recover.specs.Opening.{of_scan, IsDeviceOrMemory}
 use Rattle.flow_recover.specs.declared.segments.Section.{Section}
 use Rattle.flow_recover.specs.declared.segments.Section.TheVariants.{Prefix, Messages}
 use Rattle.flow_recover.specs.Reading.{is_misplaced, AreOf, IsOf, IsRestatement}
@@ -95,15 +88,6 @@ pub of_push : (section : Section) (ms : List Accepted) (a : Accepted) → AreOf 
 of_push section [] a all is = (is, tt)
 of_push section (m ∷ ms) a all is = (all.0, of_push section ms a all.1 is)
 
-pub taken_of : (section : Section) (bare : Bool) (octets : List ℕ) (old new : Carry)
-    → is_misplaced section bare ≡ false → IsTakenAs bare octets old new
-    → (a : Accepted) × (a.octets ≡ octets) × IsAccepted octets old.templates a.message a.after × IsOf section a ×
-    (new ≡ carry_with old a)
-taken_of Prefix true octets old new placed taken = (taken.0, taken.1, taken.2, taken.4, taken.3)
-taken_of Prefix false octets old new placed taken = absurd (cc)
-taken_of Messages true octets old new placed taken = (taken.0, taken.1, taken.2, tt, taken.3)
-taken_of Messages false octets old new placed taken = (taken.0, taken.1, taken.2, tt, taken.3)
-
 pub misplaced_none : (section : Section) (bare : Bool) (octets : List ℕ) (old new : Carry)
     → is_misplaced section bare ≡ true → IsTakenAs bare octets old new
     → (a : Accepted) → IsAccepted octets old.templates a.message a.after → IsOf section a → ⊥
@@ -115,149 +99,16 @@ misplaced_none Prefix false octets old new placed taken a is kind =
     taken.4 (ap (λ (m : RawMessage). m.records) same ∙ kind)
 misplaced_none Messages bare octets old new placed taken a is kind = absurd (cc)
 
--- ---- a part that is read as far as a cursor stands
+-- ---- messages that are read so far
 
 pub record IsSoFar (section : Section) (old now : Carry) (count : ℕ) (messages : List Accepted) : Type 0 where
   pub kind : AreOf section messages
   pub carry : now ≡ carry_from old messages
   pub count_is : length messages ≡ count
 
-pub record IsPartRead (section : Section) (reads : List ℕ) (from end : ℕ) (old now : Carry) (c : Cursor)
-    (count : ℕ) : Type 0 where
-  pub behind : Behind (IsSoFar section old now count)
-      (part_octets from end reads) from old.templates now.templates c.place (rest_of reads c)
-  pub on : IsOn reads c
-
-pub part_begun : (section : Section) (reads : List ℕ) (from end : ℕ) (old : Carry) (c : Cursor)
-    → c ≡ record { ahead = []; message = []; place = from; end = end } → IsPartRead section reads from end old old c 0
-part_begun section reads from end old c is = subst (λ (x : Cursor). IsPartRead section reads from end old old x 0)
-    (sym is) (record {
-      behind = record {
-        messages = [];
-        read = record { divided = record { whole = refl; each = tt }; accepted = tt };
-        kind = record { kind = tt; carry = refl; count_is = refl };
-        same = refl;
-        at = omega arith;
-      };
-      on = refl;
-    })
-
 of_same : (section : Section) (a x : Accepted) → a.message ≡ x.message → IsOf section a → IsOf section x
 of_same Prefix a x is kind = ap (λ (m : RawMessage). m.records) (sym is) ∙ kind
 of_same Messages a x is kind = tt
-
-pub part_more : (section : Section) (reads : List ℕ) (from end file : ℕ) (old now new : Carry) (c next : Cursor)
-    (count : ℕ) (message : List ℕ) (more : Bool) → more ≡ true
-    → IsPartRead section reads from end old now c count → IsOn reads next × IsPartStep reads file c (Ok more) next
-    → Moves c (Ok more) next → message ≡ next.message
-    → (a : Accepted) × (a.octets ≡ message) × IsAccepted message now.templates a.message a.after × IsOf section a ×
-    (new ≡ carry_with now a)
-    → IsPartRead section reads from end old new next (count + 1)
-part_more section reads from end file old now new c next count message false go was step moves same taken = absurd (cc)
-part_more section reads from end file old now new c next count message true go was step moves same taken =
-    let a = taken.0 in
-    let b = was.behind in
-    let x : Accepted = record { octets = message; message = a.message; after = a.after } in
-    let carried : new ≡ carry_from old (b.messages ++ x ∷ []) = taken.4 ∙ ap (λ
-    (k : Carry). carry_with k a) b.kind.carry ∙ sym (carry_push old b.messages x) in
-    let next_kind : IsSoFar section old new (count + 1) (b.messages ++ x ∷ []) = record {
-      kind = of_push section b.messages x b.kind.kind (of_same section a x refl taken.3);
-      carry = carried;
-      count_is = omega (arith, length-append b.messages (x ∷ []), b.kind.count_is);
-    } in
-    let there : new.templates ≡ a.after = ap (λ (k : Carry). k.templates) taken.4 in
-    record {
-      behind = subst (λ (ts : AllTemplates). Behind (IsSoFar section old new (count + 1))
-          (part_octets from end reads) from old.templates ts next.place (rest_of reads next)) (sym there)
-          (step_more (IsSoFar section old now count) (IsSoFar section old new (count + 1)) reads
-          (part_octets from end reads) from file old.templates now.templates a.after c next message a.message b
-          step.1 moves.2 same taken.2 next_kind);
-      on = step.0;
-    }
-
--- where other messages fill the part, the next one stands at the cursor
-pub part_next : (section : Section) (reads : List ℕ) (from end : ℕ) (old now : Carry) (c : Cursor) (count : ℕ)
-    (others : List Accepted)
-    → IsPartRead section reads from end old now c count → AreRead
-    (part_octets from end reads) old.templates others [] → AreOf section others
-    → (rest_of reads c ≡ []) ⊎ IsNextOf section now.templates (rest_of reads c)
-part_next section reads from end old now c count others was other kind =
-    let b = was.behind in
-    subst (λ (ts : AllTemplates). (rest_of reads c ≡ []) ⊎ IsNextOf section ts (rest_of reads c)) (sym b.same)
-    (next_of section (part_octets from end reads) (rest_of reads c) old.templates b.messages others b.read other kind)
-
--- so no refusal of octets is told there
-pub step_refused : (section : Section) (reads : List ℕ) (from end file : ℕ) (old now : Carry) (c next : Cursor)
-    (count : ℕ) (others : List Accepted) (e : ScanError)
-    → IsPartRead section reads from end old now c count → AreRead
-    (part_octets from end reads) old.templates others [] → AreOf section others
-    → IsPartStep reads file c (Err e) next → IsDeviceOrMemory (of_scan e)
-step_refused section reads from end file old now c next count others Fault was other kind step = inl refl
-step_refused section reads from end file old now c next count others OutOfMemory was other kind step = inr refl
-step_refused section reads from end file old now c next count others (Damaged f at) was other kind step =
-    let fault = step.2 in
-    absurd (⊎_elim (λ none. no_fault fault.0 (subst (λ (l : List ℕ). IsFileFault c.place l fault.0) none fault.1))
-    (λ there. no_message c.place there.message.octets there.more fault.0 there.cut (subst (λ
-    (l : List ℕ). IsFileFault c.place l fault.0) there.parts fault.1))
-    (part_next section reads from end old now c count others was other kind))
-  where
-    no_fault : (f : FileError) → IsFileFault c.place [] f → ⊥
-    no_fault f (inl short) = omega (arith, short.0)
-    no_fault f (inr (inl long)) = omega (arith, long.0)
-    no_fault f (inr (inr long)) = omega (arith, long.0)
-
--- and the message that is held is the next one
-pub message_refused : (section : Section) (reads : List ℕ) (from end file : ℕ) (old now : Carry) (c next : Cursor)
-    (count : ℕ) (others : List Accepted) (message : List ℕ) (e : RecoverError) (more : Bool) → more ≡ true
-    → IsPartRead section reads from end old now c count → AreRead
-    (part_octets from end reads) old.templates others [] → AreOf section others
-    → IsPartStep reads file c (Ok more) next → message ≡ next.message
-    → ((a : Accepted) → IsAccepted message now.templates a.message a.after → IsOf section a
-    → e ≡ opening.OutOfMemory) → IsDeviceOrMemory e
-message_refused section reads from end file old now c next count others message e false go was other kind step same
-    refused = absurd (cc)
-message_refused section reads from end file old now c next count others message e true go was other kind step same
-    refused =
-    ⊎_elim (λ none. let cut : IsCutOff next.message = step.0 in
-    absurd (omega (
-      arith,
-      cut.long,
-      length-append next.message (rest_of reads next),
-      ap (λ (l : List ℕ). length l)
-          (sym step.1 ∙ none),
-    )))
-    (λ there. let heads = one_message next.message there.message.octets
-    (rest_of reads next) there.more step.0 there.cut (sym step.1 ∙ there.parts) in
-    inr (refused there.message (subst (λ
-    (l : List ℕ). IsAccepted l now.templates there.message.message there.message.after) (sym (same
-    ∙ heads.0)) there.accepted) there.kind))
-    (part_next section reads from end old now c count others was other kind)
-
-pub few_more : (old new : Cursor) (more : Bool) (count : ℕ) → more ≡ true → Moves old (Ok more) new
-    → count ≤ old.place → count + 1 ≤ new.place
-few_more old new false count go moves few = absurd (cc)
-few_more old new true count go moves few = omega (arith, moves.0, moves.2, few)
-
-pub step_on : (a b : List ℕ) (file : ℕ) (c next : Cursor) (result : Result Bool ScanError) → a ≡ b → IsOn b c
-    → (IsOn a c → IsOn a next × IsPartStep a file c result next) → IsOn b next × IsPartStep b file c result next
-step_on a b file c next result same on step = subst (λ (l : List ℕ). IsOn l c → IsOn l next
-    × IsPartStep l file c result next) same step on
-
-pub from_start : (count : ℕ) (octets : List ℕ) → part_octets 0 count octets ≡ take count octets
-from_start count octets = ap (λ (n : ℕ). take n octets) (omega arith)
-
--- a prefix that was read from no carry
-pub restated_by : (count : ℕ) (octets : List ℕ) (start carry : Carry) → start ≡ no_carry 0
-    → (ms : List Accepted) × AreRead (part_octets 0 count octets) start.templates ms [] × AreOf Prefix ms ×
-    (carry ≡ carry_from start ms)
-    → IsRestatement (take count octets) carry
-restated_by count octets start carry is found = (
-  found.0,
-  subst (λ (l : List ℕ). AreRead l [] found.0 []) (from_start count octets) (subst (λ (k : Carry). AreRead
-      (part_octets 0 count octets) k.templates found.0 []) is found.1),
-  found.2,
-  found.3 ∙ ap (λ (k : Carry). carry_from k found.0) is,
-)
 
 pub restated_all : (count : ℕ) (octets : List ℕ) (start carry : Carry) → start ≡ no_carry 0
     → (ms : List Accepted) × AreRead octets start.templates ms [] × AreOf Prefix ms ×
@@ -279,15 +130,6 @@ any_messages (m ∷ ms) = (tt, any_messages ms)
 abbrev pub AreOctetsRead : Section → List ℕ → Carry → Carry → ℕ → ℕ → Type 0
 AreOctetsRead section octets old now count at =
     Behind (IsSoFar section old now count) octets 0 old.templates now.templates at (drop at octets)
-
-pub octets_begun : (section : Section) (octets : List ℕ) (old : Carry) → AreOctetsRead section octets old old 0 0
-octets_begun section octets old = record {
-  messages = [];
-  read = record { divided = record { whole = refl; each = tt }; accepted = tt };
-  kind = record { kind = tt; carry = refl; count_is = refl };
-  same = refl;
-  at = omega arith;
-}
 
 -- the message that stands at the place is one more
 pub octets_more : (section : Section) (octets : List ℕ) (old now new : Carry) (count at n : ℕ)
@@ -343,20 +185,6 @@ octets_refused section octets old now count at n others P was below cut other ki
     (sym was.same) (subst (λ (l : List ℕ). IsAccepted l (templates_from old.templates was.messages)
     there.message.message there.message.after) (sym heads.0) there.accepted)) there.kind)
     (next_of section octets (drop at octets) old.templates was.messages others was.read other kind)
-
--- all of them
-pub octets_whole : (section : Section) (octets : List ℕ) (old now : Carry) (count at : ℕ)
-    → AreOctetsRead section octets old now count at → length octets ≤ at
-    → (messages : List Accepted) × AreRead octets old.templates messages [] × AreOf section messages
-    × (now ≡ carry_from old messages) × (length messages ≡ count)
-octets_whole section octets old now count at was past = (
-  was.messages,
-  subst (λ (l : List ℕ). AreRead octets old.templates was.messages l)
-      (nil_from_length (drop at octets) (omega (arith, past, length-drop at octets))) was.read,
-  was.kind.kind,
-  was.kind.carry,
-  was.kind.count_is,
-)
 
 -- ---- a list of messages
 

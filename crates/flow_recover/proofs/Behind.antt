@@ -188,16 +188,9 @@ is_called None (Some v) front calls is = absurd calls
 is_called (Some c) None front calls is = absurd calls
 is_called (Some c) (Some v) front calls is = is ∙ sym calls
 
-pub called_none : (called : Option (Vec ℕ Global)) (front : List ℕ) → called ≡ None → IsCalled called front
-called_none called front is = subst (λ (b : Option (Vec ℕ Global)). IsCalled b front) (sym is) tt
-
 pub called_some : (called : Option (Vec ℕ Global)) (v : Vec ℕ Global) (front : List ℕ) → called ≡ Some v
     → front ≡ v.items → IsCalled called front
 called_some called v front is same = subst (λ (b : Option (Vec ℕ Global)). IsCalled b front) (sym is) same
-
-pub some_called : (called : Option (Vec ℕ Global)) (v : Vec ℕ Global) (front : List ℕ) → called ≡ Some v
-    → IsCalled called front → front ≡ v.items
-some_called called v front is same = subst (λ (b : Option (Vec ℕ Global)). IsCalled b front) is same
 
 -- ---- what is kept of a file
 
@@ -274,10 +267,6 @@ CallTheSame None None = Unit {0}
 CallTheSame None (Some d) = ⊥
 CallTheSame (Some c) None = ⊥
 CallTheSame (Some c) (Some d) = prefix_of c ≡ prefix_of d
-
-pub same_call : (c : Option Carry) → CallTheSame c c
-same_call None = tt
-same_call (Some c) = refl
 
 whichever_time : (xs : List Accepted) (s t : ℕ)
     → prefix_of (carry_from (no_carry s) xs) ≡ prefix_of (carry_from (no_carry t) xs)

@@ -4,3 +4,6 @@ pub mod Stand
 pub mod Recovering
 pub mod Accepting
 pub mod Behind
+pub mod Installing
+pub mod Sourcing
+pub mod Replacing

@@ -3,6 +3,7 @@ use Rattle.std.proofs.Common.{◌≡◌, ◌≢◌, ◌⊎◌, inl, inr, ⊎_eli
 use Rattle.std.proofs.Common.{false, List, [], ◌∷◌, ◌++◌, length, take, get_or, refl, sym, ◌∙◌, ap, subst, arith}
 use Rattle.std.proofs.Common.{eq-eqb}
 use Rattle.std.specs.Prelude.{◌||◌}
+use Rattle.std.proofs.lemmas.Bool.{eqb-true, or_cases}
 use Rattle.std.specs.List.{AllByRecursion, list_any}
 use Rattle.flow_disk.specs.Disk.{AllImages, Held, InFile, IsDiskImage}
 use Rattle.flow_gate.proofs.Exact.{one_list, one_row}
@@ -26,6 +27,7 @@ use Rattle.flow_recover.specs.Standing.{IsKnown, is_file_of, SameNamed}
 use Rattle.flow_recover.specs.declared.error.RecoverError.{RecoverError}
 use Rattle.flow_recover.specs.declared.error.RecoverError.TheVariants.{Damaged, Format, Entries, Cut, NoArchive, Fault}
 use Rattle.flow_recover.specs.declared.error.RecoverError.TheVariants.{OutOfMemory}
+use Rattle.flow_recover.specs.Kept.{AreFilesOf, IsFileOf}
 use Rattle.flow_recover.specs.Opening.{FilesStand, FrozenStand, IsDeviceOrMemory, IsRead, StandsForNone}
 use Rattle.flow_segment.specs.Carry.{Carry}
 use Rattle.flow_manifest.proofs.Followers.{split, IsOther, AreEntries, are_entries}
@@ -174,6 +176,21 @@ pub entries_named : (m : Manifest) → AllByRecursion (λ e. is_file_of m e.file
 entries_named m = all_by (λ e. list_any (λ y. y.file == e.file) m.entries ≡ true) (λ e. is_file_of m e.file ≡ true)
     (λ e is. or_right (e.file == 1 || e.file == 2) (list_any (λ y. y.file == e.file) m.entries) is) m.entries
     (every_listed m.entries)
+
+-- what holds of the slots and of each entry's file holds of each file that is named
+named_in : (P : ℕ → Type 0) (entries : List Entry) (n : ℕ) → AllByRecursion (λ e. P e.file) entries
+    → list_any (λ e. e.file == n) entries ≡ true → P n
+named_in P [] n all is = absurd (cc)
+named_in P (e ∷ entries) n all is = ⊎_elim (λ same. subst P (eqb-true e.file n same) all.0)
+    (λ more. named_in P entries n all.1 more) (or_cases (e.file == n) (list_any (λ x. x.file == n) entries) is)
+
+pub named_all : (m : Manifest) (P : ℕ → Type 0) → ((slot : Slot) → P (file_of slot))
+    → AllByRecursion (λ e. P e.file) m.entries → (n : ℕ) → is_file_of m n ≡ true → P n
+named_all m P slot all n is = ⊎_elim
+    (λ one. ⊎_elim (λ first. subst P (sym (eqb-true n 1 first)) (slot First))
+    (λ second. subst P (sym (eqb-true n 2 second)) (slot Second)) (or_cases (n == 1) (n == 2) one))
+    (λ entry. named_in P m.entries n all entry)
+    (or_cases (n == 1 || n == 2) (list_any (λ e. e.file == n) m.entries) is)
 
 pub files_along : (s : State) (a b : ℕ → List ℕ) → ((n : ℕ) → b n ≡ a n) → HoldsFiles a s → HoldsFiles b s
 files_along s a b same files =
@@ -325,6 +342,16 @@ frozen_push octets e p x at (f ∷ entries) [] frozen is = absurd is
 frozen_push octets e p x at (f ∷ entries) (q ∷ parts) [] is = absurd is
 frozen_push octets e p x at (f ∷ entries) (q ∷ parts) (y ∷ frozen) is =
     (is.0, frozen_push octets e p x at entries parts frozen is.1)
+
+pub files_push : {S : Type 0} (number size : S → ℕ) (is_honest : S → Bool) (honest : Bool) (e : Entry) (x : S)
+    → IsFileOf number size is_honest honest e x → (entries : List Entry) (files : List S)
+    → AreFilesOf number size is_honest honest entries files
+    → AreFilesOf number size is_honest honest (entries ++ e ∷ []) (files ++ x ∷ [])
+files_push number size is_honest honest e x at [] [] is = (at, tt)
+files_push number size is_honest honest e x at [] (y ∷ files) is = absurd is
+files_push number size is_honest honest e x at (f ∷ entries) [] is = absurd is
+files_push number size is_honest honest e x at (f ∷ entries) (y ∷ files) is =
+    (is.0, files_push number size is_honest honest e x at entries files is.1)
 
 pub parts_count : (image : ℕ → List ℕ) (entries : List Entry) (parts : List Part) → PartsStand image entries parts
     → length entries ≡ length parts

@@ -1,11 +1,9 @@
 -- What changes of an image do to what it stands for.
 use Rattle.std.proofs.Common.{◌≡◌, ◌≢◌, ◌⊎◌, inl, inr, ⊎_elim, ℕ, ◌<◌, ◌≤◌, List, [], ◌∷◌, ◌++◌, take, refl, sym, ◌∙◌}
-use Rattle.std.proofs.Common.{ap, subst, arith}
+use Rattle.std.proofs.Common.{subst, arith}
 use Rattle.std.specs.List.{AllByRecursion}
 use Rattle.std.proofs.lemmas.Bool.{cases_eq}
 use Rattle.flow_disk.specs.Disk.{InFile}
-use Rattle.flow_gate.specs.Gate.{IsGated}
-use Rattle.flow_gate.specs.Steps.{MayAdd, Adds}
 use Rattle.flow_gate.proofs.Rows.{row_front, shorter}
 use Rattle.flow_manifest.specs.declared.manifest.Kind.{Kind}
 use Rattle.flow_manifest.specs.declared.manifest.Kind.TheVariants.{Wide, Rolled, Sealed, Active}
@@ -14,16 +12,14 @@ use Rattle.flow_manifest.specs.declared.slots.Slot.{Slot}
 use Rattle.flow_manifest.specs.declared.slots.Slot.TheVariants.{First, Second}
 use Rattle.flow_manifest.specs.declared.slots.Slots.{Slots}
 use Rattle.flow_manifest.specs.Manifest.{IsValidManifest, HaveOwnFiles}
-use Rattle.flow_manifest.specs.Slots.{file_of, other, AreSlots}
+use Rattle.flow_manifest.specs.Slots.{file_of, other}
 use Rattle.flow_manifest.proofs.Swaps.{same_slots}
 use Rattle.flow_segment.specs.Steps.{KeepsFront}
-use Rattle.flow_recover.specs.State.{Part, State, end_of, appended, reopened}
+use Rattle.flow_recover.specs.State.{Part, State, reopened}
 use Rattle.flow_manifest.specs.Following.{active_of, front_of}
-use Rattle.flow_recover.specs.Standing.{IsActiveAt, StandsAs, PartsStand, IsWithinLimits, HoldsFiles, StandsFor}
-use Rattle.flow_recover.specs.Standing.{StandsForEither, IsKnown}
-use Rattle.flow_manifest.proofs.Followers.{IsOther, AreEntries, are_entries}
-use Rattle.flow_recover.specs.Chain.{IsChained}
-use Rattle.flow_manifest.proofs.EntryLists.{all_by, all_left, all_right, own_left}
+use Rattle.flow_recover.specs.Standing.{IsActiveAt, StandsAs, PartsStand, HoldsFiles, StandsFor}
+use Rattle.flow_recover.specs.Standing.{IsKnown}
+use Rattle.flow_manifest.proofs.EntryLists.{all_left, all_right, own_left}
 
 -- of entries with one behind them
 pub all_first : (P : Entry → Type 0) (xs : List Entry) (x : Entry) → AllByRecursion P (xs ++ x ∷ [])
@@ -58,15 +54,6 @@ parts_push image e p at [] (q ∷ parts) is = absurd is
 parts_push image e p at (x ∷ entries) [] is = absurd is
 parts_push image e p at (x ∷ entries) (q ∷ parts) is = (is.0, parts_push image e p at entries parts is.1)
 
-pub parts_last : (image : ℕ → List ℕ) (e : Entry) (p : Part) (entries : List Entry) (parts : List Part)
-    → PartsStand image (entries ++ e ∷ []) (parts ++ p ∷ []) → StandsAs e.kind (image e.file) e p
-parts_last image e p [] [] is = is.0
-parts_last image e p [] (q ∷ []) is = absurd is.1
-parts_last image e p [] (q ∷ r ∷ parts) is = absurd is.1
-parts_last image e p (x ∷ []) [] is = absurd is.1
-parts_last image e p (x ∷ y ∷ entries) [] is = absurd is.1
-parts_last image e p (x ∷ entries) (q ∷ parts) is = parts_last image e p entries parts is.1
-
 -- the files that are named are as they were
 pub files_same : (s : State) (a b : ℕ → List ℕ) → HoldsFiles a s → b (active_of s.manifest).file ≡ a
     (active_of s.manifest).file
@@ -78,14 +65,6 @@ files_same s a b files active front = record {
   within = files.within;
   chained = files.chained;
 }
-
--- of a valid manifest
-pub files_below : (s : State) (a b : ℕ → List ℕ) → AreEntries s.manifest → HoldsFiles a s → ((n : ℕ) → 3 ≤ n
-    → n < s.manifest.next → b n ≡ a n) → HoldsFiles b s
-files_below s a b are files same = files_same s a b files (same
-    (active_of s.manifest).file are.active.file_from are.active.file_below)
-    (all_by (IsOther s.manifest) (λ e. b e.file ≡ a e.file)
-    (λ e one. same e.file one.entry.file_from one.entry.file_below) (front_of s.manifest) are.front)
 
 pub valid_of : (slots : Slots) (s : State) (image : ℕ → List ℕ) → IsKnown slots s image → IsValidManifest s.manifest
 valid_of slots s image known = let holds = known.slots_are.current in subst IsValidManifest known.current
@@ -115,106 +94,6 @@ stands_for slots s image known = record {
   };
   at_rest = refl;
 }
-
--- another file differs
-pub elsewhere : (slots : Slots) (s : State) (file : ℕ) (Q : List ℕ → List ℕ → Type 0) (a b : ℕ → List ℕ)
-    → s.manifest.next ≤ file → IsKnown slots s a → InFile file Q a b → IsKnown slots s b
-elsewhere slots s file Q a b far known step =
-    let are = are_entries s.manifest (valid_of slots s a known) in
-    let above : 3 ≤ file = omega (arith, far, are.active.file_from, are.active.file_below) in
-    record {
-      slots_are = same_slots slots a b known.slots_are (step.others (file_of slots.current_slot) (λ is. omega
-          (arith, is, above, slot_below slots.current_slot)))
-          (step.others (file_of (other slots.current_slot)) (λ is. omega (
-            arith,
-            is,
-            above,
-            slot_below
-                (other slots.current_slot),
-          )));
-      current = known.current;
-      files = files_below s a b are known.files (λ n from below. step.others n (λ is. omega (arith, is, far, below)));
-    }
-
--- messages more in the active file, or none
-module _ (slots : Slots) (s : State) (file end : ℕ) (more : List (List ℕ)) (file_is :
-    (active_of s.manifest).file ≡ file) (end_is : end_of s ≡ end) (within : IsWithinLimits (appended s more))
-    (chained : IsChained (appended s more)) where
-  module _ (Q : List ℕ → List ℕ → Type 0) (a b : ℕ → List ℕ) (known : IsKnown slots s a) (step : InFile file Q a b)
-      (front : take end (b file) ≡ take end (a file)) where
-    are : AreEntries s.manifest
-    are = are_entries s.manifest (valid_of slots s a known)
-
-    above : 3 ≤ file
-    above = omega (arith, are.active.file_from, file_is)
-
-    slots_too : AreSlots slots b
-    slots_too = same_slots slots a b known.slots_are (step.others (file_of slots.current_slot) (λ is. omega
-        (arith, is, above, slot_below slots.current_slot)))
-        (step.others (file_of (other slots.current_slot)) (λ is. omega (
-          arith,
-          is,
-          above,
-          slot_below
-              (other slots.current_slot),
-        )))
-
-    parts_too : PartsStand b (front_of s.manifest) s.parts
-    parts_too = parts_along a b (IsOther s.manifest) (λ e p one is. subst (λ (l : List ℕ). StandsAs e.kind l e p) (sym
-        (step.others e.file (λ same. one.apart (same ∙ sym file_is)))) is)
-        (front_of s.manifest) s.parts are.front known.files.parts
-
-    front_too : take (active_of s.manifest).prefix (b file) ≡ s.active.front
-    front_too = shorter (active_of s.manifest).prefix end (b file) (a file) (omega (arith, end_is)) front
-        ∙ ap (λ (n : ℕ). take (active_of s.manifest).prefix (a n)) (sym file_is) ∙ known.files.active.front
-
-    gated_was : IsGated (a file) (active_of s.manifest).prefix s.active.messages
-    gated_was = subst (λ (n : ℕ). IsGated (a n)
-        (active_of s.manifest).prefix s.active.messages) file_is known.files.active.gated
-
-    pub with_none : IsGated (b file) (active_of s.manifest).prefix s.active.messages → IsKnown slots s b
-    with_none gated = record {
-      slots_are = slots_too;
-      current = known.current;
-      files = record {
-        parts = parts_too;
-        active = subst (λ (n : ℕ). IsActiveAt (b n) (active_of s.manifest) s.active)
-            (sym file_is)
-            (record { front = front_too; gated = gated });
-        within = known.files.within;
-        chained = known.files.chained;
-      };
-    }
-
-    pub with_all : IsGated (b file) (active_of s.manifest).prefix (s.active.messages ++ more) → IsKnown slots
-        (appended s more) b
-    with_all gated = record {
-      slots_are = slots_too;
-      current = known.current;
-      files = record {
-        parts = parts_too;
-        active = subst (λ (n : ℕ). IsActiveAt (b n) (active_of s.manifest)
-            (record { front = s.active.front; messages = s.active.messages ++ more })) (sym file_is)
-            (record { front = front_too; gated = gated });
-        within = within;
-        chained = chained;
-      };
-    }
-
-  pub adding : (a b : ℕ → List ℕ) → IsKnown slots s a → InFile file (MayAdd end more) a b → StandsForEither
-      (reopened s) (reopened (appended s more)) b
-  adding a b known step = ⊎_elim
-      (λ none. inl (stands_for slots s b (with_none (MayAdd end more) a b known step step.here.front none)))
-      (λ all. inr (stands_for slots (appended s more) b (with_all
-      (MayAdd end more) a b known step step.here.front all)))
-      (step.here.lists (active_of s.manifest).prefix s.active.messages (gated_was
-      (MayAdd end more) a b known step step.here.front) end_is)
-
-  pub added : (a b : ℕ → List ℕ) → IsKnown slots s a → InFile file (Adds end more) a b → IsKnown slots
-      (appended s more) b
-  added a b known step = with_all (Adds end more) a b known step step.here.front
-      (step.here.lists (active_of s.manifest).prefix s.active.messages (gated_was
-      (Adds end more) a b known step step.here.front) end_is)
 
 -- ---- files that are cut
 

@@ -293,7 +293,7 @@ widths_first Rolled e p s = (refl, refl)
 widths_first Sealed e p s = (refl, refl)
 widths_first Active e p s = (refl, refl)
 
-widths : (es : List Entry) (ps : List Part) (s : Shelf)
+pub widths : (es : List Entry) (ps : List Part) (s : Shelf)
     → ((shelved es ps s).width ≡ s.width) × ((shelved es ps s).wide ≡ s.wide)
 widths [] ps s = (refl, refl)
 widths (e ∷ es) [] s = (refl, refl)

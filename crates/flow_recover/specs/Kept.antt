@@ -1,5 +1,5 @@
 -- What holds of an archive that is open, on its disk.
-use Rattle.std.specs.Prelude.{◌≡◌, ◌⊎◌, ℕ, ◌+◌, ◌≤◌, Bool, true, false, IsTrue, length}
+use Rattle.std.specs.Prelude.{◌≡◌, ◌⊎◌, ℕ, ◌+◌, ◌≤◌, Bool, true, false, IsTrue, List, [], ◌∷◌, length}
 use Rattle.flow_disk.specs.Disk.{Held, Marks, AllImages}
 use Rattle.flow_manifest.specs.declared.manifest.Entry.{Entry}
 use Rattle.flow_manifest.specs.declared.slots.Slot.{Slot}
@@ -36,3 +36,18 @@ pub record IsKept {D : Type 0} (honest : D → Bool) (marks : D → ℕ → Mark
   pub counted : IsCounted s last end total
   pub ready : IsReadyFor (marks disk) last.file s.next end
   pub known : IsTrue (honest disk) → AllImages (held disk) (IsKnown slots s)
+
+-- A file of this disk, as an entry names it: whatever the disk, it has this number and at least these octets.
+pub record IsFileOf {S : Type 0} (number size : S → ℕ) (is_honest : S → Bool) (honest : Bool) (entry : Entry)
+    (file : S) : Type 0 where
+  pub number_is : number file ≡ entry.file
+  pub long : entry.length ≤ size file
+  pub honest_is : is_honest file ≡ honest
+
+-- one for each of these entries
+abbrev pub AreFilesOf : {S : Type 0} → (S → ℕ) → (S → ℕ) → (S → Bool) → Bool → List Entry → List S → Type 0
+AreFilesOf number size is_honest honest [] [] = Unit {0}
+AreFilesOf number size is_honest honest [] (x ∷ files) = ⊥
+AreFilesOf number size is_honest honest (entry ∷ entries) [] = ⊥
+AreFilesOf number size is_honest honest (entry ∷ entries) (file ∷ files) =
+    IsFileOf number size is_honest honest entry file × AreFilesOf number size is_honest honest entries files

@@ -5,5 +5,6 @@ pub mod Kept
 pub mod Reading
 pub mod Opening
 pub mod Printed
+pub mod Jobs
 pub mod Laws
 pub mod Shelved

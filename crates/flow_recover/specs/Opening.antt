@@ -1,5 +1,6 @@
 -- Opening an archive, and why it may be refused.
 use Rattle.std.specs.Prelude.{◌≡◌, ◌⊎◌, ℕ, Bool, true, IsTrue, List, [], ◌∷◌, length}
+use Rattle.std.specs.List.{AllByRecursion}
 use Rattle.flow_disk.specs.Disk.{AllImages, Held, Marks}
 use Rattle.flow_disk.specs.declared.error.DiskError.{DiskError}
 use Rattle.flow_disk.specs.declared.error.DiskError.TheVariants as disk
@@ -18,7 +19,7 @@ use Rattle.flow_recover.specs.declared.error.RecoverError.TheVariants.{OutOfMemo
 use Rattle.flow_recover.specs.State.{Part, State, at_rest}
 use Rattle.flow_recover.specs.Standing.{HoldsFiles, IsActiveAt, IsKnown, IsWithinLimits, PartsStand}
 use Rattle.flow_recover.specs.Standing.{StandsAs, StandsFor}
-use Rattle.flow_recover.specs.Kept.{IsCounted, IsReadyFor}
+use Rattle.flow_recover.specs.Kept.{AreFilesOf, IsCounted, IsReadyFor}
 use Rattle.flow_manifest.specs.Following.{active_of, front_of}
 use Rattle.flow_manifest.specs.Slots.{AreSlots}
 use Rattle.flow_manifest.specs.declared.slots.Slots.{Slots}
@@ -83,16 +84,18 @@ FrozenStand octets (entry ∷ entries) (part ∷ parts) [] = ⊥
 FrozenStand octets (entry ∷ entries) (part ∷ parts) (x ∷ frozen) =
     StandsAs entry.kind (octets x) entry part × FrozenStand octets entries parts frozen
 
--- What an opening has found: a state whose numbers are counted on every disk, and whose active segment is one of
--- accepted messages. On an honest disk what was read stands for it, its files are an archive's, each image is known to
--- hold it, and the frozen files hold its parts.
+-- What an opening has found: a state whose numbers are counted on every disk, whose active segment is one of accepted
+-- messages, and whose files in front of the active one are frozen, each a file of this disk. On an honest disk what was
+-- read stands for it, its files are an archive's, each image is known to hold it, and the frozen files hold its parts.
 pub record IsRecovered {D S : Type 0} (honest : D → Bool) (marks : D → ℕ → Marks) (held : D → ℕ → Held)
-    (octets : S → List ℕ) (reads : ℕ → List ℕ) (disk : D) (slots : Slots) (last : Entry) (end total : ℕ) (active : Part)
-    (carry : Carry) (frozen : List S) : Type 0 where
+    (octets : S → List ℕ) (number size : S → ℕ) (is_honest : S → Bool) (reads : ℕ → List ℕ) (disk : D) (slots : Slots)
+    (last : Entry) (end total : ℕ) (active : Part) (carry : Carry) (frozen : List S) : Type 0 where
   pub parts : List Part
   pub counted : IsCounted (at_rest slots.current parts active) last end total
   pub ready : IsReadyFor (marks disk) last.file slots.current.next end
   pub all : length frozen ≡ length (front_of slots.current)
+  pub files : AreFilesOf number size is_honest (honest disk) (front_of slots.current) frozen
+  pub are_frozen : AllByRecursion (λ e. (marks disk e.file).frozen ≡ true) (front_of slots.current)
   pub segment : IsSegment active carry
   pub hands_on : IsTrue (honest disk) → HandsOn (at_rest slots.current parts active) carry
   pub read : IsTrue (honest disk) → StandsFor reads (at_rest slots.current parts active)

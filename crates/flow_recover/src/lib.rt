@@ -2,11 +2,13 @@
 //!
 //! Promised to the layers above: an image stands for one state at most, files that its manifest doesn't name play no
 //! part, and what an open archive knows of an image is that it stands for what is left of the archive on a disk.
-//! The shelf of a state has one view, and an archive's events move its history.
+//! The shelf of a state has one view, and an archive's events move its history; a job moves its cuts alone.
 //! Opening looks at what the files mean: messages are accepted, each prefix is the one that the segment before calls
 //! for, and rolled files are sums. It keeps at every moment what each image stood for, and refuses for other reasons
 //! than the device and memory only where what is read stands for no state. What it finds is the state for which what is
 //! read stands, with what its active segment hands on.
+//! It leaves the files in front of the active one frozen, removes what the manifest doesn't name, and only settles the
+//! slots.
 #![tactic(auto)]
 
 mod active;
@@ -23,5 +25,5 @@ mod tidying;
 pub use active::ActiveSegment;
 pub use error::RecoverError;
 pub use laws::what_an_image_stands_for;
-pub use meaning::{events_and_history, one_view_of_a_state};
+pub use meaning::{events_and_history, jobs_and_history, one_view_of_a_state};
 pub use opening::{Recovered, recover};

@@ -1,15 +1,23 @@
 //! What a state of an archive means.
 
-ghost use Rattle.std.specs.Prelude.{◌≡◌, ◌≤◌, ◌<◌, ◌%◌, ℕ, List, length};
+ghost use Rattle.std.specs.Prelude.{◌≡◌, ◌≤◌, ◌<◌, ◌%◌, ℕ, List, [], ◌∷◌, ◌++◌, length};
+ghost use Rattle.flow_manifest.specs.declared.following.JobKind.{JobKind};
+ghost use Rattle.flow_manifest.specs.declared.manifest.Manifest.{Manifest};
 ghost use Rattle.flow_manifest.specs.Manifest.{IsValidManifest};
+ghost use Rattle.flow_manifest.specs.Following.{count_of, front_of, messages_of, source_of, sources_of};
 ghost use Rattle.flow_measure.specs.History.{Accepted, AreAcceptedFrom, History};
+ghost use Rattle.flow_measure.specs.Sums.{empty_table, merged, Table};
 ghost use Rattle.flow_measure.specs.View.{View};
+ghost use Rattle.flow_rolled.specs.Rollup.{IsRollup};
 ghost use Rattle.flow_segment.specs.Carry.{octets_of, prefix_of, Carry};
 ghost use Rattle.flow_snapshot.specs.Changes.{added, history_after, new_history};
 ghost use Rattle.flow_snapshot.specs.Views.{IsViewOf};
-ghost use Rattle.flow_recover.specs.State.{appended, empty_state, moved_on, State};
+ghost use Rattle.flow_recover.specs.State.{appended, empty_state, moved_on, Part, StagedFile, State};
+ghost use Rattle.flow_recover.specs.Jobs.{IsJobSum, IsSourceSum, IsStagedAt};
+ghost use Rattle.flow_recover.specs.Jobs.{history_made, replaced, source_parts, table_made, width_made};
 ghost use Rattle.flow_recover.specs.Chain.{HandsOn, IsChained};
 ghost use Rattle.flow_recover.specs.Shelved.{shelf_of, HasHistory};
+ghost use Rattle.flow_recover.specs.Standing.{HoldsFiles, PartsStand};
 
 /// A state whose files are an archive's has a view, and no other: the sums of its wide and rolled files, and the
 /// messages of its segments, each accepted behind those before it.
@@ -29,4 +37,37 @@ pub fn events_and_history()
         → HasHistory (appended s (octets_of more)) (history_after h (added (octets_of more))) }
     ensures closed { (s : State) (c : Carry) (h : History) → IsValidManifest s.manifest → HandsOn s c
         → 1 ≤ length s.active.messages → HasHistory s h → HasHistory (moved_on s (prefix_of c)) h }
+{}
+
+/// What jobs mean. They add what they make of one source after the other. What their sources hold is what the history has there. A file of sums takes the place of its sources. Where a roll has summed the oldest segments'
+/// messages by the width, or a merge the oldest rolled files' messages by the wide width, the cut, or the second cut,
+/// rises by these messages, and every other one stays where it was. What the archive hands on stays; and what the disk
+/// holds for the state before is what it holds for the one behind the install, once the file of sums is there.
+pub fn jobs_and_history()
+    ensures hands_on { (s : State) (c : Carry) (kind : JobKind) (count : ℕ) (file : StagedFile) (table : Table)
+        → IsValidManifest s.manifest → HandsOn s c → count ≤ count_of (source_of kind) s.manifest.entries
+        → IsRollup (width_made kind s.manifest) file.octets table → HandsOn (replaced s kind count file) c }
+    ensures holds { (s : State) (c : Carry) (kind : JobKind) (count : ℕ) (file : StagedFile) (table : Table)
+        (image : ℕ → List ℕ) → IsValidManifest s.manifest → HandsOn s c
+        → count ≤ count_of (source_of kind) s.manifest.entries
+        → IsRollup (width_made kind s.manifest) file.octets table → IsStagedAt (image file.file) file
+        → HoldsFiles image s → HoldsFiles image (replaced s kind count file) }
+    ensures none { (kind : JobKind) (m : Manifest) → IsJobSum kind m [] (empty_table (width_made kind m)) }
+    ensures more { (kind : JobKind) (m : Manifest) (parts : List Part) (part : Part) (sums one : Table)
+        → IsJobSum kind m parts sums → IsSourceSum kind m part one
+        → IsJobSum kind m (parts ++ part ∷ []) (merged sums one) }
+    ensures sums { (s : State) (c : Carry) (h : History) (image : ℕ → List ℕ) (kind : JobKind) (count : ℕ)
+        (table : Table) → IsValidManifest s.manifest → HandsOn s c
+        → PartsStand image (front_of s.manifest) s.parts → HasHistory s h
+        → count ≤ count_of (source_of kind) s.manifest.entries
+        → IsJobSum kind s.manifest (source_parts kind count s) table
+        → table ≡ table_made kind s.manifest (messages_of (sources_of kind count s.manifest.entries)) h }
+    ensures history { (s : State) (c : Carry) (h : History) (image : ℕ → List ℕ) (kind : JobKind) (count : ℕ)
+        (file : StagedFile) → IsValidManifest s.manifest → HandsOn s c
+        → PartsStand image (front_of s.manifest) s.parts → HasHistory s h
+        → count ≤ count_of (source_of kind) s.manifest.entries
+        → IsRollup (width_made kind s.manifest) file.octets
+        (table_made kind s.manifest (messages_of (sources_of kind count s.manifest.entries)) h)
+        → HasHistory (replaced s kind count file)
+        (history_made kind (messages_of (sources_of kind count s.manifest.entries)) h) }
 {}

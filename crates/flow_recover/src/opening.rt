@@ -1,9 +1,9 @@
 //! Opening.
 
-ghost use Rattle.std.specs.Prelude.{◌≡◌, ◌⊎◌, ℕ, ◌-◌, ◌≤◌, ◌+◌, ◌<◌, ◌^◌, length, get_or, true, false, IsTrue, List};
-ghost use Rattle.std.specs.Prelude.{OnOk, IfOk, IfErr};
+ghost use Rattle.std.specs.Prelude.{◌≡◌, ◌≢◌, ◌⊎◌, ℕ, ◌-◌, ◌≤◌, ◌+◌, ◌<◌, ◌^◌, length, get_or, true, false, IsTrue, List};
+ghost use Rattle.std.specs.Prelude.{OnOk, IfOk, IfErr, IsErrOf};
 ghost use Rattle.std.specs.List.{AllByRecursion};
-ghost use Rattle.flow_disk.specs.Disk.{AllImages, IsDiskImage};
+ghost use Rattle.flow_disk.specs.Disk.{AllImages, IsDiskImage, IsWithin};
 ghost use Rattle.flow_disk.specs.Moments.{LeavesOnly};
 ghost use Rattle.flow_disk.specs.Cause.{HasCause};
 ghost use Rattle.flow_manifest.specs.declared.slots.Slot.{Slot};
@@ -11,7 +11,7 @@ ghost use Rattle.flow_manifest.specs.Manifest.{IsValidManifest};
 ghost use Rattle.flow_manifest.specs.Slots.{file_of, reads_of};
 ghost use Rattle.flow_manifest.specs.Following.{active_of, no_entry};
 ghost use Rattle.flow_recover.specs.State.{Part, State, at_rest, part_of};
-ghost use Rattle.flow_recover.specs.Standing.{StandsForEither};
+ghost use Rattle.flow_recover.specs.Standing.{is_file_of, StandsForEither};
 ghost use Rattle.flow_recover.specs.Chain.{IsSegment};
 ghost use Rattle.flow_recover.specs.Kept.{IsCounted};
 ghost use Rattle.flow_recover.specs.Opening.{IsDeviceOrMemory, IsRead, IsRecovered, StandsForNone};
@@ -59,10 +59,21 @@ pub fn recover<D: Disk>(alloc: Global, disk: &mut D) -> Result<Recovered<D>, Rec
     ensures honest { D.honest disk.new ≡ D.honest disk.old }
     ensures cause { HasCause RecoverError.Fault (D.faults disk.old) (D.faults disk.new) result }
     ensures recovered { IfOk result
-        (λ r. IsRecovered D.honest D.marks D.held D.Sealed.octets (reads_of (D.held disk.old)) disk.new r.slots r.last
-        r.end r.total (part_of r.active) r.carry r.parts.items) }
+        (λ r. IsRecovered D.honest D.marks D.held D.Sealed.octets D.Sealed.number D.Sealed.size D.Sealed.honest
+        (reads_of (D.held disk.old)) disk.new r.slots r.last r.end r.total (part_of r.active) r.carry r.parts.items) }
+    ensures listed { IfOk result (λ r. (n : ℕ) → is_file_of r.slots.current n ≡ true
+        → (D.marks disk.new n).listed ≡ true) }
+    ensures removed { IsTrue (D.honest disk.old) → IfOk result (λ r. (n : ℕ)
+        → is_file_of r.slots.current n ≡ false → (D.marks disk.new n).listed ≡ false) }
     ensures told { IsTrue (D.honest disk.old)
         → IfErr result (λ e. IsDeviceOrMemory e ⊎ StandsForNone (reads_of (D.held disk.old))) }
+
+    // The slots are only settled: whatever is answered, a stop may leave no more of them than before, and unless the
+    // device failed they read as before.
+    ensures slots { IsTrue (D.honest disk.old)
+        → (slot : Slot) → IsWithin (D.held disk.new (file_of slot)) (D.held disk.old (file_of slot)) }
+    ensures kept { IsTrue (D.honest disk.old) → (IsErrOf result RecoverError.Fault → ⊥)
+        → (slot : Slot) → (D.held disk.new (file_of slot)).reads ≡ (D.held disk.old (file_of slot)).reads }
     ensures any_moment { IsTrue (D.honest disk.old) → (a b : State) → AllImages (D.held disk.old) (StandsForEither a b)
         → LeavesOnly D.moment D.left_since disk.old disk.new (StandsForEither a b) }
 {
@@ -88,6 +99,8 @@ fn find<D: Disk>(alloc: Global, disk: &mut D) -> Result<Found, RecoverError>
         × (1 ≤ (D.marks disk.new (file_of slot)).size)) }
     ensures settled { IfOk result
         (λ f. AllByRecursion (λ e. (D.marks disk.new e.file).settled ≡ true) f.slots.current.entries) }
+    ensures listed { IfOk result (λ f. (n : ℕ) → is_file_of f.slots.current n ≡ true
+        → (D.marks disk.new n).listed ≡ true) }
     ensures valid { IfOk result (λ f. IsValidManifest f.slots.current) }
     ensures last { IfOk result (λ f. f.last ≡ active_of f.slots.current) }
     ensures small { IfOk result (λ f. f.files.end + 2 < 2 ^ 64) }
@@ -100,6 +113,10 @@ fn find<D: Disk>(alloc: Global, disk: &mut D) -> Result<Found, RecoverError>
     ensures narrows { IsTrue (D.honest disk.old) → AllImages (D.held disk.new) (IsDiskImage (D.held disk.old)) }
     ensures any_moment { IsTrue (D.honest disk.old)
         → LeavesOnly D.moment D.left_since disk.old disk.new (IsDiskImage (D.held disk.old)) }
+    ensures reads { IsTrue (D.honest disk.old)
+        → OnOk result ((n : ℕ) → (D.held disk.new n).reads ≡ (D.held disk.old n).reads) }
+    ensures kept { IsTrue (D.honest disk.old) → IfErr result (λ e. e ≢ RecoverError.Fault
+        → (n : ℕ) → (D.held disk.new n).reads ≡ (D.held disk.old n).reads) }
     ensures read { IsTrue (D.honest disk.old) → IfOk result (λ f. (parts : List Part)
         × IsRead (D.held disk.new) (reads_of (D.held disk.old)) f.slots
         (at_rest f.slots.current parts (part_of f.files.active)) f.files.carry) }

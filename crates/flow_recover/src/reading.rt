@@ -57,6 +57,7 @@ pub(crate) fn read_files<D: Disk>(
     ensures honest { D.honest disk.new ≡ D.honest disk.old }
     ensures settled { (n : ℕ) → (D.marks disk.new n).settled ≡ (D.marks disk.old n).settled }
     ensures frozen { (n : ℕ) → (D.marks disk.new n).frozen ≡ (D.marks disk.old n).frozen }
+    ensures listed { (n : ℕ) → (D.marks disk.new n).listed ≡ (D.marks disk.old n).listed }
     ensures slots { (n : ℕ) → n < 3 → D.marks disk.new n ≡ D.marks disk.old n }
     ensures counted { IfOk result (λ f. (parts : List Part)
         → IsCounted (at_rest manifest.now parts (part_of f.active)) last f.end f.total) }
@@ -77,6 +78,7 @@ pub(crate) fn read_files<D: Disk>(
     let entries = manifest.entries.as_slice();
     let called = read_entries(alloc, disk, manifest, &entries[..entries.len() - 1])?;
     let (active, end) = read_active(alloc, disk, last)?;
+    let carry = read_segment(alloc, &called, last, &active)?;
     let limit = u64::from(last.prefix) + u64::from(manifest.limit);
     if end > limit {
         return Err(RecoverError::Damaged(last.file, u64::from(last.prefix)));
@@ -84,7 +86,6 @@ pub(crate) fn read_files<D: Disk>(
     let Some(total) = total_of(entries, active.messages.len()) else {
         return Err(RecoverError::Damaged(last.file, u64::from(last.prefix)));
     };
-    let carry = read_segment(alloc, &called, last, &active)?;
     Ok(Files {
         active,
         end,
@@ -123,6 +124,7 @@ fn read_active<D: Disk>(
     ensures honest { D.honest disk.new ≡ D.honest disk.old }
     ensures settled { (n : ℕ) → (D.marks disk.new n).settled ≡ (D.marks disk.old n).settled }
     ensures frozen { (n : ℕ) → (D.marks disk.new n).frozen ≡ (D.marks disk.old n).frozen }
+    ensures listed { (n : ℕ) → (D.marks disk.new n).listed ≡ (D.marks disk.old n).listed }
     ensures slots { (n : ℕ) → n < 3 → D.marks disk.new n ≡ D.marks disk.old n }
     ensures ends { IfOk result (λ r. (r.1 ≡ last.prefix + octet_sum (part_of r.0).messages) × (r.1 + 2 < 2 ^ 64)) }
     ensures whole { IfOk result (λ r. All IsWhole (part_of r.0).messages) }
@@ -135,7 +137,12 @@ fn read_active<D: Disk>(
     ensures refused { IsTrue (D.honest disk.old) → (p : Part) → IsActiveAt (D.held disk.old last.file).reads last p
         → IfErr result IsDeviceOrMemory }
 {
-    let tail = scan(alloc, disk, last.file, u64::from(last.prefix))?;
+    let start = u64::from(last.prefix);
+    let size = disk.length(last.file)?;
+    if start > size {
+        return Err(RecoverError::Damaged(last.file, size));
+    }
+    let tail = scan(alloc, disk, last.file, start)?;
     let prefix = disk.read(alloc, last.file, 0, last.prefix as usize)?;
     let segment = ActiveSegment {
         prefix,
@@ -157,6 +164,7 @@ fn read_entries<D: Disk>(
     ensures honest { D.honest disk.new ≡ D.honest disk.old }
     ensures settled { (n : ℕ) → (D.marks disk.new n).settled ≡ (D.marks disk.old n).settled }
     ensures frozen { (n : ℕ) → (D.marks disk.new n).frozen ≡ (D.marks disk.old n).frozen }
+    ensures listed { (n : ℕ) → (D.marks disk.new n).listed ≡ (D.marks disk.old n).listed }
     ensures slots { (n : ℕ) → n < 3 → D.marks disk.new n ≡ D.marks disk.old n }
     ensures cause { HasCause RecoverError.Fault (D.faults disk.old) (D.faults disk.new) result }
     ensures held { IsTrue (D.honest disk.old) → Stays (D.held disk.old) (D.held disk.new) }
@@ -190,6 +198,7 @@ fn read_part<D: Disk>(
     ensures honest { D.honest disk.new ≡ D.honest disk.old }
     ensures settled { (n : ℕ) → (D.marks disk.new n).settled ≡ (D.marks disk.old n).settled }
     ensures frozen { (n : ℕ) → (D.marks disk.new n).frozen ≡ (D.marks disk.old n).frozen }
+    ensures listed { (n : ℕ) → (D.marks disk.new n).listed ≡ (D.marks disk.old n).listed }
     ensures slots { (n : ℕ) → n < 3 → D.marks disk.new n ≡ D.marks disk.old n }
     ensures cause { HasCause RecoverError.Fault (D.faults disk.old) (D.faults disk.new) result }
     ensures held { IsTrue (D.honest disk.old) → Stays (D.held disk.old) (D.held disk.new) }

@@ -8,6 +8,7 @@ ghost use Rattle.flow_disk.specs.Cause.{FailsOnlyByFault, HasCause};
 ghost use Rattle.flow_manifest.specs.declared.slots.Slot.{Slot};
 ghost use Rattle.flow_manifest.specs.Manifest.{IsValidManifest};
 ghost use Rattle.flow_manifest.specs.Slots.{file_of, reads_of, AreSlots};
+ghost use Rattle.flow_recover.specs.Standing.{is_file_of};
 ghost use Rattle.flow_recover.specs.Opening.{OnlySettles, IsDeviceOrMemory, StandsForNone};
 
 use crate::error::RecoverError;
@@ -21,6 +22,9 @@ pub(crate) fn settle<D: Disk>(disk: &mut D, file: u64) -> Result<(), DiskError>
     ensures frozen { (n : ℕ) → (D.marks disk.new n).frozen ≡ (D.marks disk.old n).frozen }
     ensures marks { OnOk result (OnlySettles (D.marks disk.old) (D.marks disk.new)) }
     ensures settled { OnOk result ((D.marks disk.new file).settled ≡ true) }
+    ensures listed { OnOk result ((D.marks disk.new file).listed ≡ true) }
+    ensures still { OnOk result
+        ((n : ℕ) → (D.marks disk.old n).listed ≡ true → (D.marks disk.new n).listed ≡ true) }
     ensures reads { IsTrue (D.honest disk.old)
         → OnOk result ((n : ℕ) → (D.held disk.new n).reads ≡ (D.held disk.old n).reads) }
     ensures narrows { IsTrue (D.honest disk.old) → AllImages (D.held disk.new) (IsDiskImage (D.held disk.old)) }
@@ -37,6 +41,7 @@ pub(crate) fn settle_slots<D: Disk>(disk: &mut D) -> Result<(), DiskError>
     ensures honest { D.honest disk.new ≡ D.honest disk.old }
     ensures frozen { (n : ℕ) → (D.marks disk.new n).frozen ≡ (D.marks disk.old n).frozen }
     ensures settled { OnOk result ((slot : Slot) → (D.marks disk.new (file_of slot)).settled ≡ true) }
+    ensures listed { OnOk result ((slot : Slot) → (D.marks disk.new (file_of slot)).listed ≡ true) }
     ensures reads { IsTrue (D.honest disk.old)
         → OnOk result ((n : ℕ) → (D.held disk.new n).reads ≡ (D.held disk.old n).reads) }
     ensures narrows { IsTrue (D.honest disk.old) → AllImages (D.held disk.new) (IsDiskImage (D.held disk.old)) }
@@ -55,6 +60,9 @@ pub(crate) fn settle_entries<D: Disk>(disk: &mut D, entries: &[Entry]) -> Result
     ensures frozen { (n : ℕ) → (D.marks disk.new n).frozen ≡ (D.marks disk.old n).frozen }
     ensures marks { OnOk result (OnlySettles (D.marks disk.old) (D.marks disk.new)) }
     ensures settled { OnOk result (AllByRecursion (λ e. (D.marks disk.new e.file).settled ≡ true) entries.now) }
+    ensures listed { OnOk result (AllByRecursion (λ e. (D.marks disk.new e.file).listed ≡ true) entries.now) }
+    ensures still { OnOk result
+        ((n : ℕ) → (D.marks disk.old n).listed ≡ true → (D.marks disk.new n).listed ≡ true) }
     ensures reads { IsTrue (D.honest disk.old)
         → OnOk result ((n : ℕ) → (D.held disk.new n).reads ≡ (D.held disk.old n).reads) }
     ensures narrows { IsTrue (D.honest disk.old) → AllImages (D.held disk.new) (IsDiskImage (D.held disk.old)) }
@@ -76,9 +84,13 @@ pub(crate) fn settle_all<D: Disk>(alloc: Global, disk: &mut D) -> Result<Slots, 
         × (1 ≤ (D.marks disk.new (file_of slot)).size)) }
     ensures settled { IfOk result (λ slots. AllByRecursion (λ e.
         (D.marks disk.new e.file).settled ≡ true) slots.current.entries) }
+    ensures listed { IfOk result (λ slots. (n : ℕ) → is_file_of slots.current n ≡ true
+        → (D.marks disk.new n).listed ≡ true) }
     ensures valid { IfOk result (λ slots. IsValidManifest slots.current) }
     ensures reads { IsTrue (D.honest disk.old)
         → OnOk result ((n : ℕ) → (D.held disk.new n).reads ≡ (D.held disk.old n).reads) }
+    ensures kept { IsTrue (D.honest disk.old) → IfErr result (λ e. e ≢ RecoverError.Fault
+        → (n : ℕ) → (D.held disk.new n).reads ≡ (D.held disk.old n).reads) }
     ensures narrows { IsTrue (D.honest disk.old) → AllImages (D.held disk.new) (IsDiskImage (D.held disk.old)) }
     ensures any_moment { IsTrue (D.honest disk.old)
         → LeavesOnly D.moment D.left_since disk.old disk.new (IsDiskImage (D.held disk.old)) }

@@ -15,7 +15,7 @@ ghost use Rattle.flow_segment.specs.Steps.{KeepsFront};
 ghost use Rattle.flow_recover.specs.State.{State, end_of};
 ghost use Rattle.flow_recover.specs.Standing.{IsKnown, is_file_of, SameNamed};
 ghost use Rattle.flow_manifest.specs.Following.{active_of, front_of};
-ghost use Rattle.flow_recover.specs.Kept.{IsReadyFor};
+ghost use Rattle.flow_recover.specs.Kept.{AreFilesOf, IsFileOf, IsReadyFor};
 ghost use Rattle.flow_recover.specs.Opening.{IsDeviceOrMemory, FrozenStand};
 
 use crate::error::RecoverError;
@@ -33,6 +33,8 @@ pub(crate) fn cut_file<D: Disk>(disk: &mut D, file: u64, length: u64) -> Result<
     ensures thawed { (D.marks disk.new file).frozen ≡ false }
     ensures settled { OnOk result ((D.marks disk.new file).settled ≡ true) }
     ensures size { OnOk result ((D.marks disk.new file).size ≡ length) }
+    ensures listed { OnOk result ((D.marks disk.new file).listed ≡ true) }
+    ensures other_files { IsTrue (D.honest disk.old) → (n : ℕ) → n ≢ file → D.held disk.new n ≡ D.held disk.old n }
     ensures any_moment { IsTrue (D.honest disk.old) → LeavesOnly D.moment D.left_since disk.old disk.new
         (ComesOf (D.held disk.old) (InFile file (KeepsFront length))) }
     ensures refused { IsTrue (D.honest disk.old) → length ≤ (D.marks disk.old file).size
@@ -55,8 +57,14 @@ fn freeze_one<D: Disk>(disk: &mut D, entry: Entry) -> Result<D::Sealed, RecoverE
     ensures other_marks { (n : ℕ) → n ≢ entry.file → D.marks disk.new n ≡ D.marks disk.old n }
     ensures any_moment { IsTrue (D.honest disk.old) → LeavesOnly D.moment D.left_since disk.old disk.new
         (ComesOf (D.held disk.old) (InFile entry.file (KeepsFront entry.length))) }
+    ensures other_files { IsTrue (D.honest disk.old)
+        → (n : ℕ) → n ≢ entry.file → D.held disk.new n ≡ D.held disk.old n }
     ensures octets { IsTrue (D.honest disk.old) → IfOk result (λ part. D.Sealed.octets part ≡
         (D.held disk.new entry.file).reads) }
+    ensures file { IfOk result (λ part. IsFileOf D.Sealed.number D.Sealed.size D.Sealed.honest (D.honest disk.new) entry
+        part) }
+    ensures frozen { OnOk result ((D.marks disk.new entry.file).frozen ≡ true) }
+    ensures listed { OnOk result ((D.marks disk.new entry.file).listed ≡ true) }
     ensures refused { IsTrue (D.honest disk.old) → entry.length ≤ (D.marks disk.old entry.file).size
         → IfErr result IsDeviceOrMemory }
     ensures cause { HasCause RecoverError.Fault (D.faults disk.old) (D.faults disk.new) result }
@@ -81,7 +89,14 @@ pub(crate) fn freeze_files<D: Disk>(
     ensures any_moment { IsTrue (D.honest disk.old) → (slots : Slots) (s : State) → front_of s.manifest ≡ entries.now
         → AllImages (D.held disk.old) (IsKnown slots s)
         → LeavesOnly D.moment D.left_since disk.old disk.new (IsKnown slots s) }
+    ensures other_files { IsTrue (D.honest disk.old) → (n : ℕ) → AllByRecursion (λ e. e.file ≢ n) entries.now
+        → D.held disk.new n ≡ D.held disk.old n }
     ensures all { IfOk result (λ parts. length parts.items ≡ length entries.now) }
+    ensures files { IfOk result (λ parts. AreFilesOf D.Sealed.number D.Sealed.size D.Sealed.honest (D.honest disk.new)
+        entries.now parts.items) }
+    ensures frozen { OnOk result (AllByRecursion (λ e. (D.marks disk.new e.file).frozen ≡ true) entries.now) }
+    ensures still { OnOk result
+        ((n : ℕ) → (D.marks disk.old n).listed ≡ true → (D.marks disk.new n).listed ≡ true) }
     ensures parts { IsTrue (D.honest disk.old) → (slots : Slots) (s : State) → front_of s.manifest ≡ entries.now
         → AllImages (D.held disk.old) (IsKnown slots s)
         → IfOk result (λ parts. FrozenStand D.Sealed.octets entries.now s.parts parts.items) }
@@ -118,6 +133,10 @@ fn remove_one<D: Disk>(disk: &mut D, manifest: &Manifest, file: u64) -> Result<(
     ensures honest { D.honest disk.new ≡ D.honest disk.old }
     ensures marks { (n : ℕ) → is_file_of manifest.now n ≡ true → D.marks disk.new n ≡ D.marks disk.old n }
     ensures thawed { (n : ℕ) → is_file_of manifest.now n ≡ false → (D.marks disk.new n).frozen ≡ false }
+    ensures other_marks { (n : ℕ) → n ≢ file → D.marks disk.new n ≡ D.marks disk.old n }
+    ensures removed { OnOk result (is_file_of manifest.now file ≡ false → (D.marks disk.new file).listed ≡ false) }
+    ensures named { IsTrue (D.honest disk.old) → (n : ℕ) → is_file_of manifest.now n ≡ true
+        → D.held disk.new n ≡ D.held disk.old n }
     ensures any_moment { IsTrue (D.honest disk.old) → LeavesOnly D.moment D.left_since disk.old disk.new
         (ComesOf (D.held disk.old) (SameNamed manifest.now)) }
     ensures cause { HasCause DiskError.Fault (D.faults disk.old) (D.faults disk.new) result }
@@ -139,6 +158,10 @@ pub(crate) fn remove_unnamed<D: Disk>(
     ensures honest { D.honest disk.new ≡ D.honest disk.old }
     ensures marks { (n : ℕ) → is_file_of manifest.now n ≡ true → D.marks disk.new n ≡ D.marks disk.old n }
     ensures thawed { (n : ℕ) → is_file_of manifest.now n ≡ false → (D.marks disk.new n).frozen ≡ false }
+    ensures removed { IsTrue (D.honest disk.old)
+        → OnOk result ((n : ℕ) → is_file_of manifest.now n ≡ false → (D.marks disk.new n).listed ≡ false) }
+    ensures named { IsTrue (D.honest disk.old) → (n : ℕ) → is_file_of manifest.now n ≡ true
+        → D.held disk.new n ≡ D.held disk.old n }
     ensures any_moment { IsTrue (D.honest disk.old) → LeavesOnly D.moment D.left_since disk.old disk.new
         (ComesOf (D.held disk.old) (SameNamed manifest.now)) }
     ensures cause { HasCause DiskError.Fault (D.faults disk.old) (D.faults disk.new) result }
@@ -168,10 +191,20 @@ pub(crate) fn tidy<D: Disk>(
         × (1 ≤ (D.marks disk.old (file_of slot)).size) }
     ensures honest { D.honest disk.new ≡ D.honest disk.old }
     ensures ready { OnOk result (IsReadyFor (D.marks disk.new) last.file manifest.now.next end) }
+    ensures slots { IsTrue (D.honest disk.old)
+        → (slot : Slot) → D.held disk.new (file_of slot) ≡ D.held disk.old (file_of slot) }
+    ensures removed { IsTrue (D.honest disk.old)
+        → OnOk result ((n : ℕ) → is_file_of manifest.now n ≡ false → (D.marks disk.new n).listed ≡ false) }
     ensures any_moment { IsTrue (D.honest disk.old) → (slots : Slots) (s : State) → s.manifest ≡ manifest.now
         → end_of s ≡ end → AllImages (D.held disk.old) (IsKnown slots s)
         → LeavesOnly D.moment D.left_since disk.old disk.new (IsKnown slots s) }
     ensures all { IfOk result (λ parts. length parts.items ≡ length (front_of manifest.now)) }
+    ensures files { IfOk result (λ parts. AreFilesOf D.Sealed.number D.Sealed.size D.Sealed.honest (D.honest disk.new)
+        (front_of manifest.now) parts.items) }
+    ensures frozen { OnOk result
+        (AllByRecursion (λ e. (D.marks disk.new e.file).frozen ≡ true) (front_of manifest.now)) }
+    ensures still { OnOk result ((n : ℕ) → is_file_of manifest.now n ≡ true → (D.marks disk.old n).listed ≡ true
+        → (D.marks disk.new n).listed ≡ true) }
     ensures parts { IsTrue (D.honest disk.old) → (slots : Slots) (s : State) → s.manifest ≡ manifest.now
         → AllImages (D.held disk.old) (IsKnown slots s)
         → IfOk result (λ parts. FrozenStand D.Sealed.octets (front_of manifest.now) s.parts parts.items) }

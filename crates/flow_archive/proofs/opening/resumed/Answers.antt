@@ -1,24 +1,66 @@
-use Rattle.std.proofs.Common.{◌≡◌, refl}
+use Rattle.std.proofs.Common.{◌≡◌, ℕ, false, List, length, take, refl, sym, ◌∙◌, ap, subst, rules, vec_len}
+use Rattle.std.specs.List.{AllByRecursion}
+use Rattle.flow_manifest.specs.declared.manifest.Entry.{Entry}
+use Rattle.flow_manifest.specs.Following.{front_of}
 use Rattle.flow_recover.specs.State.{part_of}
-use Rattle.flow_archive.proofs.Reopened.{found_archive, found_read}
+use Rattle.flow_recover.specs.Standing.{StandsFor}
+use Rattle.flow_archive.specs.Owned.{all_frozen, Frozen, MayBeFrozen}
+use Rattle.flow_archive.specs.Seen.{IsArchive, state_in}
+use Rattle.flow_archive.proofs.Reopened.{found_archive, found_read, front_frozen, front_is}
 use Rattle.flow_archive.proofs.Stand.{stands_for}
 use Rattle.flow_archive.proofs.opening.resumed.Goals as goal
+
+pub kept_of-requires-clause-entries : goal.kept_of-requires-clause-entries
+kept_of-requires-clause-entries g c =
+    let found = c.args.found in
+    let len : vec_len found.parts ≡ length found.parts.items = search rules in
+    let front : take c.len.result c.as_slice.result.now ≡ front_of found.slots.current =
+    front_is found.slots.current c.as_slice.result.now c.len.result c.as_slice.ensures
+    (c.len.ensures ∙ len ∙ (c.requires.1).all) in
+    subst (AllByRecursion (λ (e : Entry). MayBeFrozen e.kind e)) (sym front)
+    (front_frozen found.slots.current (c.requires.1).counted.valid)
 
 pub invariant_of-result : goal.invariant_of-result
 invariant_of-result g c =
     let D = g.D.Disk in
-    let octets = g.D.Sealed.SealedFile.octets in
+    let S = g.D.Sealed.SealedFile in
     let found = c.args.found in
-    found_archive D.honest D.marks D.held octets c.requires.0 c.args.disk found.slots found.last found.end found.total
-    (part_of found.active) found.carry found.parts.items c.requires.1
+    let len : vec_len found.parts ≡ length found.parts.items = search rules in
+    let front : take c.len.result c.as_slice.result.now ≡ front_of found.slots.current =
+    front_is found.slots.current c.as_slice.result.now c.len.result c.as_slice.ensures
+    (c.len.ensures ∙ len ∙ (c.requires.1).all) in
+    let files : c.in-Ok.kept.files.items ≡ all_frozen S.honest S.octets (front_of found.slots.current) found.parts.items =
+    c.in-Ok.ensures.files ∙ ap (λ (l : List Entry). all_frozen S.honest S.octets l found.parts.items) front in
+    let P : List Frozen → List ℕ → List (List ℕ) → Type 0 = λ f p ms. IsArchive D.honest D.marks D.held c.args.disk
+    found.slots found.last found.end found.total found.carry f (state_in false found.slots.current f p ms) false in
+    subst (λ (l : List Frozen). P l c.in-Ok.kept.prefix c.in-Ok.kept.messages.items) (sym files)
+    (subst (λ (l : List ℕ). P (all_frozen S.honest S.octets (front_of found.slots.current) found.parts.items) l
+    c.in-Ok.kept.messages.items) (sym c.in-Ok.ensures.prefix)
+    (subst (λ (l : List (List ℕ)). P (all_frozen S.honest S.octets (front_of found.slots.current) found.parts.items)
+    found.active.prefix.items l) (sym c.in-Ok.ensures.messages)
+    (found_archive D.honest D.marks D.held S.octets S.number S.size S.honest c.requires.0 c.args.disk found.slots
+    found.last found.end found.total (part_of found.active) found.carry found.parts.items c.requires.1)))
 
 pub returns-clause-read : goal.returns-clause-read
 returns-clause-read g c reads is h =
     let D = g.D.Disk in
-    let octets = g.D.Sealed.SealedFile.octets in
+    let S = g.D.Sealed.SealedFile in
     let found = c.args.found in
-    found_read D.honest D.marks D.held octets reads c.args.disk found.slots found.last found.end found.total
-    (part_of found.active) found.carry found.parts.items is h
+    let len : vec_len found.parts ≡ length found.parts.items = search rules in
+    let front : take c.len.result c.as_slice.result.now ≡ front_of found.slots.current =
+    front_is found.slots.current c.as_slice.result.now c.len.result c.as_slice.ensures
+    (c.len.ensures ∙ len ∙ (c.requires.1).all) in
+    let files : c.in-Ok.kept.files.items ≡ all_frozen S.honest S.octets (front_of found.slots.current) found.parts.items =
+    c.in-Ok.ensures.files ∙ ap (λ (l : List Entry). all_frozen S.honest S.octets l found.parts.items) front in
+    let P : List Frozen → List ℕ → List (List ℕ) → Type 0 = λ f p ms. StandsFor reads
+    (state_in false found.slots.current f p ms) in
+    subst (λ (l : List Frozen). P l c.in-Ok.kept.prefix c.in-Ok.kept.messages.items) (sym files)
+    (subst (λ (l : List ℕ). P (all_frozen S.honest S.octets (front_of found.slots.current) found.parts.items) l
+    c.in-Ok.kept.messages.items) (sym c.in-Ok.ensures.prefix)
+    (subst (λ (l : List (List ℕ)). P (all_frozen S.honest S.octets (front_of found.slots.current) found.parts.items)
+    found.active.prefix.items l) (sym c.in-Ok.ensures.messages)
+    (found_read D.honest D.marks D.held S.octets S.number S.size S.honest reads c.args.disk found.slots found.last
+    found.end found.total (part_of found.active) found.carry found.parts.items is h)))
 
 pub returns-clause-stands : goal.returns-clause-stands
 returns-clause-stands g c h image is =

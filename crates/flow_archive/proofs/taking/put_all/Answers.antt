@@ -1,10 +1,8 @@
-use Rattle.std.proofs.Common.{◌≡◌, ℕ, List, [], ◌∷◌, ◌++◌, length, refl, sym, ◌∙◌, ap, arith, rules, Vec, append_assoc}
-use Rattle.std.specs.declared.alloc.Global.{Global}
-use Rattle.std.proofs.lemmas.List.{append-nil, map-append}
-use Rattle.flow_gate.specs.Scan.{texts}
+use Rattle.std.proofs.Common.{◌≡◌, ℕ, List, [], ◌∷◌, ◌++◌, length, refl, sym, ◌∙◌, ap, arith, rules, append_assoc}
+use Rattle.std.proofs.lemmas.List.{append-nil}
 use Rattle.flow_archive.proofs.taking.put_all.Goals as goal
 
-nothing_left : (l : List (Vec ℕ Global)) → length l ≡ 0 → l ≡ []
+nothing_left : (l : List (List ℕ)) → length l ≡ 0 → l ≡ []
 nothing_left [] is = refl
 nothing_left (x ∷ l) is = absurd (omega (arith, is))
 
@@ -12,8 +10,8 @@ pub returns : goal.returns
 returns c =
     let none : c.loop-copy.copy-iterator.rest.items ≡ [] = nothing_left c.loop-copy.copy-iterator.rest.items (search
     rules) in
-    sym (append-nil (texts c.loop-copy.kept.items)) ∙ ap (λ (l : List (Vec ℕ Global)). texts c.loop-copy.kept.items
-    ++ texts l) (sym none) ∙ c.loop-copy.invariant.done
+    sym (append-nil c.loop-copy.kept.items) ∙ ap (λ (l : List (List ℕ)). c.loop-copy.kept.items ++ l) (sym none)
+    ∙ c.loop-copy.invariant.done
 
 pub push_reserved-requires : goal.push_reserved-requires
 push_reserved-requires c =
@@ -27,10 +25,9 @@ loop-copy-preserved c =
     let rest = c.next.new.self.rest.items in
     let kept = c.loop-copy.kept.items in
     record {
-      done = ap (λ (l : List (Vec ℕ Global)). texts l ++ texts rest) c.push_reserved.ensures.items
-          ∙ ap (λ (l : List (List ℕ)). l ++ texts rest) (map-append (λ (v : Vec ℕ Global). v.items) kept (copy ∷ []))
-          ∙ append_assoc (texts kept) (copy.items ∷ []) (texts rest)
-          ∙ ap (λ (l : List (Vec ℕ Global)). texts kept ++ texts l) (sym some.0) ∙ c.loop-copy.invariant.done;
+      done = ap (λ (l : List (List ℕ)). l ++ rest) c.push_reserved.ensures.items
+          ∙ append_assoc kept (copy ∷ []) rest
+          ∙ ap (λ (l : List (List ℕ)). kept ++ l) (sym some.0) ∙ c.loop-copy.invariant.done;
       room = omega (
         arith,
         c.loop-copy.invariant.room,

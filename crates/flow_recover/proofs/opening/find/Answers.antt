@@ -1,4 +1,4 @@
-use Rattle.std.proofs.Common.{◌≡◌, ◌⊎◌, ℕ, ◌-◌, ◌≤◌, IsTrue, List, length, get_or, refl, sym}
+use Rattle.std.proofs.Common.{◌≡◌, ◌≢◌, ◌⊎◌, ℕ, ◌-◌, ◌≤◌, IsTrue, List, length, get_or, refl, sym}
 use Rattle.std.proofs.Common.{◌∙◌, ap, subst, true}
 use Rattle.flow_disk.specs.Disk.{Held, Marks, IsImage, IsDiskImage}
 use Rattle.flow_disk.proofs.Moments.{one_run, by}
@@ -8,6 +8,8 @@ use Rattle.flow_manifest.specs.Slots.{file_of, other, reads_of}
 use Rattle.flow_manifest.specs.Following.{no_entry}
 use Rattle.flow_manifest.proofs.EntryLists.{all_by}
 use Rattle.flow_recover.specs.State.{at_rest, part_of}
+use Rattle.flow_recover.specs.declared.error.RecoverError.{RecoverError}
+use Rattle.flow_recover.specs.declared.error.RecoverError.TheVariants.{Fault}
 use Rattle.flow_recover.specs.Opening.{IsDeviceOrMemory, StandsForNone}
 use Rattle.flow_recover.proofs.Stand.{slot_below}
 use Rattle.flow_recover.proofs.Recovering.{agreed, files_along, told_of_files}
@@ -116,3 +118,27 @@ returns-clause-read g c h =
             (was e.file)) m.entries c.in_ok-slots.ensures.settled);
       },
     )
+
+pub returns-in_err-slots-clause-kept : goal.returns-in_err-slots-clause-kept
+returns-in_err-slots-clause-kept g c h =
+    let D = g.D.Disk in
+    passed_on c.from_residual.result (c.in_err-slots.field-0).0 (λ (e : RecoverError). e ≢ Fault
+    → (n : ℕ) → (D.held c.settle_all.new.disk n).reads ≡ (D.held c.args.disk.now n).reads) c.from_residual.ensures.1
+    (c.in_err-slots.ensures.kept h)
+
+pub returns-in_err-files-clause-kept : goal.returns-in_err-files-clause-kept
+returns-in_err-files-clause-kept g c h =
+    let D = g.D.Disk in
+    let h1 = subst IsTrue (sym c.settle_all.ensures.honest) h in
+    passed_on c.from_residual-in_err-files.result (c.in_err-files.field-0).0 (λ (e : RecoverError). e ≢ Fault
+    → (n : ℕ) → (D.held c.read_files.new.disk n).reads ≡ (D.held c.args.disk.now n).reads)
+    c.from_residual-in_err-files.ensures.1
+    (λ other n. ap (λ (f : Held). f.reads) (c.read_files.ensures.held h1 n) ∙ c.in_ok-slots.ensures.reads h n)
+
+pub returns-clause-reads : goal.returns-clause-reads
+returns-clause-reads g c h n =
+    let h1 = subst IsTrue (sym c.settle_all.ensures.honest) h in
+    ap (λ (f : Held). f.reads) (c.read_files.ensures.held h1 n) ∙ c.in_ok-slots.ensures.reads h n
+
+pub returns-clause-listed : goal.returns-clause-listed
+returns-clause-listed g c n named = c.read_files.ensures.listed n ∙ c.in_ok-slots.ensures.listed n named

@@ -1,10 +1,12 @@
-use Rattle.std.proofs.Common.{◌≡◌, ◌⊎◌, inl, ℕ, IsTrue, List, refl, sym, ◌∙◌, subst}
+use Rattle.std.proofs.Common.{◌≡◌, ◌⊎◌, inl, ℕ, IsTrue, List, refl, sym, ◌∙◌, ap, subst}
+use Rattle.std.specs.Prelude.{IsErrOf}
 use Rattle.std.proofs.Common.{arith, IsErrAnd, Result, Ok, Err}
 use Rattle.flow_disk.specs.Cause.{HasCause, HasRisen}
-use Rattle.flow_disk.specs.Disk.{IsDiskImage}
+use Rattle.flow_disk.specs.Disk.{AllImages, Held, IsDiskImage, IsImage, IsWithin}
+use Rattle.flow_disk.proofs.Images.{image_here, with_image, with_image_is}
 use Rattle.flow_disk.proofs.Moments.{one_run, by, now_all}
 use Rattle.flow_disk.proofs.Results.{passed_on}
-use Rattle.flow_manifest.specs.Slots.{reads_of}
+use Rattle.flow_manifest.specs.Slots.{file_of, reads_of}
 use Rattle.flow_recover.specs.State.{Part, at_rest, part_of}
 use Rattle.flow_recover.specs.Standing.{IsKnown, StandsForEither}
 use Rattle.flow_recover.specs.declared.error.RecoverError.{RecoverError}
@@ -27,6 +29,63 @@ told_on {T} {U} old mid now e (Err x) same cause is =
           subst (λ (n : ℕ). HasRisen n now) same (cause.risen there);
       other = λ differs. cause.other differs ∙ same;
     })
+
+-- a fault that is passed on is answered
+answered : {U : Type 0} (e : RecoverError) (result : Result U RecoverError) → IsErrAnd result (λ x. x ≡ e) → e ≡ Fault
+    → IsErrOf result Fault
+answered e (Ok x) is fault = absurd is
+answered e (Err x) is fault = ap Err (is ∙ fault)
+
+-- where each image of a disk is one of another disk, so is each of one file
+within : (old new : ℕ → Held) (file : ℕ) → IsDiskImage new (reads_of new) → AllImages new (IsDiskImage old)
+    → IsWithin (new file) (old file)
+within old new file now narrows octets is = subst (IsImage (old file)) (image_here (reads_of new) file octets)
+    (narrows (with_image (reads_of new) file octets) (with_image_is new (reads_of new) file octets is (λ n differs.
+    now n)) file)
+
+pub returns-in_err-slots-clause-slots : goal.returns-in_err-slots-clause-slots
+returns-in_err-slots-clause-slots g c h slot =
+    let D = g.D.Disk in
+    let d1 = c.find.new.disk in
+    let h1 = subst IsTrue (sym c.find.ensures.honest) h in
+    within (D.held c.args.disk.now) (D.held d1) (file_of slot) (λ n. g.met.D.Disk.reads_image d1 n h1)
+    (c.find.ensures.narrows h)
+
+pub returns-in_err-parts-clause-slots : goal.returns-in_err-parts-clause-slots
+returns-in_err-parts-clause-slots g c h slot =
+    let D = g.D.Disk in
+    let d1 = c.find.new.disk in
+    let h1 = subst IsTrue (sym c.find.ensures.honest) h in
+    subst (λ (f : Held). IsWithin f (D.held c.args.disk.now (file_of slot))) (sym (c.tidy.ensures.slots h1 slot))
+    (within (D.held c.args.disk.now) (D.held d1) (file_of slot) (λ n. g.met.D.Disk.reads_image d1 n h1)
+    (c.find.ensures.narrows h))
+
+pub returns-clause-slots : goal.returns-clause-slots
+returns-clause-slots g c h slot =
+    let D = g.D.Disk in
+    let d1 = c.find.new.disk in
+    let h1 = subst IsTrue (sym c.find.ensures.honest) h in
+    subst (λ (f : Held). IsWithin f (D.held c.args.disk.now (file_of slot))) (sym (c.tidy.ensures.slots h1 slot))
+    (within (D.held c.args.disk.now) (D.held d1) (file_of slot) (λ n. g.met.D.Disk.reads_image d1 n h1)
+    (c.find.ensures.narrows h))
+
+pub returns-in_err-slots-clause-kept : goal.returns-in_err-slots-clause-kept
+returns-in_err-slots-clause-kept g c h sound slot =
+    c.in_err-slots.ensures.kept h (λ fault. sound (answered (c.in_err-slots.field-0).0 c.from_residual.result
+    c.from_residual.ensures.1 fault)) (file_of slot)
+
+pub returns-in_err-parts-clause-kept : goal.returns-in_err-parts-clause-kept
+returns-in_err-parts-clause-kept g c h sound slot =
+    let h1 = subst IsTrue (sym c.find.ensures.honest) h in
+    ap (λ (f : Held). f.reads) (c.tidy.ensures.slots h1 slot) ∙ c.in_ok-slots.ensures.reads h (file_of slot)
+
+pub returns-clause-kept : goal.returns-clause-kept
+returns-clause-kept g c h sound slot =
+    let h1 = subst IsTrue (sym c.find.ensures.honest) h in
+    ap (λ (f : Held). f.reads) (c.tidy.ensures.slots h1 slot) ∙ c.in_ok-slots.ensures.reads h (file_of slot)
+
+pub returns-clause-removed : goal.returns-clause-removed
+returns-clause-removed g c h = c.in_ok-parts.ensures.removed (subst IsTrue (sym c.find.ensures.honest) h)
 
 pub returns-in_err-parts-clause-cause : goal.returns-in_err-parts-clause-cause
 returns-in_err-parts-clause-cause g c =
@@ -117,6 +176,8 @@ returns-clause-recovered g c =
       counted = counted;
       ready = c.in_ok-parts.ensures.ready;
       all = c.in_ok-parts.ensures.all;
+      files = c.in_ok-parts.ensures.files;
+      are_frozen = c.in_ok-parts.ensures.frozen;
       segment = c.in_ok-slots.ensures.segment;
       hands_on = λ h2. (is (back h2)).hands_on;
       read = λ h2. let there = is (back h2) in
@@ -127,3 +188,6 @@ returns-clause-recovered g c =
           (D.moment d1) image h2 run.later left);
       frozen_stand = λ h2. let h1 = back h2 in c.in_ok-parts.ensures.parts h1 slots s refl (is h1).known;
     }
+
+pub returns-clause-listed : goal.returns-clause-listed
+returns-clause-listed g c n named = c.in_ok-parts.ensures.still n named (c.in_ok-slots.ensures.listed n named)

@@ -23,6 +23,7 @@ entries-init g c =
       honest = refl;
       settled = λ n. refl;
       frozen = λ n. refl;
+      listed = λ n. refl;
       slots = λ n below. refl;
       faults = refl;
       held = λ h n. refl;
@@ -80,6 +81,7 @@ entries-preserved g c =
       honest = c.read_part.ensures.honest ∙ was.honest;
       settled = λ n. c.read_part.ensures.settled n ∙ was.settled n;
       frozen = λ n. c.read_part.ensures.frozen n ∙ was.frozen n;
+      listed = λ n. c.read_part.ensures.listed n ∙ was.listed n;
       slots = λ n below. c.read_part.ensures.slots n below ∙ was.slots n below;
       faults = c.in_ok-called.ensures.cause.done ∙ was.faults;
       held = λ h n. let h1 = subst IsTrue (sym was.honest) h in c.read_part.ensures.held h1 n ∙ was.held h n;

@@ -14,6 +14,7 @@ invariant-entries g l = let D = g.D.Disk in record {
   honest : D.honest l.disk ≡ D.honest l.fn.disk;
   settled : (n : ℕ) → (D.marks l.disk n).settled ≡ (D.marks l.fn.disk n).settled;
   frozen : (n : ℕ) → (D.marks l.disk n).frozen ≡ (D.marks l.fn.disk n).frozen;
+  listed : (n : ℕ) → (D.marks l.disk n).listed ≡ (D.marks l.fn.disk n).listed;
   slots : (n : ℕ) → n < 3 → D.marks l.disk n ≡ D.marks l.fn.disk n;
   faults : D.faults l.disk ≡ D.faults l.fn.disk;
   held : IsTrue (D.honest l.fn.disk) → Stays (D.held l.fn.disk) (D.held l.disk);

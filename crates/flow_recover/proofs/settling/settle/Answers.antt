@@ -73,3 +73,13 @@ returns-in_err-sync-clause-frozen g c n =
     let new = D.marks c.sync.new.self in
     ⊎_elim (λ (same : n ≡ f). ap (λ (k : ℕ). (new k).frozen) same ∙ made.frozen ∙ ap (λ (k : ℕ). (old k).frozen)
     (sym same)) (λ other. ap (λ (m : Marks). m.frozen) (made.others n other)) (cases_eq n f)
+
+pub returns-clause-listed : goal.returns-clause-listed
+returns-clause-listed g c = ap (λ (m : Marks). m.listed) c.in_ok-sync.ensures.marks.done
+
+pub returns-clause-still : goal.returns-clause-still
+returns-clause-still g c n was =
+    let made = c.in_ok-sync.ensures.marks in
+    let new = g.D.Disk.marks c.sync.new.self in
+    ⊎_elim (λ (same : n ≡ c.args.file). ap (λ (k : ℕ). (new k).listed) same ∙ ap (λ (m : Marks). m.listed) made.done)
+    (λ other. ap (λ (m : Marks). m.listed) (made.others n other) ∙ was) (cases_eq n c.args.file)

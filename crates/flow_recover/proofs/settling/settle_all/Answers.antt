@@ -1,4 +1,6 @@
-use Rattle.std.proofs.Common.{◌≡◌, ◌⊎◌, inl, inr, ⊎_elim, ℕ, IsTrue, List, sym, ◌∙◌, ap, subst, true}
+use Rattle.std.proofs.Common.{◌≡◌, ◌≢◌, ◌⊎◌, inl, inr, ⊎_elim, ℕ, IsTrue, List, Err, refl, sym, ◌∙◌, ap, subst}
+use Rattle.std.proofs.Common.{true}
+use Rattle.std.specs.Prelude.{IsErrOf}
 use Rattle.std.specs.List.{AllByRecursion}
 use Rattle.flow_disk.specs.Disk.{Held, IsImage, IsDiskImage}
 use Rattle.flow_disk.proofs.Moments.{by, one_run}
@@ -6,13 +8,17 @@ use Rattle.flow_manifest.specs.declared.manifest.Entry.{Entry}
 use Rattle.flow_manifest.specs.declared.slots.Slot.{Slot}
 use Rattle.flow_manifest.specs.Slots.{file_of, other, reads_of}
 use Rattle.flow_disk.proofs.Results.{passed_on}
-use Rattle.flow_recover.specs.Opening.{IsDeviceOrMemory, StandsForNone, of_slots}
+use Rattle.flow_disk.specs.declared.error.DiskError.{DiskError}
+use Rattle.flow_disk.specs.declared.error.DiskError.TheVariants as disk
+use Rattle.flow_recover.specs.declared.error.RecoverError.{RecoverError}
+use Rattle.flow_recover.specs.declared.error.RecoverError.TheVariants.{Fault}
+use Rattle.flow_recover.specs.Opening.{IsDeviceOrMemory, StandsForNone, of_disk, of_slots}
 use Rattle.flow_manifest.specs.declared.error.OpenError.{OpenError}
 use Rattle.flow_manifest.specs.Opening.{IsOpenFault}
 use Rattle.flow_manifest.proofs.OneInForce.{never_in_force}
 use Rattle.flow_manifest.proofs.Swaps.{same_slots}
 use Rattle.flow_manifest.specs.declared.error.OpenError.TheVariants as slot
-use Rattle.flow_recover.proofs.Recovering.{same_reads}
+use Rattle.flow_recover.proofs.Recovering.{named_all, same_reads}
 use Rattle.flow_recover.proofs.settling.settle_all.Goals as goal
 
 -- a refusal of the slots
@@ -116,3 +122,44 @@ returns-clause-found g c h =
     ∙ ap (λ (f : Held). f.reads) (same (file_of slot)) in
     same_slots slots (reads_of (D.held d1)) (reads_of (D.held d3)) (c.in_ok-slots.ensures.found h1)
     (read slots.current_slot) (read (other slots.current_slot))
+
+-- a call that takes no memory is refused for a fault alone
+is_fault : {T : Type 0} (e : DiskError) → (IsErrOf {T = T} (Err e) disk.OutOfMemory → ⊥) → of_disk e ≡ Fault
+is_fault disk.Fault memory = refl
+is_fault disk.OutOfMemory memory = absurd (memory refl)
+
+pub returns-in_err-settle_slots-clause-kept : goal.returns-in_err-settle_slots-clause-kept
+returns-in_err-settle_slots-clause-kept g c h =
+    let D = g.D.Disk in
+    passed_on c.from_residual.result (of_disk (c.in_err-settle_slots.field-0).0) (λ (e : RecoverError). e ≢ Fault
+    → (n : ℕ) → (D.held c.settle_slots.new.disk n).reads ≡ (D.held c.args.disk.now n).reads) c.from_residual.ensures.1
+    (λ other. absurd (other (is_fault (c.in_err-settle_slots.field-0).0 c.in_err-settle_slots.ensures.cause.memory)))
+
+pub returns-in_err-slots-clause-kept : goal.returns-in_err-slots-clause-kept
+returns-in_err-slots-clause-kept g c h =
+    let D = g.D.Disk in
+    let h1 = subst IsTrue (sym c.settle_slots.ensures.honest) h in
+    passed_on c.from_residual-in_err-slots.result (of_slots (c.in_err-slots.field-0).0) (λ (e : RecoverError). e ≢ Fault
+    → (n : ℕ) → (D.held c.read_slots.new.disk n).reads ≡ (D.held c.args.disk.now n).reads)
+    c.from_residual-in_err-slots.ensures.1
+    (λ other n. ap (λ (f : Held). f.reads) (c.read_slots.ensures.held h1 n)
+    ∙ c.in_ok-settle_slots.ensures.reads h n)
+
+pub returns-in_err-settle_entries-clause-kept : goal.returns-in_err-settle_entries-clause-kept
+returns-in_err-settle_entries-clause-kept g c h =
+    let D = g.D.Disk in
+    passed_on c.from_residual-in_err-settle_entries.result (of_disk (c.in_err-settle_entries.field-0).0) (λ
+    (e : RecoverError). e ≢ Fault → (n : ℕ) → (D.held c.settle_entries.new.disk n).reads ≡ (D.held c.args.disk.now
+    n).reads) c.from_residual-in_err-settle_entries.ensures.1
+    (λ other. absurd (other (is_fault (c.in_err-settle_entries.field-0).0
+    c.in_err-settle_entries.ensures.cause.memory)))
+
+pub returns-clause-listed : goal.returns-clause-listed
+returns-clause-listed g c =
+    let D = g.D.Disk in
+    let d3 = c.settle_entries.new.disk in
+    let slot : (slot : Slot) → (D.marks d3 (file_of slot)).listed ≡ true = λ slot. c.in_ok-settle_entries.ensures.still
+    (file_of slot) (c.read_slots.ensures.listed (file_of slot) ∙ c.in_ok-settle_slots.ensures.listed slot) in
+    named_all c.in_ok-slots.slots.current (λ n. (D.marks d3 n).listed ≡ true) slot
+    (subst (AllByRecursion (λ (e : Entry). (D.marks d3 e.file).listed ≡ true)) c.as_slice.ensures
+    c.in_ok-settle_entries.ensures.listed)

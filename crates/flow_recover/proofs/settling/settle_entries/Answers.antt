@@ -18,6 +18,8 @@ entries-init g c =
       frozen = λ n. refl;
       marks = record { size = λ n. refl; settled = λ n was. was };
       settled = tt;
+      listed = tt;
+      still = λ n was. was;
       narrows = λ h image is. is;
       run = λ h. started D.moment D.left_since d0 (IsDiskImage (D.held d0))
           (λ image left. g.met.D.Disk.only_now d0 image h left);
@@ -53,6 +55,13 @@ entries-preserved g c =
           (D.marks d2 x.file).settled ≡ true) (λ x old. marks.settled x.file old)
           (take i c.args.entries.now) was.settled)
           c.in_ok-settle.ensures.settled);
+      listed = subst (AllByRecursion (λ (x : Entry). (D.marks d2 x.file).listed ≡ true)) (sym taken)
+          (all_more (λ (x : Entry). (D.marks d2 x.file).listed ≡ true) (take i c.args.entries.now) e
+          (all_by (λ (x : Entry). (D.marks d1 x.file).listed ≡ true) (λ (x : Entry).
+          (D.marks d2 x.file).listed ≡ true) (λ x old. c.in_ok-settle.ensures.still x.file old)
+          (take i c.args.entries.now) was.listed)
+          c.in_ok-settle.ensures.listed);
+      still = λ n old. c.in_ok-settle.ensures.still n (was.still n old);
       narrows = λ h image is. let h1 = subst IsTrue (sym was.honest) h in was.narrows h image
           (c.settle.ensures.narrows h1 image is);
       run = λ h. let h1 = subst IsTrue (sym was.honest) h in
@@ -87,3 +96,12 @@ returns-clause-settled g c =
 
 pub returns-clause-reads : goal.returns-clause-reads
 returns-clause-reads g c h n = c.entries.invariant.reads h n
+
+pub returns-clause-listed : goal.returns-clause-listed
+returns-clause-listed g c =
+    let D = g.D.Disk in
+    subst (AllByRecursion (λ (x : Entry). (D.marks c.entries.disk x.file).listed ≡ true))
+    (take_all c.entries.entry-index c.args.entries.now (omega arith)) c.entries.invariant.listed
+
+pub returns-clause-still : goal.returns-clause-still
+returns-clause-still g c n was = c.entries.invariant.still n was

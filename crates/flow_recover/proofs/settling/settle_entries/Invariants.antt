@@ -12,6 +12,8 @@ invariant-entries g l = let D = g.D.Disk in record {
   frozen : (n : ℕ) → (D.marks l.disk n).frozen ≡ (D.marks l.fn.disk n).frozen;
   marks : OnlySettles (D.marks l.fn.disk) (D.marks l.disk);
   settled : AllByRecursion (λ (e : Entry). (D.marks l.disk e.file).settled ≡ true) (take l.entry-index l.entries);
+  listed : AllByRecursion (λ (e : Entry). (D.marks l.disk e.file).listed ≡ true) (take l.entry-index l.entries);
+  still : (n : ℕ) → (D.marks l.fn.disk n).listed ≡ true → (D.marks l.disk n).listed ≡ true;
   narrows : IsTrue (D.honest l.fn.disk) → AllImages (D.held l.disk) (IsDiskImage (D.held l.fn.disk));
   run : IsTrue (D.honest l.fn.disk) → LeavesOnly D.moment D.left_since l.fn.disk l.disk (IsDiskImage
       (D.held l.fn.disk));

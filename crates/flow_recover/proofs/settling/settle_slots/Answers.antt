@@ -39,3 +39,9 @@ returns-clause-settled g c =
     let D = g.D.Disk in
     each_slot (λ n. (D.marks c.settle-2.new.disk n).settled ≡ true)
     (c.in_ok-settle-2.ensures.marks.settled 1 c.in_ok-settle.ensures.settled) c.in_ok-settle-2.ensures.settled
+
+pub returns-clause-listed : goal.returns-clause-listed
+returns-clause-listed g c =
+    let D = g.D.Disk in
+    each_slot (λ n. (D.marks c.settle-2.new.disk n).listed ≡ true)
+    (c.in_ok-settle-2.ensures.still 1 c.in_ok-settle.ensures.listed) c.in_ok-settle-2.ensures.listed

@@ -73,3 +73,20 @@ returns-clause-any_moment g c h =
           ∙ one.others n differs;
       here = keeps_then c.args.length (a f) (b f) (x f) one.here two.here;
     })
+
+pub returns-in_err-size-clause-other_files : goal.returns-in_err-size-clause-other_files
+returns-in_err-size-clause-other_files g c h n differs = c.length.ensures.held h n
+
+pub returns-then-length-size-clause-other_files : goal.returns-then-length-size-clause-other_files
+returns-then-length-size-clause-other_files g c h n differs = c.length.ensures.held h n
+
+pub returns-in_err-seal_tail-clause-other_files : goal.returns-in_err-seal_tail-clause-other_files
+returns-in_err-seal_tail-clause-other_files g c h n differs = c.seal_tail.ensures.other_files (subst IsTrue (sym c.length.ensures.honest)
+    h) n differs ∙ c.length.ensures.held h n
+
+pub returns-clause-other_files : goal.returns-clause-other_files
+returns-clause-other_files g c h n differs = c.seal_tail.ensures.other_files (subst IsTrue (sym c.length.ensures.honest)
+    h) n differs ∙ c.length.ensures.held h n
+
+pub returns-clause-listed : goal.returns-clause-listed
+returns-clause-listed g c = c.in_ok-seal_tail.ensures.listed

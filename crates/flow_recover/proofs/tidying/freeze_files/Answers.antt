@@ -1,6 +1,8 @@
 use Rattle.std.proofs.Common.{◌≡◌, ◌≢◌, ℕ, ◌+◌, ◌<◌, ◌≤◌, true, false, IsTrue, List, [], ◌∷◌, ◌++◌, length, get_or}
-use Rattle.std.proofs.Common.{take, refl, sym, ◌∙◌, ap, subst, arith, rules}
+use Rattle.std.proofs.Common.{Bool, take, refl, sym, ◌∙◌, ap, subst, arith, rules}
+use Rattle.std.proofs.Common.{⊎_elim}
 use Rattle.std.specs.List.{AllByRecursion}
+use Rattle.std.proofs.lemmas.Bool.{cases_eq}
 use Rattle.std.proofs.lemmas.List.{take_more, take_all}
 use Rattle.flow_disk.specs.Disk.{Marks, AllImages, InFile}
 use Rattle.flow_disk.specs.Moments.{LeavesOnly}
@@ -13,10 +15,13 @@ use Rattle.flow_segment.specs.Steps.{KeepsFront}
 use Rattle.flow_recover.specs.State.{Part, State}
 use Rattle.flow_recover.specs.Standing.{PartsStand, StandsAs, IsKnown}
 use Rattle.flow_manifest.specs.Following.{no_entry, front_of}
+use Rattle.flow_recover.specs.Kept.{AreFilesOf}
 use Rattle.flow_recover.specs.Opening.{IsDeviceOrMemory, FrozenStand}
-use Rattle.flow_manifest.proofs.EntryLists.{all_take}
+use Rattle.flow_manifest.proofs.Bodies.{all_more}
+use Rattle.flow_manifest.proofs.EntryLists.{all_both, all_take}
 use Rattle.flow_recover.proofs.Stand.{all_first, all_last}
-use Rattle.flow_recover.proofs.Recovering.{cutting_one, all_at, own_before, part_is, parts_count, frozen_push, no_part}
+use Rattle.flow_recover.proofs.Recovering.{cutting_one, all_at, own_before, part_is, parts_count, frozen_push, files_push}
+use Rattle.flow_recover.proofs.Recovering.{no_part}
 use Rattle.flow_recover.proofs.tidying.freeze_files.Goals as goal
 
 pub entries-init : goal.entries-init
@@ -30,6 +35,11 @@ entries-init g c =
           (g.met.D.Disk.only_now d0 image h left));
       frozen = λ h slots s front all. let none : c.in-Ok.parts.items ≡ [] = search rules in subst
           (λ l. FrozenStand g.D.Sealed.SealedFile.octets [] [] l) (sym none) tt;
+      files = let none : c.in-Ok.parts.items ≡ [] = search rules in subst (λ l. AreFilesOf g.D.Sealed.SealedFile.number
+          g.D.Sealed.SealedFile.size g.D.Sealed.SealedFile.honest (D.honest d0) [] l) (sym none) tt;
+      marked = tt;
+      still = λ n was. was;
+      other_held = λ h n apart. refl;
       room = search rules;
       count = search rules;
       faults = refl;
@@ -153,6 +163,10 @@ entries-preserved g c =
           c.freeze_one.ensures.other_marks n (λ is. all_last (λ (x : Entry). x.file ≢ n) (take i es) e both_parts
           (sym is)) ∙ was.others n (all_first (λ (x : Entry). x.file ≢ n) (take i es) e both_parts);
       run = more;
+      other_held = λ h n apart. let both_parts = subst (AllByRecursion (λ (x : Entry). x.file ≢ n)) taken apart in
+          c.freeze_one.ensures.other_files (subst IsTrue (sym was.honest) h) n (λ is. all_last (λ (x : Entry).
+          x.file ≢ n) (take i es) e both_parts (sym is)) ∙ was.other_held h n (all_first (λ (x : Entry). x.file ≢ n)
+          (take i es) e both_parts);
       frozen = λ h slots s front all.
           let h1 = subst IsTrue (sym was.honest) h in
           let h2 = subst IsTrue (sym c.freeze_one.ensures.honest) h1 in
@@ -176,6 +190,24 @@ entries-preserved g c =
           (take i s.parts ++ get_or s.parts i no_part ∷ []) l) (sym c.push_reserved.ensures.items)
           (frozen_push g.D.Sealed.SealedFile.octets e (get_or s.parts i no_part) c.in_ok-part.part here (take i es)
           (take i s.parts) c.entries.parts.items (was.frozen h slots s front all))));
+      files = subst (λ (l : List Entry). AreFilesOf g.D.Sealed.SealedFile.number g.D.Sealed.SealedFile.size
+          g.D.Sealed.SealedFile.honest (D.honest d2) l c.push_reserved.new.self.items) (sym taken)
+          (subst (λ l. AreFilesOf g.D.Sealed.SealedFile.number g.D.Sealed.SealedFile.size
+          g.D.Sealed.SealedFile.honest (D.honest d2) (take i es ++ e ∷ []) l) (sym c.push_reserved.ensures.items)
+          (files_push g.D.Sealed.SealedFile.number g.D.Sealed.SealedFile.size g.D.Sealed.SealedFile.honest
+          (D.honest d2) e c.in_ok-part.part c.in_ok-part.ensures.file (take i es) c.entries.parts.items
+          (subst (λ (b : Bool). AreFilesOf g.D.Sealed.SealedFile.number g.D.Sealed.SealedFile.size
+          g.D.Sealed.SealedFile.honest b (take i es) c.entries.parts.items) (sym c.freeze_one.ensures.honest)
+          was.files)));
+      marked = subst (AllByRecursion (λ (x : Entry). (D.marks d2 x.file).frozen ≡ true)) (sym taken)
+          (all_more (λ (x : Entry). (D.marks d2 x.file).frozen ≡ true) (take i es) e
+          (all_both (λ (x : Entry). x.file ≢ e.file) (λ (x : Entry). (D.marks d1 x.file).frozen ≡ true)
+          (λ (x : Entry). (D.marks d2 x.file).frozen ≡ true)
+          (λ x apart is. ap (λ (m : Marks). m.frozen) (c.freeze_one.ensures.other_marks x.file apart) ∙ is)
+          (take i es) (own_before es i c.requires.own lt) was.marked) c.in_ok-part.ensures.frozen);
+      still = λ n old. ⊎_elim (λ (same : n ≡ e.file). ap (λ (k : ℕ). (D.marks d2 k).listed) same
+          ∙ c.in_ok-part.ensures.listed) (λ differs. ap (λ (m : Marks). m.listed)
+          (c.freeze_one.ensures.other_marks n differs) ∙ was.still n old) (cases_eq n e.file);
       room = omega (arith, c.push_reserved.ensures.capacity, was.room);
       count = c.push_reserved.ensures.len ∙ ap (λ (n : ℕ). n + 1) was.count;
       faults = c.in_ok-part.ensures.cause.done ∙ was.faults;
@@ -206,3 +238,36 @@ returns-in_default-clause-any_moment g c h slots s front all =
     let D = g.D.Disk in
     let d0 = c.args.disk.now in
     started D.moment D.left_since d0 (IsKnown slots s) (λ image left. all image (g.met.D.Disk.only_now d0 image h left))
+
+pub returns-clause-files : goal.returns-clause-files
+returns-clause-files g c =
+    let D = g.D.Disk in
+    let es = c.args.entries.now in
+    let i = c.entries.entry-index in
+    subst (λ (l : List Entry). AreFilesOf g.D.Sealed.SealedFile.number g.D.Sealed.SealedFile.size
+    g.D.Sealed.SealedFile.honest (D.honest c.entries.disk) l c.entries.parts.items) (take_all i es (omega arith))
+    c.entries.invariant.files
+
+pub returns-clause-frozen : goal.returns-clause-frozen
+returns-clause-frozen g c =
+    let D = g.D.Disk in
+    let d1 = c.entries.disk in
+    let es = c.args.entries.now in
+    let i = c.entries.entry-index in
+    subst (AllByRecursion (λ (e : Entry). (D.marks d1 e.file).frozen ≡ true)) (take_all i es (omega arith))
+    c.entries.invariant.marked
+
+pub returns-in_err-part-clause-other_files : goal.returns-in_err-part-clause-other_files
+returns-in_err-part-clause-other_files g c h n apart =
+    let i = c.entries.entry-index in
+    let was = c.entries.invariant in
+    let es = c.args.entries.now in
+    c.freeze_one.ensures.other_files (subst IsTrue (sym was.honest) h) n (λ is. all_at (λ (x : Entry). x.file ≢ n) es i
+    apart c.entries-test.true (sym is)) ∙ was.other_held h n (all_take (λ (x : Entry). x.file ≢ n) i es apart)
+
+pub returns-clause-other_files : goal.returns-clause-other_files
+returns-clause-other_files g c h n apart = c.entries.invariant.other_held h n (all_take (λ (x : Entry). x.file ≢ n)
+    c.entries.entry-index c.args.entries.now apart)
+
+pub returns-clause-still : goal.returns-clause-still
+returns-clause-still g c n was = c.entries.invariant.still n was

@@ -1,5 +1,5 @@
-use Rattle.std.proofs.Common.{IsTrue, sym, subst}
-use Rattle.flow_disk.specs.Disk.{InFile, ComesOf}
+use Rattle.std.proofs.Common.{IsTrue, sym, subst, ap, ◌∙◌}
+use Rattle.flow_disk.specs.Disk.{InFile, ComesOf, Marks}
 use Rattle.flow_disk.proofs.Moments.{goes_on}
 use Rattle.flow_segment.specs.Steps.{KeepsFront}
 use Rattle.flow_recover.proofs.tidying.freeze_one.Goals as goal
@@ -27,3 +27,15 @@ returns-clause-any_moment g c h =
     goes_on D.moment D.left_since d0 d1 c.freeze.new.self (ComesOf (D.held d0) (InFile f
     (KeepsFront c.args.entry.length))) (D.held d1) run1 (c.freeze.ensures.time h1)
     (λ image is. run1.each image (g.met.D.Disk.counts_now d1 (D.moment d0) image h1 run1.later is))
+
+pub returns-in_err-part-clause-other_files : goal.returns-in_err-part-clause-other_files
+returns-in_err-part-clause-other_files g c h n differs = c.freeze.ensures.held (subst IsTrue (sym c.cut_file.ensures.honest) h) n
+    ∙ c.cut_file.ensures.other_files h n differs
+
+pub returns-clause-other_files : goal.returns-clause-other_files
+returns-clause-other_files g c h n differs = c.freeze.ensures.held (subst IsTrue (sym c.cut_file.ensures.honest) h) n
+    ∙ c.cut_file.ensures.other_files h n differs
+
+pub returns-clause-listed : goal.returns-clause-listed
+returns-clause-listed g c = ap (λ (m : Marks). m.listed) c.in_ok-part.ensures.frozen.here
+    ∙ c.in_ok-cut_file.ensures.listed

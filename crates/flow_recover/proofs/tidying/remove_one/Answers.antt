@@ -1,5 +1,5 @@
-use Rattle.std.proofs.Common.{◌≡◌, false, refl, ap, rules}
-use Rattle.flow_disk.specs.Disk.{InFile, ComesOf}
+use Rattle.std.proofs.Common.{◌≡◌, true, false, refl, ap, rules}
+use Rattle.flow_disk.specs.Disk.{InFile, ComesOf, Marks}
 use Rattle.flow_disk.proofs.Moments.{started, by}
 use Rattle.flow_disk.proofs.Calls.{starts, changes}
 use Rattle.flow_segment.specs.Steps.{IsAnything}
@@ -42,3 +42,29 @@ returns-clause-any_moment g c h =
     let unnamed : is_file_of m f ≡ false = search rules in
     by D.moment D.left_since d0 d1 (ComesOf (D.held d0) (InFile f IsAnything)) (ComesOf (D.held d0) (SameNamed m)) run1
     (λ image came. (came.0, came.1, λ n named. came.2.others n (λ is. let same = ap (is_file_of m) is in absurd (cc))))
+
+pub returns-then-is_named-clause-removed : goal.returns-then-is_named-clause-removed
+returns-then-is_named-clause-removed g c unnamed =
+    let named : is_file_of c.args.manifest.now c.args.file ≡ true = search rules in
+    absurd (cc)
+
+pub returns-clause-removed : goal.returns-clause-removed
+returns-clause-removed g c unnamed = ap (λ (m : Marks). m.listed) c.in_ok-remove.ensures.marks.done
+
+pub returns-in_err-remove-clause-other_marks : goal.returns-in_err-remove-clause-other_marks
+returns-in_err-remove-clause-other_marks g c n differs = c.remove.ensures.marks.others n differs
+
+pub returns-clause-other_marks : goal.returns-clause-other_marks
+returns-clause-other_marks g c n differs = c.remove.ensures.marks.others n differs
+
+pub returns-in_err-remove-clause-named : goal.returns-in_err-remove-clause-named
+returns-in_err-remove-clause-named g c h n named =
+    let m = c.args.manifest.now in
+    let unnamed : is_file_of m c.args.file ≡ false = search rules in
+    (c.remove.ensures.held h).others n (λ is. let same = ap (is_file_of m) is in absurd (cc))
+
+pub returns-clause-named : goal.returns-clause-named
+returns-clause-named g c h n named =
+    let m = c.args.manifest.now in
+    let unnamed : is_file_of m c.args.file ≡ false = search rules in
+    (c.remove.ensures.held h).others n (λ is. let same = ap (is_file_of m) is in absurd (cc))

@@ -1,6 +1,7 @@
 use Rattle.std.proofs.Common.{◌≡◌, ◌≢◌, ⊎_elim, ℕ, ◌+◌, ◌-◌, ◌≤◌, true, false, IsTrue, List, length, take, sym, ◌∙◌, ap}
-use Rattle.std.proofs.Common.{subst, arith}
+use Rattle.std.proofs.Common.{Bool, subst, arith}
 use Rattle.std.specs.List.{AllByRecursion}
+use Rattle.std.proofs.lemmas.Bool.{cases_eq}
 use Rattle.flow_disk.specs.Disk.{Marks, InFile}
 use Rattle.flow_disk.proofs.Moments.{advance, now_all}
 use Rattle.flow_manifest.specs.declared.manifest.Entry.{Entry}
@@ -14,12 +15,13 @@ use Rattle.flow_segment.specs.Steps.{KeepsFront}
 use Rattle.flow_recover.specs.State.{end_of}
 use Rattle.flow_recover.specs.Standing.{IsKnown, is_file_of, SameNamed}
 use Rattle.flow_manifest.specs.Following.{active_of, front_of}
+use Rattle.flow_recover.specs.Kept.{AreFilesOf}
 use Rattle.flow_recover.specs.Opening.{IsDeviceOrMemory, FrozenStand}
-use Rattle.flow_manifest.proofs.EntryLists.{all_by}
+use Rattle.flow_manifest.proofs.EntryLists.{all_by, all_both, all_take}
 use Rattle.flow_recover.proofs.Stand.{all_first, all_last, slot_below}
 use Rattle.flow_manifest.proofs.Followers.{split, are_entries, IsOther}
 use Rattle.flow_recover.proofs.Recovering.{removing, trimming, own_front, slot_named, parts_long, bool_cases, not_named}
-use Rattle.flow_recover.proofs.Recovering.{active_named}
+use Rattle.flow_recover.proofs.Recovering.{active_named, entries_named}
 use Rattle.flow_recover.proofs.tidying.tidy.Goals as goal
 
 pub freeze_files-requires-clause-own : goal.freeze_files-requires-clause-own
@@ -345,3 +347,125 @@ returns-clause-ready g c =
           (bool_cases (is_file_of m n)))
           which;
     }
+
+pub returns-clause-files : goal.returns-clause-files
+returns-clause-files g c =
+    let D = g.D.Disk in
+    let m = c.args.manifest.now in
+    let slice : take (length c.as_slice-entries.result.now - 1) c.as_slice-entries.result.now ≡ front_of m = ap (λ
+    (l : List Entry). take (length l - 1) l) c.as_slice-entries.ensures in
+    subst (λ (l : List Entry). AreFilesOf g.D.Sealed.SealedFile.number g.D.Sealed.SealedFile.size
+    g.D.Sealed.SealedFile.honest (D.honest c.remove_unnamed.new.disk) l c.in_ok-parts.parts.items) slice
+    (subst (λ (b : Bool). AreFilesOf g.D.Sealed.SealedFile.number g.D.Sealed.SealedFile.size
+    g.D.Sealed.SealedFile.honest b (take (length c.as_slice-entries.result.now - 1) c.as_slice-entries.result.now)
+    c.in_ok-parts.parts.items) (sym (c.remove_unnamed.ensures.honest ∙ c.cut_file.ensures.honest))
+    c.in_ok-parts.ensures.files)
+
+pub returns-clause-frozen : goal.returns-clause-frozen
+returns-clause-frozen g c =
+    let D = g.D.Disk in
+    let d1 = c.freeze_files.new.disk in
+    let d3 = c.remove_unnamed.new.disk in
+    let m = c.args.manifest.now in
+    let last = c.args.last in
+    let are = are_entries m c.requires.valid in
+    let file : last.file ≡ (active_of m).file = ap (λ (e : Entry). e.file) c.requires.last in
+    let slice : take (length c.as_slice-entries.result.now - 1) c.as_slice-entries.result.now ≡ front_of m = ap (λ
+    (l : List Entry). take (length l - 1) l) c.as_slice-entries.ensures in
+    let named : AllByRecursion (λ (e : Entry). is_file_of m e.file ≡ true) (front_of m) = all_take (λ (e : Entry).
+    is_file_of m e.file ≡ true) (length m.entries - 1) m.entries (entries_named m) in
+    let same : AllByRecursion (λ (e : Entry). D.marks d3 e.file ≡ D.marks d1 e.file) (front_of m) = all_both (IsOther m)
+    (λ (e : Entry). is_file_of m e.file ≡ true) (λ (e : Entry). D.marks d3 e.file ≡ D.marks d1 e.file)
+    (λ e one is. c.remove_unnamed.ensures.marks e.file is
+    ∙ c.cut_file.ensures.other_marks e.file (λ there. one.apart (there ∙ file))) (front_of m) are.front named in
+    all_both (λ (e : Entry). D.marks d3 e.file ≡ D.marks d1 e.file) (λ (e : Entry). (D.marks d1 e.file).frozen ≡ true)
+    (λ (e : Entry). (D.marks d3 e.file).frozen ≡ true) (λ e are_same is. ap (λ (k : Marks). k.frozen) are_same ∙ is)
+    (front_of m) same (subst (AllByRecursion (λ (e : Entry). (D.marks d1 e.file).frozen ≡ true)) slice
+    c.in_ok-parts.ensures.frozen)
+
+pub returns-in_err-parts-clause-slots : goal.returns-in_err-parts-clause-slots
+returns-in_err-parts-clause-slots g c h slot =
+    let m = c.args.manifest.now in
+    let are = are_entries m c.requires.valid in
+    let file : c.args.last.file ≡ (active_of m).file = ap (λ (e : Entry). e.file) c.requires.last in
+    let slice : take (length c.as_slice-entries.result.now - 1) c.as_slice-entries.result.now ≡ front_of m = ap (λ
+    (l : List Entry). take (length l - 1) l) c.as_slice-entries.ensures in
+    let frozen = c.freeze_files.ensures.other_files h (file_of slot) (subst (AllByRecursion (λ (e : Entry). e.file ≢
+    file_of slot)) (sym slice) (all_by (IsOther m) (λ (e : Entry). e.file ≢ file_of slot) (λ e one is. omega
+    (arith, is, slot_below slot, one.entry.file_from)) (front_of m) are.front)) in
+    frozen
+
+pub returns-in_err-cut_file-clause-slots : goal.returns-in_err-cut_file-clause-slots
+returns-in_err-cut_file-clause-slots g c h slot =
+    let m = c.args.manifest.now in
+    let are = are_entries m c.requires.valid in
+    let file : c.args.last.file ≡ (active_of m).file = ap (λ (e : Entry). e.file) c.requires.last in
+    let slice : take (length c.as_slice-entries.result.now - 1) c.as_slice-entries.result.now ≡ front_of m = ap (λ
+    (l : List Entry). take (length l - 1) l) c.as_slice-entries.ensures in
+    let frozen = c.freeze_files.ensures.other_files h (file_of slot) (subst (AllByRecursion (λ (e : Entry). e.file ≢
+    file_of slot)) (sym slice) (all_by (IsOther m) (λ (e : Entry). e.file ≢ file_of slot) (λ e one is. omega
+    (arith, is, slot_below slot, one.entry.file_from)) (front_of m) are.front)) in
+    let h1 = subst IsTrue (sym c.freeze_files.ensures.honest) h in
+    c.cut_file.ensures.other_files h1 (file_of slot) (λ is. omega (
+      arith,
+      is,
+      file,
+      slot_below slot,
+      are.active.file_from,
+    )) ∙ frozen
+
+pub returns-in_err-remove_unnamed-clause-slots : goal.returns-in_err-remove_unnamed-clause-slots
+returns-in_err-remove_unnamed-clause-slots g c h slot =
+    let m = c.args.manifest.now in
+    let are = are_entries m c.requires.valid in
+    let file : c.args.last.file ≡ (active_of m).file = ap (λ (e : Entry). e.file) c.requires.last in
+    let slice : take (length c.as_slice-entries.result.now - 1) c.as_slice-entries.result.now ≡ front_of m = ap (λ
+    (l : List Entry). take (length l - 1) l) c.as_slice-entries.ensures in
+    let frozen = c.freeze_files.ensures.other_files h (file_of slot) (subst (AllByRecursion (λ (e : Entry). e.file ≢
+    file_of slot)) (sym slice) (all_by (IsOther m) (λ (e : Entry). e.file ≢ file_of slot) (λ e one is. omega
+    (arith, is, slot_below slot, one.entry.file_from)) (front_of m) are.front)) in
+    let h1 = subst IsTrue (sym c.freeze_files.ensures.honest) h in
+    let h2 = subst IsTrue (sym c.cut_file.ensures.honest) h1 in
+    c.remove_unnamed.ensures.named h2 (file_of slot) (slot_named m slot)
+    ∙ c.cut_file.ensures.other_files h1 (file_of slot) (λ is. omega (
+      arith,
+      is,
+      file,
+      slot_below slot,
+      are.active.file_from,
+    )) ∙ frozen
+
+pub returns-clause-slots : goal.returns-clause-slots
+returns-clause-slots g c h slot =
+    let m = c.args.manifest.now in
+    let are = are_entries m c.requires.valid in
+    let file : c.args.last.file ≡ (active_of m).file = ap (λ (e : Entry). e.file) c.requires.last in
+    let slice : take (length c.as_slice-entries.result.now - 1) c.as_slice-entries.result.now ≡ front_of m = ap (λ
+    (l : List Entry). take (length l - 1) l) c.as_slice-entries.ensures in
+    let frozen = c.freeze_files.ensures.other_files h (file_of slot) (subst (AllByRecursion (λ (e : Entry). e.file ≢
+    file_of slot)) (sym slice) (all_by (IsOther m) (λ (e : Entry). e.file ≢ file_of slot) (λ e one is. omega
+    (arith, is, slot_below slot, one.entry.file_from)) (front_of m) are.front)) in
+    let h1 = subst IsTrue (sym c.freeze_files.ensures.honest) h in
+    let h2 = subst IsTrue (sym c.cut_file.ensures.honest) h1 in
+    c.remove_unnamed.ensures.named h2 (file_of slot) (slot_named m slot)
+    ∙ c.cut_file.ensures.other_files h1 (file_of slot) (λ is. omega (
+      arith,
+      is,
+      file,
+      slot_below slot,
+      are.active.file_from,
+    )) ∙ frozen
+
+pub returns-clause-removed : goal.returns-clause-removed
+returns-clause-removed g c h =
+    let h1 = subst IsTrue (sym c.freeze_files.ensures.honest) h in
+    let h2 = subst IsTrue (sym c.cut_file.ensures.honest) h1 in
+    c.in_ok-remove_unnamed.ensures.removed h2
+
+pub returns-clause-still : goal.returns-clause-still
+returns-clause-still g c n named was =
+    let d2 = c.cut_file.new.disk in
+    ap (λ (k : Marks). k.listed) (c.remove_unnamed.ensures.marks n named)
+    ∙ ⊎_elim (λ (same : n ≡ c.args.last.file). ap (λ (k : ℕ). (g.D.Disk.marks d2 k).listed) same
+    ∙ c.in_ok-cut_file.ensures.listed) (λ differs. ap (λ (k : Marks). k.listed)
+    (c.cut_file.ensures.other_marks n differs) ∙ c.in_ok-parts.ensures.still n was) (cases_eq n c.args.last.file)

@@ -1,23 +1,24 @@
-use Rattle.std.proofs.Common.{◌≡◌, inl, inr, ⊎_elim, ℕ, ◌+◌, ◌<◌, ◌≤◌, ◌^◌, IsTrue, List}
-use Rattle.std.proofs.Common.{◌++◌, length, Err, refl, sym, ◌∙◌, ap, subst, arith, length-append, Vec}
+use Rattle.std.proofs.Common.{◌≡◌, inl, inr, ⊎_elim, ℕ, Bool, true, ◌+◌, ◌<◌, ◌≤◌, ◌^◌, IsTrue, List}
+use Rattle.std.proofs.Common.{◌++◌, length, Err, refl, sym, ◌∙◌, ap, subst, arith, length-append}
 use Rattle.std.proofs.Common.{rules, vec_len}
 use Rattle.std.proofs.lemmas.List.{length-map}
-use Rattle.std.specs.declared.alloc.Global.{Global}
+use Rattle.flow_disk.specs.Cause.{HasCause}
 use Rattle.flow_disk.specs.Disk.{InFile}
 use Rattle.flow_disk.proofs.Moments.{by, arrive, comes_by}
 use Rattle.flow_gate.specs.Gate.{IsClosedAt, octet_sum}
-use Rattle.flow_gate.specs.Scan.{texts}
 use Rattle.flow_gate.specs.Steps.{MayAdd, Adds, slices}
 use Rattle.flow_manifest.specs.declared.manifest.Entry.{Entry}
-use Rattle.flow_manifest.specs.Following.{active_of}
+use Rattle.flow_manifest.specs.Following.{active_of, front_of}
 use Rattle.flow_manifest.proofs.Followers.{are_entries}
 use Rattle.flow_recover.specs.State.{State, appended, reopened}
 use Rattle.flow_recover.specs.Standing.{IsKnown, StandsForEither}
 use Rattle.flow_archive.specs.Answers.{AnswersAppend, MayAppend}
+use Rattle.flow_archive.specs.Owned.{AreHeldAs}
 use Rattle.flow_archive.specs.Seen.{IsArchive, StandsBeforeOrAfter, state_in}
 use Rattle.flow_archive.specs.declared.refusal.ArchiveError.TheVariants as refusal
 use Rattle.flow_archive.proofs.Answering.{err_is, not_admitted, not_fault}
 use Rattle.flow_archive.proofs.Chaining.{hands_more, segment_more}
+use Rattle.flow_archive.proofs.Directing.{failed_archive}
 use Rattle.flow_archive.proofs.Ready.{counted_more, ready_more, some_octets, within_more}
 use Rattle.flow_archive.proofs.Stand.{stands_for, adding, added}
 use Rattle.flow_archive.proofs.Stepping.{refused, refused_by, acknowledged, failed}
@@ -27,24 +28,22 @@ use Rattle.flow_archive.proofs.archive.Archive.append_batch.Goals as goal
 pub returns-in_default-clause-answers : goal.returns-in_default-clause-answers
 returns-in_default-clause-answers g c =
     let D = g.D.Disk in
-    let octets = g.D.Sealed.SealedFile.octets in
     let inside = c.self.inside in
     rw (← c.self.view_is) (
       c.if-self.false,
-      ap (λ (l : List (Vec ℕ Global)).
-          state_in octets inside.slots.current inside.files.items inside.prefix.items (texts l))
+      ap (λ (l : List (List ℕ)).
+          state_in inside.shared inside.slots.current inside.files.items inside.prefix l)
           c.reserve.ensures.items,
     )
 
 pub returns-in_default-clause-step : goal.returns-in_default-clause-step
 returns-in_default-clause-step g c =
     let D = g.D.Disk in
-    let octets = g.D.Sealed.SealedFile.octets in
     let inside = c.self.inside in
     rw (← c.self.view_is) (refused D.honest D.moment D.left_since D.held _ _ _ refusal.OutOfMemory
-    (ap (λ (l : List (Vec ℕ Global)). record {
+    (ap (λ (l : List (List ℕ)). record {
       disk = inside.disk;
-      state = state_in octets inside.slots.current inside.files.items inside.prefix.items (texts l);
+      state = state_in inside.shared inside.slots.current inside.files.items inside.prefix l;
       closed = inside.closed;
     }) c.reserve.ensures.items)
     (λ is. cc) (λ h image left. g.met.D.Disk.only_now inside.disk image h left)
@@ -53,11 +52,9 @@ returns-in_default-clause-step g c =
 pub returns-in_err-batch-clause-answers : goal.returns-in_err-batch-clause-answers
 returns-in_err-batch-clause-answers g c =
     let D = g.D.Disk in
-    let octets = g.D.Sealed.SealedFile.octets in
     let inside = c.self.inside in
     let m = inside.slots.current in
-    let with_messages = λ (l : List (Vec ℕ Global)). state_in octets m inside.files.items inside.prefix.items (texts
-    l) in
+    let with_messages = λ (l : List (List ℕ)). state_in inside.shared m inside.files.items inside.prefix l in
     let s : State = with_messages inside.messages.items in
     let ms = slices c.args.messages.now in
     let counted = (c.self.invariant).counted in
@@ -66,7 +63,7 @@ returns-in_err-batch-clause-answers g c =
     let e = c.in_err-batch.field-0.0 in
     rw (← c.self.view_is) (err_is c.from_residual.result e
     (λ r. AnswersAppend inside.closed s ms r (with_messages c.reserve.new.self.items)) c.from_residual.ensures.1
-    (subst (λ (l : List (Vec ℕ Global)). AnswersAppend inside.closed s ms (Err e) (with_messages l))
+    (subst (λ (l : List (List ℕ)). AnswersAppend inside.closed s ms (Err e) (with_messages l))
     (sym c.reserve.ensures.items)
     (not_admitted inside.closed s ms inside.carry _ _ e c.if-self.false
     ((c.self.invariant).still_open c.if-self.false).segment
@@ -78,14 +75,13 @@ returns-in_err-batch-clause-answers g c =
 pub returns-in_err-batch-clause-step : goal.returns-in_err-batch-clause-step
 returns-in_err-batch-clause-step g c =
     let D = g.D.Disk in
-    let octets = g.D.Sealed.SealedFile.octets in
     let inside = c.self.inside in
     let m = inside.slots.current in
     let e = c.in_err-batch.field-0.0 in
     rw (← c.self.view_is) (refused_by D.honest D.moment D.left_since D.held _ _ _ e _ c.from_residual.ensures.1
-    (ap (λ (l : List (Vec ℕ Global)). record {
+    (ap (λ (l : List (List ℕ)). record {
       disk = inside.disk;
-      state = state_in octets m inside.files.items inside.prefix.items (texts l);
+      state = state_in inside.shared m inside.files.items inside.prefix l;
       closed = inside.closed;
     }) c.reserve.ensures.items)
     (not_fault (slices c.args.messages.now) inside.carry _ _ e c.in_err-batch.ensures.refused)
@@ -116,12 +112,11 @@ add_batch-requires-clause-gated g c h image is =
 pub returns-in-Err-clause-answers : goal.returns-in-Err-clause-answers
 returns-in-Err-clause-answers g c =
     let D = g.D.Disk in
-    let octets = g.D.Sealed.SealedFile.octets in
     let inside = c.self.inside in
     let d = inside.disk in
     let d1 = c.add_batch.new.disk in
     let m = inside.slots.current in
-    let s : State = state_in octets m inside.files.items inside.prefix.items (texts inside.messages.items) in
+    let s : State = state_in inside.shared m inside.files.items inside.prefix inside.messages.items in
     let ms = slices c.args.messages.now in
     let batch = c.in_ok-batch.batch in
     let taken = c.in_ok-batch.ensures.taken in
@@ -144,19 +139,18 @@ returns-in-Err-clause-answers g c =
     rw (← c.self.view_is) (
       c.if-self.false,
       may,
-      ap (λ (l : List (Vec ℕ Global)). state_in octets m inside.files.items inside.prefix.items (texts l))
+      ap (λ (l : List (List ℕ)). state_in inside.shared m inside.files.items inside.prefix l)
           c.reserve.ensures.items,
     )
 
 pub returns-in-Err-clause-step : goal.returns-in-Err-clause-step
 returns-in-Err-clause-step g c =
     let D = g.D.Disk in
-    let octets = g.D.Sealed.SealedFile.octets in
     let inside = c.self.inside in
     let d = inside.disk in
     let d1 = c.add_batch.new.disk in
     let m = inside.slots.current in
-    let s : State = state_in octets m inside.files.items inside.prefix.items (texts inside.messages.items) in
+    let s : State = state_in inside.shared m inside.files.items inside.prefix inside.messages.items in
     let ms = slices c.args.messages.now in
     let batch = c.in_ok-batch.batch in
     let taken = c.in_ok-batch.ensures.taken in
@@ -185,19 +179,18 @@ returns-in-Err-clause-step g c =
     (adding inside.slots s inside.last.file inside.end ms file_is (sym counted.end_is) within
     (batch.carry, hands_more s ms inside.carry batch.carry (still.hands_on h) taken)))
     (λ image either. ⊎_elim (λ before. inl before) (λ after. inr (appended s ms, refl, after)) either))
-    (ap (λ (l : List (Vec ℕ Global)). state_in octets m inside.files.items inside.prefix.items (texts l))
+    (ap (λ (l : List (List ℕ)). state_in inside.shared m inside.files.items inside.prefix l)
     c.reserve.ensures.items)
     refl c.if-self.false)
 
 pub invariant_of-self-in-Ok-add_batch : goal.invariant_of-self-in-Ok-add_batch
 invariant_of-self-in-Ok-add_batch g c =
     let D = g.D.Disk in
-    let octets = g.D.Sealed.SealedFile.octets in
     let inside = c.self.inside in
     let d = inside.disk in
     let d1 = c.add_batch.new.disk in
     let m = inside.slots.current in
-    let s : State = state_in octets m inside.files.items inside.prefix.items (texts inside.messages.items) in
+    let s : State = state_in inside.shared m inside.files.items inside.prefix inside.messages.items in
     let ms = slices c.args.messages.now in
     let batch = c.in_ok-batch.batch in
     let taken = c.in_ok-batch.ensures.taken in
@@ -217,21 +210,23 @@ invariant_of-self-in-Ok-add_batch g c =
       room = omega (arith, fits, counted.end_is, start);
       positions = omega (arith, few, counted.total_is);
     } in
-    let pushed : texts c.put_all.new.kept.items ≡ texts inside.messages.items ++ ms = c.put_all.ensures
-    ∙ ap (λ (l : List (Vec ℕ Global)). texts l ++ texts batch.copies.items) c.reserve.ensures.items
-    ∙ ap (λ (l : List (List ℕ)). texts inside.messages.items ++ l) c.in_ok-batch.ensures.copies in
+    let pushed : c.put_all.new.kept.items ≡ inside.messages.items ++ ms = c.put_all.ensures
+    ∙ ap (λ (l : List (List ℕ)). l ++ batch.copies.items) c.reserve.ensures.items
+    ∙ ap (λ (l : List (List ℕ)). inside.messages.items ++ l) c.in_ok-batch.ensures.copies in
     let are = are_entries m counted.valid in
     let some : 16 ≤ octet_sum ms =
     some_octets ms (all_whole ms inside.carry batch.carry taken) (omega (arith, c.requires.some, long)) in
     let size : inside.end + octet_sum ms + 2 ≤ (D.marks d1 inside.last.file).size =
     omega (arith, c.in-Ok-add_batch.ensures.size) in
     let now = counted_more s inside.last inside.end inside.total ms counted fits few some in
-    let P : List (List ℕ) → ℕ → ℕ → Type 0 = λ messages end total. IsArchive D.honest D.marks D.held octets d1
+    let P : List (List ℕ) → ℕ → ℕ → Type 0 = λ messages end total. IsArchive D.honest D.marks D.held d1
     inside.slots inside.last end total batch.carry inside.files.items
-    (state_in octets m inside.files.items inside.prefix.items messages) inside.closed in
-    let made : P (texts inside.messages.items ++ ms) (inside.end + octet_sum ms) (inside.total + length ms) = record {
+    (state_in inside.shared m inside.files.items inside.prefix messages) inside.closed in
+    let made : P (inside.messages.items ++ ms) (inside.end + octet_sum ms) (inside.total + length ms) = record {
       counted = now;
-      all = (c.self.invariant).all;
+      files_are = subst (λ (h : Bool). AreHeldAs h (front_of m) inside.files.items) (sym c.add_batch.ensures.honest)
+          (c.self.invariant).files_are;
+      stand = λ h1. (c.self.invariant).stand (subst IsTrue c.add_batch.ensures.honest h1);
       still_open = λ _. record {
         kept = record {
           counted = now;
@@ -248,23 +243,21 @@ invariant_of-self-in-Ok-add_batch g c =
         segment = segment_more s.active ms inside.carry batch.carry still.segment taken;
         hands_on = λ h1. hands_more s ms inside.carry batch.carry
             (still.hands_on (subst IsTrue c.add_batch.ensures.honest h1)) taken;
-        frozen = λ h1. still.frozen (subst IsTrue c.add_batch.ensures.honest h1);
       };
     } in
-    subst (λ (n : ℕ). P (texts c.put_all.new.kept.items) (inside.end + n) (inside.total + length c.args.messages.now))
+    subst (λ (n : ℕ). P c.put_all.new.kept.items (inside.end + n) (inside.total + length c.args.messages.now))
     (sym count)
-    (subst (λ (n : ℕ). P (texts c.put_all.new.kept.items) (inside.end + octet_sum ms) (inside.total + n)) long
+    (subst (λ (n : ℕ). P c.put_all.new.kept.items (inside.end + octet_sum ms) (inside.total + n)) long
     (subst (λ (l : List (List ℕ)). P l (inside.end + octet_sum ms) (inside.total + length ms)) (sym pushed) made))
 
 pub returns-in-Ok-add_batch-clause-answers : goal.returns-in-Ok-add_batch-clause-answers
 returns-in-Ok-add_batch-clause-answers g c =
     let D = g.D.Disk in
-    let octets = g.D.Sealed.SealedFile.octets in
     let inside = c.self.inside in
     let d = inside.disk in
     let d1 = c.add_batch.new.disk in
     let m = inside.slots.current in
-    let s : State = state_in octets m inside.files.items inside.prefix.items (texts inside.messages.items) in
+    let s : State = state_in inside.shared m inside.files.items inside.prefix inside.messages.items in
     let ms = slices c.args.messages.now in
     let batch = c.in_ok-batch.batch in
     let taken = c.in_ok-batch.ensures.taken in
@@ -284,31 +277,30 @@ returns-in-Ok-add_batch-clause-answers g c =
       room = omega (arith, fits, counted.end_is, start);
       positions = omega (arith, few, counted.total_is);
     } in
-    let pushed : texts c.put_all.new.kept.items ≡ texts inside.messages.items ++ ms = c.put_all.ensures
-    ∙ ap (λ (l : List (Vec ℕ Global)). texts l ++ texts batch.copies.items) c.reserve.ensures.items
-    ∙ ap (λ (l : List (List ℕ)). texts inside.messages.items ++ l) c.in_ok-batch.ensures.copies in
+    let pushed : c.put_all.new.kept.items ≡ inside.messages.items ++ ms = c.put_all.ensures
+    ∙ ap (λ (l : List (List ℕ)). l ++ batch.copies.items) c.reserve.ensures.items
+    ∙ ap (λ (l : List (List ℕ)). inside.messages.items ++ l) c.in_ok-batch.ensures.copies in
     rw (← c.self.view_is) (
       c.if-self.false,
       may,
-      ap (λ (l : List (List ℕ)). state_in octets m inside.files.items inside.prefix.items l) pushed,
+      ap (λ (l : List (List ℕ)). state_in inside.shared m inside.files.items inside.prefix l) pushed,
       omega (
         arith,
         counted.total_is,
         long,
         ap (λ (l : List (List ℕ)). length l) pushed,
-        length-append (texts inside.messages.items) ms,
+        length-append inside.messages.items ms,
       ),
     )
 
 pub returns-in-Ok-add_batch-clause-step : goal.returns-in-Ok-add_batch-clause-step
 returns-in-Ok-add_batch-clause-step g c =
     let D = g.D.Disk in
-    let octets = g.D.Sealed.SealedFile.octets in
     let inside = c.self.inside in
     let d = inside.disk in
     let d1 = c.add_batch.new.disk in
     let m = inside.slots.current in
-    let s : State = state_in octets m inside.files.items inside.prefix.items (texts inside.messages.items) in
+    let s : State = state_in inside.shared m inside.files.items inside.prefix inside.messages.items in
     let ms = slices c.args.messages.now in
     let batch = c.in_ok-batch.batch in
     let taken = c.in_ok-batch.ensures.taken in
@@ -328,9 +320,9 @@ returns-in-Ok-add_batch-clause-step g c =
       room = omega (arith, fits, counted.end_is, start);
       positions = omega (arith, few, counted.total_is);
     } in
-    let pushed : texts c.put_all.new.kept.items ≡ texts inside.messages.items ++ ms = c.put_all.ensures
-    ∙ ap (λ (l : List (Vec ℕ Global)). texts l ++ texts batch.copies.items) c.reserve.ensures.items
-    ∙ ap (λ (l : List (List ℕ)). texts inside.messages.items ++ l) c.in_ok-batch.ensures.copies in
+    let pushed : c.put_all.new.kept.items ≡ inside.messages.items ++ ms = c.put_all.ensures
+    ∙ ap (λ (l : List (List ℕ)). l ++ batch.copies.items) c.reserve.ensures.items
+    ∙ ap (λ (l : List (List ℕ)). inside.messages.items ++ l) c.in_ok-batch.ensures.copies in
     rw (← c.self.view_is) (acknowledged D.honest D.moment D.left_since _ _ _ _ c.add_batch.ensures.honest
     (λ h. by D.moment D.left_since d d1 (StandsForEither (reopened s) (reopened (appended s ms)))
     (StandsBeforeOrAfter s (λ after. after ≡ appended s ms))
@@ -340,7 +332,7 @@ returns-in-Ok-add_batch-clause-step g c =
     (adding inside.slots s inside.last.file inside.end ms file_is (sym counted.end_is) within
     (batch.carry, hands_more s ms inside.carry batch.carry (still.hands_on h) taken)))
     (λ image either. ⊎_elim (λ before. inl before) (λ after. inr (appended s ms, refl, after)) either))
-    (λ h. ap (λ (l : List (List ℕ)). state_in octets m inside.files.items inside.prefix.items l) pushed)
+    (λ h. ap (λ (l : List (List ℕ)). state_in inside.shared m inside.files.items inside.prefix l) pushed)
     c.if-self.false c.if-self.false
     (λ h image left. stands_for inside.slots _ image
     (((invariant_of-self-in-Ok-add_batch g c).still_open c.if-self.false).kept.known h image
@@ -351,6 +343,43 @@ put_all-requires g c =
     let batch = c.in_ok-batch.batch in
     let len : vec_len batch.copies ≡ length batch.copies.items = search rules in
     let count : length batch.copies.items ≡ length c.args.messages.now =
-    sym (length-map batch.copies.items (λ (v : Vec ℕ Global). v.items))
-    ∙ ap (λ (l : List (List ℕ)). length l) c.in_ok-batch.ensures.copies ∙ length-map c.args.messages.now _ in
+    ap (λ (l : List (List ℕ)). length l) c.in_ok-batch.ensures.copies ∙ length-map c.args.messages.now _ in
     omega (arith, len, count, c.in-Ok.ensures.ok, c.reserve.ensures.len)
+
+pub returns-in_err-batch-clause-cause : goal.returns-in_err-batch-clause-cause
+returns-in_err-batch-clause-cause g c =
+    let D = g.D.Disk in
+    let inside = c.self.inside in
+    let e = c.in_err-batch.field-0.0 in
+    let other = not_fault (slices c.args.messages.now) inside.carry _ _ e c.in_err-batch.ensures.refused in
+    rw (← c.self.view_is) (err_is c.from_residual.result e
+    (λ r. HasCause refusal.Fault (D.faults inside.disk) (D.faults inside.disk) r) c.from_residual.ensures.1
+    (record {
+      later = omega arith;
+      done = tt;
+      risen = λ is. let same : e ≡ refusal.Fault = cc in absurd (other same);
+      other = λ differs. refl;
+    }))
+
+pub invariant_of-self-in-Err-add_batch : goal.invariant_of-self-in-Err-add_batch
+invariant_of-self-in-Err-add_batch g c =
+    let D = g.D.Disk in
+    let inside = c.self.inside in
+    let m = inside.slots.current in
+    subst (λ (l : List (List ℕ)). IsArchive D.honest D.marks D.held c.add_batch.new.disk inside.slots inside.last
+    inside.end inside.total inside.carry inside.files.items
+    (state_in inside.shared m inside.files.items inside.prefix l) true) (sym c.reserve.ensures.items)
+    (failed_archive D.honest D.marks D.held inside.disk c.add_batch.new.disk inside.slots inside.last inside.end
+    inside.total inside.carry inside.files.items
+    (state_in inside.shared m inside.files.items inside.prefix inside.messages.items) inside.closed c.self.invariant
+    c.add_batch.ensures.honest)
+
+pub returns-in-Err-clause-cause : goal.returns-in-Err-clause-cause
+returns-in-Err-clause-cause g c =
+    let why = c.in-Err.ensures.cause in
+    rw (← c.self.view_is) (record {
+      later = why.later;
+      done = tt;
+      risen = λ is. why.risen;
+      other = λ differs. absurd (differs refl);
+    })

@@ -1,11 +1,29 @@
-use Rattle.std.proofs.Common.{◌≡◌, ◌⊎◌, inl, inr, ⊎_elim, ℕ, IsTrue, List, refl, sym, ◌∙◌, ap, subst}
-use Rattle.flow_disk.specs.Disk.{AllImages}
+use Rattle.std.proofs.Common.{◌≡◌, ◌⊎◌, inl, inr, ⊎_elim, ℕ, IsTrue, IfOk, IfErr, refl, sym, ◌∙◌, ap, subst, arith}
+use Rattle.std.specs.Prelude.{Result, Ok, Err}
 use Rattle.flow_disk.specs.Moments.{LeavesOnly}
 use Rattle.flow_disk.specs.Cause.{HasCause}
 use Rattle.flow_manifest.specs.Slots.{reads_of}
 use Rattle.flow_recover.specs.Standing.{StandsFor, StandsForEither}
+use Rattle.flow_recover.specs.declared.error.RecoverError.TheVariants as refusal
+use Rattle.flow_recover.specs.declared.error.RecoverError.{RecoverError}
+use Rattle.flow_archive.specs.declared.refusal.Refused.{Refused}
+use Rattle.flow_archive.specs.Seen.{Seen}
 use Rattle.flow_recover.proofs.Recovering.{one_state}
+use Rattle.flow_archive.specs.Beginning.{answer_of, disk_of}
 use Rattle.flow_archive.proofs.archive.Archive.open.Goals as goal
+
+if_ok : {X E : Type 0} (r : Result X E) (P Q : X → Type 0) → ((x : X) → P x → Q x) → IfOk r P → IfOk r Q
+if_ok (Ok x) P Q f h = f x h
+if_ok (Err e) P Q f h = tt
+
+if_err : {X E : Type 0} (r : Result X E) (P Q : E → Type 0) → ((e : E) → P e → Q e) → IfErr r P → IfErr r Q
+if_err (Ok x) P Q f h = tt
+if_err (Err e) P Q f h = f e h
+
+only_memory : {D : Type 0} (n : ℕ) (r : Result (Seen D) (Refused D RecoverError))
+    → IfErr r (λ x. x.error ≡ refusal.OutOfMemory) → HasCause refusal.Fault n n (answer_of r)
+only_memory n (Ok a) h = record { later = omega arith; done = refl; risen = λ is. absurd (cc); other = tt }
+only_memory n (Err r) h = record { later = omega arith; done = tt; risen = λ is. absurd (cc); other = λ differs. refl }
 
 pub resumed-requires : goal.resumed-requires
 resumed-requires g c = (reads_of (g.D.Disk.held c.args.disk), c.in-Ok.ensures.recovered)
@@ -17,23 +35,22 @@ returns-in-Ok-clause-read g c h =
     c.resumed.ensures.read (reads_of (D.held c.args.disk)) c.in-Ok.ensures.recovered h1
 
 pub returns-in-Ok-clause-stands : goal.returns-in-Ok-clause-stands
-returns-in-Ok-clause-stands g c h =
-    let D = g.D.Disk in
-    let h1 = subst IsTrue (sym c.recover.ensures.honest) h in
-    let a = c.resumed.result in
-    subst (λ (x : g.row.D.Denot). AllImages (D.held x) (λ image. StandsFor image a.state)) (sym c.resumed.ensures.disk)
-    (c.resumed.ensures.stands h1)
+returns-in-Ok-clause-stands g c h = c.resumed.ensures.stands (subst IsTrue (sym c.recover.ensures.honest) h)
 
 pub returns-in-Ok-clause-either : goal.returns-in-Ok-clause-either
 returns-in-Ok-clause-either g c h s t all =
     let D = g.D.Disk in
     let d = c.args.disk in
-    let a = c.resumed.result in
     let reads = reads_of (D.held d) in
-    let read = returns-in-Ok-clause-read g c h in
-    ⊎_elim (λ stands. inl (one_state reads a.state s read stands))
+    if_ok c.resumed.result (λ a. StandsFor reads a.state) (λ a. (a.state ≡ s) ⊎ (a.state ≡ t))
+    (λ a read. ⊎_elim (λ stands. inl (one_state reads a.state s read stands))
     (λ stands. inr (one_state reads a.state t read stands))
-    (all reads (λ n. g.met.D.Disk.reads_image d n h))
+    (all reads (λ n. g.met.D.Disk.reads_image d n h)))
+    (returns-in-Ok-clause-read g c h)
+
+pub returns-in-Ok-clause-told : goal.returns-in-Ok-clause-told
+returns-in-Ok-clause-told g c h = if_err c.resumed.result (λ r. r.error ≡ refusal.OutOfMemory) _
+    (λ r is. inl (inr is)) c.resumed.ensures.refused
 
 pub returns-in-Ok-clause-any_moment : goal.returns-in-Ok-clause-any_moment
 returns-in-Ok-clause-any_moment g c h s t all =
@@ -43,3 +60,12 @@ returns-in-Ok-clause-any_moment g c h s t all =
 
 pub returns-in-Ok-clause-honest : goal.returns-in-Ok-clause-honest
 returns-in-Ok-clause-honest g c = ap g.D.Disk.honest c.resumed.ensures.disk ∙ c.recover.ensures.honest
+
+pub returns-in-Ok-clause-cause : goal.returns-in-Ok-clause-cause
+returns-in-Ok-clause-cause g c =
+    let D = g.D.Disk in
+    let r = c.resumed.result in
+    let same : D.faults (disk_of r) ≡ D.faults c.args.disk =
+    ap D.faults c.resumed.ensures.disk ∙ c.in-Ok.ensures.cause.done in
+    subst (λ (n : ℕ). HasCause refusal.Fault (D.faults c.args.disk) n (answer_of r)) (sym same)
+    (only_memory (D.faults c.args.disk) r c.resumed.ensures.refused)

@@ -1,17 +1,14 @@
 use Rattle.std.proofs.Common.{◌≡◌, ◌≢◌, inl, inr, ⊎_elim, ℕ, true, IsTrue}
-use Rattle.std.proofs.Common.{List, [], ◌∷◌, ◌++◌, length, refl, sym, ◌∙◌, ap, subst, arith, rules, Vec}
+use Rattle.std.proofs.Common.{List, [], ◌∷◌, ◌++◌, length, refl, sym, ◌∙◌, ap, subst, arith, rules}
 use Rattle.std.proofs.Common.{vec_len}
-use Rattle.std.proofs.lemmas.List.{length-map}
-use Rattle.std.specs.declared.alloc.Global.{Global}
 use Rattle.flow_disk.specs.Disk.{AllImages}
 use Rattle.flow_disk.proofs.Moments.{by}
-use Rattle.flow_gate.specs.Scan.{texts}
 use Rattle.flow_manifest.specs.declared.manifest.Entry.{Entry}
-use Rattle.flow_manifest.specs.declared.manifest.Kind.TheVariants.{Active}
+use Rattle.flow_manifest.specs.declared.manifest.Kind.TheVariants.{Active, Sealed}
 use Rattle.flow_manifest.specs.declared.manifest.Manifest.{Manifest}
 use Rattle.flow_manifest.specs.declared.slots.Slot.{Slot}
 use Rattle.flow_manifest.specs.Manifest.{IsValidManifest, manifest_octets}
-use Rattle.flow_manifest.specs.Following.{active_of, next_manifest}
+use Rattle.flow_manifest.specs.Following.{active_of, next_manifest, sealed_entry}
 use Rattle.flow_manifest.specs.Slots.{file_of, other, HasGate}
 use Rattle.flow_manifest.proofs.Followers.{are_entries}
 use Rattle.flow_segment.specs.Carry.{prefix_of}
@@ -20,10 +17,12 @@ use Rattle.flow_recover.specs.Chain.{IsChained}
 use Rattle.flow_recover.specs.Standing.{IsKnown, StandsFor, StandsForEither}
 use Rattle.flow_archive.specs.Answers.{AnswersSeal, IsMovedOn, IsNotFollowed, MaySeal}
 use Rattle.flow_archive.specs.Moving.{IsMove, MovesMarks}
+use Rattle.flow_archive.specs.Owned.{frozen_as, Frozen}
 use Rattle.flow_archive.specs.Seen.{IsArchive, StandsBeforeOrAfter, state_in}
 use Rattle.flow_archive.specs.declared.refusal.ArchiveError.TheVariants as refusal
 use Rattle.flow_archive.proofs.Answering.{err_is, not_followed}
 use Rattle.flow_archive.proofs.Chaining.{hands_next, prefix_fits}
+use Rattle.flow_archive.proofs.Directing.{failed_archive}
 use Rattle.flow_archive.proofs.Moved.{is_moved, moved_archive, same_state}
 use Rattle.flow_archive.proofs.Stand.{stands_for}
 use Rattle.flow_archive.proofs.Stepping.{refused, refused_by, acknowledged, failed}
@@ -33,18 +32,16 @@ use Rattle.flow_archive.proofs.archive.Archive.seal.Goals as goal
 pub returns-in_err-next-clause-answers : goal.returns-in_err-next-clause-answers
 returns-in_err-next-clause-answers g c =
     let D = g.D.Disk in
-    let octets = g.D.Sealed.SealedFile.octets in
     let inside = c.self.inside in
     let d = inside.disk in
     let m = inside.slots.current in
-    let s : State = state_in octets m inside.files.items inside.prefix.items (texts inside.messages.items) in
+    let s : State = state_in inside.shared m inside.files.items inside.prefix inside.messages.items in
     let len : vec_len inside.messages ≡ length inside.messages.items = search rules in
-    let count : c.len.result ≡ length s.active.messages =
-    c.len.ensures ∙ len ∙ sym (length-map inside.messages.items (λ (v : Vec ℕ Global). v.items)) in
+    let count : c.len-count.result ≡ length s.active.messages = c.len-count.ensures ∙ len in
     let e = c.in_err-next.field-0.0 in
     rw (← c.self.view_is) (err_is c.from_residual.result e
     (λ r. AnswersSeal (D.honest d) inside.closed s r s) c.from_residual.ensures.1
-    (not_followed (D.honest d) inside.closed s c.len.result e c.if-self.false count refl c.in_err-next.ensures.refused))
+    (not_followed (D.honest d) inside.closed s c.len-count.result e c.if-self.false count refl c.in_err-next.ensures.refused))
 
 pub returns-in_err-next-clause-step : goal.returns-in_err-next-clause-step
 returns-in_err-next-clause-step g c =
@@ -52,19 +49,18 @@ returns-in_err-next-clause-step g c =
     let inside = c.self.inside in
     let e = c.in_err-next.field-0.0 in
     rw (← c.self.view_is) (refused_by D.honest D.moment D.left_since D.held _ _ _ e _ c.from_residual.ensures.1 refl
-    (λ same. subst (IsNotFollowed inside.slots.current c.len.result) same c.in_err-next.ensures.refused)
+    (λ same. subst (IsNotFollowed inside.slots.current c.len-count.result) same c.in_err-next.ensures.refused)
     (λ h image left. g.met.D.Disk.only_now inside.disk image h left)
     (λ h still image is. stands_for inside.slots _ image (((c.self.invariant).still_open still).kept.known h image is)))
 
 pub returns-in_default-clause-step : goal.returns-in_default-clause-step
 returns-in_default-clause-step g c =
     let D = g.D.Disk in
-    let octets = g.D.Sealed.SealedFile.octets in
     let inside = c.self.inside in
     rw (← c.self.view_is) (refused D.honest D.moment D.left_since D.held _ _ _ refusal.OutOfMemory
-    (ap (λ (l : List g.row.D-Sealed.Denot). record {
+    (ap (λ (l : List Frozen). record {
       disk = inside.disk;
-      state = state_in octets inside.slots.current l inside.prefix.items (texts inside.messages.items);
+      state = state_in inside.shared inside.slots.current l inside.prefix inside.messages.items;
       closed = inside.closed;
     }) c.reserve.ensures.items)
     (λ is. cc) (λ h image left. g.met.D.Disk.only_now inside.disk image h left)
@@ -73,15 +69,14 @@ returns-in_default-clause-step g c =
 pub returns-in_default-clause-answers : goal.returns-in_default-clause-answers
 returns-in_default-clause-answers g c =
     let D = g.D.Disk in
-    let octets = g.D.Sealed.SealedFile.octets in
     let inside = c.self.inside in
     let d = inside.disk in
     let m = inside.slots.current in
-    let s : State = state_in octets m inside.files.items inside.prefix.items (texts inside.messages.items) in
+    let s : State = state_in inside.shared m inside.files.items inside.prefix inside.messages.items in
     let counted = (c.self.invariant).counted in
     rw (← c.self.view_is) (
       c.if-self.false,
-      (ap (λ (l : List g.row.D-Sealed.Denot). state_in octets m l inside.prefix.items (texts inside.messages.items))
+      (ap (λ (l : List Frozen). state_in inside.shared m l inside.prefix inside.messages.items)
           c.reserve.ensures.items),
     )
 
@@ -91,51 +86,45 @@ next_segment-requires-clause-valid g c = (c.self.invariant).counted.valid
 pub next_segment-requires-clause-long : goal.next_segment-requires-clause-long
 next_segment-requires-clause-long g c some =
     let D = g.D.Disk in
-    let octets = g.D.Sealed.SealedFile.octets in
     let inside = c.self.inside in
     let d = inside.disk in
     let m = inside.slots.current in
-    let s : State = state_in octets m inside.files.items inside.prefix.items (texts inside.messages.items) in
+    let s : State = state_in inside.shared m inside.files.items inside.prefix inside.messages.items in
     let counted = (c.self.invariant).counted in
     let len : vec_len inside.messages ≡ length inside.messages.items = search rules in
-    let count : c.len.result ≡ length s.active.messages =
-    c.len.ensures ∙ len ∙ sym (length-map inside.messages.items (λ (v : Vec ℕ Global). v.items)) in
+    let count : c.len-count.result ≡ length s.active.messages = c.len-count.ensures ∙ len in
     let start : inside.last.prefix ≡ (active_of m).prefix = ap (λ (x : Entry). x.prefix) counted.last_is in
     omega (arith, counted.long (omega (arith, some, count)), start)
 
 pub next_segment-requires-clause-within : goal.next_segment-requires-clause-within
 next_segment-requires-clause-within g c =
     let D = g.D.Disk in
-    let octets = g.D.Sealed.SealedFile.octets in
     let inside = c.self.inside in
     let d = inside.disk in
     let m = inside.slots.current in
-    let s : State = state_in octets m inside.files.items inside.prefix.items (texts inside.messages.items) in
+    let s : State = state_in inside.shared m inside.files.items inside.prefix inside.messages.items in
     let counted = (c.self.invariant).counted in
     omega (arith, counted.end_is, counted.within.limit)
 
 pub next_segment-requires-clause-all : goal.next_segment-requires-clause-all
 next_segment-requires-clause-all g c =
     let D = g.D.Disk in
-    let octets = g.D.Sealed.SealedFile.octets in
     let inside = c.self.inside in
     let d = inside.disk in
     let m = inside.slots.current in
-    let s : State = state_in octets m inside.files.items inside.prefix.items (texts inside.messages.items) in
+    let s : State = state_in inside.shared m inside.files.items inside.prefix inside.messages.items in
     let counted = (c.self.invariant).counted in
     let len : vec_len inside.messages ≡ length inside.messages.items = search rules in
-    let count : c.len.result ≡ length s.active.messages =
-    c.len.ensures ∙ len ∙ sym (length-map inside.messages.items (λ (v : Vec ℕ Global). v.items)) in
+    let count : c.len-count.result ≡ length s.active.messages = c.len-count.ensures ∙ len in
     omega (arith, counted.within.all, count)
 
 pub move_on-requires-clause-active : goal.move_on-requires-clause-active
 move_on-requires-clause-active g c =
     let D = g.D.Disk in
-    let octets = g.D.Sealed.SealedFile.octets in
     let inside = c.self.inside in
     let d = inside.disk in
     let m = inside.slots.current in
-    let s : State = state_in octets m inside.files.items inside.prefix.items (texts inside.messages.items) in
+    let s : State = state_in inside.shared m inside.files.items inside.prefix inside.messages.items in
     let counted = (c.self.invariant).counted in
     let are = are_entries m counted.valid in
     let file = ap (λ (x : Entry). x.file) counted.last_is in
@@ -144,11 +133,10 @@ move_on-requires-clause-active g c =
 pub move_on-requires-clause-gate : goal.move_on-requires-clause-gate
 move_on-requires-clause-gate g c h =
     let D = g.D.Disk in
-    let octets = g.D.Sealed.SealedFile.octets in
     let inside = c.self.inside in
     let d = inside.disk in
     let m = inside.slots.current in
-    let s : State = state_in octets m inside.files.items inside.prefix.items (texts inside.messages.items) in
+    let s : State = state_in inside.shared m inside.files.items inside.prefix inside.messages.items in
     let counted = (c.self.invariant).counted in
     let still = (c.self.invariant).still_open c.if-self.false in
     let known = still.kept.known h (λ n. (D.held d n).reads) (λ n. g.met.D.Disk.reads_image d n h) in
@@ -160,15 +148,13 @@ move_on-requires-clause-gate g c h =
 pub returns-in-Err-clause-answers : goal.returns-in-Err-clause-answers
 returns-in-Err-clause-answers g c =
     let D = g.D.Disk in
-    let octets = g.D.Sealed.SealedFile.octets in
     let inside = c.self.inside in
     let d = inside.disk in
     let m = inside.slots.current in
-    let s : State = state_in octets m inside.files.items inside.prefix.items (texts inside.messages.items) in
+    let s : State = state_in inside.shared m inside.files.items inside.prefix inside.messages.items in
     let counted = (c.self.invariant).counted in
     let len : vec_len inside.messages ≡ length inside.messages.items = search rules in
-    let count : c.len.result ≡ length s.active.messages =
-    c.len.ensures ∙ len ∙ sym (length-map inside.messages.items (λ (v : Vec ℕ Global). v.items)) in
+    let count : c.len-count.result ≡ length s.active.messages = c.len-count.ensures ∙ len in
     let some : s.active.messages ≢ [] =
     λ is. omega (arith, (c.in_ok-next.ensures.may).some, count, ap (λ (l : List (List ℕ)). length l) is) in
     let still = (c.self.invariant).still_open c.if-self.false in
@@ -178,9 +164,9 @@ returns-in-Err-clause-answers g c =
     let after = moved_on s prefix in
     let d1 = c.move_on.new.disk in
     let given = c.as_slice.result.now in
-    let kept_prefix : given ≡ prefix = c.as_slice.ensures.value ∙ c.in_ok-next.ensures.prefix in
+    let kept_prefix : given ≡ prefix = c.as_slice.ensures ∙ c.in_ok-next.ensures.prefix in
     let made : next.manifest ≡ after.manifest = c.in_ok-next.ensures.manifest
-    ∙ ap (λ (n : ℕ). next_manifest m n c.len.result m.next (length prefix)) counted.end_is
+    ∙ ap (λ (n : ℕ). next_manifest m n c.len-count.result m.next (length prefix)) counted.end_is
     ∙ ap (λ (n : ℕ). next_manifest m (end_of s) n m.next (length prefix)) count in
     let valid : IsValidManifest after.manifest = subst IsValidManifest made c.in_ok-next.ensures.valid in
     let slot_is : c.file.result ≡ file_of (other inside.slots.current_slot) =
@@ -211,22 +197,20 @@ returns-in-Err-clause-answers g c =
     rw (← c.self.view_is) (
       c.if-self.false,
       may,
-      (ap (λ (l : List g.row.D-Sealed.Denot). state_in octets m l inside.prefix.items (texts inside.messages.items))
+      (ap (λ (l : List Frozen). state_in inside.shared m l inside.prefix inside.messages.items)
           c.reserve.ensures.items),
     )
 
 pub returns-in-Err-clause-step : goal.returns-in-Err-clause-step
 returns-in-Err-clause-step g c =
     let D = g.D.Disk in
-    let octets = g.D.Sealed.SealedFile.octets in
     let inside = c.self.inside in
     let d = inside.disk in
     let m = inside.slots.current in
-    let s : State = state_in octets m inside.files.items inside.prefix.items (texts inside.messages.items) in
+    let s : State = state_in inside.shared m inside.files.items inside.prefix inside.messages.items in
     let counted = (c.self.invariant).counted in
     let len : vec_len inside.messages ≡ length inside.messages.items = search rules in
-    let count : c.len.result ≡ length s.active.messages =
-    c.len.ensures ∙ len ∙ sym (length-map inside.messages.items (λ (v : Vec ℕ Global). v.items)) in
+    let count : c.len-count.result ≡ length s.active.messages = c.len-count.ensures ∙ len in
     let some : s.active.messages ≢ [] =
     λ is. omega (arith, (c.in_ok-next.ensures.may).some, count, ap (λ (l : List (List ℕ)). length l) is) in
     let still = (c.self.invariant).still_open c.if-self.false in
@@ -236,9 +220,9 @@ returns-in-Err-clause-step g c =
     let after = moved_on s prefix in
     let d1 = c.move_on.new.disk in
     let given = c.as_slice.result.now in
-    let kept_prefix : given ≡ prefix = c.as_slice.ensures.value ∙ c.in_ok-next.ensures.prefix in
+    let kept_prefix : given ≡ prefix = c.as_slice.ensures ∙ c.in_ok-next.ensures.prefix in
     let made : next.manifest ≡ after.manifest = c.in_ok-next.ensures.manifest
-    ∙ ap (λ (n : ℕ). next_manifest m n c.len.result m.next (length prefix)) counted.end_is
+    ∙ ap (λ (n : ℕ). next_manifest m n c.len-count.result m.next (length prefix)) counted.end_is
     ∙ ap (λ (n : ℕ). next_manifest m (end_of s) n m.next (length prefix)) count in
     let valid : IsValidManifest after.manifest = subst IsValidManifest made c.in_ok-next.ensures.valid in
     let slot_is : c.file.result ≡ file_of (other inside.slots.current_slot) =
@@ -275,22 +259,20 @@ returns-in-Err-clause-step g c =
       (carry, s.active, still.segment, (λ t. refl), refl),
       subst (λ (l : List ℕ). StandsFor image (reopened (moved_on s l))) kept_prefix later,
     )) either))
-    (ap (λ (l : List g.row.D-Sealed.Denot). state_in octets m l inside.prefix.items (texts inside.messages.items))
+    (ap (λ (l : List Frozen). state_in inside.shared m l inside.prefix inside.messages.items)
     c.reserve.ensures.items)
     refl c.if-self.false)
 
 pub invariant_of-self-in-Ok-move_on : goal.invariant_of-self-in-Ok-move_on
 invariant_of-self-in-Ok-move_on g c =
     let D = g.D.Disk in
-    let octets = g.D.Sealed.SealedFile.octets in
     let inside = c.self.inside in
     let d = inside.disk in
     let m = inside.slots.current in
-    let s : State = state_in octets m inside.files.items inside.prefix.items (texts inside.messages.items) in
+    let s : State = state_in inside.shared m inside.files.items inside.prefix inside.messages.items in
     let counted = (c.self.invariant).counted in
     let len : vec_len inside.messages ≡ length inside.messages.items = search rules in
-    let count : c.len.result ≡ length s.active.messages =
-    c.len.ensures ∙ len ∙ sym (length-map inside.messages.items (λ (v : Vec ℕ Global). v.items)) in
+    let count : c.len-count.result ≡ length s.active.messages = c.len-count.ensures ∙ len in
     let some : s.active.messages ≢ [] =
     λ is. omega (arith, (c.in_ok-next.ensures.may).some, count, ap (λ (l : List (List ℕ)). length l) is) in
     let still = (c.self.invariant).still_open c.if-self.false in
@@ -300,9 +282,9 @@ invariant_of-self-in-Ok-move_on g c =
     let after = moved_on s prefix in
     let d1 = c.move_on.new.disk in
     let given = c.as_slice.result.now in
-    let kept_prefix : given ≡ prefix = c.as_slice.ensures.value ∙ c.in_ok-next.ensures.prefix in
+    let kept_prefix : given ≡ prefix = c.as_slice.ensures ∙ c.in_ok-next.ensures.prefix in
     let made : next.manifest ≡ after.manifest = c.in_ok-next.ensures.manifest
-    ∙ ap (λ (n : ℕ). next_manifest m n c.len.result m.next (length prefix)) counted.end_is
+    ∙ ap (λ (n : ℕ). next_manifest m n c.len-count.result m.next (length prefix)) counted.end_is
     ∙ ap (λ (n : ℕ). next_manifest m (end_of s) n m.next (length prefix)) count in
     let valid : IsValidManifest after.manifest = subst IsValidManifest made c.in_ok-next.ensures.valid in
     let slot_is : c.file.result ≡ file_of (other inside.slots.current_slot) =
@@ -330,36 +312,45 @@ invariant_of-self-in-Ok-move_on g c =
         omega (arith, (c.in_ok-next.ensures.may).generation),
       );
     } in
-    let part = c.in-Ok-move_on.part in
+    let raw = c.in-Ok-move_on.part in
+    let sealed : Entry = sealed_entry (active_of m) (end_of s) (length inside.messages.items) in
+    let part : Frozen = frozen_as sealed (g.D.Sealed.SealedFile.honest raw) (g.D.Sealed.SealedFile.octets raw) in
+    let sealed_is : record {
+      kind = Sealed;
+      prefix = inside.last.prefix;
+      file = inside.last.file;
+      length = inside.end;
+      messages = c.len-count.result;
+    } ≡ sealed = ap (λ (x : Entry). sealed_entry x inside.end c.len-count.result) counted.last_is
+    ∙ ap (λ (n : ℕ). sealed_entry (active_of m) n c.len-count.result) counted.end_is
+    ∙ ap (λ (n : ℕ). sealed_entry (active_of m) (end_of s) n) count in
+    let named : c.named.result ≡ part = c.named.ensures ∙ ap (λ (x : Entry). frozen_as x
+    (g.D.Sealed.SealedFile.honest raw) (g.D.Sealed.SealedFile.octets raw)) sealed_is in
     let files = inside.files.items in
-    let front = inside.prefix.items in
-    let messages = texts inside.messages.items in
+    let front = inside.prefix in
+    let messages = inside.messages.items in
     let part_is = λ (h : IsTrue (D.honest d)). c.in-Ok-move_on.ensures.part h inside.slots s (move h) in
-    let all = (c.self.invariant).all in
-    let new_prefix : next.prefix.items ≡ prefix = c.in_ok-next.ensures.prefix in
+    let all = (c.self.invariant).files_are in
+    let new_prefix : next.prefix ≡ prefix = c.in_ok-next.ensures.prefix in
     let new_files : c.push_reserved.new.self.items ≡ files ++ part ∷ [] = c.push_reserved.ensures.items
-    ∙ ap (λ (l : List g.row.D-Sealed.Denot). l ++ part ∷ []) c.reserve.ensures.items in
-    let new_messages : texts c.new.result.items ≡ [] = ap texts c.new.ensures.items in
-    let new_state : state_in octets next.manifest c.push_reserved.new.self.items next.prefix.items (texts
-    c.new.result.items)
-    ≡ state_in octets after.manifest (files ++ part ∷ []) prefix [] =
-    ap (λ (x : Manifest). state_in octets x c.push_reserved.new.self.items next.prefix.items (texts
-    c.new.result.items)) made
-    ∙ ap (λ (l : List g.row.D-Sealed.Denot). state_in octets after.manifest l next.prefix.items (texts
-    c.new.result.items))
+    ∙ ap (λ (l : List Frozen). l ++ c.named.result ∷ []) c.reserve.ensures.items
+    ∙ ap (λ (x : Frozen). files ++ x ∷ []) named in
+    let new_messages : c.new.result.items ≡ [] = c.new.ensures.items in
+    let new_state : state_in inside.shared next.manifest c.push_reserved.new.self.items next.prefix c.new.result.items
+    ≡ state_in inside.shared after.manifest (files ++ part ∷ []) prefix [] =
+    ap (λ (x : Manifest). state_in inside.shared x c.push_reserved.new.self.items next.prefix c.new.result.items) made
+    ∙ ap (λ (l : List Frozen). state_in inside.shared after.manifest l next.prefix c.new.result.items)
     new_files
-    ∙ ap (λ (l : List ℕ). state_in octets after.manifest (files ++ part ∷ []) l (texts c.new.result.items)) new_prefix
-    ∙ ap (λ (l : List (List ℕ)). state_in octets after.manifest (files ++ part ∷ []) prefix l) new_messages in
-    let size : vec_len next.prefix ≡ length next.prefix.items = search rules in
-    let long : length next.prefix.items ≡ length prefix = ap (λ (l : List ℕ). length l) new_prefix in
-    let first_long : c.len-in-Ok-move_on.result ≡ length prefix = omega (
+    ∙ ap (λ (l : List ℕ). state_in inside.shared after.manifest (files ++ part ∷ []) l c.new.result.items) new_prefix
+    ∙ ap (λ (l : List (List ℕ)). state_in inside.shared after.manifest (files ++ part ∷ []) prefix l) new_messages in
+    let long : length next.prefix ≡ length prefix = ap (λ (l : List ℕ). length l) new_prefix in
+    let first_long : c.len.result ≡ length prefix = omega (
       arith,
-      c.len-in-Ok-move_on.ensures,
-      size,
+      c.len.ensures.value,
       long,
     ) in
-    let second_long : c.len-in-Ok-move_on-2.result ≡ length prefix =
-    omega (arith, c.len-in-Ok-move_on-2.ensures, size, long) in
+    let second_long : c.len-in-Ok-move_on.result ≡ length prefix =
+    omega (arith, c.len-in-Ok-move_on.ensures.value, long) in
     let moves = subst (λ (n : ℕ). MovesMarks (D.marks d) (D.marks d1) inside.last.file m.next n (length prefix)) slot_is
     (subst (λ (l : List ℕ). MovesMarks (D.marks d) (D.marks d1) inside.last.file m.next c.file.result (length l))
     kept_prefix c.in-Ok-move_on.ensures.marks) in
@@ -368,35 +359,39 @@ invariant_of-self-in-Ok-move_on g c =
       current_slot = other inside.slots.current_slot;
       other_open = true;
     }) (moved_on s l))) kept_prefix (c.in-Ok-move_on.ensures.after h inside.slots s (move h)) in
-    let P : Manifest → Slot → ℕ → ℕ → List g.row.D-Sealed.Denot → State → Type 0 = λ made_now slot p e list x.
-    IsArchive D.honest D.marks D.held octets d1
+    let P : Manifest → Slot → ℕ → ℕ → List Frozen → State → Type 0 = λ made_now slot p e list x.
+    IsArchive D.honest D.marks D.held d1
     (record { current = made_now; current_slot = slot; other_open = true })
     (record { kind = Active; prefix = p; file = m.next; length = 0; messages = 0 }) e inside.total carry list x
     inside.closed in
     let now : P after.manifest (other inside.slots.current_slot) (length prefix) (length prefix) (files ++ part ∷ [])
-    (state_in octets after.manifest (files ++ part ∷ []) prefix []) =
-    moved_archive D.honest D.marks D.held octets d d1 inside.slots inside.last inside.end inside.total carry files front
+    (state_in inside.shared after.manifest (files ++ part ∷ []) prefix []) =
+    moved_archive D.honest D.marks D.held inside.shared d d1 inside.slots inside.last inside.end inside.total carry files front
     messages part inside.closed c.self.invariant c.if-self.false c.in_ok-next.ensures.carry c.move_on.ensures.honest
-    valid moves known part_is in
-    subst (λ (x : Manifest). P x c.other-slot.result c.len-in-Ok-move_on.result c.len-in-Ok-move_on-2.result
+    valid moves known part_is (record {
+      entry_is = refl;
+      honest_is = (c.in-Ok-move_on.ensures.sealed).2;
+      counted = refl;
+    }) in
+    subst (λ (x : Manifest). P x c.other-slot.result c.len.result c.len-in-Ok-move_on.result
     c.push_reserved.new.self.items
-    (state_in octets next.manifest c.push_reserved.new.self.items next.prefix.items (texts c.new.result.items)))
+    (state_in inside.shared next.manifest c.push_reserved.new.self.items next.prefix c.new.result.items))
     (sym made)
-    (subst (λ (x : Slot). P after.manifest x c.len-in-Ok-move_on.result c.len-in-Ok-move_on-2.result
+    (subst (λ (x : Slot). P after.manifest x c.len.result c.len-in-Ok-move_on.result
     c.push_reserved.new.self.items
-    (state_in octets next.manifest c.push_reserved.new.self.items next.prefix.items (texts c.new.result.items)))
+    (state_in inside.shared next.manifest c.push_reserved.new.self.items next.prefix c.new.result.items))
     (sym c.other-slot.ensures)
-    (subst (λ (n : ℕ). P after.manifest (other inside.slots.current_slot) n c.len-in-Ok-move_on-2.result
+    (subst (λ (n : ℕ). P after.manifest (other inside.slots.current_slot) n c.len-in-Ok-move_on.result
     c.push_reserved.new.self.items
-    (state_in octets next.manifest c.push_reserved.new.self.items next.prefix.items (texts c.new.result.items)))
+    (state_in inside.shared next.manifest c.push_reserved.new.self.items next.prefix c.new.result.items))
     (sym first_long)
     (subst (λ (n : ℕ). P after.manifest (other inside.slots.current_slot) (length prefix) n
     c.push_reserved.new.self.items
-    (state_in octets next.manifest c.push_reserved.new.self.items next.prefix.items (texts c.new.result.items)))
+    (state_in inside.shared next.manifest c.push_reserved.new.self.items next.prefix c.new.result.items))
     (sym second_long)
-    (subst (λ (l : List g.row.D-Sealed.Denot). P after.manifest (other inside.slots.current_slot) (length prefix)
+    (subst (λ (l : List Frozen). P after.manifest (other inside.slots.current_slot) (length prefix)
     (length prefix) l
-    (state_in octets next.manifest c.push_reserved.new.self.items next.prefix.items (texts c.new.result.items)))
+    (state_in inside.shared next.manifest c.push_reserved.new.self.items next.prefix c.new.result.items))
     (sym new_files)
     (subst (λ (x : State). P after.manifest (other inside.slots.current_slot) (length prefix) (length prefix)
     (files ++ part ∷ []) x) (sym new_state) now)))))
@@ -404,15 +399,13 @@ invariant_of-self-in-Ok-move_on g c =
 pub returns-in-Ok-move_on-clause-answers : goal.returns-in-Ok-move_on-clause-answers
 returns-in-Ok-move_on-clause-answers g c =
     let D = g.D.Disk in
-    let octets = g.D.Sealed.SealedFile.octets in
     let inside = c.self.inside in
     let d = inside.disk in
     let m = inside.slots.current in
-    let s : State = state_in octets m inside.files.items inside.prefix.items (texts inside.messages.items) in
+    let s : State = state_in inside.shared m inside.files.items inside.prefix inside.messages.items in
     let counted = (c.self.invariant).counted in
     let len : vec_len inside.messages ≡ length inside.messages.items = search rules in
-    let count : c.len.result ≡ length s.active.messages =
-    c.len.ensures ∙ len ∙ sym (length-map inside.messages.items (λ (v : Vec ℕ Global). v.items)) in
+    let count : c.len-count.result ≡ length s.active.messages = c.len-count.ensures ∙ len in
     let some : s.active.messages ≢ [] =
     λ is. omega (arith, (c.in_ok-next.ensures.may).some, count, ap (λ (l : List (List ℕ)). length l) is) in
     let still = (c.self.invariant).still_open c.if-self.false in
@@ -422,9 +415,9 @@ returns-in-Ok-move_on-clause-answers g c =
     let after = moved_on s prefix in
     let d1 = c.move_on.new.disk in
     let given = c.as_slice.result.now in
-    let kept_prefix : given ≡ prefix = c.as_slice.ensures.value ∙ c.in_ok-next.ensures.prefix in
+    let kept_prefix : given ≡ prefix = c.as_slice.ensures ∙ c.in_ok-next.ensures.prefix in
     let made : next.manifest ≡ after.manifest = c.in_ok-next.ensures.manifest
-    ∙ ap (λ (n : ℕ). next_manifest m n c.len.result m.next (length prefix)) counted.end_is
+    ∙ ap (λ (n : ℕ). next_manifest m n c.len-count.result m.next (length prefix)) counted.end_is
     ∙ ap (λ (n : ℕ). next_manifest m (end_of s) n m.next (length prefix)) count in
     let valid : IsValidManifest after.manifest = subst IsValidManifest made c.in_ok-next.ensures.valid in
     let slot_is : c.file.result ≡ file_of (other inside.slots.current_slot) =
@@ -452,31 +445,42 @@ returns-in-Ok-move_on-clause-answers g c =
         omega (arith, (c.in_ok-next.ensures.may).generation),
       );
     } in
-    let part = c.in-Ok-move_on.part in
+    let raw = c.in-Ok-move_on.part in
+    let sealed : Entry = sealed_entry (active_of m) (end_of s) (length inside.messages.items) in
+    let part : Frozen = frozen_as sealed (g.D.Sealed.SealedFile.honest raw) (g.D.Sealed.SealedFile.octets raw) in
+    let sealed_is : record {
+      kind = Sealed;
+      prefix = inside.last.prefix;
+      file = inside.last.file;
+      length = inside.end;
+      messages = c.len-count.result;
+    } ≡ sealed = ap (λ (x : Entry). sealed_entry x inside.end c.len-count.result) counted.last_is
+    ∙ ap (λ (n : ℕ). sealed_entry (active_of m) n c.len-count.result) counted.end_is
+    ∙ ap (λ (n : ℕ). sealed_entry (active_of m) (end_of s) n) count in
+    let named : c.named.result ≡ part = c.named.ensures ∙ ap (λ (x : Entry). frozen_as x
+    (g.D.Sealed.SealedFile.honest raw) (g.D.Sealed.SealedFile.octets raw)) sealed_is in
     let files = inside.files.items in
-    let front = inside.prefix.items in
-    let messages = texts inside.messages.items in
+    let front = inside.prefix in
+    let messages = inside.messages.items in
     let part_is = λ (h : IsTrue (D.honest d)). c.in-Ok-move_on.ensures.part h inside.slots s (move h) in
-    let all = (c.self.invariant).all in
-    let new_prefix : next.prefix.items ≡ prefix = c.in_ok-next.ensures.prefix in
+    let all = (c.self.invariant).files_are in
+    let new_prefix : next.prefix ≡ prefix = c.in_ok-next.ensures.prefix in
     let new_files : c.push_reserved.new.self.items ≡ files ++ part ∷ [] = c.push_reserved.ensures.items
-    ∙ ap (λ (l : List g.row.D-Sealed.Denot). l ++ part ∷ []) c.reserve.ensures.items in
-    let new_messages : texts c.new.result.items ≡ [] = ap texts c.new.ensures.items in
-    let new_state : state_in octets next.manifest c.push_reserved.new.self.items next.prefix.items (texts
-    c.new.result.items)
-    ≡ state_in octets after.manifest (files ++ part ∷ []) prefix [] =
-    ap (λ (x : Manifest). state_in octets x c.push_reserved.new.self.items next.prefix.items (texts
-    c.new.result.items)) made
-    ∙ ap (λ (l : List g.row.D-Sealed.Denot). state_in octets after.manifest l next.prefix.items (texts
-    c.new.result.items))
+    ∙ ap (λ (l : List Frozen). l ++ c.named.result ∷ []) c.reserve.ensures.items
+    ∙ ap (λ (x : Frozen). files ++ x ∷ []) named in
+    let new_messages : c.new.result.items ≡ [] = c.new.ensures.items in
+    let new_state : state_in inside.shared next.manifest c.push_reserved.new.self.items next.prefix c.new.result.items
+    ≡ state_in inside.shared after.manifest (files ++ part ∷ []) prefix [] =
+    ap (λ (x : Manifest). state_in inside.shared x c.push_reserved.new.self.items next.prefix c.new.result.items) made
+    ∙ ap (λ (l : List Frozen). state_in inside.shared after.manifest l next.prefix c.new.result.items)
     new_files
-    ∙ ap (λ (l : List ℕ). state_in octets after.manifest (files ++ part ∷ []) l (texts c.new.result.items)) new_prefix
-    ∙ ap (λ (l : List (List ℕ)). state_in octets after.manifest (files ++ part ∷ []) prefix l) new_messages in
+    ∙ ap (λ (l : List ℕ). state_in inside.shared after.manifest (files ++ part ∷ []) l c.new.result.items) new_prefix
+    ∙ ap (λ (l : List (List ℕ)). state_in inside.shared after.manifest (files ++ part ∷ []) prefix l) new_messages in
     rw (← c.self.view_is) (
       c.if-self.false,
       may,
       subst (λ (x : State). IsMovedOn (D.honest d) s x) (sym new_state)
-          (is_moved D.honest D.marks D.held octets d d1 inside.slots inside.last inside.end inside.total carry files
+          (is_moved D.honest D.marks D.held inside.shared d d1 inside.slots inside.last inside.end inside.total carry files
           front
           messages part counted.valid all still part_is),
       ap (λ (x : Entry). x.file) counted.last_is,
@@ -485,15 +489,13 @@ returns-in-Ok-move_on-clause-answers g c =
 pub returns-in-Ok-move_on-clause-step : goal.returns-in-Ok-move_on-clause-step
 returns-in-Ok-move_on-clause-step g c =
     let D = g.D.Disk in
-    let octets = g.D.Sealed.SealedFile.octets in
     let inside = c.self.inside in
     let d = inside.disk in
     let m = inside.slots.current in
-    let s : State = state_in octets m inside.files.items inside.prefix.items (texts inside.messages.items) in
+    let s : State = state_in inside.shared m inside.files.items inside.prefix inside.messages.items in
     let counted = (c.self.invariant).counted in
     let len : vec_len inside.messages ≡ length inside.messages.items = search rules in
-    let count : c.len.result ≡ length s.active.messages =
-    c.len.ensures ∙ len ∙ sym (length-map inside.messages.items (λ (v : Vec ℕ Global). v.items)) in
+    let count : c.len-count.result ≡ length s.active.messages = c.len-count.ensures ∙ len in
     let some : s.active.messages ≢ [] =
     λ is. omega (arith, (c.in_ok-next.ensures.may).some, count, ap (λ (l : List (List ℕ)). length l) is) in
     let still = (c.self.invariant).still_open c.if-self.false in
@@ -503,9 +505,9 @@ returns-in-Ok-move_on-clause-step g c =
     let after = moved_on s prefix in
     let d1 = c.move_on.new.disk in
     let given = c.as_slice.result.now in
-    let kept_prefix : given ≡ prefix = c.as_slice.ensures.value ∙ c.in_ok-next.ensures.prefix in
+    let kept_prefix : given ≡ prefix = c.as_slice.ensures ∙ c.in_ok-next.ensures.prefix in
     let made : next.manifest ≡ after.manifest = c.in_ok-next.ensures.manifest
-    ∙ ap (λ (n : ℕ). next_manifest m n c.len.result m.next (length prefix)) counted.end_is
+    ∙ ap (λ (n : ℕ). next_manifest m n c.len-count.result m.next (length prefix)) counted.end_is
     ∙ ap (λ (n : ℕ). next_manifest m (end_of s) n m.next (length prefix)) count in
     let valid : IsValidManifest after.manifest = subst IsValidManifest made c.in_ok-next.ensures.valid in
     let slot_is : c.file.result ≡ file_of (other inside.slots.current_slot) =
@@ -533,26 +535,37 @@ returns-in-Ok-move_on-clause-step g c =
         omega (arith, (c.in_ok-next.ensures.may).generation),
       );
     } in
-    let part = c.in-Ok-move_on.part in
+    let raw = c.in-Ok-move_on.part in
+    let sealed : Entry = sealed_entry (active_of m) (end_of s) (length inside.messages.items) in
+    let part : Frozen = frozen_as sealed (g.D.Sealed.SealedFile.honest raw) (g.D.Sealed.SealedFile.octets raw) in
+    let sealed_is : record {
+      kind = Sealed;
+      prefix = inside.last.prefix;
+      file = inside.last.file;
+      length = inside.end;
+      messages = c.len-count.result;
+    } ≡ sealed = ap (λ (x : Entry). sealed_entry x inside.end c.len-count.result) counted.last_is
+    ∙ ap (λ (n : ℕ). sealed_entry (active_of m) n c.len-count.result) counted.end_is
+    ∙ ap (λ (n : ℕ). sealed_entry (active_of m) (end_of s) n) count in
+    let named : c.named.result ≡ part = c.named.ensures ∙ ap (λ (x : Entry). frozen_as x
+    (g.D.Sealed.SealedFile.honest raw) (g.D.Sealed.SealedFile.octets raw)) sealed_is in
     let files = inside.files.items in
-    let front = inside.prefix.items in
-    let messages = texts inside.messages.items in
+    let front = inside.prefix in
+    let messages = inside.messages.items in
     let part_is = λ (h : IsTrue (D.honest d)). c.in-Ok-move_on.ensures.part h inside.slots s (move h) in
-    let all = (c.self.invariant).all in
-    let new_prefix : next.prefix.items ≡ prefix = c.in_ok-next.ensures.prefix in
+    let all = (c.self.invariant).files_are in
+    let new_prefix : next.prefix ≡ prefix = c.in_ok-next.ensures.prefix in
     let new_files : c.push_reserved.new.self.items ≡ files ++ part ∷ [] = c.push_reserved.ensures.items
-    ∙ ap (λ (l : List g.row.D-Sealed.Denot). l ++ part ∷ []) c.reserve.ensures.items in
-    let new_messages : texts c.new.result.items ≡ [] = ap texts c.new.ensures.items in
-    let new_state : state_in octets next.manifest c.push_reserved.new.self.items next.prefix.items (texts
-    c.new.result.items)
-    ≡ state_in octets after.manifest (files ++ part ∷ []) prefix [] =
-    ap (λ (x : Manifest). state_in octets x c.push_reserved.new.self.items next.prefix.items (texts
-    c.new.result.items)) made
-    ∙ ap (λ (l : List g.row.D-Sealed.Denot). state_in octets after.manifest l next.prefix.items (texts
-    c.new.result.items))
+    ∙ ap (λ (l : List Frozen). l ++ c.named.result ∷ []) c.reserve.ensures.items
+    ∙ ap (λ (x : Frozen). files ++ x ∷ []) named in
+    let new_messages : c.new.result.items ≡ [] = c.new.ensures.items in
+    let new_state : state_in inside.shared next.manifest c.push_reserved.new.self.items next.prefix c.new.result.items
+    ≡ state_in inside.shared after.manifest (files ++ part ∷ []) prefix [] =
+    ap (λ (x : Manifest). state_in inside.shared x c.push_reserved.new.self.items next.prefix c.new.result.items) made
+    ∙ ap (λ (l : List Frozen). state_in inside.shared after.manifest l next.prefix c.new.result.items)
     new_files
-    ∙ ap (λ (l : List ℕ). state_in octets after.manifest (files ++ part ∷ []) l (texts c.new.result.items)) new_prefix
-    ∙ ap (λ (l : List (List ℕ)). state_in octets after.manifest (files ++ part ∷ []) prefix l) new_messages in
+    ∙ ap (λ (l : List ℕ). state_in inside.shared after.manifest (files ++ part ∷ []) l c.new.result.items) new_prefix
+    ∙ ap (λ (l : List (List ℕ)). state_in inside.shared after.manifest (files ++ part ∷ []) prefix l) new_messages in
     rw (← c.self.view_is) (acknowledged D.honest D.moment D.left_since _ _ _ _ c.move_on.ensures.honest
     (λ h. by D.moment D.left_since d d1 (StandsForEither (reopened s) (reopened (moved_on s given)))
     (StandsBeforeOrAfter s (λ x. IsMovedOn true s x)) (c.move_on.ensures.any_moment h inside.slots s (move h))
@@ -568,7 +581,7 @@ returns-in-Ok-move_on-clause-step g c =
       still.segment,
       (λ t. refl),
       new_state
-          ∙ same_state D.honest D.marks D.held octets d d1 inside.slots inside.last inside.end inside.total carry
+          ∙ same_state D.honest D.marks D.held inside.shared d d1 inside.slots inside.last inside.end inside.total carry
           files front
           messages part counted.valid all (part_is h),
     ))
@@ -579,16 +592,11 @@ returns-in-Ok-move_on-clause-step g c =
 
 pub overflow_cast-self : goal.overflow_cast-self
 overflow_cast-self g c =
-    let next = c.in_ok-next.next in
-    let size : vec_len next.prefix ≡ length next.prefix.items = search rules in
-    let long : length next.prefix.items ≡ length (prefix_of c.self.inside.carry) =
-    ap (λ (l : List ℕ). length l) c.in_ok-next.ensures.prefix in
     record {
       fits = omega (
         arith,
-        c.len-in-Ok-move_on.ensures,
-        size,
-        long,
+        c.len.ensures.value,
+        ap (λ (l : List ℕ). length l) c.in_ok-next.ensures.prefix,
         prefix_fits c.self.inside.carry c.in_ok-next.ensures.carry,
       );
     }
@@ -596,13 +604,35 @@ overflow_cast-self g c =
 pub invariant_of-self : goal.invariant_of-self
 invariant_of-self g c =
     let D = g.D.Disk in
-    let octets = g.D.Sealed.SealedFile.octets in
     let inside = c.self.inside in
     let d = inside.disk in
     let m = inside.slots.current in
-    let s : State = state_in octets m inside.files.items inside.prefix.items (texts inside.messages.items) in
+    let s : State = state_in inside.shared m inside.files.items inside.prefix inside.messages.items in
     let counted = (c.self.invariant).counted in
-    subst (λ (l : List g.row.D-Sealed.Denot). IsArchive D.honest D.marks D.held octets d inside.slots inside.last
+    subst (λ (l : List Frozen). IsArchive D.honest D.marks D.held d inside.slots inside.last
     inside.end
-    inside.total inside.carry l (state_in octets m l inside.prefix.items (texts inside.messages.items)) inside.closed)
+    inside.total inside.carry l (state_in inside.shared m l inside.prefix inside.messages.items) inside.closed)
     (sym c.reserve.ensures.items) c.self.invariant
+
+pub invariant_of-self-in-Err-move_on : goal.invariant_of-self-in-Err-move_on
+invariant_of-self-in-Err-move_on g c =
+    let D = g.D.Disk in
+    let inside = c.self.inside in
+    let m = inside.slots.current in
+    subst (λ (l : List Frozen). IsArchive D.honest D.marks D.held c.move_on.new.disk inside.slots inside.last inside.end
+    inside.total inside.carry l (state_in inside.shared m l inside.prefix inside.messages.items) true)
+    (sym c.reserve.ensures.items)
+    (failed_archive D.honest D.marks D.held inside.disk c.move_on.new.disk inside.slots inside.last inside.end
+    inside.total inside.carry inside.files.items
+    (state_in inside.shared m inside.files.items inside.prefix inside.messages.items) inside.closed c.self.invariant
+    c.move_on.ensures.honest)
+
+pub returns-in-Err-clause-cause : goal.returns-in-Err-clause-cause
+returns-in-Err-clause-cause g c =
+    let why = c.in-Err.ensures.cause in
+    rw (← c.self.view_is) (record {
+      later = why.later;
+      done = tt;
+      risen = λ is. why.risen;
+      other = λ differs. absurd (differs refl);
+    })

@@ -1,0 +1,71 @@
+use Rattle.std.proofs.Common.{◌≡◌, true, Bool, List, sym, ◌∙◌, ap, subst}
+use Rattle.flow_manifest.specs.Following.{front_of}
+use Rattle.flow_measure.specs.View.{view_of}
+use Rattle.flow_snapshot.specs.Changes.{counts_of}
+use Rattle.flow_snapshot.specs.Shelf.{Shelf}
+use Rattle.flow_snapshot.specs.Sight.{Sight}
+use Rattle.flow_snapshot.specs.Views.{IsViewOf}
+use Rattle.flow_recover.specs.State.{State}
+use Rattle.flow_archive.specs.Owned.{shelf_with, AreHeldAs, Frozen}
+use Rattle.flow_archive.specs.Seen.{state_in, IsArchive}
+use Rattle.flow_archive.proofs.Directing.{shared_archive}
+use Rattle.flow_archive.proofs.Owning.{honest_all}
+use Rattle.flow_archive.proofs.Shelving.{shelf_is}
+use Rattle.flow_archive.proofs.archive.Archive.directory.Goals as goal
+
+pub invariant_of-self : goal.invariant_of-self
+invariant_of-self g c =
+    let D = g.D.Disk in
+    let inside = c.self.inside in
+    subst (λ (l : List Frozen). IsArchive D.honest D.marks D.held inside.disk inside.slots inside.last inside.end
+    inside.total inside.carry l (state_in true inside.slots.current l inside.prefix inside.messages.items)
+    inside.closed) (sym c.shared_files.ensures.same)
+    (shared_archive D.honest D.marks D.held inside.disk inside.slots inside.last inside.end inside.total inside.carry
+    inside.files.items
+    (state_in inside.shared inside.slots.current inside.files.items inside.prefix inside.messages.items) inside.closed
+    c.self.invariant)
+
+pub invariant_of-self-2 : goal.invariant_of-self-2
+invariant_of-self-2 g c =
+    let D = g.D.Disk in
+    let inside = c.self.inside in
+    subst (λ (l : List Frozen). IsArchive D.honest D.marks D.held inside.disk inside.slots inside.last inside.end
+    inside.total inside.carry l (state_in true inside.slots.current l inside.prefix inside.messages.items)
+    inside.closed) (sym c.shared_files.ensures.same)
+    (shared_archive D.honest D.marks D.held inside.disk inside.slots inside.last inside.end inside.total inside.carry
+    inside.files.items
+    (state_in inside.shared inside.slots.current inside.files.items inside.prefix inside.messages.items) inside.closed
+    c.self.invariant)
+
+pub returns-clause-active : goal.returns-clause-active
+returns-clause-active g c =
+    let inside = c.self.inside in
+    let m = inside.slots.current in
+    let shelf : c.new.result.shelf ≡ shelf_with m.width m.wide inside.files.items inside.prefix inside.messages.items =
+    ap (λ (x : Sight). x.shelf) c.new.ensures ∙ c.in_ok-files.ensures.shelf m.width m.wide in
+    rw (← c.self.view_is) (record {
+      width = ap (λ (x : Shelf). x.width) shelf;
+      wide = ap (λ (x : Shelf). x.wide) shelf;
+      prefix = ap (λ (x : Shelf). x.prefix) shelf;
+      active = ap (λ (x : Shelf). x.active) shelf;
+    })
+
+pub returns-clause-shown : goal.returns-clause-shown
+returns-clause-shown g c =
+    let D = g.D.Disk in
+    let inside = c.self.inside in
+    let m = inside.slots.current in
+    let s : State = state_in inside.shared m inside.files.items inside.prefix inside.messages.items in
+    let held = (c.self.invariant).files_are in
+    let shelf : c.new.result.shelf ≡ shelf_with m.width m.wide inside.files.items inside.prefix inside.messages.items =
+    ap (λ (x : Sight). x.shelf) c.new.ensures ∙ c.in_ok-files.ensures.shelf m.width m.wide in
+    rw (← c.self.view_is) (λ h. (
+      shelf ∙ shelf_is (D.honest inside.disk) s inside.files.items held ((c.self.invariant).stand h),
+      ap (λ (x : Sight). x.honest) c.new.ensures
+          ∙ c.in_ok-files.ensures.honest (honest_all (front_of m) inside.files.items
+          (subst (λ (b : Bool). AreHeldAs b (front_of m) inside.files.items) h held)) m.width m.wide,
+    ))
+
+pub returns-clause-history : goal.returns-clause-history
+returns-clause-history g c h history has =
+    subst (λ (x : Shelf). IsViewOf x (view_of history (counts_of x))) (sym ((returns-clause-shown g c h).0)) has.view

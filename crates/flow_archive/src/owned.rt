@@ -1,0 +1,221 @@
+//! The frozen files of an archive, and what directories have of them.
+
+ghost use Rattle.std.specs.Prelude.{◌≡◌, ◌++◌, ◌≤◌, ℕ, Bool, IsTrue, OnOk, IfOk, map, take};
+ghost use Rattle.std.specs.List.{list_all, AllByRecursion};
+ghost use Rattle.std.specs.Arc.{arc_value};
+ghost use Rattle.flow_snapshot.specs.Directories.{sight_of};
+ghost use Rattle.flow_snapshot.specs.Files.{rollup_of, segment_of, shared};
+ghost use Rattle.flow_archive.specs.Owned.{all_frozen, frozen_as, rolled_in, segment_in, shelf_with, value_of, wide_in};
+ghost use Rattle.flow_archive.specs.Owned.{MayBeFrozen};
+ghost use Rattle.flow_recover.specs.Kept.{AreFilesOf};
+
+use bytes::Bytes;
+use flow_disk::SealedFile;
+use flow_manifest::{Entry, Kind};
+use flow_rolled::RolledPart;
+use flow_segment::SealedPart;
+use flow_snapshot::Files;
+use std::alloc::{AllocError, Global};
+use std::marker::Model;
+use std::mem::replace;
+use std::sync::Arc;
+
+/// A value with one owner, or perhaps with further ones.
+#[derive(Drop)]
+pub(crate) enum Owned<P> {
+    /// It has one owner, and takes no memory of its own.
+    Plain(P),
+    /// It is shared.
+    Shared(Arc<P>),
+}
+
+impl<P: Drop> Owned<P> {
+    /// The same value, which is shared from now on, where memory is not refused.
+    fn shared(self, alloc: Global) -> Self
+        ensures { value_of result ≡ value_of self }
+    {
+        match self {
+            Owned::Plain(value) => match Arc::new(alloc, value) {
+                Ok(arc) => Owned::Shared(arc),
+                Err(refused) => Owned::Plain(refused.value),
+            },
+            Owned::Shared(arc) => Owned::Shared(arc),
+        }
+    }
+
+    /// One owner more. It takes no memory, and is refused where the value isn't shared.
+    fn owner(&self) -> Result<Arc<P>, AllocError>
+        ensures { IfOk result (λ arc. arc_value arc ≡ value_of self.now) }
+    {
+        match self {
+            Owned::Plain(_) => Err(AllocError),
+            Owned::Shared(arc) => Arc::try_clone(arc),
+        }
+    }
+}
+
+/// A frozen file, by its kind.
+#[derive(Drop)]
+pub(crate) enum Held<S: SealedFile> {
+    /// A sealed segment.
+    Sealed(Owned<SealedPart<S>>),
+    /// Sums over intervals of the width.
+    Rolled(Owned<RolledPart<S>>),
+    /// Sums over wide intervals.
+    Wide(Owned<RolledPart<S>>),
+}
+
+/// A frozen file of an archive. It is seen as its entry, beside whether it is on an honest disk, and its octets.
+#[derive(Drop)]
+pub(crate) struct FrozenFile<S: SealedFile> {
+    held: Held<S>,
+}
+
+impl<S: SealedFile> Model for FrozenFile<S> {
+    ghost use Rattle.flow_archive.specs.Owned.{frozen_of, Frozen};
+
+    ghost Value = { Frozen };
+
+    ghost view = { λ f. frozen_of f.held };
+}
+
+impl<S: SealedFile> FrozenFile<S> {
+    /// A file as the disk gave it, which this entry names.
+    pub(crate) fn named(file: S, entry: Entry) -> Self
+        requires number { S.number file ≡ entry.file }
+        requires long { entry.length ≤ S.size file }
+        requires entry { MayBeFrozen entry.kind entry }
+        ensures { result ≡ frozen_as entry (S.honest file) (S.octets file) }
+    {
+        let held = match entry.kind {
+            Kind::Wide => Held::Wide(sums_of(file, entry)),
+            Kind::Rolled => Held::Rolled(sums_of(file, entry)),
+            Kind::Sealed => Held::Sealed(Owned::Plain(SealedPart {
+                reader: file,
+                prefix: u64::from(entry.prefix),
+                length: entry.length,
+                messages: entry.messages,
+            })),
+            Kind::Active => unreachable!(),
+        };
+        FrozenFile { held }
+    }
+
+    /// The same file, which is shared from now on, where memory is not refused.
+    fn shared(self, alloc: Global) -> Self
+        ensures { result ≡ self }
+    {
+        let held = match self.held {
+            Held::Sealed(part) => Held::Sealed(part.shared(alloc)),
+            Held::Rolled(part) => Held::Rolled(part.shared(alloc)),
+            Held::Wide(part) => Held::Wide(part.shared(alloc)),
+        };
+        FrozenFile { held }
+    }
+
+    /// Puts the file behind those of its kind, with one more owner. It is refused where the file isn't shared.
+    fn list(&self, files: &mut Files<S>) -> Result<(), AllocError>
+        ensures merged { OnOk result (map rollup_of (shared files.new.merged.items)
+            ≡ map rollup_of (shared files.old.merged.items) ++ wide_in self.now.entry.kind self.now) }
+        ensures rolled { OnOk result (map rollup_of (shared files.new.rolled.items)
+            ≡ map rollup_of (shared files.old.rolled.items) ++ rolled_in self.now.entry.kind self.now) }
+        ensures sealed { OnOk result (map segment_of (shared files.new.sealed.items)
+            ≡ map segment_of (shared files.old.sealed.items) ++ segment_in self.now.entry.kind self.now) }
+        ensures kept { (files.new.prefix ≡ files.old.prefix) × (files.new.active.items ≡ files.old.active.items) }
+        ensures honest { OnOk result (IsTrue self.now.honest → IsTrue (sight_of 0 0 files.old).honest
+            → IsTrue (sight_of 0 0 files.new).honest) }
+    {
+        match &self.held {
+            Held::Sealed(part) => files.sealed.push(part.owner()?)?,
+            Held::Rolled(part) => files.rolled.push(part.owner()?)?,
+            Held::Wide(part) => files.merged.push(part.owner()?)?,
+        }
+        Ok(())
+    }
+}
+
+/// A file of sums that this entry names.
+fn sums_of<S: SealedFile>(file: S, entry: Entry) -> Owned<RolledPart<S>>
+    requires long { entry.length ≤ S.size file }
+    ensures { value_of result ≡ record {
+      file = S.number file;
+      messages = entry.messages;
+      length = entry.length;
+      honest = S.honest file;
+      octets = take entry.length (S.octets file);
+    } }
+{
+    Owned::Plain(RolledPart::new(file, entry.messages, entry.length))
+}
+
+/// Shares each file where memory is not refused.
+fn share_all<S: SealedFile>(alloc: Global, files: &mut Vec<FrozenFile<S>>) -> Result<(), AllocError>
+    ensures { files.new.items ≡ files.old.items }
+{
+    let room = Vec::with_capacity(alloc, files.len())?;
+    for file in replace(files, room) {
+        files.push_reserved(file.shared(alloc));
+    }
+    Ok(())
+}
+
+/// These files, all of them shared, in their order, and an active segment with this prefix and these messages.
+fn listed<S: SealedFile>(
+    alloc: Global,
+    files: &[FrozenFile<S>],
+    prefix: Bytes,
+    active: Vec<Bytes>,
+) -> Result<Files<S>, AllocError>
+    ensures shelf { IfOk result (λ list. (width wide : ℕ) → (sight_of width wide list).shelf
+        ≡ shelf_with width wide files.now prefix active.items) }
+    ensures honest { IsTrue (list_all (λ f. f.honest) files.now)
+        → IfOk result (λ list. (width wide : ℕ) → IsTrue (sight_of width wide list).honest) }
+{
+    let mut list = Files {
+        merged: Vec::new(alloc),
+        rolled: Vec::new(alloc),
+        sealed: Vec::new(alloc),
+        prefix,
+        active,
+    };
+    for file in files {
+        file.list(&mut list)?;
+    }
+    Ok(list)
+}
+
+/// The files as a directory has them, shared from now on, and an active segment with this prefix and these messages.
+/// Where memory is refused, some of them are shared.
+pub(crate) fn shared_files<S: SealedFile>(
+    alloc: Global,
+    files: &mut Vec<FrozenFile<S>>,
+    prefix: &Bytes,
+    messages: &Vec<Bytes>,
+) -> Result<Files<S>, AllocError>
+    ensures same { files.new.items ≡ files.old.items }
+    ensures shelf { IfOk result (λ list. (width wide : ℕ) → (sight_of width wide list).shelf
+        ≡ shelf_with width wide files.old.items prefix.now messages.now.items) }
+    ensures honest { IsTrue (list_all (λ f. f.honest) files.old.items)
+        → IfOk result (λ list. (width wide : ℕ) → IsTrue (sight_of width wide list).honest) }
+{
+    share_all(alloc, files)?;
+    listed(alloc, files.as_slice(), prefix.clone()?, messages.clone()?)
+}
+
+/// The files that an opening has frozen, one for each entry.
+pub(crate) fn frozen_files<S: SealedFile>(
+    alloc: Global,
+    entries: &[Entry],
+    files: Vec<S>,
+) -> Result<Vec<FrozenFile<S>>, AllocError>
+    requires files { (honest : Bool) × AreFilesOf S.number S.size S.honest honest entries.now files.items }
+    requires entries { AllByRecursion (λ e. MayBeFrozen e.kind e) entries.now }
+    ensures { IfOk result (λ frozen. frozen.items ≡ all_frozen S.honest S.octets entries.now files.items) }
+{
+    let mut frozen = Vec::with_capacity(alloc, files.len())?;
+    for file in files {
+        let entry = entries[frozen.len()];
+        frozen.push_reserved(FrozenFile::named(file, entry));
+    }
+    Ok(frozen)
+}
