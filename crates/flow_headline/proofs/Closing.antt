@@ -1,0 +1,90 @@
+-- Behind a fault of the device nothing happens any more.
+use Rattle.std.proofs.Common.{◌≡◌, ℕ, Bool, true, false, List, [], ◌∷◌, Result, Ok, Err, refl, sym, ◌∙◌, ap, subst}
+use Rattle.std.proofs.lemmas.Bool.{false≢true}
+use Rattle.std.specs.Prelude.{IsErr}
+use Rattle.std.specs.List.{AllByRecursion}
+use Rattle.flow_gate.specs.Scan.{texts}
+use Rattle.flow_recover.specs.State.{State}
+use Rattle.flow_archive.specs.declared.event.Answer.{Answer}
+use Rattle.flow_archive.specs.declared.event.Answer.TheVariants.{Position, Sealed}
+use Rattle.flow_archive.specs.declared.event.Event.{Event}
+use Rattle.flow_archive.specs.declared.event.Event.TheVariants.{Append, AppendBatch, Seal}
+use Rattle.flow_archive.specs.declared.refusal.ArchiveError.{ArchiveError}
+use Rattle.flow_archive.specs.declared.refusal.ArchiveError.TheVariants.{Message, OutOfMemory, NumbersSpent, NotEmpty}
+use Rattle.flow_archive.specs.declared.refusal.ArchiveError.TheVariants.{Fault, NoRoom, ManifestFull, NothingToSeal}
+use Rattle.flow_archive.specs.declared.refusal.ArchiveError.TheVariants.{Closed}
+use Rattle.flow_archive.specs.Answers.{Answers, AnswersAppend, AnswersSeal, told_as}
+use Rattle.flow_archive.specs.Runs.{IsRun}
+use Rattle.flow_archive.specs.Seen.{Seen}
+use Rattle.flow_archive.proofs.Running.{closed_run}
+use Rattle.flow_headline.specs.Front.{EndsAtFault}
+
+not_open : {A : Type 0} → true ≡ false → A
+not_open is = absurd (false≢true (sym is))
+
+closed_append : (s after : State) (os : List (List ℕ)) (position : Result ℕ ArchiveError)
+    → AnswersAppend true s os position after → position ≡ Err Closed
+closed_append s after os (Ok position) told = not_open told.0
+closed_append s after os (Err Closed) told = refl
+closed_append s after os (Err (Message fault)) told = not_open told.0
+closed_append s after os (Err NoRoom) told = not_open told.0
+closed_append s after os (Err NumbersSpent) told = not_open told.0
+closed_append s after os (Err OutOfMemory) told = not_open told.0
+closed_append s after os (Err Fault) told = not_open told.0
+closed_append s after os (Err NotEmpty) told = absurd told
+closed_append s after os (Err ManifestFull) told = absurd told
+closed_append s after os (Err NothingToSeal) told = absurd told
+
+closed_seal : (honest : Bool) (s after : State) (file : Result ℕ ArchiveError) → AnswersSeal honest true s file after
+    → file ≡ Err Closed
+closed_seal honest s after (Ok file) told = not_open told.0
+closed_seal honest s after (Err Closed) told = refl
+closed_seal honest s after (Err NothingToSeal) told = not_open told.0
+closed_seal honest s after (Err ManifestFull) told = not_open told.0
+closed_seal honest s after (Err NumbersSpent) told = not_open told.0
+closed_seal honest s after (Err OutOfMemory) told = not_open told.0
+closed_seal honest s after (Err Fault) told = not_open told.0
+closed_seal honest s after (Err (Message fault)) told = absurd told
+closed_seal honest s after (Err NoRoom) told = absurd told
+closed_seal honest s after (Err NotEmpty) told = absurd told
+
+closed_answer : (honest : Bool) (s after : State) (e : Event) (a : Result Answer ArchiveError)
+    → Answers honest true s e a after → a ≡ Err Closed
+closed_answer honest s after (Append message) a (position, is, told) =
+    is ∙ ap (told_as Position) (closed_append s after (message.items ∷ []) position told)
+closed_answer honest s after (AppendBatch messages) a (position, is, told) =
+    is ∙ ap (told_as Position) (closed_append s after (texts messages.items) position told)
+closed_answer honest s after Seal a (file, is, told) =
+    is ∙ ap (told_as Sealed) (closed_seal honest s after file told)
+
+pub all_refused : (answers : List (Result Answer ArchiveError))
+    → AllByRecursion (λ (a : Result Answer ArchiveError). a ≡ Err Closed) answers
+    → AllByRecursion (λ (a : Result Answer ArchiveError). IsErr a) answers
+all_refused [] closed = tt
+all_refused (a ∷ answers) closed =
+    (subst (λ (r : Result Answer ArchiveError). IsErr r) (sym closed.0) refl, all_refused answers closed.1)
+
+module _ {D : Type 0} (honest : D → Bool) (moment : D → ℕ) (left_since : D → ℕ → (ℕ → List ℕ) → Type 0) where
+  pub closed_answers : (old : Seen D) (events : List Event) (answers : List (Result Answer ArchiveError)) (new : Seen D)
+      → IsRun honest moment left_since old events answers new → old.closed ≡ true
+      → AllByRecursion (λ (a : Result Answer ArchiveError). a ≡ Err Closed) answers
+  closed_answers old [] [] new run closed = tt
+  closed_answers old [] (b ∷ answers) new run closed = absurd run
+  closed_answers old (e ∷ events) [] new run closed = absurd run
+  closed_answers old (e ∷ events) (a ∷ answers) new run closed =
+      let same : run.0 ≡ old =
+      closed_run honest moment left_since old (e ∷ []) (a ∷ []) run.0 (run.0, run.1, run.2, refl) closed in (
+        closed_answer (honest old.disk) old.state run.0.state e a
+            (subst (λ (b : Bool). Answers (honest old.disk) b old.state e a run.0.state) closed run.1),
+        closed_answers run.0 events answers new run.3 (ap (λ (s : Seen D). s.closed) same ∙ closed),
+      )
+
+  pub ends_at_fault : (old : Seen D) (events : List Event) (answers : List (Result Answer ArchiveError)) (new : Seen D)
+      → IsRun honest moment left_since old events answers new → EndsAtFault answers
+  ends_at_fault old [] [] new run = tt
+  ends_at_fault old [] (b ∷ answers) new run = absurd run
+  ends_at_fault old (e ∷ events) [] new run = absurd run
+  ends_at_fault old (e ∷ events) (a ∷ answers) new run = (
+    (λ is. closed_answers run.0 events answers new run.3 (run.2.fault is).1),
+    ends_at_fault run.0 events answers new run.3,
+  )

@@ -1,0 +1,5 @@
+mod Growing
+mod Closing
+mod Fronts
+mod Stopping
+mod Telling

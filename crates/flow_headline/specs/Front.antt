@@ -1,0 +1,88 @@
+-- What a stop leaves of a list of events.
+use Rattle.std.specs.Prelude.{◌≡◌, ◌≢◌, ℕ, ◌<◌, ◌≤◌, List, [], ◌∷◌, ◌++◌, length, take, drop, Result, Ok, Err, IsErr}
+use Rattle.std.specs.List.{AllByRecursion}
+use Rattle.flow_gate.specs.Scan.{texts}
+use Rattle.flow_measure.specs.History.{Accepted, History}
+use Rattle.flow_measure.specs.declared.rows.Row.{Row}
+use Rattle.flow_measure.specs.Query.{totals_between, totals_in_view}
+use Rattle.flow_measure.specs.View.{View}
+use Rattle.flow_segment.specs.Carry.{octets_of}
+use Rattle.flow_snapshot.specs.Views.{IsViewOf}
+use Rattle.flow_recover.specs.State.{State, reopened}
+use Rattle.flow_recover.specs.Shelved.{HasHistory, shelf_of}
+use Rattle.flow_archive.specs.declared.event.Answer.{Answer}
+use Rattle.flow_archive.specs.declared.event.Event.{Event}
+use Rattle.flow_archive.specs.declared.event.Event.TheVariants.{Append, AppendBatch, Seal}
+use Rattle.flow_archive.specs.declared.refusal.ArchiveError.{ArchiveError}
+use Rattle.flow_archive.specs.declared.refusal.ArchiveError.TheVariants.{Message, OutOfMemory, NumbersSpent, NotEmpty}
+use Rattle.flow_archive.specs.declared.refusal.ArchiveError.TheVariants.{Fault, NoRoom, ManifestFull, NothingToSeal}
+use Rattle.flow_archive.specs.declared.refusal.ArchiveError.TheVariants.{Closed}
+use Rattle.flow_archive.specs.Runs.{IsAfter}
+
+-- ---- messages
+
+-- the messages of an event
+abbrev pub messages_in : Event → List (List ℕ)
+messages_in (Append message) = message.items ∷ []
+messages_in (AppendBatch messages) = texts messages.items
+messages_in Seal = []
+
+-- What an event with this answer added. One under which the device failed counts as taken.
+abbrev pub added_by : Event → Result Answer ArchiveError → List (List ℕ)
+added_by event (Ok answer) = messages_in event
+added_by event (Err Fault) = messages_in event
+added_by event (Err (Message fault)) = []
+added_by event (Err OutOfMemory) = []
+added_by event (Err NumbersSpent) = []
+added_by event (Err NotEmpty) = []
+added_by event (Err NoRoom) = []
+added_by event (Err ManifestFull) = []
+added_by event (Err NothingToSeal) = []
+added_by event (Err Closed) = []
+
+-- what these events added, in their order
+abbrev pub all_added : List Event → List (Result Answer ArchiveError) → List (List ℕ)
+all_added [] answers = []
+all_added (event ∷ events) [] = []
+all_added (event ∷ events) (answer ∷ answers) = added_by event answer ++ all_added events answers
+
+-- The archive in this state is one with this history and these messages behind it: all of them, each once, in their
+-- order, and no other. So its totals over any span are those of all these messages.
+pub record HasMore (h : History) (messages : List (List ℕ)) (s : State) : Type 0 where
+  pub more : List Accepted
+  pub octets : octets_of more ≡ messages
+  pub history : HasHistory s (record h { all = h.all ++ more })
+  pub totals : (v : View) (from to : ℕ) → IsViewOf (shelf_of s) v
+      → totals_in_view from to v ≡ totals_between from to (record h { all = h.all ++ more })
+
+-- ---- fronts
+
+-- This is what is left of the archive after a front of the events. Each event that was acknowledged is in it; the
+-- device failed under the last event of it at most; and its history is the one before with the front's messages.
+pub record IsFront (s : State) (events : List Event) (answers : List (Result Answer ArchiveError)) (left : State)
+    : Type 0 where
+  pub taken : ℕ
+  pub within : taken ≤ length events
+  pub after : State
+  pub prefix : IsAfter s (take taken events) (take taken answers) after
+  pub left_is : left ≡ reopened after
+  pub acknowledged : AllByRecursion IsErr (drop taken answers)
+  pub one : (k : ℕ) → k < taken → AllByRecursion (λ answer. answer ≢ Err Fault) (take k answers)
+  pub history : (h : History) → HasHistory s h
+      → HasMore h (all_added (take taken events) (take taken answers)) left
+
+-- Behind an event under which the device failed nothing happens any more.
+abbrev pub EndsAtFault : List (Result Answer ArchiveError) → Type 0
+EndsAtFault [] = Unit {0}
+EndsAtFault (answer ∷ answers) =
+    (answer ≡ Err Fault → AllByRecursion (λ later. later ≡ Err Closed) answers) × EndsAtFault answers
+
+-- These rows are the totals over this span behind a stop: of all messages that were there, and of those of a front of the
+-- events, each counted once.
+pub record AreTotals (s : State) (events : List Event) (answers : List (Result Answer ArchiveError)) (from to : ℕ)
+    (rows : List Row) : Type 0 where
+  pub left : State
+  pub front : IsFront s events answers left
+  pub totals : (h : History) → HasHistory s h
+      → (more : List Accepted) × (octets_of more ≡ all_added (take front.taken events) (take front.taken answers))
+      × (rows ≡ totals_between from to (record h { all = h.all ++ more }))

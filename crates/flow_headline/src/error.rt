@@ -1,0 +1,92 @@
+//! Why no archive was opened behind a stop.
+
+ghost use Rattle.std.specs.Prelude.{◌≡◌, Some};
+ghost use Rattle.flow_headline.specs.Printed.{printed, printed_told};
+ghost use Rattle.flow_headline.specs.declared.error.NotOpened.TheVariants.{OutOfMemory};
+ghost use Rattle.flow_headline.specs.declared.error.NotTold.TheVariants.{NotOpened as NotOpenedTold};
+ghost use Rattle.flow_headline.specs.declared.error.NotTold.TheVariants.{NotAnswered as NotAnsweredTold};
+
+use flow_snapshot::QueryError;
+use std::alloc::AllocError;
+use std::error::Error;
+use std::fmt;
+
+/// Why no archive was opened behind a stop. The refusals 20 to 24 of what a disk holds aren't among these: they never
+/// come.
+#[derive(Clone, Copy, Debug, PartialEq, Eq)]
+pub enum NotOpened {
+    /// A growth of memory was refused: before the first event, or in the opening.
+    OutOfMemory,
+    /// The disk in memory had no room for what the opening writes.
+    DiskFull,
+    /// No stop leaves what was chosen: octets in place of others that are none, or too many for the room of a file.
+    NoSuchStop,
+}
+
+impl fmt::Display for NotOpened {
+    ghost output = { λ e. Some (printed e) };
+
+    fn fmt<W: fmt::Write>(&self, f: &mut fmt::Formatter<W>) -> fmt::Result {
+        match self {
+            NotOpened::OutOfMemory => write!(f, "11 OutOfMemory"),
+            NotOpened::DiskFull => write!(f, "DiskFull"),
+            NotOpened::NoSuchStop => write!(f, "NoSuchStop"),
+        }
+    }
+}
+
+impl Error for NotOpened {}
+
+impl From<AllocError> for NotOpened {
+    ghost from_gives = { λ _ e. e ≡ OutOfMemory };
+
+    fn from(_e: AllocError) -> NotOpened {
+        NotOpened::OutOfMemory
+    }
+}
+
+/// Why no totals were told behind a stop.
+#[derive(Clone, Copy, Debug, PartialEq, Eq)]
+pub enum NotTold {
+    /// No archive was opened.
+    NotOpened(NotOpened),
+    /// The query was not answered.
+    NotAnswered(QueryError),
+}
+
+impl fmt::Display for NotTold {
+    ghost output = { λ e. Some (printed_told e) };
+
+    fn fmt<W: fmt::Write>(&self, f: &mut fmt::Formatter<W>) -> fmt::Result {
+        match self {
+            NotTold::NotOpened(error) => write!(f, "{error}"),
+            NotTold::NotAnswered(error) => write!(f, "{error}"),
+        }
+    }
+}
+
+impl Error for NotTold {}
+
+impl From<NotOpened> for NotTold {
+    ghost from_gives = { λ e t. t ≡ NotOpenedTold e };
+
+    fn from(error: NotOpened) -> NotTold {
+        NotTold::NotOpened(error)
+    }
+}
+
+impl From<QueryError> for NotTold {
+    ghost from_gives = { λ e t. t ≡ NotAnsweredTold e };
+
+    fn from(error: QueryError) -> NotTold {
+        NotTold::NotAnswered(error)
+    }
+}
+
+impl From<AllocError> for NotTold {
+    ghost from_gives = { λ _ t. t ≡ NotOpenedTold OutOfMemory };
+
+    fn from(_e: AllocError) -> NotTold {
+        NotTold::NotOpened(NotOpened::OutOfMemory)
+    }
+}

@@ -1,0 +1,18 @@
+//! What a stop leaves of an archive.
+//!
+//! Promised to the reader: on a disk in memory, stopped before or within any device call of any list of events,
+//! opening gives exactly a front of that list. Every event that was acknowledged is in it, and besides these at most
+//! the one that was under way; and the archive's history is the one before with the messages of that front behind it,
+//! each once, in their order, and no other. So its totals over any span are those of all these messages. Opening is
+//! refused for want of memory, in the machine or in the disk, and for nothing else.
+#![tactic(auto)]
+
+mod error;
+mod reopening;
+#[cfg(test)]
+mod tests;
+mod totals;
+
+pub use error::{NotOpened, NotTold};
+pub use reopening::{Reopened, run_and_open};
+pub use totals::{Told, totals_behind_a_stop};

@@ -1,0 +1,127 @@
+//! Archives in memory that are stopped and opened again.
+
+ghost use Rattle.std.specs.Prelude.{◌≡◌, false, All, IfOk};
+ghost use Rattle.flow_archive.specs.Runs.{IsEvent};
+
+use crate::{NotOpened, run_and_open};
+use flow_archive::{Answer, Archive, ArchiveError, Event};
+use flow_memory_disk::{Choice, FusedDisk, MemoryDisk, Room};
+use std::alloc::{AllocError, Global};
+use std::test::*;
+
+/// Room for two small segments.
+const ROOM: Room = Room {
+    files: 8,
+    octets: 512,
+    calls: 128,
+    written: 4_096,
+};
+
+/// How many device calls make an archive.
+const CREATING: u64 = 13;
+
+/// More than the events make with their archive.
+const ALL_CALLS: u64 = 40;
+
+/// A template of elements 150, 4, 1 and 2, and a flow.
+const PLAIN: [u8; 57] = [
+    0x00, 0x0A, 0x00, 0x39, 0x65, 0x53, 0xF1, 0x00, 0, 0, 0, 0, 0, 0, 0, 7, 0x00, 0x02, 0x00, 0x18,
+    0x01, 0x00, 0x00, 0x04, 0x00, 0x96, 0x00, 0x04, 0x00, 0x04, 0x00, 0x01, 0x00, 0x01, 0x00, 0x04,
+    0x00, 0x02, 0x00, 0x04, 0x01, 0x00, 0x00, 0x11, 0x65, 0x53, 0xF1, 0x00, 0x06, 0x00, 0x00, 0x05,
+    0xDC, 0x00, 0x00, 0x00, 0x0A,
+];
+
+/// The flow alone.
+const RECORD: [u8; 33] = [
+    0x00, 0x0A, 0x00, 0x21, 0x65, 0x53, 0xF1, 0x00, 0, 0, 0, 0, 0, 0, 0, 7, 0x01, 0x00, 0x00, 0x11,
+    0x65, 0x53, 0xF1, 0x00, 0x06, 0x00, 0x00, 0x05, 0xDC, 0x00, 0x00, 0x00, 0x0A,
+];
+
+/// A message without Sets.
+const NO_SET: [u8; 16] = [
+    0x00, 0x0A, 0x00, 0x10, 0x65, 0x53, 0xF1, 0x00, 0, 0, 0, 0, 0, 0, 0, 7,
+];
+
+/// An archive without messages, over a disk that passes so many calls.
+fn created(alloc: Global, calls: u64) -> Result<Archive<FusedDisk<MemoryDisk>>, ArchiveError>
+    ensures { IfOk result (λ archive. archive.closed ≡ false) }
+{
+    let disk = FusedDisk::new(MemoryDisk::new(alloc, ROOM)?, calls);
+    match Archive::create(alloc, disk, 300, 65_535) {
+        Ok(archive) => Ok(archive),
+        Err(refused) => Err(refused.error),
+    }
+}
+
+/// A message, a seal, a message that is cut short, and a flow under the template of the first one.
+fn events(alloc: Global) -> Result<[Event; 4], AllocError>
+    ensures { IfOk result (λ events. All IsEvent events) }
+{
+    Ok([
+        Event::Append(PLAIN.to_vec(alloc)?),
+        Event::Seal,
+        Event::Append(PLAIN[..56].to_vec(alloc)?),
+        Event::Append(RECORD.to_vec(alloc)?),
+    ])
+}
+
+/// The number of the last message that was acknowledged.
+fn acknowledged(answers: &[Result<Answer, ArchiveError>]) -> u64 {
+    let mut last = 0;
+    for answer in answers {
+        if let Ok(Answer::Position(position)) = answer {
+            last = *position;
+        }
+    }
+    last
+}
+
+/// How many messages were acknowledged before a stop at this call, and how many the archive has that is opened
+/// behind it.
+fn counts(alloc: Global, call: u64, choice: Choice<'_>) -> Option<(u64, u64)> {
+    let Ok(archive) = created(alloc, call) else {
+        return None;
+    };
+    let Ok(events) = events(alloc) else {
+        return None;
+    };
+    let mut reopened = run_and_open(alloc, archive, events.as_slice(), choice).ok()?;
+    let next = reopened.archive.append(alloc, NO_SET.as_slice()).ok()?;
+    Some((
+        acknowledged(reopened.answers.as_slice()),
+        next.checked_sub(1)?,
+    ))
+}
+
+/// Whether an archive is opened with all that was acknowledged, and at most the message besides that was under way.
+fn opens(alloc: Global, call: u64, choice: Choice<'_>) -> bool {
+    match counts(alloc, call, choice) {
+        Some((acknowledged, left)) => matches!(left.checked_sub(acknowledged), Some(0 | 1)),
+        None => false,
+    }
+}
+
+#[test]
+fn opened_behind_each_stop(rt: HostRuntime) {
+    for call in CREATING..ALL_CALLS {
+        for choice in [Choice::Kept, Choice::Settled, Choice::Filled(&[0x0A])] {
+            assert!(rt; opens(rt.alloc(), call, choice), "at {call}");
+        }
+    }
+}
+
+#[test]
+fn answers_without_a_stop(rt: HostRuntime) {
+    let alloc = rt.alloc();
+    assert_eq!(rt; counts(alloc, ALL_CALLS, Choice::Settled), Some((2, 2)));
+    assert_eq!(rt; counts(alloc, CREATING, Choice::Settled), Some((0, 0)));
+}
+
+#[test]
+fn no_such_stop(rt: HostRuntime) -> Result<(), Fail> {
+    let alloc = rt.alloc();
+    let archive = created(alloc, ALL_CALLS)?;
+    let refused = run_and_open(alloc, archive, &[], Choice::Filled(&[])).err();
+    assert_eq!(rt; refused, Some(NotOpened::NoSuchStop));
+    Ok(())
+}
