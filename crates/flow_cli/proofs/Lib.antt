@@ -6,3 +6,5 @@ pub mod Told
 pub mod Summing
 pub mod Reading
 pub mod Putting
+pub mod Fields
+pub mod Digits

@@ -1,9 +1,9 @@
 -- How a line grows to its front.
-use Rattle.std.proofs.Common.{◌≡◌, ℕ, ◌+◌, ◌<◌, ◌/◌, ◌%◌, List, [], ◌∷◌, ◌++◌, Option, Some, None, IfSome, drop}
+use Rattle.std.proofs.Common.{◌≡◌, ℕ, ◌+◌, ◌<◌, ◌≤◌, ◌/◌, ◌%◌, List, [], ◌∷◌, ◌++◌, Option, Some, None, IfSome, drop}
 use Rattle.std.proofs.Common.{◌≢◌, false, get_or, length, take, suc, refl, sym, ap, ◌∙◌, subst, append-nil}
-use Rattle.std.proofs.Common.{append_assoc, arith, zero, eqb, drop-cons}
+use Rattle.std.proofs.Common.{append_assoc, length-append, arith, zero, eqb, drop-cons}
 use Rattle.std.proofs.lemmas.Bool.{ne_eqb}
-use Rattle.std.proofs.lemmas.List.{take_at, drop_at, drop_all}
+use Rattle.std.proofs.lemmas.List.{take_at, take_all, drop_at, drop_all}
 use Rattle.std.specs.Prelude.{slice_index}
 use Rattle.std.specs.List.{flat_map}
 use Rattle.flow_elements.specs.declared.element.ElementId.{ElementId}
@@ -20,11 +20,6 @@ put_both a b d at s t x y p q = record {
   parts = q.parts ∙ ap (λ (z : List ℕ). y ++ z) p.parts ∙ sym (append_assoc y x (drop at a));
 }
 
-pub put_then : (a b d : List ℕ) (at s : ℕ) (r : Option ℕ) (x y : List ℕ) → IsPut a at b s x
-    → IfSome r (λ t. IsPut b s d t y) → IfSome r (λ t. IsPut a at d t (y ++ x))
-put_then a b d at s None x y p q = tt
-put_then a b d at s (Some t) x y p q = put_both a b d at s t x y p q
-
 -- a text in front of a line's end is what the line ends by
 pub put_last : (old new : List ℕ) (at start : ℕ) (text : List ℕ) → IsPut old at new start text → at ≡ length old
     → length new ≡ length old → EndsBy new start text
@@ -33,8 +28,9 @@ put_last old new at start text p end same = (
   p.parts ∙ ap (λ (l : List ℕ). text ++ l) (drop_all at old (omega arith)) ∙ append-nil text,
 )
 
-pub put_last_of : (old new : List ℕ) (at : ℕ) (r : Option ℕ) (text : List ℕ) → IfSome r (λ start. IsPut old at new start text)
-    → at ≡ length old → length new ≡ length old → IfSome r (λ start. EndsBy new start text)
+pub put_last_of : (old new : List ℕ) (at : ℕ) (r : Option ℕ) (text : List ℕ)
+    → IfSome r (λ start. IsPut old at new start text) → at ≡ length old → length new ≡ length old
+    → IfSome r (λ start. EndsBy new start text)
 put_last_of old new at None text p end same = tt
 put_last_of old new at (Some start) text p end same = put_last old new at start text p end same
 
@@ -135,6 +131,13 @@ field_put old new next at start then fs left front octets rest before value id l
         let back : drop len (value ++ behind) ≡ behind = drop_at value behind len size in
         rw (other, front, back) refl
 
+-- a length that what is left has room for isn't the one that stands for a variable length
+pub rest_fixed : (old : List ℕ) (at : ℕ) (new : List ℕ) (start : ℕ) (fs left : List (ElementId × ℕ))
+    (octets rest : List ℕ) (len : ℕ) → IsPutting old at new start fs left octets rest → length octets < 65535
+    → len ≤ length rest → len ≢ 65535
+rest_fixed old at new start fs left octets rest len p short fits e =
+    omega (arith, ap (λ (l : List ℕ). length l) p.values ∙ length-append rest p.behind, short, fits, e)
+
 -- no field is left, and no octet
 pub all_put : (old new : List ℕ) (at start : ℕ) (fs left : List (ElementId × ℕ)) (octets rest : List ℕ)
     → IsPutting old at new start fs left octets rest → left ≡ [] → rest ≡ []
@@ -148,3 +151,16 @@ all_put old new at start fs left octets rest p none empty =
 pub none_of : {X : Type 0} (xs : List X) → length xs ≡ 0 → xs ≡ []
 none_of [] h = refl
 none_of (x ∷ xs) h = absurd (omega arith)
+
+-- one field alone
+pub one_field : (id : ElementId) (octets : List ℕ) → length octets < 65535
+    → flat_map field_text (fields_in ((id, length octets) ∷ []) octets)
+    ≡ field_text (record { id = id; octets = octets })
+unfolding fields_in
+one_field id octets small =
+    let other : eqb (length octets) 65535 ≡ false = ne_eqb (length octets) 65535 (λ e. omega (arith, e, small)) in
+    let front : take (length octets) octets ≡ octets = take_all (length octets) octets (omega arith) in
+    let back : drop (length octets) octets ≡ [] = drop_all (length octets) octets (omega arith) in
+    let known : value_of (length octets) octets ≡ (octets, []) = rw (other, front, back) refl in
+    ap (λ (x : List ℕ × List ℕ). flat_map field_text (record { id = id; octets = x.0 } ∷ fields_in [] x.1)) known
+    ∙ append-nil (field_text (record { id = id; octets = octets }))

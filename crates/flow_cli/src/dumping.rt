@@ -9,7 +9,7 @@ ghost use Rattle.flow_codec.specs.Stream.{progress};
 ghost use Rattle.flow_codec.specs.Raw.{raw};
 ghost use Rattle.flow_cli.specs.Dump.{records_in, message_of, IsNext, ReadsWithin, IsDumped, IsDumpedUntil};
 
-use crate::line::{end_by_field, end_by_record};
+use crate::line::{FIELD_ROOM, end_by_field, end_by_record};
 use crate::output::{HeldText, MOST_HELD};
 use crate::refusal::Refusal;
 use crate::text::{push_message_line, push_start};
@@ -19,9 +19,6 @@ use flow_codec::{
 use flow_elements::ElementId;
 use std::alloc::{AllocError, Global};
 use std::io::{Read, Write};
-
-/// The most octets of a field's text beside two for each of its value's.
-const MOST_FIELD: usize = 64;
 
 /// A data record: the definition that it stands under, and how many octets it has.
 #[derive(Drop)]
@@ -116,7 +113,8 @@ fn next_message<R: Read>(
 impl HeldText {
     /// Room for a line of so many octets.
     fn widen(&mut self, len: usize) -> Result<(), AllocError>
-        ensures { self.new.text ≡ self.old.text }
+        ensures text { self.new.text ≡ self.old.text }
+        ensures room { OnOk result (len ≤ vec_len self.new.line) }
     {
         if self.line.len() < len {
             self.line.resize(len, 0)?;
@@ -137,7 +135,7 @@ impl HeldText {
         ensures { OnOk result (self.new.text.items
             ≡ self.old.text.items ++ field_text (record { id = id; octets = octets.now })) }
     {
-        self.widen(octets.len().saturating_mul(2).saturating_add(MOST_FIELD))?;
+        self.widen(octets.len().saturating_mul(2).saturating_add(FIELD_ROOM))?;
         match end_by_field(&mut self.line, id, octets) {
             Some(start) => self.push_line(start),
             None => Err(AllocError),

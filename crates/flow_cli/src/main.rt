@@ -5,6 +5,7 @@
 #![tactic(auto)]
 
 mod dumping;
+mod label;
 mod line;
 mod measuring;
 mod numbers;
@@ -13,6 +14,7 @@ mod patient;
 mod refusal;
 mod request;
 mod run;
+mod tables;
 mod text;
 
 use run::run_line;

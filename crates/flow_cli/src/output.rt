@@ -11,7 +11,7 @@ use std::io::Write;
 pub(crate) const MOST_HELD: usize = 65_536;
 
 /// The octets of the room in which a record's line is written, until a longer field comes.
-const LINE_ROOM: usize = 8_192;
+const LINE_ROOM: usize = 32_768;
 
 /// Text that is held until there is much of it. Room for that much, and for a line of totals behind it, is taken
 /// where it is made; so is room for one line that is written before it is held.
