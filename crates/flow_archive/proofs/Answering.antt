@@ -14,8 +14,10 @@ use Rattle.flow_archive.specs.declared.refusal.ArchiveError.{ArchiveError}
 use Rattle.flow_archive.specs.declared.refusal.ArchiveError.TheVariants.{Message, OutOfMemory, NumbersSpent, NotEmpty}
 use Rattle.flow_archive.specs.declared.refusal.ArchiveError.TheVariants.{Fault, NoRoom, ManifestFull, NothingToSeal}
 use Rattle.flow_archive.specs.declared.refusal.ArchiveError.TheVariants.{Closed}
+use Rattle.flow_archive.specs.declared.refusal.ArchiveError.TheVariants.{Damaged, SourceFault, RollBusy, NoRoll}
+use Rattle.flow_archive.specs.declared.refusal.ArchiveError.TheVariants.{RollCount, RollNotDone, Pinned, NothingToRetire}
 use Rattle.flow_archive.specs.Answers.{AnswersAppend, AnswersSeal, HasPositions, HasRoom, IsFirstFault, IsNotAdmitted}
-use Rattle.flow_archive.specs.Answers.{IsNotFollowed}
+use Rattle.flow_archive.specs.Answers.{job_generations, IsNotFollowed}
 use Rattle.flow_archive.specs.Refusals.{refusal_of}
 
 -- what holds of a refusal that is passed on
@@ -66,6 +68,14 @@ not_admitted closed s octets carry room positions NumbersSpent still segment fit
 not_admitted closed s octets carry room positions OutOfMemory still segment fits long many is = (still, refl)
 not_admitted closed s octets carry room positions Fault still segment fits long many is = absurd is
 not_admitted closed s octets carry room positions NotEmpty still segment fits long many is = absurd is
+not_admitted closed s octets carry room positions (Damaged file at) still segment fits long many is = absurd is
+not_admitted closed s octets carry room positions SourceFault still segment fits long many is = absurd is
+not_admitted closed s octets carry room positions RollBusy still segment fits long many is = absurd is
+not_admitted closed s octets carry room positions NoRoll still segment fits long many is = absurd is
+not_admitted closed s octets carry room positions RollCount still segment fits long many is = absurd is
+not_admitted closed s octets carry room positions RollNotDone still segment fits long many is = absurd is
+not_admitted closed s octets carry room positions Pinned still segment fits long many is = absurd is
+not_admitted closed s octets carry room positions NothingToRetire still segment fits long many is = absurd is
 not_admitted closed s octets carry room positions ManifestFull still segment fits long many is = absurd is
 not_admitted closed s octets carry room positions NothingToSeal still segment fits long many is = absurd is
 not_admitted closed s octets carry room positions Closed still segment fits long many is = absurd is
@@ -75,34 +85,33 @@ pub not_fault : (octets : List (List ℕ)) (carry : Carry) (room positions : ℕ
 not_fault octets carry room positions e is same =
     subst (IsNotAdmitted octets carry room positions) same is
 
-pub carried_not : (octets : List (List ℕ)) (carry : Carry) (room positions : ℕ) (e : ArchiveError)
-    → (e ≡ OutOfMemory)
-    ⊎ ((fault : MessageError) × IsFirstFault octets carry.templates fault × (e ≡ Message fault))
-    → IsNotAdmitted octets carry room positions e
-carried_not octets carry room positions e (inl memory) =
-    subst (IsNotAdmitted octets carry room positions) (sym memory) tt
-carried_not octets carry room positions e (inr fault) =
-    subst (IsNotAdmitted octets carry room positions) (sym fault.2) fault.1
-
 -- a seal that no manifest follows is refused, and nothing changes
 pub not_followed : (honest closed : Bool) (s : State) (count : ℕ) (e : ArchiveError) → closed ≡ false
-    → count ≡ length s.active.messages → s.next ≡ s.manifest.next → IsNotFollowed s.manifest count e
+    → count ≡ length s.active.messages → IsNotFollowed s.manifest count s.next (job_generations s.job) e
     → AnswersSeal honest closed s (Err e) s
-not_followed honest closed s count NothingToSeal still all next is =
+not_followed honest closed s count NothingToSeal still all is =
     (still, nil_from_length s.active.messages (omega (arith, all, is)), refl)
-not_followed honest closed s count ManifestFull still all next is =
+not_followed honest closed s count ManifestFull still all is =
     (still, (λ none. omega (arith, all, is.0, ap (λ (l : List (List ℕ)). length l) none)), is.1, refl)
-not_followed honest closed s count NumbersSpent still all next is = (
+not_followed honest closed s count NumbersSpent still all is = (
   still,
   (λ none. omega (arith, all, is.0, ap (λ (l : List (List ℕ)). length l) none)),
   is.1,
-  (λ numbers. ⊎_elim (λ file. omega (arith, numbers.0, next, file))
+  (λ numbers. ⊎_elim (λ file. omega (arith, numbers.0, file))
       (λ generation. omega (arith, numbers.1, generation)) is.2),
   refl,
 )
-not_followed honest closed s count OutOfMemory still all next is = (still, refl)
-not_followed honest closed s count (Message fault) still all next is = absurd is
-not_followed honest closed s count NotEmpty still all next is = absurd is
-not_followed honest closed s count Fault still all next is = absurd is
-not_followed honest closed s count NoRoom still all next is = absurd is
-not_followed honest closed s count Closed still all next is = absurd is
+not_followed honest closed s count OutOfMemory still all is = (still, refl)
+not_followed honest closed s count (Message fault) still all is = absurd is
+not_followed honest closed s count NotEmpty still all is = absurd is
+not_followed honest closed s count (Damaged file at) still all is = absurd is
+not_followed honest closed s count SourceFault still all is = absurd is
+not_followed honest closed s count RollBusy still all is = absurd is
+not_followed honest closed s count NoRoll still all is = absurd is
+not_followed honest closed s count RollCount still all is = absurd is
+not_followed honest closed s count RollNotDone still all is = absurd is
+not_followed honest closed s count Pinned still all is = absurd is
+not_followed honest closed s count NothingToRetire still all is = absurd is
+not_followed honest closed s count Fault still all is = absurd is
+not_followed honest closed s count NoRoom still all is = absurd is
+not_followed honest closed s count Closed still all is = absurd is

@@ -213,6 +213,12 @@ one_of messages i none lt =
     (map_more (λ (m : Bor (List ℕ)). m.now) messages i none lt)
     ∙ append_assoc (slices (take i messages)) ((get_or messages i none).now ∷ []) (slices (drop (i + 1) messages))
 
+pub alone_of : (messages : List (Bor (List ℕ))) (none : Bor (List ℕ)) → 1 ≤ length messages → length messages < 2
+    → slices messages ≡ (get_or messages 0 none).now ∷ []
+alone_of [] none some few = absurd (omega (arith, some))
+alone_of (m ∷ []) none some few = refl
+alone_of (m ∷ n ∷ messages) none some few = absurd (omega (arith, few))
+
 pub first_fault : (octets done rest : List (List ℕ)) (message : List ℕ) (old mid : Carry) (e : MessageError)
     → octets ≡ done ++ message ∷ rest → AreTaken done old mid
     → (e ≡ OutOfMemory) ⊎ IsFault message mid.templates e → (e ≡ OutOfMemory) ⊎ IsFirstFault octets old.templates e

@@ -120,5 +120,6 @@ empty_archive honest marks held d width wide limit valid ready known = record {
     kept = record { counted = counted_empty width wide limit valid; ready = ready; known = known };
     segment = no_segment;
     hands_on = λ _. empty_hands_on width wide limit;
+    frozen = tt;
   };
 }

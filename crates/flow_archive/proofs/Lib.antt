@@ -14,3 +14,15 @@ pub mod Reopened
 pub mod Owning
 pub mod Shelving
 pub mod Directing
+pub mod Swapping
+pub mod SourceSums
+pub mod Working
+pub mod Written
+pub mod Installed
+pub mod Leaving
+pub mod Undertaking
+pub mod Advance
+pub mod SourceStand
+pub mod Sharing
+pub mod Removing
+pub mod Dropping

@@ -1,5 +1,5 @@
 -- An archive after a seal.
-use Rattle.std.proofs.Common.{◌≡◌, ℕ, Bool, true, false, IsTrue, List, [], ◌∷◌, ◌++◌, length, sym, ◌∙◌}
+use Rattle.std.proofs.Common.{◌≡◌, ℕ, ◌+◌, ◌<◌, ◌^◌, Bool, true, false, IsTrue, List, [], ◌∷◌, ◌++◌, length, sym, ◌∙◌}
 use Rattle.std.proofs.Common.{ap, subst, arith}
 use Rattle.flow_disk.specs.Disk.{Held, Marks, AllImages}
 use Rattle.flow_manifest.specs.declared.manifest.Entry.{Entry}
@@ -8,6 +8,7 @@ use Rattle.flow_manifest.specs.declared.slots.Slots.{Slots}
 use Rattle.flow_manifest.specs.Manifest.{IsValidManifest}
 use Rattle.flow_manifest.specs.Following.{active_of, active_entry, front_of, sealed_entry}
 use Rattle.flow_manifest.specs.Slots.{file_of, other}
+use Rattle.flow_manifest.proofs.EntryLists.{all_join}
 use Rattle.flow_manifest.proofs.Followers.{are_entries, next_front}
 use Rattle.flow_segment.specs.Carry.{Carry, prefix_of, IsCarry}
 use Rattle.flow_recover.specs.State.{Part, State, end_of, moved_on}
@@ -15,21 +16,24 @@ use Rattle.flow_recover.specs.Chain.{HandsOn}
 use Rattle.flow_recover.specs.Kept.{IsCounted}
 use Rattle.flow_recover.specs.Opening.{FrozenStand}
 use Rattle.flow_recover.specs.Standing.{IsKnown, IsSealedAt}
-use Rattle.flow_archive.specs.Answers.{IsMovedOn}
+use Rattle.flow_archive.specs.Answers.{job_generations, IsMovedOn}
 use Rattle.flow_archive.specs.Moving.{MovesMarks}
 use Rattle.flow_archive.specs.Owned.{octets_in, AreHeldAs, Frozen, IsHeldAs}
 use Rattle.flow_archive.specs.Parts.{part_at, parts_at}
-use Rattle.flow_archive.specs.Seen.{IsArchive, IsOpen, state_in}
+use Rattle.flow_archive.specs.Seen.{AreFrozen, IsArchive, IsOpen, state_in}
+use Rattle.flow_archive.specs.UnderWay.{Work, job_in, work_in, IsUnderWay, IsUnnamed}
 use Rattle.flow_archive.proofs.Chaining.{hands_next, segment_called}
 use Rattle.flow_archive.proofs.Owning.{as_many, held_push}
-use Rattle.flow_archive.proofs.Parting.{frozen_push, one_sealed, parts_at_push}
+use Rattle.flow_archive.proofs.Parting.{frozen_push, one_sealed, parts_at_push, parts_many}
+use Rattle.flow_archive.proofs.Stand.{frozen_too, slot_below}
+use Rattle.flow_archive.proofs.Working.{sealed_too}
 use Rattle.flow_archive.proofs.Ready.{counted_moved, ready_moved}
 
-module _ {D : Type 0} (honest : D → Bool) (marks : D → ℕ → Marks) (held : D → ℕ → Held) (shared : Bool)
+module _ {D : Type 0} (honest : D → Bool) (marks : D → ℕ → Marks) (held : D → ℕ → Held) (work : Work) (shared : Bool)
     (d d1 : D) (slots : Slots) (last : Entry) (end total : ℕ) (carry : Carry) (files : List Frozen) (front : List ℕ)
     (messages : List (List ℕ)) (part : Frozen) where
   abbrev s : State
-  s = state_in shared slots.current files front messages
+  s = state_in work shared slots.current files front messages
 
   abbrev prefix : List ℕ
   prefix = prefix_of carry
@@ -38,7 +42,7 @@ module _ {D : Type 0} (honest : D → Bool) (marks : D → ℕ → Marks) (held 
   sealed = sealed_entry (active_of slots.current) (end_of s) (length messages)
 
   abbrev pub after_state : State
-  after_state = state_in shared (moved_on s prefix).manifest (files ++ part ∷ []) prefix []
+  after_state = state_in (work_in (work.next + 1) work.job work.waiting) shared (moved_on s prefix).manifest (files ++ part ∷ []) prefix []
 
   abbrev pub after_slots : Slots
   after_slots = record {
@@ -49,7 +53,7 @@ module _ {D : Type 0} (honest : D → Bool) (marks : D → ℕ → Marks) (held 
 
   front_is : IsValidManifest slots.current → front_of (moved_on s prefix).manifest ≡ front_of slots.current ++
       sealed ∷ []
-  front_is valid = next_front slots.current valid (end_of s) (length messages) slots.current.next (length prefix)
+  front_is valid = next_front slots.current valid (end_of s) (length messages) work.next (length prefix)
 
   parts_are : IsValidManifest slots.current → AreHeldAs (honest d) (front_of slots.current) files
       → after_state.parts ≡ s.parts ++ part_at Sealed sealed part.octets ∷ []
@@ -78,19 +82,20 @@ module _ {D : Type 0} (honest : D → Bool) (marks : D → ℕ → Marks) (held 
 
   pub moved_archive : (closed : Bool) → IsArchive honest marks held d slots last end total carry files s closed
       → closed ≡ false → IsCarry carry → honest d1 ≡ honest d → IsValidManifest (moved_on s prefix).manifest
-      → MovesMarks (marks d) (marks d1) last.file slots.current.next (file_of (other slots.current_slot)) (length
+      → MovesMarks (marks d) (marks d1) last.file work.next (file_of (other slots.current_slot)) (length
       prefix)
+      → (marks d1 last.file).frozen ≡ true
       → (IsTrue (honest d) → AllImages (held d1) (IsKnown after_slots (moved_on s prefix)))
       → (IsTrue (honest d) → IsSealedAt part.octets sealed s.active) → IsHeldAs (honest d) sealed part
-      → IsArchive honest marks held d1 after_slots (active_entry slots.current.next (length prefix))
+      → IsArchive honest marks held d1 after_slots (active_entry work.next (length prefix))
       (length prefix) total carry (files ++ part ∷ []) after_state closed
-  moved_archive closed archive was is_carry honest_too valid moves known part_is named =
+  moved_archive closed archive was is_carry honest_too valid moves frozen known part_is named =
       let counted = archive.counted in
       let still = archive.still_open was in
       let are = are_entries slots.current counted.valid in
       let file = ap (λ (e : Entry). e.file) counted.last_is in
       let moved = counted_moved s last end total prefix counted valid in
-      let now : IsCounted after_state (active_entry slots.current.next (length prefix)) (length prefix) total = record {
+      let now : IsCounted after_state (active_entry work.next (length prefix)) (length prefix) total = record {
         valid = valid;
         next = omega arith;
         last_is = moved.last_is;
@@ -116,8 +121,8 @@ module _ {D : Type 0} (honest : D → Bool) (marks : D → ℕ → Marks) (held 
         still_open = λ _. record {
           kept = record {
             counted = now;
-            ready = ready_moved (marks d) (marks d1) last.file slots.current.next end slots.current_slot (length prefix)
-                (omega (arith, file, are.active.file_from)) (omega (arith, file, are.active.file_below))
+            ready = ready_moved (marks d) (marks d1) last.file work.next end slots.current_slot (length prefix)
+                (omega (arith, file, are.active.file_from)) (omega (arith, file, are.active.file_below, counted.next))
                 still.kept.ready moves;
             known = λ h1 image is.
                 subst (λ (x : State). IsKnown after_slots x image) (sym (same (back h1))) (known (back h1) image is);
@@ -125,5 +130,27 @@ module _ {D : Type 0} (honest : D → Bool) (marks : D → ℕ → Marks) (held 
           segment = segment_called carry is_carry;
           hands_on = λ h1. subst (λ (x : State). HandsOn x carry) (sym (same (back h1)))
               (hands_next s carry counted.valid is_carry (still.hands_on (back h1)));
+          frozen = subst (AreFrozen (marks d1)) (sym (front_is counted.valid))
+              (all_join (λ e. (marks d1 e.file).frozen ≡ true) (front_of slots.current) (sealed ∷ [])
+              (frozen_too slots.current (marks d) (marks d1) counted.valid
+              (λ n from below apart. moves.others n (λ is. apart (is ∙ file))
+              (λ is. omega (arith, is, below, counted.next))
+              (λ is. omega (arith, is, from, slot_below (other slots.current_slot)))) still.frozen)
+              (ap (λ (n : ℕ). (marks d1 n).frozen) (sym file) ∙ frozen, tt));
         };
       }
+
+  pub moved_work : (closed : Bool) → IsArchive honest marks held d slots last end total carry files s closed
+      → honest d1 ≡ honest d → ((n : ℕ) → IsUnnamed s n → marks d1 n ≡ marks d n)
+      → (IsTrue (honest d) → (n : ℕ) → IsUnnamed s n → held d1 n ≡ held d n)
+      → slots.current.generation + 1 + job_generations (job_in work.job) < 2 ^ 64
+      → IsUnderWay honest marks held d s work closed
+      → IsUnderWay honest marks held d1 after_state (work_in (work.next + 1) work.job work.waiting) closed
+  moved_work closed archive honest_too marks_too held_too left was =
+      let valid = archive.counted.valid in
+      let all = archive.files_are in
+      subst (λ (l : List Part). IsUnderWay honest marks held d1 (with_parts l)
+      (work_in (work.next + 1) work.job work.waiting) closed) (sym (parts_are valid all))
+      (sealed_too s valid prefix (part_at Sealed sealed part.octets)
+      (parts_many octets_in (front_of slots.current) files (as_many (honest d) (front_of slots.current) files all))
+      honest marks held d d1 work closed honest_too marks_too held_too left was)

@@ -22,6 +22,13 @@ parts_at_push octets e x (f ∷ entries) (y ∷ files) long =
       long,
     )))
 
+pub parts_many : {S : Type 0} (octets : S → List ℕ) (entries : List Entry) (files : List S)
+    → length files ≡ length entries → length (parts_at octets entries files) ≡ length entries
+parts_many octets [] [] long = refl
+parts_many octets [] (y ∷ files) long = absurd (omega (arith, long))
+parts_many octets (f ∷ entries) [] long = absurd (omega (arith, long))
+parts_many octets (f ∷ entries) (y ∷ files) long = omega (arith, parts_many octets entries files (omega (arith, long)))
+
 pub frozen_push : {S : Type 0} (octets : S → List ℕ) (e : Entry) (p : Part) (x : S) → StandsAs e.kind (octets x) e p
     → (entries : List Entry) (parts : List Part) (files : List S) → FrozenStand octets entries parts files
     → FrozenStand octets (entries ++ e ∷ []) (parts ++ p ∷ []) (files ++ x ∷ [])

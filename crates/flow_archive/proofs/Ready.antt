@@ -72,7 +72,7 @@ ready_more old new active next end more from below ready others room settled tha
     apart : (slot : Slot) → file_of slot ≢ active
     apart slot is = omega (arith, is, slot_below slot, from)
 
-which_slot : (P : ℕ → Type 0) (slot : Slot) → P (file_of slot) → P (file_of (other slot)) → (any : Slot)
+pub which_slot : (P : ℕ → Type 0) (slot : Slot) → P (file_of slot) → P (file_of (other slot)) → (any : Slot)
     → P (file_of any)
 which_slot P First one two First = one
 which_slot P First one two Second = two

@@ -11,6 +11,8 @@ use Rattle.flow_archive.specs.declared.refusal.ArchiveError.{ArchiveError}
 use Rattle.flow_archive.specs.declared.refusal.ArchiveError.TheVariants.{Message, OutOfMemory, NumbersSpent, NotEmpty}
 use Rattle.flow_archive.specs.declared.refusal.ArchiveError.TheVariants.{Fault, NoRoom, ManifestFull, NothingToSeal}
 use Rattle.flow_archive.specs.declared.refusal.ArchiveError.TheVariants.{Closed}
+use Rattle.flow_archive.specs.declared.refusal.ArchiveError.TheVariants.{Damaged, SourceFault, RollBusy, NoRoll}
+use Rattle.flow_archive.specs.declared.refusal.ArchiveError.TheVariants.{RollCount, RollNotDone, Pinned, NothingToRetire}
 use Rattle.flow_archive.specs.Answers.{Answers, Takes}
 use Rattle.flow_archive.specs.Runs.{IsAfter, IsRun, IsSince, Leads, StandsForSome}
 use Rattle.flow_archive.specs.Seen.{Seen, IsStep, StandsBeforeOrAfter}
@@ -42,6 +44,14 @@ module _ {D : Type 0} (honest : D → Bool) (moment : D → ℕ) (left_since : D
   closed_step old new After (Err OutOfMemory) step closed = step.refused (λ is. cc)
   closed_step old new After (Err NumbersSpent) step closed = step.refused (λ is. cc)
   closed_step old new After (Err NotEmpty) step closed = step.refused (λ is. cc)
+  closed_step old new After (Err (Damaged file at)) step closed = step.refused (λ is. cc)
+  closed_step old new After (Err SourceFault) step closed = step.refused (λ is. cc)
+  closed_step old new After (Err RollBusy) step closed = step.refused (λ is. cc)
+  closed_step old new After (Err NoRoll) step closed = step.refused (λ is. cc)
+  closed_step old new After (Err RollCount) step closed = step.refused (λ is. cc)
+  closed_step old new After (Err RollNotDone) step closed = step.refused (λ is. cc)
+  closed_step old new After (Err Pinned) step closed = step.refused (λ is. cc)
+  closed_step old new After (Err NothingToRetire) step closed = step.refused (λ is. cc)
   closed_step old new After (Err NoRoom) step closed = step.refused (λ is. cc)
   closed_step old new After (Err ManifestFull) step closed = step.refused (λ is. cc)
   closed_step old new After (Err NothingToSeal) step closed = step.refused (λ is. cc)
@@ -85,6 +95,30 @@ module _ {D : Type 0} (honest : D → Bool) (moment : D → ℕ) (left_since : D
       let same = step.refused (λ is. cc) in
       inr (ap (λ (s : Seen D). s.closed) same ∙ still, ap (λ (s : Seen D). s.state) same)
   open_step old mid e (Err NotEmpty) step h still =
+      let same = step.refused (λ is. cc) in
+      inr (ap (λ (s : Seen D). s.closed) same ∙ still, ap (λ (s : Seen D). s.state) same)
+  open_step old mid e (Err (Damaged file at)) step h still =
+      let same = step.refused (λ is. cc) in
+      inr (ap (λ (s : Seen D). s.closed) same ∙ still, ap (λ (s : Seen D). s.state) same)
+  open_step old mid e (Err SourceFault) step h still =
+      let same = step.refused (λ is. cc) in
+      inr (ap (λ (s : Seen D). s.closed) same ∙ still, ap (λ (s : Seen D). s.state) same)
+  open_step old mid e (Err RollBusy) step h still =
+      let same = step.refused (λ is. cc) in
+      inr (ap (λ (s : Seen D). s.closed) same ∙ still, ap (λ (s : Seen D). s.state) same)
+  open_step old mid e (Err NoRoll) step h still =
+      let same = step.refused (λ is. cc) in
+      inr (ap (λ (s : Seen D). s.closed) same ∙ still, ap (λ (s : Seen D). s.state) same)
+  open_step old mid e (Err RollCount) step h still =
+      let same = step.refused (λ is. cc) in
+      inr (ap (λ (s : Seen D). s.closed) same ∙ still, ap (λ (s : Seen D). s.state) same)
+  open_step old mid e (Err RollNotDone) step h still =
+      let same = step.refused (λ is. cc) in
+      inr (ap (λ (s : Seen D). s.closed) same ∙ still, ap (λ (s : Seen D). s.state) same)
+  open_step old mid e (Err Pinned) step h still =
+      let same = step.refused (λ is. cc) in
+      inr (ap (λ (s : Seen D). s.closed) same ∙ still, ap (λ (s : Seen D). s.state) same)
+  open_step old mid e (Err NothingToRetire) step h still =
       let same = step.refused (λ is. cc) in
       inr (ap (λ (s : Seen D). s.closed) same ∙ still, ap (λ (s : Seen D). s.state) same)
   open_step old mid e (Err NoRoom) step h still =
@@ -134,6 +168,22 @@ module _ {D : Type 0} (honest : D → Bool) (moment : D → ℕ) (left_since : D
       nothing old mid e (Err NumbersSpent) events answers (step.refused (λ is. cc)) stands
   first old mid e (Err NotEmpty) events answers step h still stands =
       nothing old mid e (Err NotEmpty) events answers (step.refused (λ is. cc)) stands
+  first old mid e (Err (Damaged file at)) events answers step h still stands =
+      nothing old mid e (Err (Damaged file at)) events answers (step.refused (λ is. cc)) stands
+  first old mid e (Err SourceFault) events answers step h still stands =
+      nothing old mid e (Err SourceFault) events answers (step.refused (λ is. cc)) stands
+  first old mid e (Err RollBusy) events answers step h still stands =
+      nothing old mid e (Err RollBusy) events answers (step.refused (λ is. cc)) stands
+  first old mid e (Err NoRoll) events answers step h still stands =
+      nothing old mid e (Err NoRoll) events answers (step.refused (λ is. cc)) stands
+  first old mid e (Err RollCount) events answers step h still stands =
+      nothing old mid e (Err RollCount) events answers (step.refused (λ is. cc)) stands
+  first old mid e (Err RollNotDone) events answers step h still stands =
+      nothing old mid e (Err RollNotDone) events answers (step.refused (λ is. cc)) stands
+  first old mid e (Err Pinned) events answers step h still stands =
+      nothing old mid e (Err Pinned) events answers (step.refused (λ is. cc)) stands
+  first old mid e (Err NothingToRetire) events answers step h still stands =
+      nothing old mid e (Err NothingToRetire) events answers (step.refused (λ is. cc)) stands
   first old mid e (Err NoRoom) events answers step h still stands =
       nothing old mid e (Err NoRoom) events answers (step.refused (λ is. cc)) stands
   first old mid e (Err ManifestFull) events answers step h still stands =

@@ -1,22 +1,23 @@
 -- What changes of an image do to what it stands for.
-use Rattle.std.proofs.Common.{◌≡◌, ◌≢◌, ◌⊎◌, inl, inr, ⊎_elim, ℕ, ◌<◌, ◌≤◌, List, [], ◌∷◌, ◌++◌, take}
+use Rattle.std.proofs.Common.{◌≡◌, ◌≢◌, ◌⊎◌, inl, inr, ⊎_elim, ℕ, ◌<◌, ◌≤◌, true, List, [], ◌∷◌, ◌++◌, take}
 use Rattle.std.proofs.Common.{refl, sym, ◌∙◌, ap, subst, arith}
 use Rattle.std.specs.List.{AllByRecursion}
 use Rattle.std.proofs.lemmas.Bool.{cases_eq}
-use Rattle.flow_disk.specs.Disk.{InFile}
+use Rattle.flow_disk.specs.Disk.{InFile, Marks}
 use Rattle.flow_gate.specs.Gate.{IsGated}
 use Rattle.flow_gate.specs.Steps.{MayAdd, Adds}
 use Rattle.flow_gate.proofs.Rows.{row_front, shorter}
 use Rattle.flow_manifest.specs.declared.manifest.Kind.{Kind}
 use Rattle.flow_manifest.specs.declared.manifest.Kind.TheVariants.{Wide, Rolled, Sealed, Active}
 use Rattle.flow_manifest.specs.declared.manifest.Entry.{Entry}
+use Rattle.flow_manifest.specs.declared.manifest.Manifest.{Manifest}
 use Rattle.flow_manifest.specs.declared.slots.Slot.{Slot}
 use Rattle.flow_manifest.specs.declared.slots.Slot.TheVariants.{First, Second}
 use Rattle.flow_manifest.specs.declared.slots.Slots.{Slots}
 use Rattle.flow_manifest.specs.Manifest.{IsValidManifest}
 use Rattle.flow_manifest.specs.Following.{active_of, front_of}
 use Rattle.flow_manifest.specs.Slots.{file_of, other, AreSlots}
-use Rattle.flow_manifest.proofs.EntryLists.{all_by}
+use Rattle.flow_manifest.proofs.EntryLists.{all_both, all_by}
 use Rattle.flow_manifest.proofs.Followers.{IsOther, AreEntries, are_entries}
 use Rattle.flow_manifest.proofs.Swaps.{same_slots}
 use Rattle.flow_segment.specs.Steps.{KeepsFront}
@@ -24,6 +25,7 @@ use Rattle.flow_recover.specs.State.{Part, State, appended, end_of, reopened}
 use Rattle.flow_recover.specs.Chain.{IsChained}
 use Rattle.flow_recover.specs.Standing.{IsActiveAt, StandsAs, PartsStand, IsWithinLimits}
 use Rattle.flow_recover.specs.Standing.{HoldsFiles, StandsFor, StandsForEither, IsKnown}
+use Rattle.flow_archive.specs.Seen.{AreFrozen}
 
 pub slot_below : (slot : Slot) → file_of slot < 3
 slot_below First = omega arith
@@ -117,6 +119,16 @@ elsewhere slots s file Q a b far known step =
       current = known.current;
       files = files_below s a b are known.files (λ n from below. step.others n (λ is. omega (arith, is, far, below)));
     }
+
+-- the files in front of the active one stay frozen
+pub frozen_too : (m : Manifest) (old new : ℕ → Marks) → IsValidManifest m
+    → ((n : ℕ) → 3 ≤ n → n < m.next → n ≢ (active_of m).file → new n ≡ old n) → AreFrozen old (front_of m)
+    → AreFrozen new (front_of m)
+frozen_too m old new valid same was =
+    let are = are_entries m valid in
+    all_both (IsOther m) (λ e. (old e.file).frozen ≡ true) (λ e. (new e.file).frozen ≡ true)
+    (λ e one is. ap (λ (k : Marks). k.frozen) (same e.file one.entry.file_from one.entry.file_below one.apart) ∙ is)
+    (front_of m) are.front was
 
 -- messages more in the active file, or none
 module _ (slots : Slots) (s : State) (file end : ℕ) (more : List (List ℕ))

@@ -1,5 +1,5 @@
 -- Steps of an archive.
-use Rattle.std.proofs.Common.{◌≡◌, inl, inr, ⊎_elim, ℕ, Bool, true, false, IsTrue, List, Result, Ok, Err, refl}
+use Rattle.std.proofs.Common.{◌≡◌, ◌⊎◌, inl, inr, ⊎_elim, ℕ, Bool, true, false, IsTrue, List, Result, Ok, Err, refl}
 use Rattle.std.proofs.Common.{sym, ap, subst}
 use Rattle.std.specs.Prelude.{IsErrAnd}
 use Rattle.flow_disk.specs.Disk.{Held, IsDiskImage, AllImages}
@@ -61,13 +61,14 @@ acknowledged honest moment left_since old new After answer honest_too run state 
   refused = tt;
 }
 
-pub failed : {D T : Type 0} (honest : D → Bool) (moment : D → ℕ) (left_since : D → ℕ → (ℕ → List ℕ) → Type 0)
+-- a fault of the device; the archive has the state before, or the one after
+pub failed_either : {D T : Type 0} (honest : D → Bool) (moment : D → ℕ) (left_since : D → ℕ → (ℕ → List ℕ) → Type 0)
     (old new : Seen D) (After : State → Type 0) → honest new.disk ≡ honest old.disk
     → (IsTrue (honest old.disk)
     → LeavesOnly moment left_since old.disk new.disk (StandsBeforeOrAfter old.state After))
-    → new.state ≡ old.state → new.closed ≡ true → old.closed ≡ false
+    → (new.state ≡ old.state) ⊎ After new.state → new.closed ≡ true → old.closed ≡ false
     → IsStep {D = D} {T = T} honest moment left_since old new After (Err refusal.Fault)
-failed honest moment left_since old new After honest_too run state still was = record {
+failed_either honest moment left_since old new After honest_too run state still was = record {
   honest_too = honest_too;
   any_moment = λ h _. run h;
   done = tt;
@@ -75,6 +76,15 @@ failed honest moment left_since old new After honest_too run state still was = r
   stands = λ h open_still. absurd (cc);
   refused = λ differs. absurd (differs refl);
 }
+
+pub failed : {D T : Type 0} (honest : D → Bool) (moment : D → ℕ) (left_since : D → ℕ → (ℕ → List ℕ) → Type 0)
+    (old new : Seen D) (After : State → Type 0) → honest new.disk ≡ honest old.disk
+    → (IsTrue (honest old.disk)
+    → LeavesOnly moment left_since old.disk new.disk (StandsBeforeOrAfter old.state After))
+    → new.state ≡ old.state → new.closed ≡ true → old.closed ≡ false
+    → IsStep {D = D} {T = T} honest moment left_since old new After (Err refusal.Fault)
+failed {D} {T} honest moment left_since old new After honest_too run state still was =
+    failed_either {D = D} {T = T} honest moment left_since old new After honest_too run (inl state) still was
 
 -- an answer, told as that of an event
 pub told : {D T U : Type 0} (honest : D → Bool) (moment : D → ℕ) (left_since : D → ℕ → (ℕ → List ℕ) → Type 0)
@@ -106,7 +116,19 @@ told_refused {D} {T} {U} honest moment left_since old new A B e r is so step =
           (step.any_moment h still)
           (λ image either. ⊎_elim (λ before. inl before) (λ after. inr (after.0, so after.0 after.1, after.2)) either);
       done = tt;
-      fault = λ same. let fault : e ≡ refusal.Fault = cc in step.fault (ap (λ (x : ArchiveError). Err x) fault);
+      fault = λ same.
+          let fault : e ≡ refusal.Fault = cc in
+          let was = step.fault (ap (λ (x : ArchiveError). Err x) fault) in
+          (⊎_elim (λ before. inl before) (λ after. inr (so new.state after)) was.0, was.1, was.2);
       stands = step.stands;
       refused = step.refused;
     })
+
+-- the same answer, with what follows from what the call has made of the state
+pub told_as_it_is : {D T : Type 0} (honest : D → Bool) (moment : D → ℕ)
+    (left_since : D → ℕ → (ℕ → List ℕ) → Type 0) (old new : Seen D) (A B : State → Type 0) (r : Result T ArchiveError)
+    → ((s : State) → A s → B s) → IsStep {D = D} {T = T} honest moment left_since old new A r
+    → IsStep {D = D} {T = T} honest moment left_since old new B r
+told_as_it_is honest moment left_since old new A B (Ok x) so step = told honest moment left_since old new A B x x so step
+told_as_it_is {T = T} honest moment left_since old new A B (Err e) so step =
+    told_refused {T = T} honest moment left_since old new A B e (Err e) refl so step

@@ -6,6 +6,7 @@ use Rattle.flow_codec.specs.Fault.{IsFault}
 use Rattle.flow_codec.specs.Templates.{AllTemplates}
 use Rattle.flow_gate.specs.Gate.{octet_sum}
 use Rattle.flow_gate.specs.Scan.{texts}
+use Rattle.flow_manifest.specs.declared.following.JobKind.TheVariants.{Roll, Merge}
 use Rattle.flow_manifest.specs.declared.manifest.Manifest.{Manifest}
 use Rattle.flow_manifest.specs.Following.{active_of, messages_of}
 use Rattle.flow_measure.specs.History.{Accepted, AreAcceptedFrom, templates_from}
@@ -13,13 +14,18 @@ use Rattle.flow_segment.specs.Carry.{Carry, carry_from, octets_of, prefix_of}
 use Rattle.flow_recover.specs.State.{Job, Part, StagedFile, State, appended, moved_on}
 use Rattle.flow_recover.specs.Chain.{IsSegment}
 use Rattle.flow_archive.specs.declared.event.Answer.{Answer}
-use Rattle.flow_archive.specs.declared.event.Answer.TheVariants.{Position, Sealed}
+use Rattle.flow_archive.specs.declared.event.Answer.TheVariants.{Position, Sealed, Began, Left, Written, Dropped, Retired}
 use Rattle.flow_archive.specs.declared.event.Event.{Event}
-use Rattle.flow_archive.specs.declared.event.Event.TheVariants.{Append, AppendBatch, Seal}
+use Rattle.flow_archive.specs.declared.event.Event.TheVariants.{Append, AppendBatch, Seal, RollBegin, MergeBegin}
+use Rattle.flow_archive.specs.declared.event.Event.TheVariants.{RollStep, RollWrite, RollInstall, RollDrop, Retire}
 use Rattle.flow_archive.specs.declared.refusal.ArchiveError.{ArchiveError}
 use Rattle.flow_archive.specs.declared.refusal.ArchiveError.TheVariants.{Message, OutOfMemory, NumbersSpent, NotEmpty}
 use Rattle.flow_archive.specs.declared.refusal.ArchiveError.TheVariants.{Fault, NoRoom, ManifestFull, NothingToSeal}
 use Rattle.flow_archive.specs.declared.refusal.ArchiveError.TheVariants.{Closed}
+use Rattle.flow_archive.specs.declared.refusal.ArchiveError.TheVariants.{Damaged, SourceFault, RollBusy, NoRoll}
+use Rattle.flow_archive.specs.declared.refusal.ArchiveError.TheVariants.{RollCount, RollNotDone, Pinned, NothingToRetire}
+use Rattle.flow_archive.specs.JobAnswers.{begun, dropped, AnswersBegin, AnswersDrop, AnswersInstall, AnswersRetire}
+use Rattle.flow_archive.specs.JobAnswers.{AnswersStep, AnswersWrite, IsInstalled, IsRetired, IsStepped, IsWritten}
 
 -- ---- messages behind others
 
@@ -47,6 +53,14 @@ IsNotAdmitted octets carry room positions NumbersSpent =
 IsNotAdmitted octets carry room positions OutOfMemory = Unit {0}
 IsNotAdmitted octets carry room positions Fault = ⊥
 IsNotAdmitted octets carry room positions NotEmpty = ⊥
+IsNotAdmitted octets carry room positions (Damaged file at) = ⊥
+IsNotAdmitted octets carry room positions SourceFault = ⊥
+IsNotAdmitted octets carry room positions RollBusy = ⊥
+IsNotAdmitted octets carry room positions NoRoll = ⊥
+IsNotAdmitted octets carry room positions RollCount = ⊥
+IsNotAdmitted octets carry room positions RollNotDone = ⊥
+IsNotAdmitted octets carry room positions Pinned = ⊥
+IsNotAdmitted octets carry room positions NothingToRetire = ⊥
 IsNotAdmitted octets carry room positions ManifestFull = ⊥
 IsNotAdmitted octets carry room positions NothingToSeal = ⊥
 IsNotAdmitted octets carry room positions Closed = ⊥
@@ -110,6 +124,14 @@ AnswersAppend closed s octets (Err NumbersSpent) after =
 AnswersAppend closed s octets (Err OutOfMemory) after = (closed ≡ false) × (after ≡ s)
 AnswersAppend closed s octets (Err Fault) after = (closed ≡ false) × MayAppend s octets × (after ≡ s)
 AnswersAppend closed s octets (Err NotEmpty) after = ⊥
+AnswersAppend closed s octets (Err (Damaged file at)) after = ⊥
+AnswersAppend closed s octets (Err SourceFault) after = ⊥
+AnswersAppend closed s octets (Err RollBusy) after = ⊥
+AnswersAppend closed s octets (Err NoRoll) after = ⊥
+AnswersAppend closed s octets (Err RollCount) after = ⊥
+AnswersAppend closed s octets (Err RollNotDone) after = ⊥
+AnswersAppend closed s octets (Err Pinned) after = ⊥
+AnswersAppend closed s octets (Err NothingToRetire) after = ⊥
 AnswersAppend closed s octets (Err ManifestFull) after = ⊥
 AnswersAppend closed s octets (Err NothingToSeal) after = ⊥
 
@@ -122,25 +144,34 @@ IsMovedOn honest s after =
     (carry : Carry) × (sealed : Part) × IsSegment s.active carry × (IsTrue honest → sealed ≡ s.active)
     × (after ≡ record (moved_on s (prefix_of carry)) { parts = s.parts ++ sealed ∷ [] })
 
--- nothing of a manifest, and of the count of its active segment's messages, speaks against a seal
-pub record MayFollow (m : Manifest) (count : ℕ) : Type 0 where
+-- Nothing speaks against a seal: of a manifest, the count of its active segment's messages, the next file's number, and
+-- the generations that are kept for a staged file.
+pub record MayFollow (m : Manifest) (count file kept : ℕ) : Type 0 where
   pub some : 1 ≤ count
   pub few : length m.entries < 4096
-  pub next : m.next + 1 < 2 ^ 64
-  pub generation : m.generation + 1 < 2 ^ 64
+  pub next : file + 1 < 2 ^ 64
+  pub generation : m.generation + 1 + kept < 2 ^ 64
 
 -- Why no manifest follows: the first of the refusals 42, 41, 25 that holds, or 11.
-abbrev pub IsNotFollowed : Manifest → ℕ → ArchiveError → Type 0
-IsNotFollowed m count NothingToSeal = count ≡ 0
-IsNotFollowed m count ManifestFull = (1 ≤ count) × (4096 ≤ length m.entries)
-IsNotFollowed m count NumbersSpent =
-    (1 ≤ count) × (length m.entries < 4096) × ((2 ^ 64 ≤ m.next + 1) ⊎ (2 ^ 64 ≤ m.generation + 1))
-IsNotFollowed m count OutOfMemory = Unit {0}
-IsNotFollowed m count (Message fault) = ⊥
-IsNotFollowed m count NotEmpty = ⊥
-IsNotFollowed m count Fault = ⊥
-IsNotFollowed m count NoRoom = ⊥
-IsNotFollowed m count Closed = ⊥
+abbrev pub IsNotFollowed : Manifest → ℕ → ℕ → ℕ → ArchiveError → Type 0
+IsNotFollowed m count file kept NothingToSeal = count ≡ 0
+IsNotFollowed m count file kept ManifestFull = (1 ≤ count) × (4096 ≤ length m.entries)
+IsNotFollowed m count file kept NumbersSpent =
+    (1 ≤ count) × (length m.entries < 4096) × ((2 ^ 64 ≤ file + 1) ⊎ (2 ^ 64 ≤ m.generation + 1 + kept))
+IsNotFollowed m count file kept OutOfMemory = Unit {0}
+IsNotFollowed m count file kept (Message fault) = ⊥
+IsNotFollowed m count file kept NotEmpty = ⊥
+IsNotFollowed m count file kept (Damaged n at) = ⊥
+IsNotFollowed m count file kept SourceFault = ⊥
+IsNotFollowed m count file kept RollBusy = ⊥
+IsNotFollowed m count file kept NoRoll = ⊥
+IsNotFollowed m count file kept RollCount = ⊥
+IsNotFollowed m count file kept RollNotDone = ⊥
+IsNotFollowed m count file kept Pinned = ⊥
+IsNotFollowed m count file kept NothingToRetire = ⊥
+IsNotFollowed m count file kept Fault = ⊥
+IsNotFollowed m count file kept NoRoom = ⊥
+IsNotFollowed m count file kept Closed = ⊥
 
 -- nothing speaks against a seal
 pub record MaySeal (s : State) : Type 0 where
@@ -165,6 +196,14 @@ AnswersSeal honest closed s (Err Fault) after = (closed ≡ false) × MaySeal s 
 AnswersSeal honest closed s (Err (Message fault)) after = ⊥
 AnswersSeal honest closed s (Err NoRoom) after = ⊥
 AnswersSeal honest closed s (Err NotEmpty) after = ⊥
+AnswersSeal honest closed s (Err (Damaged file at)) after = ⊥
+AnswersSeal honest closed s (Err SourceFault) after = ⊥
+AnswersSeal honest closed s (Err RollBusy) after = ⊥
+AnswersSeal honest closed s (Err NoRoll) after = ⊥
+AnswersSeal honest closed s (Err RollCount) after = ⊥
+AnswersSeal honest closed s (Err RollNotDone) after = ⊥
+AnswersSeal honest closed s (Err Pinned) after = ⊥
+AnswersSeal honest closed s (Err NothingToRetire) after = ⊥
 
 -- ---- events
 
@@ -173,10 +212,17 @@ abbrev pub Takes : Bool → State → Event → State → Type 0
 Takes honest s (Append message) after = after ≡ appended s (message.items ∷ [])
 Takes honest s (AppendBatch messages) after = after ≡ appended s (texts messages.items)
 Takes honest s Seal after = IsMovedOn honest s after
+Takes honest s (RollBegin count) after = after ≡ begun s Roll count
+Takes honest s (MergeBegin count) after = after ≡ begun s Merge count
+Takes honest s RollStep after = IsStepped s after
+Takes honest s RollWrite after = IsWritten honest s after
+Takes honest s RollInstall after = IsInstalled honest s after
+Takes honest s RollDrop after = after ≡ dropped s
+Takes honest s Retire after = (file : ℕ) × IsRetired s file after
 
--- a number, as the answer of an event
-abbrev pub told_as : (ℕ → Answer) → Result ℕ ArchiveError → Result Answer ArchiveError
-told_as answer (Ok number) = Ok (answer number)
+-- what a call gave, as the answer of an event
+abbrev pub told_as : {X : Type 0} → (X → Answer) → Result X ArchiveError → Result Answer ArchiveError
+told_as answer (Ok x) = Ok (answer x)
 told_as answer (Err e) = Err e
 
 -- Of an archive on an honest disk or not, closed or not, and in this state: this event, its answer, and the state
@@ -190,3 +236,19 @@ Answers honest closed s (AppendBatch messages) answer after =
     × AnswersAppend closed s (texts messages.items) position after
 Answers honest closed s Seal answer after =
     (file : Result ℕ ArchiveError) × (answer ≡ told_as Sealed file) × AnswersSeal honest closed s file after
+Answers honest closed s (RollBegin count) answer after =
+    (done : Result (Unit {0}) ArchiveError) × (answer ≡ told_as (λ _. Began) done)
+    × AnswersBegin closed s Roll count done after
+Answers honest closed s (MergeBegin count) answer after =
+    (done : Result (Unit {0}) ArchiveError) × (answer ≡ told_as (λ _. Began) done)
+    × AnswersBegin closed s Merge count done after
+Answers honest closed s RollStep answer after =
+    (left : Result ℕ ArchiveError) × (answer ≡ told_as Left left) × AnswersStep honest closed s left after
+Answers honest closed s RollWrite answer after =
+    (done : Result (Unit {0}) ArchiveError) × (answer ≡ told_as (λ _. Written) done)
+    × AnswersWrite honest closed s done after
+Answers honest closed s RollInstall answer after = AnswersInstall honest closed s answer after
+Answers honest closed s RollDrop answer after =
+    (done : Result (Unit {0}) ArchiveError) × (answer ≡ told_as (λ _. Dropped) done) × AnswersDrop closed s done after
+Answers honest closed s Retire answer after =
+    (file : Result ℕ ArchiveError) × (answer ≡ told_as Retired file) × AnswersRetire closed s file after

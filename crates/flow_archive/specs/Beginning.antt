@@ -9,6 +9,8 @@ use Rattle.flow_archive.specs.declared.refusal.ArchiveError.{ArchiveError}
 use Rattle.flow_archive.specs.declared.refusal.ArchiveError.TheVariants.{Message, OutOfMemory, NumbersSpent, NotEmpty}
 use Rattle.flow_archive.specs.declared.refusal.ArchiveError.TheVariants.{Fault, NoRoom, ManifestFull, NothingToSeal}
 use Rattle.flow_archive.specs.declared.refusal.ArchiveError.TheVariants.{Closed}
+use Rattle.flow_archive.specs.declared.refusal.ArchiveError.TheVariants.{Damaged, SourceFault, RollBusy, NoRoll}
+use Rattle.flow_archive.specs.declared.refusal.ArchiveError.TheVariants.{RollCount, RollNotDone, Pinned, NothingToRetire}
 use Rattle.flow_archive.specs.declared.refusal.Refused.{Refused}
 use Rattle.flow_archive.specs.Seen.{Seen}
 
@@ -59,6 +61,14 @@ IsNotMade honest moment left_since marks held old new Fault = Unit {0}
 IsNotMade honest moment left_since marks held old new (Message fault) = ⊥
 IsNotMade honest moment left_since marks held old new NumbersSpent = ⊥
 IsNotMade honest moment left_since marks held old new NoRoom = ⊥
+IsNotMade honest moment left_since marks held old new (Damaged file at) = ⊥
+IsNotMade honest moment left_since marks held old new SourceFault = ⊥
+IsNotMade honest moment left_since marks held old new RollBusy = ⊥
+IsNotMade honest moment left_since marks held old new NoRoll = ⊥
+IsNotMade honest moment left_since marks held old new RollCount = ⊥
+IsNotMade honest moment left_since marks held old new RollNotDone = ⊥
+IsNotMade honest moment left_since marks held old new Pinned = ⊥
+IsNotMade honest moment left_since marks held old new NothingToRetire = ⊥
 IsNotMade honest moment left_since marks held old new ManifestFull = ⊥
 IsNotMade honest moment left_since marks held old new NothingToSeal = ⊥
 IsNotMade honest moment left_since marks held old new Closed = ⊥

@@ -3,8 +3,14 @@ pub mod Printed
 pub mod Refusals
 pub mod Parts
 pub mod Owned
+pub mod UnderWay
 pub mod Moving
+pub mod Installing
+pub mod Sources
+pub mod Writing
 pub mod Seen
 pub mod Answers
+pub mod JobAnswers
 pub mod Runs
 pub mod Beginning
+pub mod Advancing

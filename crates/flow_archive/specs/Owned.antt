@@ -1,5 +1,5 @@
 -- The frozen files of an archive, and what directories have of them.
-use Rattle.std.specs.Prelude.{◌≡◌, ℕ, ◌≤◌, Bool, List, [], ◌∷◌, take}
+use Rattle.std.specs.Prelude.{◌≡◌, ℕ, ◌≤◌, Bool, true, false, List, [], ◌∷◌, take}
 use Rattle.std.specs.List.{flat_map}
 use Rattle.std.specs.Arc.{arc_value}
 use Rattle.flow_disk.specs.declared.sealed.SealedFile.{Ghosts}
@@ -21,19 +21,33 @@ abbrev pub value_of : {P : Type 0} → Owned P → P
 value_of (Plain value) = value
 value_of (Shared arc) = arc_value arc
 
--- A frozen file of an archive: what its entry says of it, whether it is on an honest disk, which reads as it is, and its
--- octets.
+-- whether it may have further owners
+abbrev pub is_shared : {P : Type 0} → Owned P → Bool
+is_shared (Plain value) = false
+is_shared (Shared arc) = true
+
+-- A frozen file of an archive: what its entry says of it, whether it is on an honest disk, which reads as it is, its
+-- octets, and whether it may have further owners.
 pub record Frozen : Type 0 where
   pub entry : Entry
   pub honest : Bool
   pub octets : List ℕ
+  pub shared : Bool
+
+-- the same file, with one owner
+abbrev pub unshared : Frozen → Frozen
+unshared f = record f { shared = false }
+
+-- the archive alone has it
+abbrev pub IsAlone : Frozen → Type 0
+IsAlone f = f.shared ≡ false
 
 abbrev pub octets_in : Frozen → List ℕ
 octets_in f = f.octets
 
 -- a sealed segment
-abbrev pub segment_file : {F X : Type 0} {files : Ghosts F X} → SealedPart F X files → Frozen
-segment_file {F} {X} {files} p = record {
+abbrev pub segment_file : {F X : Type 0} {files : Ghosts F X} → Bool → SealedPart F X files → Frozen
+segment_file {F} {X} {files} shared p = record {
   entry = record {
     kind = kind.Sealed;
     prefix = p.prefix;
@@ -43,20 +57,22 @@ segment_file {F} {X} {files} p = record {
   };
   honest = files.honest p.reader;
   octets = files.octets p.reader;
+  shared = shared;
 }
 
 -- a file of sums, over intervals of the width or wide ones
-abbrev pub sums_file : Kind → stored.Rollup → Frozen
-sums_file of p = record {
+abbrev pub sums_file : Kind → Bool → stored.Rollup → Frozen
+sums_file of shared p = record {
   entry = record { kind = of; prefix = 0; file = p.file; length = p.length; messages = p.messages };
   honest = p.honest;
   octets = p.octets;
+  shared = shared;
 }
 
 abbrev pub frozen_of : {F X : Type 0} {files : Ghosts F X} → Held F X files → Frozen
-frozen_of (Sealed part) = segment_file (value_of part)
-frozen_of (Rolled part) = sums_file kind.Rolled (value_of part)
-frozen_of (Wide part) = sums_file kind.Wide (value_of part)
+frozen_of (Sealed part) = segment_file (is_shared part) (value_of part)
+frozen_of (Rolled part) = sums_file kind.Rolled (is_shared part) (value_of part)
+frozen_of (Wide part) = sums_file kind.Wide (is_shared part) (value_of part)
 
 -- ---- the entry of a file
 
@@ -74,10 +90,10 @@ MayBeFrozen kind.Rolled entry = entry.prefix ≡ 0
 MayBeFrozen kind.Sealed entry = entry.prefix ≤ entry.length
 MayBeFrozen kind.Active entry = ⊥
 
--- the file with these octets that an entry names
+-- the file with these octets that an entry names, as its disk gives it
 abbrev pub frozen_as : Entry → Bool → List ℕ → Frozen
 frozen_as entry honest octets =
-    record { entry = entry; honest = honest; octets = counted_of entry.kind entry.length octets }
+    record { entry = entry; honest = honest; octets = counted_of entry.kind entry.length octets; shared = false }
 
 abbrev pub all_frozen : {S : Type 0} → (S → Bool) → (S → List ℕ) → List Entry → List S → List Frozen
 all_frozen honest octets [] files = []

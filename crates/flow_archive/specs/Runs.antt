@@ -5,11 +5,14 @@ use Rattle.flow_recover.specs.State.{State, reopened}
 use Rattle.flow_recover.specs.Standing.{StandsFor}
 use Rattle.flow_archive.specs.declared.event.Answer.{Answer}
 use Rattle.flow_archive.specs.declared.event.Event.{Event}
-use Rattle.flow_archive.specs.declared.event.Event.TheVariants.{Append, AppendBatch, Seal}
+use Rattle.flow_archive.specs.declared.event.Event.TheVariants.{Append, AppendBatch, Seal, RollBegin, MergeBegin}
+use Rattle.flow_archive.specs.declared.event.Event.TheVariants.{RollStep, RollWrite, RollInstall, RollDrop, Retire}
 use Rattle.flow_archive.specs.declared.refusal.ArchiveError.{ArchiveError}
 use Rattle.flow_archive.specs.declared.refusal.ArchiveError.TheVariants.{Message, OutOfMemory, NumbersSpent, NotEmpty}
 use Rattle.flow_archive.specs.declared.refusal.ArchiveError.TheVariants.{Fault, NoRoom, ManifestFull, NothingToSeal}
 use Rattle.flow_archive.specs.declared.refusal.ArchiveError.TheVariants.{Closed}
+use Rattle.flow_archive.specs.declared.refusal.ArchiveError.TheVariants.{Damaged, SourceFault, RollBusy, NoRoll}
+use Rattle.flow_archive.specs.declared.refusal.ArchiveError.TheVariants.{RollCount, RollNotDone, Pinned, NothingToRetire}
 use Rattle.flow_archive.specs.Answers.{Answers, Takes}
 use Rattle.flow_archive.specs.Seen.{Seen, IsStep}
 
@@ -18,6 +21,13 @@ abbrev pub IsEvent : Event → Type 0
 IsEvent (Append message) = Unit {0}
 IsEvent (AppendBatch messages) = (1 ≤ length messages.items) × (length messages.items ≤ 64)
 IsEvent Seal = Unit {0}
+IsEvent (RollBegin count) = Unit {0}
+IsEvent (MergeBegin count) = Unit {0}
+IsEvent RollStep = Unit {0}
+IsEvent RollWrite = Unit {0}
+IsEvent RollInstall = Unit {0}
+IsEvent RollDrop = Unit {0}
+IsEvent Retire = Unit {0}
 
 -- What an event with this answer may have made of a state. One that met a fault of the device counts as taken: the disk
 -- may have it.
@@ -28,6 +38,14 @@ Leads s event (Err (Message fault)) after = after ≡ s
 Leads s event (Err OutOfMemory) after = after ≡ s
 Leads s event (Err NumbersSpent) after = after ≡ s
 Leads s event (Err NotEmpty) after = after ≡ s
+Leads s event (Err (Damaged file at)) after = after ≡ s
+Leads s event (Err SourceFault) after = after ≡ s
+Leads s event (Err RollBusy) after = after ≡ s
+Leads s event (Err NoRoll) after = after ≡ s
+Leads s event (Err RollCount) after = after ≡ s
+Leads s event (Err RollNotDone) after = after ≡ s
+Leads s event (Err Pinned) after = after ≡ s
+Leads s event (Err NothingToRetire) after = after ≡ s
 Leads s event (Err NoRoom) after = after ≡ s
 Leads s event (Err ManifestFull) after = after ≡ s
 Leads s event (Err NothingToSeal) after = after ≡ s

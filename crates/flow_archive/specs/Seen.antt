@@ -1,6 +1,7 @@
 -- An archive as its callers see it, and what one call makes of it.
 use Rattle.std.specs.Prelude.{◌≡◌, ◌≢◌, ◌⊎◌, ℕ, Bool, true, false, IsTrue, List, Result, OnOk, IfErr}
 use Rattle.std.specs.Prelude.{IsErrOf}
+use Rattle.std.specs.List.{AllByRecursion}
 use Rattle.flow_disk.specs.Disk.{Held, Marks}
 use Rattle.flow_disk.specs.Moments.{LeavesOnly}
 use Rattle.flow_manifest.specs.declared.manifest.Entry.{Entry}
@@ -18,6 +19,7 @@ use Rattle.flow_archive.specs.declared.refusal.ArchiveError.{ArchiveError}
 use Rattle.flow_archive.specs.declared.refusal.ArchiveError.TheVariants.{Fault}
 use Rattle.flow_archive.specs.Owned.{octets_in, AreHeldAs, Frozen}
 use Rattle.flow_archive.specs.Parts.{parts_at}
+use Rattle.flow_archive.specs.UnderWay.{Work, job_in, numbers_of}
 
 pub record Seen (D : Type 0) : Type 0 where
   pub disk : D
@@ -26,12 +28,19 @@ pub record Seen (D : Type 0) : Type 0 where
 
 -- ---- what an archive keeps
 
--- what it stands for, with nothing under way
-abbrev pub state_in : Bool → Manifest → List Frozen → List ℕ → List (List ℕ) → State
-state_in shared m files prefix messages =
+-- what it stands for
+abbrev pub state_in : Work → Bool → Manifest → List Frozen → List ℕ → List (List ℕ) → State
+state_in work shared m files prefix messages =
     record (at_rest m (parts_at octets_in (front_of m) files) (record { front = prefix; messages = messages })) {
+      next = work.next;
+      job = job_in work.job;
+      waiting = numbers_of work.waiting;
       shared = shared;
     }
+
+-- the files that these entries name are frozen
+abbrev pub AreFrozen : (ℕ → Marks) → List Entry → Type 0
+AreFrozen marks entries = AllByRecursion (λ e. (marks e.file).frozen ≡ true) entries
 
 -- while it is open
 pub record IsOpen {D : Type 0} (honest : D → Bool) (marks : D → ℕ → Marks) (held : D → ℕ → Held) (disk : D)
@@ -39,6 +48,7 @@ pub record IsOpen {D : Type 0} (honest : D → Bool) (marks : D → ℕ → Mark
   pub kept : IsKept honest marks held disk slots last end total s
   pub segment : IsSegment s.active carry
   pub hands_on : IsTrue (honest disk) → HandsOn s carry
+  pub frozen : AreFrozen (marks disk) (front_of s.manifest)
 
 -- and always
 pub record IsArchive {D : Type 0} (honest : D → Bool) (marks : D → ℕ → Marks) (held : D → ℕ → Held) (disk : D)
@@ -74,8 +84,9 @@ pub record IsStep {D T : Type 0} (honest : D → Bool) (moment : D → ℕ) (lef
       → LeavesOnly moment left_since old.disk new.disk (StandsBeforeOrAfter old.state After)
   -- At Ok it is the one after it.
   pub done : OnOk result ((IsTrue (honest old.disk) → After new.state) × (new.closed ≡ false) × (old.closed ≡ false))
-  -- After a fault of the device the archive is closed.
-  pub fault : IsErrOf result Fault → (new.state ≡ old.state) × (new.closed ≡ true) × (old.closed ≡ false)
+  -- After a fault of the device the archive is closed, with the state before or the one after.
+  pub fault : IsErrOf result Fault
+      → ((new.state ≡ old.state) ⊎ After new.state) × (new.closed ≡ true) × (old.closed ≡ false)
   -- While it is open, each image stands for its state.
   pub stands : IsTrue (honest new.disk) → new.closed ≡ false → (image : ℕ → List ℕ)
       → left_since new.disk (moment new.disk) image → StandsFor image (reopened new.state)

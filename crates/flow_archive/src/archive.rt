@@ -15,11 +15,13 @@ ghost use Rattle.flow_recover.specs.State.{appended, reopened};
 ghost use Rattle.flow_recover.specs.Standing.{StandsFor};
 ghost use Rattle.flow_archive.specs.Answers.{AnswersAppend, AnswersSeal, HasRoom, IsMovedOn};
 ghost use Rattle.flow_archive.specs.Seen.{HasActive, Seen, IsStep};
+ghost use Rattle.flow_archive.specs.UnderWay.{status_of};
 
 use crate::moving::move_on;
 use crate::next::next_segment;
 use crate::owned::{FrozenFile, shared_files};
 use crate::refusal::ArchiveError;
+use crate::rolling::{JobStatus, Rolling, generations_kept, status};
 use crate::taking::{admitted, put_all};
 use bytes::Bytes;
 use flow_disk::Disk;
@@ -46,23 +48,31 @@ pub struct Archive<D: Disk> {
     pub(crate) files: Vec<FrozenFile<D::Sealed>>,
     pub(crate) prefix: Bytes,
     pub(crate) messages: Vec<Bytes>,
+    pub(crate) next: u64,
+    pub(crate) job: Option<Rolling<D::Sealed>>,
+    pub(crate) waiting: Vec<FrozenFile<D::Sealed>>,
     pub(crate) shared: bool,
     pub(crate) closed: bool,
 }
 
 impl<D: Disk> Model for Archive<D> {
     ghost use Rattle.flow_archive.specs.Seen.{Seen, IsArchive, state_in};
+    ghost use Rattle.flow_archive.specs.UnderWay.{work_in, HasOwnFiles, IsUnderWay};
 
     ghost Value = { Seen D };
 
     ghost view = { λ a. record {
       disk = a.disk;
-      state = state_in a.shared a.slots.current a.files.items a.prefix a.messages.items;
+      state = state_in (work_in a.next a.job a.waiting.items) a.shared a.slots.current a.files.items a.prefix a.messages.items;
       closed = a.closed;
     } };
 
     ghost invariant = { λ a. IsArchive D.honest D.marks D.held a.disk a.slots a.last a.end a.total a.carry
-        a.files.items (state_in a.shared a.slots.current a.files.items a.prefix a.messages.items) a.closed };
+        a.files.items (state_in (work_in a.next a.job a.waiting.items) a.shared a.slots.current a.files.items a.prefix
+        a.messages.items) a.closed
+        × IsUnderWay D.honest D.marks D.held a.disk (state_in (work_in a.next a.job a.waiting.items) a.shared
+        a.slots.current a.files.items a.prefix a.messages.items) (work_in a.next a.job a.waiting.items) a.closed
+        × HasOwnFiles a.shared a.files.items (work_in a.next a.job a.waiting.items) };
 }
 
 impl<D: Disk> Archive<D> {
@@ -81,6 +91,13 @@ impl<D: Disk> Archive<D> {
         ensures { (result ≡ true) ↔ HasRoom self.now.state octets }
     {
         octets <= u64::from(self.last.prefix) + u64::from(self.slots.current.limit) - self.end
+    }
+
+    /// The width of its intervals, in seconds.
+    pub fn width(&self) -> u32
+        ensures { result ≡ self.now.state.manifest.width }
+    {
+        self.slots.current.width
     }
 
     /// How many octets of messages a segment takes.
@@ -102,6 +119,13 @@ impl<D: Disk> Archive<D> {
         ensures { result ≡ count_of Rolled self.now.state.manifest.entries }
     {
         count_of(self.slots.current.entries.as_slice(), Kind::Rolled)
+    }
+
+    /// The job that is under way.
+    pub fn job(&self) -> Option<JobStatus>
+        ensures { result ≡ status_of self.now.state.job }
+    {
+        status(&self.job)
     }
 
     /// Its files, shared: what there is now, for readers, which learn of later steps one by one. From now on the archive
@@ -133,7 +157,8 @@ impl<D: Disk> Archive<D> {
         self.disk
     }
 
-    /// Adds one message, and answers its number: a batch of one.
+    /// Adds one message, and answers its number: a batch of one. It costs one walk of the message, one copy of it and two
+    /// syncs, whatever templates are in force.
     pub fn append(&mut self, alloc: Global, message: &[u8]) -> Result<u64, ArchiveError>
         ensures answers { AnswersAppend self.old.closed self.old.state (message.now ∷ []) result self.new.state }
         ensures step { IsStep D.honest D.moment D.left_since self.old self.new
@@ -163,11 +188,10 @@ impl<D: Disk> Archive<D> {
         };
         let room = u64::from(self.last.prefix) + u64::from(self.slots.current.limit) - self.end;
         let positions = MOST_MESSAGES - self.total;
-        let batch = admitted(alloc, &self.carry, messages, room, positions)?;
+        let batch = admitted(alloc, &mut self.carry, messages, room, positions)?;
         match add_batch(&mut self.disk, self.last.file, self.end, messages) {
             Ok(()) => {
                 put_all(&mut self.messages, batch.copies);
-                self.carry = batch.carry;
                 self.end += batch.count;
                 self.total += messages.len() as u64;
                 Ok(self.total)
@@ -192,11 +216,20 @@ impl<D: Disk> Archive<D> {
             return Err(ArchiveError::Closed);
         }
         let count = self.messages.len() as u64;
-        let next = next_segment(alloc, &self.slots.current, &self.carry, self.end, count)?;
+        let kept = generations_kept(&self.job);
+        let next = next_segment(
+            alloc,
+            &self.slots.current,
+            &self.carry,
+            self.end,
+            count,
+            self.next,
+            kept,
+        )?;
         let Ok(()) = self.files.reserve(1) else {
             return Err(ArchiveError::OutOfMemory);
         };
-        let file = self.slots.current.next;
+        let file = self.next;
         let slot = self.slots.current_slot.other();
         match move_on(
             &mut self.disk,
@@ -223,6 +256,7 @@ impl<D: Disk> Archive<D> {
                     length: 0,
                     messages: 0,
                 };
+                self.next = file + 1;
                 self.end = next.prefix.len() as u64;
                 self.prefix = next.prefix;
                 self.messages = Vec::new(alloc);

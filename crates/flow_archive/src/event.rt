@@ -9,6 +9,20 @@ pub enum Event {
     AppendBatch(Vec<Vec<u8>>),
     /// Seal the active segment, and begin a new one.
     Seal,
+    /// Begin a job that rolls so many of the oldest sealed segments into one file.
+    RollBegin(u32),
+    /// Begin a job that merges so many of the oldest rolled files into one file of wide intervals.
+    MergeBegin(u32),
+    /// Read and sum one source more of the job.
+    RollStep,
+    /// Make the file of the job.
+    RollWrite,
+    /// Put the file of the job in place of its sources.
+    RollInstall,
+    /// Give the job up.
+    RollDrop,
+    /// Remove the oldest file that waits for it.
+    Retire,
 }
 
 /// What an archive answers to an event that it has taken.
@@ -18,4 +32,18 @@ pub enum Answer {
     Position(u64),
     /// The number of the file that was sealed.
     Sealed(u64),
+    /// A job has begun.
+    Began,
+    /// How many sources of the job are left to be read.
+    Left(u32),
+    /// The file of the job is made.
+    Written,
+    /// How many messages are rolled: the cut.
+    Installed(u64),
+    /// How many messages are summed over wide intervals: the second cut.
+    Merged(u64),
+    /// The job was given up.
+    Dropped,
+    /// The number of the file that was removed.
+    Retired(u64),
 }

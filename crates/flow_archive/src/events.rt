@@ -12,7 +12,7 @@ ghost use Rattle.flow_archive.specs.Seen.{IsStep};
 use crate::archive::Archive;
 use crate::event::{Answer, Event};
 use crate::refusal::ArchiveError;
-use flow_disk::Disk;
+use flow_disk::{Disk, Faults};
 use std::alloc::{AllocError, Global};
 
 /// The octets of messages.
@@ -26,11 +26,12 @@ fn slices_of<'a>(alloc: Global, messages: &'a [Vec<u8>]) -> Result<Vec<&'a [u8]>
     Ok(octets)
 }
 
-/// Takes one event.
+/// Takes one event. Reads of a job's sources that fail raise `faults`.
 pub fn take_event<D: Disk>(
     archive: &mut Archive<D>,
     alloc: Global,
     event: &Event,
+    faults: &mut Faults<D::Sealed>,
 ) -> Result<Answer, ArchiveError>
     requires { IsEvent event.now }
     ensures answers { Answers (D.honest archive.old.disk) archive.old.closed archive.old.state event.now result
@@ -38,6 +39,7 @@ pub fn take_event<D: Disk>(
     ensures step { IsStep D.honest D.moment D.left_since archive.old archive.new
         (Takes true archive.old.state event.now) result }
     ensures cause { HasCause ArchiveError.Fault (D.faults archive.old.disk) (D.faults archive.new.disk) result }
+    ensures unread { HasCause ArchiveError.SourceFault faults.old faults.new result }
 {
     match event {
         Event::Append(message) => {
@@ -56,14 +58,41 @@ pub fn take_event<D: Disk>(
             let file = archive.seal(alloc)?;
             Ok(Answer::Sealed(file))
         }
+        Event::RollBegin(count) => {
+            archive.roll_begin(alloc, *count)?;
+            Ok(Answer::Began)
+        }
+        Event::MergeBegin(count) => {
+            archive.merge_begin(alloc, *count)?;
+            Ok(Answer::Began)
+        }
+        Event::RollStep => {
+            let left = archive.roll_step(alloc, faults)?;
+            Ok(Answer::Left(left))
+        }
+        Event::RollWrite => {
+            archive.roll_write(alloc)?;
+            Ok(Answer::Written)
+        }
+        Event::RollInstall => archive.roll_install(alloc),
+        Event::RollDrop => {
+            archive.roll_drop()?;
+            Ok(Answer::Dropped)
+        }
+        Event::Retire => {
+            let file = archive.retire()?;
+            Ok(Answer::Retired(file))
+        }
     }
 }
 
-/// Takes events in order, and answers each. The room for the answers is made first; where it is refused, nothing ran.
+/// Takes events in order, and answers each. The room for the answers is made first; where it is refused, nothing ran. Reads
+/// of a job's sources that fail raise `faults`.
 pub fn run<D: Disk>(
     archive: &mut Archive<D>,
     alloc: Global,
     events: &[Event],
+    faults: &mut Faults<D::Sealed>,
 ) -> Result<Vec<Result<Answer, ArchiveError>>, AllocError>
     requires { All IsEvent events.now }
     ensures run { IfOk result (λ answers. IsRun D.honest D.moment D.left_since archive.old events.now answers.items
@@ -84,7 +113,7 @@ pub fn run<D: Disk>(
     let _closed = archive.is_closed();
     let mut answers = Vec::with_capacity(alloc, events.len())?;
     'events: for event in events {
-        let answer = take_event(archive, alloc, event);
+        let answer = take_event(archive, alloc, event, faults);
         answers.push_reserved(answer);
     }
     Ok(answers)

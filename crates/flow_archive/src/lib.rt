@@ -13,6 +13,11 @@
 //! After 30 the archive is closed: no call changes anything any more. `run` takes lists of events, of which a stop leaves
 //! some front. `directory` hands out the files that there are, shared: on an honest disk its shelf is that of the
 //! archive's state, so that a snapshot of it answers for each history that the archive has.
+//!
+//! A job (`roll_begin`, `merge_begin`) sums the oldest sealed segments, or rolled files: `roll_step` reads one of them,
+//! `roll_write` makes one file of their sums, `roll_install` puts it in their place, and `roll_drop` gives the job up.
+//! Appends and seals may come between any two of these. `retire` removes the oldest of the files that no manifest names
+//! any more; while a directory or a snapshot has it too, it is refused.
 #![tactic(auto)]
 
 mod archive;
@@ -20,12 +25,20 @@ mod creating;
 mod error;
 mod event;
 mod events;
+mod installing;
+mod jobs;
 mod moving;
 mod next;
 mod opening;
 mod owned;
 mod plain;
 mod refusal;
+mod removal;
+mod replacing;
+mod rolling;
+mod sources;
+mod staged;
+mod staging;
 mod taking;
 
 pub use archive::Archive;
@@ -34,3 +47,4 @@ pub use event::{Answer, Event};
 pub use events::{run, take_event};
 pub use plain::PlainArchive;
 pub use refusal::{ArchiveError, Refused};
+pub use rolling::JobStatus;

@@ -1,6 +1,6 @@
 //! From one active segment to the next.
 
-ghost use Rattle.std.specs.Prelude.{◌≡◌, ℕ, ◌+◌, ◌<◌, ◌≤◌, true, false, IsTrue, length, OnOk, IfOk};
+ghost use Rattle.std.specs.Prelude.{◌≡◌, ◌≢◌, ℕ, ◌+◌, ◌<◌, ◌≤◌, true, false, IsTrue, length, OnOk, IfOk};
 ghost use Rattle.flow_disk.specs.Disk.{AllImages};
 ghost use Rattle.flow_disk.specs.Moments.{LeavesOnly};
 ghost use Rattle.flow_disk.specs.Cause.{FailsOnlyByFault};
@@ -43,6 +43,9 @@ pub(crate) fn move_on<D: Disk>(
         (MovesMarks (D.marks disk.old) (D.marks disk.new) active next slot (length prefix.now)) }
     ensures sealed { IfOk result (λ part. (D.Sealed.number part ≡ active) × (D.Sealed.size part ≡ end)
         × (D.Sealed.honest part ≡ D.honest disk.old)) }
+    ensures frozen { OnOk result ((D.marks disk.new active).frozen ≡ true) }
+    ensures other_files { IsTrue (D.honest disk.old) → (n : ℕ) → n ≢ active → n ≢ next → n ≢ slot
+        → D.held disk.new n ≡ D.held disk.old n }
     ensures cause { FailsOnlyByFault (D.faults disk.old) (D.faults disk.new) result }
 
     // A stop at any moment leaves the archive before the seal or the one after it.

@@ -27,24 +27,29 @@ pub(crate) struct Next {
 }
 
 /// The prefix that a segment calls for that ends at `end` and has `count` messages, and the manifest after its seal;
-/// else the first of the refusals 42, 41, 25 that holds, or 11.
+/// else the first of the refusals 42, 41, 25 that holds, or 11. The next segment has this file, and so many generations
+/// are kept for another manifest.
 pub(crate) fn next_segment(
     alloc: Global,
     now: &Manifest,
     carry: &Carry,
     end: u64,
     count: u64,
+    file: u64,
+    kept: u64,
 ) -> Result<Next, ArchiveError>
     requires valid { IsValidManifest now.now }
     requires long { 1 ≤ count → (active_of now.now).prefix + 16 ≤ end }
     requires within { end ≤ (active_of now.now).prefix + now.now.limit }
+    requires file { now.now.next ≤ file }
+    requires kept { kept ≤ 1 }
     requires all { messages_of now.now.entries + count < 2 ^ 48 }
-    ensures may { OnOk result (MayFollow now.now count) }
-    ensures refused { IfErr result (IsNotFollowed now.now count) }
+    ensures may { OnOk result (MayFollow now.now count file kept) }
+    ensures refused { IfErr result (IsNotFollowed now.now count file kept) }
     ensures prefix { IfOk result (λ next. next.prefix ≡ prefix_of carry.now) }
     ensures carry { OnOk result (IsCarry carry.now) }
     ensures manifest { IfOk result (λ next. next.manifest
-        ≡ next_manifest now.now end count now.now.next (length (prefix_of carry.now))) }
+        ≡ next_manifest now.now end count file (length (prefix_of carry.now))) }
     ensures valid { IfOk result (λ next. IsValidManifest next.manifest) }
     ensures body { IfOk result (λ next. next.body.items ≡ manifest_octets next.manifest) }
 {
@@ -54,12 +59,12 @@ pub(crate) fn next_segment(
     if now.entries.len() >= MOST_ENTRIES {
         return Err(ArchiveError::ManifestFull);
     }
-    if now.generation == u64::MAX || now.next == u64::MAX {
+    if now.generation >= u64::MAX - kept || file == u64::MAX {
         return Err(ArchiveError::NumbersSpent);
     }
     let octets = carry.prefix(alloc)?;
     let prefix = Bytes::from_vec(octets)?;
-    let manifest = next_manifest(alloc, now, end, count, now.next, prefix.len() as u32)?;
+    let manifest = next_manifest(alloc, now, end, count, file, prefix.len() as u32)?;
     let body = encode(alloc, &manifest)?;
     Ok(Next {
         prefix,

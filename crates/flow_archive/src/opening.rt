@@ -117,6 +117,7 @@ pub(crate) fn resumed<D: Disk>(
     ensures stands { IsTrue (D.honest disk)
         → IfOk result (λ a. AllImages (D.held a.disk) (λ image. StandsFor image a.state)) }
 {
+    let next = found.slots.current.next;
     let (files, active) = (found.parts, found.active);
     let named = &found.slots.current.entries.as_slice()[..files.len()];
     let Ok(kept) = kept_of(alloc, named, files, active) else {
@@ -135,6 +136,9 @@ pub(crate) fn resumed<D: Disk>(
         files: kept.files,
         prefix: kept.prefix,
         messages: kept.messages,
+        next,
+        job: None,
+        waiting: Vec::new(alloc),
         shared: false,
         closed: false,
     })

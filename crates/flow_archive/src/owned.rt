@@ -1,16 +1,23 @@
 //! The frozen files of an archive, and what directories have of them.
 
-ghost use Rattle.std.specs.Prelude.{◌≡◌, ◌++◌, ◌≤◌, ℕ, Bool, IsTrue, OnOk, IfOk, map, take};
+ghost use Rattle.std.specs.Prelude.{◌≡◌, ◌++◌, ◌<◌, ◌≤◌, ℕ, Bool, true, false, IsTrue, OnOk, IfOk, IfErr, map, take};
 ghost use Rattle.std.specs.List.{list_all, AllByRecursion};
 ghost use Rattle.std.specs.Arc.{arc_value};
+ghost use Rattle.flow_disk.specs.Cause.{HasCause};
+ghost use Rattle.flow_manifest.specs.declared.following.JobKind.{JobKind};
+ghost use Rattle.flow_manifest.specs.declared.manifest.Manifest.{Manifest};
 ghost use Rattle.flow_snapshot.specs.Directories.{sight_of};
 ghost use Rattle.flow_snapshot.specs.Files.{rollup_of, segment_of, shared};
 ghost use Rattle.flow_archive.specs.Owned.{all_frozen, frozen_as, rolled_in, segment_in, shelf_with, value_of, wide_in};
-ghost use Rattle.flow_archive.specs.Owned.{MayBeFrozen};
+ghost use Rattle.flow_archive.specs.Owned.{is_shared, unshared, MayBeFrozen};
+ghost use Rattle.flow_archive.specs.Sources.{IsRead, IsSource};
+ghost use Rattle.flow_recover.specs.Jobs.{width_made};
 ghost use Rattle.flow_recover.specs.Kept.{AreFilesOf};
+ghost use Rattle.flow_recover.specs.State.{Part};
 
+use crate::sources::{Source, SourceError, sum_file, sum_segment};
 use bytes::Bytes;
-use flow_disk::SealedFile;
+use flow_disk::{Faults, SealedFile};
 use flow_manifest::{Entry, Kind};
 use flow_rolled::RolledPart;
 use flow_segment::SealedPart;
@@ -43,6 +50,16 @@ impl<P: Drop> Owned<P> {
         }
     }
 
+    /// The value.
+    fn value(&self) -> &P
+        ensures { result.now ≡ value_of self.now }
+    {
+        match self {
+            Owned::Plain(value) => value,
+            Owned::Shared(arc) => arc,
+        }
+    }
+
     /// One owner more. It takes no memory, and is refused where the value isn't shared.
     fn owner(&self) -> Result<Arc<P>, AllocError>
         ensures { IfOk result (λ arc. arc_value arc ≡ value_of self.now) }
@@ -50,6 +67,20 @@ impl<P: Drop> Owned<P> {
         match self {
             Owned::Plain(_) => Err(AllocError),
             Owned::Shared(arc) => Arc::try_clone(arc),
+        }
+    }
+
+    /// The value, where it has no further owner.
+    fn into_value(self) -> Result<P, Self>
+        ensures done { IfOk result (λ value. value ≡ value_of self) }
+        ensures refused { IfErr result (λ same. (same ≡ self) × (is_shared self ≡ true)) }
+    {
+        match self {
+            Owned::Plain(value) => Ok(value),
+            Owned::Shared(arc) => match Arc::try_unwrap(arc) {
+                Ok(value) => Ok(value),
+                Err(arc) => Err(Owned::Shared(arc)),
+            },
         }
     }
 }
@@ -65,7 +96,8 @@ pub(crate) enum Held<S: SealedFile> {
     Wide(Owned<RolledPart<S>>),
 }
 
-/// A frozen file of an archive. It is seen as its entry, beside whether it is on an honest disk, and its octets.
+/// A frozen file of an archive. It is seen as its entry, beside whether it is on an honest disk, its octets, and whether
+/// it may have further owners.
 #[derive(Drop)]
 pub(crate) struct FrozenFile<S: SealedFile> {
     held: Held<S>,
@@ -101,9 +133,66 @@ impl<S: SealedFile> FrozenFile<S> {
         FrozenFile { held }
     }
 
+    /// Its number.
+    pub(crate) fn number(&self) -> u64
+        ensures { result ≡ self.now.entry.file }
+    {
+        match &self.held {
+            Held::Sealed(part) => part.value().reader.file(),
+            Held::Rolled(part) => part.value().file(),
+            Held::Wide(part) => part.value().file(),
+        }
+    }
+
+    /// Its sums over intervals of `made` seconds, and its greatest Export Time. A file of sums was rolled by `width`
+    /// seconds. It is read once, a piece at a time.
+    pub(crate) fn summed(
+        &self,
+        alloc: Global,
+        width: u32,
+        made: u32,
+        faults: &mut Faults<S>,
+    ) -> Result<Source, SourceError>
+        requires width { 0 < width }
+        requires made { 0 < made }
+        ensures width { IfOk result (λ source. source.rows.width ≡ made) }
+        ensures cause { HasCause SourceError.Fault faults.old faults.new result }
+        // On an honest disk: where it is a source for a job, it is read as one.
+        ensures read { IsTrue self.now.honest → (kind : JobKind) (m : Manifest) (p : Part) → width ≡ m.width
+            → made ≡ width_made kind m → IsSource kind m self.now p → IsRead kind m p result }
+    {
+        match &self.held {
+            Held::Sealed(part) => sum_segment(alloc, part.value(), made, faults),
+            Held::Rolled(part) => sum_file(alloc, part.value(), width, made, faults),
+            Held::Wide(part) => sum_file(alloc, part.value(), width, made, faults),
+        }
+    }
+
+    /// The file, as its disk takes it back. It is refused only where the file is shared.
+    pub(crate) fn into_file(self) -> Result<S, Self>
+        ensures done { IfOk result (λ file. S.number file ≡ self.entry.file) }
+        ensures refused { IfErr result (λ same. (same ≡ self) × (self.shared ≡ true)) }
+    {
+        let held = match self.held {
+            Held::Sealed(part) => match part.into_value() {
+                Ok(part) => return Ok(part.reader),
+                Err(part) => Held::Sealed(part),
+            },
+            Held::Rolled(part) => match part.into_value() {
+                Ok(part) => return Ok(part.into_file()),
+                Err(part) => Held::Rolled(part),
+            },
+            Held::Wide(part) => match part.into_value() {
+                Ok(part) => return Ok(part.into_file()),
+                Err(part) => Held::Wide(part),
+            },
+        };
+        Err(FrozenFile { held })
+    }
+
     /// The same file, which is shared from now on, where memory is not refused.
     fn shared(self, alloc: Global) -> Self
-        ensures { result ≡ self }
+        ensures { unshared result ≡ unshared self }
     {
         let held = match self.held {
             Held::Sealed(part) => Held::Sealed(part.shared(alloc)),
@@ -137,20 +226,21 @@ impl<S: SealedFile> FrozenFile<S> {
 /// A file of sums that this entry names.
 fn sums_of<S: SealedFile>(file: S, entry: Entry) -> Owned<RolledPart<S>>
     requires long { entry.length ≤ S.size file }
-    ensures { value_of result ≡ record {
+    ensures value { value_of result ≡ record {
       file = S.number file;
       messages = entry.messages;
       length = entry.length;
       honest = S.honest file;
       octets = take entry.length (S.octets file);
     } }
+    ensures alone { is_shared result ≡ false }
 {
     Owned::Plain(RolledPart::new(file, entry.messages, entry.length))
 }
 
 /// Shares each file where memory is not refused.
 fn share_all<S: SealedFile>(alloc: Global, files: &mut Vec<FrozenFile<S>>) -> Result<(), AllocError>
-    ensures { files.new.items ≡ files.old.items }
+    ensures { map unshared files.new.items ≡ map unshared files.old.items }
 {
     let room = Vec::with_capacity(alloc, files.len())?;
     for file in replace(files, room) {
@@ -192,7 +282,7 @@ pub(crate) fn shared_files<S: SealedFile>(
     prefix: &Bytes,
     messages: &Vec<Bytes>,
 ) -> Result<Files<S>, AllocError>
-    ensures same { files.new.items ≡ files.old.items }
+    ensures same { map unshared files.new.items ≡ map unshared files.old.items }
     ensures shelf { IfOk result (λ list. (width wide : ℕ) → (sight_of width wide list).shelf
         ≡ shelf_with width wide files.old.items prefix.now messages.now.items) }
     ensures honest { IsTrue (list_all (λ f. f.honest) files.old.items)

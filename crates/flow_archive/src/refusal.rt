@@ -17,18 +17,35 @@ pub enum ArchiveError {
     Message(MessageError),
     /// A growth of memory was refused.
     OutOfMemory,
+    /// This file, a source of a job, isn't what its entry says, from this octet on; or its sums would pass their types,
+    /// at octet 0. Nothing has changed.
+    Damaged(u64, u64),
     /// The next file, manifest or message would have a number past its limit.
     NumbersSpent,
     /// The disk of a new archive has files.
     NotEmpty,
-    /// The device failed in this call.
+    /// The device failed in this call, and the archive is closed.
     Fault,
+    /// The device failed where a source of a job was read. Nothing has changed, and the archive goes on.
+    SourceFault,
     /// The messages would pass the limit of the active segment.
     NoRoom,
     /// The manifest has 4,096 entries.
     ManifestFull,
     /// The active segment has no messages.
     NothingToSeal,
+    /// A job is under way.
+    RollBusy,
+    /// No job is under way.
+    NoRoll,
+    /// There aren't so many files of the kind that a job sums, or none are asked for.
+    RollCount,
+    /// Not all sources of the job are read, or its file isn't made.
+    RollNotDone,
+    /// Another owner has the file: a directory, or a snapshot.
+    Pinned,
+    /// No file waits for its removal.
+    NothingToRetire,
     /// The device failed in an earlier call.
     Closed,
 }
@@ -40,12 +57,19 @@ impl fmt::Display for ArchiveError {
         match self {
             ArchiveError::Message(fault) => write!(f, "{fault}"),
             ArchiveError::OutOfMemory => write!(f, "11 OutOfMemory"),
+            ArchiveError::Damaged(file, at) => write!(f, "20 Damaged {file} {at}"),
             ArchiveError::NumbersSpent => write!(f, "25 NumbersSpent"),
             ArchiveError::NotEmpty => write!(f, "27 NotEmpty"),
-            ArchiveError::Fault => write!(f, "30 Fault"),
+            ArchiveError::Fault | ArchiveError::SourceFault => write!(f, "30 Fault"),
             ArchiveError::NoRoom => write!(f, "40 NoRoom"),
             ArchiveError::ManifestFull => write!(f, "41 ManifestFull"),
             ArchiveError::NothingToSeal => write!(f, "42 NothingToSeal"),
+            ArchiveError::RollBusy => write!(f, "43 RollBusy"),
+            ArchiveError::NoRoll => write!(f, "44 NoRoll"),
+            ArchiveError::RollCount => write!(f, "45 RollCount"),
+            ArchiveError::RollNotDone => write!(f, "46 RollNotDone"),
+            ArchiveError::Pinned => write!(f, "47 Pinned"),
+            ArchiveError::NothingToRetire => write!(f, "48 NothingToRetire"),
             ArchiveError::Closed => write!(f, "49 Closed"),
         }
     }

@@ -1,10 +1,11 @@
 //! The messages of an append, as they are taken in.
 
-ghost use Rattle.std.specs.Prelude.{◌≡◌, ◌⊎◌, ◌+◌, ◌<◌, ◌≤◌, ◌++◌, length, OnOk, IfOk, IfErr, IfSome, IfNone, vec_len};
-ghost use Rattle.std.specs.Prelude.{vec_capacity};
+ghost use Rattle.std.specs.Prelude.{◌≡◌, ◌⊎◌, ◌+◌, ◌<◌, ◌≤◌, ◌++◌, length, OnOk, OnErr, IfOk, IfErr, IfSome, IfNone};
+ghost use Rattle.std.specs.Prelude.{vec_len, vec_capacity};
 ghost use Rattle.flow_gate.specs.Gate.{octet_sum};
 ghost use Rattle.flow_gate.specs.Steps.{slices};
 ghost use Rattle.flow_codec.specs.declared.error.MessageError.{MessageError};
+ghost use Rattle.flow_segment.specs.Carry.{Carry};
 ghost use Rattle.flow_archive.specs.Answers.{AreTaken, IsFirstFault, IsNotAdmitted};
 ghost use Rattle.flow_archive.specs.declared.refusal.ArchiveError.TheVariants.{Message, OutOfMemory};
 
@@ -43,46 +44,71 @@ fn carried(alloc: Global, carry: &Carry, messages: &[&[u8]]) -> Result<Carry, Ar
     Ok(new)
 }
 
-/// A batch that is accepted, and within the limits.
+/// Takes in the messages of a batch, all of them or none; else answers why the first of them that is refused is refused.
+/// One message alone is taken in where the carry stands, so it costs one walk; of more a copy of the carry is made.
+fn take_in(carry: &mut Carry, alloc: Global, messages: &[&[u8]]) -> Result<(), ArchiveError>
+    ensures taken { OnOk result (AreTaken (slices messages.now) carry.old carry.new) }
+    ensures kept { OnErr result (carry.new ≡ carry.old) }
+    ensures refused { IfErr result (λ e. (e ≡ OutOfMemory)
+        ⊎ ((fault : MessageError) × IsFirstFault (slices messages.now) carry.old.templates fault
+        × (e ≡ Message fault))) }
+{
+    if let [message] = messages {
+        carry.take(alloc, message)?;
+    } else {
+        *carry = carried(alloc, carry, messages)?;
+    }
+    Ok(())
+}
+
+/// Why a batch that passes a limit is refused: the first fault of the first message that isn't accepted, else the limit.
+fn judged(alloc: Global, carry: &Carry, messages: &[&[u8]], limit: ArchiveError) -> ArchiveError
+    ensures { (result ≡ OutOfMemory)
+        ⊎ ((fault : MessageError) × IsFirstFault (slices messages.now) carry.now.templates fault
+        × (result ≡ Message fault))
+        ⊎ (((new : Carry) × AreTaken (slices messages.now) carry.now new) × (result ≡ limit)) }
+{
+    match carried(alloc, carry, messages) {
+        Ok(_) => limit,
+        Err(e) => e,
+    }
+}
+
+/// A batch that is taken in, and within the limits.
 #[derive(Drop)]
 pub(crate) struct Batch {
-    /// What is carried behind it.
-    pub(crate) carry: Carry,
     /// Copies of its messages.
     pub(crate) copies: Vec<Bytes>,
     /// How many octets they have.
     pub(crate) count: u64,
 }
 
-/// A batch behind a carry, with room for so many octets and numbers for so many messages; else the first of the
-/// refusals 1 to 10, 40, 25 that holds, or 11.
+/// A batch that is taken in behind a carry, with room for so many octets and numbers for so many messages; else the
+/// first of the refusals 1 to 10, 40, 25 that holds, or 11, and the carry is as it was.
 pub(crate) fn admitted(
     alloc: Global,
-    carry: &Carry,
+    carry: &mut Carry,
     messages: &[&[u8]],
     room: u64,
     positions: u64,
 ) -> Result<Batch, ArchiveError>
-    ensures taken { IfOk result (λ batch. AreTaken (slices messages.now) carry.now batch.carry) }
+    ensures taken { OnOk result (AreTaken (slices messages.now) carry.old carry.new) }
     ensures copies { IfOk result (λ batch. batch.copies.items ≡ slices messages.now) }
     ensures count { IfOk result (λ batch. batch.count ≡ octet_sum (slices messages.now)) }
     ensures room { IfOk result (λ batch. batch.count ≤ room) }
-    ensures positions { IfOk result (λ batch. length messages.now ≤ positions) }
-    ensures refused { IfErr result (IsNotAdmitted (slices messages.now) carry.now room positions) }
+    ensures positions { OnOk result (length messages.now ≤ positions) }
+    ensures kept { OnErr result (carry.new ≡ carry.old) }
+    ensures refused { IfErr result (IsNotAdmitted (slices messages.now) carry.old room positions) }
 {
-    let new = carried(alloc, carry, messages)?;
     let Some(count) = count_within(messages, room) else {
-        return Err(ArchiveError::NoRoom);
+        return Err(judged(alloc, carry, messages, ArchiveError::NoRoom));
     };
     if messages.len() as u64 > positions {
-        return Err(ArchiveError::NumbersSpent);
+        return Err(judged(alloc, carry, messages, ArchiveError::NumbersSpent));
     }
     let copies = copies_of(alloc, messages)?;
-    Ok(Batch {
-        carry: new,
-        copies,
-        count,
-    })
+    take_in(carry, alloc, messages)?;
+    Ok(Batch { copies, count })
 }
 
 /// How many octets messages have, if there is room for them.

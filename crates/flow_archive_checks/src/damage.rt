@@ -1,9 +1,9 @@
 //! Archives whose files were changed: what their opening is refused by.
 
-use crate::archives::{ROOM, created};
-use crate::plain::PLAIN;
-use crate::thawed::Thawed;
-use flow_archive::{Archive, ArchiveError};
+use crate::archives::{ROOM, disk_sealed};
+use crate::fixture::Fixture;
+use crate::thawed::{Thawed, memory, restarted};
+use flow_archive::ArchiveError;
 use flow_disk::{Disk, DiskError};
 use flow_memory_disk::{MemoryDisk, Room};
 use std::alloc::Global;
@@ -75,23 +75,14 @@ impl Change {
 
 /// The disk of an archive whose one message is sealed, in file 3; file 4 is active, and slot 2 in force.
 pub(crate) fn sealed(alloc: Global, room: Room) -> Result<Thawed<MemoryDisk>, ArchiveError> {
-    let mut archive = created(alloc, room)?;
-    archive.append(alloc, PLAIN.as_slice())?;
-    archive.seal(alloc)?;
-    Ok(Thawed {
-        disk: archive.into_disk().restart(),
-    })
+    Ok(restarted(disk_sealed(alloc, room)?))
 }
 
 /// What opening answers, as text; nothing where it opens.
-pub(crate) fn answer(alloc: Global, disk: Thawed<MemoryDisk>) -> Result<String, Fail> {
-    let Thawed { disk } = disk;
-    match Archive::open(alloc, disk) {
+pub(crate) fn answer<D: Disk>(alloc: Global, disk: Thawed<D>) -> Result<String, Fail> {
+    match Fixture::open(alloc, disk) {
         Ok(_) => Ok(String::new(alloc)),
-        Err(refused) => {
-            let error = refused.error;
-            Ok(format!(in alloc; "{error}")?)
-        }
+        Err(refused) => Ok(format!(in alloc; "{refused}")?),
     }
 }
 
@@ -133,9 +124,7 @@ fn changed_files_are_refused(rt: HostRuntime) -> Result<(), Fail> {
 #[test]
 fn absent_files_are_refused(rt: HostRuntime) -> Result<(), Fail> {
     let alloc = rt.alloc();
-    let empty = Thawed {
-        disk: MemoryDisk::new(alloc, ROOM)?,
-    };
+    let empty = memory(alloc, ROOM)?;
     assert_eq!(rt; answer(alloc, empty)?.as_str(), "24 NoArchive");
     let mut disk = sealed(alloc, ROOM)?;
     disk.remove(2)?;

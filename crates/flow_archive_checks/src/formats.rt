@@ -2,10 +2,12 @@
 
 use crate::archives::{ROOM, contents};
 use crate::damage::{Change, make, sealed};
+use crate::fixture::Fixture;
 use crate::openings::count_in;
 use crate::plain::RECORD;
-use crate::thawed::Thawed;
-use flow_archive::{Archive, ArchiveError};
+use crate::thawed::{Thawed, restarted};
+use flow_archive::ArchiveError;
+use flow_disk::Disk;
 use flow_memory_disk::MemoryDisk;
 use std::alloc::Global;
 use std::test::Fail;
@@ -53,41 +55,41 @@ fn in_format_1(alloc: Global) -> Result<Thawed<MemoryDisk>, ArchiveError> {
 }
 
 /// The archive on that disk, with a message more.
-fn appended(alloc: Global) -> Result<Archive<MemoryDisk>, Fail> {
-    let Thawed { disk } = in_format_1(alloc)?;
-    let Ok(mut archive) = Archive::open(alloc, disk) else {
-        return Err(Fail::from("no archive"));
-    };
+fn appended(alloc: Global) -> Result<Fixture<MemoryDisk>, Fail> {
+    let mut archive = Fixture::open(alloc, in_format_1(alloc)?)?;
     archive.append(alloc, RECORD.as_slice())?;
     Ok(archive)
 }
 
-/// Whether the slots hold these octets.
-fn holds(
+/// Whether a file holds these octets.
+fn holds<D: Disk>(
     alloc: Global,
-    disk: &mut MemoryDisk,
-    first: &[u8],
-    second: &[u8],
+    disk: &mut D,
+    file: u64,
+    octets: &[u8],
 ) -> Result<bool, ArchiveError> {
-    let one = contents(alloc, disk, 1)?;
-    let two = contents(alloc, disk, 2)?;
-    Ok(one.as_slice() == first && two.as_slice() == second)
+    let held = contents(alloc, disk, file)?;
+    Ok(held.as_slice() == octets)
 }
 
 #[test]
 fn an_append_leaves_both_slots(rt: HostRuntime) -> Result<(), Fail> {
-    let mut disk = appended(rt.alloc())?.into_disk();
-    assert!(rt; holds(rt.alloc(), &mut disk, &CREATED, &SEALED)?);
-    assert_eq!(rt; count_in(rt.alloc(), disk.restart()), Some(2));
+    let alloc = rt.alloc();
+    let mut disk = appended(alloc)?.into_disk();
+    assert!(rt; holds(alloc, &mut disk, 1, &CREATED)?);
+    assert!(rt; holds(alloc, &mut disk, 2, &SEALED)?);
+    assert_eq!(rt; count_in(alloc, restarted(disk)), Some(2));
     Ok(())
 }
 
 #[test]
 fn a_seal_writes_the_other_slot_in_format_2(rt: HostRuntime) -> Result<(), Fail> {
-    let mut archive = appended(rt.alloc())?;
-    assert_eq!(rt; archive.seal(rt.alloc()), Ok(4));
+    let alloc = rt.alloc();
+    let mut archive = appended(alloc)?;
+    assert_eq!(rt; archive.seal(alloc), Ok(4));
     let mut disk = archive.into_disk();
-    assert!(rt; holds(rt.alloc(), &mut disk, &SEALED_TWICE, &SEALED)?);
-    assert_eq!(rt; count_in(rt.alloc(), disk.restart()), Some(2));
+    assert!(rt; holds(alloc, &mut disk, 1, &SEALED_TWICE)?);
+    assert!(rt; holds(alloc, &mut disk, 2, &SEALED)?);
+    assert_eq!(rt; count_in(alloc, restarted(disk)), Some(2));
     Ok(())
 }

@@ -9,6 +9,8 @@ mod damage;
 #[cfg(test)]
 mod directories;
 #[cfg(test)]
+mod fixture;
+#[cfg(test)]
 mod formats;
 #[cfg(test)]
 mod held;
@@ -20,6 +22,8 @@ mod lying;
 mod openings;
 #[cfg(test)]
 mod plain;
+#[cfg(test)]
+mod readers;
 #[cfg(test)]
 mod rolled;
 #[cfg(test)]

@@ -25,7 +25,9 @@ fn longest(alloc: Global) -> Result<Vec<u8>, AllocError> {
         0x03, 0xe7, 0xff, 0xef,
     ];
     let mut octets = head.to_vec(alloc)?;
-    octets.resize(65_535, 0)?;
+    for _ in 20..65_535 {
+        octets.push(0)?;
+    }
     Ok(octets)
 }
 

@@ -1,14 +1,13 @@
 //! Archives that are opened after a stop at each device call, and after faults.
 
-ghost use Rattle.std.specs.Prelude.{◌≡◌, ℕ, false};
-ghost use Rattle.flow_memory_disk.specs.Memory.{story_of};
-
 use crate::archives::ROOM;
+use crate::fixture::{Fixture, Given};
 use crate::plain::{NO_SET, PLAIN, RECORD};
-use flow_archive::{Archive, ArchiveError};
+use crate::thawed::{Thawed, fused, restarted};
+use flow_archive::ArchiveError;
 use flow_disk::Disk;
-use flow_memory_disk::{Choice, FusedDisk, MemoryDisk, OneFaultDisk};
-use std::alloc::Global;
+use flow_memory_disk::{Choice, FailingDisk, FusedDisk, MemoryDisk, OneFaultDisk, When};
+use std::alloc::{AllocError, Global};
 use std::test::Fail;
 
 /// How many device calls make an archive.
@@ -26,22 +25,26 @@ const CHOICES: [Choice<'static>; 5] = [
     Choice::Longer(&[0, 0x0A, 0, 16, 0, 0, 0, 0, 0, 0, 0, 0, 0, 0, 0, 0]),
 ];
 
-/// Adds a message, two in one batch, seals, and adds one more: the number of the last one that was acknowledged.
-fn fed<D: Disk>(alloc: Global, archive: &mut Archive<D>) -> u64 {
-    let Ok(_) = archive.append(alloc, PLAIN.as_slice()) else {
-        return 0;
-    };
-    let batch = [RECORD.as_slice(), NO_SET.as_slice()];
-    let Ok(_) = archive.append_batch(alloc, batch.as_slice()) else {
-        return 1;
-    };
-    let Ok(_) = archive.seal(alloc) else {
-        return 3;
-    };
-    match archive.append(alloc, RECORD.as_slice()) {
-        Ok(last) => last,
-        Err(_) => 3,
+/// What archives are given: a message, two in one batch, a seal, and one message more.
+pub(crate) const RUN: [Given; 4] = [
+    Given::Message(&PLAIN),
+    Given::Two(&RECORD, &NO_SET),
+    Given::Seal,
+    Given::Message(&RECORD),
+];
+
+/// Gives a run until something is refused: the number of the last message that was acknowledged.
+fn fed<D: Disk>(alloc: Global, archive: &mut Fixture<D>) -> u64 {
+    let mut last = 0;
+    for given in RUN {
+        let Ok(number) = archive.give(alloc, given) else {
+            return last;
+        };
+        if !matches!(given, Given::Seal) {
+            last = number;
+        }
     }
+    last
 }
 
 /// Whether an archive of so many messages may be left where this one was the last that was acknowledged: those, and at
@@ -55,22 +58,21 @@ fn may_be_left(acknowledged: u64, left: u64) -> bool {
     }
 }
 
-/// A run on a disk that fails from its call of this number on: the last message acknowledged, and the disk.
-fn stopped(alloc: Global, call: u64) -> Result<(u64, FusedDisk<MemoryDisk>), ArchiveError> {
-    let disk = FusedDisk::new(MemoryDisk::new(alloc, ROOM)?, call);
-    let mut archive = match Archive::create(alloc, disk, 300, 65_535) {
-        Ok(archive) => archive,
-        Err(refused) => return Err(refused.error),
-    };
+/// A run on a disk: the last message acknowledged, and the disk.
+fn run_on<D: Disk>(alloc: Global, disk: Thawed<D>) -> Result<(u64, D), ArchiveError> {
+    let mut archive = Fixture::create(alloc, disk)?;
     let acknowledged = fed(alloc, &mut archive);
     Ok((acknowledged, archive.into_disk()))
 }
 
+/// A run on a disk that fails from its call of this number on.
+fn stopped(alloc: Global, call: u64) -> Result<(u64, FusedDisk<MemoryDisk>), ArchiveError> {
+    run_on(alloc, fused(alloc, ROOM, call)?)
+}
+
 /// How many messages the archive on a disk has, by the number of the next one.
-pub(crate) fn count_in(alloc: Global, disk: MemoryDisk) -> Option<u64>
-    requires { (n : ℕ) → ((story_of disk).marks n).frozen ≡ false }
-{
-    let Ok(mut archive) = Archive::open(alloc, disk) else {
+pub(crate) fn count_in<D: Disk>(alloc: Global, disk: Thawed<D>) -> Option<u64> {
+    let Ok(mut archive) = Fixture::open(alloc, disk) else {
         return None;
     };
     match archive.append(alloc, NO_SET.as_slice()) {
@@ -79,14 +81,29 @@ pub(crate) fn count_in(alloc: Global, disk: MemoryDisk) -> Option<u64>
     }
 }
 
+/// Whether the archive on a disk is opened as it may be left, where this message was the last that was acknowledged.
+fn is_left<D: Disk>(alloc: Global, acknowledged: u64, disk: Thawed<D>) -> bool {
+    match count_in(alloc, disk) {
+        Some(left) => may_be_left(acknowledged, left),
+        None => false,
+    }
+}
+
+/// The disk after a stop that left what is chosen, where it may leave that.
+fn crashed(disk: FusedDisk<MemoryDisk>, choice: Choice<'_>) -> Option<Thawed<MemoryDisk>> {
+    if !disk.can_crash(choice) {
+        return None;
+    }
+    Some(Thawed {
+        disk: disk.crash(choice),
+    })
+}
+
 /// Whether an archive is opened as it may be left, after a stop at this call that left what is chosen.
 fn opens(alloc: Global, call: u64, choice: Choice<'_>) -> Result<bool, ArchiveError> {
     let (acknowledged, disk) = stopped(alloc, call)?;
-    if !disk.can_crash(choice) {
-        return Ok(false);
-    }
-    match count_in(alloc, disk.crash(choice)) {
-        Some(left) => Ok(may_be_left(acknowledged, left)),
+    match crashed(disk, choice) {
+        Some(disk) => Ok(is_left(alloc, acknowledged, disk)),
         None => Ok(false),
     }
 }
@@ -103,24 +120,26 @@ fn opened_after_a_stop_at_each_call(rt: HostRuntime) -> Result<(), Fail> {
     Ok(())
 }
 
-/// The disk that an opening leaves, which stops at its call of this number, or which is done before.
-fn opened_until(alloc: Global, disk: MemoryDisk, call: u64) -> FusedDisk<MemoryDisk>
-    requires { (n : ℕ) → ((story_of disk).marks n).frozen ≡ false }
-{
-    match Archive::open(alloc, FusedDisk::new(disk, call)) {
-        Ok(archive) => archive.into_disk(),
-        Err(refused) => refused.disk,
+/// The disk, given up without a stop. All its calls pass.
+fn behind<W: When>(disk: FailingDisk<MemoryDisk, W>) -> Thawed<MemoryDisk> {
+    Thawed {
+        disk: disk.restart(),
+    }
+}
+
+/// The same, which fails from its call of this number on.
+fn failing_from(disk: FusedDisk<MemoryDisk>, call: u64) -> Thawed<FusedDisk<MemoryDisk>> {
+    let Thawed { disk } = behind(disk);
+    Thawed {
+        disk: FusedDisk::new(disk, call),
     }
 }
 
 /// Whether an archive is opened as it may be left, after a stop at this call and one in the opening.
 fn opens_again(alloc: Global, call: u64, opening: u64) -> Result<bool, ArchiveError> {
     let (acknowledged, disk) = stopped(alloc, call)?;
-    let disk = opened_until(alloc, disk.restart(), opening);
-    match count_in(alloc, disk.restart()) {
-        Some(left) => Ok(may_be_left(acknowledged, left)),
-        None => Ok(false),
-    }
+    let disk = Fixture::disk_opened(alloc, failing_from(disk, opening));
+    Ok(is_left(alloc, acknowledged, behind(disk)))
 }
 
 #[test]
@@ -136,24 +155,16 @@ fn opened_after_a_stop_in_an_opening(rt: HostRuntime) -> Result<(), Fail> {
     Ok(())
 }
 
-/// A run on a disk whose call of this number fails, from 1 on: the last message acknowledged, and the disk.
-fn failed_once(alloc: Global, call: u64) -> Result<(u64, OneFaultDisk<MemoryDisk>), ArchiveError> {
+/// A disk in memory without files, whose call of this number fails, from 1 on.
+fn with_a_fault(alloc: Global, call: u64) -> Result<Thawed<OneFaultDisk<MemoryDisk>>, AllocError> {
     let disk = OneFaultDisk::new(MemoryDisk::new(alloc, ROOM)?, call);
-    let mut archive = match Archive::create(alloc, disk, 300, 65_535) {
-        Ok(archive) => archive,
-        Err(refused) => return Err(refused.error),
-    };
-    let acknowledged = fed(alloc, &mut archive);
-    Ok((acknowledged, archive.into_disk()))
+    Ok(Thawed { disk })
 }
 
 /// Whether an archive is opened as it may be left, after one fault.
 fn opens_after_a_fault(alloc: Global, call: u64) -> Result<bool, ArchiveError> {
-    let (acknowledged, disk) = failed_once(alloc, call)?;
-    match count_in(alloc, disk.restart()) {
-        Some(left) => Ok(may_be_left(acknowledged, left)),
-        None => Ok(false),
-    }
+    let (acknowledged, disk) = run_on(alloc, with_a_fault(alloc, call)?)?;
+    Ok(is_left(alloc, acknowledged, behind(disk)))
 }
 
 #[test]

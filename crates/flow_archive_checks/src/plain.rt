@@ -3,6 +3,7 @@
 use flow_archive::{PlainArchive, PlainError};
 use flow_codec::MessageError;
 use flow_measure::{Key, Row, Sums};
+use std::alloc::{AllocError, Global};
 use std::test::*;
 
 /// A template of elements 150, 4, 1 and 2, and a flow.
@@ -66,79 +67,103 @@ fn row(flows: u64, octets: u128, packets: u128) -> Row {
     }
 }
 
+/// A plain archive, whose calls answer and promise nothing else.
+#[derive(Drop)]
+pub(crate) struct Plain {
+    archive: PlainArchive,
+}
+
+impl Plain {
+    /// One without messages, by intervals of 300 seconds.
+    pub(crate) fn new(alloc: Global) -> Self {
+        Plain {
+            archive: PlainArchive::new(alloc, 300),
+        }
+    }
+
+    pub(crate) fn append(&mut self, message: &[u8]) -> Result<u64, PlainError> {
+        self.archive.append(message)
+    }
+
+    pub(crate) fn totals(&self, alloc: Global, from: u64, to: u64) -> Result<Vec<Row>, AllocError> {
+        self.archive.totals(alloc, from, to)
+    }
+
+    /// How many rows there are.
+    fn count(&self, alloc: Global, from: u64, to: u64) -> Result<usize, AllocError> {
+        Ok(self.totals(alloc, from, to)?.len())
+    }
+
+    /// Whether this is the one row.
+    fn has(&self, alloc: Global, row: Row) -> Result<bool, AllocError> {
+        let rows = self.totals(alloc, 0, END_OF_TIME)?;
+        Ok(rows.as_slice() == [row].as_slice())
+    }
+}
+
 #[test]
 fn one_message(rt: HostRuntime) -> Result<(), Fail> {
-    let mut archive = PlainArchive::new(rt.alloc(), 300);
+    let mut archive = Plain::new(rt.alloc());
     assert_eq!(rt; archive.append(PLAIN.as_slice()), Ok(1));
-    let rows = archive.totals(rt.alloc(), 0, END_OF_TIME)?;
-    assert_eq!(rt; rows.as_slice(), [row(1, 1500, 10)].as_slice());
-    assert_eq!(rt;
-        archive.totals(rt.alloc(), 1699999800, 1699999801)?.len(),
-        1
-    );
-    assert_eq!(rt;
-        archive.totals(rt.alloc(), 1699999801, END_OF_TIME)?.len(),
-        0
-    );
-    assert_eq!(rt; archive.totals(rt.alloc(), 0, 1699999800)?.len(), 0);
+    assert!(rt; archive.has(rt.alloc(), row(1, 1500, 10))?);
+    assert_eq!(rt; archive.count(rt.alloc(), 1699999800, 1699999801)?, 1);
+    assert_eq!(rt; archive.count(rt.alloc(), 1699999801, END_OF_TIME)?, 0);
+    assert_eq!(rt; archive.count(rt.alloc(), 0, 1699999800)?, 0);
     Ok(())
 }
 
 #[test]
 fn no_set(rt: HostRuntime) -> Result<(), Fail> {
-    let mut archive = PlainArchive::new(rt.alloc(), 300);
+    let mut archive = Plain::new(rt.alloc());
     assert_eq!(rt; archive.append(NO_SET.as_slice()), Ok(1));
-    assert_eq!(rt; archive.totals(rt.alloc(), 0, END_OF_TIME)?.len(), 0);
+    assert_eq!(rt; archive.count(rt.alloc(), 0, END_OF_TIME)?, 0);
     Ok(())
 }
 
 #[test]
 fn a_cut_message_changes_nothing(rt: HostRuntime) -> Result<(), Fail> {
-    let mut archive = PlainArchive::new(rt.alloc(), 300);
+    let mut archive = Plain::new(rt.alloc());
     assert_eq!(rt;
         archive.append(&PLAIN[..56]),
         Err(PlainError::Message(MessageError::Length))
     );
-    assert_eq!(rt; archive.totals(rt.alloc(), 0, END_OF_TIME)?.len(), 0);
+    assert_eq!(rt; archive.count(rt.alloc(), 0, END_OF_TIME)?, 0);
     assert_eq!(rt; archive.append(PLAIN.as_slice()), Ok(1));
     assert_eq!(rt;
         archive.append(&PLAIN[..56]),
         Err(PlainError::Message(MessageError::Length))
     );
-    let rows = archive.totals(rt.alloc(), 0, END_OF_TIME)?;
-    assert_eq!(rt; rows.as_slice(), [row(1, 1500, 10)].as_slice());
+    assert!(rt; archive.has(rt.alloc(), row(1, 1500, 10))?);
     assert_eq!(rt; archive.append(RECORD.as_slice()), Ok(2));
-    let rows = archive.totals(rt.alloc(), 0, END_OF_TIME)?;
-    assert_eq!(rt; rows.as_slice(), [row(2, 3000, 20)].as_slice());
+    assert!(rt; archive.has(rt.alloc(), row(2, 3000, 20))?);
     Ok(())
 }
 
 #[test]
 fn a_template_after_its_records(rt: HostRuntime) -> Result<(), Fail> {
-    let mut archive = PlainArchive::new(rt.alloc(), 300);
+    let mut archive = Plain::new(rt.alloc());
     assert_eq!(rt; archive.append(RECORD.as_slice()), Ok(1));
     assert_eq!(rt; archive.append(TEMPLATE.as_slice()), Ok(2));
-    assert_eq!(rt; archive.totals(rt.alloc(), 0, END_OF_TIME)?.len(), 0);
+    assert_eq!(rt; archive.count(rt.alloc(), 0, END_OF_TIME)?, 0);
     Ok(())
 }
 
 #[test]
 fn a_refused_template_is_not_in_force(rt: HostRuntime) -> Result<(), Fail> {
-    let mut archive = PlainArchive::new(rt.alloc(), 300);
+    let mut archive = Plain::new(rt.alloc());
     let fault = PlainError::Message(MessageError::SetLength(40));
     assert_eq!(rt; archive.append(TEMPLATE_AND_FAULT.as_slice()), Err(fault));
     assert_eq!(rt; archive.append(RECORD.as_slice()), Ok(1));
-    assert_eq!(rt; archive.totals(rt.alloc(), 0, END_OF_TIME)?.len(), 0);
+    assert_eq!(rt; archive.count(rt.alloc(), 0, END_OF_TIME)?, 0);
     Ok(())
 }
 
 #[test]
 fn a_redefinition(rt: HostRuntime) -> Result<(), Fail> {
-    let mut archive = PlainArchive::new(rt.alloc(), 300);
+    let mut archive = Plain::new(rt.alloc());
     assert_eq!(rt; archive.append(PLAIN.as_slice()), Ok(1));
     assert_eq!(rt; archive.append(REDEFINED.as_slice()), Ok(2));
-    let rows = archive.totals(rt.alloc(), 0, END_OF_TIME)?;
-    assert_eq!(rt; rows.as_slice(), [row(2, 3000, 20)].as_slice());
+    assert!(rt; archive.has(rt.alloc(), row(2, 3000, 20))?);
     Ok(())
 }
 

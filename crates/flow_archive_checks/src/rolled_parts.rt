@@ -1,13 +1,11 @@
 //! Rolled files, read from disks whose reads may fail.
 
 use crate::held::Held;
-use flow_disk::Faults;
+use crate::rolled::{are_alike, decoded, encoded};
+use flow_disk::{DiskError, Faults};
 use flow_measure::{Flow, Key, Rows, Sums};
-use flow_rolled::{
-    RolledError, RolledPart, RolledRow, RowError, RowReader, RowSumError, decode_rows, encode_rows,
-    sum_rows,
-};
-use std::alloc::Global;
+use flow_rolled::{RolledError, RolledPart, RolledRow, RowError, RowReader, RowSumError, sum_rows};
+use std::alloc::{AllocError, Global};
 use std::test::*;
 
 /// The Export Time.
@@ -38,7 +36,7 @@ fn domains(alloc: Global, count: u32) -> Result<Vec<u8>, Fail> {
     for n in 0..count {
         rows.add(&flow(n.wrapping_add(7), TIME, Some(6)))?;
     }
-    Ok(encode_rows(alloc, &rows, TIME)?)
+    encoded(alloc, &rows)
 }
 
 /// All rows that a reader gives.
@@ -55,9 +53,14 @@ fn all_rows(alloc: Global, part: &RolledPart<Held>) -> Result<Vec<RolledRow>, Ro
     Err(RowError::Fault)
 }
 
+/// All rows of a file of these octets.
+fn rows_of(alloc: Global, octets: Vec<u8>) -> Result<Vec<RolledRow>, RowError> {
+    all_rows(alloc, &part(octets))
+}
+
 /// Why a reader refuses a file of these octets.
 fn refusal(alloc: Global, octets: Vec<u8>) -> Option<RowError> {
-    all_rows(alloc, &part(octets)).err()
+    rows_of(alloc, octets).err()
 }
 
 /// How many rows the next message has.
@@ -128,48 +131,66 @@ fn refused_at(place: usize) -> Option<usize> {
 
 /// Whether octets are read as two rows, and are written again of the table that they are read as.
 fn is_file(alloc: Global, octets: &[u8]) -> Result<bool, Fail> {
-    let table = decode_rows(alloc, octets, 300)?;
-    let rows = all_rows(alloc, &part(octets.to_vec(alloc)?))?;
-    Ok(rows.len() == 2 && encode_rows(alloc, &table, TIME)?.as_slice() == octets)
+    let table = decoded(alloc, octets)?;
+    let rows = rows_of(alloc, octets.to_vec(alloc)?)?;
+    Ok(rows.len() == 2 && encoded(alloc, &table)?.as_slice() == octets)
 }
 
 /// Whether both readers refuse octets at this place.
 fn are_refused(alloc: Global, octets: Vec<u8>, at: usize) -> bool {
-    let first = decode_rows(alloc, &octets, 300).err();
+    let first = decoded(alloc, &octets).err();
     let damaged = Some(RowError::Damaged(FILE, at as u64));
     first == Some(RolledError::NotRolled(at)) && refusal(alloc, octets) == damaged
+}
+
+/// The octets with that at this place raised by one.
+fn raised(alloc: Global, octets: &[u8], place: usize) -> Result<Vec<u8>, AllocError> {
+    let mut octets = octets.to_vec(alloc)?;
+    if let Some(octet) = octets.get_mut(place) {
+        *octet = octet.wrapping_add(1);
+    }
+    Ok(octets)
+}
+
+/// Whether octets with that at this place raised are refused as they are to be, or are a file.
+fn are_told(alloc: Global, octets: Vec<u8>, place: usize) -> Result<bool, Fail> {
+    match refused_at(place) {
+        Some(at) => Ok(are_refused(alloc, octets, at)),
+        None => is_file(alloc, &octets),
+    }
 }
 
 #[test]
 fn each_octet(rt: HostRuntime) -> Result<(), Fail> {
     let whole = domains(rt.alloc(), 2)?;
     for place in 0..322 {
-        let mut octets = whole.clone()?;
-        if let Some(octet) = octets.get_mut(place) {
-            *octet = octet.wrapping_add(1);
-        }
-        let as_told = match refused_at(place) {
-            Some(at) => are_refused(rt.alloc(), octets, at),
-            None => is_file(rt.alloc(), &octets)?,
-        };
-        assert!(rt; as_told);
+        let octets = raised(rt.alloc(), &whole, place)?;
+        assert!(rt; are_told(rt.alloc(), octets, place)?, "{place}");
     }
     Ok(())
+}
+
+/// The Export Time that a file of these octets tells.
+fn time_of(alloc: Global, octets: Vec<u8>) -> Result<u32, DiskError> {
+    part(octets).export_time(alloc, &mut Faults::new())
 }
 
 /// The Export Time of all messages is another: the same rows.
 #[test]
 fn export_time(rt: HostRuntime) -> Result<(), Fail> {
-    let whole = domains(rt.alloc(), 2)?;
+    let alloc = rt.alloc();
+    let whole = domains(alloc, 2)?;
     let mut octets = whole.clone()?;
     for place in [7, 107, 168, 268] {
         if let Some(octet) = octets.get_mut(place) {
             *octet = 1;
         }
     }
-    let rows = all_rows(rt.alloc(), &part(octets))?;
-    let same = all_rows(rt.alloc(), &part(whole))?;
-    assert_eq!(rt; rows.as_slice(), same.as_slice());
+    let same = rows_of(alloc, octets.clone()?)?;
+    assert_eq!(rt; rows_of(alloc, whole.clone()?)?.as_slice(), same.as_slice());
+    assert_eq!(rt; time_of(alloc, whole)?, 0x6553_f100);
+    assert_eq!(rt; time_of(alloc, octets)?, 0x6553_f101);
+    assert_eq!(rt; time_of(alloc, Vec::new(alloc))?, 0);
     Ok(())
 }
 
@@ -182,28 +203,43 @@ fn many(alloc: Global) -> Result<Rows, Fail> {
     Ok(rows)
 }
 
+/// Adds the sums of a file.
+fn sum(alloc: Global, file: &RolledPart<Held>, rows: &mut Rows) -> Result<(), RowSumError> {
+    sum_rows(alloc, &mut Faults::new(), file, 300, rows)
+}
+
+/// Whether the sums of a table's file are the table's.
+fn sums_alike(alloc: Global, rows: &Rows) -> Result<bool, Fail> {
+    let file = part(encoded(alloc, rows)?);
+    let mut again = Rows::new(alloc, 300);
+    sum(alloc, &file, &mut again)?;
+    are_alike(&again, rows)
+}
+
 #[test]
 fn several_pieces(rt: HostRuntime) -> Result<(), Fail> {
     let rows = many(rt.alloc())?;
-    let file = part(encode_rows(rt.alloc(), &rows, TIME)?);
-    let mut again = Rows::new(rt.alloc(), 300);
-    sum_rows(rt.alloc(), &mut Faults::new(), &file, 300, &mut again)?;
-    assert_eq!(rt; again.entries()?.as_slice(), rows.entries()?.as_slice());
+    assert!(rt; sums_alike(rt.alloc(), &rows)?);
     Ok(())
 }
 
-/// The second piece can't be read: a fault each time, behind the messages of the first.
-#[test]
-fn failing_piece(rt: HostRuntime) -> Result<(), Fail> {
-    let octets = encode_rows(rt.alloc(), &many(rt.alloc())?, TIME)?;
+/// The file of many rows, of which each read fails that reaches past the first piece.
+fn broken(alloc: Global) -> Result<RolledPart<Held>, Fail> {
+    let octets = encoded(alloc, &many(alloc)?)?;
     let size = octets.len() as u64;
     let held = Held {
         number: FILE,
         octets,
         bad: 262_145,
     };
-    let broken = RolledPart::new(held, 1, size);
-    let mut reader = RowReader::new(rt.alloc(), &broken, 300);
+    Ok(RolledPart::new(held, 1, size))
+}
+
+/// The second piece can't be read: a fault each time, behind the messages of the first.
+#[test]
+fn failing_piece(rt: HostRuntime) -> Result<(), Fail> {
+    let file = broken(rt.alloc())?;
+    let mut reader = RowReader::new(rt.alloc(), &file, 300);
     for _ in 0..7 {
         assert!(rt; next_count(rt.alloc(), &mut reader)?.is_some());
     }
@@ -219,7 +255,7 @@ fn two_intervals(alloc: Global) -> Result<RolledPart<Held>, Fail> {
     let mut narrow = Rows::new(alloc, 300);
     narrow.add(&flow(7, 300, Some(6)))?;
     narrow.add(&flow(7, 900, Some(6)))?;
-    Ok(part(encode_rows(alloc, &narrow, TIME)?))
+    Ok(part(encoded(alloc, &narrow)?))
 }
 
 const KEY: Key = Key {
@@ -233,7 +269,7 @@ const KEY: Key = Key {
 fn wide_sums(rt: HostRuntime) -> Result<(), Fail> {
     let file = two_intervals(rt.alloc())?;
     let mut wide = Rows::new(rt.alloc(), 3600);
-    sum_rows(rt.alloc(), &mut Faults::new(), &file, 300, &mut wide)?;
+    sum(rt.alloc(), &file, &mut wide)?;
     let sums = Sums {
         flows: 2,
         octets: 3000,
@@ -254,7 +290,7 @@ fn spent_sum(rt: HostRuntime) -> Result<(), Fail> {
         packets: 0,
     };
     wide.put(KEY, most)?;
-    let told = sum_rows(rt.alloc(), &mut Faults::new(), &file, 300, &mut wide);
+    let told = sum(rt.alloc(), &file, &mut wide);
     assert_eq!(rt; told, Err(RowSumError::SumSpent));
     Ok(())
 }

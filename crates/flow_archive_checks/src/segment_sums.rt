@@ -1,15 +1,13 @@
 //! Sums and flows of a part.
 
-use crate::segments::{FILE, FLOW, FLOW_ALONE, take};
+use crate::segments::{FILE, FLOW, FLOW_ALONE, flows_in_file, prefix_of, sealed_on, take};
+use crate::thawed::Thawed;
 use flow_codec::Templates;
-use flow_disk::{Disk, DiskError, Faults, SealedFile};
+use flow_disk::{DiskError, Faults, SealedFile};
 use flow_gate::ScanError;
 use flow_measure::{Flow, Key, Row, Rows, Sums};
 use flow_memory_disk::{FusedDisk, FusedFile, MemoryDisk, MemorySealed, Room};
-use flow_segment::{
-    Carry, PartSumError, SealedPart, add_flows, collect_flows, few_messages_fit, flows_of,
-    make_segment, seal_tail,
-};
+use flow_segment::{Carry, PartSumError, SealedPart, add_flows, collect_flows, few_messages_fit};
 use std::alloc::{AllocError, Global};
 use std::test::Fail;
 
@@ -46,11 +44,8 @@ fn sealed(
     bad: u64,
 ) -> Result<FusedFile<MemorySealed>, ScanError> {
     let memory = MemoryDisk::new(alloc, room)?;
-    let mut disk = FusedDisk::with_bad_reads(memory, 100, FILE, bad);
-    make_segment(&mut disk, FILE, octets)?;
-    let end = disk.length(FILE)?.saturating_sub(2);
-    seal_tail(&mut disk, FILE, end)?;
-    Ok(disk.freeze(FILE)?)
+    let disk = FusedDisk::with_bad_reads(memory, 100, FILE, bad);
+    Ok(sealed_on(Thawed { disk }, octets, octets.len() as u64)?)
 }
 
 /// The segment without a prefix in a file, of so many messages.
@@ -64,22 +59,63 @@ fn part_of<F: SealedFile>(file: F, messages: u64) -> SealedPart<F> {
     }
 }
 
-/// Adds the flows of a segment without a prefix.
-fn sum(
-    alloc: Global,
-    file: FusedFile<MemorySealed>,
-    messages: u64,
-    templates: &mut Templates,
-    rows: &mut Rows,
-) -> Result<(), PartSumError> {
-    let mut faults = Faults::new();
-    add_flows(
-        alloc,
-        &part_of(file, messages),
-        templates,
-        rows,
-        &mut faults,
-    )
+/// The sums of segments, and the templates that they hand on.
+#[derive(Drop)]
+struct Summing {
+    templates: Templates,
+    rows: Rows,
+}
+
+impl Summing {
+    /// Begins with these sums, and no templates.
+    fn from(alloc: Global, rows: Rows) -> Self {
+        Summing {
+            templates: Templates::new(alloc),
+            rows,
+        }
+    }
+
+    /// Begins without sums.
+    fn new(alloc: Global) -> Self {
+        Summing::from(alloc, Rows::new(alloc, 300))
+    }
+
+    /// Adds the flows of a segment without a prefix, and answers the greatest Export Time.
+    fn sum(
+        &mut self,
+        alloc: Global,
+        file: FusedFile<MemorySealed>,
+        messages: u64,
+    ) -> Result<u32, PartSumError> {
+        let mut faults = Faults::new();
+        add_flows(
+            alloc,
+            &part_of(file, messages),
+            &mut self.templates,
+            &mut self.rows,
+            &mut faults,
+        )
+    }
+
+    /// The same, of a segment of these octets.
+    fn sum_octets(
+        &mut self,
+        alloc: Global,
+        room: Room,
+        octets: &[u8],
+        messages: u64,
+    ) -> Result<u32, PartSumError> {
+        let file = sealed(alloc, room, octets, NEVER)?;
+        self.sum(alloc, file, messages)
+    }
+
+    /// All rows.
+    fn rows(&self, alloc: Global) -> Result<Vec<Row>, PartSumError> {
+        match self.rows.in_span(alloc, 0, NEVER) {
+            Ok(rows) => Ok(rows),
+            Err(_) => Err(PartSumError::OutOfMemory),
+        }
+    }
 }
 
 /// The row of so many flows like that of the message.
@@ -106,19 +142,9 @@ fn rows_of(
     octets: &[u8],
     messages: u64,
 ) -> Result<Vec<Row>, PartSumError> {
-    let file = sealed(alloc, room, octets, NEVER)?;
-    let mut templates = Templates::new(alloc);
-    let mut rows = Rows::new(alloc, 300);
-    sum(alloc, file, messages, &mut templates, &mut rows)?;
-    in_all(alloc, &rows)
-}
-
-/// All rows.
-fn in_all(alloc: Global, rows: &Rows) -> Result<Vec<Row>, PartSumError> {
-    match rows.in_span(alloc, 0, NEVER) {
-        Ok(rows) => Ok(rows),
-        Err(_) => Err(PartSumError::OutOfMemory),
-    }
+    let mut sums = Summing::new(alloc);
+    sums.sum_octets(alloc, room, octets, messages)?;
+    sums.rows(alloc)
 }
 
 #[test]
@@ -131,13 +157,10 @@ fn the_sums_of_a_message(rt: HostRuntime) -> Result<(), Fail> {
 
 /// The rows of two segments, the second under the templates that the first leaves.
 fn rows_of_two(alloc: Global) -> Result<Vec<Row>, PartSumError> {
-    let first = sealed(alloc, SMALL, FLOW.as_slice(), NEVER)?;
-    let second = sealed(alloc, SMALL, FLOW_ALONE.as_slice(), NEVER)?;
-    let mut templates = Templates::new(alloc);
-    let mut rows = Rows::new(alloc, 300);
-    sum(alloc, first, 1, &mut templates, &mut rows)?;
-    sum(alloc, second, 1, &mut templates, &mut rows)?;
-    in_all(alloc, &rows)
+    let mut sums = Summing::new(alloc);
+    sums.sum_octets(alloc, SMALL, FLOW.as_slice(), 1)?;
+    sums.sum_octets(alloc, SMALL, FLOW_ALONE.as_slice(), 1)?;
+    sums.rows(alloc)
 }
 
 #[test]
@@ -193,11 +216,15 @@ fn full(alloc: Global) -> Result<Rows, PartSumError> {
 }
 
 /// What is told of the message where sums are full, and how many rows are left.
-fn sum_to_full(alloc: Global) -> Result<(Result<(), PartSumError>, usize), PartSumError> {
-    let file = sealed(alloc, SMALL, FLOW.as_slice(), NEVER)?;
-    let mut rows = full(alloc)?;
-    let told = sum(alloc, file, 1, &mut Templates::new(alloc), &mut rows);
-    Ok((told, in_all(alloc, &rows)?.len()))
+fn sum_to_full(alloc: Global) -> Result<(Result<u32, PartSumError>, usize), PartSumError> {
+    let mut sums = Summing::from(alloc, full(alloc)?);
+    let told = sums.sum_octets(alloc, SMALL, FLOW.as_slice(), 1);
+    Ok((told, sums.rows(alloc)?.len()))
+}
+
+/// How an error is printed.
+fn text(alloc: Global, error: PartSumError) -> Result<String, Fail> {
+    Ok(format!(in alloc; "{error}")?)
 }
 
 #[test]
@@ -205,10 +232,10 @@ fn a_sum_that_is_spent(rt: HostRuntime) -> Result<(), Fail> {
     let (told, left) = sum_to_full(rt.alloc())?;
     assert_eq!(rt; told, Err(PartSumError::SumSpent));
     assert_eq!(rt; left, 0);
-    let text = format!(in rt.alloc(); "{}", PartSumError::SumSpent)?;
-    assert_eq!(rt; text.as_str(), "14 SumSpent");
-    let text = format!(in rt.alloc(); "{}", PartSumError::Damaged(4, 57))?;
-    assert_eq!(rt; text.as_str(), "20 Damaged 4 57");
+    let spent = text(rt.alloc(), PartSumError::SumSpent)?;
+    assert_eq!(rt; spent.as_str(), "14 SumSpent");
+    let damaged = text(rt.alloc(), PartSumError::Damaged(4, 57))?;
+    assert_eq!(rt; damaged.as_str(), "20 Damaged 4 57");
     Ok(())
 }
 
@@ -232,10 +259,9 @@ fn messages_across_pieces(rt: HostRuntime) -> Result<(), Fail> {
 }
 
 /// What is told of three pieces where reads fail that reach this octet.
-fn told_of_pieces(alloc: Global, octets: &[u8], bad: u64) -> Result<(), PartSumError> {
+fn told_of_pieces(alloc: Global, octets: &[u8], bad: u64) -> Result<u32, PartSumError> {
     let file = sealed(alloc, LARGE, octets, bad)?;
-    let mut rows = Rows::new(alloc, 300);
-    sum(alloc, file, 18_001, &mut Templates::new(alloc), &mut rows)
+    Summing::new(alloc).sum(alloc, file, 18_001)
 }
 
 #[test]
@@ -247,15 +273,19 @@ fn each_read_fails(rt: HostRuntime) -> Result<(), Fail> {
     }
     assert_eq!(rt;
         told_of_pieces(rt.alloc(), octets.as_slice(), 594_057),
-        Ok(())
+        Ok(0x6553_f100)
     );
     Ok(())
 }
 
-/// The flows of the message and one behind it that start within.
-fn chosen(alloc: Global, from: u64, to: u64) -> Result<Vec<Flow>, ScanError> {
-    let octets = flow_and(alloc, FLOW_ALONE.as_slice())?;
-    let part = part_of(sealed(alloc, SMALL, octets.as_slice(), NEVER)?, 2);
+/// The flows of a segment without a prefix, of two messages, that start within.
+fn chosen_of<F: SealedFile>(
+    alloc: Global,
+    file: F,
+    from: u64,
+    to: u64,
+) -> Result<Vec<Flow>, ScanError> {
+    let part = part_of(file, 2);
     let mut templates = Templates::new(alloc);
     let mut faults = Faults::new();
     let mut flows = Vec::new(alloc);
@@ -269,6 +299,13 @@ fn chosen(alloc: Global, from: u64, to: u64) -> Result<Vec<Flow>, ScanError> {
         &mut faults,
     )?;
     Ok(flows)
+}
+
+/// The flows of the message and one behind it that start within.
+fn chosen(alloc: Global, from: u64, to: u64) -> Result<Vec<Flow>, ScanError> {
+    let octets = flow_and(alloc, FLOW_ALONE.as_slice())?;
+    let file = sealed(alloc, SMALL, octets.as_slice(), NEVER)?;
+    chosen_of(alloc, file, from, to)
 }
 
 #[test]
@@ -307,7 +344,7 @@ fn wide_segment(alloc: Global) -> Result<(Vec<u8>, usize), DiskError> {
     for domain in 1..=64 {
         take(alloc, &mut carry, wide_template(alloc, domain)?.as_slice())?;
     }
-    let mut octets = carry.prefix(alloc)?;
+    let mut octets = prefix_of(alloc, &carry)?;
     let prefix = octets.len();
     let head = [
         0, 10, 0x3a, 0xab, 0x65, 0x53, 0xf1, 0, 0, 0, 0, 0, 0, 0, 0, 64, //
@@ -324,15 +361,7 @@ fn wide_segment(alloc: Global) -> Result<(Vec<u8>, usize), DiskError> {
 fn wide_flows(alloc: Global) -> Result<Vec<Flow>, ScanError> {
     let (octets, prefix) = wide_segment(alloc)?;
     let file = sealed(alloc, LARGE, octets.as_slice(), NEVER)?;
-    let length = file.length();
-    let part = SealedPart {
-        reader: file,
-        prefix: (prefix as u64).min(length),
-        length,
-        messages: 1,
-    };
-    let mut faults = Faults::new();
-    flows_of(alloc, &part, &mut faults)
+    flows_in_file(alloc, file, prefix as u64)
 }
 
 #[test]

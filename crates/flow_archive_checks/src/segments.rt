@@ -1,17 +1,16 @@
 //! Segments: prefixes, sealing, and the messages of a part.
 
-ghost use Rattle.std.specs.Prelude.{◌≤◌};
-
+use crate::thawed::{Thawed, memory};
 use flow_codec::MessageError;
 use flow_disk::{Disk, DiskError, Faults, SealedFile};
 use flow_gate::ScanError;
 use flow_measure::Flow;
 use flow_memory_disk::{MemoryDisk, OneFaultDisk, Room};
 use flow_segment::{
-    Carry, Cursor, PartReader, SealedPart, advance, advance_on, flows_of, handed_on, make_segment,
+    Carry, Cursor, PartReader, SealedPart, advance, advance_on, flows_of, make_segment,
     messages_of, read_to_the_end, seal_tail,
 };
-use std::alloc::Global;
+use std::alloc::{AllocError, Global};
 use std::test::Fail;
 
 /// A message of 57 octets in domain 7: Template 256 of four elements, and a flow.
@@ -22,7 +21,7 @@ pub(crate) const FLOW: [u8; 57] = [
 ];
 
 /// The segment behind it: its prefix of 40 octets, and a closed gate.
-pub(crate) const BEHIND: [u8; 42] = [
+const BEHIND: [u8; 42] = [
     0, 10, 0, 40, 0x65, 0x53, 0xf1, 0, 0, 0, 0, 1, 0, 0, 0, 7, //
     0, 2, 0, 24, 1, 0, 0, 4, 0, 150, 0, 4, 0, 4, 0, 1, 0, 1, 0, 4, 0, 2, 0, 4, //
     0, 0,
@@ -44,13 +43,36 @@ const ROOM: Room = Room {
     written: 200,
 };
 
-/// What the carry's prefix becomes as a segment's file.
-fn segment_of(alloc: Global, carry: &Carry) -> Result<Vec<u8>, DiskError> {
-    let prefix = carry.prefix(alloc)?;
-    let mut disk = MemoryDisk::new(alloc, ROOM)?;
-    make_segment(&mut disk, FILE, prefix.as_slice())?;
+/// The prefix of the segment behind what is handed on.
+pub(crate) fn prefix_of(alloc: Global, carry: &Carry) -> Result<Vec<u8>, AllocError> {
+    carry.prefix(alloc)
+}
+
+/// What a prefix becomes as a segment's file.
+fn file_of<D: Disk>(alloc: Global, disk: Thawed<D>, prefix: &[u8]) -> Result<Vec<u8>, DiskError> {
+    let Thawed { mut disk } = disk;
+    make_segment(&mut disk, FILE, prefix)?;
     let count = disk.length(FILE)?;
     disk.read(alloc, FILE, 0, count as usize)
+}
+
+/// What the carry's prefix becomes as a segment's file.
+fn segment_of(alloc: Global, carry: &Carry) -> Result<Vec<u8>, DiskError> {
+    let prefix = prefix_of(alloc, carry)?;
+    file_of(alloc, memory(alloc, ROOM)?, prefix.as_slice())
+}
+
+/// The frozen file of a segment of these octets, which is sealed behind so many of them, on a disk without files.
+pub(crate) fn sealed_on<D: Disk>(
+    disk: Thawed<D>,
+    octets: &[u8],
+    length: u64,
+) -> Result<D::Sealed, DiskError> {
+    let Thawed { mut disk } = disk;
+    make_segment(&mut disk, FILE, octets)?;
+    let end = disk.length(FILE)?.min(length);
+    seal_tail(&mut disk, FILE, end)?;
+    disk.freeze(FILE)
 }
 
 /// Takes a message in. A refusal other than for want of memory is told as a fault.
@@ -71,33 +93,6 @@ pub(crate) fn carry_of(alloc: Global, messages: &[&[u8]]) -> Result<Carry, DiskE
     Ok(carry)
 }
 
-/// The file of the segment behind messages.
-fn segment_behind(alloc: Global, messages: &[&[u8]]) -> Result<Vec<u8>, DiskError> {
-    segment_of(alloc, &carry_of(alloc, messages)?)
-}
-
-/// The prefix behind the flow.
-fn prefix_behind(alloc: Global) -> Result<Vec<u8>, DiskError> {
-    Ok(carry_of(alloc, &[FLOW.as_slice()])?.prefix(alloc)?)
-}
-
-/// The file of the segment behind the prefix alone.
-fn segment_again(alloc: Global) -> Result<Vec<u8>, DiskError> {
-    let prefix = prefix_behind(alloc)?;
-    let copy = carry_of(alloc, &[prefix.as_slice()])?.try_copy()?;
-    segment_of(alloc, &copy)
-}
-
-#[test]
-fn a_segment_behind_a_flow(rt: HostRuntime) -> Result<(), Fail> {
-    handed_on();
-    let octets = segment_behind(rt.alloc(), &[FLOW.as_slice()])?;
-    assert!(rt; octets.as_slice() == BEHIND.as_slice());
-    let octets = segment_again(rt.alloc())?;
-    assert!(rt; octets.as_slice() == BEHIND.as_slice());
-    Ok(())
-}
-
 /// The file of the segment behind the flow, a message that is refused, and the withdrawal.
 fn segment_behind_none(alloc: Global) -> Result<(Vec<u8>, bool), DiskError> {
     let mut carry = carry_of(alloc, &[FLOW.as_slice()])?;
@@ -113,14 +108,19 @@ fn a_segment_behind_a_withdrawal_of_all(rt: HostRuntime) -> Result<(), Fail> {
     Ok(())
 }
 
-/// Makes a segment of this prefix and seals it behind its first 40 octets, on a disk whose call of this number fails;
-/// gives what stands there.
-fn made_and_sealed(alloc: Global, call: u64) -> Result<Vec<u8>, DiskError> {
-    let mut disk = OneFaultDisk::new(MemoryDisk::new(alloc, ROOM)?, call);
+/// Makes a segment of the prefix of 40 octets and seals it behind them: what stands there.
+fn sealed_again<D: Disk>(alloc: Global, disk: Thawed<D>) -> Result<Vec<u8>, DiskError> {
+    let Thawed { mut disk } = disk;
     make_segment(&mut disk, FILE, &BEHIND[..40])?;
     seal_tail(&mut disk, FILE, 40)?;
     let count = disk.length(FILE)?;
     disk.read(alloc, FILE, 0, count as usize)
+}
+
+/// The same, on a disk whose call of this number fails.
+fn made_and_sealed(alloc: Global, call: u64) -> Result<Vec<u8>, DiskError> {
+    let disk = OneFaultDisk::new(MemoryDisk::new(alloc, ROOM)?, call);
+    sealed_again(alloc, Thawed { disk })
 }
 
 #[test]
@@ -146,8 +146,11 @@ fn first_of<F: SealedFile>(alloc: Global, file: &F) -> Result<(usize, bool), Sca
 
 /// A segment of one message of 40 octets: how many octets are read as a message before it is sealed; and afterwards,
 /// with whether there is another.
-fn made_and_read(alloc: Global) -> Result<(usize, (usize, bool)), ScanError> {
-    let mut disk = MemoryDisk::new(alloc, ROOM)?;
+fn made_and_read<D: Disk>(
+    alloc: Global,
+    disk: Thawed<D>,
+) -> Result<(usize, (usize, bool)), ScanError> {
+    let Thawed { mut disk } = disk;
     make_segment(&mut disk, FILE, &BEHIND[..40])?;
     let mut cursor = Cursor::new(alloc, 0, 40);
     advance_on(&mut cursor, alloc, &mut disk, FILE)?;
@@ -160,7 +163,8 @@ fn made_and_read(alloc: Global) -> Result<(usize, (usize, bool)), ScanError> {
 #[test]
 fn a_segment_is_read(rt: HostRuntime) -> Result<(), Fail> {
     read_to_the_end();
-    let (count, (first, another)) = made_and_read(rt.alloc())?;
+    let disk = memory(rt.alloc(), ROOM)?;
+    let (count, (first, another)) = made_and_read(rt.alloc(), disk)?;
     assert_eq!(rt; count, 40);
     assert_eq!(rt; first, 40);
     assert!(rt; !another);
@@ -196,13 +200,9 @@ fn read_part<F: SealedFile>(alloc: Global, file: F, messages: u64) -> Result<Rea
 }
 
 /// Seals a segment without a prefix, of the flow's octets up to `length`, and reads it as one of so many messages.
-fn sealed_flow(alloc: Global, length: u64, messages: u64) -> Result<Read, ScanError>
-    requires { length ≤ 57 }
-{
-    let mut disk = MemoryDisk::new(alloc, ROOM)?;
-    make_segment(&mut disk, FILE, FLOW.as_slice())?;
-    seal_tail(&mut disk, FILE, length)?;
-    read_part(alloc, disk.freeze(FILE)?, messages)
+fn sealed_flow(alloc: Global, length: u64, messages: u64) -> Result<Read, ScanError> {
+    let file = sealed_on(memory(alloc, ROOM)?, FLOW.as_slice(), length)?;
+    read_part(alloc, file, messages)
 }
 
 #[test]
@@ -227,7 +227,7 @@ pub(crate) const FLOW_ALONE: [u8; 33] = [
 ];
 
 /// The flows of a file that is a sealed segment, of a prefix of so many octets and one message.
-fn flows_in_file<F: SealedFile>(
+pub(crate) fn flows_in_file<F: SealedFile>(
     alloc: Global,
     file: F,
     prefix: u64,
@@ -247,11 +247,9 @@ fn flows_in_file<F: SealedFile>(
 fn flows_behind(alloc: Global, prefix: &[u8], message: &[u8]) -> Result<Vec<Flow>, ScanError> {
     let mut octets = Vec::from_slice(alloc, prefix)?;
     octets.extend_from_slice(message)?;
-    let mut disk = MemoryDisk::new(alloc, ROOM)?;
-    make_segment(&mut disk, FILE, octets.as_slice())?;
-    let end = disk.length(FILE)?.saturating_sub(2);
-    seal_tail(&mut disk, FILE, end)?;
-    flows_in_file(alloc, disk.freeze(FILE)?, prefix.len() as u64)
+    let count = octets.len() as u64;
+    let file = sealed_on(memory(alloc, ROOM)?, octets.as_slice(), count)?;
+    flows_in_file(alloc, file, prefix.len() as u64)
 }
 
 #[test]

@@ -13,6 +13,8 @@ use Rattle.flow_archive.specs.declared.refusal.ArchiveError.{ArchiveError}
 use Rattle.flow_archive.specs.declared.refusal.ArchiveError.TheVariants.{Message, OutOfMemory, NumbersSpent, NotEmpty}
 use Rattle.flow_archive.specs.declared.refusal.ArchiveError.TheVariants.{Fault, NoRoom, ManifestFull, NothingToSeal}
 use Rattle.flow_archive.specs.declared.refusal.ArchiveError.TheVariants.{Closed}
+use Rattle.flow_archive.specs.declared.refusal.ArchiveError.TheVariants.{Damaged, SourceFault, RollBusy, NoRoll}
+use Rattle.flow_archive.specs.declared.refusal.ArchiveError.TheVariants.{RollCount, RollNotDone, Pinned, NothingToRetire}
 use Rattle.flow_archive.specs.Answers.{Answers, Takes}
 use Rattle.flow_archive.specs.Runs.{IsAfter, IsRun, Leads}
 use Rattle.flow_archive.specs.Seen.{Seen, IsStep}
@@ -58,6 +60,14 @@ fault_or (Err (Message fault)) = inr (λ is. cc)
 fault_or (Err OutOfMemory) = inr (λ is. cc)
 fault_or (Err NumbersSpent) = inr (λ is. cc)
 fault_or (Err NotEmpty) = inr (λ is. cc)
+fault_or (Err (Damaged file at)) = inr (λ is. cc)
+fault_or (Err SourceFault) = inr (λ is. cc)
+fault_or (Err RollBusy) = inr (λ is. cc)
+fault_or (Err NoRoll) = inr (λ is. cc)
+fault_or (Err RollCount) = inr (λ is. cc)
+fault_or (Err RollNotDone) = inr (λ is. cc)
+fault_or (Err Pinned) = inr (λ is. cc)
+fault_or (Err NothingToRetire) = inr (λ is. cc)
 fault_or (Err NoRoom) = inr (λ is. cc)
 fault_or (Err ManifestFull) = inr (λ is. cc)
 fault_or (Err NothingToSeal) = inr (λ is. cc)
@@ -96,6 +106,14 @@ module _ {D : Type 0} (honest : D → Bool) (moment : D → ℕ) (left_since : D
   goes_on old mid e (Err OutOfMemory) step h still other = stays old mid (step.refused (λ is. cc)) still
   goes_on old mid e (Err NumbersSpent) step h still other = stays old mid (step.refused (λ is. cc)) still
   goes_on old mid e (Err NotEmpty) step h still other = stays old mid (step.refused (λ is. cc)) still
+  goes_on old mid e (Err (Damaged file at)) step h still other = stays old mid (step.refused (λ is. cc)) still
+  goes_on old mid e (Err SourceFault) step h still other = stays old mid (step.refused (λ is. cc)) still
+  goes_on old mid e (Err RollBusy) step h still other = stays old mid (step.refused (λ is. cc)) still
+  goes_on old mid e (Err NoRoll) step h still other = stays old mid (step.refused (λ is. cc)) still
+  goes_on old mid e (Err RollCount) step h still other = stays old mid (step.refused (λ is. cc)) still
+  goes_on old mid e (Err RollNotDone) step h still other = stays old mid (step.refused (λ is. cc)) still
+  goes_on old mid e (Err Pinned) step h still other = stays old mid (step.refused (λ is. cc)) still
+  goes_on old mid e (Err NothingToRetire) step h still other = stays old mid (step.refused (λ is. cc)) still
   goes_on old mid e (Err NoRoom) step h still other = stays old mid (step.refused (λ is. cc)) still
   goes_on old mid e (Err ManifestFull) step h still other = stays old mid (step.refused (λ is. cc)) still
   goes_on old mid e (Err NothingToSeal) step h still other = stays old mid (step.refused (λ is. cc)) still

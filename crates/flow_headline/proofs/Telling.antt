@@ -11,7 +11,7 @@ use Rattle.flow_snapshot.specs.Shelf.{Shelf}
 use Rattle.flow_snapshot.specs.Views.{IsViewOf}
 use Rattle.flow_recover.specs.State.{State}
 use Rattle.flow_recover.specs.Shelved.{shelf_of}
-use Rattle.flow_headline.specs.Front.{AreTotals, IsFront}
+use Rattle.flow_headline.specs.Front.{AreTotals, IsFront, grown}
 
 -- what is answered by each view of the files is the totals of the history
 pub told : (s left : State) (events : List Event) (answers : List (Result Answer ArchiveError)) (from to : ℕ)
@@ -22,8 +22,7 @@ told s left events answers from to rows shelf front same given = record {
   front = front;
   totals = λ h has.
       let more = front.history h has in
-      let grown = record h { all = h.all ++ more.more } in
-      let v = view_of grown (counts_of (shelf_of left)) in (
+      let v = view_of (grown h more.more left) (counts_of (shelf_of left)) in (
         more.more,
         more.octets,
         given v (subst (λ (x : Shelf). IsViewOf x v) (sym same) (more.history).view)

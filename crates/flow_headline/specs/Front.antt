@@ -7,16 +7,20 @@ use Rattle.flow_measure.specs.declared.rows.Row.{Row}
 use Rattle.flow_measure.specs.Query.{totals_between, totals_in_view}
 use Rattle.flow_measure.specs.View.{View}
 use Rattle.flow_segment.specs.Carry.{octets_of}
+use Rattle.flow_snapshot.specs.Shelf.{cut_of, second_of}
 use Rattle.flow_snapshot.specs.Views.{IsViewOf}
 use Rattle.flow_recover.specs.State.{State, reopened}
 use Rattle.flow_recover.specs.Shelved.{HasHistory, shelf_of}
 use Rattle.flow_archive.specs.declared.event.Answer.{Answer}
 use Rattle.flow_archive.specs.declared.event.Event.{Event}
-use Rattle.flow_archive.specs.declared.event.Event.TheVariants.{Append, AppendBatch, Seal}
+use Rattle.flow_archive.specs.declared.event.Event.TheVariants.{Append, AppendBatch, Seal, RollBegin, MergeBegin}
+use Rattle.flow_archive.specs.declared.event.Event.TheVariants.{RollStep, RollWrite, RollInstall, RollDrop, Retire}
 use Rattle.flow_archive.specs.declared.refusal.ArchiveError.{ArchiveError}
 use Rattle.flow_archive.specs.declared.refusal.ArchiveError.TheVariants.{Message, OutOfMemory, NumbersSpent, NotEmpty}
 use Rattle.flow_archive.specs.declared.refusal.ArchiveError.TheVariants.{Fault, NoRoom, ManifestFull, NothingToSeal}
 use Rattle.flow_archive.specs.declared.refusal.ArchiveError.TheVariants.{Closed}
+use Rattle.flow_archive.specs.declared.refusal.ArchiveError.TheVariants.{Damaged, SourceFault, RollBusy, NoRoll}
+use Rattle.flow_archive.specs.declared.refusal.ArchiveError.TheVariants.{RollCount, RollNotDone, Pinned, NothingToRetire}
 use Rattle.flow_archive.specs.Runs.{IsAfter}
 
 -- ---- messages
@@ -26,6 +30,13 @@ abbrev pub messages_in : Event → List (List ℕ)
 messages_in (Append message) = message.items ∷ []
 messages_in (AppendBatch messages) = texts messages.items
 messages_in Seal = []
+messages_in (RollBegin count) = []
+messages_in (MergeBegin count) = []
+messages_in RollStep = []
+messages_in RollWrite = []
+messages_in RollInstall = []
+messages_in RollDrop = []
+messages_in Retire = []
 
 -- What an event with this answer added. One under which the device failed counts as taken.
 abbrev pub added_by : Event → Result Answer ArchiveError → List (List ℕ)
@@ -35,6 +46,14 @@ added_by event (Err (Message fault)) = []
 added_by event (Err OutOfMemory) = []
 added_by event (Err NumbersSpent) = []
 added_by event (Err NotEmpty) = []
+added_by event (Err (Damaged file at)) = []
+added_by event (Err SourceFault) = []
+added_by event (Err RollBusy) = []
+added_by event (Err NoRoll) = []
+added_by event (Err RollCount) = []
+added_by event (Err RollNotDone) = []
+added_by event (Err Pinned) = []
+added_by event (Err NothingToRetire) = []
 added_by event (Err NoRoom) = []
 added_by event (Err ManifestFull) = []
 added_by event (Err NothingToSeal) = []
@@ -46,14 +65,20 @@ all_added [] answers = []
 all_added (event ∷ events) [] = []
 all_added (event ∷ events) (answer ∷ answers) = added_by event answer ++ all_added events answers
 
+-- a history with messages behind it, rolled and merged as far as the files of a state are
+abbrev pub grown : History → List Accepted → State → History
+grown h more s =
+    record h { all = h.all ++ more; second = second_of (shelf_of s); cut = cut_of (shelf_of s) }
+
 -- The archive in this state is one with this history and these messages behind it: all of them, each once, in their
--- order, and no other. So its totals over any span are those of all these messages.
+-- order, and no other, however many of them are rolled or merged by now. So its totals over any span are those of all
+-- these messages.
 pub record HasMore (h : History) (messages : List (List ℕ)) (s : State) : Type 0 where
   pub more : List Accepted
   pub octets : octets_of more ≡ messages
-  pub history : HasHistory s (record h { all = h.all ++ more })
+  pub history : HasHistory s (grown h more s)
   pub totals : (v : View) (from to : ℕ) → IsViewOf (shelf_of s) v
-      → totals_in_view from to v ≡ totals_between from to (record h { all = h.all ++ more })
+      → totals_in_view from to v ≡ totals_between from to (grown h more s)
 
 -- ---- fronts
 
@@ -85,4 +110,4 @@ pub record AreTotals (s : State) (events : List Event) (answers : List (Result A
   pub front : IsFront s events answers left
   pub totals : (h : History) → HasHistory s h
       → (more : List Accepted) × (octets_of more ≡ all_added (take front.taken events) (take front.taken answers))
-      × (rows ≡ totals_between from to (record h { all = h.all ++ more }))
+      × (rows ≡ totals_between from to (grown h more left))

@@ -1,7 +1,7 @@
 -- How it is printed that no archive was opened.
 use Rattle.std.specs.Prelude.{ℕ, List, codes}
 use Rattle.flow_headline.specs.declared.error.NotOpened.{NotOpened}
-use Rattle.flow_headline.specs.declared.error.NotOpened.TheVariants.{OutOfMemory, DiskFull, NoSuchStop}
+use Rattle.flow_headline.specs.declared.error.NotOpened.TheVariants.{OutOfMemory, NoSuchStop}
 use Rattle.flow_headline.specs.declared.error.NotTold.{NotTold}
 use Rattle.flow_headline.specs.declared.error.NotTold.TheVariants.{NotOpened as NotOpenedTold, NotAnswered}
 use Rattle.flow_snapshot.specs.Told.{printed as printed_query}
@@ -9,7 +9,6 @@ use Rattle.flow_snapshot.specs.Told.{printed as printed_query}
 -- the name, behind the number of what has one
 abbrev pub printed : NotOpened → List ℕ
 printed OutOfMemory = codes "11 OutOfMemory"
-printed DiskFull = codes "DiskFull"
 printed NoSuchStop = codes "NoSuchStop"
 
 -- why no totals were told

@@ -15,10 +15,9 @@ use std::fmt;
 /// come.
 #[derive(Clone, Copy, Debug, PartialEq, Eq)]
 pub enum NotOpened {
-    /// A growth of memory was refused: before the first event, or in the opening.
+    /// A growth of memory was refused: before the first event, or in the opening; or the disk in memory had no room for
+    /// what the opening writes.
     OutOfMemory,
-    /// The disk in memory had no room for what the opening writes.
-    DiskFull,
     /// No stop leaves what was chosen: octets in place of others that are none, or too many for the room of a file.
     NoSuchStop,
 }
@@ -29,7 +28,6 @@ impl fmt::Display for NotOpened {
     fn fmt<W: fmt::Write>(&self, f: &mut fmt::Formatter<W>) -> fmt::Result {
         match self {
             NotOpened::OutOfMemory => write!(f, "11 OutOfMemory"),
-            NotOpened::DiskFull => write!(f, "DiskFull"),
             NotOpened::NoSuchStop => write!(f, "NoSuchStop"),
         }
     }

@@ -12,6 +12,7 @@ ghost use Rattle.flow_headline.specs.Machine.{IsNoStop, IsStoppedRun};
 
 use crate::error::NotOpened;
 use flow_archive::{Answer, Archive, ArchiveError, Event, run};
+use flow_disk::Faults;
 use flow_memory_disk::{Choice, FusedDisk, MemoryDisk};
 use flow_recover::RecoverError;
 use std::alloc::Global;
@@ -35,7 +36,8 @@ struct Stopped {
 /// Runs events on an open archive over a disk that fails from some call on, stops the machine there, and opens what the
 /// stop left. A batch has from 1 to 64 messages.
 ///
-/// Errors: `OutOfMemory`, `DiskFull`, and `NoSuchStop` where the choice fits no stop after these events.
+/// Errors: `OutOfMemory`, of the machine or of its disk, and `NoSuchStop` where the choice fits no stop after these
+/// events.
 pub fn run_and_open(
     alloc: Global,
     archive: Archive<FusedDisk<MemoryDisk>>,
@@ -57,8 +59,7 @@ pub fn run_and_open(
     match Archive::open(alloc, disk) {
         Ok(archive) => Ok(Reopened { answers, archive }),
         Err(refused) => match refused.error {
-            RecoverError::OutOfMemory => Err(NotOpened::OutOfMemory),
-            RecoverError::Fault => Err(NotOpened::DiskFull),
+            RecoverError::OutOfMemory | RecoverError::Fault => Err(NotOpened::OutOfMemory),
             _ => unreachable!(),
         },
     }
@@ -83,7 +84,8 @@ fn run_and_stop(
     let mut archive = archive;
     // Its contract tells what all images stand for at the start.
     let _closed = archive.is_closed();
-    let answers = run(&mut archive, alloc, events)?;
+    let mut faults = Faults::new();
+    let answers = run(&mut archive, alloc, events, &mut faults)?;
     let disk = archive.into_disk();
     if !disk.can_crash(choice) {
         return Err(NotOpened::NoSuchStop);

@@ -3,7 +3,7 @@
 ghost use Rattle.std.specs.Prelude.{◌≡◌, false, All, IfOk};
 ghost use Rattle.flow_archive.specs.Runs.{IsEvent};
 
-use crate::{NotOpened, run_and_open};
+use crate::{NotOpened, run_and_open, totals_behind_a_stop};
 use flow_archive::{Answer, Archive, ArchiveError, Event};
 use flow_memory_disk::{Choice, FusedDisk, MemoryDisk, Room};
 use std::alloc::{AllocError, Global};
@@ -13,15 +13,15 @@ use std::test::*;
 const ROOM: Room = Room {
     files: 8,
     octets: 512,
-    calls: 128,
-    written: 4_096,
+    calls: 256,
+    written: 8_192,
 };
 
 /// How many device calls make an archive.
 const CREATING: u64 = 13;
 
 /// More than the events make with their archive.
-const ALL_CALLS: u64 = 40;
+const ALL_CALLS: u64 = 64;
 
 /// A template of elements 150, 4, 1 and 2, and a flow.
 const PLAIN: [u8; 57] = [
@@ -53,15 +53,21 @@ fn created(alloc: Global, calls: u64) -> Result<Archive<FusedDisk<MemoryDisk>>, 
     }
 }
 
-/// A message, a seal, a message that is cut short, and a flow under the template of the first one.
-fn events(alloc: Global) -> Result<[Event; 4], AllocError>
+/// A message, a seal, a roll of the sealed segment with a message that is cut short in between, a flow under the template
+/// of the first message, and the removal of the segment.
+fn events(alloc: Global) -> Result<[Event; 9], AllocError>
     ensures { IfOk result (λ events. All IsEvent events) }
 {
     Ok([
         Event::Append(PLAIN.to_vec(alloc)?),
         Event::Seal,
+        Event::RollBegin(1),
+        Event::RollStep,
         Event::Append(PLAIN[..56].to_vec(alloc)?),
+        Event::RollWrite,
+        Event::RollInstall,
         Event::Append(RECORD.to_vec(alloc)?),
+        Event::Retire,
     ])
 }
 
@@ -124,4 +130,47 @@ fn no_such_stop(rt: HostRuntime) -> Result<(), Fail> {
     let refused = run_and_open(alloc, archive, &[], Choice::Filled(&[])).err();
     assert_eq!(rt; refused, Some(NotOpened::NoSuchStop));
     Ok(())
+}
+
+/// The flows, octets and packets of all rows that start within a span, behind a stop.
+fn sums_behind_a_stop(alloc: Global, call: u64, from: u64, to: u64) -> Option<(u64, u128, u128)> {
+    let Ok(archive) = created(alloc, call) else {
+        return None;
+    };
+    let Ok(events) = events(alloc) else {
+        return None;
+    };
+    let told = totals_behind_a_stop(
+        alloc,
+        archive,
+        events.as_slice(),
+        Choice::Settled,
+        from,
+        to,
+    ).ok()?;
+    let mut sums = (0, 0, 0);
+    for row in told.rows {
+        sums.0 = row.sums.flows.wrapping_add(sums.0);
+        sums.1 = row.sums.octets.wrapping_add(sums.1);
+        sums.2 = row.sums.packets.wrapping_add(sums.2);
+    }
+    Some(sums)
+}
+
+#[test]
+fn totals_behind_stops(rt: HostRuntime) {
+    let alloc = rt.alloc();
+    let end = u64::from(u32::MAX) + 1;
+    assert_eq!(rt;
+        sums_behind_a_stop(alloc, ALL_CALLS, 0, end),
+        Some((2, 3_000, 20))
+    );
+    assert_eq!(rt;
+        sums_behind_a_stop(alloc, CREATING, 0, end),
+        Some((0, 0, 0))
+    );
+    assert_eq!(rt;
+        sums_behind_a_stop(alloc, ALL_CALLS, 0, 1_699_999_800),
+        Some((0, 0, 0))
+    );
 }

@@ -1,6 +1,7 @@
 -- Rolled files on a disk, and how far one has been read.
 use Rattle.std.specs.Prelude.{◌≡◌, ◌⊎◌, ℕ, ◌+◌, ◌<◌, ◌≤◌, Bool, List, [], ◌∷◌, ◌++◌, length, take, drop, Option, Some}
-use Rattle.std.specs.Prelude.{None}
+use Rattle.std.specs.Prelude.{None, nat_lt, if◌then◌else◌}
+use Rattle.std.specs.Int.{w32, from_be_bytes}
 use Rattle.std.specs.Prelude.{Vec, Result, Ok, Err}
 use Rattle.std.specs.declared.alloc.Global.{Global}
 use Rattle.std.specs.FinMap.{entries, get}
@@ -25,6 +26,10 @@ pub record Rollup : Type 0 where
   pub length : ℕ
   pub honest : Bool
   pub octets : List ℕ
+
+-- the Export Time of its first message, behind Version and Length, in network byte order; 0 where there is none
+abbrev pub export_time : List ℕ → ℕ
+export_time octets = if nat_lt (length octets) 8 then 0 else from_be_bytes w32 (take 4 (drop 4 octets))
 
 -- how far a rolled file has been read: the place of the next message, and what is known of the one before it
 pub record Reader : Type 0 where

@@ -2,6 +2,7 @@
 
 ghost use Rattle.std.specs.Prelude.{◌≡◌, ◌+◌, ◌≤◌, IsTrue, length, take, drop, IfOk, vec_len};
 ghost use Rattle.flow_disk.specs.Cause.{HasCause};
+ghost use Rattle.flow_rolled.specs.Stored.{export_time};
 
 use flow_disk::{DiskError, Faults, SealedFile};
 use std::alloc::Global;
@@ -72,6 +73,20 @@ impl<S: SealedFile> RolledPart<S> {
         ensures whole { IsTrue self.now.honest → length self.now.octets ≡ self.now.length }
     {
         self.length
+    }
+
+    /// The Export Time of its first message, in seconds since 1970-01-01 00:00 UTC (RFC 7011, section 3.1): all its
+    /// messages have the same. 0 where there is none. It reads these four octets.
+    pub fn export_time(&self, alloc: Global, faults: &mut Faults<S>) -> Result<u32, DiskError>
+        ensures time { IsTrue self.now.honest → IfOk result (λ time. time ≡ export_time self.now.octets) }
+        ensures cause { HasCause DiskError.Fault faults.old faults.new result }
+    {
+        if self.length < 8 {
+            return Ok(0);
+        }
+        let octets = self.read(alloc, faults, 4, 4)?;
+        let time = [octets[0], octets[1], octets[2], octets[3]];
+        Ok(u32::from_be_bytes(time))
     }
 
     /// The frozen file again, as a disk takes it back.

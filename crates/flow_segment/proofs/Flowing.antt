@@ -1,9 +1,11 @@
 -- The flows of a part's messages, taken one message after the other.
 use Rattle.std.proofs.Common.{◌≡◌, ◌≢◌, ℕ, ◌+◌, ◌≤◌, Bool, true, false, List, [], ◌∷◌, ◌++◌, length, refl, sym}
-use Rattle.std.proofs.Common.{subst}
+use Rattle.std.proofs.Common.{ap, subst, Ordering, Less, Equal, Greater}
 use Rattle.std.proofs.Common.{◌∙◌, inl, inr, arith}
 use Rattle.std.proofs.lemmas.List.{length-append}
-use Rattle.std.specs.Prelude.{IsTrue, Result, Ok, Err, IsErrAnd, IsErrOf}
+use Rattle.std.specs.Prelude.{◌<◌, cond, max, IsTrue, Result, Ok, Err, IsErrAnd, IsErrOf}
+use Rattle.std.proofs.lemmas.Cmp.{ranked}
+use Rattle.std.specs.Ordering.{is_lt, nat_cmp, ord_max, MatchOrdering}
 use Rattle.flow_disk.specs.Cause.{HasCause}
 use Rattle.flow_codec.specs.Cutting.{IsFileFault}
 use Rattle.flow_gate.specs.declared.tail.ScanError.{ScanError}
@@ -13,15 +15,31 @@ use Rattle.flow_codec.specs.Raw.{under, Placed, RawMessage, Took}
 use Rattle.flow_codec.specs.Templates.{AllTemplates}
 use Rattle.flow_measure.specs.History.{Accepted, templates_from}
 use Rattle.flow_segment.specs.Part.{rest_of, Cursor, IsOn, IsPartStep, Moves}
-use Rattle.flow_segment.specs.PartFlows.{records_in, ArePartMessages, IsDamage, IsStoppedAt, IsWalkedInto, TookAll}
+use Rattle.flow_segment.specs.PartFlows.{greatest_time, records_in, ArePartMessages, IsDamage, IsStoppedAt}
+use Rattle.flow_segment.specs.PartFlows.{IsWalkedInto, TookAll}
 use Rattle.flow_segment.specs.Prefix.{AreRead, IsFaulty}
 use Rattle.flow_segment.specs.Segment.{part_octets}
 use Rattle.flow_segment.proofs.Restating.{step_more, Behind}
+use Rattle.flow_segment.proofs.Uniqueness.{same_read}
 use Rattle.flow_segment.proofs.Taking.{records_then, took_then}
 
--- so many messages, whose records a sink took
-abbrev pub AreTaken : {S : Type 0} → (S → List Placed → S → Type 0) → S → S → ℕ → List Accepted → Type 0
-AreTaken holds old now count messages = TookAll holds old (records_in messages) now × (count ≡ length messages)
+-- so many messages, whose records a sink took, and their greatest Export Time
+abbrev pub AreTaken : {S : Type 0} → (S → List Placed → S → Type 0) → S → S → ℕ → ℕ → List Accepted → Type 0
+AreTaken holds old now count time messages =
+    TookAll holds old (records_in messages) now × (count ≡ length messages) × (time ≡ greatest_time messages)
+
+max_by : (a b : ℕ) (r : Ordering) → MatchOrdering r (b < a) (b ≡ a) (a < b) → max a b ≡ cond (is_lt r) a b
+max_by a b Less h = omega (arith, h)
+max_by a b Equal h = omega (arith, h)
+max_by a b Greater h = omega (arith, h)
+
+pub max_is : (a b : ℕ) → max a b ≡ ord_max nat_cmp a b
+max_is a b = max_by a b (nat_cmp b a) (ranked b a (nat_cmp b a) refl)
+
+later_time : (messages : List Accepted) (a : Accepted)
+    → greatest_time (messages ++ a ∷ []) ≡ max (greatest_time messages) a.message.header.time
+later_time [] a = omega arith
+later_time (b ∷ more) a = omega (arith, later_time more a)
 
 -- what holds of a part that is read as far as a cursor stands
 abbrev pub PartSoFar : (List Accepted → Type 0) → Bool → List ℕ → ℕ → ℕ → AllTemplates → AllTemplates → Cursor → Type 0
@@ -29,47 +47,49 @@ PartSoFar Kind honest octets start end before now c =
     IsTrue honest → Behind Kind (part_octets start end octets) start before now c.place (rest_of octets c)
     × IsOn octets c
 
-taken_more : {S : Type 0} (holds : S → List Placed → S → Type 0) (old now new : S) (count : ℕ)
-    (messages : List Accepted) (a : Accepted) → AreTaken holds old now count messages
-    → Took holds a.message.header now a.message.records new
-    → AreTaken holds old new (count + 1) (messages ++ a ∷ [])
-taken_more holds old now new count messages a h took = (
+taken_more : {S : Type 0} (holds : S → List Placed → S → Type 0) (old now new : S) (count time later : ℕ)
+    (messages : List Accepted) (a : Accepted) → AreTaken holds old now count time messages
+    → Took holds a.message.header now a.message.records new → later ≡ a.message.header.time
+    → AreTaken holds old new (count + 1) (max time later) (messages ++ a ∷ [])
+taken_more holds old now new count time later messages a h took is = (
   subst (λ (t : List Placed). TookAll holds old t new) (sym (records_then messages a))
       (took_then holds old now new (records_in messages) (under a.message.header a.message.records) h.0 took),
   omega (arith, h.1, length-append messages (a ∷ [])),
+  ap (λ t. max t later) h.2 ∙ ap (max (greatest_time messages)) is ∙ sym (later_time messages a),
 )
 
 pub part_more : {S : Type 0} (holds : S → List Placed → S → Type 0) (first sink sink_new : S)
-    (honest : Bool) (octets : List ℕ) (start end file number at count : ℕ)
+    (honest : Bool) (octets : List ℕ) (start end file number at count time later : ℕ)
     (more : Bool) (before now after : AllTemplates) (old new : Cursor) (message : List ℕ) → more ≡ true
-    → PartSoFar (AreTaken holds first sink count) honest octets start end before now old → Moves old (Ok more) new
+    → PartSoFar (AreTaken holds first sink count time) honest octets start end before now old → Moves old (Ok more) new
     → (IsTrue honest → IsOn octets old → IsOn octets new × IsPartStep octets file old (Ok more) new)
     → message ≡ new.message
-    → (m : RawMessage) × IsAccepted message now m after × Took holds m.header sink m.records sink_new
-    → PartSoFar (AreTaken holds first sink_new (count + 1)) honest octets start end before after new
-part_more holds first sink sink_new honest octets start end file number at count false before now after old new message
+    → (m : RawMessage) × IsAccepted message now m after
+    × (Took holds m.header sink m.records sink_new × (later ≡ m.header.time))
+    → PartSoFar (AreTaken holds first sink_new (count + 1) (max time later)) honest octets start end before after new
+part_more holds first sink sink_new honest octets start end file number at count time later false before now after old new message
     go sofar moves step same x =
     absurd cc
-part_more holds first sink sink_new honest octets start end file number at count true before now after old new message
+part_more holds first sink sink_new honest octets start end file number at count time later true before now after old new message
     go sofar moves step same x = λ h.
     let was = sofar h in
     let s = step h was.1 in
     let m : RawMessage = x.0 in
     let b = was.0 in
     let a : Accepted = record { octets = message; message = m; after = after } in
-    let kind = taken_more holds first sink sink_new count b.messages a b.kind x.2 in (
-      step_more (AreTaken holds first sink count) (AreTaken holds first sink_new (count + 1)) octets
+    let kind = taken_more holds first sink sink_new count time later b.messages a b.kind x.2.0 x.2.1 in (
+      step_more (AreTaken holds first sink count time) (AreTaken holds first sink_new (count + 1) (max time later)) octets
           (part_octets start end octets) start file before now after old new message m b s.1 moves.2 same x.1 kind,
       s.0,
     )
 
-pub part_told : (Kind : List Accepted → Type 0) (takes : RawMessage → Type 0) (honest : Bool) (octets : List ℕ)
+pub part_told : (Kind : List Accepted → Type 0) (takes : ℕ → RawMessage → Type 0) (honest : Bool) (octets : List ℕ)
     (start end file number at count : ℕ)
     (more : Bool) (before now after : AllTemplates) (old new : Cursor) (message : List ℕ) (f place : ℕ) → more ≡ true
     → PartSoFar Kind honest octets start end before now old → Moves old (Ok more) new
     → (IsTrue honest → IsOn octets old → IsOn octets new × IsPartStep octets file old (Ok more) new)
     → message ≡ new.message → at ≡ old.place
-    → IsWalkedInto {X = Unit {0}} takes number at message now after (Err (Damaged f place)) → IsTrue honest
+    → IsWalkedInto takes number at message now after (Err (Damaged f place)) → IsTrue honest
     → (f ≡ number) × IsStoppedAt (part_octets start end octets) before start end count place
 part_told Kind takes honest octets start end file number at count false before now after old new message f place go
     sofar moves step same there x h =
@@ -98,13 +118,13 @@ part_told Kind takes honest octets start end file number at count true before no
       ),
     )
 
-pub walked_told : (Kind : List Accepted → Type 0) (takes : RawMessage → Type 0) (honest : Bool) (octets : List ℕ)
+pub walked_told : (Kind : List Accepted → Type 0) (takes : ℕ → RawMessage → Type 0) (honest : Bool) (octets : List ℕ)
     (start end file number at count : ℕ) (more : Bool) (before now after : AllTemplates) (old new : Cursor)
     (message : List ℕ) (e : ScanError) → more ≡ true
     → PartSoFar Kind honest octets start end before now old → Moves old (Ok more) new
     → (IsTrue honest → IsOn octets old → IsOn octets new × IsPartStep octets file old (Ok more) new)
     → message ≡ new.message → number ≡ file → at ≡ old.place
-    → IsWalkedInto {X = Unit {0}} takes number at message now after (Err e) → IsTrue honest
+    → IsWalkedInto takes number at message now after (Err e) → IsTrue honest
     → IsDamage (part_octets start end octets) before file start end count e
 walked_told Kind takes honest octets start end file number at count more before now after old new message (Damaged f p)
     go sofar moves step same is there x h =
@@ -140,14 +160,14 @@ advance_told Kind honest octets start end file count before now old new Fault so
 advance_told Kind honest octets start end file count before now old new OutOfMemory sofar step h = tt
 
 pub count_told : {S : Type 0} (holds : S → List Placed → S → Type 0) (first sink : S) (more honest : Bool)
-    (octets : List ℕ) (start end file number count all : ℕ) (before now : AllTemplates) (old new : Cursor)
-    → more ≡ false → PartSoFar (AreTaken holds first sink count) honest octets start end before now old
+    (octets : List ℕ) (start end file number count time all : ℕ) (before now : AllTemplates) (old new : Cursor)
+    → more ≡ false → PartSoFar (AreTaken holds first sink count time) honest octets start end before now old
     → (IsTrue honest → IsOn octets old → IsOn octets new × IsPartStep octets file old (Ok more) new)
     → IsTrue honest → count ≢ all → number ≡ file
     → IsDamage (part_octets start end octets) before file start end all (Damaged number end)
-count_told holds first sink true honest octets start end file number count all before now old new go sofar step h differ
+count_told holds first sink true honest octets start end file number count time all before now old new go sofar step h differ
     is = absurd cc
-count_told holds first sink false honest octets start end file number count all before now old new go sofar step h
+count_told holds first sink false honest octets start end file number count time all before now old new go sofar step h
     differ is =
     let was = sofar h in
     let b = was.0 in
@@ -156,15 +176,15 @@ count_told holds first sink false honest octets start end file number count all 
 
 -- all messages, where there are as many as there are to be
 pub all_found : {S : Type 0} (holds : S → List Placed → S → Type 0) (first sink : S) (more honest : Bool)
-    (octets : List ℕ) (start end file count all : ℕ) (before now : AllTemplates) (old new : Cursor)
-    → more ≡ false → PartSoFar (AreTaken holds first sink count) honest octets start end before now old
+    (octets : List ℕ) (start end file count time all : ℕ) (before now : AllTemplates) (old new : Cursor)
+    → more ≡ false → PartSoFar (AreTaken holds first sink count time) honest octets start end before now old
     → (IsTrue honest → IsOn octets old → IsOn octets new × IsPartStep octets file old (Ok more) new)
     → IsTrue honest → count ≡ all
     → (messages : List Accepted) × ArePartMessages (part_octets start end octets) before all messages
     × (now ≡ templates_from before messages) × TookAll holds first (records_in messages) sink
-all_found holds first sink true honest octets start end file count all before now old new go sofar step h same =
+all_found holds first sink true honest octets start end file count time all before now old new go sofar step h same =
     absurd cc
-all_found holds first sink false honest octets start end file count all before now old new go sofar step h same =
+all_found holds first sink false honest octets start end file count time all before now old new go sofar step h same =
     let was = sofar h in
     let b = was.0 in
     let s = (step h was.1).1 in (
@@ -177,8 +197,26 @@ all_found holds first sink false honest octets start end file count all before n
       b.kind.0,
     )
 
-not_fault : (takes : RawMessage → Type 0) (number at : ℕ) (message : List ℕ) (now after : AllTemplates) (e : ScanError)
-    → IsWalkedInto {X = Unit {0}} takes number at message now after (Err e) → e ≡ Fault → ⊥
+-- their greatest Export Time, where the messages are told
+pub time_found : {S : Type 0} (holds : S → List Placed → S → Type 0) (first sink : S) (more honest : Bool)
+    (octets : List ℕ) (start end file count time all : ℕ) (before now : AllTemplates) (old new : Cursor)
+    → more ≡ false → PartSoFar (AreTaken holds first sink count time) honest octets start end before now old
+    → (IsTrue honest → IsOn octets old → IsOn octets new × IsPartStep octets file old (Ok more) new)
+    → IsTrue honest → (messages : List Accepted)
+    → ArePartMessages (part_octets start end octets) before all messages → time ≡ greatest_time messages
+time_found holds first sink true honest octets start end file count time all before now old new go sofar step h messages
+    are =
+    absurd cc
+time_found holds first sink false honest octets start end file count time all before now old new go sofar step h messages
+    are =
+    let was = sofar h in
+    let b = was.0 in
+    let s = (step h was.1).1 in
+    b.kind.2 ∙ ap greatest_time (same_read (part_octets start end octets) before messages b.messages are.read
+    (subst (λ (t : List ℕ). AreRead (part_octets start end octets) before b.messages t) s.0 b.read))
+
+not_fault : (takes : ℕ → RawMessage → Type 0) (number at : ℕ) (message : List ℕ) (now after : AllTemplates) (e : ScanError)
+    → IsWalkedInto takes number at message now after (Err e) → e ≡ Fault → ⊥
 not_fault takes number at message now after (Damaged f p) is same = cc
 not_fault takes number at message now after Fault is same = absurd is
 not_fault takes number at message now after OutOfMemory is same = cc
@@ -186,9 +224,9 @@ not_fault takes number at message now after OutOfMemory is same = cc
 err_same : {X : Type 0} (x : ScanError) → IsErrOf {T = X} {E = ScanError} (Err x) Fault → x ≡ Fault
 err_same x h = cc
 
-pub walked_cause : {X : Type 0} (takes : RawMessage → Type 0) (number at : ℕ) (message : List ℕ)
+pub walked_cause : {X : Type 0} (takes : ℕ → RawMessage → Type 0) (number at : ℕ) (message : List ℕ)
     (now after : AllTemplates) (e : ScanError) (r : Result X ScanError) (before later : ℕ)
-    → IsErrAnd r (λ x. x ≡ e) → IsWalkedInto {X = Unit {0}} takes number at message now after (Err e) → later ≡ before
+    → IsErrAnd r (λ x. x ≡ e) → IsWalkedInto takes number at message now after (Err e) → later ≡ before
     → HasCause Fault before later r
 walked_cause {X = X} takes number at message now after e (Ok x) before later given is same = absurd given
 walked_cause {X = X} takes number at message now after e (Err x) before later given is same = record {

@@ -1,6 +1,6 @@
 -- The flows of a sealed segment's messages, and their sums.
-use Rattle.std.specs.Prelude.{◌≡◌, ◌≢◌, ◌⊎◌, ⊤, ℕ, ◌+◌, Bool, true, false, nat_le, nat_lt, ◌&&◌, List, [], ◌++◌}
-use Rattle.std.specs.Prelude.{length, filter, Vec, Result, Ok, Err}
+use Rattle.std.specs.Prelude.{◌≡◌, ◌≢◌, ◌⊎◌, ⊤, ℕ, ◌+◌, Bool, true, false, nat_le, nat_lt, ◌&&◌, List, [], ◌∷◌, ◌++◌}
+use Rattle.std.specs.Prelude.{length, filter, max, Vec, Result, Ok, Err}
 use Rattle.std.specs.List.{flat_map, AllByRecursion}
 use Rattle.std.specs.declared.alloc.Global.{Global}
 use Rattle.flow_gate.specs.declared.tail.ScanError.{ScanError}
@@ -27,6 +27,11 @@ pub record ArePartMessages (octets : List ℕ) (before : AllTemplates) (count : 
 
 abbrev pub HasMessages : List ℕ → AllTemplates → ℕ → Type 0
 HasMessages octets before count = (messages : List Accepted) × ArePartMessages octets before count messages
+
+-- the greatest Export Time of messages, in seconds since 1970; 0 where there are none
+abbrev pub greatest_time : List Accepted → ℕ
+greatest_time [] = 0
+greatest_time (a ∷ more) = max a.message.header.time (greatest_time more)
 
 -- ---- damage
 
@@ -139,10 +144,10 @@ TookAll {S} holds old records new = (start : S) (before : List Placed) → holds
     → holds start (before ++ records) new
 
 -- what is answered of one message, at this place of this file
-abbrev pub IsWalkedInto : {X : Type 0} → (RawMessage → Type 0) → ℕ → ℕ → List ℕ → AllTemplates → AllTemplates
+abbrev pub IsWalkedInto : {X : Type 0} → (X → RawMessage → Type 0) → ℕ → ℕ → List ℕ → AllTemplates → AllTemplates
     → Result X ScanError → Type 0
 IsWalkedInto takes file at octets before after (Ok x) =
-    (m : RawMessage) × IsAccepted octets before m after × takes m
+    (m : RawMessage) × IsAccepted octets before m after × takes x m
 IsWalkedInto takes file at octets before after (Err (Damaged f place)) =
     (f ≡ file) × (place ≡ at) × IsFaulty octets before
 IsWalkedInto takes file at octets before after (Err Fault) = ⊥

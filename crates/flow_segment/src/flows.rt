@@ -6,7 +6,7 @@ ghost use Rattle.flow_measure.specs.declared.flow.Flow.{Flow};
 ghost use Rattle.flow_measure.specs.History.{Accepted};
 ghost use Rattle.flow_measure.specs.Sums.{empty_table};
 ghost use Rattle.flow_segment.specs.PartFlows.{AreAdded, AreCollected, AreFlowsGiven, ArePartFlows, ArePartMessages};
-ghost use Rattle.flow_segment.specs.PartFlows.{HasMessages, IsDamage, IsNotAdded, IsPartToldOf};
+ghost use Rattle.flow_segment.specs.PartFlows.{greatest_time, HasMessages, IsDamage, IsNotAdded, IsPartToldOf};
 ghost use Rattle.flow_segment.specs.Segment.{part_octets};
 
 use crate::error::PartSumError;
@@ -29,13 +29,16 @@ use std::mem::replace;
 /// another count of messages, with the file and its length; `SumSpent` where all messages are accepted and a sum would
 /// pass its type; `Fault` exactly where a read has raised `faults`; and `OutOfMemory`. After an `Err` the rows are
 /// empty, and the templates are those behind some of the messages.
+///
+/// It answers the greatest Export Time of the messages, in seconds since 1970-01-01 00:00 UTC, and 0 where there are
+/// none.
 pub fn add_flows<S: SealedFile>(
     alloc: Global,
     part: &SealedPart<S>,
     templates: &mut Templates,
     rows: &mut Rows,
     faults: &mut Faults<S>,
-) -> Result<(), PartSumError>
+) -> Result<u32, PartSumError>
     // On every disk.
     ensures width { rows.new.width ≡ rows.old.width }
     ensures none { OnErr result (rows.new ≡ empty_table rows.old.width) }
@@ -51,18 +54,21 @@ pub fn add_flows<S: SealedFile>(
     ensures given { IsTrue (S.honest part.now.reader) → (messages : List Accepted)
         → ArePartMessages (part_octets part.now.prefix part.now.length (S.octets part.now.reader)) templates.old
         part.now.messages messages → AreAdded templates.old rows.old messages result templates.new rows.new }
+    ensures time { IsTrue (S.honest part.now.reader) → (messages : List Accepted)
+        → ArePartMessages (part_octets part.now.prefix part.now.length (S.octets part.now.reader)) templates.old
+        part.now.messages messages → IfOk result (λ time. time ≡ greatest_time messages) }
 {
     let none = Rows::new(alloc, rows.width());
     let mut adding = Adding {
         rows: replace(rows, none),
         spent: false,
     };
-    walk_part(alloc, part, templates, &mut adding, faults)?;
+    let time = walk_part(alloc, part, templates, &mut adding, faults)?;
     if adding.spent {
         return Err(PartSumError::SumSpent);
     }
     *rows = adding.rows;
-    Ok(())
+    Ok(time)
 }
 
 /// Puts the flows of the messages of a sealed segment that start from `from` on and before `to`, in seconds since

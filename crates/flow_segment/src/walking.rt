@@ -1,10 +1,10 @@
 //! The data records of a part's messages, handed to a sink.
 
-ghost use Rattle.std.specs.Prelude.{◌≡◌, ◌≤◌, List, IsTrue, IfErr, OnOk};
+ghost use Rattle.std.specs.Prelude.{◌≡◌, ◌≤◌, List, IsTrue, IfOk, IfErr, OnOk};
 ghost use Rattle.flow_disk.specs.Cause.{HasCause};
 ghost use Rattle.flow_codec.specs.Raw.{Placed, Took};
 ghost use Rattle.flow_measure.specs.History.{Accepted, templates_from};
-ghost use Rattle.flow_segment.specs.PartFlows.{records_in, ArePartMessages, IsDamage, IsWalkedInto, TookAll};
+ghost use Rattle.flow_segment.specs.PartFlows.{greatest_time, records_in, ArePartMessages, IsDamage, IsWalkedInto, TookAll};
 ghost use Rattle.flow_segment.specs.Segment.{part_octets};
 
 use crate::part::{Cursor, advance};
@@ -13,8 +13,9 @@ use flow_codec::{MessageError, RecordSink, Templates, WalkError, walk_message};
 use flow_disk::{Faults, SealedFile};
 use flow_gate::ScanError;
 use std::alloc::{AllocError, Global};
+use std::cmp::max;
 
-/// Hands the data records of a message, which stands at this place of this file, to a sink.
+/// Hands the data records of a message, which stands at this place of this file, to a sink, and answers its Export Time.
 fn hand_over<R: RecordSink<Error = AllocError>>(
     alloc: Global,
     templates: &mut Templates,
@@ -22,12 +23,12 @@ fn hand_over<R: RecordSink<Error = AllocError>>(
     file: u64,
     at: u64,
     sink: &mut R,
-) -> Result<(), ScanError>
-    ensures { IsWalkedInto (λ m. Took R.holds m.header sink.old m.records sink.new) file at octets.now templates.old
-        templates.new result }
+) -> Result<u32, ScanError>
+    ensures { IsWalkedInto (λ time m. Took R.holds m.header sink.old m.records sink.new × (time ≡ m.header.time)) file at
+        octets.now templates.old templates.new result }
 {
     match walk_message(templates, alloc, octets, sink) {
-        Ok(_) => Ok(()),
+        Ok(header) => Ok(header.time),
         Err(WalkError::Message(MessageError::OutOfMemory)) => Err(ScanError::OutOfMemory),
         Err(WalkError::Message(_)) => Err(ScanError::Damaged(file, at)),
         Err(WalkError::Sink(_)) => Err(ScanError::OutOfMemory),
@@ -35,7 +36,8 @@ fn hand_over<R: RecordSink<Error = AllocError>>(
 }
 
 /// Hands the data records of the messages of a sealed segment to a sink, in order, and takes their templates in: those
-/// given are in force in front of the first. A piece of the file is held at a time.
+/// given are in force in front of the first. A piece of the file is held at a time. It answers the greatest Export Time
+/// of the messages, in seconds since 1970-01-01 00:00 UTC, and 0 where there are none.
 ///
 /// Where a message is refused, or none stands, it answers `Damaged`, with the file and the place; where there is
 /// another count of messages, with the file and its length; `Fault` exactly where a read has raised `faults`; and
@@ -46,7 +48,7 @@ pub(crate) fn walk_part<S: SealedFile, R: RecordSink<Error = AllocError>>(
     templates: &mut Templates,
     sink: &mut R,
     faults: &mut Faults<S>,
-) -> Result<(), ScanError>
+) -> Result<u32, ScanError>
     ensures cause { HasCause ScanError.Fault faults.old faults.new result }
     // On every disk: the sink took some records.
     ensures taken { OnOk result ((records : List Placed) × TookAll R.holds sink.old records sink.new) }
@@ -58,19 +60,26 @@ pub(crate) fn walk_part<S: SealedFile, R: RecordSink<Error = AllocError>>(
     ensures told { IsTrue (S.honest part.now.reader) → IfErr result
         (λ e. IsDamage (part_octets part.now.prefix part.now.length (S.octets part.now.reader)) templates.old
         (S.number part.now.reader) part.now.prefix part.now.length part.now.messages e) }
+    ensures time { IsTrue (S.honest part.now.reader) → (messages : List Accepted)
+        → ArePartMessages (part_octets part.now.prefix part.now.length (S.octets part.now.reader)) templates.old
+        part.now.messages messages → IfOk result (λ time. time ≡ greatest_time messages) }
 {
     let mut cursor = Cursor::new(alloc, part.prefix, part.length);
     let mut count = 0;
+    let mut time = 0;
     'messages: loop {
         let at = cursor.place();
         if !advance(&mut cursor, alloc, &part.reader, faults)? {
             if count != part.messages {
                 return Err(ScanError::Damaged(part.reader.file(), part.length));
             }
-            return Ok(());
+            return Ok(time);
         }
         let file = part.reader.file();
-        hand_over(alloc, templates, cursor.message(), file, at, sink)?;
+        time = max(
+            time,
+            hand_over(alloc, templates, cursor.message(), file, at, sink)?,
+        );
         count += 1;
     }
 }

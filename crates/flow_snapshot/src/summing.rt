@@ -114,7 +114,7 @@ fn add_part<S: SealedFile>(
         × (rows.new ≡ with_flows (flows_in messages) rows.old)) result }
 {
     match add_flows(alloc, part, templates, rows, faults) {
-        Ok(()) => Ok(()),
+        Ok(_) => Ok(()),
         Err(error) => Err(told_of_part(error, first)),
     }
 }

@@ -9,7 +9,8 @@ use Rattle.flow_archive.specs.declared.event.Event.{Event}
 use Rattle.flow_archive.specs.declared.refusal.ArchiveError.{ArchiveError}
 use Rattle.flow_archive.specs.declared.refusal.ArchiveError.TheVariants.{Closed, OutOfMemory}
 use Rattle.flow_archive.proofs.Answering.{err_is}
-use Rattle.flow_archive.proofs.Stepping.{refused_by, told, told_refused}
+use Rattle.flow_archive.specs.JobAnswers.{IsInstalled}
+use Rattle.flow_archive.proofs.Stepping.{refused_by, told, told_as_it_is, told_refused}
 use Rattle.flow_archive.proofs.events.take_event.Goals as goal
 
 pub returns-in_err-octets-in-AppendBatch-clause-answers : goal.returns-in_err-octets-in-AppendBatch-clause-answers
@@ -89,3 +90,12 @@ returns-in_err-position-in-AppendBatch-clause-step g c =
     (ap slices c.as_slice-in-AppendBatch-2.ensures.value ∙ c.in_ok-octets-in-AppendBatch.ensures
     ∙ ap texts c.as_slice-in-AppendBatch.ensures.value)))
     c.in_err-position-in-AppendBatch.ensures.step
+
+pub returns-in-RollInstall-clause-step : goal.returns-in-RollInstall-clause-step
+returns-in-RollInstall-clause-step g c =
+    let D = g.D.Disk in
+    let archive = c.args.archive.now in
+    told_as_it_is D.honest D.moment D.left_since archive c.roll_install.new.self (λ s. IsInstalled true archive.state s)
+    (Takes true archive.state c.args.event.now) c.roll_install.result
+    (λ s is. subst (λ (e : Event). Takes true archive.state e s) (sym c.in-RollInstall.is) is)
+    c.roll_install.ensures.step

@@ -1,13 +1,17 @@
-use Rattle.std.proofs.Common.{◌≡◌, ℕ, false, List, length, take, refl, sym, ◌∙◌, ap, subst, rules, vec_len}
+use Rattle.std.proofs.Common.{◌≡◌, ℕ, false, List, [], length, take, refl, sym, ◌∙◌, ap, subst, rules, vec_len}
 use Rattle.std.specs.List.{AllByRecursion}
+use Rattle.std.specs.Prelude.{None}
 use Rattle.flow_manifest.specs.declared.manifest.Entry.{Entry}
 use Rattle.flow_manifest.specs.Following.{front_of}
-use Rattle.flow_recover.specs.State.{part_of}
-use Rattle.flow_recover.specs.Standing.{StandsFor}
+use Rattle.flow_recover.specs.State.{State, part_of}
+use Rattle.flow_recover.specs.Standing.{IsKnown, StandsFor}
 use Rattle.flow_archive.specs.Owned.{all_frozen, Frozen, MayBeFrozen}
 use Rattle.flow_archive.specs.Seen.{IsArchive, state_in}
+use Rattle.flow_archive.specs.UnderWay.{work_in, HasOwnFiles, IsUnderWay}
 use Rattle.flow_archive.proofs.Reopened.{found_archive, found_read, front_frozen, front_is}
+use Rattle.flow_archive.proofs.Sharing.{own_found}
 use Rattle.flow_archive.proofs.Stand.{stands_for}
+use Rattle.flow_archive.proofs.Working.{nothing_under_way}
 use Rattle.flow_archive.proofs.opening.resumed.Goals as goal
 
 pub kept_of-requires-clause-entries : goal.kept_of-requires-clause-entries
@@ -31,15 +35,24 @@ invariant_of-result g c =
     (c.len.ensures ∙ len ∙ (c.requires.1).all) in
     let files : c.in-Ok.kept.files.items ≡ all_frozen S.honest S.octets (front_of found.slots.current) found.parts.items =
     c.in-Ok.ensures.files ∙ ap (λ (l : List Entry). all_frozen S.honest S.octets l found.parts.items) front in
-    let P : List Frozen → List ℕ → List (List ℕ) → Type 0 = λ f p ms. IsArchive D.honest D.marks D.held c.args.disk
-    found.slots found.last found.end found.total found.carry f (state_in false found.slots.current f p ms) false in
-    subst (λ (l : List Frozen). P l c.in-Ok.kept.prefix c.in-Ok.kept.messages.items) (sym files)
+    let T : List Frozen → List ℕ → List (List ℕ) → List Frozen → State = λ f p ms w.
+    state_in (work_in found.slots.current.next None w) false found.slots.current f p ms in
+    let P : List Frozen → List ℕ → List (List ℕ) → List Frozen → Type 0 = λ f p ms w. IsArchive D.honest D.marks D.held c.args.disk
+    found.slots found.last found.end found.total found.carry f (T f p ms w) false
+    × IsUnderWay D.honest D.marks D.held c.args.disk (T f p ms w) (work_in found.slots.current.next None w) false
+    × HasOwnFiles false f (work_in found.slots.current.next None w) in
+    subst (λ (l : List Frozen). P l c.in-Ok.kept.prefix c.in-Ok.kept.messages.items c.new.result.items) (sym files)
     (subst (λ (l : List ℕ). P (all_frozen S.honest S.octets (front_of found.slots.current) found.parts.items) l
-    c.in-Ok.kept.messages.items) (sym c.in-Ok.ensures.prefix)
+    c.in-Ok.kept.messages.items c.new.result.items) (sym c.in-Ok.ensures.prefix)
     (subst (λ (l : List (List ℕ)). P (all_frozen S.honest S.octets (front_of found.slots.current) found.parts.items)
-    found.active.prefix.items l) (sym c.in-Ok.ensures.messages)
-    (found_archive D.honest D.marks D.held S.octets S.number S.size S.honest c.requires.0 c.args.disk found.slots
-    found.last found.end found.total (part_of found.active) found.carry found.parts.items c.requires.1)))
+    found.active.prefix.items l c.new.result.items) (sym c.in-Ok.ensures.messages)
+    (subst (λ (l : List Frozen). P (all_frozen S.honest S.octets (front_of found.slots.current) found.parts.items)
+    found.active.prefix.items (part_of found.active).messages l) (sym c.new.ensures.items) (
+      found_archive D.honest D.marks D.held S.octets S.number S.size S.honest c.requires.0 c.args.disk found.slots
+          found.last found.end found.total (part_of found.active) found.carry found.parts.items c.requires.1,
+      nothing_under_way D.honest D.marks D.held c.args.disk _ found.slots.current.next false,
+      own_found S.honest S.octets (front_of found.slots.current) found.parts.items false found.slots.current.next,
+    ))))
 
 pub returns-clause-read : goal.returns-clause-read
 returns-clause-read g c reads is h =
@@ -52,18 +65,26 @@ returns-clause-read g c reads is h =
     (c.len.ensures ∙ len ∙ (c.requires.1).all) in
     let files : c.in-Ok.kept.files.items ≡ all_frozen S.honest S.octets (front_of found.slots.current) found.parts.items =
     c.in-Ok.ensures.files ∙ ap (λ (l : List Entry). all_frozen S.honest S.octets l found.parts.items) front in
-    let P : List Frozen → List ℕ → List (List ℕ) → Type 0 = λ f p ms. StandsFor reads
-    (state_in false found.slots.current f p ms) in
-    subst (λ (l : List Frozen). P l c.in-Ok.kept.prefix c.in-Ok.kept.messages.items) (sym files)
+    let T : List Frozen → List ℕ → List (List ℕ) → List Frozen → State = λ f p ms w.
+    state_in (work_in found.slots.current.next None w) false found.slots.current f p ms in
+    let P : List Frozen → List ℕ → List (List ℕ) → List Frozen → Type 0 = λ f p ms w. StandsFor reads
+    (T f p ms w) in
+    subst (λ (l : List Frozen). P l c.in-Ok.kept.prefix c.in-Ok.kept.messages.items c.new.result.items) (sym files)
     (subst (λ (l : List ℕ). P (all_frozen S.honest S.octets (front_of found.slots.current) found.parts.items) l
-    c.in-Ok.kept.messages.items) (sym c.in-Ok.ensures.prefix)
+    c.in-Ok.kept.messages.items c.new.result.items) (sym c.in-Ok.ensures.prefix)
     (subst (λ (l : List (List ℕ)). P (all_frozen S.honest S.octets (front_of found.slots.current) found.parts.items)
-    found.active.prefix.items l) (sym c.in-Ok.ensures.messages)
+    found.active.prefix.items l c.new.result.items) (sym c.in-Ok.ensures.messages)
+    (subst (λ (l : List Frozen). P (all_frozen S.honest S.octets (front_of found.slots.current) found.parts.items)
+    found.active.prefix.items (part_of found.active).messages l) (sym c.new.ensures.items)
     (found_read D.honest D.marks D.held S.octets S.number S.size S.honest reads c.args.disk found.slots found.last
-    found.end found.total (part_of found.active) found.carry found.parts.items is h)))
+    found.end found.total (part_of found.active) found.carry found.parts.items is h))))
 
 pub returns-clause-stands : goal.returns-clause-stands
 returns-clause-stands g c h image is =
-    let archive = invariant_of-result g c in
-    let still = archive.still_open refl in
-    stands_for c.args.found.slots _ image (still.kept.known h image is)
+    let found = c.args.found in
+    let kept = c.in-Ok.kept in
+    let T : List Frozen → State = λ w. state_in (work_in found.slots.current.next None w) false found.slots.current
+    kept.files.items kept.prefix kept.messages.items in
+    let still = (invariant_of-result g c).0.still_open refl in
+    subst (λ (w : List Frozen). IsKnown found.slots (T w) image → StandsFor image (T w)) (sym c.new.ensures.items)
+    (λ known. stands_for found.slots (T []) image known) (still.kept.known h image is)

@@ -1,8 +1,13 @@
-use Rattle.std.proofs.Common.{◌≡◌, ℕ, IfOk, List, ◌∙◌, subst}
+use Rattle.std.proofs.Common.{◌≡◌, ℕ, IfOk, Result, Ok, Err, List, map, ◌∙◌, ap, subst}
 use Rattle.flow_snapshot.specs.Directories.{sight_of}
 use Rattle.flow_snapshot.proofs.Sharing.{messages_same}
-use Rattle.flow_archive.specs.Owned.{shelf_with, Frozen}
+use Rattle.flow_archive.specs.Owned.{shelf_with, unshared}
+use Rattle.flow_archive.proofs.Sharing.{same_honest, same_shelf}
 use Rattle.flow_archive.proofs.owned.shared_files.Goals as goal
+
+if_ok : {X E : Type 0} (r : Result X E) (P Q : X → Type 0) → ((x : X) → P x → Q x) → IfOk r P → IfOk r Q
+if_ok (Ok x) P Q f h = f x h
+if_ok (Err e) P Q f h = tt
 
 pub returns-clause-shelf : goal.returns-clause-shelf
 returns-clause-shelf g c =
@@ -11,11 +16,20 @@ returns-clause-shelf g c =
     let messages = c.args.messages.now.items in
     let slice = c.as_slice.result.now in
     let copies = c.in_ok-clone-2.field-0.items in
-    let files : slice ≡ c.args.files.now.items = c.as_slice.ensures.value ∙ c.in_ok-share_all.ensures in
+    let files : map unshared slice ≡ map unshared c.args.files.now.items =
+    ap (map unshared) c.as_slice.ensures.value ∙ c.in_ok-share_all.ensures in
     let active : copies ≡ messages = messages_same _ _ (c.in_ok-clone-2.ensures.cases).0 in
-    subst (λ (l : List Frozen). IfOk result (λ list. (width wide : ℕ) → (sight_of width wide list).shelf
-    ≡ shelf_with width wide l prefix messages)) files
-    (subst (λ (l : List (List ℕ)). IfOk result (λ list. (width wide : ℕ) → (sight_of width wide list).shelf
-    ≡ shelf_with width wide slice prefix l)) active
+    let shelf : (width wide : ℕ) → shelf_with width wide slice prefix copies
+    ≡ shelf_with width wide c.args.files.now.items prefix messages = λ width wide.
+    same_shelf width wide slice c.args.files.now.items prefix copies files
+    ∙ ap (shelf_with width wide c.args.files.now.items prefix) active in
+    if_ok result _ _ (λ list told width wide. told width wide ∙ shelf width wide)
     (subst (λ (l : List ℕ). IfOk result (λ list. (width wide : ℕ) → (sight_of width wide list).shelf
-    ≡ shelf_with width wide slice l copies)) c.in_ok-clone.ensures.cases c.listed-2.ensures.shelf))
+    ≡ shelf_with width wide slice l copies)) c.in_ok-clone.ensures.cases c.listed-2.ensures.shelf)
+
+pub returns-clause-honest : goal.returns-clause-honest
+returns-clause-honest g c all =
+    let slice = c.as_slice.result.now in
+    let files : map unshared slice ≡ map unshared c.args.files.now.items =
+    ap (map unshared) c.as_slice.ensures.value ∙ c.in_ok-share_all.ensures in
+    c.listed-2.ensures.honest (same_honest slice c.args.files.now.items files all)

@@ -2,13 +2,13 @@ use Rattle.flow_segment.specs.Segment.{part_octets}
 use Rattle.flow_segment.proofs.Summed.{added, not_damaged, spent, width_kept}
 use Rattle.flow_segment.proofs.flows.add_flows.Goals as goal
 
-pub returns-in_err-walk_part-clause-given : goal.returns-in_err-walk_part-clause-given
-returns-in_err-walk_part-clause-given g c = λ h messages are.
+pub returns-in_err-time-clause-given : goal.returns-in_err-time-clause-given
+returns-in_err-time-clause-given g c = λ h messages are.
     let S = g.S.SealedFile in
     let part = c.args.part.now in
     not_damaged (part_octets part.prefix part.length (S.octets part.reader)) c.args.templates.now (S.number part.reader)
-    part.prefix part.length part.messages messages c.in_err-walk_part.field-0.0 c.args.rows.now c.replace.new.dest
-    c.walk_part.new.templates c.from_residual.result c.from_residual.ensures.1 are (c.in_err-walk_part.ensures.told h)
+    part.prefix part.length part.messages messages c.in_err-time.field-0.0 c.args.rows.now c.replace.new.dest
+    c.walk_part.new.templates c.from_residual.result c.from_residual.ensures.1 are (c.in_err-time.ensures.told h)
 
 pub returns-then-adding-clause-given : goal.returns-then-adding-clause-given
 returns-then-adding-clause-given g c = λ h messages are.
@@ -16,11 +16,11 @@ returns-then-adding-clause-given g c = λ h messages are.
     let part = c.args.part.now in
     spent (part_octets part.prefix part.length (S.octets part.reader)) c.args.templates.now c.walk_part.new.templates
     part.messages c.args.rows.now c.replace.result c.walk_part.new.sink c.replace.ensures.value
-    (c.in_ok-walk_part.ensures.found h) messages are c.if-adding.true
+    (c.in_ok-time.ensures.found h) messages are c.if-adding.true
 
 pub returns-clause-width : goal.returns-clause-width
 returns-clause-width g c =
-    let x = c.in_ok-walk_part.ensures.taken in
+    let x = c.in_ok-time.ensures.taken in
     width_kept c.args.rows.now c.replace.result x.0 c.walk_part.new.sink c.replace.ensures.value x.1 c.if-adding.false
 
 pub returns-clause-given : goal.returns-clause-given
@@ -29,4 +29,4 @@ returns-clause-given g c = λ h messages are.
     let part = c.args.part.now in
     added (part_octets part.prefix part.length (S.octets part.reader)) c.args.templates.now c.walk_part.new.templates
     part.messages c.args.rows.now c.replace.result c.walk_part.new.sink c.replace.ensures.value
-    (c.in_ok-walk_part.ensures.found h) messages are c.if-adding.false
+    (c.in_ok-time.ensures.found h) messages are c.if-adding.false

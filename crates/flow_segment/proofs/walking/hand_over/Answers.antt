@@ -1,6 +1,7 @@
+use Rattle.std.proofs.Common.{refl}
 use Rattle.flow_segment.proofs.walking.hand_over.Goals as goal
 
 pub returns-in-Ok : goal.returns-in-Ok
 returns-in-Ok g c =
     let w = c.in-Ok.ensures.found in
-    (record { header = c.in-Ok.field-0; records = w.0 }, w.1, w.2)
+    (record { header = c.in-Ok.header; records = w.0 }, w.1, (w.2, refl))

@@ -1,11 +1,11 @@
-use Rattle.std.proofs.Common.{◌∙◌, ◌++◌}
+use Rattle.std.proofs.Common.{◌≡◌, ℕ, ◌+◌, subst, sym, ◌∙◌, ◌++◌}
 use Rattle.flow_gate.specs.declared.tail.ScanError.{ScanError}
 use Rattle.flow_codec.specs.Raw.{under, Took}
 use Rattle.flow_segment.specs.PartFlows.{IsDamage}
 use Rattle.flow_segment.specs.Segment.{part_octets}
 use Rattle.flow_segment.proofs.Carrying.{err_of}
 use Rattle.flow_segment.proofs.Restating.{moves_within}
-use Rattle.flow_segment.proofs.Flowing.{count_within, part_more, walked_told, AreTaken}
+use Rattle.flow_segment.proofs.Flowing.{count_within, max_is, part_more, time_found, walked_told, AreTaken, PartSoFar}
 use Rattle.flow_segment.proofs.Taking.{took_then}
 use Rattle.flow_segment.proofs.walking.walk_part.Goals as goal
 
@@ -15,12 +15,12 @@ returns-in_err-hand_over-clause-told g c = λ h.
     let holds = g.R.RecordSink.holds in
     let part = c.args.part.now in
     let file = part.reader in
-    err_of {X = Unit {0}} {E = ScanError} c.from_residual-in_err-hand_over.result c.in_err-hand_over.field-0.0
+    err_of {X = ℕ} {E = ScanError} c.from_residual-in_err-hand_over.result c.in_err-hand_over.field-0.0
     (λ e. IsDamage (part_octets part.prefix part.length (S.octets file)) c.args.templates.now (S.number file)
     part.prefix part.length part.messages e)
     c.from_residual-in_err-hand_over.ensures.1
-    (walked_told (AreTaken holds c.args.sink.now c.messages.sink c.messages.count)
-    (λ m. Took holds m.header c.messages.sink m.records c.hand_over.new.sink)
+    (walked_told (AreTaken holds c.args.sink.now c.messages.sink c.messages.count c.messages.time)
+    (λ time m. Took holds m.header c.messages.sink m.records c.hand_over.new.sink × (time ≡ m.header.time))
     (S.honest file) (S.octets file) part.prefix part.length (S.number file) c.file-file.result c.place-at.result
     part.messages c.in_ok-advance.field-0 c.args.templates.now c.messages.templates c.hand_over.new.templates
     c.messages.cursor c.advance.new.cursor c.message.result.now c.in_err-hand_over.field-0.0
@@ -35,11 +35,14 @@ messages-preserved g c =
     let file = part.reader in
     let x = c.in_ok-hand_over.ensures in
     let some = c.messages.invariant.5 in (
-      part_more holds c.args.sink.now c.messages.sink c.hand_over.new.sink (S.honest file) (S.octets file) part.prefix
-          part.length (S.number file) c.file-file.result c.place-at.result c.messages.count c.in_ok-advance.field-0
+      subst (λ (t : ℕ). PartSoFar (AreTaken holds c.args.sink.now c.hand_over.new.sink (c.messages.count + 1) t)
+          (S.honest file) (S.octets file) part.prefix part.length c.args.templates.now c.hand_over.new.templates c.advance.new.cursor)
+          (max_is c.messages.time c.in_ok-hand_over.field-0 ∙ sym c.max-time.ensures) (part_more holds c.args.sink.now c.messages.sink c.hand_over.new.sink (S.honest file) (S.octets file) part.prefix
+          part.length (S.number file) c.file-file.result c.place-at.result c.messages.count c.messages.time c.in_ok-hand_over.field-0
+          c.in_ok-advance.field-0
           c.args.templates.now c.messages.templates c.hand_over.new.templates c.messages.cursor c.advance.new.cursor
           c.message.result.now c.if-not-branch.false c.messages.invariant.0 c.in_ok-advance.ensures.moves
-          c.in_ok-advance.ensures.step c.message.ensures x,
+          c.in_ok-advance.ensures.step c.message.ensures x),
       c.in_ok-advance.ensures.end ∙ c.messages.invariant.1,
       moves_within c.messages.cursor c.advance.new.cursor c.in_ok-advance.field-0 c.if-not-branch.false
           c.in_ok-advance.ensures.moves,
@@ -49,6 +52,17 @@ messages-preserved g c =
       (
         some.0 ++ under (x.0).header (x.0).records,
         took_then holds c.args.sink.now c.messages.sink c.hand_over.new.sink some.0 (under (x.0).header (x.0).records)
-            some.1 x.2,
+            some.1 x.2.0,
       ),
     )
+
+pub returns-then-not-branch-clause-time : goal.returns-then-not-branch-clause-time
+returns-then-not-branch-clause-time g c = λ h messages are.
+    let S = g.S.SealedFile in
+    let holds = g.R.RecordSink.holds in
+    let part = c.args.part.now in
+    let file = part.reader in
+    time_found holds c.args.sink.now c.messages.sink c.in_ok-advance.field-0 (S.honest file) (S.octets file) part.prefix
+    part.length (S.number file) c.messages.count c.messages.time part.messages c.args.templates.now c.messages.templates
+    c.messages.cursor c.advance.new.cursor c.if-not-branch.true c.messages.invariant.0 c.in_ok-advance.ensures.step h
+    messages are

@@ -1,4 +1,4 @@
-use Rattle.std.proofs.Common.{◌≡◌, true, Bool, List, sym, ◌∙◌, ap, subst}
+use Rattle.std.proofs.Common.{◌≡◌, true, Bool, refl, sym, ◌∙◌, ap, subst}
 use Rattle.flow_manifest.specs.Following.{front_of}
 use Rattle.flow_measure.specs.View.{view_of}
 use Rattle.flow_snapshot.specs.Changes.{counts_of}
@@ -6,36 +6,71 @@ use Rattle.flow_snapshot.specs.Shelf.{Shelf}
 use Rattle.flow_snapshot.specs.Sight.{Sight}
 use Rattle.flow_snapshot.specs.Views.{IsViewOf}
 use Rattle.flow_recover.specs.State.{State}
-use Rattle.flow_archive.specs.Owned.{shelf_with, AreHeldAs, Frozen}
+use Rattle.flow_archive.specs.Owned.{shelf_with, AreHeldAs}
 use Rattle.flow_archive.specs.Seen.{state_in, IsArchive}
-use Rattle.flow_archive.proofs.Directing.{shared_archive}
+use Rattle.flow_archive.specs.UnderWay.{work_in, HasOwnFiles, IsUnderWay}
+use Rattle.flow_archive.proofs.Directing.{once_shared, same_archive, same_state, shared_archive}
 use Rattle.flow_archive.proofs.Owning.{honest_all}
+use Rattle.flow_archive.proofs.Sharing.{own_shared}
 use Rattle.flow_archive.proofs.Shelving.{shelf_is}
+use Rattle.flow_archive.proofs.Working.{goes_on}
 use Rattle.flow_archive.proofs.archive.Archive.directory.Goals as goal
 
 pub invariant_of-self : goal.invariant_of-self
 invariant_of-self g c =
     let D = g.D.Disk in
     let inside = c.self.inside in
-    subst (λ (l : List Frozen). IsArchive D.honest D.marks D.held inside.disk inside.slots inside.last inside.end
-    inside.total inside.carry l (state_in true inside.slots.current l inside.prefix inside.messages.items)
-    inside.closed) (sym c.shared_files.ensures.same)
-    (shared_archive D.honest D.marks D.held inside.disk inside.slots inside.last inside.end inside.total inside.carry
-    inside.files.items
-    (state_in inside.shared inside.slots.current inside.files.items inside.prefix inside.messages.items) inside.closed
-    c.self.invariant)
+    let m = inside.slots.current in
+    let work = (work_in inside.next inside.job inside.waiting.items) in
+    let new = c.shared_files.new.files.items in
+    let old = inside.files.items in
+    let s : State = state_in work inside.shared m old inside.prefix inside.messages.items in
+    subst (λ (x : State). IsArchive D.honest D.marks D.held inside.disk inside.slots inside.last inside.end inside.total
+    inside.carry new x inside.closed × IsUnderWay D.honest D.marks D.held inside.disk x work inside.closed
+    × HasOwnFiles true new work)
+    (sym (same_state work true m new old inside.prefix inside.messages.items c.shared_files.ensures.same)) (
+      same_archive D.honest D.marks D.held inside.disk inside.slots inside.last inside.end inside.total inside.carry new
+          old (once_shared s) inside.closed c.shared_files.ensures.same
+          (shared_archive D.honest D.marks D.held inside.disk inside.slots inside.last inside.end inside.total
+          inside.carry old s inside.closed c.self.invariant.0),
+      goes_on s s.active true D.honest D.marks D.held inside.disk inside.disk inside.closed inside.closed refl (λ is. is)
+          (λ _ n is. refl) (λ _ h n is. refl) work (c.self.invariant.1),
+      own_shared inside.shared new old work c.self.invariant.2,
+    )
 
 pub invariant_of-self-2 : goal.invariant_of-self-2
 invariant_of-self-2 g c =
     let D = g.D.Disk in
     let inside = c.self.inside in
-    subst (λ (l : List Frozen). IsArchive D.honest D.marks D.held inside.disk inside.slots inside.last inside.end
-    inside.total inside.carry l (state_in true inside.slots.current l inside.prefix inside.messages.items)
-    inside.closed) (sym c.shared_files.ensures.same)
-    (shared_archive D.honest D.marks D.held inside.disk inside.slots inside.last inside.end inside.total inside.carry
-    inside.files.items
-    (state_in inside.shared inside.slots.current inside.files.items inside.prefix inside.messages.items) inside.closed
-    c.self.invariant)
+    let m = inside.slots.current in
+    let work = (work_in inside.next inside.job inside.waiting.items) in
+    let new = c.shared_files.new.files.items in
+    let old = inside.files.items in
+    let s : State = state_in work inside.shared m old inside.prefix inside.messages.items in
+    subst (λ (x : State). IsArchive D.honest D.marks D.held inside.disk inside.slots inside.last inside.end inside.total
+    inside.carry new x inside.closed × IsUnderWay D.honest D.marks D.held inside.disk x work inside.closed
+    × HasOwnFiles true new work)
+    (sym (same_state work true m new old inside.prefix inside.messages.items c.shared_files.ensures.same)) (
+      same_archive D.honest D.marks D.held inside.disk inside.slots inside.last inside.end inside.total inside.carry new
+          old (once_shared s) inside.closed c.shared_files.ensures.same
+          (shared_archive D.honest D.marks D.held inside.disk inside.slots inside.last inside.end inside.total
+          inside.carry old s inside.closed c.self.invariant.0),
+      goes_on s s.active true D.honest D.marks D.held inside.disk inside.disk inside.closed inside.closed refl (λ is. is)
+          (λ _ n is. refl) (λ _ h n is. refl) work (c.self.invariant.1),
+      own_shared inside.shared new old work c.self.invariant.2,
+    )
+
+pub returns-in_err-files-clause-state : goal.returns-in_err-files-clause-state
+returns-in_err-files-clause-state g c =
+    let inside = c.self.inside in
+    rw (← c.self.view_is) (same_state (work_in inside.next inside.job inside.waiting.items) true inside.slots.current
+    c.shared_files.new.files.items inside.files.items inside.prefix inside.messages.items c.shared_files.ensures.same)
+
+pub returns-clause-state : goal.returns-clause-state
+returns-clause-state g c =
+    let inside = c.self.inside in
+    rw (← c.self.view_is) (same_state (work_in inside.next inside.job inside.waiting.items) true inside.slots.current
+    c.shared_files.new.files.items inside.files.items inside.prefix inside.messages.items c.shared_files.ensures.same)
 
 pub returns-clause-active : goal.returns-clause-active
 returns-clause-active g c =
@@ -55,12 +90,12 @@ returns-clause-shown g c =
     let D = g.D.Disk in
     let inside = c.self.inside in
     let m = inside.slots.current in
-    let s : State = state_in inside.shared m inside.files.items inside.prefix inside.messages.items in
-    let held = (c.self.invariant).files_are in
+    let s : State = state_in (work_in inside.next inside.job inside.waiting.items) inside.shared m inside.files.items inside.prefix inside.messages.items in
+    let held = (c.self.invariant.0).files_are in
     let shelf : c.new.result.shelf ≡ shelf_with m.width m.wide inside.files.items inside.prefix inside.messages.items =
     ap (λ (x : Sight). x.shelf) c.new.ensures ∙ c.in_ok-files.ensures.shelf m.width m.wide in
     rw (← c.self.view_is) (λ h. (
-      shelf ∙ shelf_is (D.honest inside.disk) s inside.files.items held ((c.self.invariant).stand h),
+      shelf ∙ shelf_is (D.honest inside.disk) s inside.files.items held ((c.self.invariant.0).stand h),
       ap (λ (x : Sight). x.honest) c.new.ensures
           ∙ c.in_ok-files.ensures.honest (honest_all (front_of m) inside.files.items
           (subst (λ (b : Bool). AreHeldAs b (front_of m) inside.files.items) h held)) m.width m.wide,

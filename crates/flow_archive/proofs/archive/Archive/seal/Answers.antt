@@ -1,5 +1,5 @@
 use Rattle.std.proofs.Common.{◌≡◌, ◌≢◌, inl, inr, ⊎_elim, ℕ, true, IsTrue}
-use Rattle.std.proofs.Common.{List, [], ◌∷◌, ◌++◌, length, refl, sym, ◌∙◌, ap, subst, arith, rules}
+use Rattle.std.proofs.Common.{List, [], ◌∷◌, ◌++◌, ◌+◌, length, refl, sym, ◌∙◌, ap, subst, arith, rules}
 use Rattle.std.proofs.Common.{vec_len}
 use Rattle.flow_disk.specs.Disk.{AllImages}
 use Rattle.flow_disk.proofs.Moments.{by}
@@ -20,13 +20,16 @@ use Rattle.flow_archive.specs.Moving.{IsMove, MovesMarks}
 use Rattle.flow_archive.specs.Owned.{frozen_as, Frozen}
 use Rattle.flow_archive.specs.Seen.{IsArchive, StandsBeforeOrAfter, state_in}
 use Rattle.flow_archive.specs.declared.refusal.ArchiveError.TheVariants as refusal
+use Rattle.flow_archive.specs.UnderWay.{work_in, HasOwnFiles, IsUnderWay, IsUnnamed}
 use Rattle.flow_archive.proofs.Answering.{err_is, not_followed}
 use Rattle.flow_archive.proofs.Chaining.{hands_next, prefix_fits}
 use Rattle.flow_archive.proofs.Directing.{failed_archive}
-use Rattle.flow_archive.proofs.Moved.{is_moved, moved_archive, same_state}
-use Rattle.flow_archive.proofs.Stand.{stands_for}
+use Rattle.flow_archive.proofs.Moved.{is_moved, moved_archive, moved_work, same_state}
+use Rattle.flow_archive.proofs.Sharing.{own_push}
+use Rattle.flow_archive.proofs.Stand.{slot_below, stands_for}
 use Rattle.flow_archive.proofs.Stepping.{refused, refused_by, acknowledged, failed}
 use Rattle.flow_archive.proofs.Turning.{has_gate}
+use Rattle.flow_archive.proofs.Working.{goes_on, other_file}
 use Rattle.flow_archive.proofs.archive.Archive.seal.Goals as goal
 
 pub returns-in_err-next-clause-answers : goal.returns-in_err-next-clause-answers
@@ -35,13 +38,15 @@ returns-in_err-next-clause-answers g c =
     let inside = c.self.inside in
     let d = inside.disk in
     let m = inside.slots.current in
-    let s : State = state_in inside.shared m inside.files.items inside.prefix inside.messages.items in
+    let s : State = state_in (work_in inside.next inside.job inside.waiting.items) inside.shared m inside.files.items inside.prefix inside.messages.items in
     let len : vec_len inside.messages ≡ length inside.messages.items = search rules in
     let count : c.len-count.result ≡ length s.active.messages = c.len-count.ensures ∙ len in
     let e = c.in_err-next.field-0.0 in
     rw (← c.self.view_is) (err_is c.from_residual.result e
     (λ r. AnswersSeal (D.honest d) inside.closed s r s) c.from_residual.ensures.1
-    (not_followed (D.honest d) inside.closed s c.len-count.result e c.if-self.false count refl c.in_err-next.ensures.refused))
+    (not_followed (D.honest d) inside.closed s c.len-count.result e c.if-self.false count
+    (subst (λ (n : ℕ). IsNotFollowed m c.len-count.result inside.next n e) c.generations_kept-kept.ensures
+    c.in_err-next.ensures.refused)))
 
 pub returns-in_err-next-clause-step : goal.returns-in_err-next-clause-step
 returns-in_err-next-clause-step g c =
@@ -49,9 +54,9 @@ returns-in_err-next-clause-step g c =
     let inside = c.self.inside in
     let e = c.in_err-next.field-0.0 in
     rw (← c.self.view_is) (refused_by D.honest D.moment D.left_since D.held _ _ _ e _ c.from_residual.ensures.1 refl
-    (λ same. subst (IsNotFollowed inside.slots.current c.len-count.result) same c.in_err-next.ensures.refused)
+    (λ same. subst (IsNotFollowed inside.slots.current c.len-count.result inside.next c.generations_kept-kept.result) same c.in_err-next.ensures.refused)
     (λ h image left. g.met.D.Disk.only_now inside.disk image h left)
-    (λ h still image is. stands_for inside.slots _ image (((c.self.invariant).still_open still).kept.known h image is)))
+    (λ h still image is. stands_for inside.slots _ image (((c.self.invariant.0).still_open still).kept.known h image is)))
 
 pub returns-in_default-clause-step : goal.returns-in_default-clause-step
 returns-in_default-clause-step g c =
@@ -60,11 +65,11 @@ returns-in_default-clause-step g c =
     rw (← c.self.view_is) (refused D.honest D.moment D.left_since D.held _ _ _ refusal.OutOfMemory
     (ap (λ (l : List Frozen). record {
       disk = inside.disk;
-      state = state_in inside.shared inside.slots.current l inside.prefix inside.messages.items;
+      state = state_in (work_in inside.next inside.job inside.waiting.items) inside.shared inside.slots.current l inside.prefix inside.messages.items;
       closed = inside.closed;
     }) c.reserve.ensures.items)
     (λ is. cc) (λ h image left. g.met.D.Disk.only_now inside.disk image h left)
-    (λ h still image is. stands_for inside.slots _ image (((c.self.invariant).still_open still).kept.known h image is)))
+    (λ h still image is. stands_for inside.slots _ image (((c.self.invariant.0).still_open still).kept.known h image is)))
 
 pub returns-in_default-clause-answers : goal.returns-in_default-clause-answers
 returns-in_default-clause-answers g c =
@@ -72,16 +77,16 @@ returns-in_default-clause-answers g c =
     let inside = c.self.inside in
     let d = inside.disk in
     let m = inside.slots.current in
-    let s : State = state_in inside.shared m inside.files.items inside.prefix inside.messages.items in
-    let counted = (c.self.invariant).counted in
+    let s : State = state_in (work_in inside.next inside.job inside.waiting.items) inside.shared m inside.files.items inside.prefix inside.messages.items in
+    let counted = (c.self.invariant.0).counted in
     rw (← c.self.view_is) (
       c.if-self.false,
-      (ap (λ (l : List Frozen). state_in inside.shared m l inside.prefix inside.messages.items)
+      (ap (λ (l : List Frozen). state_in (work_in inside.next inside.job inside.waiting.items) inside.shared m l inside.prefix inside.messages.items)
           c.reserve.ensures.items),
     )
 
 pub next_segment-requires-clause-valid : goal.next_segment-requires-clause-valid
-next_segment-requires-clause-valid g c = (c.self.invariant).counted.valid
+next_segment-requires-clause-valid g c = (c.self.invariant.0).counted.valid
 
 pub next_segment-requires-clause-long : goal.next_segment-requires-clause-long
 next_segment-requires-clause-long g c some =
@@ -89,8 +94,8 @@ next_segment-requires-clause-long g c some =
     let inside = c.self.inside in
     let d = inside.disk in
     let m = inside.slots.current in
-    let s : State = state_in inside.shared m inside.files.items inside.prefix inside.messages.items in
-    let counted = (c.self.invariant).counted in
+    let s : State = state_in (work_in inside.next inside.job inside.waiting.items) inside.shared m inside.files.items inside.prefix inside.messages.items in
+    let counted = (c.self.invariant.0).counted in
     let len : vec_len inside.messages ≡ length inside.messages.items = search rules in
     let count : c.len-count.result ≡ length s.active.messages = c.len-count.ensures ∙ len in
     let start : inside.last.prefix ≡ (active_of m).prefix = ap (λ (x : Entry). x.prefix) counted.last_is in
@@ -102,8 +107,8 @@ next_segment-requires-clause-within g c =
     let inside = c.self.inside in
     let d = inside.disk in
     let m = inside.slots.current in
-    let s : State = state_in inside.shared m inside.files.items inside.prefix inside.messages.items in
-    let counted = (c.self.invariant).counted in
+    let s : State = state_in (work_in inside.next inside.job inside.waiting.items) inside.shared m inside.files.items inside.prefix inside.messages.items in
+    let counted = (c.self.invariant.0).counted in
     omega (arith, counted.end_is, counted.within.limit)
 
 pub next_segment-requires-clause-all : goal.next_segment-requires-clause-all
@@ -112,8 +117,8 @@ next_segment-requires-clause-all g c =
     let inside = c.self.inside in
     let d = inside.disk in
     let m = inside.slots.current in
-    let s : State = state_in inside.shared m inside.files.items inside.prefix inside.messages.items in
-    let counted = (c.self.invariant).counted in
+    let s : State = state_in (work_in inside.next inside.job inside.waiting.items) inside.shared m inside.files.items inside.prefix inside.messages.items in
+    let counted = (c.self.invariant.0).counted in
     let len : vec_len inside.messages ≡ length inside.messages.items = search rules in
     let count : c.len-count.result ≡ length s.active.messages = c.len-count.ensures ∙ len in
     omega (arith, counted.within.all, count)
@@ -124,11 +129,11 @@ move_on-requires-clause-active g c =
     let inside = c.self.inside in
     let d = inside.disk in
     let m = inside.slots.current in
-    let s : State = state_in inside.shared m inside.files.items inside.prefix inside.messages.items in
-    let counted = (c.self.invariant).counted in
+    let s : State = state_in (work_in inside.next inside.job inside.waiting.items) inside.shared m inside.files.items inside.prefix inside.messages.items in
+    let counted = (c.self.invariant.0).counted in
     let are = are_entries m counted.valid in
     let file = ap (λ (x : Entry). x.file) counted.last_is in
-    (omega (arith, file, are.active.file_from), omega (arith, file, are.active.file_below))
+    (omega (arith, file, are.active.file_from), omega (arith, file, are.active.file_below, counted.next))
 
 pub move_on-requires-clause-gate : goal.move_on-requires-clause-gate
 move_on-requires-clause-gate g c h =
@@ -136,9 +141,9 @@ move_on-requires-clause-gate g c h =
     let inside = c.self.inside in
     let d = inside.disk in
     let m = inside.slots.current in
-    let s : State = state_in inside.shared m inside.files.items inside.prefix inside.messages.items in
-    let counted = (c.self.invariant).counted in
-    let still = (c.self.invariant).still_open c.if-self.false in
+    let s : State = state_in (work_in inside.next inside.job inside.waiting.items) inside.shared m inside.files.items inside.prefix inside.messages.items in
+    let counted = (c.self.invariant.0).counted in
+    let still = (c.self.invariant.0).still_open c.if-self.false in
     let known = still.kept.known h (λ n. (D.held d n).reads) (λ n. g.met.D.Disk.reads_image d n h) in
     subst (λ (n : ℕ). HasGate inside.slots.other_open (D.held d n).reads)
     (sym (c.file.ensures ∙ ap file_of c.other-slot.ensures))
@@ -151,13 +156,13 @@ returns-in-Err-clause-answers g c =
     let inside = c.self.inside in
     let d = inside.disk in
     let m = inside.slots.current in
-    let s : State = state_in inside.shared m inside.files.items inside.prefix inside.messages.items in
-    let counted = (c.self.invariant).counted in
+    let s : State = state_in (work_in inside.next inside.job inside.waiting.items) inside.shared m inside.files.items inside.prefix inside.messages.items in
+    let counted = (c.self.invariant.0).counted in
     let len : vec_len inside.messages ≡ length inside.messages.items = search rules in
     let count : c.len-count.result ≡ length s.active.messages = c.len-count.ensures ∙ len in
     let some : s.active.messages ≢ [] =
     λ is. omega (arith, (c.in_ok-next.ensures.may).some, count, ap (λ (l : List (List ℕ)). length l) is) in
-    let still = (c.self.invariant).still_open c.if-self.false in
+    let still = (c.self.invariant.0).still_open c.if-self.false in
     let next = c.in_ok-next.next in
     let carry = inside.carry in
     let prefix = prefix_of carry in
@@ -166,16 +171,16 @@ returns-in-Err-clause-answers g c =
     let given = c.as_slice.result.now in
     let kept_prefix : given ≡ prefix = c.as_slice.ensures ∙ c.in_ok-next.ensures.prefix in
     let made : next.manifest ≡ after.manifest = c.in_ok-next.ensures.manifest
-    ∙ ap (λ (n : ℕ). next_manifest m n c.len-count.result m.next (length prefix)) counted.end_is
-    ∙ ap (λ (n : ℕ). next_manifest m (end_of s) n m.next (length prefix)) count in
+    ∙ ap (λ (n : ℕ). next_manifest m n c.len-count.result inside.next (length prefix)) counted.end_is
+    ∙ ap (λ (n : ℕ). next_manifest m (end_of s) n inside.next (length prefix)) count in
     let valid : IsValidManifest after.manifest = subst IsValidManifest made c.in_ok-next.ensures.valid in
     let slot_is : c.file.result ≡ file_of (other inside.slots.current_slot) =
     c.file.ensures ∙ ap file_of c.other-slot.ensures in
-    let move : IsTrue (D.honest d) → IsMove (D.held d) inside.slots inside.last.file inside.end m.next c.file.result
+    let move : IsTrue (D.honest d) → IsMove (D.held d) inside.slots inside.last.file inside.end inside.next c.file.result
     inside.slots.other_open given c.as_slice-2.result.now s = λ h. record {
       active_is = ap (λ (x : Entry). x.file) (sym counted.last_is);
       next_is = refl;
-      next_from = omega arith;
+      next_from = counted.next;
       end_is = sym counted.end_is;
       slot_is = sym slot_is;
       open_is = refl;
@@ -191,13 +196,13 @@ returns-in-Err-clause-answers g c =
       few = (c.in_ok-next.ensures.may).few;
       numbers = (
         (c.in_ok-next.ensures.may).next,
-        omega (arith, (c.in_ok-next.ensures.may).generation),
+        omega (arith, (c.in_ok-next.ensures.may).generation, c.generations_kept-kept.ensures),
       );
     } in
     rw (← c.self.view_is) (
       c.if-self.false,
       may,
-      (ap (λ (l : List Frozen). state_in inside.shared m l inside.prefix inside.messages.items)
+      (ap (λ (l : List Frozen). state_in (work_in inside.next inside.job inside.waiting.items) inside.shared m l inside.prefix inside.messages.items)
           c.reserve.ensures.items),
     )
 
@@ -207,13 +212,13 @@ returns-in-Err-clause-step g c =
     let inside = c.self.inside in
     let d = inside.disk in
     let m = inside.slots.current in
-    let s : State = state_in inside.shared m inside.files.items inside.prefix inside.messages.items in
-    let counted = (c.self.invariant).counted in
+    let s : State = state_in (work_in inside.next inside.job inside.waiting.items) inside.shared m inside.files.items inside.prefix inside.messages.items in
+    let counted = (c.self.invariant.0).counted in
     let len : vec_len inside.messages ≡ length inside.messages.items = search rules in
     let count : c.len-count.result ≡ length s.active.messages = c.len-count.ensures ∙ len in
     let some : s.active.messages ≢ [] =
     λ is. omega (arith, (c.in_ok-next.ensures.may).some, count, ap (λ (l : List (List ℕ)). length l) is) in
-    let still = (c.self.invariant).still_open c.if-self.false in
+    let still = (c.self.invariant.0).still_open c.if-self.false in
     let next = c.in_ok-next.next in
     let carry = inside.carry in
     let prefix = prefix_of carry in
@@ -222,16 +227,16 @@ returns-in-Err-clause-step g c =
     let given = c.as_slice.result.now in
     let kept_prefix : given ≡ prefix = c.as_slice.ensures ∙ c.in_ok-next.ensures.prefix in
     let made : next.manifest ≡ after.manifest = c.in_ok-next.ensures.manifest
-    ∙ ap (λ (n : ℕ). next_manifest m n c.len-count.result m.next (length prefix)) counted.end_is
-    ∙ ap (λ (n : ℕ). next_manifest m (end_of s) n m.next (length prefix)) count in
+    ∙ ap (λ (n : ℕ). next_manifest m n c.len-count.result inside.next (length prefix)) counted.end_is
+    ∙ ap (λ (n : ℕ). next_manifest m (end_of s) n inside.next (length prefix)) count in
     let valid : IsValidManifest after.manifest = subst IsValidManifest made c.in_ok-next.ensures.valid in
     let slot_is : c.file.result ≡ file_of (other inside.slots.current_slot) =
     c.file.ensures ∙ ap file_of c.other-slot.ensures in
-    let move : IsTrue (D.honest d) → IsMove (D.held d) inside.slots inside.last.file inside.end m.next c.file.result
+    let move : IsTrue (D.honest d) → IsMove (D.held d) inside.slots inside.last.file inside.end inside.next c.file.result
     inside.slots.other_open given c.as_slice-2.result.now s = λ h. record {
       active_is = ap (λ (x : Entry). x.file) (sym counted.last_is);
       next_is = refl;
-      next_from = omega arith;
+      next_from = counted.next;
       end_is = sym counted.end_is;
       slot_is = sym slot_is;
       open_is = refl;
@@ -247,7 +252,7 @@ returns-in-Err-clause-step g c =
       few = (c.in_ok-next.ensures.may).few;
       numbers = (
         (c.in_ok-next.ensures.may).next,
-        omega (arith, (c.in_ok-next.ensures.may).generation),
+        omega (arith, (c.in_ok-next.ensures.may).generation, c.generations_kept-kept.ensures),
       );
     } in
     rw (← c.self.view_is) (failed D.honest D.moment D.left_since _ _ _ c.move_on.ensures.honest
@@ -259,7 +264,7 @@ returns-in-Err-clause-step g c =
       (carry, s.active, still.segment, (λ t. refl), refl),
       subst (λ (l : List ℕ). StandsFor image (reopened (moved_on s l))) kept_prefix later,
     )) either))
-    (ap (λ (l : List Frozen). state_in inside.shared m l inside.prefix inside.messages.items)
+    (ap (λ (l : List Frozen). state_in (work_in inside.next inside.job inside.waiting.items) inside.shared m l inside.prefix inside.messages.items)
     c.reserve.ensures.items)
     refl c.if-self.false)
 
@@ -269,13 +274,13 @@ invariant_of-self-in-Ok-move_on g c =
     let inside = c.self.inside in
     let d = inside.disk in
     let m = inside.slots.current in
-    let s : State = state_in inside.shared m inside.files.items inside.prefix inside.messages.items in
-    let counted = (c.self.invariant).counted in
+    let s : State = state_in (work_in inside.next inside.job inside.waiting.items) inside.shared m inside.files.items inside.prefix inside.messages.items in
+    let counted = (c.self.invariant.0).counted in
     let len : vec_len inside.messages ≡ length inside.messages.items = search rules in
     let count : c.len-count.result ≡ length s.active.messages = c.len-count.ensures ∙ len in
     let some : s.active.messages ≢ [] =
     λ is. omega (arith, (c.in_ok-next.ensures.may).some, count, ap (λ (l : List (List ℕ)). length l) is) in
-    let still = (c.self.invariant).still_open c.if-self.false in
+    let still = (c.self.invariant.0).still_open c.if-self.false in
     let next = c.in_ok-next.next in
     let carry = inside.carry in
     let prefix = prefix_of carry in
@@ -284,16 +289,16 @@ invariant_of-self-in-Ok-move_on g c =
     let given = c.as_slice.result.now in
     let kept_prefix : given ≡ prefix = c.as_slice.ensures ∙ c.in_ok-next.ensures.prefix in
     let made : next.manifest ≡ after.manifest = c.in_ok-next.ensures.manifest
-    ∙ ap (λ (n : ℕ). next_manifest m n c.len-count.result m.next (length prefix)) counted.end_is
-    ∙ ap (λ (n : ℕ). next_manifest m (end_of s) n m.next (length prefix)) count in
+    ∙ ap (λ (n : ℕ). next_manifest m n c.len-count.result inside.next (length prefix)) counted.end_is
+    ∙ ap (λ (n : ℕ). next_manifest m (end_of s) n inside.next (length prefix)) count in
     let valid : IsValidManifest after.manifest = subst IsValidManifest made c.in_ok-next.ensures.valid in
     let slot_is : c.file.result ≡ file_of (other inside.slots.current_slot) =
     c.file.ensures ∙ ap file_of c.other-slot.ensures in
-    let move : IsTrue (D.honest d) → IsMove (D.held d) inside.slots inside.last.file inside.end m.next c.file.result
+    let move : IsTrue (D.honest d) → IsMove (D.held d) inside.slots inside.last.file inside.end inside.next c.file.result
     inside.slots.other_open given c.as_slice-2.result.now s = λ h. record {
       active_is = ap (λ (x : Entry). x.file) (sym counted.last_is);
       next_is = refl;
-      next_from = omega arith;
+      next_from = counted.next;
       end_is = sym counted.end_is;
       slot_is = sym slot_is;
       open_is = refl;
@@ -309,7 +314,7 @@ invariant_of-self-in-Ok-move_on g c =
       few = (c.in_ok-next.ensures.may).few;
       numbers = (
         (c.in_ok-next.ensures.may).next,
-        omega (arith, (c.in_ok-next.ensures.may).generation),
+        omega (arith, (c.in_ok-next.ensures.may).generation, c.generations_kept-kept.ensures),
       );
     } in
     let raw = c.in-Ok-move_on.part in
@@ -330,19 +335,19 @@ invariant_of-self-in-Ok-move_on g c =
     let front = inside.prefix in
     let messages = inside.messages.items in
     let part_is = λ (h : IsTrue (D.honest d)). c.in-Ok-move_on.ensures.part h inside.slots s (move h) in
-    let all = (c.self.invariant).files_are in
+    let all = (c.self.invariant.0).files_are in
     let new_prefix : next.prefix ≡ prefix = c.in_ok-next.ensures.prefix in
     let new_files : c.push_reserved.new.self.items ≡ files ++ part ∷ [] = c.push_reserved.ensures.items
     ∙ ap (λ (l : List Frozen). l ++ c.named.result ∷ []) c.reserve.ensures.items
     ∙ ap (λ (x : Frozen). files ++ x ∷ []) named in
     let new_messages : c.new.result.items ≡ [] = c.new.ensures.items in
-    let new_state : state_in inside.shared next.manifest c.push_reserved.new.self.items next.prefix c.new.result.items
-    ≡ state_in inside.shared after.manifest (files ++ part ∷ []) prefix [] =
-    ap (λ (x : Manifest). state_in inside.shared x c.push_reserved.new.self.items next.prefix c.new.result.items) made
-    ∙ ap (λ (l : List Frozen). state_in inside.shared after.manifest l next.prefix c.new.result.items)
+    let new_state : state_in (work_in (inside.next + 1) inside.job inside.waiting.items) inside.shared next.manifest c.push_reserved.new.self.items next.prefix c.new.result.items
+    ≡ state_in (work_in (inside.next + 1) inside.job inside.waiting.items) inside.shared after.manifest (files ++ part ∷ []) prefix [] =
+    ap (λ (x : Manifest). state_in (work_in (inside.next + 1) inside.job inside.waiting.items) inside.shared x c.push_reserved.new.self.items next.prefix c.new.result.items) made
+    ∙ ap (λ (l : List Frozen). state_in (work_in (inside.next + 1) inside.job inside.waiting.items) inside.shared after.manifest l next.prefix c.new.result.items)
     new_files
-    ∙ ap (λ (l : List ℕ). state_in inside.shared after.manifest (files ++ part ∷ []) l c.new.result.items) new_prefix
-    ∙ ap (λ (l : List (List ℕ)). state_in inside.shared after.manifest (files ++ part ∷ []) prefix l) new_messages in
+    ∙ ap (λ (l : List ℕ). state_in (work_in (inside.next + 1) inside.job inside.waiting.items) inside.shared after.manifest (files ++ part ∷ []) l c.new.result.items) new_prefix
+    ∙ ap (λ (l : List (List ℕ)). state_in (work_in (inside.next + 1) inside.job inside.waiting.items) inside.shared after.manifest (files ++ part ∷ []) prefix l) new_messages in
     let long : length next.prefix ≡ length prefix = ap (λ (l : List ℕ). length l) new_prefix in
     let first_long : c.len.result ≡ length prefix = omega (
       arith,
@@ -351,8 +356,8 @@ invariant_of-self-in-Ok-move_on g c =
     ) in
     let second_long : c.len-in-Ok-move_on.result ≡ length prefix =
     omega (arith, c.len-in-Ok-move_on.ensures.value, long) in
-    let moves = subst (λ (n : ℕ). MovesMarks (D.marks d) (D.marks d1) inside.last.file m.next n (length prefix)) slot_is
-    (subst (λ (l : List ℕ). MovesMarks (D.marks d) (D.marks d1) inside.last.file m.next c.file.result (length l))
+    let moves = subst (λ (n : ℕ). MovesMarks (D.marks d) (D.marks d1) inside.last.file inside.next n (length prefix)) slot_is
+    (subst (λ (l : List ℕ). MovesMarks (D.marks d) (D.marks d1) inside.last.file inside.next c.file.result (length l))
     kept_prefix c.in-Ok-move_on.ensures.marks) in
     let known = λ (h : IsTrue (D.honest d)). subst (λ (l : List ℕ). AllImages (D.held d1) (IsKnown (record {
       current = (moved_on s l).manifest;
@@ -362,36 +367,53 @@ invariant_of-self-in-Ok-move_on g c =
     let P : Manifest → Slot → ℕ → ℕ → List Frozen → State → Type 0 = λ made_now slot p e list x.
     IsArchive D.honest D.marks D.held d1
     (record { current = made_now; current_slot = slot; other_open = true })
-    (record { kind = Active; prefix = p; file = m.next; length = 0; messages = 0 }) e inside.total carry list x
-    inside.closed in
+    (record { kind = Active; prefix = p; file = inside.next; length = 0; messages = 0 }) e inside.total carry list x
+    inside.closed × IsUnderWay D.honest D.marks D.held d1 x (work_in (inside.next + 1) inside.job inside.waiting.items) inside.closed
+    × HasOwnFiles inside.shared list (work_in (inside.next + 1) inside.job inside.waiting.items) in
+    let file = ap (λ (x : Entry). x.file) counted.last_is in
+    let apart : (n : ℕ) → IsUnnamed s n
+    → (n ≢ inside.last.file) × (n ≢ inside.next) × (n ≢ file_of (other inside.slots.current_slot)) = λ n is. (
+      (λ same. other_file s n counted.valid is (same ∙ file)),
+      (λ same. omega (arith, same, is.below)),
+      (λ same. omega (arith, same, is.from, slot_below (other inside.slots.current_slot))),
+    ) in
     let now : P after.manifest (other inside.slots.current_slot) (length prefix) (length prefix) (files ++ part ∷ [])
-    (state_in inside.shared after.manifest (files ++ part ∷ []) prefix []) =
-    moved_archive D.honest D.marks D.held inside.shared d d1 inside.slots inside.last inside.end inside.total carry files front
-    messages part inside.closed c.self.invariant c.if-self.false c.in_ok-next.ensures.carry c.move_on.ensures.honest
-    valid moves known part_is (record {
-      entry_is = refl;
-      honest_is = (c.in-Ok-move_on.ensures.sealed).2;
-      counted = refl;
-    }) in
+    (state_in (work_in (inside.next + 1) inside.job inside.waiting.items) inside.shared after.manifest (files ++ part ∷ []) prefix []) = (
+      moved_archive D.honest D.marks D.held (work_in inside.next inside.job inside.waiting.items) inside.shared d d1 inside.slots inside.last inside.end inside.total carry files front
+          messages part inside.closed c.self.invariant.0 c.if-self.false c.in_ok-next.ensures.carry c.move_on.ensures.honest
+          valid moves c.in-Ok-move_on.ensures.frozen known part_is (record {
+            entry_is = refl;
+            honest_is = (c.in-Ok-move_on.ensures.sealed).2;
+            counted = refl;
+          }),
+      moved_work D.honest D.marks D.held (work_in inside.next inside.job inside.waiting.items) inside.shared d d1 inside.slots inside.last inside.end
+          inside.total carry files front messages part inside.closed c.self.invariant.0 c.move_on.ensures.honest
+          (λ n is. let not = apart n is in moves.others n not.0 not.1 not.2)
+          (λ h n is. let not = apart n is in subst (λ (l : ℕ). n ≢ l → D.held d1 n ≡ D.held d n) slot_is
+          (c.move_on.ensures.other_files h n not.0 not.1) not.2)
+          (omega (arith, (c.in_ok-next.ensures.may).generation, c.generations_kept-kept.ensures)) (c.self.invariant.1),
+      own_push inside.shared files (work_in inside.next inside.job inside.waiting.items) part refl
+          c.self.invariant.2,
+    ) in
     subst (λ (x : Manifest). P x c.other-slot.result c.len.result c.len-in-Ok-move_on.result
     c.push_reserved.new.self.items
-    (state_in inside.shared next.manifest c.push_reserved.new.self.items next.prefix c.new.result.items))
+    (state_in (work_in (inside.next + 1) inside.job inside.waiting.items) inside.shared next.manifest c.push_reserved.new.self.items next.prefix c.new.result.items))
     (sym made)
     (subst (λ (x : Slot). P after.manifest x c.len.result c.len-in-Ok-move_on.result
     c.push_reserved.new.self.items
-    (state_in inside.shared next.manifest c.push_reserved.new.self.items next.prefix c.new.result.items))
+    (state_in (work_in (inside.next + 1) inside.job inside.waiting.items) inside.shared next.manifest c.push_reserved.new.self.items next.prefix c.new.result.items))
     (sym c.other-slot.ensures)
     (subst (λ (n : ℕ). P after.manifest (other inside.slots.current_slot) n c.len-in-Ok-move_on.result
     c.push_reserved.new.self.items
-    (state_in inside.shared next.manifest c.push_reserved.new.self.items next.prefix c.new.result.items))
+    (state_in (work_in (inside.next + 1) inside.job inside.waiting.items) inside.shared next.manifest c.push_reserved.new.self.items next.prefix c.new.result.items))
     (sym first_long)
     (subst (λ (n : ℕ). P after.manifest (other inside.slots.current_slot) (length prefix) n
     c.push_reserved.new.self.items
-    (state_in inside.shared next.manifest c.push_reserved.new.self.items next.prefix c.new.result.items))
+    (state_in (work_in (inside.next + 1) inside.job inside.waiting.items) inside.shared next.manifest c.push_reserved.new.self.items next.prefix c.new.result.items))
     (sym second_long)
     (subst (λ (l : List Frozen). P after.manifest (other inside.slots.current_slot) (length prefix)
     (length prefix) l
-    (state_in inside.shared next.manifest c.push_reserved.new.self.items next.prefix c.new.result.items))
+    (state_in (work_in (inside.next + 1) inside.job inside.waiting.items) inside.shared next.manifest c.push_reserved.new.self.items next.prefix c.new.result.items))
     (sym new_files)
     (subst (λ (x : State). P after.manifest (other inside.slots.current_slot) (length prefix) (length prefix)
     (files ++ part ∷ []) x) (sym new_state) now)))))
@@ -402,13 +424,13 @@ returns-in-Ok-move_on-clause-answers g c =
     let inside = c.self.inside in
     let d = inside.disk in
     let m = inside.slots.current in
-    let s : State = state_in inside.shared m inside.files.items inside.prefix inside.messages.items in
-    let counted = (c.self.invariant).counted in
+    let s : State = state_in (work_in inside.next inside.job inside.waiting.items) inside.shared m inside.files.items inside.prefix inside.messages.items in
+    let counted = (c.self.invariant.0).counted in
     let len : vec_len inside.messages ≡ length inside.messages.items = search rules in
     let count : c.len-count.result ≡ length s.active.messages = c.len-count.ensures ∙ len in
     let some : s.active.messages ≢ [] =
     λ is. omega (arith, (c.in_ok-next.ensures.may).some, count, ap (λ (l : List (List ℕ)). length l) is) in
-    let still = (c.self.invariant).still_open c.if-self.false in
+    let still = (c.self.invariant.0).still_open c.if-self.false in
     let next = c.in_ok-next.next in
     let carry = inside.carry in
     let prefix = prefix_of carry in
@@ -417,16 +439,16 @@ returns-in-Ok-move_on-clause-answers g c =
     let given = c.as_slice.result.now in
     let kept_prefix : given ≡ prefix = c.as_slice.ensures ∙ c.in_ok-next.ensures.prefix in
     let made : next.manifest ≡ after.manifest = c.in_ok-next.ensures.manifest
-    ∙ ap (λ (n : ℕ). next_manifest m n c.len-count.result m.next (length prefix)) counted.end_is
-    ∙ ap (λ (n : ℕ). next_manifest m (end_of s) n m.next (length prefix)) count in
+    ∙ ap (λ (n : ℕ). next_manifest m n c.len-count.result inside.next (length prefix)) counted.end_is
+    ∙ ap (λ (n : ℕ). next_manifest m (end_of s) n inside.next (length prefix)) count in
     let valid : IsValidManifest after.manifest = subst IsValidManifest made c.in_ok-next.ensures.valid in
     let slot_is : c.file.result ≡ file_of (other inside.slots.current_slot) =
     c.file.ensures ∙ ap file_of c.other-slot.ensures in
-    let move : IsTrue (D.honest d) → IsMove (D.held d) inside.slots inside.last.file inside.end m.next c.file.result
+    let move : IsTrue (D.honest d) → IsMove (D.held d) inside.slots inside.last.file inside.end inside.next c.file.result
     inside.slots.other_open given c.as_slice-2.result.now s = λ h. record {
       active_is = ap (λ (x : Entry). x.file) (sym counted.last_is);
       next_is = refl;
-      next_from = omega arith;
+      next_from = counted.next;
       end_is = sym counted.end_is;
       slot_is = sym slot_is;
       open_is = refl;
@@ -442,7 +464,7 @@ returns-in-Ok-move_on-clause-answers g c =
       few = (c.in_ok-next.ensures.may).few;
       numbers = (
         (c.in_ok-next.ensures.may).next,
-        omega (arith, (c.in_ok-next.ensures.may).generation),
+        omega (arith, (c.in_ok-next.ensures.may).generation, c.generations_kept-kept.ensures),
       );
     } in
     let raw = c.in-Ok-move_on.part in
@@ -463,24 +485,24 @@ returns-in-Ok-move_on-clause-answers g c =
     let front = inside.prefix in
     let messages = inside.messages.items in
     let part_is = λ (h : IsTrue (D.honest d)). c.in-Ok-move_on.ensures.part h inside.slots s (move h) in
-    let all = (c.self.invariant).files_are in
+    let all = (c.self.invariant.0).files_are in
     let new_prefix : next.prefix ≡ prefix = c.in_ok-next.ensures.prefix in
     let new_files : c.push_reserved.new.self.items ≡ files ++ part ∷ [] = c.push_reserved.ensures.items
     ∙ ap (λ (l : List Frozen). l ++ c.named.result ∷ []) c.reserve.ensures.items
     ∙ ap (λ (x : Frozen). files ++ x ∷ []) named in
     let new_messages : c.new.result.items ≡ [] = c.new.ensures.items in
-    let new_state : state_in inside.shared next.manifest c.push_reserved.new.self.items next.prefix c.new.result.items
-    ≡ state_in inside.shared after.manifest (files ++ part ∷ []) prefix [] =
-    ap (λ (x : Manifest). state_in inside.shared x c.push_reserved.new.self.items next.prefix c.new.result.items) made
-    ∙ ap (λ (l : List Frozen). state_in inside.shared after.manifest l next.prefix c.new.result.items)
+    let new_state : state_in (work_in (inside.next + 1) inside.job inside.waiting.items) inside.shared next.manifest c.push_reserved.new.self.items next.prefix c.new.result.items
+    ≡ state_in (work_in (inside.next + 1) inside.job inside.waiting.items) inside.shared after.manifest (files ++ part ∷ []) prefix [] =
+    ap (λ (x : Manifest). state_in (work_in (inside.next + 1) inside.job inside.waiting.items) inside.shared x c.push_reserved.new.self.items next.prefix c.new.result.items) made
+    ∙ ap (λ (l : List Frozen). state_in (work_in (inside.next + 1) inside.job inside.waiting.items) inside.shared after.manifest l next.prefix c.new.result.items)
     new_files
-    ∙ ap (λ (l : List ℕ). state_in inside.shared after.manifest (files ++ part ∷ []) l c.new.result.items) new_prefix
-    ∙ ap (λ (l : List (List ℕ)). state_in inside.shared after.manifest (files ++ part ∷ []) prefix l) new_messages in
+    ∙ ap (λ (l : List ℕ). state_in (work_in (inside.next + 1) inside.job inside.waiting.items) inside.shared after.manifest (files ++ part ∷ []) l c.new.result.items) new_prefix
+    ∙ ap (λ (l : List (List ℕ)). state_in (work_in (inside.next + 1) inside.job inside.waiting.items) inside.shared after.manifest (files ++ part ∷ []) prefix l) new_messages in
     rw (← c.self.view_is) (
       c.if-self.false,
       may,
       subst (λ (x : State). IsMovedOn (D.honest d) s x) (sym new_state)
-          (is_moved D.honest D.marks D.held inside.shared d d1 inside.slots inside.last inside.end inside.total carry files
+          (is_moved D.honest D.marks D.held (work_in inside.next inside.job inside.waiting.items) inside.shared d d1 inside.slots inside.last inside.end inside.total carry files
           front
           messages part counted.valid all still part_is),
       ap (λ (x : Entry). x.file) counted.last_is,
@@ -492,13 +514,13 @@ returns-in-Ok-move_on-clause-step g c =
     let inside = c.self.inside in
     let d = inside.disk in
     let m = inside.slots.current in
-    let s : State = state_in inside.shared m inside.files.items inside.prefix inside.messages.items in
-    let counted = (c.self.invariant).counted in
+    let s : State = state_in (work_in inside.next inside.job inside.waiting.items) inside.shared m inside.files.items inside.prefix inside.messages.items in
+    let counted = (c.self.invariant.0).counted in
     let len : vec_len inside.messages ≡ length inside.messages.items = search rules in
     let count : c.len-count.result ≡ length s.active.messages = c.len-count.ensures ∙ len in
     let some : s.active.messages ≢ [] =
     λ is. omega (arith, (c.in_ok-next.ensures.may).some, count, ap (λ (l : List (List ℕ)). length l) is) in
-    let still = (c.self.invariant).still_open c.if-self.false in
+    let still = (c.self.invariant.0).still_open c.if-self.false in
     let next = c.in_ok-next.next in
     let carry = inside.carry in
     let prefix = prefix_of carry in
@@ -507,16 +529,16 @@ returns-in-Ok-move_on-clause-step g c =
     let given = c.as_slice.result.now in
     let kept_prefix : given ≡ prefix = c.as_slice.ensures ∙ c.in_ok-next.ensures.prefix in
     let made : next.manifest ≡ after.manifest = c.in_ok-next.ensures.manifest
-    ∙ ap (λ (n : ℕ). next_manifest m n c.len-count.result m.next (length prefix)) counted.end_is
-    ∙ ap (λ (n : ℕ). next_manifest m (end_of s) n m.next (length prefix)) count in
+    ∙ ap (λ (n : ℕ). next_manifest m n c.len-count.result inside.next (length prefix)) counted.end_is
+    ∙ ap (λ (n : ℕ). next_manifest m (end_of s) n inside.next (length prefix)) count in
     let valid : IsValidManifest after.manifest = subst IsValidManifest made c.in_ok-next.ensures.valid in
     let slot_is : c.file.result ≡ file_of (other inside.slots.current_slot) =
     c.file.ensures ∙ ap file_of c.other-slot.ensures in
-    let move : IsTrue (D.honest d) → IsMove (D.held d) inside.slots inside.last.file inside.end m.next c.file.result
+    let move : IsTrue (D.honest d) → IsMove (D.held d) inside.slots inside.last.file inside.end inside.next c.file.result
     inside.slots.other_open given c.as_slice-2.result.now s = λ h. record {
       active_is = ap (λ (x : Entry). x.file) (sym counted.last_is);
       next_is = refl;
-      next_from = omega arith;
+      next_from = counted.next;
       end_is = sym counted.end_is;
       slot_is = sym slot_is;
       open_is = refl;
@@ -532,7 +554,7 @@ returns-in-Ok-move_on-clause-step g c =
       few = (c.in_ok-next.ensures.may).few;
       numbers = (
         (c.in_ok-next.ensures.may).next,
-        omega (arith, (c.in_ok-next.ensures.may).generation),
+        omega (arith, (c.in_ok-next.ensures.may).generation, c.generations_kept-kept.ensures),
       );
     } in
     let raw = c.in-Ok-move_on.part in
@@ -553,19 +575,19 @@ returns-in-Ok-move_on-clause-step g c =
     let front = inside.prefix in
     let messages = inside.messages.items in
     let part_is = λ (h : IsTrue (D.honest d)). c.in-Ok-move_on.ensures.part h inside.slots s (move h) in
-    let all = (c.self.invariant).files_are in
+    let all = (c.self.invariant.0).files_are in
     let new_prefix : next.prefix ≡ prefix = c.in_ok-next.ensures.prefix in
     let new_files : c.push_reserved.new.self.items ≡ files ++ part ∷ [] = c.push_reserved.ensures.items
     ∙ ap (λ (l : List Frozen). l ++ c.named.result ∷ []) c.reserve.ensures.items
     ∙ ap (λ (x : Frozen). files ++ x ∷ []) named in
     let new_messages : c.new.result.items ≡ [] = c.new.ensures.items in
-    let new_state : state_in inside.shared next.manifest c.push_reserved.new.self.items next.prefix c.new.result.items
-    ≡ state_in inside.shared after.manifest (files ++ part ∷ []) prefix [] =
-    ap (λ (x : Manifest). state_in inside.shared x c.push_reserved.new.self.items next.prefix c.new.result.items) made
-    ∙ ap (λ (l : List Frozen). state_in inside.shared after.manifest l next.prefix c.new.result.items)
+    let new_state : state_in (work_in (inside.next + 1) inside.job inside.waiting.items) inside.shared next.manifest c.push_reserved.new.self.items next.prefix c.new.result.items
+    ≡ state_in (work_in (inside.next + 1) inside.job inside.waiting.items) inside.shared after.manifest (files ++ part ∷ []) prefix [] =
+    ap (λ (x : Manifest). state_in (work_in (inside.next + 1) inside.job inside.waiting.items) inside.shared x c.push_reserved.new.self.items next.prefix c.new.result.items) made
+    ∙ ap (λ (l : List Frozen). state_in (work_in (inside.next + 1) inside.job inside.waiting.items) inside.shared after.manifest l next.prefix c.new.result.items)
     new_files
-    ∙ ap (λ (l : List ℕ). state_in inside.shared after.manifest (files ++ part ∷ []) l c.new.result.items) new_prefix
-    ∙ ap (λ (l : List (List ℕ)). state_in inside.shared after.manifest (files ++ part ∷ []) prefix l) new_messages in
+    ∙ ap (λ (l : List ℕ). state_in (work_in (inside.next + 1) inside.job inside.waiting.items) inside.shared after.manifest (files ++ part ∷ []) l c.new.result.items) new_prefix
+    ∙ ap (λ (l : List (List ℕ)). state_in (work_in (inside.next + 1) inside.job inside.waiting.items) inside.shared after.manifest (files ++ part ∷ []) prefix l) new_messages in
     rw (← c.self.view_is) (acknowledged D.honest D.moment D.left_since _ _ _ _ c.move_on.ensures.honest
     (λ h. by D.moment D.left_since d d1 (StandsForEither (reopened s) (reopened (moved_on s given)))
     (StandsBeforeOrAfter s (λ x. IsMovedOn true s x)) (c.move_on.ensures.any_moment h inside.slots s (move h))
@@ -581,13 +603,13 @@ returns-in-Ok-move_on-clause-step g c =
       still.segment,
       (λ t. refl),
       new_state
-          ∙ same_state D.honest D.marks D.held inside.shared d d1 inside.slots inside.last inside.end inside.total carry
+          ∙ same_state D.honest D.marks D.held (work_in inside.next inside.job inside.waiting.items) inside.shared d d1 inside.slots inside.last inside.end inside.total carry
           files front
           messages part counted.valid all (part_is h),
     ))
     c.if-self.false c.if-self.false
     (λ h image left. stands_for _ _ image
-    (((invariant_of-self-in-Ok-move_on g c).still_open c.if-self.false).kept.known h image
+    (((invariant_of-self-in-Ok-move_on g c).0.still_open c.if-self.false).kept.known h image
     (g.met.D.Disk.only_now d1 image h left))))
 
 pub overflow_cast-self : goal.overflow_cast-self
@@ -605,13 +627,14 @@ pub invariant_of-self : goal.invariant_of-self
 invariant_of-self g c =
     let D = g.D.Disk in
     let inside = c.self.inside in
-    let d = inside.disk in
     let m = inside.slots.current in
-    let s : State = state_in inside.shared m inside.files.items inside.prefix inside.messages.items in
-    let counted = (c.self.invariant).counted in
-    subst (λ (l : List Frozen). IsArchive D.honest D.marks D.held d inside.slots inside.last
-    inside.end
-    inside.total inside.carry l (state_in inside.shared m l inside.prefix inside.messages.items) inside.closed)
+    let work = (work_in inside.next inside.job inside.waiting.items) in
+    let S : List Frozen → State = λ l.
+    state_in (work_in inside.next inside.job inside.waiting.items) inside.shared m l inside.prefix inside.messages.items in
+    subst (λ (l : List Frozen). IsArchive D.honest D.marks D.held inside.disk inside.slots inside.last
+    inside.end inside.total inside.carry l (S l) inside.closed
+    × IsUnderWay D.honest D.marks D.held inside.disk (S l) work inside.closed
+    × HasOwnFiles inside.shared l work)
     (sym c.reserve.ensures.items) c.self.invariant
 
 pub invariant_of-self-in-Err-move_on : goal.invariant_of-self-in-Err-move_on
@@ -619,13 +642,21 @@ invariant_of-self-in-Err-move_on g c =
     let D = g.D.Disk in
     let inside = c.self.inside in
     let m = inside.slots.current in
-    subst (λ (l : List Frozen). IsArchive D.honest D.marks D.held c.move_on.new.disk inside.slots inside.last inside.end
-    inside.total inside.carry l (state_in inside.shared m l inside.prefix inside.messages.items) true)
-    (sym c.reserve.ensures.items)
-    (failed_archive D.honest D.marks D.held inside.disk c.move_on.new.disk inside.slots inside.last inside.end
-    inside.total inside.carry inside.files.items
-    (state_in inside.shared m inside.files.items inside.prefix inside.messages.items) inside.closed c.self.invariant
-    c.move_on.ensures.honest)
+    let work = (work_in inside.next inside.job inside.waiting.items) in
+    let S : List Frozen → State = λ l.
+    state_in (work_in inside.next inside.job inside.waiting.items) inside.shared m l inside.prefix inside.messages.items in
+    let d1 = c.move_on.new.disk in
+    subst (λ (l : List Frozen). IsArchive D.honest D.marks D.held d1 inside.slots inside.last inside.end
+    inside.total inside.carry l (S l) true × IsUnderWay D.honest D.marks D.held d1 (S l) work true
+    × HasOwnFiles inside.shared l work) (sym c.reserve.ensures.items) (
+      failed_archive D.honest D.marks D.held inside.disk d1 inside.slots inside.last inside.end
+          inside.total inside.carry inside.carry inside.files.items (S inside.files.items) inside.closed
+          c.self.invariant.0 c.move_on.ensures.honest,
+      goes_on (S inside.files.items) (record { front = inside.prefix; messages = inside.messages.items }) inside.shared
+          D.honest D.marks D.held inside.disk d1 inside.closed true c.move_on.ensures.honest (λ is. absurd (cc))
+          (λ is. absurd (cc)) (λ is. absurd (cc)) work (c.self.invariant.1),
+      c.self.invariant.2,
+    )
 
 pub returns-in-Err-clause-cause : goal.returns-in-Err-clause-cause
 returns-in-Err-clause-cause g c =

@@ -1,4 +1,3 @@
-use Rattle.std.proofs.Common.{◌≡◌}
 use Rattle.flow_segment.proofs.Carrying.{taken_only, was_taken}
 use Rattle.flow_segment.proofs.carry.Carry.take.Goals as goal
 

@@ -1,0 +1,28 @@
+use Rattle.std.proofs.Common.{refl, arith}
+use Rattle.flow_rolled.specs.Stored.{export_time}
+use Rattle.flow_archive.specs.Sources.{of_disk, of_rows}
+use Rattle.flow_archive.proofs.SourceSums.{err_is, file_refused, file_sums, not_read}
+use Rattle.flow_archive.proofs.sources.sum_file.Goals as goal
+
+pub returns-in_err-time-clause-given : goal.returns-in_err-time-clause-given
+returns-in_err-time-clause-given g c = λ honest table is.
+    not_read _ _ c.in_err-time.field-0.0 c.from_residual.result
+    (err_is c.from_residual.result (of_disk c.in_err-time.field-0.0) c.from_residual.ensures.1)
+
+pub returns-in_err-sum_rows-clause-given : goal.returns-in_err-sum_rows-clause-given
+returns-in_err-sum_rows-clause-given g c = λ honest table is.
+    file_refused c.args.width c.args.wide (omega (arith, c.ranges.width.fits)) c.args.part.now.octets table is
+    c.new-rows.result
+    c.new-rows.ensures (export_time c.args.part.now.octets) c.args.part.now c.in_err-sum_rows.field-0.0
+    c.from_residual-in_err-sum_rows.result refl (c.in_err-sum_rows.ensures.refused honest)
+    (err_is c.from_residual-in_err-sum_rows.result (of_rows c.in_err-sum_rows.field-0.0)
+    c.from_residual-in_err-sum_rows.ensures.1)
+
+pub returns-clause-given : goal.returns-clause-given
+returns-clause-given g c = λ honest table is. (
+  file_sums c.args.width c.args.wide (omega (arith, c.ranges.width.fits)) c.args.part.now.octets table is
+      c.new-rows.result
+      c.new-rows.ensures (export_time c.args.part.now.octets) c.sum_rows.new.rows
+      (c.in_ok-sum_rows.ensures.added honest),
+  c.in_ok-time.ensures.time honest,
+)

@@ -1,0 +1,48 @@
+-- The octets of the file that a job makes.
+use Rattle.std.specs.Prelude.{◌≡◌, ◌⊎◌, ℕ, ◌+◌, ◌<◌, ◌≤◌, ◌^◌, List, Option, Some, None}
+use Rattle.flow_rolled.specs.Rollup.{IsRollup}
+use Rattle.flow_archive.specs.declared.refusal.ArchiveError.{ArchiveError}
+use Rattle.flow_archive.specs.declared.refusal.ArchiveError.TheVariants.{Message, OutOfMemory, NumbersSpent, NotEmpty}
+use Rattle.flow_archive.specs.declared.refusal.ArchiveError.TheVariants.{Fault, NoRoom, ManifestFull, NothingToSeal}
+use Rattle.flow_archive.specs.declared.refusal.ArchiveError.TheVariants.{Closed}
+use Rattle.flow_archive.specs.declared.refusal.ArchiveError.TheVariants.{Damaged, SourceFault, RollBusy, NoRoll}
+use Rattle.flow_archive.specs.declared.refusal.ArchiveError.TheVariants.{RollCount, RollNotDone, Pinned, NothingToRetire}
+use Rattle.flow_archive.specs.UnderWay.{Made, Rolling}
+
+-- All sources are read, and there is a number for the file, and one for the manifest that will name it.
+pub record MayMake (next generation : ℕ) (r : Rolling) : Type 0 where
+  pub all : r.sources ≤ r.read
+  pub file : next + 1 < 2 ^ 64
+  pub manifest : generation + 1 < 2 ^ 64
+
+-- the octets of a job's file: the rolled file of its sums, with its Export Time
+abbrev pub IsMade : Option Rolling → ℕ → ℕ → List ℕ → Type 0
+IsMade job next generation octets =
+    (r : Rolling) × (job ≡ Some r) × MayMake next generation r
+    × (rollup : IsRollup r.rows.width octets r.rows) × (rollup.time ≡ r.time)
+
+-- why there are none: the first of the refusals 44, 46, 25 that holds, or 11
+abbrev pub IsNotMade : Option Rolling → ℕ → ℕ → ArchiveError → Type 0
+IsNotMade job next generation NoRoll = job ≡ None
+IsNotMade job next generation RollNotDone = (r : Rolling) × (job ≡ Some r) × (r.read < r.sources)
+IsNotMade job next generation NumbersSpent =
+    (r : Rolling) × (job ≡ Some r) × (r.sources ≤ r.read) × ((2 ^ 64 ≤ next + 1) ⊎ (2 ^ 64 ≤ generation + 1))
+IsNotMade job next generation OutOfMemory = (r : Rolling) × (job ≡ Some r) × MayMake next generation r
+IsNotMade job next generation (Message fault) = ⊥
+IsNotMade job next generation NotEmpty = ⊥
+IsNotMade job next generation (Damaged file at) = ⊥
+IsNotMade job next generation SourceFault = ⊥
+IsNotMade job next generation Fault = ⊥
+IsNotMade job next generation NoRoom = ⊥
+IsNotMade job next generation ManifestFull = ⊥
+IsNotMade job next generation NothingToSeal = ⊥
+IsNotMade job next generation RollBusy = ⊥
+IsNotMade job next generation RollCount = ⊥
+IsNotMade job next generation Pinned = ⊥
+IsNotMade job next generation NothingToRetire = ⊥
+IsNotMade job next generation Closed = ⊥
+
+-- a job with the file that it has made
+abbrev pub with_made : Made → Option Rolling → Option Rolling
+with_made f None = None
+with_made f (Some r) = Some (record r { staged = Some f })

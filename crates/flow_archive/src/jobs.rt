@@ -1,0 +1,160 @@
+//! The jobs of an archive, up to the making of their files.
+
+ghost use Rattle.std.specs.Prelude.{◌≡◌, ◌<◌, IsTrue, List, [], ◌∷◌, ◌++◌, OnErr, OnOk};
+ghost use Rattle.flow_disk.specs.Cause.{HasCause};
+ghost use Rattle.flow_manifest.specs.declared.following.JobKind.TheVariants.{Merge, Roll};
+ghost use Rattle.flow_manifest.specs.declared.manifest.Manifest.{Manifest};
+ghost use Rattle.flow_recover.specs.Jobs.{width_made, IsJobSum};
+ghost use Rattle.flow_recover.specs.State.{Part};
+ghost use Rattle.flow_archive.specs.Advancing.{IsTaken, IsTakenIn};
+ghost use Rattle.flow_archive.specs.JobAnswers.{begun, dropped, AnswersBegin, AnswersDrop, AnswersStep};
+ghost use Rattle.flow_archive.specs.JobAnswers.{IsStagedGone, IsStepped};
+ghost use Rattle.flow_archive.specs.Seen.{IsStep};
+ghost use Rattle.flow_archive.specs.Sources.{IsJobTime, IsSource};
+
+use crate::archive::Archive;
+use crate::owned::FrozenFile;
+use crate::refusal::ArchiveError;
+use crate::rolling::{Rolling, sources_from, width_made};
+use crate::sources::SourceError;
+use flow_disk::{Disk, Faults, SealedFile};
+use flow_manifest::{JobKind, count_of};
+use std::alloc::Global;
+
+impl<D: Disk> Archive<D> {
+    /// Begins a job that makes one rolled file of the `count` oldest sealed segments. It takes no memory, and doesn't
+    /// call the device. Refusals, the first that holds: 49 Closed; 43 RollBusy, where a job is under way; 45 RollCount,
+    /// where there aren't so many sealed segments, or none are asked for.
+    pub fn roll_begin(&mut self, alloc: Global, count: u32) -> Result<(), ArchiveError>
+        ensures answers { AnswersBegin self.old.closed self.old.state Roll count result self.new.state }
+        ensures disk { self.new.disk ≡ self.old.disk }
+        ensures step { IsStep D.honest D.moment D.left_since self.old self.new
+            (λ after. after ≡ begun self.old.state Roll count) result }
+        ensures cause { HasCause ArchiveError.Fault (D.faults self.old.disk) (D.faults self.new.disk) result }
+    {
+        self.begin(alloc, JobKind::Roll, count)
+    }
+
+    /// Begins a job that makes one wide file of the `count` oldest rolled files. Else it is as `roll_begin`.
+    pub fn merge_begin(&mut self, alloc: Global, count: u32) -> Result<(), ArchiveError>
+        ensures answers { AnswersBegin self.old.closed self.old.state Merge count result self.new.state }
+        ensures disk { self.new.disk ≡ self.old.disk }
+        ensures step { IsStep D.honest D.moment D.left_since self.old self.new
+            (λ after. after ≡ begun self.old.state Merge count) result }
+        ensures cause { HasCause ArchiveError.Fault (D.faults self.old.disk) (D.faults self.new.disk) result }
+    {
+        self.begin(alloc, JobKind::Merge, count)
+    }
+
+    /// Reads one source of the job that is under way, a piece at a time, merges its sums into the job's, and answers how
+    /// many sources are left. Where none is left nothing is read. Refusals, the first that holds: 49 Closed; 44 NoRoll;
+    /// 20 Damaged, of a source that isn't what its entry says, or at octet 0 where sums would pass their types; 30 where
+    /// the device failed; and 11 OutOfMemory. None of them changes anything, and the archive stays open.
+    pub fn roll_step(
+        &mut self,
+        alloc: Global,
+        faults: &mut Faults<D::Sealed>,
+    ) -> Result<u32, ArchiveError>
+        ensures answers { AnswersStep (D.honest self.old.disk) self.old.closed self.old.state result self.new.state }
+        ensures disk { self.new.disk ≡ self.old.disk }
+        ensures step { IsStep D.honest D.moment D.left_since self.old self.new
+            (λ after. IsStepped self.old.state after) result }
+        ensures unread { HasCause ArchiveError.SourceFault faults.old faults.new result }
+    {
+        if self.closed {
+            return Err(ArchiveError::Closed);
+        }
+        let Some(job) = &mut self.job else {
+            return Err(ArchiveError::NoRoll);
+        };
+        if job.read == job.sources {
+            return Ok(0);
+        }
+        let manifest = &self.slots.current;
+        let from = sources_from(job.kind, manifest.entries.as_slice());
+        let source = &self.files[from + job.read as usize];
+        match take_source(alloc, job, source, manifest.width, faults) {
+            Ok(()) => {}
+            Err(e) => return Err(e.of_source(source.number())),
+        }
+        Ok(job.sources - job.read)
+    }
+
+    /// Gives the job up that is under way, and removes the file that it has made. It takes no memory. Refusals, the first
+    /// that holds: 49 Closed; 44 NoRoll. After 30 Fault the archive is closed, and has no job.
+    pub fn roll_drop(&mut self) -> Result<(), ArchiveError>
+        ensures answers { AnswersDrop self.old.closed self.old.state result self.new.state }
+        ensures removed { OnOk result (IsStagedGone (D.marks self.new.disk) self.old.state) }
+        ensures step { IsStep D.honest D.moment D.left_since self.old self.new
+            (λ after. after ≡ dropped self.old.state) result }
+        ensures cause { HasCause ArchiveError.Fault (D.faults self.old.disk) (D.faults self.new.disk) result }
+    {
+        if self.closed {
+            return Err(ArchiveError::Closed);
+        }
+        let Some(job) = self.job.take() else {
+            return Err(ArchiveError::NoRoll);
+        };
+        let Some(file) = job.into_file() else {
+            return Ok(());
+        };
+        match self.disk.retire(file) {
+            Ok(()) => Ok(()),
+            Err(_) => {
+                self.closed = true;
+                Err(ArchiveError::Fault)
+            }
+        }
+    }
+
+    /// Begins a job of a kind.
+    fn begin(&mut self, alloc: Global, kind: JobKind, count: u32) -> Result<(), ArchiveError>
+        ensures answers { AnswersBegin self.old.closed self.old.state kind count result self.new.state }
+        ensures disk { self.new.disk ≡ self.old.disk }
+        ensures step { IsStep D.honest D.moment D.left_since self.old self.new
+            (λ after. after ≡ begun self.old.state kind count) result }
+        ensures cause { HasCause ArchiveError.Fault (D.faults self.old.disk) (D.faults self.new.disk) result }
+    {
+        if self.closed {
+            return Err(ArchiveError::Closed);
+        }
+        if self.job.is_some() {
+            return Err(ArchiveError::RollBusy);
+        }
+        let manifest = &self.slots.current;
+        let there = count_of(manifest.entries.as_slice(), kind.source());
+        if count == 0 || there < count as usize {
+            return Err(ArchiveError::RollCount);
+        }
+        let width = width_made(kind, manifest);
+        self.job = Some(Rolling::new(alloc, kind, count, width));
+        Ok(())
+    }
+}
+
+/// Reads the next source of a job, and merges its sums into those of the job. A refusal changes nothing. It takes memory
+/// for the sums of both, besides what the reading takes.
+fn take_source<S: SealedFile>(
+    alloc: Global,
+    job: &mut Rolling<S>,
+    source: &FrozenFile<S>,
+    width: u32,
+    faults: &mut Faults<S>,
+) -> Result<(), SourceError>
+    requires width { 0 < width }
+    requires left { job.old.read < job.old.sources }
+    ensures kept { OnErr result (job.new ≡ job.old) }
+    ensures taken { OnOk result (IsTaken job.old job.new) }
+    ensures cause { HasCause SourceError.Fault faults.old faults.new result }
+    // On an honest disk: the sums and the greatest Export Time are those of one part more.
+    ensures read { IsTrue source.now.honest → (m : Manifest) (parts : List Part) (p : Part) → width ≡ m.width
+        → job.old.rows.width ≡ width_made job.old.kind m → IsSource job.old.kind m source.now p
+        → IsJobSum job.old.kind m parts job.old.rows → IsJobTime job.old.kind parts job.old.time
+        → IsTakenIn job.old.kind m (parts ++ p ∷ []) result job.new }
+{
+    let read = source.summed(alloc, width, job.rows.width(), faults)?;
+    job.rows.merge(&read.rows)?;
+    job.time = job.time.max(read.time);
+    job.read += 1;
+    Ok(())
+}

@@ -1,0 +1,165 @@
+//! What a job reads of one source.
+
+ghost use Rattle.std.specs.Prelude.{◌≡◌, ◌<◌, ◌^◌, IsTrue, IfOk};
+ghost use Rattle.flow_disk.specs.Cause.{HasCause};
+ghost use Rattle.flow_manifest.specs.declared.manifest.Entry.{Entry};
+ghost use Rattle.flow_measure.specs.History.{flows_in};
+ghost use Rattle.flow_measure.specs.Sums.{table_of, widened, Table};
+ghost use Rattle.flow_rolled.specs.Rollup.{IsRollup};
+ghost use Rattle.flow_rolled.specs.Stored.{export_time};
+ghost use Rattle.flow_segment.specs.Carry.{Carry};
+ghost use Rattle.flow_segment.specs.PartFlows.{greatest_time};
+ghost use Rattle.flow_recover.specs.State.{Part};
+ghost use Rattle.flow_recover.specs.Chain.{IsSegment};
+ghost use Rattle.flow_recover.specs.Standing.{IsSealedAt};
+ghost use Rattle.flow_archive.specs.Sources.{of_disk, of_part, of_rows, of_scan, of_source, of_sums, IsSummed};
+
+use crate::refusal::ArchiveError;
+use flow_disk::{DiskError, Faults, SealedFile};
+use flow_gate::ScanError;
+use flow_measure::{Rows, SumError};
+use flow_rolled::{RolledPart, RowSumError, sum_rows};
+use flow_segment::{PartSumError, SealedPart, add_flows, templates_of};
+use std::alloc::Global;
+
+/// What is read of one source.
+#[derive(Drop)]
+pub(crate) struct Source {
+    /// Its sums.
+    pub(crate) rows: Rows,
+    /// The greatest Export Time in it, in seconds since 1970-01-01 00:00 UTC.
+    pub(crate) time: u32,
+}
+
+/// Why a source isn't summed.
+#[derive(Clone, Copy)]
+pub(crate) enum SourceError {
+    /// This file isn't what its entry says, from this octet on.
+    Damaged(u64, u64),
+    /// A sum would pass its type.
+    SumSpent,
+    /// The device failed in that call.
+    Fault,
+    /// A growth of memory was refused.
+    OutOfMemory,
+}
+
+impl SourceError {
+    /// What an archive answers, of the source with this number.
+    pub(crate) fn of_source(self, file: u64) -> ArchiveError
+        ensures { result ≡ of_source file self }
+    {
+        match self {
+            SourceError::Damaged(file, at) => ArchiveError::Damaged(file, at),
+            SourceError::SumSpent => ArchiveError::Damaged(file, 0),
+            SourceError::Fault => ArchiveError::SourceFault,
+            SourceError::OutOfMemory => ArchiveError::OutOfMemory,
+        }
+    }
+}
+
+impl From<DiskError> for SourceError {
+    ghost from_gives = { λ d e. e ≡ of_disk d };
+
+    fn from(error: DiskError) -> SourceError {
+        match error {
+            DiskError::Fault => SourceError::Fault,
+            DiskError::OutOfMemory => SourceError::OutOfMemory,
+        }
+    }
+}
+
+impl From<ScanError> for SourceError {
+    ghost from_gives = { λ s e. e ≡ of_scan s };
+
+    fn from(error: ScanError) -> SourceError {
+        match error {
+            ScanError::Damaged(file, at) => SourceError::Damaged(file, at),
+            ScanError::Fault => SourceError::Fault,
+            ScanError::OutOfMemory => SourceError::OutOfMemory,
+        }
+    }
+}
+
+impl From<PartSumError> for SourceError {
+    ghost from_gives = { λ s e. e ≡ of_part s };
+
+    fn from(error: PartSumError) -> SourceError {
+        match error {
+            PartSumError::Damaged(file, at) => SourceError::Damaged(file, at),
+            PartSumError::SumSpent => SourceError::SumSpent,
+            PartSumError::Fault => SourceError::Fault,
+            PartSumError::OutOfMemory => SourceError::OutOfMemory,
+        }
+    }
+}
+
+impl From<RowSumError> for SourceError {
+    ghost from_gives = { λ s e. e ≡ of_rows s };
+
+    fn from(error: RowSumError) -> SourceError {
+        match error {
+            RowSumError::Damaged(file, at) => SourceError::Damaged(file, at),
+            RowSumError::SumSpent => SourceError::SumSpent,
+            RowSumError::Fault => SourceError::Fault,
+            RowSumError::OutOfMemory => SourceError::OutOfMemory,
+        }
+    }
+}
+
+impl From<SumError> for SourceError {
+    ghost from_gives = { λ s e. e ≡ of_sums s };
+
+    fn from(error: SumError) -> SourceError {
+        match error {
+            SumError::SumSpent => SourceError::SumSpent,
+            SumError::OutOfMemory => SourceError::OutOfMemory,
+        }
+    }
+}
+
+/// The sums of a sealed segment's flows over intervals of `width` seconds. Its file is read once, a piece at a time.
+pub(crate) fn sum_segment<S: SealedFile>(
+    alloc: Global,
+    part: &SealedPart<S>,
+    width: u32,
+    faults: &mut Faults<S>,
+) -> Result<Source, SourceError>
+    requires { 0 < width }
+    ensures width { IfOk result (λ source. source.rows.width ≡ width) }
+    ensures cause { HasCause SourceError.Fault faults.old faults.new result }
+    // On an honest disk: where a segment of accepted messages stands there, the sums are those of its flows, and the
+    // greatest Export Time is that of its messages.
+    ensures given { IsTrue (S.honest part.now.reader) → (entry : Entry) (p : Part) (carry : Carry)
+        → part.now.prefix ≡ entry.prefix → part.now.length ≡ entry.length → part.now.messages ≡ entry.messages
+        → entry.messages < 2 ^ 48 → IsSealedAt (S.octets part.now.reader) entry p → (segment : IsSegment p carry)
+        → IsSummed (table_of width (flows_in segment.messages)) (greatest_time segment.messages) result }
+{
+    let mut templates = templates_of(alloc, part, faults)?;
+    let mut rows = Rows::new(alloc, width);
+    let time = add_flows(alloc, part, &mut templates, &mut rows, faults)?;
+    Ok(Source { rows, time })
+}
+
+/// The sums of a rolled file, which was rolled by `width`, over intervals of `wide`, both in seconds. It is read once, a
+/// piece at a time.
+pub(crate) fn sum_file<S: SealedFile>(
+    alloc: Global,
+    part: &RolledPart<S>,
+    width: u32,
+    wide: u32,
+    faults: &mut Faults<S>,
+) -> Result<Source, SourceError>
+    requires width { 0 < width }
+    requires wide { 0 < wide }
+    ensures width { IfOk result (λ source. source.rows.width ≡ wide) }
+    ensures cause { HasCause SourceError.Fault faults.old faults.new result }
+    // On an honest disk: where it is the rolled file of these sums.
+    ensures given { IsTrue part.now.honest → (table : Table) → IsRollup width part.now.octets table
+        → IsSummed (widened wide table) (export_time part.now.octets) result }
+{
+    let time = part.export_time(alloc, faults)?;
+    let mut rows = Rows::new(alloc, wide);
+    sum_rows(alloc, faults, part, width, &mut rows)?;
+    Ok(Source { rows, time })
+}
