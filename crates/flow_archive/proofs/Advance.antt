@@ -117,7 +117,7 @@ module _ (kind : JobKind) (m : Manifest) (ps : List Part) (p : Part) (rows : Tab
     (sums : IsJobSum kind m ps rows) (times : IsJobTime kind ps before) where
   pub not_taken : (new : Rolling) (e : SourceError) → IsRead kind m p (Err e)
       → IsTakenIn {X = Unit {0}} kind m (ps ++ p ∷ []) (Err e) new
-  not_taken new (Damaged file at) (one, time, source, its, never) = absurd never
+  not_taken new (Damaged at) (one, time, source, its, never) = absurd never
   not_taken new SumSpent (one, time, source, its, spent) = (
     merged rows one,
     job_more kind m ps p rows one sums source,

@@ -26,3 +26,8 @@ pub mod SourceStand
 pub mod Sharing
 pub mod Removing
 pub mod Dropping
+pub mod Marking
+pub mod Changed
+pub mod Fitting
+pub mod Inside
+pub mod Marked

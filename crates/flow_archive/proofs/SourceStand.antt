@@ -1,10 +1,10 @@
 -- Where the next source of a job stands, and the job once it has taken it.
 use Rattle.std.proofs.Common.{◌≡◌, ℕ, zero, suc, ◌+◌, ◌-◌, ◌<◌, ◌≤◌, ◌^◌, Bool, true, false, IsTrue, List, [], ◌∷◌}
 use Rattle.std.proofs.Common.{◌++◌, length}
-use Rattle.std.proofs.Common.{take, drop, get_or, refl, sym, ap, subst, ◌∙◌, arith, Option, Some, None, Result, Err}
+use Rattle.std.proofs.Common.{map, take, drop, get_or, refl, sym, ap, subst, ◌∙◌, arith, Option, Some, None, Result, Err}
 use Rattle.std.specs.Prelude.{min, IfSome}
 use Rattle.std.specs.List.{AllByRecursion}
-use Rattle.std.proofs.lemmas.List.{get_or-drop, get_or-take, length-drop, length-take-le, take_more}
+use Rattle.std.proofs.lemmas.List.{drop_more, get_or-drop, get_or-take, length-drop, length-take-le, take_more}
 use Rattle.std.proofs.lemmas.List.Sums.{sum_by-cons}
 use Rattle.flow_manifest.specs.declared.following.JobKind.{JobKind}
 use Rattle.flow_manifest.specs.declared.following.JobKind.TheVariants.{Merge, Roll}
@@ -15,6 +15,7 @@ use Rattle.flow_manifest.specs.declared.manifest.Kind.TheVariants.{Wide, Rolled,
 use Rattle.flow_manifest.specs.declared.manifest.Manifest.{Manifest}
 use Rattle.flow_manifest.specs.declared.slots.Slots.{Slots}
 use Rattle.flow_manifest.specs.Following.{count_before, count_of, front_of, messages_of, no_entry, source_of}
+use Rattle.flow_manifest.specs.Following.{sources_of}
 use Rattle.flow_manifest.specs.Manifest.{rank, IsValidManifest}
 use Rattle.flow_manifest.proofs.Followers.{all_sum, behind_short, front_long}
 use Rattle.flow_segment.specs.Carry.{Carry}
@@ -29,7 +30,7 @@ use Rattle.flow_archive.specs.declared.refusal.ArchiveError.TheVariants as refus
 use Rattle.flow_archive.specs.declared.sources.SourceError.{SourceError}
 use Rattle.flow_archive.specs.declared.sources.SourceError.TheVariants as source
 use Rattle.flow_archive.specs.Advancing.{IsTaken, IsTakenIn}
-use Rattle.flow_archive.specs.JobAnswers.{left_of, stepped, AnswersStep, HasJob}
+use Rattle.flow_archive.specs.JobAnswers.{left_of, stepped, AnswersStep, HasJob, IsNextFile}
 use Rattle.flow_archive.specs.Seen.{IsArchive}
 use Rattle.flow_archive.specs.Sources.{of_source, IsJobTime, IsSource}
 use Rattle.flow_archive.specs.UnderWay.{Made, Rolling, job_in, staged_in, IsRolling, IsStaged}
@@ -43,7 +44,7 @@ record AreAt (m : Manifest) (e : Entry) (p : Part) (f : Frozen) : Type 0 where
   after : Option Carry
   behind : IsPartBehind m e.kind before p after
 
-all_at : (P : Entry → Type 0) (es : List Entry) (i : ℕ) (d : Entry) → i < length es → AllByRecursion P es
+pub all_at : (P : Entry → Type 0) (es : List Entry) (i : ℕ) (d : Entry) → i < length es → AllByRecursion P es
     → P (get_or es i d)
 all_at P [] i d lt all = absurd (omega (arith, lt))
 all_at P (e ∷ es) zero d lt all = all.0
@@ -99,6 +100,13 @@ is_source m Merge e p f at kind few =
       behind.0,
     )
 
+pub entry_at : (honest : Bool) (es : List Entry) (fs : List Frozen) (i : ℕ) (e : Entry) (f : Frozen) → i < length es
+    → AreHeldAs honest es fs → (get_or fs i f).entry ≡ get_or es i e
+entry_at honest [] fs i e f lt held = absurd (omega (arith, lt))
+entry_at honest (x ∷ es) [] i e f lt held = absurd held
+entry_at honest (x ∷ es) (z ∷ fs) zero e f lt held = held.0.entry_is
+entry_at honest (x ∷ es) (z ∷ fs) (suc i) e f lt held = entry_at honest es fs i e f (omega (arith, lt)) held.1
+
 -- ---- the next source
 
 abbrev pub no_part : Part
@@ -143,6 +151,27 @@ module _ (s : State) (valid : IsValidManifest s.manifest) (kind : JobKind) (coun
         here.held.honest_is,
         is_source m kind e (get_or s.parts (place + read) no_part) f here (source_kind kind e.kind its)
             (omega (arith, messages_within (front_of m) (place + read) no_entry below, all_sum m valid, valid.all)),
+      )
+
+  -- its file, on every disk
+  pub next_file : (honest : Bool) (files : List Frozen) (f : Frozen) → f ≡ get_or files (place + read) f
+      → AreHeldAs honest (front_of m) files
+      → (others : List ℕ) × (map (λ (e : Entry). e.file) (drop read (sources_of kind count m.entries))
+      ≡ f.entry.file ∷ others)
+  next_file honest files f is held =
+      let sources = sources_of kind count m.entries in
+      let e = get_or (front_of m) (place + read) no_entry in
+      let long : length sources ≡ count = length-take-le count (drop place m.entries)
+      (omega (arith, behind_short m valid kind count few, length-drop place m.entries)) in
+      let own : get_or sources read no_entry ≡ e =
+      get_or-take count (drop place m.entries) read no_entry lt ∙ get_or-drop place m.entries read no_entry
+      ∙ sym (get_or-take (length m.entries - 1) m.entries (place + read) no_entry
+      (omega (arith, below, front_long m valid))) in
+      let entry : f.entry ≡ e =
+      ap (λ (x : Frozen). x.entry) is ∙ entry_at honest (front_of m) files (place + read) no_entry f below held in (
+        map (λ (x : Entry). x.file) (drop (read + 1) sources),
+        ap (map (λ (x : Entry). x.file)) (drop_more sources read no_entry (omega (arith, long, lt)))
+            ∙ ap (λ (x : Entry). x.file ∷ map (λ (y : Entry). y.file) (drop (read + 1) sources)) (own ∙ sym entry),
       )
 
   pub one_more : length s.parts ≡ length (front_of m) → take (read + 1) (source_parts kind count s)
@@ -226,46 +255,47 @@ one_less s j new is lt (same, width) =
 -- a refusal changes nothing
 pub not_stepped : (honest closed : Bool) (s after : State) (j new : Rolling) (number : ℕ) (e : SourceError)
     → closed ≡ false → s.job ≡ job_in (Some j) → j.read < j.sources → after ≡ s
+    → IsNextFile s (record { kind = j.kind; sources = j.sources; read = j.read; staged = staged_in j.staged }) number
     → (IsTrue honest → IsTakenIn {X = Unit {0}} j.kind s.manifest
     (take (j.read + 1) (source_parts j.kind j.sources s)) (Err e) new)
     → AnswersStep honest closed s (Err (of_source number e)) after
-not_stepped honest closed s after j new number (source.Damaged file at) up is lt same told = (
+not_stepped honest closed s after j new number (source.Damaged at) up is lt same next told = (
   up,
   (
     record { kind = j.kind; sources = j.sources; read = j.read; staged = staged_in j.staged },
     is,
-    (omega (arith, lt), λ h. absurd (told h)),
+    (omega (arith, lt), next, λ h. absurd (told h)),
   ),
   same,
 )
-not_stepped honest closed s after j new number source.SumSpent up is lt same told = (
+not_stepped honest closed s after j new number source.SumSpent up is lt same next told = (
   up,
   (
     record { kind = j.kind; sources = j.sources; read = j.read; staged = staged_in j.staged },
     is,
-    (omega (arith, lt), λ h. (refl, told h)),
+    (omega (arith, lt), next, λ h. (refl, told h)),
   ),
   same,
 )
-not_stepped honest closed s after j new number source.Fault up is lt same told = (
+not_stepped honest closed s after j new number source.Fault up is lt same next told = (
   up,
   (record { kind = j.kind; sources = j.sources; read = j.read; staged = staged_in j.staged }, is, omega (arith, lt)),
   same,
 )
-not_stepped honest closed s after j new number source.OutOfMemory up is lt same told = (
+not_stepped honest closed s after j new number source.OutOfMemory up is lt same next told = (
   up,
   (record { kind = j.kind; sources = j.sources; read = j.read; staged = staged_in j.staged }, is, omega (arith, lt)),
   same,
 )
 
 pub source_fault : (number : ℕ) (e : SourceError) → of_source number e ≡ refusal.SourceFault → e ≡ source.Fault
-source_fault number (source.Damaged file at) is = absurd (cc)
+source_fault number (source.Damaged at) is = absurd (cc)
 source_fault number source.SumSpent is = absurd (cc)
 source_fault number source.Fault is = refl
 source_fault number source.OutOfMemory is = absurd (cc)
 
 pub not_closing : (number : ℕ) (e : SourceError) → of_source number e ≡ refusal.Fault → ⊥
-not_closing number (source.Damaged file at) is = cc
+not_closing number (source.Damaged at) is = cc
 not_closing number source.SumSpent is = cc
 not_closing number source.Fault is = cc
 not_closing number source.OutOfMemory is = cc

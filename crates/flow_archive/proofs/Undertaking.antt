@@ -14,16 +14,15 @@ use Rattle.flow_manifest.specs.Following.{count_of, source_of}
 use Rattle.flow_manifest.specs.Manifest.{head_of, IsInRange}
 use Rattle.flow_segment.specs.Carry.{Carry}
 use Rattle.flow_recover.specs.State.{Job, State, reopened}
-use Rattle.flow_recover.specs.Chain.{HandsOn}
 use Rattle.flow_recover.specs.Jobs.{width_made}
-use Rattle.flow_recover.specs.Kept.{IsCounted}
-use Rattle.flow_recover.specs.Standing.{IsKnown, StandsFor}
+use Rattle.flow_recover.specs.Standing.{StandsFor}
 use Rattle.flow_recover.proofs.Sourcing.{job_none}
 use Rattle.flow_archive.specs.Owned.{Frozen}
 use Rattle.flow_archive.specs.Seen.{IsArchive, IsStep, StandsBeforeOrAfter}
 use Rattle.flow_archive.specs.Sources.{IsJobTime}
 use Rattle.flow_archive.specs.UnderWay.{IsOnDisk, IsRolling, IsStaged, IsUnderWay, IsUnnamed, IsWaiting}
 use Rattle.flow_archive.specs.UnderWay.{Made, Rolling, Work, fresh, job_in, work_in}
+use Rattle.flow_archive.proofs.Directing.{beside_archive}
 
 -- ---- a state with another job
 
@@ -34,52 +33,12 @@ module _ (s : State) (job : Option Job) where
   abbrev now : State
   now = with_job s job
 
-  counted : (last : Entry) (end total : ℕ) → IsCounted s last end total → IsCounted now last end total
-  counted last end total was = record {
-    valid = was.valid;
-    next = was.next;
-    last_is = was.last_is;
-    end_is = was.end_is;
-    long = was.long;
-    total_is = was.total_is;
-    within = record { limit = was.within.limit; all = was.within.all };
-  }
-
-  hands : (carry : Carry) → HandsOn s carry → HandsOn now carry
-  hands carry was = record { sealed = was.sealed; parts = was.parts; active = was.active }
-
-  known : (slots : Slots) (image : ℕ → List ℕ) → IsKnown slots s image → IsKnown slots now image
-  known slots image was = record {
-    slots_are = was.slots_are;
-    current = was.current;
-    files = record {
-      parts = was.files.parts;
-      active = was.files.active;
-      within = record { limit = was.files.within.limit; all = was.files.within.all };
-      chained = (was.files.chained.0, hands was.files.chained.0 was.files.chained.1);
-    };
-  }
-
   pub job_archive : {D : Type 0} (honest : D → Bool) (marks : D → ℕ → Marks) (held : D → ℕ → Held) (d : D)
       (slots : Slots) (last : Entry) (end total : ℕ) (carry : Carry) (files : List Frozen) (closed : Bool)
       → IsArchive honest marks held d slots last end total carry files s closed
       → IsArchive honest marks held d slots last end total carry files now closed
-  job_archive honest marks held d slots last end total carry files closed was = record {
-    counted = counted last end total was.counted;
-    files_are = was.files_are;
-    stand = was.stand;
-    still_open = λ is.
-        let still = was.still_open is in record {
-          kept = record {
-            counted = counted last end total still.kept.counted;
-            ready = still.kept.ready;
-            known = λ h image left. known slots image (still.kept.known h image left);
-          };
-          segment = still.segment;
-          hands_on = λ h. hands carry (still.hands_on h);
-          frozen = still.frozen;
-        };
-  }
+  job_archive honest marks held d slots last end total carry files closed =
+      beside_archive s job s.waiting s.shared honest marks held d slots last end total carry files closed
 
   unnamed : (n : ℕ) → IsUnnamed s n → IsUnnamed now n
   unnamed n is = record { from = is.from; below = is.below; apart = is.apart }

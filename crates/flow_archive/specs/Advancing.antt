@@ -19,7 +19,7 @@ IsTaken old new = (new ≡ record old { read = old.read + 1; rows = new.rows; ti
 -- runs out.
 abbrev pub IsTakenIn : {X : Type 0} → JobKind → Manifest → List Part → Result X SourceError → Rolling → Type 0
 IsTakenIn kind m parts (Ok x) new = IsJobSum kind m parts new.rows × IsJobTime kind parts new.time
-IsTakenIn kind m parts (Err (Damaged file at)) new = ⊥
+IsTakenIn kind m parts (Err (Damaged at)) new = ⊥
 IsTakenIn kind m parts (Err SumSpent) new = (table : Table) × IsJobSum kind m parts table × (AllFit table → ⊥)
 IsTakenIn kind m parts (Err Fault) new = ⊤
 IsTakenIn kind m parts (Err OutOfMemory) new = ⊤

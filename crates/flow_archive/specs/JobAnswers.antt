@@ -1,10 +1,10 @@
 -- What an archive answers where it rolls, merges and removes files.
 use Rattle.std.specs.Prelude.{◌≡◌, ◌≢◌, ℕ, ◌+◌, ◌-◌, ◌<◌, ◌≤◌, ◌^◌, min, Bool, true, false, IsTrue, List, [], ◌∷◌}
-use Rattle.std.specs.Prelude.{take, Option, Some, None, Result, Ok, Err}
+use Rattle.std.specs.Prelude.{take, drop, map, Option, Some, None, Result, Ok, Err}
 use Rattle.flow_disk.specs.Disk.{Marks}
 use Rattle.flow_manifest.specs.declared.following.JobKind.{JobKind}
 use Rattle.flow_manifest.specs.declared.following.JobKind.TheVariants.{Roll, Merge}
-use Rattle.flow_manifest.specs.Following.{count_of, source_of}
+use Rattle.flow_manifest.specs.Following.{count_of, source_of, sources_of}
 use Rattle.flow_measure.specs.Sums.{Table, AllFit}
 use Rattle.flow_rolled.specs.Rollup.{IsRollup}
 use Rattle.flow_recover.specs.State.{Job, StagedFile, State}
@@ -66,6 +66,11 @@ stepped job = record job { read = min (job.read + 1) job.sources }
 abbrev pub HasJob : State → (Job → Type 0) → Type 0
 HasJob s Holds = (job : Job) × (s.job ≡ Some job) × Holds job
 
+-- This is the file of the next source: the first of those that are left.
+abbrev pub IsNextFile : State → Job → ℕ → Type 0
+IsNextFile s job file = (others : List ℕ)
+    × (map (λ e. e.file) (drop job.read (sources_of job.kind job.sources s.manifest.entries)) ≡ file ∷ others)
+
 -- the sums of the sources read so far and of the next one don't fit their types
 abbrev pub IsSpent : State → Job → Type 0
 IsSpent s job =
@@ -75,9 +80,9 @@ IsSpent s job =
 abbrev pub IsStepped : State → State → Type 0
 IsStepped s after = HasJob s (λ job. after ≡ record s { job = Some (stepped job) })
 
--- How many sources are left behind this step; or the first of the refusals 49, 44, 20 that holds: on an honest disk 20
--- comes only where sums don't fit their types. In place of the answer where a source is left it may be 11, or 30 where
--- a read failed. Every refusal changes nothing.
+-- How many sources are left behind this step; or the first of the refusals 49, 44, 20 that holds: 20 is of the next
+-- source's file, and on an honest disk it comes only where sums don't fit their types. In place of the answer where a
+-- source is left it may be 11, or 30 where a read failed. Every refusal changes nothing.
 abbrev pub AnswersStep : Bool → Bool → State → Result ℕ ArchiveError → State → Type 0
 AnswersStep honest closed s (Ok left) after =
     (closed ≡ false)
@@ -85,7 +90,9 @@ AnswersStep honest closed s (Ok left) after =
 AnswersStep honest closed s (Err Closed) after = (closed ≡ true) × (after ≡ s)
 AnswersStep honest closed s (Err NoRoll) after = (closed ≡ false) × (s.job ≡ None) × (after ≡ s)
 AnswersStep honest closed s (Err (Damaged file at)) after =
-    (closed ≡ false) × HasJob s (λ job. (1 ≤ left_of job) × (IsTrue honest → (at ≡ 0) × IsSpent s job)) × (after ≡ s)
+    (closed ≡ false)
+    × HasJob s (λ job. (1 ≤ left_of job) × IsNextFile s job file × (IsTrue honest → (at ≡ 0) × IsSpent s job))
+    × (after ≡ s)
 AnswersStep honest closed s (Err SourceFault) after =
     (closed ≡ false) × HasJob s (λ job. 1 ≤ left_of job) × (after ≡ s)
 AnswersStep honest closed s (Err OutOfMemory) after =

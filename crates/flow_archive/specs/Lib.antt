@@ -14,3 +14,4 @@ pub mod JobAnswers
 pub mod Runs
 pub mod Beginning
 pub mod Advancing
+pub mod Marks

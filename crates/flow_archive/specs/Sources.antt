@@ -45,18 +45,18 @@ of_disk disk.Fault = Fault
 of_disk disk.OutOfMemory = OutOfMemory
 
 abbrev pub of_scan : ScanError → SourceError
-of_scan (scan.Damaged file at) = Damaged file at
+of_scan (scan.Damaged file at) = Damaged at
 of_scan scan.Fault = Fault
 of_scan scan.OutOfMemory = OutOfMemory
 
 abbrev pub of_part : PartSumError → SourceError
-of_part (part.Damaged file at) = Damaged file at
+of_part (part.Damaged file at) = Damaged at
 of_part part.SumSpent = SumSpent
 of_part part.Fault = Fault
 of_part part.OutOfMemory = OutOfMemory
 
 abbrev pub of_rows : RowSumError → SourceError
-of_rows (rolled.Damaged file at) = Damaged file at
+of_rows (rolled.Damaged file at) = Damaged at
 of_rows rolled.SumSpent = SumSpent
 of_rows rolled.Fault = Fault
 of_rows rolled.OutOfMemory = OutOfMemory
@@ -67,7 +67,7 @@ of_sums sum.OutOfMemory = OutOfMemory
 
 -- and as an archive's answer, of the source with this number
 abbrev pub of_source : ℕ → SourceError → ArchiveError
-of_source number (Damaged file at) = answer.Damaged file at
+of_source number (Damaged at) = answer.Damaged number at
 of_source number SumSpent = answer.Damaged number 0
 of_source number Fault = answer.SourceFault
 of_source number OutOfMemory = answer.OutOfMemory
@@ -76,7 +76,7 @@ of_source number OutOfMemory = answer.OutOfMemory
 -- memory runs out.
 abbrev pub IsSummed : Table → ℕ → Result Source SourceError → Type 0
 IsSummed sums time (Ok source) = (source.rows ≡ sums) × (source.time ≡ time)
-IsSummed sums time (Err (Damaged file at)) = ⊥
+IsSummed sums time (Err (Damaged at)) = ⊥
 IsSummed sums time (Err SumSpent) = AllFit sums → ⊥
 IsSummed sums time (Err Fault) = ⊤
 IsSummed sums time (Err OutOfMemory) = ⊤

@@ -6,6 +6,7 @@ ghost use Rattle.flow_disk.specs.Cause.{HasCause};
 ghost use Rattle.flow_gate.specs.Steps.{slices};
 ghost use Rattle.flow_manifest.specs.declared.manifest.Kind.TheVariants.{Rolled, Sealed};
 ghost use Rattle.flow_manifest.specs.Following.{count_of};
+ghost use Rattle.flow_manifest.specs.Manifest.{IsValidManifest};
 ghost use Rattle.flow_measure.specs.History.{History};
 ghost use Rattle.flow_measure.specs.View.{view_of};
 ghost use Rattle.flow_snapshot.specs.Changes.{counts_of};
@@ -82,6 +83,8 @@ impl<D: Disk> Archive<D> {
         // While it is open, all that a stop would leave stands for its state.
         ensures stands { IsTrue (D.honest self.now.disk) → self.now.closed ≡ false
             → AllImages (D.held self.now.disk) (λ image. StandsFor image (reopened self.now.state)) }
+        // On every disk, open or not, its manifest is a valid one.
+        ensures valid { IsValidManifest self.now.state.manifest }
     {
         self.closed
     }

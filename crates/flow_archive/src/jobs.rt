@@ -1,10 +1,13 @@
 //! The jobs of an archive, up to the making of their files.
 
-ghost use Rattle.std.specs.Prelude.{◌≡◌, ◌<◌, IsTrue, List, [], ◌∷◌, ◌++◌, OnErr, OnOk};
+ghost use Rattle.std.specs.Prelude.{◌≡◌, ◌≢◌, ℕ, ◌<◌, IsTrue, List, [], ◌∷◌, ◌++◌, OnErr, OnOk};
 ghost use Rattle.flow_disk.specs.Cause.{HasCause};
 ghost use Rattle.flow_manifest.specs.declared.following.JobKind.TheVariants.{Merge, Roll};
 ghost use Rattle.flow_manifest.specs.declared.manifest.Manifest.{Manifest};
+ghost use Rattle.flow_measure.specs.History.{History};
+ghost use Rattle.flow_snapshot.specs.Totals.{IsWithinLimits};
 ghost use Rattle.flow_recover.specs.Jobs.{width_made, IsJobSum};
+ghost use Rattle.flow_recover.specs.Shelved.{HasHistory};
 ghost use Rattle.flow_recover.specs.State.{Part};
 ghost use Rattle.flow_archive.specs.Advancing.{IsTaken, IsTakenIn};
 ghost use Rattle.flow_archive.specs.JobAnswers.{begun, dropped, AnswersBegin, AnswersDrop, AnswersStep};
@@ -48,8 +51,8 @@ impl<D: Disk> Archive<D> {
 
     /// Reads one source of the job that is under way, a piece at a time, merges its sums into the job's, and answers how
     /// many sources are left. Where none is left nothing is read. Refusals, the first that holds: 49 Closed; 44 NoRoll;
-    /// 20 Damaged, of a source that isn't what its entry says, or at octet 0 where sums would pass their types; 30 where
-    /// the device failed; and 11 OutOfMemory. None of them changes anything, and the archive stays open.
+    /// 20 Damaged, of the source's file, where it isn't what its entry says, or at octet 0 where sums would pass their
+    /// types; 30 where the device failed; and 11 OutOfMemory. None of them changes anything, and the archive stays open.
     pub fn roll_step(
         &mut self,
         alloc: Global,
@@ -60,6 +63,9 @@ impl<D: Disk> Archive<D> {
         ensures step { IsStep D.honest D.moment D.left_since self.old self.new
             (λ after. IsStepped self.old.state after) result }
         ensures unread { HasCause ArchiveError.SourceFault faults.old faults.new result }
+        // On an honest disk 20 never comes where the archive has a history within the limits.
+        ensures fits { IsTrue (D.honest self.old.disk) → (h : History) → HasHistory self.old.state h → IsWithinLimits h
+            → (file at : ℕ) → result ≢ Err (ArchiveError.Damaged file at) }
     {
         if self.closed {
             return Err(ArchiveError::Closed);

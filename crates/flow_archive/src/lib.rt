@@ -12,7 +12,8 @@
 //! leaves what stands for the archive before the event or after it: after Ok after it, after a refusal but 30 before it.
 //! After 30 the archive is closed: no call changes anything any more. `run` takes lists of events, of which a stop leaves
 //! some front. `directory` hands out the files that there are, shared: on an honest disk its shelf is that of the
-//! archive's state, so that a snapshot of it answers for each history that the archive has.
+//! archive's state, so that a snapshot of it answers for each history that the archive has. `step` tells each later step:
+//! on an honest disk it is the change that was made.
 //!
 //! A job (`roll_begin`, `merge_begin`) sums the oldest sealed segments, or rolled files: `roll_step` reads one of them,
 //! `roll_write` makes one file of their sums, `roll_install` puts it in their place, and `roll_drop` gives the job up.
@@ -40,6 +41,7 @@ mod sources;
 mod staged;
 mod staging;
 mod taking;
+mod telling;
 
 pub use archive::Archive;
 pub use error::PlainError;
@@ -48,3 +50,4 @@ pub use events::{run, take_event};
 pub use plain::PlainArchive;
 pub use refusal::{ArchiveError, Refused};
 pub use rolling::JobStatus;
+pub use telling::marks_of_answers;

@@ -1,15 +1,17 @@
 //! The frozen files of an archive, and what directories have of them.
 
 ghost use Rattle.std.specs.Prelude.{◌≡◌, ◌++◌, ◌<◌, ◌≤◌, ℕ, Bool, true, false, IsTrue, OnOk, IfOk, IfErr, map, take};
+ghost use Rattle.std.specs.Prelude.{◌≢◌, vec_len};
 ghost use Rattle.std.specs.List.{list_all, AllByRecursion};
 ghost use Rattle.std.specs.Arc.{arc_value};
 ghost use Rattle.flow_disk.specs.Cause.{HasCause};
 ghost use Rattle.flow_manifest.specs.declared.following.JobKind.{JobKind};
 ghost use Rattle.flow_manifest.specs.declared.manifest.Manifest.{Manifest};
 ghost use Rattle.flow_snapshot.specs.Directories.{sight_of};
-ghost use Rattle.flow_snapshot.specs.Files.{rollup_of, segment_of, shared};
+ghost use Rattle.flow_snapshot.specs.Files.{is_honest, rollup_of, segment_of, shared};
 ghost use Rattle.flow_archive.specs.Owned.{all_frozen, frozen_as, rolled_in, segment_in, shelf_with, value_of, wide_in};
 ghost use Rattle.flow_archive.specs.Owned.{is_shared, unshared, MayBeFrozen};
+ghost use Rattle.flow_archive.specs.Owned as own;
 ghost use Rattle.flow_archive.specs.Sources.{IsRead, IsSource};
 ghost use Rattle.flow_recover.specs.Jobs.{width_made};
 ghost use Rattle.flow_recover.specs.Kept.{AreFilesOf};
@@ -168,6 +170,43 @@ impl<S: SealedFile> FrozenFile<S> {
         }
     }
 
+    /// Its kind.
+    pub(crate) fn kind(&self) -> Kind
+        ensures { result ≡ self.now.entry.kind }
+    {
+        match &self.held {
+            Held::Sealed(_) => Kind::Sealed,
+            Held::Rolled(_) => Kind::Rolled,
+            Held::Wide(_) => Kind::Wide,
+        }
+    }
+
+    /// One owner more of a sealed segment. It is refused where the file isn't shared.
+    pub(crate) fn segment(&self) -> Result<Arc<SealedPart<S>>, AllocError>
+        requires { self.now.entry.kind ≡ Kind.Sealed }
+        ensures part { IfOk result (λ part. segment_of (arc_value part) ≡ own.segment_of self.now) }
+        ensures honest { IfOk result (λ part. is_honest (arc_value part) ≡ self.now.honest) }
+    {
+        match &self.held {
+            Held::Sealed(part) => part.owner(),
+            Held::Rolled(_) => unreachable!(),
+            Held::Wide(_) => unreachable!(),
+        }
+    }
+
+    /// One owner more of a file of sums. It is refused where the file isn't shared.
+    pub(crate) fn sums(&self) -> Result<Arc<RolledPart<S>>, AllocError>
+        requires { self.now.entry.kind ≢ Kind.Sealed }
+        ensures part { IfOk result (λ part. rollup_of (arc_value part) ≡ own.rollup_of self.now) }
+        ensures honest { IfOk result (λ part. (arc_value part).honest ≡ self.now.honest) }
+    {
+        match &self.held {
+            Held::Sealed(_) => unreachable!(),
+            Held::Rolled(part) => part.owner(),
+            Held::Wide(part) => part.owner(),
+        }
+    }
+
     /// The file, as its disk takes it back. It is refused only where the file is shared.
     pub(crate) fn into_file(self) -> Result<S, Self>
         ensures done { IfOk result (λ file. S.number file ≡ self.entry.file) }
@@ -247,6 +286,18 @@ fn share_all<S: SealedFile>(alloc: Global, files: &mut Vec<FrozenFile<S>>) -> Re
         files.push_reserved(file.shared(alloc));
     }
     Ok(())
+}
+
+/// Shares the file at a place, where memory is not refused.
+pub(crate) fn share_at<S: SealedFile>(alloc: Global, files: &mut Vec<FrozenFile<S>>, place: usize)
+    requires { place < vec_len files.old }
+    ensures len { vec_len files.new ≡ vec_len files.old }
+    ensures same { map unshared files.new.items ≡ map unshared files.old.items }
+{
+    let file = files.remove(place);
+    let Ok(()) = files.insert(place, file.shared(alloc)) else {
+        unreachable!();
+    };
 }
 
 /// These files, all of them shared, in their order, and an active segment with this prefix and these messages.

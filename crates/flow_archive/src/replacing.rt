@@ -4,15 +4,14 @@ ghost use Rattle.std.specs.Prelude.{◌≡◌, ◌+◌, ◌≤◌, OnOk, IfOk, I
 ghost use Rattle.std.specs.Prelude.{vec_len, vec_capacity};
 ghost use Rattle.std.specs.Vec.Iter.{into_iter_items, into_iter_len};
 ghost use Rattle.flow_manifest.specs.Manifest.{IsValidManifest};
-ghost use Rattle.flow_manifest.specs.Following.{count_before, source_of};
 ghost use Rattle.flow_archive.specs.Installing.{cut_in, IsMadeAs, IsMadeFor, IsNotInstalled, IsReplacement, MayInstall};
 
 use crate::event::Answer;
 use crate::owned::FrozenFile;
 use crate::refusal::ArchiveError;
-use crate::rolling::Rolling;
+use crate::rolling::{Rolling, sources_from};
 use flow_disk::SealedFile;
-use flow_manifest::{Entry, JobKind, Kind, Manifest, Staged, count_of, encode, installed_manifest};
+use flow_manifest::{Entry, JobKind, Manifest, Staged, encode, installed_manifest};
 use std::alloc::{AllocError, Global};
 use std::mem::replace;
 use std::vec::IntoIter;
@@ -62,7 +61,7 @@ pub(crate) fn to_install<S: SealedFile>(
     };
     let manifest = installed_manifest(alloc, now, job.kind, sources, staged, next)?;
     let body = encode(alloc, &manifest)?;
-    let place = place_of(now.entries.as_slice(), job.kind);
+    let place = sources_from(job.kind, now.entries.as_slice());
     let entry = manifest.entries.as_slice()[place];
     let answer = cut_moved(job.kind, &manifest);
     Ok(Replacement {
@@ -73,17 +72,6 @@ pub(crate) fn to_install<S: SealedFile>(
         sources,
         answer,
     })
-}
-
-/// How many entries stand before the sources of a job.
-fn place_of(entries: &[Entry], kind: JobKind) -> usize
-    ensures { result ≡ count_before (source_of kind) entries.now }
-{
-    let wide = count_of(entries, Kind::Wide);
-    match kind {
-        JobKind::Roll => wide + count_of(entries, Kind::Rolled),
-        JobKind::Merge => wide,
-    }
 }
 
 /// The cut that a job has moved, as it is answered.

@@ -34,8 +34,8 @@ pub(crate) struct Source {
 /// Why a source isn't summed.
 #[derive(Clone, Copy)]
 pub(crate) enum SourceError {
-    /// This file isn't what its entry says, from this octet on.
-    Damaged(u64, u64),
+    /// It isn't what its entry says, from this octet on.
+    Damaged(u64),
     /// A sum would pass its type.
     SumSpent,
     /// The device failed in that call.
@@ -50,7 +50,7 @@ impl SourceError {
         ensures { result ≡ of_source file self }
     {
         match self {
-            SourceError::Damaged(file, at) => ArchiveError::Damaged(file, at),
+            SourceError::Damaged(at) => ArchiveError::Damaged(file, at),
             SourceError::SumSpent => ArchiveError::Damaged(file, 0),
             SourceError::Fault => ArchiveError::SourceFault,
             SourceError::OutOfMemory => ArchiveError::OutOfMemory,
@@ -74,7 +74,7 @@ impl From<ScanError> for SourceError {
 
     fn from(error: ScanError) -> SourceError {
         match error {
-            ScanError::Damaged(file, at) => SourceError::Damaged(file, at),
+            ScanError::Damaged(_, at) => SourceError::Damaged(at),
             ScanError::Fault => SourceError::Fault,
             ScanError::OutOfMemory => SourceError::OutOfMemory,
         }
@@ -86,7 +86,7 @@ impl From<PartSumError> for SourceError {
 
     fn from(error: PartSumError) -> SourceError {
         match error {
-            PartSumError::Damaged(file, at) => SourceError::Damaged(file, at),
+            PartSumError::Damaged(_, at) => SourceError::Damaged(at),
             PartSumError::SumSpent => SourceError::SumSpent,
             PartSumError::Fault => SourceError::Fault,
             PartSumError::OutOfMemory => SourceError::OutOfMemory,
@@ -99,7 +99,7 @@ impl From<RowSumError> for SourceError {
 
     fn from(error: RowSumError) -> SourceError {
         match error {
-            RowSumError::Damaged(file, at) => SourceError::Damaged(file, at),
+            RowSumError::Damaged(_, at) => SourceError::Damaged(at),
             RowSumError::SumSpent => SourceError::SumSpent,
             RowSumError::Fault => SourceError::Fault,
             RowSumError::OutOfMemory => SourceError::OutOfMemory,

@@ -1,133 +1,83 @@
 //! Archives whose files were changed: what their opening is refused by.
 
-use crate::archives::{ROOM, disk_sealed};
-use crate::fixture::Fixture;
-use crate::thawed::{Thawed, memory, restarted};
-use flow_archive::ArchiveError;
-use flow_disk::{Disk, DiskError};
-use flow_memory_disk::{MemoryDisk, Room};
-use std::alloc::Global;
+use crate::script::{LARGE, plays, plays_behind, plays_in};
 use std::test::Fail;
 
-/// What is done to a file: it is cut to so many octets, if that is below `WHOLE`, and these are written at a place.
-#[derive(Clone, Copy)]
-pub(crate) struct Change {
-    file: u64,
-    cut: u64,
-    at: u64,
-    octets: &'static [u8],
-}
-
-/// Changes a file, and settles it.
-pub(crate) fn make<D: Disk>(disk: &mut Thawed<D>, change: &Change) -> Result<(), DiskError> {
-    if change.cut < WHOLE {
-        disk.cut(change.file, change.cut)?;
-    }
-    disk.write(change.file, change.at, change.octets)?;
-    disk.sync(change.file)
-}
-
-/// No cut.
-const WHOLE: u64 = 1 << 20;
-
-/// The entries of slot 2 exchanged: the active one, and behind it the sealed one.
-const EXCHANGED: [u8; 64] = [
-    0, 0, 0, 3, 0, 0, 0, 40, 0, 0, 0, 0, 0, 0, 0, 4, 0, 0, 0, 0, 0, 0, 0, 0, 0, 0, 0, 0, 0, 0, 0,
-    0, //
-    0, 0, 0, 2, 0, 0, 0, 0, 0, 0, 0, 0, 0, 0, 0, 3, 0, 0, 0, 0, 0, 0, 0, 57, 0, 0, 0, 0, 0, 0, 0,
-    1,
-];
-
-/// A message without Sets, whose last octets are missing.
-const CUT_OFF: [u8; 16] = [0, 10, 0, 16, 0, 0, 0, 0, 0, 0, 0, 0, 0, 0, 0, 0];
-
-impl Change {
-    /// These octets are written at a place.
-    fn written(file: u64, at: u64, octets: &'static [u8]) -> Change {
-        Change {
-            file,
-            cut: WHOLE,
-            at,
-            octets,
-        }
-    }
-
-    /// The file is cut.
-    fn cut(file: u64, cut: u64) -> Change {
-        Change {
-            file,
-            cut,
-            at: 0,
-            octets: &[],
-        }
-    }
-
-    /// The file holds these octets alone.
-    pub(crate) fn replaced(file: u64, octets: &'static [u8]) -> Change {
-        Change {
-            file,
-            cut: 0,
-            at: 0,
-            octets,
-        }
-    }
-}
-
-/// The disk of an archive whose one message is sealed, in file 3; file 4 is active, and slot 2 in force.
-pub(crate) fn sealed(alloc: Global, room: Room) -> Result<Thawed<MemoryDisk>, ArchiveError> {
-    Ok(restarted(disk_sealed(alloc, room)?))
-}
-
-/// What opening answers, as text; nothing where it opens.
-pub(crate) fn answer<D: Disk>(alloc: Global, disk: Thawed<D>) -> Result<String, Fail> {
-    match Fixture::open(alloc, disk) {
-        Ok(_) => Ok(String::new(alloc)),
-        Err(refused) => Ok(format!(in alloc; "{refused}")?),
-    }
-}
-
-/// What opening answers after a change.
-fn answer_to(alloc: Global, change: &Change) -> Result<String, Fail> {
-    let mut disk = sealed(alloc, ROOM)?;
-    make(&mut disk, change)?;
-    answer(alloc, disk)
-}
+/// A message is sealed in file 3; file 4 is active, and slot 2 in force.
+const SEALED: &str = "
+    create small
+    append plain -> Position(1)
+    seal -> Sealed(3)";
 
 #[test]
 fn changed_files_are_refused(rt: HostRuntime) -> Result<(), Fail> {
-    let alloc = rt.alloc();
-    for (change, want) in [
-        (Change::written(3, 0, &[]), ""),
-        (Change::cut(2, 114), "23 Cut 2"),
-        (Change::written(2, 1, &[0, 3]), "21 Format 2"),
-        (Change::written(2, 51, &EXCHANGED), "22 Entries 2"),
-        (
-            Change::written(1, 3, &[0, 0, 0, 0, 0, 0, 0, 2]),
-            "20 Damaged 2 3",
-        ),
-        (Change::cut(4, 40), "20 Damaged 4 40"),
-        (Change::written(4, 40, &[1, 0]), "20 Damaged 4 40"),
-        (Change::written(4, 40, &CUT_OFF), "20 Damaged 4 40"),
-        (Change::cut(3, 56), "20 Damaged 3 56"),
-        (Change::written(3, 19, &[3]), "20 Damaged 3 0"),
-        (
-            Change::written(2, 75, &[0, 0, 0, 0, 0, 0, 0, 2]),
-            "20 Damaged 3 57",
-        ),
-        (Change::written(4, 21, &[1]), "20 Damaged 4 0"),
-    ] {
-        assert_eq!(rt; answer_to(alloc, &change)?.as_str(), want);
-    }
-    Ok(())
+    plays_behind(
+        rt.alloc(),
+        SEALED,
+        &[
+            "open\n append second -> Position(2)",
+            "cut 2 114\n\n open -> 23 Cut 2",
+            "put 2 1 0003\n\n open -> 21 Format 2",
+            // the entries of slot 2 exchanged
+            "put 2 51 00000003 00000028 0000000000000004 00*16 00000002 00000000 0000000000000003 0000000000000039 \
+             0000000000000001\n\n open -> 22 Entries 2",
+            "put 1 3 0000000000000002\n\n open -> 20 Damaged 2 3",
+            "cut 4 40\n\n open -> 20 Damaged 4 40",
+            "put 4 40 0100\n\n open -> 20 Damaged 4 40",
+            "put 4 40 000A0010 00*12\n\n open -> 20 Damaged 4 40",
+            "cut 3 56\n\n open -> 20 Damaged 3 56",
+            "put 3 19 03\n\n open -> 20 Damaged 3 0",
+            "put 2 75 0000000000000002\n\n open -> 20 Damaged 3 57",
+            "put 4 21 01\n\n open -> 20 Damaged 4 0",
+            "remove 2\n\n open -> 23 Cut 2",
+        ],
+    )
 }
 
 #[test]
-fn absent_files_are_refused(rt: HostRuntime) -> Result<(), Fail> {
-    let alloc = rt.alloc();
-    let empty = memory(alloc, ROOM)?;
-    assert_eq!(rt; answer(alloc, empty)?.as_str(), "24 NoArchive");
-    let mut disk = sealed(alloc, ROOM)?;
-    disk.remove(2)?;
-    assert_eq!(rt; answer(alloc, disk)?.as_str(), "23 Cut 2");
-    Ok(())
+fn no_files_are_no_archive(rt: HostRuntime) -> Result<(), Fail> {
+    plays(rt.alloc(), "open -> 24 NoArchive")
+}
+
+/// What is refused in a message is told at the message's place, whatever it is refused by.
+#[test]
+fn a_segment_past_its_limit_is_refused(rt: HostRuntime) -> Result<(), Fail> {
+    plays_in(
+        rt.alloc(),
+        LARGE,
+        "create small
+        append plain -> Position(1)
+        seal -> Sealed(3)
+
+        put 4 40 longest 0000
+
+        open
+        see counts -> 2 0 0
+
+        put 4 40 longest bare 0000
+
+        open -> 20 Damaged 4 40",
+    )
+}
+
+/// A row whose end isn't its interval's, a missing octet, and a source that is named beside its sums.
+#[test]
+fn changed_rolled_files_are_refused(rt: HostRuntime) -> Result<(), Fail> {
+    plays_behind(
+        rt.alloc(),
+        "create
+        append plain -> Position(1)
+        seal -> Sealed(3)
+        roll 1 -> Began
+        step -> Left(0)
+        write -> Written
+        install -> Installed(1)",
+        &[
+            "open\n state -> 0 1, 1 1 0: 1699999800 7 6 1 1500 10",
+            "put 5 135 A0\n\n open -> 20 Damaged 5 100",
+            "cut 5 160\n\n open -> 20 Damaged 5 160",
+            "put 5 161 00\n\n open\n\n length 5 -> 161",
+            "put 5 7 01\n\n open -> 20 Damaged 5 100",
+        ],
+    )
 }

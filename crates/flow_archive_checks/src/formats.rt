@@ -1,95 +1,66 @@
 //! Archives whose slots were written in format 1.
 
-use crate::archives::{ROOM, contents};
-use crate::damage::{Change, make, sealed};
-use crate::fixture::Fixture;
-use crate::openings::count_in;
-use crate::plain::RECORD;
-use crate::thawed::{Thawed, restarted};
-use flow_archive::ArchiveError;
-use flow_disk::Disk;
-use flow_memory_disk::MemoryDisk;
-use std::alloc::Global;
+use crate::script::plays_behind;
 use std::test::Fail;
 
-/// Slot 1 of a new archive, in format 1.
-const CREATED: [u8; 71] = [
-    0xA5, 0x00, 0x01, 0x00, 0x00, 0x00, 0x00, 0x00, 0x00, 0x00, 0x01, 0x00, 0x00, 0x01, 0x2C, 0x00,
-    0x10, 0x00, 0x00, 0x00, 0x00, 0x00, 0x00, 0x00, 0x00, 0x00, 0x04, 0x00, 0x00, 0x00, 0x00, 0x00,
-    0x00, 0x00, 0x00, 0x00, 0x00, 0x00, 0x01, 0x00, 0x00, 0x00, 0x03, 0x00, 0x00, 0x00, 0x00, 0x00,
-    0x00, 0x00, 0x00, 0x00, 0x00, 0x00, 0x03, 0x00, 0x00, 0x00, 0x00, 0x00, 0x00, 0x00, 0x00, 0x00,
-    0x00, 0x00, 0x00, 0x00, 0x00, 0x00, 0x00,
-];
+/// A message is sealed in file 3; file 4 is active. Both slots are of format 1.
+pub(crate) const FORMAT_1: &str = "
+    create
+    append plain -> Position(1)
+    seal -> Sealed(3)
 
-/// Slot 2 after a seal, in format 1.
-const SEALED: [u8; 103] = [
-    0xA5, 0x00, 0x01, 0x00, 0x00, 0x00, 0x00, 0x00, 0x00, 0x00, 0x02, 0x00, 0x00, 0x01, 0x2C, 0x00,
-    0x10, 0x00, 0x00, 0x00, 0x00, 0x00, 0x00, 0x00, 0x00, 0x00, 0x05, 0x00, 0x00, 0x00, 0x00, 0x00,
-    0x00, 0x00, 0x00, 0x00, 0x00, 0x00, 0x02, 0x00, 0x00, 0x00, 0x02, 0x00, 0x00, 0x00, 0x00, 0x00,
-    0x00, 0x00, 0x00, 0x00, 0x00, 0x00, 0x03, 0x00, 0x00, 0x00, 0x00, 0x00, 0x00, 0x00, 0x39, 0x00,
-    0x00, 0x00, 0x00, 0x00, 0x00, 0x00, 0x01, 0x00, 0x00, 0x00, 0x03, 0x00, 0x00, 0x00, 0x28, 0x00,
-    0x00, 0x00, 0x00, 0x00, 0x00, 0x00, 0x04, 0x00, 0x00, 0x00, 0x00, 0x00, 0x00, 0x00, 0x00, 0x00,
-    0x00, 0x00, 0x00, 0x00, 0x00, 0x00, 0x00,
-];
-
-/// Slot 1 after a second seal, in format 2.
-const SEALED_TWICE: [u8; 147] = [
-    0xA5, 0x00, 0x02, 0x00, 0x00, 0x00, 0x00, 0x00, 0x00, 0x00, 0x03, 0x00, 0x00, 0x01, 0x2C, 0x00,
-    0x01, 0x51, 0x80, 0x00, 0x10, 0x00, 0x00, 0x00, 0x00, 0x00, 0x00, 0x00, 0x00, 0x00, 0x06, 0x00,
-    0x00, 0x00, 0x00, 0x00, 0x00, 0x00, 0x00, 0x00, 0x00, 0x00, 0x00, 0x00, 0x00, 0x00, 0x00, 0x00,
-    0x00, 0x00, 0x03, 0x00, 0x00, 0x00, 0x02, 0x00, 0x00, 0x00, 0x00, 0x00, 0x00, 0x00, 0x00, 0x00,
-    0x00, 0x00, 0x03, 0x00, 0x00, 0x00, 0x00, 0x00, 0x00, 0x00, 0x39, 0x00, 0x00, 0x00, 0x00, 0x00,
-    0x00, 0x00, 0x01, 0x00, 0x00, 0x00, 0x02, 0x00, 0x00, 0x00, 0x28, 0x00, 0x00, 0x00, 0x00, 0x00,
-    0x00, 0x00, 0x04, 0x00, 0x00, 0x00, 0x00, 0x00, 0x00, 0x00, 0x49, 0x00, 0x00, 0x00, 0x00, 0x00,
-    0x00, 0x00, 0x01, 0x00, 0x00, 0x00, 0x03, 0x00, 0x00, 0x00, 0x28, 0x00, 0x00, 0x00, 0x00, 0x00,
-    0x00, 0x00, 0x05, 0x00, 0x00, 0x00, 0x00, 0x00, 0x00, 0x00, 0x00, 0x00, 0x00, 0x00, 0x00, 0x00,
-    0x00, 0x00, 0x00,
-];
-
-/// The disk of an archive whose one message was sealed, with slots of format 1.
-fn in_format_1(alloc: Global) -> Result<Thawed<MemoryDisk>, ArchiveError> {
-    let mut disk = sealed(alloc, ROOM)?;
-    make(&mut disk, &Change::replaced(1, &CREATED))?;
-    make(&mut disk, &Change::replaced(2, &SEALED))?;
-    Ok(disk)
-}
-
-/// The archive on that disk, with a message more.
-fn appended(alloc: Global) -> Result<Fixture<MemoryDisk>, Fail> {
-    let mut archive = Fixture::open(alloc, in_format_1(alloc)?)?;
-    archive.append(alloc, RECORD.as_slice())?;
-    Ok(archive)
-}
-
-/// Whether a file holds these octets.
-fn holds<D: Disk>(
-    alloc: Global,
-    disk: &mut D,
-    file: u64,
-    octets: &[u8],
-) -> Result<bool, ArchiveError> {
-    let held = contents(alloc, disk, file)?;
-    Ok(held.as_slice() == octets)
-}
+    cut 1 0
+    put 1 0 A5 0001 0000000000000001 0000012C 00100000 0000000000000004 00*8 00000001 \
+            00000003 00000000 0000000000000003 00*16
+    cut 2 0
+    put 2 0 A5 0001 0000000000000002 0000012C 00100000 0000000000000005 00*8 00000002 \
+            00000002 00000000 0000000000000003 0000000000000039 0000000000000001 \
+            00000003 00000028 0000000000000004 00*16
+    length 1 -> 71
+    length 2 -> 103";
 
 #[test]
 fn an_append_leaves_both_slots(rt: HostRuntime) -> Result<(), Fail> {
-    let alloc = rt.alloc();
-    let mut disk = appended(alloc)?.into_disk();
-    assert!(rt; holds(alloc, &mut disk, 1, &CREATED)?);
-    assert!(rt; holds(alloc, &mut disk, 2, &SEALED)?);
-    assert_eq!(rt; count_in(alloc, restarted(disk)), Some(2));
-    Ok(())
+    plays_behind(
+        rt.alloc(),
+        FORMAT_1,
+        &[
+            "open
+            append second -> Position(2)
+
+            file 1 A5 0001 0000000000000001 0000012C 00100000 0000000000000004 00*8 00000001 \
+                   00000003 00000000 0000000000000003 00*16
+            file 2 A5 0001 0000000000000002 0000012C 00100000 0000000000000005 00*8 00000002 \
+                   00000002 00000000 0000000000000003 0000000000000039 0000000000000001 \
+                   00000003 00000028 0000000000000004 00*16
+
+            open
+            see counts -> 2 0 0",
+        ],
+    )
 }
 
 #[test]
 fn a_seal_writes_the_other_slot_in_format_2(rt: HostRuntime) -> Result<(), Fail> {
-    let alloc = rt.alloc();
-    let mut archive = appended(alloc)?;
-    assert_eq!(rt; archive.seal(alloc), Ok(4));
-    let mut disk = archive.into_disk();
-    assert!(rt; holds(alloc, &mut disk, 1, &SEALED_TWICE)?);
-    assert!(rt; holds(alloc, &mut disk, 2, &SEALED)?);
-    assert_eq!(rt; count_in(alloc, restarted(disk)), Some(2));
-    Ok(())
+    plays_behind(
+        rt.alloc(),
+        FORMAT_1,
+        &[
+            "open
+            append second -> Position(2)
+            seal -> Sealed(4)
+
+            length 1 -> 147
+            file 1 A5 0002 0000000000000003 0000012C 00015180 00100000 0000000000000006 00*16 00000003 \
+                   00000002 00000000 0000000000000003 0000000000000039 0000000000000001 \
+                   00000002 00000028 0000000000000004 0000000000000049 0000000000000001 \
+                   00000003 00000028 0000000000000005 00*16
+            file 2 A5 0001 0000000000000002 0000012C 00100000 0000000000000005 00*8 00000002 \
+                   00000002 00000000 0000000000000003 0000000000000039 0000000000000001 \
+                   00000003 00000028 0000000000000004 00*16
+
+            open
+            state -> 2 0, 2 0 0: 1699999800 7 6 2 3000 20",
+        ],
+    )
 }

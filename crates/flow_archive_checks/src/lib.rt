@@ -5,21 +5,19 @@
 #[cfg(test)]
 mod archives;
 #[cfg(test)]
+mod asked;
+#[cfg(test)]
 mod damage;
 #[cfg(test)]
 mod directories;
-#[cfg(test)]
-mod fixture;
 #[cfg(test)]
 mod formats;
 #[cfg(test)]
 mod held;
 #[cfg(test)]
-mod limits;
-#[cfg(test)]
 mod lying;
 #[cfg(test)]
-mod openings;
+mod merging;
 #[cfg(test)]
 mod plain;
 #[cfg(test)]
@@ -29,10 +27,18 @@ mod rolled;
 #[cfg(test)]
 mod rolled_parts;
 #[cfg(test)]
+mod rolling;
+#[cfg(test)]
+mod script;
+#[cfg(test)]
 mod segment_sums;
 #[cfg(test)]
 mod segments;
 #[cfg(test)]
-mod snapshots;
+mod stage;
+#[cfg(test)]
+mod stops;
 #[cfg(test)]
 mod thawed;
+#[cfg(test)]
+mod words;

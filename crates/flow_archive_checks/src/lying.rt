@@ -1,21 +1,34 @@
 //! Archives on disks that lie: every call returns, and what it answers is among what it may answer.
 
-use crate::archives::{ROOM, created};
-use crate::fixture::Fixture;
-use crate::openings::RUN;
-use crate::thawed::{Thawed, restarted};
-use flow_archive::ArchiveError;
+use crate::script::{empty, played};
+use crate::stage::{Made, Stage, event_of};
+use crate::thawed::Thawed;
+use crate::words::{Line, lines_of};
+use flow_archive::{Answer, ArchiveError};
 use flow_disk::Disk;
 use flow_memory_disk::{LyingDisk, MemoryDisk};
-use std::alloc::{AllocError, Global};
+use std::alloc::Global;
 use std::test::Fail;
 
 /// How many disks lie, each in its own way.
 const SEEDS: u64 = 400;
 
+/// A message, two in one batch, a seal, and one message more.
+const RUN: &str = "append plain
+    batch record bare
+    seal
+    append record";
+
+/// The same with its answers, by a new archive.
+const MADE: &str = "create small
+    append plain -> Position(1)
+    batch record bare -> Position(3)
+    seal -> Sealed(3)
+    append record -> Position(4)";
+
 /// Whether an event may be answered so: `Closed` where a fault has closed the archive, and only there; and never what
 /// no append or seal answers.
-fn may_be_told(answer: Result<u64, ArchiveError>, was_closed: bool) -> bool {
+fn may_be_told(answer: Result<Answer, ArchiveError>, was_closed: bool) -> bool {
     match answer {
         Ok(_) => !was_closed,
         Err(ArchiveError::Closed) => was_closed,
@@ -34,73 +47,72 @@ fn may_be_told(answer: Result<u64, ArchiveError>, was_closed: bool) -> bool {
     }
 }
 
-/// Whether a message, a batch, a seal and one message more are answered as they may be.
-fn answers<D: Disk>(alloc: Global, archive: &mut Fixture<D>) -> bool {
-    for given in RUN {
-        let was_closed = archive.is_closed();
-        if !may_be_told(archive.give(alloc, given), was_closed) {
-            return false;
+/// Whether each event is answered as it may be.
+fn answers<D: Disk>(
+    alloc: Global,
+    stage: &mut Stage<D>,
+    events: &[Line<'_>],
+) -> Result<bool, Fail> {
+    for line in events {
+        let was_closed = stage.is_closed();
+        let event = event_of(alloc, &line.words)?;
+        if !may_be_told(stage.give(alloc, &event), was_closed) {
+            return Ok(false);
         }
     }
-    true
+    Ok(true)
+}
+
+/// Whether no archive may be made for this reason.
+fn may_be_refused(error: ArchiveError) -> bool {
+    matches!(
+        error,
+        ArchiveError::Fault | ArchiveError::OutOfMemory | ArchiveError::NotEmpty
+    )
 }
 
 /// Whether an archive on a disk is made and answers each event as it may, or is refused as it may be.
-fn is_made<D: Disk>(alloc: Global, disk: Thawed<D>) -> bool {
-    match Fixture::create(alloc, disk) {
-        Ok(mut archive) => answers(alloc, &mut archive),
-        Err(refused) => matches!(
-            refused,
-            ArchiveError::Fault | ArchiveError::OutOfMemory | ArchiveError::NotEmpty
-        ),
-    }
-}
-
-/// A disk without files that lies.
-fn lying(alloc: Global, seed: u64) -> Result<Thawed<LyingDisk<MemoryDisk>>, AllocError> {
-    let disk = LyingDisk::new(MemoryDisk::new(alloc, ROOM)?, seed);
-    Ok(Thawed { disk })
-}
-
-#[test]
-fn made_on_disks_that_lie(rt: HostRuntime) -> Result<(), Fail> {
-    for seed in 0..SEEDS {
-        let disk = lying(rt.alloc(), seed)?;
-        assert!(rt; is_made(rt.alloc(), disk), "{seed}");
-    }
-    Ok(())
-}
-
-/// The disk of an archive that was given a run, which lies from now on.
-fn lying_behind_a_run(
-    alloc: Global,
-    seed: u64,
-) -> Result<Thawed<LyingDisk<MemoryDisk>>, ArchiveError> {
-    let mut archive = created(alloc, ROOM)?;
-    archive.give_all(alloc, &RUN)?;
-    Ok(lied_of(archive.into_disk(), seed))
-}
-
-/// The disk, given up without a stop, which lies from now on.
-fn lied_of(disk: MemoryDisk, seed: u64) -> Thawed<LyingDisk<MemoryDisk>> {
-    let Thawed { disk } = restarted(disk);
-    Thawed {
-        disk: LyingDisk::new(disk, seed),
+fn is_made<D: Disk>(alloc: Global, disk: Thawed<D>, events: &[Line<'_>]) -> Result<bool, Fail> {
+    match Stage::create(alloc, disk, Made::SMALL) {
+        Ok(mut stage) => answers(alloc, &mut stage, events),
+        Err(refused) => Ok(may_be_refused(refused.error)),
     }
 }
 
 /// Whether the archive on a disk is opened and answers each event as it may; none where it is refused.
-fn is_opened<D: Disk>(alloc: Global, disk: Thawed<D>) -> Option<bool> {
-    match Fixture::open(alloc, disk) {
-        Ok(mut archive) => Some(answers(alloc, &mut archive)),
-        Err(_) => None,
+fn is_opened<D: Disk>(
+    alloc: Global,
+    disk: Thawed<D>,
+    events: &[Line<'_>],
+) -> Result<Option<bool>, Fail> {
+    match Stage::open(alloc, disk) {
+        Ok(mut stage) => Ok(Some(answers(alloc, &mut stage, events)?)),
+        Err(_) => Ok(None),
     }
 }
 
-/// The same, behind a run, on a disk that lies as this seed chooses.
-fn is_opened_behind_a_run(alloc: Global, seed: u64) -> Result<Option<bool>, ArchiveError> {
-    let disk = lying_behind_a_run(alloc, seed)?;
-    Ok(is_opened(alloc, disk))
+/// The disk, given up without a stop, which lies from now on.
+fn lied_of(disk: MemoryDisk, seed: u64) -> Thawed<LyingDisk<MemoryDisk>> {
+    Thawed {
+        disk: LyingDisk::new(disk.restart(), seed),
+    }
+}
+
+#[test]
+fn made_on_disks_that_lie(rt: HostRuntime) -> Result<(), Fail> {
+    let alloc = rt.alloc();
+    let events = lines_of(alloc, RUN)?;
+    for seed in 0..SEEDS {
+        let is_answered = is_made(alloc, lied_of(empty(alloc)?, seed), &events)?;
+        assert!(rt; is_answered, "{seed}");
+    }
+    Ok(())
+}
+
+/// Whether the archive of a run, on a disk that lies as this seed chooses, answers the run once more.
+fn is_opened_behind_a_run(alloc: Global, seed: u64) -> Result<Option<bool>, Fail> {
+    let disk = played(alloc, empty(alloc)?, MADE)?;
+    is_opened(alloc, lied_of(disk, seed), &lines_of(alloc, RUN)?)
 }
 
 #[test]

@@ -1,29 +1,14 @@
 //! Sums and flows of a part.
 
-use crate::segments::{FILE, FLOW, FLOW_ALONE, flows_in_file, prefix_of, sealed_on, take};
-use crate::thawed::Thawed;
+use crate::held::Held;
+use crate::segments::{FILE, FLOW, FLOW_ALONE, flows_in_file, prefix_of, take};
 use flow_codec::Templates;
 use flow_disk::{DiskError, Faults, SealedFile};
 use flow_gate::ScanError;
 use flow_measure::{Flow, Key, Row, Rows, Sums};
-use flow_memory_disk::{FusedDisk, FusedFile, MemoryDisk, MemorySealed, Room};
 use flow_segment::{Carry, PartSumError, SealedPart, add_flows, collect_flows, few_messages_fit};
 use std::alloc::{AllocError, Global};
 use std::test::Fail;
-
-const SMALL: Room = Room {
-    files: 1,
-    octets: 1_000,
-    calls: 10,
-    written: 2_000,
-};
-
-const LARGE: Room = Room {
-    files: 1,
-    octets: 4_000_000,
-    calls: 10,
-    written: 8_000_000,
-};
 
 /// An octet behind the end of each file here.
 const NEVER: u64 = 1 << 32;
@@ -36,16 +21,13 @@ const REFUSED: [u8; 20] = [
     0, 10, 0, 20, 0x65, 0x53, 0xf1, 0, 0, 0, 0, 0, 0, 0, 0, 7, 0, 2, 0, 3,
 ];
 
-/// The file of a sealed segment of these octets. Once frozen each of its reads fails that reaches octet `bad`.
-fn sealed(
-    alloc: Global,
-    room: Room,
-    octets: &[u8],
-    bad: u64,
-) -> Result<FusedFile<MemorySealed>, ScanError> {
-    let memory = MemoryDisk::new(alloc, room)?;
-    let disk = FusedDisk::with_bad_reads(memory, 100, FILE, bad);
-    Ok(sealed_on(Thawed { disk }, octets, octets.len() as u64)?)
+/// The file of a sealed segment of these octets, of which each read fails that reaches octet `bad`.
+fn sealed(alloc: Global, octets: &[u8], bad: u64) -> Result<Held, ScanError> {
+    Ok(Held {
+        number: FILE,
+        octets: octets.to_vec(alloc)?,
+        bad,
+    })
 }
 
 /// The segment without a prefix in a file, of so many messages.
@@ -81,12 +63,7 @@ impl Summing {
     }
 
     /// Adds the flows of a segment without a prefix, and answers the greatest Export Time.
-    fn sum(
-        &mut self,
-        alloc: Global,
-        file: FusedFile<MemorySealed>,
-        messages: u64,
-    ) -> Result<u32, PartSumError> {
+    fn sum(&mut self, alloc: Global, file: Held, messages: u64) -> Result<u32, PartSumError> {
         let mut faults = Faults::new();
         add_flows(
             alloc,
@@ -101,11 +78,10 @@ impl Summing {
     fn sum_octets(
         &mut self,
         alloc: Global,
-        room: Room,
         octets: &[u8],
         messages: u64,
     ) -> Result<u32, PartSumError> {
-        let file = sealed(alloc, room, octets, NEVER)?;
+        let file = sealed(alloc, octets, NEVER)?;
         self.sum(alloc, file, messages)
     }
 
@@ -136,21 +112,16 @@ fn row(flows: u64) -> Row {
 }
 
 /// The rows of a segment of these octets, of so many messages, behind no templates.
-fn rows_of(
-    alloc: Global,
-    room: Room,
-    octets: &[u8],
-    messages: u64,
-) -> Result<Vec<Row>, PartSumError> {
+fn rows_of(alloc: Global, octets: &[u8], messages: u64) -> Result<Vec<Row>, PartSumError> {
     let mut sums = Summing::new(alloc);
-    sums.sum_octets(alloc, room, octets, messages)?;
+    sums.sum_octets(alloc, octets, messages)?;
     sums.rows(alloc)
 }
 
 #[test]
 fn the_sums_of_a_message(rt: HostRuntime) -> Result<(), Fail> {
     few_messages_fit();
-    let rows = rows_of(rt.alloc(), SMALL, FLOW.as_slice(), 1)?;
+    let rows = rows_of(rt.alloc(), FLOW.as_slice(), 1)?;
     assert_eq!(rt; rows.as_slice(), [row(1)].as_slice());
     Ok(())
 }
@@ -158,14 +129,14 @@ fn the_sums_of_a_message(rt: HostRuntime) -> Result<(), Fail> {
 /// The rows of two segments, the second under the templates that the first leaves.
 fn rows_of_two(alloc: Global) -> Result<Vec<Row>, PartSumError> {
     let mut sums = Summing::new(alloc);
-    sums.sum_octets(alloc, SMALL, FLOW.as_slice(), 1)?;
-    sums.sum_octets(alloc, SMALL, FLOW_ALONE.as_slice(), 1)?;
+    sums.sum_octets(alloc, FLOW.as_slice(), 1)?;
+    sums.sum_octets(alloc, FLOW_ALONE.as_slice(), 1)?;
     sums.rows(alloc)
 }
 
 #[test]
 fn templates_are_handed_on(rt: HostRuntime) -> Result<(), Fail> {
-    let alone = rows_of(rt.alloc(), SMALL, FLOW_ALONE.as_slice(), 1)?;
+    let alone = rows_of(rt.alloc(), FLOW_ALONE.as_slice(), 1)?;
     assert_eq!(rt; alone.len(), 0);
     let both = rows_of_two(rt.alloc())?;
     assert_eq!(rt; both.as_slice(), [row(2)].as_slice());
@@ -182,7 +153,7 @@ fn flow_and(alloc: Global, more: &[u8]) -> Result<Vec<u8>, AllocError> {
 /// What is told of the message and these octets behind it, as so many messages.
 fn told(alloc: Global, more: &[u8], messages: u64) -> Result<PartSumError, Fail> {
     let octets = flow_and(alloc, more)?;
-    let refused = rows_of(alloc, SMALL, octets.as_slice(), messages);
+    let refused = rows_of(alloc, octets.as_slice(), messages);
     Ok(refused.err().ok_or("refused")?)
 }
 
@@ -218,7 +189,7 @@ fn full(alloc: Global) -> Result<Rows, PartSumError> {
 /// What is told of the message where sums are full, and how many rows are left.
 fn sum_to_full(alloc: Global) -> Result<(Result<u32, PartSumError>, usize), PartSumError> {
     let mut sums = Summing::from(alloc, full(alloc)?);
-    let told = sums.sum_octets(alloc, SMALL, FLOW.as_slice(), 1);
+    let told = sums.sum_octets(alloc, FLOW.as_slice(), 1);
     Ok((told, sums.rows(alloc)?.len()))
 }
 
@@ -253,14 +224,14 @@ fn many(alloc: Global, count: u64) -> Result<Vec<u8>, AllocError> {
 fn messages_across_pieces(rt: HostRuntime) -> Result<(), Fail> {
     let octets = many(rt.alloc(), 95_324)?;
     assert_eq!(rt; octets.len(), 3_145_749);
-    let rows = rows_of(rt.alloc(), LARGE, octets.as_slice(), 95_325)?;
+    let rows = rows_of(rt.alloc(), octets.as_slice(), 95_325)?;
     assert_eq!(rt; rows.as_slice(), [row(95_325)].as_slice());
     Ok(())
 }
 
 /// What is told of three pieces where reads fail that reach this octet.
 fn told_of_pieces(alloc: Global, octets: &[u8], bad: u64) -> Result<u32, PartSumError> {
-    let file = sealed(alloc, LARGE, octets, bad)?;
+    let file = sealed(alloc, octets, bad)?;
     Summing::new(alloc).sum(alloc, file, 18_001)
 }
 
@@ -304,7 +275,7 @@ fn chosen_of<F: SealedFile>(
 /// The flows of the message and one behind it that start within.
 fn chosen(alloc: Global, from: u64, to: u64) -> Result<Vec<Flow>, ScanError> {
     let octets = flow_and(alloc, FLOW_ALONE.as_slice())?;
-    let file = sealed(alloc, SMALL, octets.as_slice(), NEVER)?;
+    let file = sealed(alloc, octets.as_slice(), NEVER)?;
     chosen_of(alloc, file, from, to)
 }
 
@@ -360,7 +331,7 @@ fn wide_segment(alloc: Global) -> Result<(Vec<u8>, usize), DiskError> {
 /// The flows of that segment.
 fn wide_flows(alloc: Global) -> Result<Vec<Flow>, ScanError> {
     let (octets, prefix) = wide_segment(alloc)?;
-    let file = sealed(alloc, LARGE, octets.as_slice(), NEVER)?;
+    let file = sealed(alloc, octets.as_slice(), NEVER)?;
     flows_in_file(alloc, file, prefix as u64)
 }
 

@@ -1,5 +1,6 @@
 //! Segments: prefixes, sealing, and the messages of a part.
 
+use crate::held::Held;
 use crate::thawed::{Thawed, memory};
 use flow_codec::MessageError;
 use flow_disk::{Disk, DiskError, Faults, SealedFile};
@@ -7,7 +8,7 @@ use flow_gate::ScanError;
 use flow_measure::Flow;
 use flow_memory_disk::{MemoryDisk, OneFaultDisk, Room};
 use flow_segment::{
-    Carry, Cursor, PartReader, SealedPart, advance, advance_on, flows_of, make_segment,
+    Carry, Cursor, PartReader, SealedPart, advance, advance_on, flows_of, handed_on, make_segment,
     messages_of, read_to_the_end, seal_tail,
 };
 use std::alloc::{AllocError, Global};
@@ -62,19 +63,6 @@ fn segment_of(alloc: Global, carry: &Carry) -> Result<Vec<u8>, DiskError> {
     file_of(alloc, memory(alloc, ROOM)?, prefix.as_slice())
 }
 
-/// The frozen file of a segment of these octets, which is sealed behind so many of them, on a disk without files.
-pub(crate) fn sealed_on<D: Disk>(
-    disk: Thawed<D>,
-    octets: &[u8],
-    length: u64,
-) -> Result<D::Sealed, DiskError> {
-    let Thawed { mut disk } = disk;
-    make_segment(&mut disk, FILE, octets)?;
-    let end = disk.length(FILE)?.min(length);
-    seal_tail(&mut disk, FILE, end)?;
-    disk.freeze(FILE)
-}
-
 /// Takes a message in. A refusal other than for want of memory is told as a fault.
 pub(crate) fn take(alloc: Global, carry: &mut Carry, message: &[u8]) -> Result<(), DiskError> {
     match carry.take(alloc, message) {
@@ -91,6 +79,43 @@ pub(crate) fn carry_of(alloc: Global, messages: &[&[u8]]) -> Result<Carry, DiskE
         take(alloc, &mut carry, message)?;
     }
     Ok(carry)
+}
+
+/// The prefix behind the flow.
+fn prefix_behind(alloc: Global) -> Result<Vec<u8>, DiskError> {
+    let carry = carry_of(alloc, &[FLOW.as_slice()])?;
+    Ok(prefix_of(alloc, &carry)?)
+}
+
+/// The file of the segment behind the prefix alone.
+fn segment_again(alloc: Global) -> Result<Vec<u8>, DiskError> {
+    let prefix = prefix_behind(alloc)?;
+    let copy = carry_of(alloc, &[prefix.as_slice()])?.try_copy()?;
+    segment_of(alloc, &copy)
+}
+
+/// The file of the segment behind the flow.
+fn segment_behind(alloc: Global) -> Result<Vec<u8>, DiskError> {
+    let carry = carry_of(alloc, &[FLOW.as_slice()])?;
+    segment_of(alloc, &carry)
+}
+
+/// Whether octets are those of the segment behind the flow.
+fn is_behind(octets: &[u8]) -> bool {
+    octets == BEHIND.as_slice()
+}
+
+/// Calls the law of what is handed on.
+fn law() {
+    handed_on();
+}
+
+#[test]
+fn a_segment_behind_a_flow(rt: HostRuntime) -> Result<(), Fail> {
+    law();
+    assert!(rt; is_behind(&segment_behind(rt.alloc())?));
+    assert!(rt; is_behind(&segment_again(rt.alloc())?));
+    Ok(())
 }
 
 /// The file of the segment behind the flow, a message that is refused, and the withdrawal.
@@ -199,23 +224,23 @@ fn read_part<F: SealedFile>(alloc: Global, file: F, messages: u64) -> Result<Rea
     })
 }
 
-/// Seals a segment without a prefix, of the flow's octets up to `length`, and reads it as one of so many messages.
-fn sealed_flow(alloc: Global, length: u64, messages: u64) -> Result<Read, ScanError> {
-    let file = sealed_on(memory(alloc, ROOM)?, FLOW.as_slice(), length)?;
-    read_part(alloc, file, messages)
+/// Reads a sealed segment without a prefix, of these octets, as one of so many messages.
+fn sealed_flow(alloc: Global, octets: &[u8], messages: u64) -> Result<Read, ScanError> {
+    let octets = octets.to_vec(alloc)?;
+    read_part(alloc, Held::whole(FILE, octets), messages)
 }
 
 #[test]
 fn the_messages_of_a_sealed_segment(rt: HostRuntime) -> Result<(), Fail> {
     let alloc = rt.alloc();
-    let read = sealed_flow(alloc, 57, 1)?;
+    let read = sealed_flow(alloc, &FLOW, 1)?;
     assert_eq!(rt; read.first.ok_or("first")?.as_slice(), FLOW.as_slice());
     assert!(rt; read.second.is_none());
     assert!(rt; read.third.is_none());
     assert_eq!(rt; read.all.len(), 1);
-    let other = sealed_flow(alloc, 57, 2).err().ok_or("two")?;
+    let other = sealed_flow(alloc, &FLOW, 2).err().ok_or("two")?;
     assert_eq!(rt; other, ScanError::Damaged(FILE, 57));
-    let cut = sealed_flow(alloc, 56, 1).err().ok_or("cut")?;
+    let cut = sealed_flow(alloc, &FLOW[..56], 1).err().ok_or("cut")?;
     assert_eq!(rt; cut, ScanError::Damaged(FILE, 0));
     Ok(())
 }
@@ -247,9 +272,7 @@ pub(crate) fn flows_in_file<F: SealedFile>(
 fn flows_behind(alloc: Global, prefix: &[u8], message: &[u8]) -> Result<Vec<Flow>, ScanError> {
     let mut octets = Vec::from_slice(alloc, prefix)?;
     octets.extend_from_slice(message)?;
-    let count = octets.len() as u64;
-    let file = sealed_on(memory(alloc, ROOM)?, octets.as_slice(), count)?;
-    flows_in_file(alloc, file, prefix.len() as u64)
+    flows_in_file(alloc, Held::whole(FILE, octets), prefix.len() as u64)
 }
 
 #[test]

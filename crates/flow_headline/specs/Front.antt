@@ -38,7 +38,8 @@ messages_in RollInstall = []
 messages_in RollDrop = []
 messages_in Retire = []
 
--- What an event with this answer added. One under which the device failed counts as taken.
+-- What an event with this answer added. One under which a fault closed the archive counts as taken; a source that
+-- wasn't read (SourceFault) closes nothing, and adds nothing.
 abbrev pub added_by : Event → Result Answer ArchiveError → List (List ℕ)
 added_by event (Ok answer) = messages_in event
 added_by event (Err Fault) = messages_in event
@@ -82,8 +83,8 @@ pub record HasMore (h : History) (messages : List (List ℕ)) (s : State) : Type
 
 -- ---- fronts
 
--- This is what is left of the archive after a front of the events. Each event that was acknowledged is in it; the
--- device failed under the last event of it at most; and its history is the one before with the front's messages.
+-- This is what is left of the archive after a front of the events. Each event that was acknowledged is in it; a fault
+-- closed the archive under the last event of it at most; and its history is the one before with the front's messages.
 pub record IsFront (s : State) (events : List Event) (answers : List (Result Answer ArchiveError)) (left : State)
     : Type 0 where
   pub taken : ℕ
@@ -96,7 +97,7 @@ pub record IsFront (s : State) (events : List Event) (answers : List (Result Ans
   pub history : (h : History) → HasHistory s h
       → HasMore h (all_added (take taken events) (take taken answers)) left
 
--- Behind an event under which the device failed nothing happens any more.
+-- Behind an event under which a fault closed the archive nothing happens any more.
 abbrev pub EndsAtFault : List (Result Answer ArchiveError) → Type 0
 EndsAtFault [] = Unit {0}
 EndsAtFault (answer ∷ answers) =

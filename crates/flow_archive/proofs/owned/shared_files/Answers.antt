@@ -1,13 +1,10 @@
-use Rattle.std.proofs.Common.{◌≡◌, ℕ, IfOk, Result, Ok, Err, List, map, ◌∙◌, ap, subst}
+use Rattle.std.proofs.Common.{◌≡◌, ℕ, IfOk, List, map, ◌∙◌, ap, subst}
 use Rattle.flow_snapshot.specs.Directories.{sight_of}
 use Rattle.flow_snapshot.proofs.Sharing.{messages_same}
 use Rattle.flow_archive.specs.Owned.{shelf_with, unshared}
+use Rattle.flow_archive.proofs.Marking.{if_ok}
 use Rattle.flow_archive.proofs.Sharing.{same_honest, same_shelf}
 use Rattle.flow_archive.proofs.owned.shared_files.Goals as goal
-
-if_ok : {X E : Type 0} (r : Result X E) (P Q : X → Type 0) → ((x : X) → P x → Q x) → IfOk r P → IfOk r Q
-if_ok (Ok x) P Q f h = f x h
-if_ok (Err e) P Q f h = tt
 
 pub returns-clause-shelf : goal.returns-clause-shelf
 returns-clause-shelf g c =

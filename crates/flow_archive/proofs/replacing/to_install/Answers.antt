@@ -90,7 +90,7 @@ returns-clause-made g c =
     c.file.ensures
     ∙ ap (λ (n : ℕ). installed_manifest m r.kind r.sources (record { file = f.file; length = n }) c.args.next) long in
     let place = count_before (source_of r.kind) m.entries in
-    let place_is : c.place_of-place.result ≡ place = c.place_of-place.ensures
+    let place_is : c.sources_from-place.result ≡ place = c.sources_from-place.ensures
     ∙ ap (λ (l : List Entry). count_before (source_of c.job.inside.kind) l) c.as_slice.ensures
     ∙ ap (λ (k : JobKind). count_before (source_of k) m.entries) kind in
     let entry = made_entry r.kind (staged_of (staged_file f)) (sources_of r.kind r.sources m.entries) in

@@ -25,11 +25,11 @@ use Rattle.flow_archive.proofs.Stand.{stands_for, adding, added, frozen_too}
 use Rattle.flow_archive.proofs.Stepping.{refused, refused_by, acknowledged, failed}
 use Rattle.flow_archive.proofs.Whole.{all_whole}
 use Rattle.flow_archive.proofs.Working.{goes_on, other_file}
+use Rattle.flow_archive.proofs.Inside.{state_of, work_of}
 use Rattle.flow_archive.proofs.archive.Archive.append_batch.Goals as goal
 
 pub returns-in_default-clause-answers : goal.returns-in_default-clause-answers
 returns-in_default-clause-answers g c =
-    let D = g.D.Disk in
     let inside = c.self.inside in
     rw (← c.self.view_is) (
       c.if-self.false,
@@ -53,7 +53,6 @@ returns-in_default-clause-step g c =
 
 pub returns-in_err-batch-clause-answers : goal.returns-in_err-batch-clause-answers
 returns-in_err-batch-clause-answers g c =
-    let D = g.D.Disk in
     let inside = c.self.inside in
     let m = inside.slots.current in
     let with_messages = λ (l : List (List ℕ)). state_in (work_in inside.next inside.job inside.waiting.items) inside.shared m inside.files.items inside.prefix l in
@@ -113,26 +112,21 @@ add_batch-requires-clause-gated g c h image is =
 
 pub returns-in-Err-clause-answers : goal.returns-in-Err-clause-answers
 returns-in-Err-clause-answers g c =
-    let D = g.D.Disk in
     let inside = c.self.inside in
-    let d = inside.disk in
-    let d1 = c.add_batch.new.disk in
     let m = inside.slots.current in
-    let s : State = state_in (work_in inside.next inside.job inside.waiting.items) inside.shared m inside.files.items inside.prefix inside.messages.items in
+    let s = state_of inside in
     let ms = slices c.args.messages.now in
     let batch = c.in_ok-batch.batch in
     let taken = c.in_ok-batch.ensures.taken in
     let counted = (c.self.invariant.0).counted in
     let still = (c.self.invariant.0).still_open c.if-self.false in
     let start : inside.last.prefix ≡ (active_of m).prefix = ap (λ (x : Entry). x.prefix) counted.last_is in
-    let file_is : (active_of m).file ≡ inside.last.file = ap (λ (x : Entry). x.file) (sym counted.last_is) in
     let count : batch.count ≡ octet_sum ms = c.in_ok-batch.ensures.count in
     let long : length ms ≡ length c.args.messages.now = length-map c.args.messages.now _ in
     let fits : inside.end + octet_sum ms ≤ inside.last.prefix + m.limit =
     omega (arith, c.in_ok-batch.ensures.room, count, counted.end_is, start, counted.within.limit) in
     let few : inside.total + length ms < 2 ^ 48 =
     omega (arith, c.in_ok-batch.ensures.positions, long, counted.total_is, counted.within.all) in
-    let within = within_more s inside.last inside.end inside.total ms counted fits few in
     let may : MayAppend s ms = record {
       accepted = (inside.carry, c.admitted.new.carry, still.segment, taken);
       room = omega (arith, fits, counted.end_is, start);
@@ -152,7 +146,7 @@ returns-in-Err-clause-step g c =
     let d = inside.disk in
     let d1 = c.add_batch.new.disk in
     let m = inside.slots.current in
-    let s : State = state_in (work_in inside.next inside.job inside.waiting.items) inside.shared m inside.files.items inside.prefix inside.messages.items in
+    let s = state_of inside in
     let ms = slices c.args.messages.now in
     let batch = c.in_ok-batch.batch in
     let taken = c.in_ok-batch.ensures.taken in
@@ -167,11 +161,6 @@ returns-in-Err-clause-step g c =
     let few : inside.total + length ms < 2 ^ 48 =
     omega (arith, c.in_ok-batch.ensures.positions, long, counted.total_is, counted.within.all) in
     let within = within_more s inside.last inside.end inside.total ms counted fits few in
-    let may : MayAppend s ms = record {
-      accepted = (inside.carry, c.admitted.new.carry, still.segment, taken);
-      room = omega (arith, fits, counted.end_is, start);
-      positions = omega (arith, few, counted.total_is);
-    } in
     rw (← c.self.view_is) (failed D.honest D.moment D.left_since _ _ _ c.add_batch.ensures.honest
     (λ h. by D.moment D.left_since d d1 (StandsForEither (reopened s) (reopened (appended s ms)))
     (StandsBeforeOrAfter s (λ after. after ≡ appended s ms))
@@ -192,7 +181,7 @@ invariant_of-self-in-Ok-add_batch g c =
     let d = inside.disk in
     let d1 = c.add_batch.new.disk in
     let m = inside.slots.current in
-    let s : State = state_in (work_in inside.next inside.job inside.waiting.items) inside.shared m inside.files.items inside.prefix inside.messages.items in
+    let s = state_of inside in
     let ms = slices c.args.messages.now in
     let batch = c.in_ok-batch.batch in
     let taken = c.in_ok-batch.ensures.taken in
@@ -207,11 +196,6 @@ invariant_of-self-in-Ok-add_batch g c =
     let few : inside.total + length ms < 2 ^ 48 =
     omega (arith, c.in_ok-batch.ensures.positions, long, counted.total_is, counted.within.all) in
     let within = within_more s inside.last inside.end inside.total ms counted fits few in
-    let may : MayAppend s ms = record {
-      accepted = (inside.carry, c.admitted.new.carry, still.segment, taken);
-      room = omega (arith, fits, counted.end_is, start);
-      positions = omega (arith, few, counted.total_is);
-    } in
     let pushed : c.put_all.new.kept.items ≡ inside.messages.items ++ ms = c.put_all.ensures
     ∙ ap (λ (l : List (List ℕ)). l ++ batch.copies.items) c.reserve.ensures.items
     ∙ ap (λ (l : List (List ℕ)). inside.messages.items ++ l) c.in_ok-batch.ensures.copies in
@@ -223,7 +207,7 @@ invariant_of-self-in-Ok-add_batch g c =
     let now = counted_more s inside.last inside.end inside.total ms counted fits few some in
     let S : List (List ℕ) → State = λ messages.
     state_in (work_in inside.next inside.job inside.waiting.items) inside.shared m inside.files.items inside.prefix messages in
-    let work = (work_in inside.next inside.job inside.waiting.items) in
+    let work = work_of inside in
     let P : List (List ℕ) → ℕ → ℕ → Type 0 = λ messages end total. IsArchive D.honest D.marks D.held d1
     inside.slots inside.last end total c.admitted.new.carry inside.files.items (S messages) inside.closed
     × IsUnderWay D.honest D.marks D.held d1 (S messages) work inside.closed
@@ -270,26 +254,21 @@ invariant_of-self-in-Ok-add_batch g c =
 
 pub returns-in-Ok-add_batch-clause-answers : goal.returns-in-Ok-add_batch-clause-answers
 returns-in-Ok-add_batch-clause-answers g c =
-    let D = g.D.Disk in
     let inside = c.self.inside in
-    let d = inside.disk in
-    let d1 = c.add_batch.new.disk in
     let m = inside.slots.current in
-    let s : State = state_in (work_in inside.next inside.job inside.waiting.items) inside.shared m inside.files.items inside.prefix inside.messages.items in
+    let s = state_of inside in
     let ms = slices c.args.messages.now in
     let batch = c.in_ok-batch.batch in
     let taken = c.in_ok-batch.ensures.taken in
     let counted = (c.self.invariant.0).counted in
     let still = (c.self.invariant.0).still_open c.if-self.false in
     let start : inside.last.prefix ≡ (active_of m).prefix = ap (λ (x : Entry). x.prefix) counted.last_is in
-    let file_is : (active_of m).file ≡ inside.last.file = ap (λ (x : Entry). x.file) (sym counted.last_is) in
     let count : batch.count ≡ octet_sum ms = c.in_ok-batch.ensures.count in
     let long : length ms ≡ length c.args.messages.now = length-map c.args.messages.now _ in
     let fits : inside.end + octet_sum ms ≤ inside.last.prefix + m.limit =
     omega (arith, c.in_ok-batch.ensures.room, count, counted.end_is, start, counted.within.limit) in
     let few : inside.total + length ms < 2 ^ 48 =
     omega (arith, c.in_ok-batch.ensures.positions, long, counted.total_is, counted.within.all) in
-    let within = within_more s inside.last inside.end inside.total ms counted fits few in
     let may : MayAppend s ms = record {
       accepted = (inside.carry, c.admitted.new.carry, still.segment, taken);
       room = omega (arith, fits, counted.end_is, start);
@@ -318,7 +297,7 @@ returns-in-Ok-add_batch-clause-step g c =
     let d = inside.disk in
     let d1 = c.add_batch.new.disk in
     let m = inside.slots.current in
-    let s : State = state_in (work_in inside.next inside.job inside.waiting.items) inside.shared m inside.files.items inside.prefix inside.messages.items in
+    let s = state_of inside in
     let ms = slices c.args.messages.now in
     let batch = c.in_ok-batch.batch in
     let taken = c.in_ok-batch.ensures.taken in
@@ -333,11 +312,6 @@ returns-in-Ok-add_batch-clause-step g c =
     let few : inside.total + length ms < 2 ^ 48 =
     omega (arith, c.in_ok-batch.ensures.positions, long, counted.total_is, counted.within.all) in
     let within = within_more s inside.last inside.end inside.total ms counted fits few in
-    let may : MayAppend s ms = record {
-      accepted = (inside.carry, c.admitted.new.carry, still.segment, taken);
-      room = omega (arith, fits, counted.end_is, start);
-      positions = omega (arith, few, counted.total_is);
-    } in
     let pushed : c.put_all.new.kept.items ≡ inside.messages.items ++ ms = c.put_all.ensures
     ∙ ap (λ (l : List (List ℕ)). l ++ batch.copies.items) c.reserve.ensures.items
     ∙ ap (λ (l : List (List ℕ)). inside.messages.items ++ l) c.in_ok-batch.ensures.copies in
@@ -384,7 +358,7 @@ invariant_of-self-in-Err-add_batch g c =
     let D = g.D.Disk in
     let inside = c.self.inside in
     let m = inside.slots.current in
-    let work = (work_in inside.next inside.job inside.waiting.items) in
+    let work = work_of inside in
     let S : List (List ℕ) → State = λ l. state_in (work_in inside.next inside.job inside.waiting.items) inside.shared m inside.files.items inside.prefix l in
     let d1 = c.add_batch.new.disk in
     subst (λ (l : List (List ℕ)). IsArchive D.honest D.marks D.held d1 inside.slots inside.last

@@ -2,9 +2,8 @@ use Rattle.std.proofs.Common.{◌≡◌, ◌≤◌, refl, sym, ◌∙◌, ap, su
 use Rattle.flow_manifest.specs.declared.manifest.Kind.{Kind}
 use Rattle.flow_manifest.specs.Following.{count_of, source_of}
 use Rattle.flow_recover.specs.Jobs.{width_made}
-use Rattle.flow_recover.specs.State.{State}
 use Rattle.flow_archive.specs.JobAnswers.{begun}
-use Rattle.flow_archive.specs.Seen.{IsArchive, state_in}
+use Rattle.flow_archive.specs.Seen.{IsArchive}
 use Rattle.flow_archive.specs.UnderWay.{Rolling, Work, fresh, job_in, job_numbers, work_in}
 use Rattle.flow_archive.specs.UnderWay.{HasOwnFiles, IsUnderWay}
 use Rattle.flow_archive.proofs.Sharing.{own_numbers}
@@ -13,6 +12,7 @@ use Rattle.flow_archive.proofs.Stand.{stands_for}
 use Rattle.flow_archive.proofs.Stepping.{refused}
 use Rattle.flow_archive.proofs.Undertaking.{fresh_rolling, job_archive, job_work, no_job, width_some}
 use Rattle.flow_archive.proofs.Undertaking.{without_device}
+use Rattle.flow_archive.proofs.Inside.{state_of, with_rolling, work_of}
 use Rattle.flow_archive.proofs.archive.Archive.begin.Goals as goal
 use Rattle.flow_archive.proofs.archive.Archive.begin.Goals.{then-count-eq0-via-then-count-eq0}
 use Rattle.flow_archive.proofs.archive.Archive.begin.Goals.{then-count-eq0-via-else-count-eq0+then-there-count}
@@ -63,9 +63,8 @@ invariant_of-self g c =
     let inside = c.self.inside in
     let m = inside.slots.current in
     let d = inside.disk in
-    let work = work_in inside.next inside.job inside.waiting.items in
-    let S : Work → State = λ w.
-    state_in w inside.shared m inside.files.items inside.prefix inside.messages.items in
+    let work = work_of inside in
+    let s = state_of inside in
     let W : Rolling → Work = λ r. work_in inside.next (Some r) inside.waiting.items in
     let there : c.count_of-there.result ≡ count_of (source_of c.args.kind) m.entries = c.count_of-there.ensures
     ∙ ap (λ (k : Kind). count_of k c.as_slice.result.now) c.source.ensures
@@ -73,14 +72,14 @@ invariant_of-self g c =
     let some : 1 ≤ c.args.count = omega (arith, c.if-count-eq0.false) in
     let r = fresh c.args.kind c.args.count (width_made c.args.kind m) in
     subst (λ (x : Rolling). IsArchive D.honest D.marks D.held d inside.slots inside.last inside.end inside.total
-    inside.carry inside.files.items (S (W x)) inside.closed
-    × IsUnderWay D.honest D.marks D.held d (S (W x)) (W x) inside.closed
+    inside.carry inside.files.items (with_rolling inside (Some x)) inside.closed
+    × IsUnderWay D.honest D.marks D.held d (with_rolling inside (Some x)) (W x) inside.closed
     × HasOwnFiles inside.shared inside.files.items (W x))
     (sym (c.new.ensures ∙ ap (fresh c.args.kind c.args.count) c.width_made-width.ensures)) (
-      job_archive (S work) (job_in (Some r)) D.honest D.marks D.held d inside.slots inside.last inside.end inside.total
+      job_archive s (job_in (Some r)) D.honest D.marks D.held d inside.slots inside.last inside.end inside.total
           inside.carry inside.files.items inside.closed c.self.invariant.0,
-      job_work (S work) r refl D.honest D.marks D.held d work inside.closed
-          (fresh_rolling (D.honest d) (S work) c.args.kind c.args.count some
+      job_work s r refl D.honest D.marks D.held d work inside.closed
+          (fresh_rolling (D.honest d) s c.args.kind c.args.count some
           (omega (arith, c.if-there-count.false, there))) c.self.invariant.1,
       own_numbers inside.shared inside.files.items work inside.next (Some r)
           (sym (ap job_numbers (no_job inside.job (sym c.is_some.ensures ∙ c.if-is_some.false)))) c.self.invariant.2,
@@ -89,30 +88,24 @@ invariant_of-self g c =
 pub returns-clause-answers : goal.returns-clause-answers
 returns-clause-answers g c =
     let inside = c.self.inside in
-    let m = inside.slots.current in
-    let there : c.count_of-there.result ≡ count_of (source_of c.args.kind) m.entries = c.count_of-there.ensures
-    ∙ ap (λ (k : Kind). count_of k c.as_slice.result.now) c.source.ensures
+    let there : c.count_of-there.result ≡ count_of (source_of c.args.kind) inside.slots.current.entries =
+    c.count_of-there.ensures ∙ ap (λ (k : Kind). count_of k c.as_slice.result.now) c.source.ensures
     ∙ ap (count_of (source_of c.args.kind)) c.as_slice.ensures in
     rw (← c.self.view_is) (
       c.if-self.false,
       no_job inside.job (sym c.is_some.ensures ∙ c.if-is_some.false),
       (omega (arith, c.if-count-eq0.false), omega (arith, c.if-there-count.false, there)),
-      ap (λ (r : Rolling). state_in (work_in inside.next (Some r) inside.waiting.items) inside.shared m
-          inside.files.items inside.prefix inside.messages.items) c.new.ensures,
+      ap (λ (r : Rolling). with_rolling inside (Some r)) c.new.ensures,
     )
 
 pub returns-clause-step : goal.returns-clause-step
 returns-clause-step g c =
     let D = g.D.Disk in
     let inside = c.self.inside in
-    let m = inside.slots.current in
-    let S : Work → State = λ w.
-    state_in w inside.shared m inside.files.items inside.prefix inside.messages.items in
-    let work = work_in inside.next inside.job inside.waiting.items in
-    rw (← c.self.view_is) (without_device D.honest D.moment D.left_since D.held inside.disk (S work)
-    (S (work_in inside.next (Some c.new.result) inside.waiting.items)) inside.closed
-    (λ after. after ≡ begun (S work) c.args.kind c.args.count) tt c.if-self.false
-    (ap (λ (r : Rolling). S (work_in inside.next (Some r) inside.waiting.items)) c.new.ensures) refl
+    let s = state_of inside in
+    rw (← c.self.view_is) (without_device D.honest D.moment D.left_since D.held inside.disk s
+    (with_rolling inside (Some c.new.result)) inside.closed (λ after. after ≡ begun s c.args.kind c.args.count) tt
+    c.if-self.false (ap (λ (r : Rolling). with_rolling inside (Some r)) c.new.ensures) refl
     (λ h image left. g.met.D.Disk.only_now inside.disk image h left)
     (λ h image is. stands_for inside.slots _ image
     ((c.self.invariant.0.still_open c.if-self.false).kept.known h image is)))

@@ -14,6 +14,7 @@ use Rattle.flow_archive.proofs.Owning.{honest_all}
 use Rattle.flow_archive.proofs.Sharing.{own_shared}
 use Rattle.flow_archive.proofs.Shelving.{shelf_is}
 use Rattle.flow_archive.proofs.Working.{goes_on}
+use Rattle.flow_archive.proofs.Inside.{state_of, work_of}
 use Rattle.flow_archive.proofs.archive.Archive.directory.Goals as goal
 
 pub invariant_of-self : goal.invariant_of-self
@@ -21,7 +22,7 @@ invariant_of-self g c =
     let D = g.D.Disk in
     let inside = c.self.inside in
     let m = inside.slots.current in
-    let work = (work_in inside.next inside.job inside.waiting.items) in
+    let work = work_of inside in
     let new = c.shared_files.new.files.items in
     let old = inside.files.items in
     let s : State = state_in work inside.shared m old inside.prefix inside.messages.items in
@@ -43,7 +44,7 @@ invariant_of-self-2 g c =
     let D = g.D.Disk in
     let inside = c.self.inside in
     let m = inside.slots.current in
-    let work = (work_in inside.next inside.job inside.waiting.items) in
+    let work = work_of inside in
     let new = c.shared_files.new.files.items in
     let old = inside.files.items in
     let s : State = state_in work inside.shared m old inside.prefix inside.messages.items in
@@ -90,7 +91,7 @@ returns-clause-shown g c =
     let D = g.D.Disk in
     let inside = c.self.inside in
     let m = inside.slots.current in
-    let s : State = state_in (work_in inside.next inside.job inside.waiting.items) inside.shared m inside.files.items inside.prefix inside.messages.items in
+    let s = state_of inside in
     let held = (c.self.invariant.0).files_are in
     let shelf : c.new.result.shelf ≡ shelf_with m.width m.wide inside.files.items inside.prefix inside.messages.items =
     ap (λ (x : Sight). x.shelf) c.new.ensures ∙ c.in_ok-files.ensures.shelf m.width m.wide in

@@ -17,7 +17,6 @@ use Rattle.flow_archive.proofs.archive.Archive.roll_drop.Goals as goal
 pub returns-in_default-clause-step : goal.returns-in_default-clause-step
 returns-in_default-clause-step g c =
     let D = g.D.Disk in
-    let S = g.D.Sealed.SealedFile in
     let inside = c.self.inside in
     let d = inside.disk in
     let at : Option Rolling → State = state D.honest D.marks D.held inside.slots inside.last inside.end inside.total
@@ -36,9 +35,6 @@ invariant_of-self-in_default-into_file g c =
     let S = g.D.Sealed.SealedFile in
     let inside = c.self.inside in
     let d = inside.disk in
-    let at : Option Rolling → State = state D.honest D.marks D.held inside.slots inside.last inside.end inside.total
-    inside.carry
-    inside.files.items inside.prefix inside.messages.items inside.next inside.shared inside.waiting.items in
     let gone = c.take.ensures.after in
     let j : Rolling = c.in-Some.job in
     let job_was = sym c.take.ensures.value ∙ c.in-Some.is in
@@ -57,7 +53,6 @@ invariant_of-self-in_default-into_file g c =
 pub returns-in_default-into_file-clause-step : goal.returns-in_default-into_file-clause-step
 returns-in_default-into_file-clause-step g c =
     let D = g.D.Disk in
-    let S = g.D.Sealed.SealedFile in
     let inside = c.self.inside in
     let d = inside.disk in
     let at : Option Rolling → State = state D.honest D.marks D.held inside.slots inside.last inside.end inside.total
@@ -76,9 +71,6 @@ invariant_of-self-in-Ok g c =
     let S = g.D.Sealed.SealedFile in
     let inside = c.self.inside in
     let d = inside.disk in
-    let at : Option Rolling → State = state D.honest D.marks D.held inside.slots inside.last inside.end inside.total
-    inside.carry
-    inside.files.items inside.prefix inside.messages.items inside.next inside.shared inside.waiting.items in
     let gone = c.take.ensures.after in
     let j : Rolling = c.in-Some.job in
     let job_was = sym c.take.ensures.value ∙ c.in-Some.is in
@@ -105,9 +97,6 @@ invariant_of-self-in-Err g c =
     let S = g.D.Sealed.SealedFile in
     let inside = c.self.inside in
     let d = inside.disk in
-    let at : Option Rolling → State = state D.honest D.marks D.held inside.slots inside.last inside.end inside.total
-    inside.carry
-    inside.files.items inside.prefix inside.messages.items inside.next inside.shared inside.waiting.items in
     let gone = c.take.ensures.after in
     let j : Rolling = c.in-Some.job in
     let job_was = sym c.take.ensures.value ∙ c.in-Some.is in
@@ -175,20 +164,14 @@ returns-in-Err-clause-answers g c =
     let D = g.D.Disk in
     let S = g.D.Sealed.SealedFile in
     let inside = c.self.inside in
-    let d = inside.disk in
     let at : Option Rolling → State = state D.honest D.marks D.held inside.slots inside.last inside.end inside.total
     inside.carry
     inside.files.items inside.prefix inside.messages.items inside.next inside.shared inside.waiting.items in
     let gone = c.take.ensures.after in
     let j : Rolling = c.in-Some.job in
     let job_was = sym c.take.ensures.value ∙ c.in-Some.is in
-    let was = subst (Has D.honest D.marks D.held inside.slots inside.last inside.end inside.total inside.carry
-    inside.files.items inside.prefix inside.messages.items inside.next inside.shared inside.waiting.items d
-    inside.closed) job_was c.self.invariant in
     let file = c.in-Some-into_file.file in
     let f : Made = made_of S.number S.size S.honest S.octets file in
-    let n = S.number file in
-    let d1 = c.retire.new.self in
     let made : j.staged ≡ Some f = sym c.into_file.ensures
     ∙ ap (made_in S.number S.size S.honest S.octets) c.in-Some-into_file.is in
     rw (← c.self.view_is) (

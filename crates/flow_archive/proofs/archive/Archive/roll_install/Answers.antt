@@ -1,6 +1,5 @@
 use Rattle.std.proofs.Common.{◌≡◌, ◌≢◌, inl, inr, ⊎_elim, ℕ, ◌+◌, ◌≤◌, Bool, true, false, IsTrue, List, Option, None}
 use Rattle.std.proofs.Common.{◌∷◌, ◌++◌, take, drop, refl, sym, ◌∙◌, ap, subst, arith, rules, length, vec_len}
-use Rattle.std.specs.Prelude.{IfSome}
 use Rattle.flow_disk.specs.Disk.{Marks}
 use Rattle.flow_disk.proofs.Moments.{by}
 use Rattle.flow_manifest.specs.declared.manifest.Entry.{Entry}
@@ -19,7 +18,7 @@ use Rattle.flow_archive.specs.JobAnswers.{AnswersInstall, IsInstalled}
 use Rattle.flow_archive.specs.Owned.{Frozen, IsHeldAs}
 use Rattle.flow_archive.specs.Seen.{IsArchive, StandsBeforeOrAfter, state_in}
 use Rattle.flow_archive.specs.UnderWay.{HasOwnFiles}
-use Rattle.flow_archive.specs.UnderWay.{job_in, staged_file, work_in, IsOnDisk, IsRolling, IsStaged, IsUnderWay, Made, Rolling}
+use Rattle.flow_archive.specs.UnderWay.{job_in, staged_file, work_in, IsUnderWay, Made, Rolling}
 use Rattle.flow_archive.specs.declared.refusal.ArchiveError.TheVariants as refusal
 use Rattle.flow_archive.proofs.Answering.{err_is}
 use Rattle.flow_archive.proofs.Directing.{failed_archive}
@@ -31,6 +30,7 @@ use Rattle.flow_archive.proofs.Stepping.{acknowledged, failed, refused, refused_
 use Rattle.flow_archive.proofs.Turning.{has_gate}
 use Rattle.flow_archive.proofs.Working.{goes_on}
 use Rattle.flow_archive.proofs.Written.{is_made_of, told}
+use Rattle.flow_archive.proofs.Inside.{made_there, state_of, the_rolling, the_staged, work_of}
 use Rattle.flow_archive.proofs.archive.Archive.roll_install.Goals as goal
 
 pub returns-in_err-made-clause-answers : goal.returns-in_err-made-clause-answers
@@ -38,9 +38,7 @@ returns-in_err-made-clause-answers g c =
     let D = g.D.Disk in
     let inside = c.self.inside in
     let d = inside.disk in
-    let m = inside.slots.current in
-    let work = work_in inside.next inside.job inside.waiting.items in
-    let s : State = state_in work inside.shared m inside.files.items inside.prefix inside.messages.items in
+    let s = state_of inside in
     let e = c.in_err-made.field-0.0 in
     rw (← c.self.view_is) (err_is c.from_residual.result e (λ x. AnswersInstall (D.honest d) inside.closed s x s)
     c.from_residual.ensures.1 (not_installed (D.honest d) inside.closed s inside.job e c.if-self.false refl
@@ -50,10 +48,6 @@ pub returns-in_err-made-clause-step : goal.returns-in_err-made-clause-step
 returns-in_err-made-clause-step g c =
     let D = g.D.Disk in
     let inside = c.self.inside in
-    let d = inside.disk in
-    let m = inside.slots.current in
-    let work = work_in inside.next inside.job inside.waiting.items in
-    let s : State = state_in work inside.shared m inside.files.items inside.prefix inside.messages.items in
     let e = c.in_err-made.field-0.0 in
     rw (← c.self.view_is) (refused_by D.honest D.moment D.left_since D.held _ _ _ e _ c.from_residual.ensures.1 refl
     (λ same. subst (IsNotInstalled inside.job) same c.in_err-made.ensures.refused)
@@ -65,10 +59,6 @@ install-requires-clause-room g c =
     let D = g.D.Disk in
     let inside = c.self.inside in
     let d = inside.disk in
-    let m = inside.slots.current in
-    let work = work_in inside.next inside.job inside.waiting.items in
-    let s : State = state_in work inside.shared m inside.files.items inside.prefix inside.messages.items in
-    let counted = (c.self.invariant.0).counted in
     let still = (c.self.invariant.0).still_open c.if-self.false in
     subst (λ (n : ℕ). 1 ≤ (D.marks d n).size) (sym (c.file.ensures ∙ ap file_of c.other-slot.ensures))
     (still.kept.ready.slot_room (other inside.slots.current_slot))
@@ -78,10 +68,6 @@ install-requires-clause-thawed g c =
     let D = g.D.Disk in
     let inside = c.self.inside in
     let d = inside.disk in
-    let m = inside.slots.current in
-    let work = work_in inside.next inside.job inside.waiting.items in
-    let s : State = state_in work inside.shared m inside.files.items inside.prefix inside.messages.items in
-    let counted = (c.self.invariant.0).counted in
     let still = (c.self.invariant.0).still_open c.if-self.false in
     subst (λ (n : ℕ). (D.marks d n).frozen ≡ false) (sym (c.file.ensures ∙ ap file_of c.other-slot.ensures))
     (still.kept.ready.slot_thawed (other inside.slots.current_slot))
@@ -91,10 +77,6 @@ install-requires-clause-settled g c =
     let D = g.D.Disk in
     let inside = c.self.inside in
     let d = inside.disk in
-    let m = inside.slots.current in
-    let work = work_in inside.next inside.job inside.waiting.items in
-    let s : State = state_in work inside.shared m inside.files.items inside.prefix inside.messages.items in
-    let counted = (c.self.invariant.0).counted in
     let still = (c.self.invariant.0).still_open c.if-self.false in
     subst (λ (n : ℕ). (D.marks d n).settled ≡ true) (sym (c.file.ensures ∙ ap file_of c.other-slot.ensures))
     (still.kept.ready.slot_settled (other inside.slots.current_slot))
@@ -105,16 +87,11 @@ exchange-requires-clause-within g c =
     let inside = c.self.inside in
     let d = inside.disk in
     let m = inside.slots.current in
-    let work = work_in inside.next inside.job inside.waiting.items in
-    let s : State = state_in work inside.shared m inside.files.items inside.prefix inside.messages.items in
+    let s = state_of inside in
     let counted = (c.self.invariant.0).counted in
-    let still = (c.self.invariant.0).still_open c.if-self.false in
-    let made = c.in_ok-made.made in
     let is = c.in_ok-made.ensures.made in
     let r : Rolling = is.r in
-    let f : Made = is.f in
-    let rolling : IsRolling (D.honest d) s r = subst (λ (j : Option Rolling). IfSome j (IsRolling (D.honest d) s))
-    is.job_is (c.self.invariant.1).job in
+    let rolling = the_rolling (D.honest d) s inside.job r is.job_is c.self.invariant.1.job in
     let len : vec_len inside.files ≡ length inside.files.items = search rules in
     omega (
       arith,
@@ -132,9 +109,6 @@ install-requires-clause-gate g c h =
     let inside = c.self.inside in
     let d = inside.disk in
     let m = inside.slots.current in
-    let work = work_in inside.next inside.job inside.waiting.items in
-    let s : State = state_in work inside.shared m inside.files.items inside.prefix inside.messages.items in
-    let counted = (c.self.invariant.0).counted in
     let still = (c.self.invariant.0).still_open c.if-self.false in
     let known = still.kept.known h (λ n. (D.held d n).reads) (λ n. g.met.D.Disk.reads_image d n h) in
     subst (λ (n : ℕ). HasGate inside.slots.other_open (D.held d n).reads)
@@ -146,10 +120,7 @@ pub returns-in_default-clause-step : goal.returns-in_default-clause-step
 returns-in_default-clause-step g c =
     let D = g.D.Disk in
     let inside = c.self.inside in
-    let d = inside.disk in
     let m = inside.slots.current in
-    let work = work_in inside.next inside.job inside.waiting.items in
-    let s : State = state_in work inside.shared m inside.files.items inside.prefix inside.messages.items in
     rw (← c.self.view_is) (refused D.honest D.moment D.left_since D.held _ _ _ refusal.OutOfMemory
     (ap (λ (l : List Frozen). record {
       disk = inside.disk;
@@ -161,26 +132,11 @@ returns-in_default-clause-step g c =
 
 pub returns-in_default-clause-answers : goal.returns-in_default-clause-answers
 returns-in_default-clause-answers g c =
-    let D = g.D.Disk in
     let inside = c.self.inside in
-    let d = inside.disk in
     let m = inside.slots.current in
-    let work = work_in inside.next inside.job inside.waiting.items in
-    let s : State = state_in work inside.shared m inside.files.items inside.prefix inside.messages.items in
-    let counted = (c.self.invariant.0).counted in
-    let still = (c.self.invariant.0).still_open c.if-self.false in
-    let made = c.in_ok-made.made in
     let is = c.in_ok-made.ensures.made in
     let r : Rolling = is.r in
     let f : Made = is.f in
-    let rolling : IsRolling (D.honest d) s r = subst (λ (j : Option Rolling). IfSome j (IsRolling (D.honest d) s))
-    is.job_is (c.self.invariant.1).job in
-    let staged : IsStaged (D.honest d) s r f = subst (λ (x : Option Made). IfSome x (IsStaged (D.honest d) s r))
-    is.staged_is rolling.staged in
-    let there : IsOnDisk D.honest D.marks D.held d f = subst (λ (x : Option Made). IfSome x
-    (IsOnDisk D.honest D.marks D.held d)) is.staged_is
-    (subst (λ (j : Option Rolling). IfSome j (λ r. IfSome r.staged (IsOnDisk D.honest D.marks D.held d))) is.job_is
-    ((c.self.invariant.1).on_disk c.if-self.false)) in
     rw (← c.self.view_is) (
       c.if-self.false,
       (told r, ap job_in is.job_is, some_made r f is.staged_is),
@@ -194,8 +150,6 @@ invariant_of-self g c =
     let inside = c.self.inside in
     let d = inside.disk in
     let m = inside.slots.current in
-    let work = work_in inside.next inside.job inside.waiting.items in
-    let s : State = state_in work inside.shared m inside.files.items inside.prefix inside.messages.items in
     let S : List Frozen → State = λ l. state_in (work_in inside.next inside.job l) inside.shared m inside.files.items
     inside.prefix inside.messages.items in
     subst (λ (l : List Frozen). IsArchive D.honest D.marks D.held d inside.slots inside.last inside.end inside.total
@@ -210,8 +164,8 @@ invariant_of-self-in-Err-install g c =
     let inside = c.self.inside in
     let d = inside.disk in
     let m = inside.slots.current in
-    let work = work_in inside.next inside.job inside.waiting.items in
-    let s : State = state_in work inside.shared m inside.files.items inside.prefix inside.messages.items in
+    let work = work_of inside in
+    let s = state_of inside in
     let d1 = c.install.new.disk in
     let S : List Frozen → State = λ l. state_in (work_in inside.next inside.job l) inside.shared m inside.files.items
     inside.prefix inside.messages.items in
@@ -230,26 +184,11 @@ invariant_of-self-in-Err-install g c =
 
 pub returns-in-Err-clause-answers : goal.returns-in-Err-clause-answers
 returns-in-Err-clause-answers g c =
-    let D = g.D.Disk in
     let inside = c.self.inside in
-    let d = inside.disk in
     let m = inside.slots.current in
-    let work = work_in inside.next inside.job inside.waiting.items in
-    let s : State = state_in work inside.shared m inside.files.items inside.prefix inside.messages.items in
-    let counted = (c.self.invariant.0).counted in
-    let still = (c.self.invariant.0).still_open c.if-self.false in
-    let made = c.in_ok-made.made in
     let is = c.in_ok-made.ensures.made in
     let r : Rolling = is.r in
     let f : Made = is.f in
-    let rolling : IsRolling (D.honest d) s r = subst (λ (j : Option Rolling). IfSome j (IsRolling (D.honest d) s))
-    is.job_is (c.self.invariant.1).job in
-    let staged : IsStaged (D.honest d) s r f = subst (λ (x : Option Made). IfSome x (IsStaged (D.honest d) s r))
-    is.staged_is rolling.staged in
-    let there : IsOnDisk D.honest D.marks D.held d f = subst (λ (x : Option Made). IfSome x
-    (IsOnDisk D.honest D.marks D.held d)) is.staged_is
-    (subst (λ (j : Option Rolling). IfSome j (λ r. IfSome r.staged (IsOnDisk D.honest D.marks D.held d))) is.job_is
-    ((c.self.invariant.1).on_disk c.if-self.false)) in
     rw (← c.self.view_is) (
       c.if-self.false,
       (told r, ap job_in is.job_is, some_made r f is.staged_is),
@@ -263,22 +202,15 @@ returns-in-Err-clause-step g c =
     let inside = c.self.inside in
     let d = inside.disk in
     let m = inside.slots.current in
-    let work = work_in inside.next inside.job inside.waiting.items in
-    let s : State = state_in work inside.shared m inside.files.items inside.prefix inside.messages.items in
-    let counted = (c.self.invariant.0).counted in
+    let s = state_of inside in
     let still = (c.self.invariant.0).still_open c.if-self.false in
-    let made = c.in_ok-made.made in
     let is = c.in_ok-made.ensures.made in
     let r : Rolling = is.r in
     let f : Made = is.f in
-    let rolling : IsRolling (D.honest d) s r = subst (λ (j : Option Rolling). IfSome j (IsRolling (D.honest d) s))
-    is.job_is (c.self.invariant.1).job in
-    let staged : IsStaged (D.honest d) s r f = subst (λ (x : Option Made). IfSome x (IsStaged (D.honest d) s r))
-    is.staged_is rolling.staged in
-    let there : IsOnDisk D.honest D.marks D.held d f = subst (λ (x : Option Made). IfSome x
-    (IsOnDisk D.honest D.marks D.held d)) is.staged_is
-    (subst (λ (j : Option Rolling). IfSome j (λ r. IfSome r.staged (IsOnDisk D.honest D.marks D.held d))) is.job_is
-    ((c.self.invariant.1).on_disk c.if-self.false)) in
+    let rolling = the_rolling (D.honest d) s inside.job r is.job_is c.self.invariant.1.job in
+    let staged = the_staged (D.honest d) s r f is.staged_is rolling in
+    let there = made_there D.honest D.marks D.held d inside.job r f is.job_is is.staged_is
+    (c.self.invariant.1.on_disk c.if-self.false) in
     let after : State = replaced s r.kind r.sources (staged_file f) in
     let valid : IsValidManifest after.manifest = subst IsValidManifest is.now_is is.valid in
     let slot_is : c.file.result ≡ file_of (other inside.slots.current_slot) =
@@ -327,26 +259,9 @@ returns-in-Err-clause-cause g c =
 
 pub made_file-file-requires : goal.made_file-file-requires
 made_file-file-requires g c =
-    let D = g.D.Disk in
-    let inside = c.self.inside in
-    let d = inside.disk in
-    let m = inside.slots.current in
-    let work = work_in inside.next inside.job inside.waiting.items in
-    let s : State = state_in work inside.shared m inside.files.items inside.prefix inside.messages.items in
-    let counted = (c.self.invariant.0).counted in
-    let still = (c.self.invariant.0).still_open c.if-self.false in
-    let made = c.in_ok-made.made in
     let is = c.in_ok-made.ensures.made in
     let r : Rolling = is.r in
     let f : Made = is.f in
-    let rolling : IsRolling (D.honest d) s r = subst (λ (j : Option Rolling). IfSome j (IsRolling (D.honest d) s))
-    is.job_is (c.self.invariant.1).job in
-    let staged : IsStaged (D.honest d) s r f = subst (λ (x : Option Made). IfSome x (IsStaged (D.honest d) s r))
-    is.staged_is rolling.staged in
-    let there : IsOnDisk D.honest D.marks D.held d f = subst (λ (x : Option Made). IfSome x
-    (IsOnDisk D.honest D.marks D.held d)) is.staged_is
-    (subst (λ (j : Option Rolling). IfSome j (λ r. IfSome r.staged (IsOnDisk D.honest D.marks D.held d))) is.job_is
-    ((c.self.invariant.1).on_disk c.if-self.false)) in
     let e = is.entry_is in (
       r,
       f,
@@ -364,22 +279,18 @@ invariant_of-self-in-Ok-install g c =
     let inside = c.self.inside in
     let d = inside.disk in
     let m = inside.slots.current in
-    let work = work_in inside.next inside.job inside.waiting.items in
-    let s : State = state_in work inside.shared m inside.files.items inside.prefix inside.messages.items in
+    let work = work_of inside in
+    let s = state_of inside in
     let counted = (c.self.invariant.0).counted in
     let still = (c.self.invariant.0).still_open c.if-self.false in
     let made = c.in_ok-made.made in
     let is = c.in_ok-made.ensures.made in
     let r : Rolling = is.r in
     let f : Made = is.f in
-    let rolling : IsRolling (D.honest d) s r = subst (λ (j : Option Rolling). IfSome j (IsRolling (D.honest d) s))
-    is.job_is (c.self.invariant.1).job in
-    let staged : IsStaged (D.honest d) s r f = subst (λ (x : Option Made). IfSome x (IsStaged (D.honest d) s r))
-    is.staged_is rolling.staged in
-    let there : IsOnDisk D.honest D.marks D.held d f = subst (λ (x : Option Made). IfSome x
-    (IsOnDisk D.honest D.marks D.held d)) is.staged_is
-    (subst (λ (j : Option Rolling). IfSome j (λ r. IfSome r.staged (IsOnDisk D.honest D.marks D.held d))) is.job_is
-    ((c.self.invariant.1).on_disk c.if-self.false)) in
+    let rolling = the_rolling (D.honest d) s inside.job r is.job_is c.self.invariant.1.job in
+    let staged = the_staged (D.honest d) s r f is.staged_is rolling in
+    let there = made_there D.honest D.marks D.held d inside.job r f is.job_is is.staged_is
+    (c.self.invariant.1.on_disk c.if-self.false) in
     let after : State = replaced s r.kind r.sources (staged_file f) in
     let valid : IsValidManifest after.manifest = subst IsValidManifest is.now_is is.valid in
     let slot_is : c.file.result ≡ file_of (other inside.slots.current_slot) =
@@ -398,8 +309,6 @@ invariant_of-self-in-Ok-install g c =
       known = still.kept.known h;
       staged = λ image at. there.octets h (image f.file) (at f.file);
     } in
-    let is_made = λ (h : IsTrue (D.honest d)). is_made_of (D.honest d) s r f.octets rolling
-    (omega (arith, staged.all)) h (staged.made h) in
     let kept_waiting : c.make_room.new.waiting.items ≡ inside.waiting.items = c.make_room.ensures.same in
     let d1 = c.install.new.disk in
     let part : Frozen = c.made_file-file.result in
@@ -418,22 +327,7 @@ invariant_of-self-in-Ok-install g c =
     ∙ ap (λ (n : ℕ). inside.waiting.items ++ take made.sources (drop n files)) is.place_is
     ∙ ap (λ (n : ℕ). inside.waiting.items ++ take n (drop place files)) is.sources_is in
     let none_is : c.made_file-file.new.job ≡ None = c.made_file-file.ensures.none in
-    let now_state : state_in (work_in inside.next c.made_file-file.new.job c.exchange.new.waiting.items) inside.shared
-    made.manifest c.exchange.new.files.items inside.prefix inside.messages.items
-    ≡ then_state D.honest D.marks D.held work inside.shared d d1 inside.slots inside.last inside.end inside.total
-    inside.carry files inside.prefix inside.messages.items r.kind r.sources f part =
-    ap (λ (j : Option Rolling). state_in (work_in inside.next j c.exchange.new.waiting.items) inside.shared
-    made.manifest c.exchange.new.files.items inside.prefix inside.messages.items) none_is
-    ∙ ap (λ (l : List Frozen). state_in (work_in inside.next None l) inside.shared made.manifest
-    c.exchange.new.files.items inside.prefix inside.messages.items) wait_is
-    ∙ ap (λ (x : Manifest). state_in (work_in inside.next None (inside.waiting.items ++ take r.sources (drop place
-    files))) inside.shared x c.exchange.new.files.items inside.prefix inside.messages.items) is.now_is
-    ∙ ap (λ (l : List Frozen). state_in (work_in inside.next None (inside.waiting.items ++ take r.sources (drop place
-    files))) inside.shared after.manifest l inside.prefix inside.messages.items) rest_is in
     let all = (c.self.invariant.0).files_are in
-    let now_is = now_state ∙ then_is D.honest D.marks D.held work inside.shared d d1 inside.slots inside.last inside.end
-    inside.total inside.carry files inside.prefix inside.messages.items r.kind r.sources f part counted.valid
-    rolling.few all part_held in
     let P : Manifest → Slot → Option Rolling → List Frozen → List Frozen → Type 0 = λ made_now slot j w l.
     IsArchive D.honest D.marks D.held d1
     (record { current = made_now; current_slot = slot; other_open = true }) inside.last inside.end inside.total
@@ -487,40 +381,16 @@ returns-in-Ok-install-clause-answers g c =
     let inside = c.self.inside in
     let d = inside.disk in
     let m = inside.slots.current in
-    let work = work_in inside.next inside.job inside.waiting.items in
-    let s : State = state_in work inside.shared m inside.files.items inside.prefix inside.messages.items in
+    let work = work_of inside in
+    let s = state_of inside in
     let counted = (c.self.invariant.0).counted in
-    let still = (c.self.invariant.0).still_open c.if-self.false in
     let made = c.in_ok-made.made in
     let is = c.in_ok-made.ensures.made in
     let r : Rolling = is.r in
     let f : Made = is.f in
-    let rolling : IsRolling (D.honest d) s r = subst (λ (j : Option Rolling). IfSome j (IsRolling (D.honest d) s))
-    is.job_is (c.self.invariant.1).job in
-    let staged : IsStaged (D.honest d) s r f = subst (λ (x : Option Made). IfSome x (IsStaged (D.honest d) s r))
-    is.staged_is rolling.staged in
-    let there : IsOnDisk D.honest D.marks D.held d f = subst (λ (x : Option Made). IfSome x
-    (IsOnDisk D.honest D.marks D.held d)) is.staged_is
-    (subst (λ (j : Option Rolling). IfSome j (λ r. IfSome r.staged (IsOnDisk D.honest D.marks D.held d))) is.job_is
-    ((c.self.invariant.1).on_disk c.if-self.false)) in
+    let rolling = the_rolling (D.honest d) s inside.job r is.job_is c.self.invariant.1.job in
+    let staged = the_staged (D.honest d) s r f is.staged_is rolling in
     let after : State = replaced s r.kind r.sources (staged_file f) in
-    let valid : IsValidManifest after.manifest = subst IsValidManifest is.now_is is.valid in
-    let slot_is : c.file.result ≡ file_of (other inside.slots.current_slot) =
-    c.file.ensures ∙ ap file_of c.other-slot.ensures in
-    let ready : IsTrue (D.honest d) → IsInstall (D.held d) inside.slots c.file.result c.as_slice.result.now r.kind
-    r.sources (staged_file f) s = λ h. record {
-      slot_is = sym slot_is;
-      few = rolling.few;
-      valid = valid;
-      body_is = c.as_slice.ensures.value ∙ is.body_is ∙ ap manifest_octets is.now_is;
-      carry = inside.carry;
-      hands_on = still.hands_on h;
-      table = r.rows;
-      sums = (staged.made h).0;
-      elsewhere = staged.unnamed.from;
-      known = still.kept.known h;
-      staged = λ image at. there.octets h (image f.file) (at f.file);
-    } in
     let is_made = λ (h : IsTrue (D.honest d)). is_made_of (D.honest d) s r f.octets rolling
     (omega (arith, staged.all)) h (staged.made h) in
     let kept_waiting : c.make_room.new.waiting.items ≡ inside.waiting.items = c.make_room.ensures.same in
@@ -570,22 +440,18 @@ returns-in-Ok-install-clause-step g c =
     let inside = c.self.inside in
     let d = inside.disk in
     let m = inside.slots.current in
-    let work = work_in inside.next inside.job inside.waiting.items in
-    let s : State = state_in work inside.shared m inside.files.items inside.prefix inside.messages.items in
+    let work = work_of inside in
+    let s = state_of inside in
     let counted = (c.self.invariant.0).counted in
     let still = (c.self.invariant.0).still_open c.if-self.false in
     let made = c.in_ok-made.made in
     let is = c.in_ok-made.ensures.made in
     let r : Rolling = is.r in
     let f : Made = is.f in
-    let rolling : IsRolling (D.honest d) s r = subst (λ (j : Option Rolling). IfSome j (IsRolling (D.honest d) s))
-    is.job_is (c.self.invariant.1).job in
-    let staged : IsStaged (D.honest d) s r f = subst (λ (x : Option Made). IfSome x (IsStaged (D.honest d) s r))
-    is.staged_is rolling.staged in
-    let there : IsOnDisk D.honest D.marks D.held d f = subst (λ (x : Option Made). IfSome x
-    (IsOnDisk D.honest D.marks D.held d)) is.staged_is
-    (subst (λ (j : Option Rolling). IfSome j (λ r. IfSome r.staged (IsOnDisk D.honest D.marks D.held d))) is.job_is
-    ((c.self.invariant.1).on_disk c.if-self.false)) in
+    let rolling = the_rolling (D.honest d) s inside.job r is.job_is c.self.invariant.1.job in
+    let staged = the_staged (D.honest d) s r f is.staged_is rolling in
+    let there = made_there D.honest D.marks D.held d inside.job r f is.job_is is.staged_is
+    (c.self.invariant.1.on_disk c.if-self.false) in
     let after : State = replaced s r.kind r.sources (staged_file f) in
     let valid : IsValidManifest after.manifest = subst IsValidManifest is.now_is is.valid in
     let slot_is : c.file.result ≡ file_of (other inside.slots.current_slot) =

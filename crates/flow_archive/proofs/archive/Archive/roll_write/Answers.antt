@@ -22,6 +22,7 @@ use Rattle.flow_archive.proofs.Stepping.{acknowledged, failed, refused_by}
 use Rattle.flow_archive.proofs.Working.{goes_on}
 use Rattle.flow_archive.proofs.Written.{archive_with, beside, holding, is_made_of, is_written, is_written_before, made_is}
 use Rattle.flow_archive.proofs.Written.{may_write, none_made, own_written, not_written, ready_beside, staged_at, stands_alone, told, work_written}
+use Rattle.flow_archive.proofs.Inside.{state_of, with_rolling}
 use Rattle.flow_archive.proofs.archive.Archive.roll_write.Goals as goal
 
 pub returns-then-generations_kept-gt0-clause-answers : goal.returns-then-generations_kept-gt0-clause-answers
@@ -29,10 +30,7 @@ returns-then-generations_kept-gt0-clause-answers g c =
     let D = g.D.Disk in
     let inside = c.self.inside in
     let d = inside.disk in
-    let m = inside.slots.current in
-    let S : Option Rolling → State = λ j. state_in (work_in inside.next j inside.waiting.items) inside.shared m
-    inside.files.items inside.prefix inside.messages.items in
-    let s : State = S inside.job in
+    let s = state_of inside in
     rw (← c.self.view_is) (
       c.if-self.false,
       is_written_before (D.honest d) (D.honest d) s inside.job refl
@@ -44,12 +42,8 @@ returns-then-generations_kept-gt0-clause-step g c =
     let D = g.D.Disk in
     let inside = c.self.inside in
     let d = inside.disk in
-    let m = inside.slots.current in
-    let S : Option Rolling → State = λ j. state_in (work_in inside.next j inside.waiting.items) inside.shared m
-    inside.files.items inside.prefix inside.messages.items in
-    let s : State = S inside.job in
+    let s = state_of inside in
     let still = (c.self.invariant.0).still_open c.if-self.false in
-    let counted = (c.self.invariant.0).counted in
     rw (← c.self.view_is) (acknowledged D.honest D.moment D.left_since _ _ _ _ refl
     (λ h. started D.moment D.left_since d (StandsBeforeOrAfter s (λ x. IsWritten true s x))
     (λ image left. inl (stands_for inside.slots s image (still.kept.known h image (g.met.D.Disk.only_now d image h left)))))
@@ -63,10 +57,7 @@ returns-in_err-octets-clause-answers g c =
     let D = g.D.Disk in
     let inside = c.self.inside in
     let d = inside.disk in
-    let m = inside.slots.current in
-    let S : Option Rolling → State = λ j. state_in (work_in inside.next j inside.waiting.items) inside.shared m
-    inside.files.items inside.prefix inside.messages.items in
-    let s : State = S inside.job in
+    let s = state_of inside in
     let none : job_generations (job_in inside.job) ≡ 0 = omega (arith, c.if-generations_kept-gt0.false, c.generations_kept.ensures) in
     let e = c.in_err-octets.field-0.0 in
     rw (← c.self.view_is) (err_is c.from_residual.result e (λ x. AnswersWrite (D.honest d) inside.closed s x s)
@@ -77,11 +68,7 @@ pub returns-in_err-octets-clause-step : goal.returns-in_err-octets-clause-step
 returns-in_err-octets-clause-step g c =
     let D = g.D.Disk in
     let inside = c.self.inside in
-    let d = inside.disk in
     let m = inside.slots.current in
-    let S : Option Rolling → State = λ j. state_in (work_in inside.next j inside.waiting.items) inside.shared m
-    inside.files.items inside.prefix inside.messages.items in
-    let s : State = S inside.job in
     let e = c.in_err-octets.field-0.0 in
     rw (← c.self.view_is) (refused_by D.honest D.moment D.left_since D.held _ _ _ e _ c.from_residual.ensures.1 refl
     (λ same. subst (IsNotMade inside.job inside.next m.generation) same c.in_err-octets.ensures.refused)
@@ -92,11 +79,7 @@ pub returns-in_err-octets-clause-cause : goal.returns-in_err-octets-clause-cause
 returns-in_err-octets-clause-cause g c =
     let D = g.D.Disk in
     let inside = c.self.inside in
-    let d = inside.disk in
     let m = inside.slots.current in
-    let S : Option Rolling → State = λ j. state_in (work_in inside.next j inside.waiting.items) inside.shared m
-    inside.files.items inside.prefix inside.messages.items in
-    let s : State = S inside.job in
     let e = c.in_err-octets.field-0.0 in
     let n = D.faults c.args.self.now.disk in
     err_is c.from_residual.result e (λ x. HasCause refusal.Fault n n x) c.from_residual.ensures.1 (record {
@@ -109,15 +92,8 @@ returns-in_err-octets-clause-cause g c =
 
 pub stage-requires : goal.stage-requires
 stage-requires g c =
-    let D = g.D.Disk in
     let inside = c.self.inside in
-    let d = inside.disk in
-    let m = inside.slots.current in
-    let S : Option Rolling → State = λ j. state_in (work_in inside.next j inside.waiting.items) inside.shared m
-    inside.files.items inside.prefix inside.messages.items in
-    let s : State = S inside.job in
     let still = (c.self.invariant.0).still_open c.if-self.false in
-    let counted = (c.self.invariant.0).counted in
     record { thawed = still.kept.ready.thawed inside.next (inr (omega arith)) }
 
 pub invariant_of-self : goal.invariant_of-self
@@ -126,9 +102,7 @@ invariant_of-self g c =
     let inside = c.self.inside in
     let d = inside.disk in
     let m = inside.slots.current in
-    let S : Option Rolling → State = λ j. state_in (work_in inside.next j inside.waiting.items) inside.shared m
-    inside.files.items inside.prefix inside.messages.items in
-    let s : State = S inside.job in
+    let S = with_rolling inside in
     let made = c.in_ok-octets.ensures.made in
     let r : Rolling = made.0 in
     let may = made.2 in
@@ -196,16 +170,13 @@ returns-in-Ok-clause-answers g c =
     let inside = c.self.inside in
     let d = inside.disk in
     let m = inside.slots.current in
-    let S : Option Rolling → State = λ j. state_in (work_in inside.next j inside.waiting.items) inside.shared m
-    inside.files.items inside.prefix inside.messages.items in
-    let s : State = S inside.job in
+    let s = state_of inside in
     let none : job_generations (job_in inside.job) ≡ 0 = omega (arith, c.if-generations_kept-gt0.false, c.generations_kept.ensures) in
     let made = c.in_ok-octets.ensures.made in
     let r : Rolling = made.0 in
     let may = made.2 in
     let given = c.as_slice.result.now in
     let raw = c.in-Ok.file in
-    let d1 = c.stage.new.disk in
     let f : Made = made_of g.D.Sealed.SealedFile.number g.D.Sealed.SealedFile.size g.D.Sealed.SealedFile.honest
     g.D.Sealed.SealedFile.octets raw in
     let told_of = c.in-Ok.ensures.staged in
@@ -233,9 +204,7 @@ returns-in-Ok-clause-step g c =
     let inside = c.self.inside in
     let d = inside.disk in
     let m = inside.slots.current in
-    let S : Option Rolling → State = λ j. state_in (work_in inside.next j inside.waiting.items) inside.shared m
-    inside.files.items inside.prefix inside.messages.items in
-    let s : State = S inside.job in
+    let s = state_of inside in
     let still = (c.self.invariant.0).still_open c.if-self.false in
     let counted = (c.self.invariant.0).counted in
     let none : job_generations (job_in inside.job) ≡ 0 = omega (arith, c.if-generations_kept-gt0.false, c.generations_kept.ensures) in
@@ -277,10 +246,7 @@ invariant_of-self-in-Err g c =
     let D = g.D.Disk in
     let inside = c.self.inside in
     let d = inside.disk in
-    let m = inside.slots.current in
-    let S : Option Rolling → State = λ j. state_in (work_in inside.next j inside.waiting.items) inside.shared m
-    inside.files.items inside.prefix inside.messages.items in
-    let s : State = S inside.job in
+    let s = state_of inside in
     let d1 = c.stage.new.disk in (
       failed_archive D.honest D.marks D.held d d1 inside.slots inside.last inside.end inside.total inside.carry
           inside.carry inside.files.items s inside.closed c.self.invariant.0 c.stage.ensures.honest,
@@ -292,13 +258,8 @@ invariant_of-self-in-Err g c =
 
 pub returns-clause-answers : goal.returns-clause-answers
 returns-clause-answers g c =
-    let D = g.D.Disk in
     let inside = c.self.inside in
-    let d = inside.disk in
-    let m = inside.slots.current in
-    let S : Option Rolling → State = λ j. state_in (work_in inside.next j inside.waiting.items) inside.shared m
-    inside.files.items inside.prefix inside.messages.items in
-    let s : State = S inside.job in
+    let s = state_of inside in
     let none : job_generations (job_in inside.job) ≡ 0 = omega (arith, c.if-generations_kept-gt0.false, c.generations_kept.ensures) in
     let made = c.in_ok-octets.ensures.made in
     rw (← c.self.view_is) (
@@ -317,10 +278,7 @@ returns-clause-step g c =
     let D = g.D.Disk in
     let inside = c.self.inside in
     let d = inside.disk in
-    let m = inside.slots.current in
-    let S : Option Rolling → State = λ j. state_in (work_in inside.next j inside.waiting.items) inside.shared m
-    inside.files.items inside.prefix inside.messages.items in
-    let s : State = S inside.job in
+    let s = state_of inside in
     let still = (c.self.invariant.0).still_open c.if-self.false in
     let counted = (c.self.invariant.0).counted in
     let d1 = c.stage.new.disk in

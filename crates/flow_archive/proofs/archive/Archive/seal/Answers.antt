@@ -30,6 +30,7 @@ use Rattle.flow_archive.proofs.Stand.{slot_below, stands_for}
 use Rattle.flow_archive.proofs.Stepping.{refused, refused_by, acknowledged, failed}
 use Rattle.flow_archive.proofs.Turning.{has_gate}
 use Rattle.flow_archive.proofs.Working.{goes_on, other_file}
+use Rattle.flow_archive.proofs.Inside.{state_of, work_of}
 use Rattle.flow_archive.proofs.archive.Archive.seal.Goals as goal
 
 pub returns-in_err-next-clause-answers : goal.returns-in_err-next-clause-answers
@@ -38,7 +39,7 @@ returns-in_err-next-clause-answers g c =
     let inside = c.self.inside in
     let d = inside.disk in
     let m = inside.slots.current in
-    let s : State = state_in (work_in inside.next inside.job inside.waiting.items) inside.shared m inside.files.items inside.prefix inside.messages.items in
+    let s = state_of inside in
     let len : vec_len inside.messages ≡ length inside.messages.items = search rules in
     let count : c.len-count.result ≡ length s.active.messages = c.len-count.ensures ∙ len in
     let e = c.in_err-next.field-0.0 in
@@ -73,12 +74,8 @@ returns-in_default-clause-step g c =
 
 pub returns-in_default-clause-answers : goal.returns-in_default-clause-answers
 returns-in_default-clause-answers g c =
-    let D = g.D.Disk in
     let inside = c.self.inside in
-    let d = inside.disk in
     let m = inside.slots.current in
-    let s : State = state_in (work_in inside.next inside.job inside.waiting.items) inside.shared m inside.files.items inside.prefix inside.messages.items in
-    let counted = (c.self.invariant.0).counted in
     rw (← c.self.view_is) (
       c.if-self.false,
       (ap (λ (l : List Frozen). state_in (work_in inside.next inside.job inside.waiting.items) inside.shared m l inside.prefix inside.messages.items)
@@ -90,11 +87,9 @@ next_segment-requires-clause-valid g c = (c.self.invariant.0).counted.valid
 
 pub next_segment-requires-clause-long : goal.next_segment-requires-clause-long
 next_segment-requires-clause-long g c some =
-    let D = g.D.Disk in
     let inside = c.self.inside in
-    let d = inside.disk in
     let m = inside.slots.current in
-    let s : State = state_in (work_in inside.next inside.job inside.waiting.items) inside.shared m inside.files.items inside.prefix inside.messages.items in
+    let s = state_of inside in
     let counted = (c.self.invariant.0).counted in
     let len : vec_len inside.messages ≡ length inside.messages.items = search rules in
     let count : c.len-count.result ≡ length s.active.messages = c.len-count.ensures ∙ len in
@@ -103,21 +98,13 @@ next_segment-requires-clause-long g c some =
 
 pub next_segment-requires-clause-within : goal.next_segment-requires-clause-within
 next_segment-requires-clause-within g c =
-    let D = g.D.Disk in
-    let inside = c.self.inside in
-    let d = inside.disk in
-    let m = inside.slots.current in
-    let s : State = state_in (work_in inside.next inside.job inside.waiting.items) inside.shared m inside.files.items inside.prefix inside.messages.items in
     let counted = (c.self.invariant.0).counted in
     omega (arith, counted.end_is, counted.within.limit)
 
 pub next_segment-requires-clause-all : goal.next_segment-requires-clause-all
 next_segment-requires-clause-all g c =
-    let D = g.D.Disk in
     let inside = c.self.inside in
-    let d = inside.disk in
-    let m = inside.slots.current in
-    let s : State = state_in (work_in inside.next inside.job inside.waiting.items) inside.shared m inside.files.items inside.prefix inside.messages.items in
+    let s = state_of inside in
     let counted = (c.self.invariant.0).counted in
     let len : vec_len inside.messages ≡ length inside.messages.items = search rules in
     let count : c.len-count.result ≡ length s.active.messages = c.len-count.ensures ∙ len in
@@ -125,11 +112,8 @@ next_segment-requires-clause-all g c =
 
 pub move_on-requires-clause-active : goal.move_on-requires-clause-active
 move_on-requires-clause-active g c =
-    let D = g.D.Disk in
     let inside = c.self.inside in
-    let d = inside.disk in
     let m = inside.slots.current in
-    let s : State = state_in (work_in inside.next inside.job inside.waiting.items) inside.shared m inside.files.items inside.prefix inside.messages.items in
     let counted = (c.self.invariant.0).counted in
     let are = are_entries m counted.valid in
     let file = ap (λ (x : Entry). x.file) counted.last_is in
@@ -141,8 +125,6 @@ move_on-requires-clause-gate g c h =
     let inside = c.self.inside in
     let d = inside.disk in
     let m = inside.slots.current in
-    let s : State = state_in (work_in inside.next inside.job inside.waiting.items) inside.shared m inside.files.items inside.prefix inside.messages.items in
-    let counted = (c.self.invariant.0).counted in
     let still = (c.self.invariant.0).still_open c.if-self.false in
     let known = still.kept.known h (λ n. (D.held d n).reads) (λ n. g.met.D.Disk.reads_image d n h) in
     subst (λ (n : ℕ). HasGate inside.slots.other_open (D.held d n).reads)
@@ -152,45 +134,13 @@ move_on-requires-clause-gate g c h =
 
 pub returns-in-Err-clause-answers : goal.returns-in-Err-clause-answers
 returns-in-Err-clause-answers g c =
-    let D = g.D.Disk in
     let inside = c.self.inside in
-    let d = inside.disk in
     let m = inside.slots.current in
-    let s : State = state_in (work_in inside.next inside.job inside.waiting.items) inside.shared m inside.files.items inside.prefix inside.messages.items in
-    let counted = (c.self.invariant.0).counted in
+    let s = state_of inside in
     let len : vec_len inside.messages ≡ length inside.messages.items = search rules in
     let count : c.len-count.result ≡ length s.active.messages = c.len-count.ensures ∙ len in
     let some : s.active.messages ≢ [] =
     λ is. omega (arith, (c.in_ok-next.ensures.may).some, count, ap (λ (l : List (List ℕ)). length l) is) in
-    let still = (c.self.invariant.0).still_open c.if-self.false in
-    let next = c.in_ok-next.next in
-    let carry = inside.carry in
-    let prefix = prefix_of carry in
-    let after = moved_on s prefix in
-    let d1 = c.move_on.new.disk in
-    let given = c.as_slice.result.now in
-    let kept_prefix : given ≡ prefix = c.as_slice.ensures ∙ c.in_ok-next.ensures.prefix in
-    let made : next.manifest ≡ after.manifest = c.in_ok-next.ensures.manifest
-    ∙ ap (λ (n : ℕ). next_manifest m n c.len-count.result inside.next (length prefix)) counted.end_is
-    ∙ ap (λ (n : ℕ). next_manifest m (end_of s) n inside.next (length prefix)) count in
-    let valid : IsValidManifest after.manifest = subst IsValidManifest made c.in_ok-next.ensures.valid in
-    let slot_is : c.file.result ≡ file_of (other inside.slots.current_slot) =
-    c.file.ensures ∙ ap file_of c.other-slot.ensures in
-    let move : IsTrue (D.honest d) → IsMove (D.held d) inside.slots inside.last.file inside.end inside.next c.file.result
-    inside.slots.other_open given c.as_slice-2.result.now s = λ h. record {
-      active_is = ap (λ (x : Entry). x.file) (sym counted.last_is);
-      next_is = refl;
-      next_from = counted.next;
-      end_is = sym counted.end_is;
-      slot_is = sym slot_is;
-      open_is = refl;
-      valid = subst (λ (l : List ℕ). IsValidManifest (moved_on s l).manifest) (sym kept_prefix) valid;
-      chained = subst (λ (l : List ℕ). IsChained (moved_on s l)) (sym kept_prefix)
-          (carry, hands_next s carry counted.valid c.in_ok-next.ensures.carry (still.hands_on h));
-      body_is = c.as_slice-2.ensures.value ∙ c.in_ok-next.ensures.body ∙ ap manifest_octets made
-          ∙ ap (λ (l : List ℕ). manifest_octets (moved_on s l).manifest) (sym kept_prefix);
-      known = still.kept.known h;
-    } in
     let may : MaySeal s = record {
       some = some;
       few = (c.in_ok-next.ensures.may).few;
@@ -212,12 +162,10 @@ returns-in-Err-clause-step g c =
     let inside = c.self.inside in
     let d = inside.disk in
     let m = inside.slots.current in
-    let s : State = state_in (work_in inside.next inside.job inside.waiting.items) inside.shared m inside.files.items inside.prefix inside.messages.items in
+    let s = state_of inside in
     let counted = (c.self.invariant.0).counted in
     let len : vec_len inside.messages ≡ length inside.messages.items = search rules in
     let count : c.len-count.result ≡ length s.active.messages = c.len-count.ensures ∙ len in
-    let some : s.active.messages ≢ [] =
-    λ is. omega (arith, (c.in_ok-next.ensures.may).some, count, ap (λ (l : List (List ℕ)). length l) is) in
     let still = (c.self.invariant.0).still_open c.if-self.false in
     let next = c.in_ok-next.next in
     let carry = inside.carry in
@@ -246,14 +194,6 @@ returns-in-Err-clause-step g c =
       body_is = c.as_slice-2.ensures.value ∙ c.in_ok-next.ensures.body ∙ ap manifest_octets made
           ∙ ap (λ (l : List ℕ). manifest_octets (moved_on s l).manifest) (sym kept_prefix);
       known = still.kept.known h;
-    } in
-    let may : MaySeal s = record {
-      some = some;
-      few = (c.in_ok-next.ensures.may).few;
-      numbers = (
-        (c.in_ok-next.ensures.may).next,
-        omega (arith, (c.in_ok-next.ensures.may).generation, c.generations_kept-kept.ensures),
-      );
     } in
     rw (← c.self.view_is) (failed D.honest D.moment D.left_since _ _ _ c.move_on.ensures.honest
     (λ h. by D.moment D.left_since d d1 (StandsForEither (reopened s) (reopened (moved_on s given)))
@@ -274,12 +214,10 @@ invariant_of-self-in-Ok-move_on g c =
     let inside = c.self.inside in
     let d = inside.disk in
     let m = inside.slots.current in
-    let s : State = state_in (work_in inside.next inside.job inside.waiting.items) inside.shared m inside.files.items inside.prefix inside.messages.items in
+    let s = state_of inside in
     let counted = (c.self.invariant.0).counted in
     let len : vec_len inside.messages ≡ length inside.messages.items = search rules in
     let count : c.len-count.result ≡ length s.active.messages = c.len-count.ensures ∙ len in
-    let some : s.active.messages ≢ [] =
-    λ is. omega (arith, (c.in_ok-next.ensures.may).some, count, ap (λ (l : List (List ℕ)). length l) is) in
     let still = (c.self.invariant.0).still_open c.if-self.false in
     let next = c.in_ok-next.next in
     let carry = inside.carry in
@@ -309,14 +247,6 @@ invariant_of-self-in-Ok-move_on g c =
           ∙ ap (λ (l : List ℕ). manifest_octets (moved_on s l).manifest) (sym kept_prefix);
       known = still.kept.known h;
     } in
-    let may : MaySeal s = record {
-      some = some;
-      few = (c.in_ok-next.ensures.may).few;
-      numbers = (
-        (c.in_ok-next.ensures.may).next,
-        omega (arith, (c.in_ok-next.ensures.may).generation, c.generations_kept-kept.ensures),
-      );
-    } in
     let raw = c.in-Ok-move_on.part in
     let sealed : Entry = sealed_entry (active_of m) (end_of s) (length inside.messages.items) in
     let part : Frozen = frozen_as sealed (g.D.Sealed.SealedFile.honest raw) (g.D.Sealed.SealedFile.octets raw) in
@@ -335,7 +265,6 @@ invariant_of-self-in-Ok-move_on g c =
     let front = inside.prefix in
     let messages = inside.messages.items in
     let part_is = λ (h : IsTrue (D.honest d)). c.in-Ok-move_on.ensures.part h inside.slots s (move h) in
-    let all = (c.self.invariant.0).files_are in
     let new_prefix : next.prefix ≡ prefix = c.in_ok-next.ensures.prefix in
     let new_files : c.push_reserved.new.self.items ≡ files ++ part ∷ [] = c.push_reserved.ensures.items
     ∙ ap (λ (l : List Frozen). l ++ c.named.result ∷ []) c.reserve.ensures.items
@@ -424,7 +353,7 @@ returns-in-Ok-move_on-clause-answers g c =
     let inside = c.self.inside in
     let d = inside.disk in
     let m = inside.slots.current in
-    let s : State = state_in (work_in inside.next inside.job inside.waiting.items) inside.shared m inside.files.items inside.prefix inside.messages.items in
+    let s = state_of inside in
     let counted = (c.self.invariant.0).counted in
     let len : vec_len inside.messages ≡ length inside.messages.items = search rules in
     let count : c.len-count.result ≡ length s.active.messages = c.len-count.ensures ∙ len in
@@ -514,12 +443,10 @@ returns-in-Ok-move_on-clause-step g c =
     let inside = c.self.inside in
     let d = inside.disk in
     let m = inside.slots.current in
-    let s : State = state_in (work_in inside.next inside.job inside.waiting.items) inside.shared m inside.files.items inside.prefix inside.messages.items in
+    let s = state_of inside in
     let counted = (c.self.invariant.0).counted in
     let len : vec_len inside.messages ≡ length inside.messages.items = search rules in
     let count : c.len-count.result ≡ length s.active.messages = c.len-count.ensures ∙ len in
-    let some : s.active.messages ≢ [] =
-    λ is. omega (arith, (c.in_ok-next.ensures.may).some, count, ap (λ (l : List (List ℕ)). length l) is) in
     let still = (c.self.invariant.0).still_open c.if-self.false in
     let next = c.in_ok-next.next in
     let carry = inside.carry in
@@ -548,14 +475,6 @@ returns-in-Ok-move_on-clause-step g c =
       body_is = c.as_slice-2.ensures.value ∙ c.in_ok-next.ensures.body ∙ ap manifest_octets made
           ∙ ap (λ (l : List ℕ). manifest_octets (moved_on s l).manifest) (sym kept_prefix);
       known = still.kept.known h;
-    } in
-    let may : MaySeal s = record {
-      some = some;
-      few = (c.in_ok-next.ensures.may).few;
-      numbers = (
-        (c.in_ok-next.ensures.may).next,
-        omega (arith, (c.in_ok-next.ensures.may).generation, c.generations_kept-kept.ensures),
-      );
     } in
     let raw = c.in-Ok-move_on.part in
     let sealed : Entry = sealed_entry (active_of m) (end_of s) (length inside.messages.items) in
@@ -628,7 +547,7 @@ invariant_of-self g c =
     let D = g.D.Disk in
     let inside = c.self.inside in
     let m = inside.slots.current in
-    let work = (work_in inside.next inside.job inside.waiting.items) in
+    let work = work_of inside in
     let S : List Frozen → State = λ l.
     state_in (work_in inside.next inside.job inside.waiting.items) inside.shared m l inside.prefix inside.messages.items in
     subst (λ (l : List Frozen). IsArchive D.honest D.marks D.held inside.disk inside.slots inside.last
@@ -642,7 +561,7 @@ invariant_of-self-in-Err-move_on g c =
     let D = g.D.Disk in
     let inside = c.self.inside in
     let m = inside.slots.current in
-    let work = (work_in inside.next inside.job inside.waiting.items) in
+    let work = work_of inside in
     let S : List Frozen → State = λ l.
     state_in (work_in inside.next inside.job inside.waiting.items) inside.shared m l inside.prefix inside.messages.items in
     let d1 = c.move_on.new.disk in

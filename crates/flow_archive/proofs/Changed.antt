@@ -1,0 +1,171 @@
+-- A step is the change of its mark.
+use Rattle.std.proofs.Common.{◌≡◌, ◌≢◌, ℕ, suc, ◌+◌, ◌-◌, ◌<◌, List, [], ◌∷◌, ◌++◌}
+use Rattle.std.proofs.Common.{length, take, drop, get_or, append_assoc, refl, sym, ap, ◌∙◌, subst, arith}
+use Rattle.std.specs.List.{flat_map}
+use Rattle.std.proofs.lemmas.Grind.{flat_map-append}
+use Rattle.std.proofs.lemmas.List.{append-nil, drop_at, drop_more, get_or-drop, length-append, length-drop}
+use Rattle.std.proofs.lemmas.List.{same_from_push, take-append-drop, take_at}
+use Rattle.std.proofs.lemmas.List.Sums.{sum_by-cons}
+use Rattle.flow_manifest.specs.declared.manifest.Entry.{Entry}
+use Rattle.flow_manifest.specs.declared.manifest.Kind.{Kind}
+use Rattle.flow_manifest.specs.declared.manifest.Kind.TheVariants as kinds
+use Rattle.flow_manifest.specs.Following.{front_of, messages_of}
+use Rattle.flow_manifest.specs.Manifest.{IsValidManifest}
+use Rattle.flow_manifest.proofs.Followers.{all_sum}
+use Rattle.flow_snapshot.specs.declared.step.Mark.{Mark}
+use Rattle.flow_snapshot.specs.Changes.{applied, Change}
+use Rattle.flow_snapshot.specs.Changes.Change.{added, closed, installed, joined}
+use Rattle.flow_snapshot.specs.Shelf.{cut_of, messages_in, position_of, Rollup, Segment, Shelf}
+use Rattle.flow_recover.specs.Opening.{FrozenStand}
+use Rattle.flow_recover.specs.Shelved as shelved
+use Rattle.flow_recover.specs.Standing.{StandsAs}
+use Rattle.flow_recover.specs.State.{Part, State}
+use Rattle.flow_archive.specs.Marks.{mark_of, numbered, IsMarkedAmong, IsNewestOf}
+use Rattle.flow_archive.specs.Owned.{octets_in, rolled_in, rollup_of, segment_in, segment_of, shelf_with, wide_in}
+use Rattle.flow_archive.specs.Owned.{Frozen}
+
+-- ---- the last one of a kind
+
+none_in : {Y : Type 0} (of : Frozen → List Y) (kind : Kind) → ((x : Frozen) → x.entry.kind ≢ kind → of x ≡ [])
+    → (files : List Frozen) → ((k : ℕ) (x : Frozen) → k < length files → (get_or files k x).entry.kind ≢ kind)
+    → flat_map of files ≡ []
+none_in of kind none [] others = refl
+none_in of kind none (f ∷ files) others =
+    ap (λ (l : List _). l ++ flat_map of files) (none f (others 0 f (omega arith)))
+    ∙ none_in of kind none files (λ k x lt. others (suc k) x (omega (arith, lt)))
+
+last_of : {Y : Type 0} (of : Frozen → List Y) (kind : Kind) → ((x : Frozen) → x.entry.kind ≢ kind → of x ≡ [])
+    → (files : List Frozen) (f : Frozen) → (newest : IsNewestOf kind files f)
+    → flat_map of files ≡ flat_map of (take newest.place files) ++ of f
+last_of {Y} of kind none files f newest =
+    let n = newest.place in
+    let rest : flat_map of (drop (n + 1) files) ≡ [] =
+    none_in of kind none (drop (n + 1) files) (λ k x lt is. newest.newest (n + 1 + k) x (omega arith)
+    (omega (arith, lt, length-drop (n + 1) files)) (ap (λ (y : Frozen). y.entry.kind) (sym (get_or-drop (n + 1) files k x)) ∙ is)) in
+    ap (flat_map of) (sym (take-append-drop n files) ∙ ap (λ (l : List Frozen). take n files ++ l)
+    (drop_more files n f newest.below ∙ ap (λ (x : Frozen). x ∷ drop (n + 1) files) (sym newest.is)))
+    ∙ flat_map-append of (take n files) (f ∷ drop (n + 1) files)
+    ∙ ap (λ (l : List Y). flat_map of (take n files) ++ (of f ++ l)) rest
+    ∙ ap (λ (l : List Y). flat_map of (take n files) ++ l) (append-nil (of f))
+
+no_segment : (k : Kind) (f : Frozen) → k ≢ kinds.Sealed → segment_in k f ≡ []
+no_segment kinds.Wide f not = refl
+no_segment kinds.Rolled f not = refl
+no_segment kinds.Sealed f not = absurd (not refl)
+no_segment kinds.Active f not = refl
+
+no_rolled : (k : Kind) (f : Frozen) → k ≢ kinds.Rolled → rolled_in k f ≡ []
+no_rolled kinds.Wide f not = refl
+no_rolled kinds.Rolled f not = absurd (not refl)
+no_rolled kinds.Sealed f not = refl
+no_rolled kinds.Active f not = refl
+
+no_wide : (k : Kind) (f : Frozen) → k ≢ kinds.Wide → wide_in k f ≡ []
+no_wide kinds.Wide f not = absurd (not refl)
+no_wide kinds.Rolled f not = refl
+no_wide kinds.Sealed f not = refl
+no_wide kinds.Active f not = refl
+
+newest_segment : (files : List Frozen) (f : Frozen) (gs : List Segment) (g : Segment) → IsNewestOf kinds.Sealed files f
+    → flat_map (λ (x : Frozen). segment_in x.entry.kind x) files ≡ gs ++ g ∷ [] → segment_of f ≡ g
+newest_segment files f gs g newest is =
+    let of : Frozen → List Segment = λ x. segment_in x.entry.kind x in
+    (same_from_push (flat_map of (take newest.place files)) gs (segment_of f) g
+    (ap (λ (k : Kind). flat_map of (take newest.place files) ++ segment_in k f) (sym newest.kind_is)
+    ∙ sym (last_of of kinds.Sealed (λ x. no_segment x.entry.kind x) files f newest) ∙ is)).1
+
+newest_rolled : (files : List Frozen) (f : Frozen) (rs : List Rollup) (r : Rollup) → IsNewestOf kinds.Rolled files f
+    → flat_map (λ (x : Frozen). rolled_in x.entry.kind x) files ≡ rs ++ r ∷ [] → rollup_of f ≡ r
+newest_rolled files f rs r newest is =
+    let of : Frozen → List Rollup = λ x. rolled_in x.entry.kind x in
+    (same_from_push (flat_map of (take newest.place files)) rs (rollup_of f) r
+    (ap (λ (k : Kind). flat_map of (take newest.place files) ++ rolled_in k f) (sym newest.kind_is)
+    ∙ sym (last_of of kinds.Rolled (λ x. no_rolled x.entry.kind x) files f newest) ∙ is)).1
+
+newest_wide : (files : List Frozen) (f : Frozen) (rs : List Rollup) (r : Rollup) → IsNewestOf kinds.Wide files f
+    → flat_map (λ (x : Frozen). wide_in x.entry.kind x) files ≡ rs ++ r ∷ [] → rollup_of f ≡ r
+newest_wide files f rs r newest is =
+    let of : Frozen → List Rollup = λ x. wide_in x.entry.kind x in
+    (same_from_push (flat_map of (take newest.place files)) rs (rollup_of f) r
+    (ap (λ (k : Kind). flat_map of (take newest.place files) ++ wide_in k f) (sym newest.kind_is)
+    ∙ sym (last_of of kinds.Wide (λ x. no_wide x.entry.kind x) files f newest) ∙ is)).1
+
+-- ---- the messages in front of the active segment's
+
+abbrev pub before_active : Shelf → ℕ
+before_active s = cut_of s + length (messages_in s.sealed)
+
+more_in_front : (kind : Kind) (e : Entry) (p : Part) (f : Frozen) (s : Shelf) → StandsAs kind f.octets e p
+    → before_active (shelved.shelved_first kind e p s) ≡ e.messages + before_active s
+more_in_front kinds.Wide e p f s stands =
+    omega (arith, sum_by-cons (λ (r : Rollup). r.messages) (shelved.rollup_of e p) s.merged)
+more_in_front kinds.Rolled e p f s stands =
+    omega (arith, sum_by-cons (λ (r : Rollup). r.messages) (shelved.rollup_of e p) s.rolled)
+more_in_front kinds.Sealed e p f s stands =
+    omega (arith, length-append p.messages (messages_in s.sealed), stands.messages)
+more_in_front kinds.Active e p f s stands = absurd stands
+
+all_in_front : (es : List Entry) (ps : List Part) (fs : List Frozen) (s : Shelf) → FrozenStand octets_in es ps fs
+    → before_active (shelved.shelved es ps s) ≡ messages_of es + before_active s
+all_in_front [] [] [] s stand = omega arith
+all_in_front [] [] (f ∷ fs) s stand = absurd stand
+all_in_front [] (p ∷ ps) fs s stand = absurd stand
+all_in_front (e ∷ es) [] fs s stand = absurd stand
+all_in_front (e ∷ es) (p ∷ ps) [] s stand = absurd stand
+all_in_front (e ∷ es) (p ∷ ps) (f ∷ fs) s stand =
+    omega (
+      arith,
+      more_in_front e.kind e p f (shelved.shelved es ps s) stand.0,
+      all_in_front es ps fs s stand.1,
+      sum_by-cons (λ (x : Entry). x.messages) e es,
+    )
+
+pub counted_in_front : (s : State) (files : List Frozen) → IsValidManifest s.manifest
+    → FrozenStand octets_in (front_of s.manifest) s.parts files
+    → messages_of s.manifest.entries ≡ before_active (shelved.shelf_of s)
+counted_in_front s files valid stand =
+    omega (
+      arith,
+      all_sum s.manifest valid,
+      all_in_front (front_of s.manifest) s.parts files (shelved.active_shelf s) stand,
+    )
+
+-- ---- the change of a mark
+
+added_there : (a ms later all : List (List ℕ)) (before first last : ℕ) → all ≡ (a ++ ms) ++ later
+    → first ≡ before + length a + 1 → last ≡ before + length a + length ms → numbered before all first last ≡ ms
+added_there a ms later all before first last is from to =
+    ap (λ (n : ℕ). take n (drop (first - 1 - before) all)) (let n : last + 1 - first ≡ length ms = omega (arith, from, to) in n)
+    ∙ ap (λ (n : ℕ). take (length ms) (drop n all)) (let n : first - 1 - before ≡ length a = omega (arith, from) in n)
+    ∙ ap (λ (l : List (List ℕ)). take (length ms) (drop (length a) l)) (is ∙ append_assoc a ms later)
+    ∙ ap (take (length ms)) (drop_at a (ms ++ later) (length a) refl) ∙ take_at ms later (length ms) refl
+
+pub told_is : (files : List Frozen) (prefix : List ℕ) (n : ℕ) (messages : List (List ℕ)) (width wide : ℕ) (mark : Mark)
+    (x : Change) (before : Shelf) (change : Change) (later : List (List ℕ))
+    → IsMarkedAmong files prefix n messages mark x → mark ≡ mark_of before change
+    → shelf_with width wide files prefix messages ≡ applied (applied before change) (added later)
+    → n ≡ before_active (shelf_with width wide files prefix messages) → x ≡ change
+told_is files prefix n messages width wide mark x before (added ms) later told mark_is is count =
+    let m : IsMarkedAmong files prefix n messages (mark_of before (added ms)) x =
+    subst (λ (k : Mark). IsMarkedAmong files prefix n messages k x) mark_is told in
+    let all : n ≡ before_active before = count ∙ ap before_active is in
+    m ∙ ap added (added_there before.active ms later messages n (position_of before + 1)
+    (position_of before + length ms) (ap (λ (s : Shelf). s.active) is)
+    (omega (arith, all, length-append (messages_in before.sealed) before.active))
+    (omega (arith, all, length-append (messages_in before.sealed) before.active)))
+told_is files prefix n messages width wide mark x before (closed segment next) later told mark_is is count =
+    let m : IsMarkedAmong files prefix n messages (mark_of before (closed segment next)) x =
+    subst (λ (k : Mark). IsMarkedAmong files prefix n messages k x) mark_is told in
+    m.2 ∙ ap (λ (g : Segment). closed g prefix)
+    (newest_segment files m.0 before.sealed segment m.1 (ap (λ (s : Shelf). s.sealed) is))
+    ∙ ap (closed segment) (ap (λ (s : Shelf). s.prefix) is)
+told_is files prefix n messages width wide mark x before (installed file k) later told mark_is is count =
+    let m : IsMarkedAmong files prefix n messages (mark_of before (installed file k)) x =
+    subst (λ (k : Mark). IsMarkedAmong files prefix n messages k x) mark_is told in
+    m.2 ∙ ap (λ (r : Rollup). installed r k)
+    (newest_rolled files m.0 before.rolled file m.1 (ap (λ (s : Shelf). s.rolled) is))
+told_is files prefix n messages width wide mark x before (joined file k) later told mark_is is count =
+    let m : IsMarkedAmong files prefix n messages (mark_of before (joined file k)) x =
+    subst (λ (k : Mark). IsMarkedAmong files prefix n messages k x) mark_is told in
+    m.2 ∙ ap (λ (r : Rollup). joined r k)
+    (newest_wide files m.0 before.merged file m.1 (ap (λ (s : Shelf). s.merged) is))

@@ -1,0 +1,50 @@
+-- An archive by its fields: its state, and the job that is under way.
+use Rattle.std.proofs.Common.{◌≡◌, ℕ, ◌+◌, Bool, List, Option, Some, ap, subst, ◌∙◌, arith}
+use Rattle.std.specs.Prelude.{IfSome}
+use Rattle.flow_disk.specs.Disk.{Held, Marks}
+use Rattle.flow_manifest.specs.declared.following.JobKind.{JobKind}
+use Rattle.flow_manifest.specs.declared.manifest.Entry.{Entry}
+use Rattle.flow_manifest.specs.declared.manifest.Manifest.{Manifest}
+use Rattle.flow_manifest.specs.Following.{count_before, source_of}
+use Rattle.flow_recover.specs.State.{State}
+use Rattle.flow_archive.specs.declared.archive.Archive.TheInside.{Inside}
+use Rattle.flow_archive.specs.Seen.{state_in}
+use Rattle.flow_archive.specs.UnderWay.{work_in, IsOnDisk, IsRolling, IsStaged, Made, Rolling, Work}
+
+abbrev pub work_of : {D S F : Type 0} → Inside D S F → Work
+work_of a = work_in a.next a.job a.waiting.items
+
+-- with another job
+abbrev pub with_rolling : {D S F : Type 0} → Inside D S F → Option Rolling → State
+with_rolling a job =
+    state_in (work_in a.next job a.waiting.items) a.shared a.slots.current a.files.items a.prefix a.messages.items
+
+abbrev pub state_of : {D S F : Type 0} → Inside D S F → State
+state_of a = with_rolling a a.job
+
+-- ---- the job that is under way
+
+pub the_rolling : (honest : Bool) (s : State) (job : Option Rolling) (r : Rolling) → job ≡ Some r
+    → IfSome job (IsRolling honest s) → IsRolling honest s r
+the_rolling honest s job r is has = subst (λ (o : Option Rolling). IfSome o (IsRolling honest s)) is has
+
+pub the_staged : (honest : Bool) (s : State) (r : Rolling) (f : Made) → r.staged ≡ Some f → IsRolling honest s r
+    → IsStaged honest s r f
+the_staged honest s r f is rolling = subst (λ (x : Option Made). IfSome x (IsStaged honest s r)) is rolling.staged
+
+-- its file stands on the disk
+pub made_there : {D : Type 0} (honest : D → Bool) (marks : D → ℕ → Marks) (held : D → ℕ → Held) (d : D)
+    (job : Option Rolling) (r : Rolling) (f : Made) → job ≡ Some r → r.staged ≡ Some f
+    → IfSome job (λ x. IfSome x.staged (IsOnDisk honest marks held d)) → IsOnDisk honest marks held d f
+made_there honest marks held d job r f is made has =
+    subst (λ (x : Option Made). IfSome x (IsOnDisk honest marks held d)) made
+    (subst (λ (o : Option Rolling). IfSome o (λ x. IfSome x.staged (IsOnDisk honest marks held d))) is has)
+
+-- where its next source stands
+pub next_place : (m : Manifest) (r : Rolling) (list : List Entry) (kind : JobKind) (from read : ℕ)
+    → from ≡ count_before (source_of kind) list → list ≡ m.entries → kind ≡ r.kind → read ≡ r.read
+    → from + read ≡ count_before (source_of r.kind) m.entries + r.read
+next_place m r list kind from read is all same count =
+    let at : from ≡ count_before (source_of r.kind) m.entries =
+    is ∙ ap (count_before (source_of kind)) all ∙ ap (λ (k : JobKind). count_before (source_of k) m.entries) same in
+    omega (arith, at, count)
