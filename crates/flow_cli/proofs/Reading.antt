@@ -1,7 +1,8 @@
 -- What the parser of the command line makes of words.
 use Rattle.std.proofs.Common.{◌≡◌, ◌∙◌, ◌⊎◌, inl, inr, refl, sym, ap, ap₂, subst, ℕ, Bool, true, false, eqb-true, ◌&&◌}
 use Rattle.std.proofs.Common.{List, [], ◌∷◌, Option, Some, None, codes, get_or, length}
-use Rattle.std.specs.Prelude.{◌==◌, ◌||◌, ⊤, IfErr, IfOk, ok_or, nat_le, not, is_some, slice_get, fold, find}
+use Rattle.std.specs.Prelude.{◌==◌, ◌||◌, ⊤, ◌++◌, IfErr, IfOk, ok_or, map, nat_le, not, is_some, slice_get, fold, find}
+use Rattle.std.specs.List.{list_any}
 use Rattle.std.specs.Prelude.{option_map, option_and_then, if◌then◌else◌}
 use Rattle.std.specs.Option.{option_map_or}
 use Rattle.std.specs.Str.{bytes_eq, chars}
@@ -20,20 +21,25 @@ use Rattle.clap.specs.Faults.{bundle_fault, check_fault, defaults_fault, entered
 use Rattle.clap.specs.Faults.{is_simple_and_free, flags_fault, long_fault, other_fault, settle_fault, short_fault}
 use Rattle.clap.specs.Faults.{step_fault, stray_fault, turn_fault, use_fault, walk_fault}
 use Rattle.clap.specs.Simple.{App, HasMatchesOf, Shape, built, entered, is_simple, names_of, subcommand_of}
-use Rattle.clap.specs.Simple.{subcommand_rows_of}
-use Rattle.clap.specs.Matches.{first_value}
+use Rattle.clap.specs.Simple.{subcommand_rows, subcommand_rows_of}
+use Rattle.clap.specs.Matches.{first_value, found_of, subcommand_name_of}
+use Rattle.std.specs.Prelude.{Box}
+use Rattle.std.specs.Box.{box_value}
+use Rattle.clap.specs.declared.parser.matches.ArgMatches.TheViews.{out-ArgMatches, out-SubCommand}
+use Rattle.clap.specs.declared.parser.matches.SubCommand.{SubCommand}
 use Rattle.clap.specs.declared.parser.matches.Found.{Found}
 use Rattle.clap.proofs.OnLiterals.{clap_on_literals}
 use Rattle.clap.proofs.WalkLemmas.{both, first_value-rows, walk_stopped}
 use Rattle.clap.proofs.FaultLemmas.{stopped_fault}
 use Rattle.flow_cli.specs.declared.request.Request.{Request}
-use Rattle.flow_cli.specs.declared.request.Request.TheVariants.{Measure, Dump}
+use Rattle.flow_cli.specs.declared.request.Request.TheVariants.{Check, Measure, Dump}
 use Rattle.flow_cli.specs.declared.request.LineError.{LineError}
 use Rattle.flow_cli.specs.declared.request.LineError.TheVariants as line
-use Rattle.flow_cli.specs.Numbers.{number_of}
-use Rattle.flow_cli.specs.CommandLine.{asked, dump_of, dump_shape, flowvault, measure_of, measure_shape, width_rule}
-use Rattle.flow_cli.specs.CommandLine.{without_dashes}
-use Rattle.flow_cli.specs.Requested.{requested, request_in, IsLineError}
+use Rattle.flow_report.specs.Numbers.{number_of}
+use Rattle.flow_cli.specs.Arguments.{create_in, folder_in, queried, requested, request_in, width_in}
+use Rattle.flow_cli.specs.CommandLine.{parsed_names, asked, dump_of, dump_shape, flowvault, is_parsed, measure_of}
+use Rattle.flow_cli.specs.CommandLine.{measure_shape, parsed, unless, width_rule, without_dashes}
+use Rattle.flow_cli.specs.Requested.{IsLineError, IsWrongValue}
 
 pub first_value_is : (f : Found) (id : Text) → first_value f id ≡ first_of id (rows_of f)
 first_value_is f id = first_value-rows f id
@@ -551,47 +557,63 @@ top_stray = refl
 abbrev names_from : Text → Names → Option Text
 names_from command names = option_map (λ s. s.0) (find (answers_to command) names)
 
-abbrev dump_named : Text × List Text
-dump_named = (codes "dump", [])
+abbrev named_only : Text → Text × List Text
+named_only name = (name, [])
 
-abbrev help_named : Text × List Text
-help_named = (codes "help", [])
+abbrev help_alone : Names
+help_alone = named_only (codes "help") ∷ []
+
+-- behind `dump`
+abbrev later_names : Names
+later_names = map named_only parsed_names ++ help_alone
+
+-- what the parser reads, against that it reads it so
+reads_parsed : (faults : Kinds) (made : Option Request) → Reads faults made (unless faults made)
+reads_parsed [] made = inl (refl, refl)
+reads_parsed (k ∷ ks) made = inr (tt, refl)
 
 module _ (program command : Text) (arguments : List Text) where
-  met_measure : (b : Bool) → bytes_eq (codes "measure") command ≡ b
-      → subcommand_met commands idle command ≡ (if b then Some (codes "measure") else names_from command
-      (dump_named ∷ help_named ∷ []))
-  met_measure true e = ap
-      (λ (b : Bool). option_map (λ s. s.0)
-      (if b || false then Some (codes "measure", []) else find (answers_to command) (dump_named ∷ help_named ∷ []))) e
-  met_measure false e =
-      ap (λ (b : Bool). option_map (λ s. s.0)
-      (if b || false then Some (codes "measure", []) else find (answers_to command) (dump_named ∷ help_named ∷ []))) e
+  met_one : (name : Text) (rest : Names) (b : Bool) → bytes_eq name command ≡ b
+      → names_from command (named_only name ∷ rest) ≡ (if b then Some name else names_from command rest)
+  met_one name rest true e = ap (λ (b : Bool). option_map (λ s. s.0)
+      (if b || false then Some (named_only name) else find (answers_to command) rest)) e
+  met_one name rest false e = ap (λ (b : Bool). option_map (λ s. s.0)
+      (if b || false then Some (named_only name) else find (answers_to command) rest)) e
 
-  met_dump : (b : Bool) → bytes_eq (codes "dump") command ≡ b
-      → names_from command (dump_named ∷ help_named ∷ []) ≡ (if b then Some (codes "dump") else names_from command
-      (help_named ∷ []))
-  met_dump true e = ap (λ (b : Bool). option_map (λ s. s.0)
-      (if b || false then Some dump_named else find (answers_to command) (help_named ∷ []))) e
-  met_dump false e = ap
-      (λ (b : Bool). option_map (λ s. s.0)
-      (if b || false then Some dump_named else find (answers_to command) (help_named ∷ []))) e
+  met_none : (names : List Text) (rest : Names) → list_any (λ name. bytes_eq name command) names ≡ false
+      → names_from command (map named_only names ++ rest) ≡ names_from command rest
+  met_none [] rest none = refl
+  met_none (name ∷ names) rest none = by (bytes_eq name command) refl (met_none names rest)
+    where
+      later : (b : Bool) → bytes_eq name command ≡ b → (b || list_any (λ name. bytes_eq name command) names) ≡ false
+      later b e = sym (ap (λ (b : Bool). b || list_any (λ name. bytes_eq name command) names) e) ∙ none
 
-  met_help : (b : Bool) → bytes_eq (codes "help") command ≡ b
-      → names_from command (help_named ∷ []) ≡ (if b then Some (codes "help") else None)
-  met_help true e = ap (λ (b : Bool). option_map (λ s. s.0) (if b || false then Some help_named else None)) e
-  met_help false e = ap (λ (b : Bool). option_map (λ s. s.0) (if b || false then Some help_named else None)) e
+      by : (b : Bool) → bytes_eq name command ≡ b
+          → (list_any (λ name. bytes_eq name command) names ≡ false
+          → names_from command (map named_only names ++ rest) ≡ names_from command rest)
+          → names_from command (map named_only (name ∷ names) ++ rest) ≡ names_from command rest
+      by true e next = let wrong : true ≡ false = later true e in absurd cc
+      by false e next = met_one name (map named_only names ++ rest) false e ∙ next (later false e)
+
+  abbrev words : List Text
+  words = program ∷ command ∷ arguments
+
+  abbrev after_dump : Option Request
+  after_dump = if is_parsed command then parsed words else None
+
+  abbrev after_measure : Option Request
+  after_measure = if bytes_eq (codes "dump") command then dump_of (without_dashes arguments) else after_dump
 
   asked_first : (b : Bool) → bytes_eq (codes "measure") command ≡ b
-      → asked (program ∷ command ∷ arguments) ≡ (if b then measure_of (without_dashes arguments) else if bytes_eq
-      (codes "dump") command then dump_of (without_dashes arguments) else None)
-  asked_first b e = ap (λ (b : Bool). if b then measure_of (without_dashes arguments) else if bytes_eq
-      (codes "dump") command then dump_of (without_dashes arguments) else None) e
+      → asked words ≡ (if b then measure_of (without_dashes arguments) else after_measure)
+  asked_first b e = ap (λ (b : Bool). if b then measure_of (without_dashes arguments) else after_measure) e
 
   asked_second : (b : Bool) → bytes_eq (codes "dump") command ≡ b
-      → (if bytes_eq (codes "dump") command then dump_of (without_dashes arguments) else None) ≡ (if b then dump_of
-      (without_dashes arguments) else None)
-  asked_second b e = ap (λ (b : Bool). if b then dump_of (without_dashes arguments) else None) e
+      → after_measure ≡ (if b then dump_of (without_dashes arguments) else after_dump)
+  asked_second b e = ap (λ (b : Bool). if b then dump_of (without_dashes arguments) else after_dump) e
+
+  asked_third : (b : Bool) → is_parsed command ≡ b → after_dump ≡ (if b then parsed words else None)
+  asked_third b e = ap (λ (b : Bool). if b then parsed words else None) e
 
   unnamed : subcommand_met commands idle command ≡ None → asked (program ∷ command ∷ arguments) ≡ None
       → Verdict (program ∷ command ∷ arguments)
@@ -616,29 +638,40 @@ module _ (program command : Text) (arguments : List Text) where
           let strays = ap₂ (λ (k : Kinds) (q : Held × Step). or_else k (step_fault top_built 1 q.0 q.1)) p.1 (p.2 1) in
           fails (subst Fails (sym (turned ∙ strays ∙ top_stray)) tt)
 
-  named : (a b h : Bool) → bytes_eq (codes "measure") command ≡ a → bytes_eq (codes "dump") command ≡ b
-      → bytes_eq (codes "help") command ≡ h → Verdict (program ∷ command ∷ arguments)
-  named true b h ea eb eh =
-      let found = met_measure true ea in
+  named : (a b o h : Bool) → bytes_eq (codes "measure") command ≡ a → bytes_eq (codes "dump") command ≡ b
+      → is_parsed command ≡ o → bytes_eq (codes "help") command ≡ h → Verdict words
+  named true b o h ea eb eo eh =
+      let found = met_one (codes "measure") (named_only (codes "dump") ∷ later_names) true ea in
       moved (measure_reads arguments) (told_is command arguments (codes "measure") found refl ∙ measure_ends arguments)
       (ap request_in (entered_is command arguments (codes "measure") found)) (asked_first true ea)
-  named false true h ea eb eh =
-      let found = met_measure false ea ∙ met_dump true eb in
+  named false true o h ea eb eo eh =
+      let found = met_one (codes "measure") (named_only (codes "dump") ∷ later_names) false ea
+      ∙ met_one (codes "dump") later_names true eb in
       moved (dump_reads arguments) (told_is command arguments (codes "dump") found refl ∙ dump_ends arguments)
       (ap request_in (entered_is command arguments (codes "dump") found)) (asked_first false ea ∙ asked_second true eb)
-  named false false true ea eb eh =
-      let found = met_measure false ea ∙ met_dump false eb ∙ met_help true eh in
-      inr (told_fails command arguments (codes "help") found tt, asked_first false ea ∙ asked_second false eb)
-  named false false false ea eb eh =
-      unnamed (met_measure false ea ∙ met_dump false eb ∙ met_help false eh) (asked_first false ea
-      ∙ asked_second false eb)
+  named false false true h ea eb eo eh =
+      moved (reads_parsed (fault_of flowvault words) (request_in (subcommand_of flowvault words))) refl refl
+      (asked_first false ea ∙ asked_second false eb ∙ asked_third true eo)
+  named false false false true ea eb eo eh =
+      let found = met_one (codes "measure") (named_only (codes "dump") ∷ later_names) false ea
+      ∙ met_one (codes "dump") later_names false eb ∙ met_none parsed_names help_alone eo
+      ∙ met_one (codes "help") [] true eh in
+      inr (
+        told_fails command arguments (codes "help") found tt,
+        asked_first false ea ∙ asked_second false eb ∙ asked_third false eo,
+      )
+  named false false false false ea eb eo eh =
+      unnamed (met_one (codes "measure") (named_only (codes "dump") ∷ later_names) false ea
+      ∙ met_one (codes "dump") later_names false eb ∙ met_none parsed_names help_alone eo
+      ∙ met_one (codes "help") [] false eh)
+      (asked_first false ea ∙ asked_second false eb ∙ asked_third false eo)
 
 -- Words are taken exactly where they ask for something, and then for that.
 pub verdict : (words : List Text) → Verdict words
 unfolding clap_on_literals
 verdict [] = inr (tt, refl)
 verdict (program ∷ []) = inr (tt, refl)
-verdict (program ∷ command ∷ arguments) = named program command arguments _ _ _ refl refl refl
+verdict (program ∷ command ∷ arguments) = named program command arguments _ _ _ _ refl refl refl refl
 
 -- ---- from what the parser answers
 
@@ -678,12 +711,61 @@ is_told app words e r is kinds memory (inr p) = subst (IsLineError words) (sym p
     by (inl m) (inl v) = let same = sym (memory m) ∙ p in absurd cc
     by (inr a) (inl v) = absurd (subst (λ (k : Kinds). IsAmong (kind_of e) k) v.0 a)
 
-pub ok_made : (o : Option Request) (words : List Text) → o ≡ asked words
-    → IfOk (ok_or o line.Width) (λ request. asked words ≡ Some request)
-ok_made None words is = tt
-ok_made (Some request) words is = sym is
+-- the name and the rows of a subcommand ask for what the parser's answer asks for
+pub asked_by : (m : ArgMatches) (name : Text) (rows : List Row) → Some name ≡ subcommand_name_of m
+    → Some rows ≡ option_map (λ p. p.1) (subcommand_rows_of m) → requested name rows ≡ request_in (subcommand_rows_of m)
+asked_by m name rows named found = by (out-ArgMatches m).subcommand named found
+  where
+    by : {Z : Type 0} (sub : Option (Box SubCommand Z))
+        → Some name ≡ option_map (λ b. (out-SubCommand (box_value b)).name.now) sub
+        → Some rows ≡ option_map (λ p. p.1) (subcommand_rows sub) → requested name rows ≡ request_in (subcommand_rows sub)
+    by None n r = absurd cc
+    by (Some b) n r =
+        let name_is : name ≡ (out-SubCommand (box_value b)).name.now = cc in
+        let rows_are : rows ≡ rows_of (found_of (out-SubCommand (box_value b)).matches) = cc in
+        ap₂ requested name_is rows_are
 
-pub err_made : (o : Option Request) (words : List Text) → o ≡ asked words
-    → IfErr (ok_or o line.Width) (λ e. IsLineError words e)
-err_made None words is = sym is
-err_made (Some request) words is = tt
+wrong_words : (asking : List Text) (e : LineError) → IsWrongValue e → asked asking ≡ None → IsLineError asking e
+wrong_words asking line.Width wrong none = none
+wrong_words asking line.Plan wrong none = none
+wrong_words asking line.Span wrong none = none
+wrong_words asking line.Number wrong none = none
+wrong_words asking line.OutOfMemory wrong none = absurd wrong
+wrong_words asking (line.Parser e) wrong none = absurd wrong
+
+pub ok_made : (o : Option Request) (asking : List Text) (e : LineError) → o ≡ asked asking
+    → IfOk (ok_or o e) (λ request. asked asking ≡ Some request)
+ok_made None asking e is = tt
+ok_made (Some request) asking e is = sym is
+
+pub err_made : (o : Option Request) (asking : List Text) (e : LineError) → IsWrongValue e → o ≡ asked asking
+    → IfErr (ok_or o e) (λ e. IsLineError asking e)
+err_made None asking e wrong is = wrong_words asking e wrong (sym is)
+err_made (Some request) asking e wrong is = tt
+
+-- ---- a command by its name
+
+differs : (word name : Text) → (name ≡ word → ⊥) → bytes_eq word name ≡ false
+differs word name not_it = by (bytes_eq word name) refl
+  where
+    by : (b : Bool) → bytes_eq word name ≡ b → bytes_eq word name ≡ false
+    by true e = absurd (not_it (sym ((bytes_eq-Decides word name).0 e)))
+    by false e = e
+
+passed_over : (b : Bool) (this others : Option Request) → b ≡ false → others ≡ (if b then this else others)
+passed_over b this others e = ap (λ (b : Bool). if b then this else others) (sym e)
+
+-- the name of none of the first commands
+pub other_name : (name : Text) (rows : List Row) → (name ≡ codes "measure" → ⊥) → (name ≡ codes "dump" → ⊥)
+    → (name ≡ codes "create" → ⊥) → (name ≡ codes "check" → ⊥) → queried name rows ≡ requested name rows
+other_name name rows no_measure no_dump no_create no_check =
+    let checked : Option Request = if bytes_eq (codes "check") name then option_map Check (folder_in rows)
+    else queried name rows in
+    let created : Option Request = if bytes_eq (codes "create") name then create_in rows else checked in
+    let dumped : Option Request = if bytes_eq (codes "dump") name then Some Dump else created in
+    passed_over (bytes_eq (codes "check") name) (option_map Check (folder_in rows)) (queried name rows)
+    (differs (codes "check") name no_check)
+    ∙ passed_over (bytes_eq (codes "create") name) (create_in rows) checked (differs (codes "create") name no_create)
+    ∙ passed_over (bytes_eq (codes "dump") name) (Some Dump) created (differs (codes "dump") name no_dump)
+    ∙ passed_over (bytes_eq (codes "measure") name) (option_map Measure (width_in rows)) dumped
+    (differs (codes "measure") name no_measure)

@@ -4,10 +4,13 @@ use Rattle.std.proofs.Common.{subst, arith}
 use Rattle.std.proofs.KnownBytes.{Appends-nil}
 use Rattle.clap.specs.declared.error.kind.ErrorKind.{ErrorKind}
 use Rattle.clap.specs.declared.error.kind.ErrorKind.TheVariants as kind
-use Rattle.flow_cli.specs.declared.refusal.Refusal.{Refusal}
-use Rattle.flow_cli.specs.Printed.{printed, line_of, kind_text}
-use Rattle.flow_cli.specs.Writing.{AppendsFront}
-use Rattle.flow_cli.specs.Run.{IsRefusalTold}
+use Rattle.flow_report.specs.declared.refusal.Refusal.{Refusal}
+use Rattle.flow_report.specs.Printed.{printed, line_of}
+use Rattle.flow_cli.specs.Printed.{kind_text}
+use Rattle.flow_report.specs.Writing.{AppendsFront}
+use Rattle.flow_cli.specs.Run.{IsArchiveTold, IsRefusalTold}
+use Rattle.flow_commands.specs.declared.archive_refusal.ArchiveRefusal.{ArchiveRefusal}
+use Rattle.flow_commands.specs.Archives.{archive_printed}
 
 pub nothing_told : (e : Refusal) (errors : Option (List ℕ)) → IsRefusalTold e errors errors
 nothing_told e errors = (0, omega arith, Appends-nil errors)
@@ -15,6 +18,15 @@ nothing_told e errors = (0, omega arith, Appends-nil errors)
 pub line_told : (e : Refusal) (line : List ℕ) (before after : Option (List ℕ))
     → line ≡ line_of (printed e) → AppendsFront before after line → IsRefusalTold e before after
 line_told e line before after is told = subst (AppendsFront before after) is told
+
+-- ---- of a command over an archive
+
+pub nothing_told_of_archive : (e : ArchiveRefusal) (errors : Option (List ℕ)) → IsArchiveTold e errors errors
+nothing_told_of_archive e errors = (0, omega arith, Appends-nil errors)
+
+pub line_told_of_archive : (e : ArchiveRefusal) (line : List ℕ) (before after : Option (List ℕ))
+    → line ≡ line_of (archive_printed e) → AppendsFront before after line → IsArchiveTold e before after
+line_told_of_archive e line before after is told = subst (AppendsFront before after) is told
 
 -- ---- the line of each kind of wrong words
 

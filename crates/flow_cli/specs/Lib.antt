@@ -1,12 +1,6 @@
-pub mod Writing
-pub mod Numbers
+pub mod Explain
+pub mod Arguments
 pub mod CommandLine
 pub mod Requested
-pub mod Lines
-pub mod Refusals
 pub mod Printed
-pub mod Fronts
-pub mod Measure
-pub mod Telling
-pub mod Dump
 pub mod Run

@@ -4,18 +4,11 @@
 //! fault; a refusal is that of the first fault by place.
 #![tactic(auto)]
 
-mod dumping;
-mod label;
-mod line;
-mod measuring;
-mod numbers;
-mod output;
-mod patient;
-mod refusal;
+mod arguments;
+mod explaining;
+mod grammar;
 mod request;
 mod run;
-mod tables;
-mod text;
 
 use run::run_line;
 use std::env;
@@ -50,17 +43,15 @@ fn main(rt: HostRuntime) -> ExitCode {
     let mut input = rt.stdin();
     let mut output = rt.stdout();
     let mut errors = rt.stderr();
-    let status = run_line(
-        alloc,
-        words.as_slice(),
-        &mut input,
-        &mut output,
-        &mut errors,
-    );
+    let status = run_line(&rt, words.as_slice(), &mut input, &mut output, &mut errors);
     ExitCode::from(status)
 }
 
 #[cfg(test)]
 mod tests;
 #[cfg(test)]
+mod tests_archive;
+#[cfg(test)]
 mod tests_dump;
+#[cfg(test)]
+mod tests_measure;

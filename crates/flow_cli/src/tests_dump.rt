@@ -1,5 +1,6 @@
-use crate::dumping::dump;
 use crate::tests::decoded;
+use crate::tests_measure::told;
+use flow_report::dump;
 use std::alloc::Global;
 use std::io;
 use std::io::{ErrorKind, Read, Write};
@@ -20,19 +21,6 @@ fn dumped(alloc: Global, text: &str) -> Result<String, Fail> {
     let mut output = Vec::new(alloc);
     let answer = dump(alloc, &mut file.as_slice(), &mut output);
     told(alloc, output.as_slice(), answer)
-}
-
-/// Lines, and behind them an answer.
-fn told(
-    alloc: Global,
-    lines: &[u8],
-    answer: Result<(), crate::refusal::Refusal>,
-) -> Result<String, Fail> {
-    let mut text = String::from_utf8_lossy(alloc, lines)?;
-    if let Err(refusal) = answer {
-        text.push_str(format!(in alloc; "{refusal}")?.as_str())?;
-    }
-    Ok(text)
 }
 
 #[test]

@@ -13,7 +13,7 @@ returns-in-Ok-try_get_matches_from-clause-found g c =
     let m = c.in-Ok-try_get_matches_from.matches in
     let made = takes _ words m c.found.result c.in-Ok.ensures c.in-Ok-try_get_matches_from.ensures.kinds
     c.in-Ok-try_get_matches_from.ensures.matches c.found.ensures in
-    rw c.ok_or.ensures.value (ok_made c.found.result words made)
+    rw c.ok_or.ensures.value (ok_made c.found.result words c.wrong_value.result made)
 
 pub returns-in-Ok-try_get_matches_from-clause-refused : goal.returns-in-Ok-try_get_matches_from-clause-refused
 returns-in-Ok-try_get_matches_from-clause-refused g c =
@@ -21,4 +21,4 @@ returns-in-Ok-try_get_matches_from-clause-refused g c =
     let m = c.in-Ok-try_get_matches_from.matches in
     let made = takes _ words m c.found.result c.in-Ok.ensures c.in-Ok-try_get_matches_from.ensures.kinds
     c.in-Ok-try_get_matches_from.ensures.matches c.found.ensures in
-    rw c.ok_or.ensures.value (err_made c.found.result words made)
+    rw c.ok_or.ensures.value (err_made c.found.result words c.wrong_value.result c.wrong_value.ensures made)

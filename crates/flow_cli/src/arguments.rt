@@ -1,0 +1,124 @@
+//! What the values of a command's arguments are.
+
+ghost use Rattle.std.specs.Prelude.{◌≡◌, ◌≤◌, IfSome};
+ghost use Rattle.clap.specs.Matches.{found_of};
+ghost use Rattle.clap.specs.Walk.{rows_of};
+ghost use Rattle.flow_cli.specs.Arguments.{explained_in, folder_in, limit_in, plan_in, second_in, span_in, wide_in};
+ghost use Rattle.flow_cli.specs.Arguments.{width_in};
+ghost use Rattle.flow_commands.specs.Plans.{IsWide};
+
+use crate::explaining::Explanation;
+use clap::ArgMatches;
+use flow_commands::{NewArchive, StartSpan};
+use flow_report::{Width, number_between};
+use std::marker::Model;
+
+/// The octets of messages that a segment takes where nothing else is asked for.
+const USUAL_LIMIT: u32 = 1_048_576;
+
+/// The greatest second of a span: every flow starts before it.
+const MOST_SECOND: u64 = 4_294_967_296;
+
+/// No refusal has a number above it.
+const MOST_NUMBER: u64 = 99;
+
+/// A path of a folder.
+#[derive(Drop)]
+pub struct FolderName<'a> {
+    pub(crate) path: &'a str,
+}
+
+impl<'a> Model for FolderName<'a> {
+    ghost use Rattle.std.specs.Prelude.{ℕ, List};
+
+    ghost Value = { List ℕ };
+
+    ghost view = { λ f. f.path.now };
+}
+
+/// The width among the arguments of `measure` or `create`.
+#[tactic(auto, using(crate::proofs::Reading::first_value_is))]
+pub(crate) fn width_in(arguments: &ArgMatches<'_>) -> Option<Width>
+    ensures { result ≡ width_in (rows_of (found_of arguments.now)) }
+{
+    Width::of(arguments.get_str("WIDTH")?)
+}
+
+/// The folder among a command's arguments.
+#[tactic(auto, using(crate::proofs::Reading::first_value_is))]
+pub(crate) fn folder_in<'a>(arguments: &ArgMatches<'a>) -> Option<FolderName<'a>>
+    ensures { result ≡ folder_in (rows_of (found_of arguments.now)) }
+{
+    Some(FolderName {
+        path: arguments.get_str("DIR")?,
+    })
+}
+
+/// The limit of a segment among the arguments of `create`.
+#[tactic(auto, using(crate::proofs::Reading::first_value_is))]
+fn limit_in(arguments: &ArgMatches<'_>) -> Option<u32>
+    ensures value { result ≡ limit_in (rows_of (found_of arguments.now)) }
+    ensures from { IfSome result (λ limit. 65535 ≤ limit) }
+    ensures to { IfSome result (λ limit. limit ≤ 16777216) }
+{
+    let Some(word) = arguments.get_str("N") else {
+        return Some(USUAL_LIMIT);
+    };
+    let limit = number_between(65_535, 16_777_216, word.as_bytes())?;
+    Some(limit as u32)
+}
+
+/// The wide width among the arguments of `create`, where one is asked for: a multiple of the width, up to a day.
+#[tactic(auto, using(crate::proofs::Reading::first_value_is))]
+fn wide_in(arguments: &ArgMatches<'_>, width: u32) -> Option<Option<u32>>
+    requires { 1 ≤ width }
+    ensures value { result ≡ wide_in width (rows_of (found_of arguments.now)) }
+    ensures found { IfSome result (λ o. IfSome o (IsWide width)) }
+{
+    let Some(word) = arguments.get_str("SECONDS") else {
+        return Some(None);
+    };
+    let wide = number_between(u64::from(width), 86_400, word.as_bytes())?;
+    if wide % u64::from(width) == 0 {
+        Some(Some(wide as u32))
+    } else {
+        None
+    }
+}
+
+/// The numbers of a new archive among the arguments of `create`.
+pub(crate) fn plan_in(arguments: &ArgMatches<'_>) -> Option<NewArchive>
+    ensures { result ≡ plan_in (rows_of (found_of arguments.now)) }
+{
+    let width = width_in(arguments)?.seconds();
+    let limit = limit_in(arguments)?;
+    let wide = wide_in(arguments, width)?;
+    Some(NewArchive::new(width, wide, limit))
+}
+
+/// A second among the arguments of a command that asks for a span.
+#[tactic(auto, using(crate::proofs::Reading::first_value_is))]
+fn second_in(arguments: &ArgMatches<'_>, id: &str) -> Option<u64>
+    ensures value { result ≡ second_in id.now (rows_of (found_of arguments.now)) }
+    ensures most { IfSome result (λ second. second ≤ 4294967296) }
+{
+    number_between(0, MOST_SECOND, arguments.get_str(id)?.as_bytes())
+}
+
+/// The span among the arguments of a command that asks for one.
+pub(crate) fn span_in(arguments: &ArgMatches<'_>) -> Option<StartSpan>
+    ensures { result ≡ span_in (rows_of (found_of arguments.now)) }
+{
+    let from = second_in(arguments, "FROM")?;
+    let to = second_in(arguments, "TO")?;
+    Some(StartSpan::new(from, to))
+}
+
+/// What `explain` asks for.
+#[tactic(auto, using(crate::proofs::Reading::first_value_is))]
+pub(crate) fn explained_in(arguments: &ArgMatches<'_>) -> Option<Explanation>
+    ensures { result ≡ explained_in (rows_of (found_of arguments.now)) }
+{
+    let number = number_between(0, MOST_NUMBER, arguments.get_str("NUMBER")?.as_bytes())?;
+    Explanation::of(number)
+}

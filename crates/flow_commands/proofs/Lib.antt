@@ -1,0 +1,4 @@
+pub mod StandingIs
+pub mod FirstState
+pub mod Unwritten
+pub mod Asked

@@ -1,0 +1,134 @@
+-- What `totals` and `flows` answer of a disk, and what they write.
+use Rattle.std.specs.Prelude.{◌≡◌, ◌⊎◌, ⊤, ℕ, true, List, Option}
+use Rattle.std.specs.Io.KnownBytes.{Appends, Keeps}
+use Rattle.flow_measure.specs.declared.flow.Flow.{Flow}
+use Rattle.flow_measure.specs.declared.rows.Row.{Row}
+use Rattle.flow_measure.specs.Query.{flows_in_view, totals_in_view}
+use Rattle.flow_measure.specs.View.{View}
+use Rattle.flow_snapshot.specs.declared.error.QueryError.{QueryError}
+use Rattle.flow_snapshot.specs.declared.error.QueryError.TheVariants as query
+use Rattle.flow_snapshot.specs.Sight.{Sight}
+use Rattle.flow_snapshot.specs.Totals.{SumsFit}
+use Rattle.flow_snapshot.specs.Views.{IsViewOf}
+use Rattle.flow_recover.specs.declared.error.RecoverError.{RecoverError}
+use Rattle.flow_recover.specs.Opening.{IsDeviceOrMemory, StandsForNone}
+use Rattle.flow_recover.specs.Shelved.{shelf_of}
+use Rattle.flow_recover.specs.Standing.{StandsFor}
+use Rattle.flow_recover.specs.State.{State}
+use Rattle.flow_commands.specs.declared.archive_refusal.ArchiveRefusal.{ArchiveRefusal}
+use Rattle.flow_commands.specs.declared.archive_refusal.ArchiveRefusal.TheVariants.{Away, InUse, Opening, Archive, Query}
+use Rattle.flow_commands.specs.declared.archive_refusal.ArchiveRefusal.TheVariants.{OutOfMemory, Write}
+use Rattle.flow_report.specs.ArchiveLines.{flows_text, rows_text}
+use Rattle.flow_commands.specs.Plans.{Span}
+use Rattle.flow_report.specs.Writing.{AppendsFront}
+
+-- ---- by the archive's view
+
+-- the lines of the sums of all flows, of the intervals that start in a span
+abbrev pub totals_lines : Span → View → List ℕ
+totals_lines span v = rows_text v.width (totals_in_view span.from span.to v)
+
+-- the lines of the flows that are kept and start in a span
+abbrev pub flows_lines : Span → View → List ℕ
+flows_lines span v = flows_text (flows_in_view span.from span.to v)
+
+-- ---- on an honest disk
+
+-- What was read stands for a state, whose view this is.
+abbrev pub IsViewRead : (ℕ → List ℕ) → View → Type 0
+IsViewRead reads v = (s : State) × StandsFor reads s × IsViewOf (shelf_of s) v
+
+-- this snapshot, and the width of the archive's intervals, are those of a view
+abbrev pub IsSnapshotOf : Sight → ℕ → View → Type 0
+IsSnapshotOf sight width v = (sight.honest ≡ true) × IsViewOf sight.shelf v × (width ≡ v.width)
+
+-- they are those of what was read
+abbrev pub IsReadAs : (ℕ → List ℕ) → Sight → ℕ → Type 0
+IsReadAs reads sight width = (v : View) × IsViewRead reads v × IsSnapshotOf sight width v
+
+-- these are the lines of what was read
+abbrev pub AreLinesOf : (View → List ℕ) → (ℕ → List ℕ) → List ℕ → Type 0
+AreLinesOf lines reads text = (v : View) × IsViewRead reads v × (text ≡ lines v)
+
+-- why an archive isn't opened
+abbrev pub IsUnopened : (ℕ → List ℕ) → RecoverError → Type 0
+IsUnopened reads e = IsDeviceOrMemory e ⊎ StandsForNone reads
+
+-- Why nothing is asked: the archive isn't opened, or memory ran out.
+abbrev pub IsNotAsked : (ℕ → List ℕ) → ArchiveRefusal → Type 0
+IsNotAsked reads (Opening e) = IsUnopened reads e
+IsNotAsked reads OutOfMemory = ⊤
+IsNotAsked reads (Query e) = ⊥
+IsNotAsked reads (Write failed) = ⊥
+IsNotAsked reads (Archive e) = ⊥
+IsNotAsked reads Away = ⊥
+IsNotAsked reads InUse = ⊥
+
+-- Why a query isn't answered: a read failed, or memory ran out; damage is told only where the view has no answer.
+abbrev pub IsQueryFault : (View → Type 0) → (ℕ → List ℕ) → QueryError → Type 0
+IsQueryFault has_answer reads (query.Damaged file at) = (v : View) × IsViewRead reads v × (has_answer v → ⊥)
+IsQueryFault has_answer reads query.Fault = ⊤
+IsQueryFault has_answer reads query.OutOfMemory = ⊤
+
+-- Why nothing is found: nothing is asked, or the query isn't answered.
+abbrev pub IsNotFound : (View → Type 0) → (ℕ → List ℕ) → ArchiveRefusal → Type 0
+IsNotFound has_answer reads (Opening e) = IsUnopened reads e
+IsNotFound has_answer reads OutOfMemory = ⊤
+IsNotFound has_answer reads (Query e) = IsQueryFault has_answer reads e
+IsNotFound has_answer reads (Write failed) = ⊥
+IsNotFound has_answer reads (Archive e) = ⊥
+IsNotFound has_answer reads Away = ⊥
+IsNotFound has_answer reads InUse = ⊥
+
+-- the lines of what was read were written
+abbrev pub TellsLines : (View → List ℕ) → (ℕ → List ℕ) → Option (List ℕ) → Option (List ℕ) → Type 0
+TellsLines lines reads old new = (text : List ℕ) × AreLinesOf lines reads text × Appends old new text
+
+-- a front of them, where writing failed; else nothing
+abbrev pub TellsNoLines : (View → List ℕ) → (View → Type 0) → (ℕ → List ℕ) → Option (List ℕ) → Option (List ℕ)
+    → ArchiveRefusal → Type 0
+TellsNoLines lines has_answer reads old new (Write failed) =
+    (text : List ℕ) × AreLinesOf lines reads text × AppendsFront old new text
+TellsNoLines lines has_answer reads old new (Opening e) = IsNotFound has_answer reads (Opening e) × Keeps old new
+TellsNoLines lines has_answer reads old new (Query e) = IsNotFound has_answer reads (Query e) × Keeps old new
+TellsNoLines lines has_answer reads old new OutOfMemory = Keeps old new
+TellsNoLines lines has_answer reads old new (Archive e) = ⊥
+TellsNoLines lines has_answer reads old new Away = ⊥
+TellsNoLines lines has_answer reads old new InUse = ⊥
+
+-- a view whose flows are asked for always has an answer
+abbrev pub Always : View → Type 0
+Always v = ⊤
+
+-- ---- on every disk
+
+-- lines of rows, and of flows
+abbrev pub AreRows : List ℕ → Type 0
+AreRows text = (width : ℕ) × (rows : List Row) × (text ≡ rows_text width rows)
+
+abbrev pub AreFlows : List ℕ → Type 0
+AreFlows text = (flows : List Flow) × (text ≡ flows_text flows)
+
+-- such lines were written
+abbrev pub Writes : (List ℕ → Type 0) → Option (List ℕ) → Option (List ℕ) → Type 0
+Writes are old new = (text : List ℕ) × are text × Appends old new text
+
+-- a front of such lines, where writing failed; else nothing
+abbrev pub WritesOrNot : (List ℕ → Type 0) → ArchiveRefusal → Option (List ℕ) → Option (List ℕ) → Type 0
+WritesOrNot are (Write failed) old new = (text : List ℕ) × are text × AppendsFront old new text
+WritesOrNot are (Opening e) old new = Keeps old new
+WritesOrNot are (Query e) old new = Keeps old new
+WritesOrNot are OutOfMemory old new = Keeps old new
+WritesOrNot are (Archive e) old new = Keeps old new
+WritesOrNot are Away old new = Keeps old new
+WritesOrNot are InUse old new = Keeps old new
+
+-- a refusal before anything is written
+abbrev pub IsBeforeWriting : ArchiveRefusal → Type 0
+IsBeforeWriting (Write failed) = ⊥
+IsBeforeWriting (Opening e) = ⊤
+IsBeforeWriting (Query e) = ⊤
+IsBeforeWriting OutOfMemory = ⊤
+IsBeforeWriting (Archive e) = ⊤
+IsBeforeWriting Away = ⊤
+IsBeforeWriting InUse = ⊤

@@ -1,0 +1,5 @@
+pub mod Plans
+pub mod Archives
+pub mod Made
+pub mod Check
+pub mod Asking

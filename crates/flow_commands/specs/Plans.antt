@@ -1,0 +1,27 @@
+-- What some commands are given: the numbers of a new archive, and a span of starts.
+use Rattle.std.specs.Prelude.{◌≡◌, ℕ, ◌≤◌, ◌%◌, Option, IfSome}
+
+-- A new archive: the width of its intervals in seconds, a wide width where one is asked for, and how many octets of
+-- messages a segment takes.
+pub record Plan : Type 0 where
+  pub width : ℕ
+  pub wide : Option ℕ
+  pub limit : ℕ
+
+-- a wide width is a multiple of the width, up to a day
+pub record IsWide (width wide : ℕ) : Type 0 where
+  pub from : width ≤ wide
+  pub to : wide ≤ 86400
+  pub multiple : wide % width ≡ 0
+
+pub record IsPlan (p : Plan) : Type 0 where
+  pub width_from : 1 ≤ p.width
+  pub width_to : p.width ≤ 86400
+  pub wide : IfSome p.wide (IsWide p.width)
+  pub limit_from : 65535 ≤ p.limit
+  pub limit_to : p.limit ≤ 16777216
+
+-- flows that start from one second on, and before another
+pub record Span : Type 0 where
+  pub from : ℕ
+  pub to : ℕ

@@ -1,0 +1,161 @@
+//! Why a command over an archive ended before its work was done.
+
+ghost use Rattle.std.specs.Prelude.{Some, ◌≡◌, ◌≢◌, ◌≤◌};
+ghost use Rattle.flow_commands.specs.Archives.{archive_printed, archive_status, of_archive, of_opening, of_query, of_text};
+ghost use Rattle.flow_commands.specs.declared.archive_refusal.ArchiveRefusal.TheVariants as refusal;
+
+use flow_archive::ArchiveError;
+use flow_folder::FolderError;
+use flow_recover::RecoverError;
+use flow_report::{TextError, WriteFailed};
+use flow_snapshot::QueryError;
+use std::alloc::{AllocError, AllocFailed};
+use std::error::Error;
+use std::fmt;
+
+/// Why a command over an archive ended before its work was done, printed as its number, its name and what it carries; of
+/// a folder in use a second line tells that.
+#[derive(Debug, Drop)]
+pub enum ArchiveRefusal {
+    /// The folder isn't there, or the system refused it.
+    Away,
+    /// The folder is in use.
+    InUse,
+    /// The archive can't be opened: 20 to 24, or 30.
+    Opening(RecoverError),
+    /// The archive refuses an event, or isn't made.
+    Archive(ArchiveError),
+    /// A file of the archive can't be asked: 20, or 30.
+    Query(QueryError),
+    OutOfMemory,
+    /// Writing failed.
+    Write(WriteFailed),
+}
+
+impl fmt::Display for ArchiveRefusal {
+    ghost output = { λ e. Some (archive_printed e) };
+
+    fn fmt<W: fmt::Write>(&self, f: &mut fmt::Formatter<W>) -> fmt::Result {
+        match self {
+            ArchiveRefusal::Away => write!(f, "30 Fault"),
+            ArchiveRefusal::InUse => write!(
+                f,
+                "30 Fault\nflowvault: the folder is in use, by a flowvault that still runs"
+            ),
+            ArchiveRefusal::Opening(error) => write!(f, "{error}"),
+            ArchiveRefusal::Archive(error) => write!(f, "{error}"),
+            ArchiveRefusal::Query(error) => write!(f, "{error}"),
+            ArchiveRefusal::OutOfMemory => write!(f, "11 OutOfMemory"),
+            ArchiveRefusal::Write(_) => write!(f, "32 Write"),
+        }
+    }
+}
+
+impl Error for ArchiveRefusal {}
+
+impl ArchiveRefusal {
+    /// The exit status: 1 for what is refused, 3 for a device, 4 for memory, 5 for damage.
+    pub fn status(&self) -> u8
+        ensures value { result ≡ archive_status self.now }
+        ensures failed { 1 ≤ result }
+        ensures other { result ≢ 2 }
+        ensures most { result ≤ 5 }
+    {
+        match self {
+            ArchiveRefusal::Away
+            | ArchiveRefusal::InUse
+            | ArchiveRefusal::Write(_)
+            | ArchiveRefusal::Opening(RecoverError::Fault)
+            | ArchiveRefusal::Archive(ArchiveError::Fault)
+            | ArchiveRefusal::Archive(ArchiveError::SourceFault)
+            | ArchiveRefusal::Archive(ArchiveError::Closed)
+            | ArchiveRefusal::Query(QueryError::Fault) => 3,
+            ArchiveRefusal::OutOfMemory
+            | ArchiveRefusal::Opening(RecoverError::OutOfMemory)
+            | ArchiveRefusal::Archive(ArchiveError::OutOfMemory)
+            | ArchiveRefusal::Query(QueryError::OutOfMemory) => 4,
+            ArchiveRefusal::Opening(_)
+            | ArchiveRefusal::Archive(ArchiveError::Damaged(_, _))
+            | ArchiveRefusal::Query(QueryError::Damaged(_, _)) => 5,
+            ArchiveRefusal::Archive(_) => 1,
+        }
+    }
+}
+
+impl From<RecoverError> for ArchiveRefusal {
+    ghost from_gives = { λ e r. r ≡ of_opening e };
+
+    fn from(error: RecoverError) -> ArchiveRefusal {
+        match error {
+            RecoverError::OutOfMemory => ArchiveRefusal::OutOfMemory,
+            error => ArchiveRefusal::Opening(error),
+        }
+    }
+}
+
+impl From<ArchiveError> for ArchiveRefusal {
+    ghost from_gives = { λ e r. r ≡ of_archive e };
+
+    fn from(error: ArchiveError) -> ArchiveRefusal {
+        match error {
+            ArchiveError::OutOfMemory => ArchiveRefusal::OutOfMemory,
+            error => ArchiveRefusal::Archive(error),
+        }
+    }
+}
+
+impl From<QueryError> for ArchiveRefusal {
+    ghost from_gives = { λ e r. r ≡ of_query e };
+
+    fn from(error: QueryError) -> ArchiveRefusal {
+        match error {
+            QueryError::OutOfMemory => ArchiveRefusal::OutOfMemory,
+            error => ArchiveRefusal::Query(error),
+        }
+    }
+}
+
+impl From<FolderError> for ArchiveRefusal {
+    fn from(error: FolderError) -> ArchiveRefusal {
+        match error {
+            FolderError::NotThere | FolderError::Refused(_) => ArchiveRefusal::Away,
+            FolderError::InUse => ArchiveRefusal::InUse,
+            FolderError::OutOfMemory => ArchiveRefusal::OutOfMemory,
+        }
+    }
+}
+
+impl From<TextError> for ArchiveRefusal {
+    ghost from_gives = { λ e r. r ≡ of_text e };
+
+    fn from(error: TextError) -> ArchiveRefusal {
+        match error {
+            TextError::OutOfMemory => ArchiveRefusal::OutOfMemory,
+            TextError::Write(failed) => ArchiveRefusal::Write(failed),
+        }
+    }
+}
+
+impl From<WriteFailed> for ArchiveRefusal {
+    ghost from_gives = { λ failed r. r ≡ refusal.Write failed };
+
+    fn from(failed: WriteFailed) -> ArchiveRefusal {
+        ArchiveRefusal::Write(failed)
+    }
+}
+
+impl From<AllocError> for ArchiveRefusal {
+    ghost from_gives = { λ _ r. r ≡ refusal.OutOfMemory };
+
+    fn from(_e: AllocError) -> ArchiveRefusal {
+        ArchiveRefusal::OutOfMemory
+    }
+}
+
+impl<T: Drop> From<AllocFailed<T>> for ArchiveRefusal {
+    ghost from_gives = { λ _ r. r ≡ refusal.OutOfMemory };
+
+    fn from(_e: AllocFailed<T>) -> ArchiveRefusal {
+        ArchiveRefusal::OutOfMemory
+    }
+}

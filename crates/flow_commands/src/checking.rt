@@ -1,0 +1,129 @@
+//! The command `check`.
+
+ghost use Rattle.std.specs.Prelude.{◌≡◌, ◌⊎◌, ◌++◌, ℕ, false, IsTrue, OnOk, IfOk, IfErr};
+ghost use Rattle.flow_disk.specs.Disk.{AllImages};
+ghost use Rattle.flow_disk.specs.Moments.{LeavesOnly};
+ghost use Rattle.flow_manifest.specs.Slots.{reads_of};
+ghost use Rattle.flow_recover.specs.Opening.{IsDeviceOrMemory, StandsForNone};
+ghost use Rattle.flow_recover.specs.Standing.{StandsFor, StandsForEither};
+ghost use Rattle.flow_recover.specs.State.{State};
+ghost use Rattle.flow_commands.specs.Check.{IsChecked, IsCheckRefused, KeepsOrChecks, TellsState, standing_line};
+ghost use Rattle.flow_commands.specs.Check.{standing_of, summed_count};
+
+use crate::archive_refusal::ArchiveRefusal;
+use flow_disk::Disk;
+use flow_folder::{FolderDisk, Lockable};
+use flow_manifest::{Entry, Kind, count_of};
+use flow_recover::{RecoverError, recover};
+use flow_report::{Patience, push_count, write_patiently};
+use std::alloc::{AllocError, AllocGlobal, Global};
+use std::fs::Files;
+use std::io::Write;
+use std::os::unix::fs::FileExt;
+
+/// How an archive stands.
+#[derive(Drop)]
+struct Standing {
+    /// How many messages were taken in.
+    position: u64,
+    /// How many of them stand in sums alone.
+    cut: u64,
+    /// How many files of sums there are, over wide intervals or not.
+    rolled: u64,
+    /// How many sealed segments there are.
+    sealed: u64,
+}
+
+impl Standing {
+    /// The line that tells it.
+    #[tactic(auto, unfolding(crate::specs::Check::standing_line))]
+    fn push_line(&self, text: &mut Vec<u8>) -> Result<(), AllocError>
+        ensures { OnOk result (text.new.items ≡ text.old.items ++ standing_line self.now) }
+    {
+        text.extend_from_slice("ok".as_bytes())?;
+        push_count(text, self.position)?;
+        push_count(text, self.cut)?;
+        push_count(text, self.rolled)?;
+        push_count(text, self.sealed)?;
+        text.push(b'\n')?;
+        Ok(())
+    }
+
+    /// The line alone.
+    fn line(&self, alloc: Global) -> Result<Vec<u8>, AllocError>
+        ensures { IfOk result (λ text. text.items ≡ standing_line self.now) }
+    {
+        let mut text = Vec::new(alloc);
+        self.push_line(&mut text)?;
+        Ok(text)
+    }
+}
+
+/// How many of these are files of sums, over wide intervals or not.
+fn summed_count(entries: &[Entry]) -> u64
+    ensures { result ≡ summed_count entries.now }
+{
+    let _most = entries.len();
+    (count_of(entries, Kind::Rolled) + count_of(entries, Kind::Wide)) as u64
+}
+
+/// Opens the archive on a disk, of which nothing is frozen, and tells how it stands.
+fn find_standing<D: Disk>(alloc: Global, disk: &mut D) -> Result<Standing, RecoverError>
+    requires { (n : ℕ) → (D.marks disk.old n).frozen ≡ false }
+    ensures stands { IsTrue (D.honest disk.old) → IfOk result
+        (λ t. (s : State) × StandsFor (reads_of (D.held disk.old)) s × (t ≡ standing_of s)) }
+    ensures told { IsTrue (D.honest disk.old)
+        → IfErr result (λ e. IsDeviceOrMemory e ⊎ StandsForNone (reads_of (D.held disk.old))) }
+    ensures any_moment { IsTrue (D.honest disk.old) → (a b : State) → AllImages (D.held disk.old) (StandsForEither a b)
+        → LeavesOnly D.moment D.left_since disk.old disk.new (StandsForEither a b) }
+{
+    let found = recover(alloc, disk)?;
+    let manifest = &found.slots.current;
+    let entries = manifest.entries.as_slice();
+    Ok(Standing {
+        position: found.total,
+        cut: manifest.rolled,
+        rolled: summed_count(entries),
+        sealed: count_of(entries, Kind::Sealed) as u64,
+    })
+}
+
+/// Opens the archive on a disk, of which nothing is frozen, and writes `ok POSITION CUT ROLLED SEALED`: how many
+/// messages were taken in, how many of them stand in sums alone, how many files of sums and sealed segments there are.
+/// A stop at any moment leaves what stands for the archive that stood there.
+pub fn check<D: Disk, W: Write>(
+    alloc: Global,
+    disk: &mut D,
+    output: &mut W,
+) -> Result<(), ArchiveRefusal>
+    requires { (n : ℕ) → (D.marks disk.old n).frozen ≡ false }
+    ensures told { IsTrue (D.honest disk.old) → OnOk result
+        (TellsState (reads_of (D.held disk.old)) (W.contents output.old) (W.contents output.new)) }
+    ensures refused { IsTrue (D.honest disk.old) → IfErr result
+        (IsCheckRefused (reads_of (D.held disk.old)) (W.contents output.old) (W.contents output.new)) }
+    ensures any_moment { IsTrue (D.honest disk.old) → (a b : State) → AllImages (D.held disk.old) (StandsForEither a b)
+        → LeavesOnly D.moment D.left_since disk.old disk.new (StandsForEither a b) }
+    // And whatever the disk:
+    ensures written { OnOk result (IsChecked (W.contents output.old) (W.contents output.new)) }
+    ensures kept { IfErr result (λ e. KeepsOrChecks e (W.contents output.old) (W.contents output.new)) }
+{
+    let standing = find_standing(alloc, disk)?;
+    let line = standing.line(alloc)?;
+    write_patiently(output, line.as_slice(), &mut Patience::new())?;
+    Ok(())
+}
+
+/// Checks the archive of a folder.
+pub fn check_in<H: Files + AllocGlobal + Clone + Drop, W: Write>(
+    rt: &H,
+    folder: &str,
+    output: &mut W,
+) -> Result<(), ArchiveRefusal>
+where
+    H::File: FileExt + Lockable,
+    ensures written { OnOk result (IsChecked (W.contents output.old) (W.contents output.new)) }
+    ensures kept { IfErr result (λ e. KeepsOrChecks e (W.contents output.old) (W.contents output.new)) }
+{
+    let mut disk = FolderDisk::new(rt, folder)?;
+    check(rt.alloc(), &mut disk, output)
+}

@@ -1,0 +1,63 @@
+//! The command `create`.
+
+ghost use Rattle.std.specs.Prelude.{◌≡◌, ℕ, false, IsTrue, OnOk, IfOk, IfErr};
+ghost use Rattle.flow_disk.specs.Disk.{AllImages};
+ghost use Rattle.flow_disk.specs.Cause.{HasCause};
+ghost use Rattle.flow_recover.specs.Standing.{StandsFor};
+ghost use Rattle.flow_archive.specs.Beginning.{HasFiles, IsNotMade, answer_of, disk_of};
+ghost use Rattle.flow_commands.specs.Made.{first_state};
+
+use crate::archive_refusal::ArchiveRefusal;
+use crate::plan::NewArchive;
+use flow_archive::{Archive, ArchiveError, Refused};
+use flow_disk::Disk;
+use flow_folder::{FolderDisk, Lockable};
+use std::alloc::{AllocGlobal, Global};
+use std::fs::Files;
+use std::os::unix::fs::FileExt;
+
+/// Makes an archive without messages on a disk without files. Refusals, with the disk: 27 NotEmpty where it has files,
+/// and 11 OutOfMemory, which both leave it as it was; and 30 Fault.
+pub fn create<D: Disk>(
+    alloc: Global,
+    disk: D,
+    plan: &NewArchive,
+) -> Result<Archive<D>, Refused<D, ArchiveError>>
+    requires { (n : ℕ) → (D.marks disk n).frozen ≡ false }
+    ensures honest { D.honest (disk_of result) ≡ D.honest disk }
+    ensures made { IfOk result (λ a. (a.state ≡ first_state plan.now) × (a.closed ≡ false)) }
+    ensures stands { IsTrue (D.honest disk) → IfOk result (λ a. AllImages (D.held a.disk)
+        (λ image. StandsFor image (first_state plan.now))) }
+    ensures was_empty { IsTrue (D.honest disk) → OnOk result (HasFiles (D.marks disk) → ⊥) }
+    ensures refused { IfErr result
+        (λ r. IsNotMade D.honest D.moment D.left_since D.marks D.held disk r.disk r.error) }
+    ensures cause { HasCause ArchiveError.Fault (D.faults disk) (D.faults (disk_of result)) (answer_of result) }
+{
+    match plan.wide() {
+        None => Archive::create(alloc, disk, plan.width(), plan.limit()),
+        Some(wide) => Archive::create_wide(alloc, disk, plan.width(), wide, plan.limit()),
+    }
+}
+
+/// Makes an archive without messages on a disk, and gives the disk up.
+fn make_on<D: Disk>(alloc: Global, disk: D, plan: &NewArchive) -> Result<(), ArchiveRefusal>
+    requires { (n : ℕ) → (D.marks disk n).frozen ≡ false }
+{
+    match create(alloc, disk, plan) {
+        Ok(_) => Ok(()),
+        Err(refused) => Err(ArchiveRefusal::from(refused.error)),
+    }
+}
+
+/// Makes an archive in a folder, and leaves the folder to others again.
+pub fn create_in<H: Files + AllocGlobal + Clone + Drop>(
+    rt: &H,
+    folder: &str,
+    plan: &NewArchive,
+) -> Result<(), ArchiveRefusal>
+where
+    H::File: FileExt + Lockable,
+{
+    let disk = FolderDisk::new(rt, folder)?;
+    make_on(rt.alloc(), disk, plan)
+}

@@ -1,0 +1,22 @@
+//! What the commands over an archive do, on any disk and over a folder.
+//!
+//! What the layers above may count on: on an honest disk `create` makes the archive that was asked for; `check` writes the
+//! line of the state for which what is read stands, and tells damage only where that is none. Whatever the disk, and so
+//! over a folder, `check` writes one line of numbers, or nothing, or a front of one where writing failed. A refusal is
+//! printed with its number and its name, and has its exit status.
+#![tactic(auto)]
+
+mod archive_refusal;
+mod asking;
+mod checking;
+mod creating;
+mod listing;
+mod plan;
+mod totalling;
+
+pub use archive_refusal::ArchiveRefusal;
+pub use checking::{check, check_in};
+pub use creating::{create, create_in};
+pub use listing::{flows, flows_in};
+pub use plan::{NewArchive, StartSpan};
+pub use totalling::{totals, totals_in};

@@ -1,0 +1,105 @@
+//! What a command is given: the numbers of a new archive, and a span of starts.
+
+ghost use Rattle.std.specs.Prelude.{◌≡◌, ◌≤◌, ◌%◌, IfSome};
+ghost use Rattle.flow_commands.specs.Plans.{IsPlan};
+
+use std::marker::Model;
+
+/// The numbers of a new archive.
+#[derive(Drop)]
+pub struct NewArchive {
+    width: u32,
+    wide: Option<u32>,
+    limit: u32,
+}
+
+impl Model for NewArchive {
+    ghost use Rattle.flow_commands.specs.Plans.{Plan, IsPlan};
+
+    ghost Value = { Plan };
+
+    ghost view = { λ p. record { width = p.width; wide = p.wide; limit = p.limit } };
+
+    ghost invariant = { λ p. IsPlan (record { width = p.width; wide = p.wide; limit = p.limit }) };
+}
+
+impl NewArchive {
+    /// One of these numbers.
+    pub fn new(width: u32, wide: Option<u32>, limit: u32) -> NewArchive
+        requires { IsPlan (record { width = width; wide = wide; limit = limit }) }
+        ensures { result ≡ record { width = width; wide = wide; limit = limit } }
+    {
+        NewArchive { width, wide, limit }
+    }
+
+    /// The width of its intervals, in seconds.
+    pub fn width(&self) -> u32
+        ensures value { result ≡ self.now.width }
+        ensures from { 1 ≤ result }
+        ensures to { result ≤ 86400 }
+    {
+        self.width
+    }
+
+    /// The wide width, in seconds, where one was asked for.
+    pub fn wide(&self) -> Option<u32>
+        ensures value { result ≡ self.now.wide }
+        ensures from { IfSome result (λ wide. self.now.width ≤ wide) }
+        ensures to { IfSome result (λ wide. wide ≤ 86400) }
+        ensures multiple { IfSome result (λ wide. wide % self.now.width ≡ 0) }
+    {
+        self.wide
+    }
+
+    /// How many octets of messages a segment takes.
+    pub fn limit(&self) -> u32
+        ensures value { result ≡ self.now.limit }
+        ensures from { 65535 ≤ result }
+        ensures to { result ≤ 16777216 }
+    {
+        self.limit
+    }
+}
+
+/// Flows that start from one second on and before another, both since 1970-01-01 00:00 UTC and up to 2^32.
+#[derive(Drop)]
+pub struct StartSpan {
+    from: u64,
+    to: u64,
+}
+
+impl Model for StartSpan {
+    ghost use Rattle.std.specs.Prelude.{◌≤◌};
+    ghost use Rattle.flow_commands.specs.Plans.{Span};
+
+    ghost Value = { Span };
+
+    ghost view = { λ s. record { from = s.from; to = s.to } };
+
+    ghost invariant = { λ s. (s.from ≤ 4294967296) × (s.to ≤ 4294967296) };
+}
+
+impl StartSpan {
+    /// From one second on and before another.
+    pub fn new(from: u64, to: u64) -> StartSpan
+        requires from { from ≤ 4294967296 }
+        requires to { to ≤ 4294967296 }
+        ensures { result ≡ record { from = from; to = to } }
+    {
+        StartSpan { from, to }
+    }
+
+    /// The first second.
+    pub fn from(&self) -> u64
+        ensures { result ≡ self.now.from }
+    {
+        self.from
+    }
+
+    /// The second behind the last one.
+    pub fn to(&self) -> u64
+        ensures { result ≡ self.now.to }
+    {
+        self.to
+    }
+}

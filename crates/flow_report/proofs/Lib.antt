@@ -1,0 +1,9 @@
+pub mod Reached
+pub mod Joining
+pub mod Listed
+pub mod Holding
+pub mod Printing
+pub mod Summing
+pub mod Putting
+pub mod Fields
+pub mod Digits

@@ -1,0 +1,10 @@
+pub mod Writing
+pub mod Numbers
+pub mod Lines
+pub mod ArchiveLines
+pub mod Refusals
+pub mod Printed
+pub mod Fronts
+pub mod Measure
+pub mod Telling
+pub mod Dump
