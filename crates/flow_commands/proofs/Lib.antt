@@ -2,3 +2,4 @@ pub mod StandingIs
 pub mod FirstState
 pub mod Unwritten
 pub mod Asked
+pub mod Causes

@@ -1,12 +1,14 @@
 //! The command `check`.
 
 ghost use Rattle.std.specs.Prelude.{◌≡◌, ◌⊎◌, ◌++◌, ℕ, false, IsTrue, OnOk, IfOk, IfErr};
+ghost use Rattle.flow_disk.specs.Cause.{HasCause};
 ghost use Rattle.flow_disk.specs.Disk.{AllImages};
 ghost use Rattle.flow_disk.specs.Moments.{LeavesOnly};
 ghost use Rattle.flow_manifest.specs.Slots.{reads_of};
 ghost use Rattle.flow_recover.specs.Opening.{IsDeviceOrMemory, StandsForNone};
 ghost use Rattle.flow_recover.specs.Standing.{StandsFor, StandsForEither};
 ghost use Rattle.flow_recover.specs.State.{State};
+ghost use Rattle.flow_commands.specs.declared.archive_refusal.ArchiveRefusal.TheVariants as refusal;
 ghost use Rattle.flow_commands.specs.Check.{IsChecked, IsCheckRefused, KeepsOrChecks, TellsState, standing_line};
 ghost use Rattle.flow_commands.specs.Check.{standing_of, summed_count};
 
@@ -76,6 +78,7 @@ fn find_standing<D: Disk>(alloc: Global, disk: &mut D) -> Result<Standing, Recov
         → IfErr result (λ e. IsDeviceOrMemory e ⊎ StandsForNone (reads_of (D.held disk.old))) }
     ensures any_moment { IsTrue (D.honest disk.old) → (a b : State) → AllImages (D.held disk.old) (StandsForEither a b)
         → LeavesOnly D.moment D.left_since disk.old disk.new (StandsForEither a b) }
+    ensures cause { HasCause RecoverError.Fault (D.faults disk.old) (D.faults disk.new) result }
 {
     let found = recover(alloc, disk)?;
     let manifest = &found.slots.current;
@@ -106,6 +109,7 @@ pub fn check<D: Disk, W: Write>(
     // And whatever the disk:
     ensures written { OnOk result (IsChecked (W.contents output.old) (W.contents output.new)) }
     ensures kept { IfErr result (λ e. KeepsOrChecks e (W.contents output.old) (W.contents output.new)) }
+    ensures cause { HasCause (refusal.Opening RecoverError.Fault) (D.faults disk.old) (D.faults disk.new) result }
 {
     let standing = find_standing(alloc, disk)?;
     let line = standing.line(alloc)?;

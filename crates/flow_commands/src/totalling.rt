@@ -1,19 +1,26 @@
 //! The command `totals`.
 
-ghost use Rattle.std.specs.Prelude.{◌≡◌, ℕ, false, IsTrue, OnOk, IfOk, IfErr};
+ghost use Rattle.std.specs.Prelude.{◌≡◌, ◌≢◌, List, ℕ, false, IsTrue, OnOk, IfOk, IfErr};
+ghost use Rattle.flow_disk.specs.Cause.{HasCause};
 ghost use Rattle.flow_manifest.specs.Slots.{reads_of};
+ghost use Rattle.flow_archive.specs.Beginning.{answer_of, disk_of};
+ghost use Rattle.flow_recover.specs.Standing.{StandsFor};
 ghost use Rattle.flow_snapshot.specs.Totals.{SumsFit};
+ghost use Rattle.flow_commands.specs.declared.archive_refusal.ArchiveRefusal.TheVariants as refusal;
 ghost use Rattle.flow_commands.specs.Asking.{AreLinesOf, AreRows, IsBeforeWriting, IsNotFound, TellsLines, TellsNoLines};
 ghost use Rattle.flow_commands.specs.Asking.{Writes, WritesOrNot, totals_lines};
 ghost use Rattle.flow_report.specs.ArchiveLines.{rows_text};
 
 use crate::archive_refusal::ArchiveRefusal;
-use crate::asking::open_to_ask;
+use crate::asking::to_ask;
 use crate::plan::StartSpan;
+use flow_archive::{Archive, Refused};
 use flow_disk::{Disk, Faults};
 use flow_folder::{FolderDisk, Lockable};
 use flow_measure::Row;
+use flow_recover::RecoverError;
 use flow_report::write_rows;
+use flow_snapshot::QueryError;
 use std::alloc::{AllocGlobal, Global};
 use std::fs::Files;
 use std::io::Write;
@@ -27,49 +34,99 @@ struct FoundRows {
     width: u32,
 }
 
-/// Asks the archive on a disk for its sums.
-fn find_rows<D: Disk>(alloc: Global, disk: D, span: &StartSpan) -> Result<FoundRows, ArchiveRefusal>
-    requires { (n : ℕ) → (D.marks disk n).frozen ≡ false }
-    ensures lines { IsTrue (D.honest disk) → IfOk result
-        (λ f. AreLinesOf (totals_lines span.now) (reads_of (D.held disk)) (rows_text f.width f.rows.items)) }
-    ensures refused { IsTrue (D.honest disk) → IfErr result (IsNotFound SumsFit (reads_of (D.held disk))) }
+/// Asks an archive for its sums.
+fn find_rows<D: Disk>(
+    alloc: Global,
+    archive: &mut Archive<D>,
+    span: &StartSpan,
+    faults: &mut Faults<D::Sealed>,
+) -> Result<FoundRows, ArchiveRefusal>
+    ensures disk { archive.new.disk ≡ archive.old.disk }
+    ensures lines { IsTrue (D.honest archive.old.disk) → (reads : ℕ → List ℕ) → StandsFor reads archive.old.state
+        → IfOk result (λ found. AreLinesOf (totals_lines span.now) reads (rows_text found.width found.rows.items)) }
+    ensures refused { IsTrue (D.honest archive.old.disk) → (reads : ℕ → List ℕ) → StandsFor reads archive.old.state
+        → IfErr result (IsNotFound SumsFit reads) }
     ensures unwritten { IfErr result (λ e. IsBeforeWriting e) }
+    ensures opened { IfErr result (λ e. e ≢ refusal.Opening RecoverError.Fault) }
+    ensures cause { HasCause (refusal.Query QueryError.Fault) faults.old faults.new result }
 {
-    let asked = open_to_ask(alloc, disk)?;
-    let mut faults = Faults::new();
+    let asked = to_ask(alloc, archive)?;
     let rows = asked
         .snapshot
-        .totals(alloc, span.from(), span.to(), &mut faults)?;
+        .totals(alloc, span.from(), span.to(), faults)?;
     Ok(FoundRows {
         rows,
         width: asked.width,
     })
 }
 
+/// Writes the lines of an archive's sums.
+fn total<D: Disk, W: Write>(
+    alloc: Global,
+    archive: &mut Archive<D>,
+    span: &StartSpan,
+    output: &mut W,
+    faults: &mut Faults<D::Sealed>,
+) -> Result<(), ArchiveRefusal>
+    ensures disk { archive.new.disk ≡ archive.old.disk }
+    ensures told { IsTrue (D.honest archive.old.disk) → (reads : ℕ → List ℕ) → StandsFor reads archive.old.state
+        → OnOk result (TellsLines (totals_lines span.now) reads (W.contents output.old) (W.contents output.new)) }
+    ensures refused { IsTrue (D.honest archive.old.disk) → (reads : ℕ → List ℕ) → StandsFor reads archive.old.state
+        → IfErr result (TellsNoLines (totals_lines span.now) SumsFit reads (W.contents output.old)
+        (W.contents output.new)) }
+    ensures written { OnOk result (Writes AreRows (W.contents output.old) (W.contents output.new)) }
+    ensures kept { IfErr result (λ e. WritesOrNot AreRows e (W.contents output.old) (W.contents output.new)) }
+    ensures opened { IfErr result (λ e. e ≢ refusal.Opening RecoverError.Fault) }
+    ensures cause { HasCause (refusal.Query QueryError.Fault) faults.old faults.new result }
+{
+    let found = find_rows(alloc, archive, span, faults)?;
+    write_rows(alloc, found.rows.as_slice(), found.width, output)?;
+    Ok(())
+}
+
 /// Opens the archive on a disk, of which nothing is frozen, and writes the totals lines of the intervals that start in a
-/// span: START DOMAIN PROTOCOL FLOWS OCTETS PACKETS, and of a row over wide intervals their width behind.
+/// span: START DOMAIN PROTOCOL FLOWS OCTETS PACKETS, and of a row over wide intervals their width behind. It hands the
+/// archive on, or gives the disk back.
 pub fn totals<D: Disk, W: Write>(
     alloc: Global,
     disk: D,
     span: &StartSpan,
     output: &mut W,
-) -> Result<(), ArchiveRefusal>
+    faults: &mut Faults<D::Sealed>,
+) -> Result<Archive<D>, Refused<D, ArchiveRefusal>>
     requires { (n : ℕ) → (D.marks disk n).frozen ≡ false }
     // On an honest disk the lines are those of the one view of what was read.
     ensures told { IsTrue (D.honest disk) → OnOk result
         (TellsLines (totals_lines span.now) (reads_of (D.held disk)) (W.contents output.old) (W.contents output.new)) }
-    ensures refused { IsTrue (D.honest disk) → IfErr result (TellsNoLines (totals_lines span.now) SumsFit
-        (reads_of (D.held disk)) (W.contents output.old) (W.contents output.new)) }
+    ensures refused { IsTrue (D.honest disk) → IfErr result (λ r. TellsNoLines (totals_lines span.now) SumsFit
+        (reads_of (D.held disk)) (W.contents output.old) (W.contents output.new) r.error) }
     // And whatever the disk:
     ensures written { OnOk result (Writes AreRows (W.contents output.old) (W.contents output.new)) }
-    ensures kept { IfErr result (λ e. WritesOrNot AreRows e (W.contents output.old) (W.contents output.new)) }
+    ensures kept { IfErr result (λ r. WritesOrNot AreRows r.error (W.contents output.old) (W.contents output.new)) }
+    // It is a fault of opening exactly where a call of the disk failed, and one of asking exactly where a read failed.
+    ensures opening { HasCause (refusal.Opening RecoverError.Fault) (D.faults disk) (D.faults (disk_of result))
+        (answer_of result) }
+    ensures cause { HasCause (refusal.Query QueryError.Fault) faults.old faults.new (answer_of result) }
 {
-    let found = find_rows(alloc, disk, span)?;
-    write_rows(alloc, found.rows.as_slice(), found.width, output)?;
-    Ok(())
+    match Archive::open(alloc, disk) {
+        Ok(archive) => {
+            let mut archive = archive;
+            match total(alloc, &mut archive, span, output, faults) {
+                Ok(()) => Ok(archive),
+                Err(error) => Err(Refused {
+                    disk: archive.into_disk(),
+                    error,
+                }),
+            }
+        }
+        Err(refused) => Err(Refused {
+            disk: refused.disk,
+            error: ArchiveRefusal::from(refused.error),
+        }),
+    }
 }
 
-/// Asks the archive of a folder for its sums.
+/// Asks the archive of a folder for its sums, and leaves the folder to others again.
 pub fn totals_in<H: Files + AllocGlobal + Clone + Drop, W: Write>(
     rt: &H,
     folder: &str,
@@ -82,5 +139,8 @@ where
     ensures kept { IfErr result (λ e. WritesOrNot AreRows e (W.contents output.old) (W.contents output.new)) }
 {
     let disk = FolderDisk::new(rt, folder)?;
-    totals(rt.alloc(), disk, span, output)
+    match totals(rt.alloc(), disk, span, output, &mut Faults::new()) {
+        Ok(_) => Ok(()),
+        Err(refused) => Err(refused.error),
+    }
 }

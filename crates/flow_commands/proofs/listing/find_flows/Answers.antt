@@ -1,36 +1,58 @@
-use Rattle.std.proofs.Common.{ap₂, subst, sym, ◌∙◌}
+use Rattle.std.proofs.Common.{◌≢◌, refl}
+use Rattle.flow_archive.proofs.SourceSums.{passed_on as fault_passed_on}
 use Rattle.flow_disk.proofs.Results.{passed_on}
-use Rattle.flow_manifest.specs.Slots.{reads_of}
+use Rattle.flow_recover.specs.declared.error.RecoverError.TheVariants as opening
+use Rattle.flow_snapshot.specs.declared.error.QueryError.TheVariants as query
+use Rattle.flow_commands.specs.declared.archive_refusal.ArchiveRefusal.TheVariants as refusal
 use Rattle.flow_commands.specs.Archives.{of_query}
 use Rattle.flow_commands.specs.Asking.{Always, IsBeforeWriting, IsNotFound}
-use Rattle.flow_commands.proofs.Asked.{not_found, query_unwritten, flows_read, flows_refused}
+use Rattle.flow_commands.proofs.Asked.{query_unwritten, flows_read, flows_refused}
+use Rattle.flow_commands.proofs.Causes.{memory_is_no_opening, memory_is_no_query, other_than, query_fault}
+use Rattle.flow_commands.proofs.Causes.{query_is_no_opening, query_is_told}
 use Rattle.flow_commands.proofs.listing.find_flows.Goals as goal
 
 pub returns-in_err-asked-clause-refused : goal.returns-in_err-asked-clause-refused
-returns-in_err-asked-clause-refused g c h =
-    let reads = reads_of (g.D.Disk.held c.args.disk) in
-    passed_on c.from_residual.result (c.in_err-asked.field-0).0 (λ e. IsNotFound Always reads e)
-    c.from_residual.ensures.1 (not_found Always reads (c.in_err-asked.field-0).0 (c.in_err-asked.ensures.refused h))
+returns-in_err-asked-clause-refused g c h reads stands =
+    passed_on c.from_residual.result refusal.OutOfMemory (λ e. IsNotFound Always reads e) c.from_residual.ensures.1 tt
 
 pub returns-in_err-asked-clause-unwritten : goal.returns-in_err-asked-clause-unwritten
 returns-in_err-asked-clause-unwritten g c =
-    passed_on c.from_residual.result (c.in_err-asked.field-0).0 (λ e. IsBeforeWriting e)
-    c.from_residual.ensures.1 c.in_err-asked.ensures.unwritten
+    passed_on c.from_residual.result refusal.OutOfMemory (λ e. IsBeforeWriting e) c.from_residual.ensures.1 tt
+
+pub returns-in_err-asked-clause-opened : goal.returns-in_err-asked-clause-opened
+returns-in_err-asked-clause-opened g c =
+    passed_on c.from_residual.result refusal.OutOfMemory (λ e. e ≢ refusal.Opening opening.Fault)
+    c.from_residual.ensures.1 memory_is_no_opening
+
+pub returns-in_err-asked-clause-cause : goal.returns-in_err-asked-clause-cause
+returns-in_err-asked-clause-cause g c =
+    other_than (refusal.Query query.Fault) refusal.OutOfMemory _ _ c.from_residual.result c.from_residual.ensures.1
+    memory_is_no_query refl
 
 pub returns-in_err-flows-clause-refused : goal.returns-in_err-flows-clause-refused
-returns-in_err-flows-clause-refused g c h =
-    let reads = reads_of (g.D.Disk.held c.args.disk) in
+returns-in_err-flows-clause-refused g c h reads stands =
     passed_on c.from_residual-in_err-flows.result (of_query (c.in_err-flows.field-0).0) (λ e. IsNotFound Always reads e)
     c.from_residual-in_err-flows.ensures.1
-    (flows_refused reads _ _ (c.in_err-flows.field-0).0 (c.in_ok-asked.ensures.read h) c.in_err-flows.ensures.given)
+    (flows_refused reads _ _ (c.in_err-flows.field-0).0 (c.in_ok-asked.ensures.read h reads stands) c.in_err-flows.ensures.given)
 
 pub returns-in_err-flows-clause-unwritten : goal.returns-in_err-flows-clause-unwritten
 returns-in_err-flows-clause-unwritten g c =
     passed_on c.from_residual-in_err-flows.result (of_query (c.in_err-flows.field-0).0) (λ e. IsBeforeWriting e)
     c.from_residual-in_err-flows.ensures.1 (query_unwritten (c.in_err-flows.field-0).0)
 
+pub returns-in_err-flows-clause-opened : goal.returns-in_err-flows-clause-opened
+returns-in_err-flows-clause-opened g c =
+    passed_on c.from_residual-in_err-flows.result (of_query (c.in_err-flows.field-0).0)
+    (λ e. e ≢ refusal.Opening opening.Fault) c.from_residual-in_err-flows.ensures.1
+    (query_is_no_opening (c.in_err-flows.field-0).0)
+
+pub returns-in_err-flows-clause-cause : goal.returns-in_err-flows-clause-cause
+returns-in_err-flows-clause-cause g c =
+    let e = (c.in_err-flows.field-0).0 in
+    fault_passed_on query.Fault (refusal.Query query.Fault) e (of_query e) _ _ _ c.from_residual-in_err-flows.result
+    c.in_err-flows.ensures.cause refl c.from_residual-in_err-flows.ensures.1 (query_fault e) (query_is_told e)
+
 pub returns-clause-lines : goal.returns-clause-lines
-returns-clause-lines g c h =
-    let reads = reads_of (g.D.Disk.held c.args.disk) in
+returns-clause-lines g c h reads stands =
     flows_read reads _ c.in_ok-asked.asked.width c.args.span.now c.from.result c.to.result _
-    (c.in_ok-asked.ensures.read h) c.from.ensures c.to.ensures c.in_ok-flows.ensures.given
+    (c.in_ok-asked.ensures.read h reads stands) c.from.ensures c.to.ensures c.in_ok-flows.ensures.given
