@@ -51,7 +51,3 @@ fn main(rt: HostRuntime) -> ExitCode {
 mod tests;
 #[cfg(test)]
 mod tests_archive;
-#[cfg(test)]
-mod tests_dump;
-#[cfg(test)]
-mod tests_measure;

@@ -15,7 +15,7 @@ const UNKNOWN: &str =
     "a word isn't understood; a File is read from standard input: flowvault measure 300 < FILE";
 
 /// The line of the plain message.
-pub(crate) const PLAIN_LINE: &str = "1699999800 7 6 1 1500 10\n";
+const PLAIN_LINE: &str = "1699999800 7 6 1 1500 10\n";
 
 /// The octets of words of hexadecimal digits, parted by spaces and bars.
 pub(crate) fn decoded(alloc: Global, text: &str) -> Result<Vec<u8>, Fail> {
@@ -108,7 +108,7 @@ fn widths_on_the_command_line(rt: HostRuntime) -> Result<(), Fail> {
 
 /// A reader that is interrupted at every call.
 #[derive(Drop)]
-pub(crate) struct Interrupted;
+struct Interrupted;
 
 impl Read for Interrupted {
     fn read(&mut self, _buf: &mut [u8]) -> io::Result<usize> {

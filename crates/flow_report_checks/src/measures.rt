@@ -1,10 +1,15 @@
-use crate::tests::{Interrupted, PLAIN, PLAIN_LINE, decoded};
-use flow_report::{Refusal, Width, measure};
+//! The totals that `measure` writes, its refusals by place, and readers and writers that fail.
+
+use crate::stage::{PLAIN, decoded, told};
+use flow_report::{Width, measure};
 use std::alloc::Global;
 use std::io;
 use std::io::{ErrorKind, Read, Write};
 use std::process::Abort;
 use std::test::*;
+
+/// The line of the plain message.
+const PLAIN_LINE: &str = "1699999800 7 6 1 1500 10\n";
 
 /// A message without Sets.
 const NO_SET: &str = "000A0010 6553F100 00000000 00000007";
@@ -19,19 +24,6 @@ const SHORT_SET: &str =
     "000A0039 6553F100 00000000 00000007 | 00020018 0100 0004 00960004 00040001 00010004 00020004 | 01000011 \
      6553F100 06 000005DC 0000000A | 000A0039 6553F100 00000000 00000007 | 00020003 0100 0004 00960004 00040001 \
      00010004 00020004 | 01000011 6553F100 06 000005DC 0000000A 00";
-
-/// Lines, and behind them an answer.
-pub(crate) fn told(
-    alloc: Global,
-    lines: &[u8],
-    answer: Result<(), Refusal>,
-) -> Result<String, Fail> {
-    let mut text = String::from_utf8_lossy(alloc, lines)?;
-    if let Err(refusal) = answer {
-        text.push_str(format!(in alloc; "{refusal}")?.as_str())?;
-    }
-    Ok(text)
-}
 
 /// Runs `measure` over intervals of 300 seconds, and answers its refusal.
 fn refused<R: Read, W: Write>(
@@ -209,6 +201,16 @@ fn a_writer_that_is_slow_or_fails(rt: HostRuntime) -> Result<(), Fail> {
         assert!(rt; PLAIN_LINE.as_bytes().starts_with(output.taken.as_slice()));
     }
     Ok(())
+}
+
+/// A reader that is interrupted at every call.
+#[derive(Drop)]
+struct Interrupted;
+
+impl Read for Interrupted {
+    fn read(&mut self, _buf: &mut [u8]) -> io::Result<usize> {
+        Err(io::Error::from(ErrorKind::Interrupted))
+    }
 }
 
 #[test]

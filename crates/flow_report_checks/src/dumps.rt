@@ -1,16 +1,13 @@
-use crate::tests::decoded;
-use crate::tests_measure::told;
+//! The lines that `dump` writes of messages and records, up to a fault, and writers and readers that fail.
+
+use crate::stage::{PLAIN, decoded, told};
 use flow_report::dump;
 use std::alloc::Global;
 use std::io;
 use std::io::{ErrorKind, Read, Write};
 use std::test::Fail;
 
-/// A template of four elements and a flow: 57 octets.
-const PLAIN: &str =
-    "000A 0039 6553F100 00000000 00000007 | 0002 0018 0100 0004 0096 0004 0004 0001 0001 0004 0002 0004 | 0100 \
-     0011 6553F100 06 000005DC 0000000A";
-
+/// The lines of the plain message.
 const PLAIN_LINES: &str =
     "message 57 1700000000 0 7\nrecord 256 flowStartSeconds=1700000000 protocolIdentifier=6 \
      octetDeltaCount=1500 packetDeltaCount=10\n";
