@@ -10,8 +10,6 @@
 
 mod error;
 mod reopening;
-#[cfg(test)]
-mod tests;
 mod totals;
 
 pub use error::{NotOpened, NotTold};

@@ -3,8 +3,8 @@
 ghost use Rattle.std.specs.Prelude.{◌≡◌, false, All, IfOk};
 ghost use Rattle.flow_archive.specs.Runs.{IsEvent};
 
-use crate::{NotOpened, run_and_open, totals_behind_a_stop};
 use flow_archive::{Answer, Archive, ArchiveError, Event};
+use flow_headline::{NotOpened, run_and_open, totals_behind_a_stop};
 use flow_memory_disk::{Choice, FusedDisk, MemoryDisk, Room};
 use std::alloc::{AllocError, Global};
 use std::test::*;
