@@ -21,6 +21,14 @@ put_tail old new at s n text put size short = record {
   parts = sym (drop-drop n s new) ∙ ap (λ (l : List ℕ). drop n l) put.parts ∙ drop-append-le n text (drop at old) short;
 }
 
+-- a text that was put, without its first octet
+pub put_rest : (old new : List ℕ) (at s x : ℕ) (text : List ℕ) → IsPut old at new s (x ∷ text) → s + 1 ≤ at
+    → IsPut old at new (s + 1) text
+put_rest old new at s x text put room = record {
+  before = room;
+  parts = sym (drop-drop 1 s new) ∙ ap (λ (l : List ℕ). drop 1 l) put.parts;
+}
+
 -- ---- the two kinds of elements
 
 abbrev pub label_of : List ℕ × ElementType → List ℕ × ElementType

@@ -14,7 +14,7 @@ ghost use Rattle.flow_report.specs.Lines.{start_text};
 ghost use Rattle.flow_report.specs.Telling.{IsPut, EndsBy};
 
 use crate::label::{LABEL_ROOM, Label, label_of};
-use crate::tables::hex_of;
+use crate::tables::{hex_of, part_of};
 use flow_codec::{Definition, VARIABLE};
 use flow_elements::{ElementId, ElementType, LentValue, lend_value};
 use itoa::write_digits;
@@ -72,17 +72,27 @@ fn put_octets(line: &mut [u8], at: usize, octets: &[u8]) -> usize
     start
 }
 
-/// A number in decimal, and a dot in front of it.
-fn put_part(line: &mut [u8], at: usize, number: u8) -> usize
-    requires { (21 ≤ at) × (at ≤ length line.old) }
-    ensures put { IsPut line.old at line.new result (46 ∷ decimal number) }
-    ensures room { at ≤ result + 21 }
+/// The octets that hold a part of an address.
+fn put_part_whole(line: &mut [u8], at: usize, octets: [u8; 4]) -> usize
+    requires { (4 ≤ at) × (at ≤ length line.old) }
+    ensures put { IsPut line.old at line.new result octets }
+    ensures room { result + 4 ≡ at }
+    ensures len { length octets ≡ 4 }
 {
-    let at = put_number(line, at, number as u64);
-    put_octet(line, at, b'.')
+    put_text(line, at, &octets)
 }
 
-/// An IPv4 address in dotted decimal.
+/// A part of an address in decimal, and a dot in front of it: octets that are copied whole, as a label's are.
+fn put_part(line: &mut [u8], at: usize, octet: u8) -> usize
+    requires { (4 ≤ at) × (at ≤ length line.old) }
+    ensures put { IsPut line.old at line.new result (46 ∷ decimal octet) }
+    ensures room { (at ≤ result + 4) × (result + 2 ≤ at) }
+{
+    let part = part_of(octet);
+    put_part_whole(line, at, part.octets) + part.before
+}
+
+/// An IPv4 address in dotted decimal. The dot in front of its first part is left out.
 fn put_address4(line: &mut [u8], at: usize, octets: [u8; 4]) -> usize
     requires { (83 ≤ at) × (at ≤ length line.old) }
     ensures put { IsPut line.old at line.new result (join_with_byte 46 (map decimal octets)) }
@@ -92,7 +102,7 @@ fn put_address4(line: &mut [u8], at: usize, octets: [u8; 4]) -> usize
     let at = put_part(line, at, d);
     let at = put_part(line, at, c);
     let at = put_part(line, at, b);
-    put_number(line, at, a as u64)
+    put_part(line, at, a) + 1
 }
 
 /// An octet in hexadecimal.

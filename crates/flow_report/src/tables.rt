@@ -1,6 +1,7 @@
 //! Texts of octets that stand in tables.
 
-ghost use Rattle.std.specs.Prelude.{◌≡◌};
+ghost use Rattle.std.specs.Prelude.{◌≡◌, ◌≤◌, ◌∷◌, drop};
+ghost use Rattle.std.specs.Fmt.{decimal};
 ghost use Rattle.flow_report.specs.Lines.{hex};
 
 /// The two lower-case hexadecimal digits of each octet.
@@ -34,4 +35,60 @@ pub(crate) fn hex_of(octet: u8) -> [u8; 2]
     ensures { result ≡ hex octet }
 {
     HEX[octet as usize]
+}
+
+/// Each octet in decimal behind a dot, at the end of four octets.
+static PARTS: [[u8; 4]; 256] = [
+    *b"  .0", *b"  .1", *b"  .2", *b"  .3", *b"  .4", *b"  .5", *b"  .6", *b"  .7", *b"  .8",
+    *b"  .9", *b" .10", *b" .11", *b" .12", *b" .13", *b" .14", *b" .15", *b" .16", *b" .17",
+    *b" .18", *b" .19", *b" .20", *b" .21", *b" .22", *b" .23", *b" .24", *b" .25", *b" .26",
+    *b" .27", *b" .28", *b" .29", *b" .30", *b" .31", *b" .32", *b" .33", *b" .34", *b" .35",
+    *b" .36", *b" .37", *b" .38", *b" .39", *b" .40", *b" .41", *b" .42", *b" .43", *b" .44",
+    *b" .45", *b" .46", *b" .47", *b" .48", *b" .49", *b" .50", *b" .51", *b" .52", *b" .53",
+    *b" .54", *b" .55", *b" .56", *b" .57", *b" .58", *b" .59", *b" .60", *b" .61", *b" .62",
+    *b" .63", *b" .64", *b" .65", *b" .66", *b" .67", *b" .68", *b" .69", *b" .70", *b" .71",
+    *b" .72", *b" .73", *b" .74", *b" .75", *b" .76", *b" .77", *b" .78", *b" .79", *b" .80",
+    *b" .81", *b" .82", *b" .83", *b" .84", *b" .85", *b" .86", *b" .87", *b" .88", *b" .89",
+    *b" .90", *b" .91", *b" .92", *b" .93", *b" .94", *b" .95", *b" .96", *b" .97", *b" .98",
+    *b" .99", *b".100", *b".101", *b".102", *b".103", *b".104", *b".105", *b".106", *b".107",
+    *b".108", *b".109", *b".110", *b".111", *b".112", *b".113", *b".114", *b".115", *b".116",
+    *b".117", *b".118", *b".119", *b".120", *b".121", *b".122", *b".123", *b".124", *b".125",
+    *b".126", *b".127", *b".128", *b".129", *b".130", *b".131", *b".132", *b".133", *b".134",
+    *b".135", *b".136", *b".137", *b".138", *b".139", *b".140", *b".141", *b".142", *b".143",
+    *b".144", *b".145", *b".146", *b".147", *b".148", *b".149", *b".150", *b".151", *b".152",
+    *b".153", *b".154", *b".155", *b".156", *b".157", *b".158", *b".159", *b".160", *b".161",
+    *b".162", *b".163", *b".164", *b".165", *b".166", *b".167", *b".168", *b".169", *b".170",
+    *b".171", *b".172", *b".173", *b".174", *b".175", *b".176", *b".177", *b".178", *b".179",
+    *b".180", *b".181", *b".182", *b".183", *b".184", *b".185", *b".186", *b".187", *b".188",
+    *b".189", *b".190", *b".191", *b".192", *b".193", *b".194", *b".195", *b".196", *b".197",
+    *b".198", *b".199", *b".200", *b".201", *b".202", *b".203", *b".204", *b".205", *b".206",
+    *b".207", *b".208", *b".209", *b".210", *b".211", *b".212", *b".213", *b".214", *b".215",
+    *b".216", *b".217", *b".218", *b".219", *b".220", *b".221", *b".222", *b".223", *b".224",
+    *b".225", *b".226", *b".227", *b".228", *b".229", *b".230", *b".231", *b".232", *b".233",
+    *b".234", *b".235", *b".236", *b".237", *b".238", *b".239", *b".240", *b".241", *b".242",
+    *b".243", *b".244", *b".245", *b".246", *b".247", *b".248", *b".249", *b".250", *b".251",
+    *b".252", *b".253", *b".254", *b".255",
+];
+
+/// An octet in decimal behind a dot, at the end of octets that are copied whole.
+#[derive(Clone, Copy)]
+pub(crate) struct Part {
+    pub(crate) octets: [u8; 4],
+    /// The octets in front of the text.
+    pub(crate) before: usize,
+}
+
+/// An octet in decimal, and a dot in front of it.
+pub(crate) fn part_of(octet: u8) -> Part
+    ensures text { drop result.before result.octets ≡ 46 ∷ decimal octet }
+    ensures before { result.before ≤ 2 }
+{
+    let octets = PARTS[octet as usize];
+    if octet < 10 {
+        return Part { octets, before: 2 };
+    }
+    if octet < 100 {
+        return Part { octets, before: 1 };
+    }
+    Part { octets, before: 0 }
 }
