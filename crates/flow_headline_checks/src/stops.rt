@@ -4,7 +4,8 @@ ghost use Rattle.std.specs.Prelude.{◌≡◌, false, All, IfOk};
 ghost use Rattle.flow_archive.specs.Runs.{IsEvent};
 
 use flow_archive::{Answer, Archive, ArchiveError, Event};
-use flow_headline::{NotOpened, run_and_open, totals_behind_a_stop};
+use flow_headline::{NotOpened, Reopened, run_and_open, totals_behind_a_stop};
+use flow_measure::Row;
 use flow_memory_disk::{Choice, FusedDisk, MemoryDisk, Room};
 use std::alloc::{AllocError, Global};
 use std::test::*;
@@ -82,21 +83,30 @@ fn acknowledged(answers: &[Result<Answer, ArchiveError>]) -> u64 {
     last
 }
 
-/// How many messages were acknowledged before a stop at this call, and how many the archive has that is opened
-/// behind it.
-fn counts(alloc: Global, call: u64, choice: Choice<'_>) -> Option<(u64, u64)> {
+/// The answers of the events, stopped at this call, and the archive that is opened behind the stop.
+fn stopped(alloc: Global, call: u64, choice: Choice<'_>) -> Option<Reopened> {
     let Ok(archive) = created(alloc, call) else {
         return None;
     };
     let Ok(events) = events(alloc) else {
         return None;
     };
-    let mut reopened = run_and_open(alloc, archive, events.as_slice(), choice).ok()?;
+    run_and_open(alloc, archive, events.as_slice(), choice).ok()
+}
+
+/// How many messages were acknowledged before a stop, and how many the archive has that was opened behind it.
+fn counted(alloc: Global, reopened: &mut Reopened) -> Option<(u64, u64)> {
     let next = reopened.archive.append(alloc, NO_SET.as_slice()).ok()?;
     Some((
         acknowledged(reopened.answers.as_slice()),
         next.checked_sub(1)?,
     ))
+}
+
+/// How many messages were acknowledged before a stop at this call, and how many the archive has that is opened
+/// behind it.
+fn counts(alloc: Global, call: u64, choice: Choice<'_>) -> Option<(u64, u64)> {
+    counted(alloc, &mut stopped(alloc, call, choice)?)
 }
 
 /// Whether an archive is opened with all that was acknowledged, and at most the message besides that was under way.
@@ -132,8 +142,8 @@ fn no_such_stop(rt: HostRuntime) -> Result<(), Fail> {
     Ok(())
 }
 
-/// The flows, octets and packets of all rows that start within a span, behind a stop.
-fn sums_behind_a_stop(alloc: Global, call: u64, from: u64, to: u64) -> Option<(u64, u128, u128)> {
+/// The rows that start within a span, behind a stop.
+fn rows_behind_a_stop(alloc: Global, call: u64, from: u64, to: u64) -> Option<Vec<Row>> {
     let Ok(archive) = created(alloc, call) else {
         return None;
     };
@@ -148,8 +158,13 @@ fn sums_behind_a_stop(alloc: Global, call: u64, from: u64, to: u64) -> Option<(u
         from,
         to,
     ).ok()?;
+    Some(told.rows)
+}
+
+/// The flows, octets and packets of all rows that start within a span, behind a stop.
+fn sums_behind_a_stop(alloc: Global, call: u64, from: u64, to: u64) -> Option<(u64, u128, u128)> {
     let mut sums = (0, 0, 0);
-    for row in told.rows {
+    for row in rows_behind_a_stop(alloc, call, from, to)? {
         sums.0 = row.sums.flows.wrapping_add(sums.0);
         sums.1 = row.sums.octets.wrapping_add(sums.1);
         sums.2 = row.sums.packets.wrapping_add(sums.2);
