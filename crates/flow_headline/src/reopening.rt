@@ -1,21 +1,24 @@
 //! Events, a stop, and the opening behind it.
 
-ghost use Rattle.std.specs.Prelude.{◌≡◌, ℕ, false, All, IfOk, IsErrOf};
+ghost use Rattle.std.specs.Prelude.{◌≡◌, ℕ, false, All, IfOk, IsErrOf, IfSome, None};
+ghost use Rattle.flow_disk.specs.Disk.{IsDiskImage};
 ghost use Rattle.flow_manifest.specs.Slots.{reads_of};
 ghost use Rattle.flow_memory_disk.specs.Calls.{held_of};
 ghost use Rattle.flow_memory_disk.specs.Memory.{story_of};
+ghost use Rattle.flow_memory_disk.specs.Stopped.{stopped};
+ghost use Rattle.flow_memory_disk.specs.Stopping.{CanCrash};
 ghost use Rattle.flow_recover.specs.State.{State};
 ghost use Rattle.flow_recover.specs.Standing.{StandsFor};
 ghost use Rattle.flow_archive.specs.Runs.{IsEvent};
 ghost use Rattle.flow_headline.specs.Front.{EndsAtFault, IsFront};
-ghost use Rattle.flow_headline.specs.Machine.{IsNoStop, IsStoppedRun};
+ghost use Rattle.flow_headline.specs.Machine.{IsFusedRun, IsNoStop, IsStoppedRun};
 
 use crate::error::NotOpened;
 use flow_archive::{Answer, Archive, ArchiveError, Event, run};
 use flow_disk::Faults;
 use flow_memory_disk::{Choice, FusedDisk, MemoryDisk};
 use flow_recover::RecoverError;
-use std::alloc::Global;
+use std::alloc::{AllocError, Global};
 
 /// The answers of events, and the archive that was opened behind a stop.
 #[derive(Drop)]
@@ -84,14 +87,36 @@ fn run_and_stop(
     let mut archive = archive;
     // Its contract tells what all images stand for at the start.
     let _closed = archive.is_closed();
-    let mut faults = Faults::new();
-    let answers = run(&mut archive, alloc, events, &mut faults)?;
-    let disk = archive.into_disk();
-    if !disk.can_crash(choice) {
-        return Err(NotOpened::NoSuchStop);
+    let answers = run_all(&mut archive, alloc, events)?;
+    match crashed(archive.into_disk(), choice) {
+        Some(disk) => Ok(Stopped { answers, disk }),
+        None => Err(NotOpened::NoSuchStop),
     }
-    Ok(Stopped {
-        answers,
-        disk: disk.crash(choice),
-    })
+}
+
+/// Runs events.
+fn run_all(
+    archive: &mut Archive<FusedDisk<MemoryDisk>>,
+    alloc: Global,
+    events: &[Event],
+) -> Result<Vec<Result<Answer, ArchiveError>>, AllocError>
+    requires { All IsEvent events.now }
+    ensures { IfOk result (λ answers. IsFusedRun archive.old events.now answers.items archive.new) }
+{
+    run(archive, alloc, events, &mut Faults::new())
+}
+
+/// What a stop leaves of a disk; `None` where no stop leaves what is chosen.
+fn crashed(disk: FusedDisk<MemoryDisk>, choice: Choice<'_>) -> Option<MemoryDisk>
+    ensures fits { IfSome result (λ _. CanCrash disk.disk.files.items choice.entry) }
+    ensures image { IfSome result
+        (λ d. IsDiskImage (held_of (story_of disk.disk)) (reads_of (held_of (story_of d)))) }
+    ensures story { IfSome result (λ d. story_of d ≡ stopped (story_of disk.disk) choice.entry) }
+    ensures thawed { IfSome result (λ d. (n : ℕ) → ((story_of d).marks n).frozen ≡ false) }
+    ensures none { result ≡ None → CanCrash disk.disk.files.items choice.entry → ⊥ }
+{
+    if !disk.can_crash(choice) {
+        return None;
+    }
+    Some(disk.crash(choice))
 }
