@@ -1,0 +1,4 @@
+mod Taking
+mod Turning
+mod Reading
+mod Batches

@@ -1,0 +1,60 @@
+-- A File into an archive.
+use Rattle.std.specs.Prelude.{◌≡◌, ℕ, ◌+◌, Bool, true, false, List, All, length, Option, Some, None, ⊤}
+use Rattle.std.specs.Io.KnownBytes.{Consumes, IsAtEnd}
+use Rattle.flow_codec.specs.declared.stream.StreamError.TheVariants as stream
+use Rattle.flow_codec.specs.Cutting.{IsCutOff}
+use Rattle.flow_codec.specs.Message.{joined}
+use Rattle.flow_codec.specs.Stream.{Progress, IsFaultNext, IsMessageNext}
+use Rattle.flow_archive.specs.declared.refusal.ArchiveError.{ArchiveError}
+use Rattle.flow_archive.specs.Seen.{Seen}
+use Rattle.flow_feed.specs.declared.batch.Fed.{Fed}
+use Rattle.flow_feed.specs.declared.batch.FeedStop.{FeedStop}
+use Rattle.flow_feed.specs.declared.batch.FeedStop.TheVariants.{File, Archive, OutOfMemory, Unopened}
+use Rattle.flow_feed.specs.Taken.{HasTaken}
+
+-- What stands behind the messages that are taken in, up to this place of the File: nothing, where the File is taken in
+-- whole; a fault of the File; or a message that isn't taken.
+abbrev pub IsEnd : ℕ → Option FeedStop → Option (List ℕ) → Type 0
+IsEnd place None rest = IsAtEnd rest
+IsEnd place (Some (File (stream.File fault))) rest = IsFaultNext place rest fault
+IsEnd place (Some (File (stream.Read failed))) rest = ⊤
+IsEnd place (Some (File stream.NumbersSpent)) rest = IsMessageNext rest
+IsEnd place (Some (Archive error)) rest = IsMessageNext rest
+IsEnd place (Some OutOfMemory) rest = ⊤
+IsEnd place (Some Unopened) rest = ⊥
+
+-- the refusal of the archive that a File stopped by
+abbrev pub refusal_in : Option FeedStop → Option ArchiveError
+refusal_in None = None
+refusal_in (Some (File error)) = None
+refusal_in (Some (Archive error)) = Some error
+refusal_in (Some OutOfMemory) = None
+refusal_in (Some Unopened) = None
+
+-- ---- messages that are read together
+
+-- These messages were read, one behind the other; more stand behind them, or the File is read to its end, or up to where
+-- it stops. `rest` are the octets behind the messages.
+pub record AreRead (old : Progress) (messages : List (List ℕ)) (is_last : Bool) (stop : Option FeedStop)
+    (new : Progress) : Type 0 where
+  pub all : All IsCutOff messages
+  pub rest : Option (List ℕ)
+  pub front : Consumes old.rest rest (joined messages)
+  pub refused : refusal_in stop ≡ None
+  pub more : is_last ≡ false → (rest ≡ new.rest) × (new.stopped ≡ None)
+      × (new.at ≡ old.at + length (joined messages)) × (new.count ≡ old.count + length messages)
+  pub ended : is_last ≡ true → IsEnd (old.at + length (joined messages)) stop rest
+
+-- ---- a whole File
+
+-- The archive has acknowledged the first messages of the File, in their order, each once, and no other; as many as are
+-- told; and what stands behind them is why there aren't more.
+pub record IsFed {D : Type 0} (honest : D → Bool) (moment : D → ℕ) (left_since : D → ℕ → (ℕ → List ℕ) → Type 0)
+    (old new : Seen D) (octets : Option (List ℕ)) (fed : Fed) : Type 0 where
+  pub messages : List (List ℕ)
+  pub taken : HasTaken honest moment left_since old new messages (refusal_in fed.stop)
+  pub count : fed.messages ≡ length messages
+  pub all : All IsCutOff messages
+  pub rest : Option (List ℕ)
+  pub front : Consumes octets rest (joined messages)
+  pub ended : IsEnd (length (joined messages)) fed.stop rest

@@ -1,0 +1,3 @@
+pub mod Feed
+pub mod Taken
+pub mod Turns

@@ -1,0 +1,27 @@
+//! Messages of a File, as they are read and given to an archive.
+
+use flow_archive::ArchiveError;
+use flow_codec::StreamError;
+
+/// Why a File isn't taken in whole.
+#[derive(Clone, Copy, Debug, PartialEq, Eq)]
+pub enum FeedStop {
+    /// Behind the messages that were taken in the File has a fault (15 to 17), or reading it failed (31), or one message
+    /// more than 2^48 - 1 stands there (25).
+    File(StreamError),
+    /// The archive refused the message behind them, or the seal that would have made room for it.
+    Archive(ArchiveError),
+    /// There was no memory to hold it.
+    OutOfMemory,
+    /// The File can't be opened (31). `feed`, which is given an open one, never tells this.
+    Unopened,
+}
+
+/// How far a File was taken in.
+#[derive(Clone, Copy, Debug, PartialEq, Eq)]
+pub struct Fed {
+    /// Its messages that the archive has acknowledged.
+    pub messages: u64,
+    /// Why the next one isn't, unless all are.
+    pub stop: Option<FeedStop>,
+}
