@@ -3,3 +3,5 @@ pub mod FirstState
 pub mod Unwritten
 pub mod Asked
 pub mod Causes
+mod Lines
+mod Jobs

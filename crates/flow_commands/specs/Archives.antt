@@ -3,6 +3,8 @@ use Rattle.std.specs.Prelude.{ℕ, List, codes}
 use Rattle.flow_archive.specs.declared.refusal.ArchiveError.{ArchiveError}
 use Rattle.flow_archive.specs.declared.refusal.ArchiveError.TheVariants as archive
 use Rattle.flow_archive.specs.Refusals.{archive_text}
+use Rattle.flow_folder.specs.declared.system.FolderError.{FolderError}
+use Rattle.flow_folder.specs.declared.system.FolderError.TheVariants as folder
 use Rattle.flow_recover.specs.declared.error.RecoverError.{RecoverError}
 use Rattle.flow_recover.specs.declared.error.RecoverError.TheVariants as opening
 use Rattle.flow_recover.specs.Printed.{printed as opening_text}
@@ -71,3 +73,9 @@ of_query e = Query e
 abbrev pub of_text : TextError → ArchiveRefusal
 of_text text.OutOfMemory = OutOfMemory
 of_text (text.Write failed) = Write failed
+
+abbrev pub of_folder : FolderError → ArchiveRefusal
+of_folder folder.NotThere = Away
+of_folder folder.InUse = InUse
+of_folder folder.OutOfMemory = OutOfMemory
+of_folder (folder.Refused error) = Away

@@ -3,3 +3,5 @@ pub mod Archives
 pub mod Made
 pub mod Check
 pub mod Asking
+pub mod Rolling
+pub mod Feeding

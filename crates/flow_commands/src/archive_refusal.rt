@@ -1,7 +1,8 @@
 //! Why a command over an archive ended before its work was done.
 
 ghost use Rattle.std.specs.Prelude.{Some, ◌≡◌, ◌≢◌, ◌≤◌};
-ghost use Rattle.flow_commands.specs.Archives.{archive_printed, archive_status, of_archive, of_opening, of_query, of_text};
+ghost use Rattle.flow_commands.specs.Archives.{archive_printed, archive_status, of_archive, of_folder, of_opening, of_query};
+ghost use Rattle.flow_commands.specs.Archives.{of_text};
 ghost use Rattle.flow_commands.specs.declared.archive_refusal.ArchiveRefusal.TheVariants as refusal;
 
 use flow_archive::ArchiveError;
@@ -116,6 +117,8 @@ impl From<QueryError> for ArchiveRefusal {
 }
 
 impl From<FolderError> for ArchiveRefusal {
+    ghost from_gives = { λ e r. r ≡ of_folder e };
+
     fn from(error: FolderError) -> ArchiveRefusal {
         match error {
             FolderError::NotThere | FolderError::Refused(_) => ArchiveRefusal::Away,

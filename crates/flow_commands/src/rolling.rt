@@ -1,0 +1,115 @@
+//! The commands `roll` and `merge`.
+
+ghost use Rattle.std.specs.Prelude.{◌≡◌, ℕ, Result, false, Ok, OnOk, IfOk, IfErr};
+ghost use Rattle.flow_archive.specs.declared.refusal.ArchiveError.{ArchiveError as Refusal};
+ghost use Rattle.flow_feed.specs.Turns.{files_over, IsJobRun};
+ghost use Rattle.flow_commands.specs.Asking.{Writes, WritesOrNot};
+ghost use Rattle.flow_commands.specs.Rolling.{IsJobLine, TellsJob, job_line, job_name};
+
+use crate::archive_refusal::ArchiveRefusal;
+use flow_archive::Archive;
+use flow_disk::{Disk, Faults};
+use flow_feed::run_job;
+use flow_folder::{FolderDisk, Lockable};
+use flow_manifest::JobKind;
+use flow_report::{Patience, push_count, write_patiently};
+use std::alloc::{AllocError, AllocGlobal, Global};
+use std::fs::Files;
+use std::io::Write;
+use std::os::unix::fs::FileExt;
+
+/// What a job did, in a word.
+fn job_name(kind: JobKind) -> &'static str
+    ensures { result.now ≡ job_name kind }
+{
+    match kind {
+        JobKind::Roll => "rolled",
+        JobKind::Merge => "merged",
+    }
+}
+
+/// The line that tells how many files a job summed.
+#[tactic(auto, unfolding(crate::specs::Rolling::job_line))]
+fn job_line(alloc: Global, kind: JobKind, count: u32) -> Result<Vec<u8>, AllocError>
+    ensures { IfOk result (λ text. text.items ≡ job_line kind count) }
+{
+    let mut text = Vec::new(alloc);
+    text.extend_from_slice(job_name(kind).as_bytes())?;
+    push_count(&mut text, u64::from(count))?;
+    text.push(b'\n')?;
+    Ok(text)
+}
+
+/// Writes the line of a job.
+fn tell_job<W: Write>(
+    alloc: Global,
+    kind: JobKind,
+    count: u32,
+    output: &mut W,
+) -> Result<(), ArchiveRefusal>
+    ensures { TellsJob kind (Ok count) (W.contents output.old) (W.contents output.new) result }
+{
+    let text = job_line(alloc, kind, count)?;
+    write_patiently(output, text.as_slice(), &mut Patience::new())?;
+    Ok(())
+}
+
+/// Rolls all sealed segments of an archive but the newest `keep` as one job, or merges all its rolled files but the
+/// newest `keep`, removes what can be removed, and writes how many they were: `rolled K` or `merged K`.
+///
+/// Errors: the first refusal of the job, before anything is written; 11 and 32 where the line couldn't be made or
+/// written.
+pub fn roll<D: Disk, W: Write>(
+    alloc: Global,
+    archive: &mut Archive<D>,
+    kind: JobKind,
+    keep: u32,
+    output: &mut W,
+) -> Result<(), ArchiveRefusal>
+    ensures { (told : Result ℕ Refusal) × IsJobRun D.honest D.moment D.left_since archive.old archive.new kind
+        (files_over kind keep archive.old.state) told
+        × TellsJob kind told (W.contents output.old) (W.contents output.new) result }
+{
+    match run_job(archive, alloc, kind, keep, &mut Faults::new()) {
+        Ok(count) => tell_job(alloc, kind, count, output),
+        Err(error) => Err(ArchiveRefusal::from(error)),
+    }
+}
+
+/// Opens the archive on a disk, of which nothing is frozen, and rolls or merges its files.
+fn roll_on<D: Disk, W: Write>(
+    alloc: Global,
+    disk: D,
+    kind: JobKind,
+    keep: u32,
+    output: &mut W,
+) -> Result<(), ArchiveRefusal>
+    requires { (n : ℕ) → (D.marks disk n).frozen ≡ false }
+    ensures written { OnOk result (Writes (IsJobLine kind) (W.contents output.old) (W.contents output.new)) }
+    ensures kept { IfErr result (λ e. WritesOrNot (IsJobLine kind) e (W.contents output.old) (W.contents output.new)) }
+{
+    match Archive::open(alloc, disk) {
+        Ok(archive) => {
+            let mut archive = archive;
+            roll(alloc, &mut archive, kind, keep, output)
+        }
+        Err(refused) => Err(ArchiveRefusal::from(refused.error)),
+    }
+}
+
+/// Rolls or merges the files of the archive in a folder, and writes how many they were.
+pub fn roll_in<H: Files + AllocGlobal + Clone + Drop, W: Write>(
+    rt: &H,
+    folder: &str,
+    kind: JobKind,
+    keep: u32,
+    output: &mut W,
+) -> Result<(), ArchiveRefusal>
+where
+    H::File: FileExt + Lockable,
+    ensures written { OnOk result (Writes (IsJobLine kind) (W.contents output.old) (W.contents output.new)) }
+    ensures kept { IfErr result (λ e. WritesOrNot (IsJobLine kind) e (W.contents output.old) (W.contents output.new)) }
+{
+    let disk = FolderDisk::new(rt, folder)?;
+    roll_on(rt.alloc(), disk, kind, keep, output)
+}
