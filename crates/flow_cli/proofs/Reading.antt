@@ -1,6 +1,6 @@
 -- What the parser of the command line makes of words.
 use Rattle.std.proofs.Common.{◌≡◌, ◌∙◌, ◌⊎◌, inl, inr, refl, sym, ap, ap₂, subst, ℕ, Bool, true, false, eqb-true, ◌&&◌}
-use Rattle.std.proofs.Common.{List, [], ◌∷◌, Option, Some, None, codes, get_or, length}
+use Rattle.std.proofs.Common.{List, [], ◌∷◌, Option, Some, None, codes, get_or, length, arith, le-ltb, lt-ltb, ◌<◌, ◌≤◌}
 use Rattle.std.specs.Prelude.{◌==◌, ◌||◌, ⊤, ◌++◌, IfErr, IfOk, ok_or, map, nat_le, not, is_some, slice_get, fold, find}
 use Rattle.std.specs.List.{list_any}
 use Rattle.std.specs.Prelude.{option_map, option_and_then, if◌then◌else◌}
@@ -9,7 +9,7 @@ use Rattle.std.specs.Str.{bytes_eq, chars}
 use Rattle.std.proofs.lemmas.Slice.Eq.{bytes_eq-Decides}
 use Rattle.clap.specs.Lexer.{long_of, long_of_rest, name_and_value, short_of, short_of_rest, strip_byte}
 use Rattle.clap.specs.Walk.{Held, Outcome, Row, Rule, Step, Text, Walk, after_flag, after_step, answers_to, arg_by_long}
-use Rattle.clap.specs.Walk.{arg_by_short, bundle, bundle_met, finished, first_of, has_long, has_short, idle}
+use Rattle.clap.specs.Walk.{all_of, arg_by_short, bundle, bundle_met, finished, first_of, has_long, has_short, idle}
 use Rattle.clap.specs.Walk.{long_or_other, plain, rows_of, settled, short_or_plain, subcommand_met, subcommand_or_other}
 use Rattle.clap.specs.Walk.{takes_values, trailing, value, walked, Names}
 use Rattle.clap.specs.Kinds.{HasKind, IsAmong, Kinds, or_else}
@@ -22,27 +22,32 @@ use Rattle.clap.specs.Faults.{is_simple_and_free, flags_fault, long_fault, other
 use Rattle.clap.specs.Faults.{step_fault, stray_fault, turn_fault, use_fault, walk_fault}
 use Rattle.clap.specs.Simple.{App, HasMatchesOf, Shape, built, entered, is_simple, names_of, subcommand_of}
 use Rattle.clap.specs.Simple.{subcommand_rows, subcommand_rows_of}
-use Rattle.clap.specs.Matches.{first_value, found_of, subcommand_name_of}
+use Rattle.clap.specs.Matches.{first_value, found_of, matched_of, raw_values, subcommand_name_of}
 use Rattle.std.specs.Prelude.{Box}
 use Rattle.std.specs.Box.{box_value}
 use Rattle.clap.specs.declared.parser.matches.ArgMatches.TheViews.{out-ArgMatches, out-SubCommand}
 use Rattle.clap.specs.declared.parser.matches.SubCommand.{SubCommand}
 use Rattle.clap.specs.declared.parser.matches.Found.{Found}
 use Rattle.clap.proofs.OnLiterals.{clap_on_literals}
-use Rattle.clap.proofs.WalkLemmas.{both, first_value-rows, walk_stopped}
+use Rattle.clap.proofs.WalkLemmas.{both, first_value-rows, raw_values-rows, walk_stopped}
 use Rattle.clap.proofs.FaultLemmas.{stopped_fault}
 use Rattle.flow_cli.specs.declared.request.Request.{Request}
-use Rattle.flow_cli.specs.declared.request.Request.TheVariants.{Check, Measure, Dump}
+use Rattle.flow_cli.specs.declared.request.Request.TheVariants.{Check, Measure, Dump, Explain, Flows, Totals}
 use Rattle.flow_cli.specs.declared.request.LineError.{LineError}
 use Rattle.flow_cli.specs.declared.request.LineError.TheVariants as line
 use Rattle.flow_report.specs.Numbers.{number_of}
-use Rattle.flow_cli.specs.Arguments.{create_in, folder_in, queried, requested, request_in, width_in}
+use Rattle.flow_cli.specs.Arguments.{asked_in, changing, create_in, explained_in, fed_in, few_of, files_in}
+use Rattle.flow_cli.specs.Arguments.{folder_in, queried}
+use Rattle.flow_cli.specs.Arguments.{requested, request_in, unfed, width_in}
 use Rattle.flow_cli.specs.CommandLine.{parsed_names, asked, dump_of, dump_shape, flowvault, is_parsed, measure_of}
 use Rattle.flow_cli.specs.CommandLine.{measure_shape, parsed, unless, width_rule, without_dashes}
 use Rattle.flow_cli.specs.Requested.{IsLineError, IsWrongValue}
 
 pub first_value_is : (f : Found) (id : Text) → first_value f id ≡ first_of id (rows_of f)
 first_value_is f id = first_value-rows f id
+
+pub all_values_are : (f : Found) (id : Text) → option_map raw_values (matched_of f id) ≡ all_of id (rows_of f)
+all_values_are f id = raw_values-rows f id
 
 abbrev pub Fails : Kinds → Type 0
 Fails [] = ⊥
@@ -729,6 +734,8 @@ wrong_words : (asking : List Text) (e : LineError) → IsWrongValue e → asked 
 wrong_words asking line.Width wrong none = none
 wrong_words asking line.Plan wrong none = none
 wrong_words asking line.Span wrong none = none
+wrong_words asking line.Keep wrong none = none
+wrong_words asking line.Files wrong none = none
 wrong_words asking line.Number wrong none = none
 wrong_words asking line.OutOfMemory wrong none = absurd wrong
 wrong_words asking (line.Parser e) wrong none = absurd wrong
@@ -757,7 +764,7 @@ passed_over b this others e = ap (λ (b : Bool). if b then this else others) (sy
 
 -- the name of none of the first commands
 pub other_name : (name : Text) (rows : List Row) → (name ≡ codes "measure" → ⊥) → (name ≡ codes "dump" → ⊥)
-    → (name ≡ codes "create" → ⊥) → (name ≡ codes "check" → ⊥) → queried name rows ≡ requested name rows
+    → (name ≡ codes "create" → ⊥) → (name ≡ codes "check" → ⊥) → queried name rows ≡ unfed name rows
 other_name name rows no_measure no_dump no_create no_check =
     let checked : Option Request = if bytes_eq (codes "check") name then option_map Check (folder_in rows)
     else queried name rows in
@@ -769,3 +776,37 @@ other_name name rows no_measure no_dump no_create no_check =
     ∙ passed_over (bytes_eq (codes "dump") name) (Some Dump) created (differs (codes "dump") name no_dump)
     ∙ passed_over (bytes_eq (codes "measure") name) (option_map Measure (width_in rows)) dumped
     (differs (codes "measure") name no_measure)
+
+-- a name other than `feed`
+pub unfed_name : (name : Text) (rows : List Row) → (name ≡ codes "feed" → ⊥) → unfed name rows ≡ requested name rows
+unfed_name name rows no_feed =
+    passed_over (bytes_eq (codes "feed") name) (fed_in rows) (unfed name rows) (differs (codes "feed") name no_feed)
+
+-- the name of no command that is met before those that change an archive
+pub changing_name : (name : Text) (rows : List Row) → (name ≡ codes "totals" → ⊥) → (name ≡ codes "flows" → ⊥)
+    → (name ≡ codes "explain" → ⊥) → changing name rows ≡ queried name rows
+changing_name name rows no_totals no_flows no_explain =
+    let explained : Option Request = if bytes_eq (codes "explain") name then option_map Explain (explained_in rows)
+    else changing name rows in
+    let shown : Option Request = if bytes_eq (codes "flows") name then asked_in Flows rows else explained in
+    passed_over (bytes_eq (codes "explain") name) (option_map Explain (explained_in rows)) (changing name rows)
+    (differs (codes "explain") name no_explain)
+    ∙ passed_over (bytes_eq (codes "flows") name) (asked_in Flows rows) explained
+    (differs (codes "flows") name no_flows)
+    ∙ passed_over (bytes_eq (codes "totals") name) (asked_in Totals rows) shown
+    (differs (codes "totals") name no_totals)
+
+-- the Files that are given
+pub few_files : (f : Found) (files : List Text) (n : ℕ)
+    → Some files ≡ option_map raw_values (matched_of f (codes "FILE")) → n ≡ length files → n ≤ 8
+    → Some files ≡ files_in (rows_of f)
+few_files f files n found long few =
+    ap (λ (b : Bool). if b then None else Some files) (sym (le-ltb 8 (length files) (omega (arith, long, few))))
+    ∙ ap (option_and_then few_of) (found ∙ all_values_are f (codes "FILE"))
+
+pub many_files : (f : Found) (files : List Text) (n : ℕ)
+    → Some files ≡ option_map raw_values (matched_of f (codes "FILE")) → n ≡ length files → 8 < n
+    → None ≡ files_in (rows_of f)
+many_files f files n found long many =
+    ap (λ (b : Bool). if b then None else Some files) (sym (lt-ltb 8 (length files) (omega (arith, long, many))))
+    ∙ ap (option_and_then few_of) (found ∙ all_values_are f (codes "FILE"))

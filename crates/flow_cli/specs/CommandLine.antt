@@ -3,7 +3,7 @@ use Rattle.std.specs.Prelude.{ℕ, Bool, true, List, [], ◌∷◌, ◌++◌, Op
 use Rattle.std.specs.Prelude.{if◌then◌else◌}
 use Rattle.std.specs.List.{list_any}
 use Rattle.std.specs.Str.{bytes_eq}
-use Rattle.clap.specs.declared.builder.action.ArgAction.TheVariants.{Set}
+use Rattle.clap.specs.declared.builder.action.ArgAction.TheVariants.{Append, Set}
 use Rattle.clap.specs.Faults.{fault_of}
 use Rattle.clap.specs.Kinds.{Kinds}
 use Rattle.clap.specs.Walk.{Rule, Text}
@@ -18,6 +18,10 @@ use Rattle.flow_cli.specs.Arguments.{request_in}
 -- an argument that has to be there, once
 abbrev pub needed : Text → Rule
 needed id = record (new_rule id) { required = true; action = Some Set }
+
+-- an argument that has to be there, and may be there again
+abbrev pub several : Text → Rule
+several id = record (new_rule id) { required = true; action = Some Append }
 
 -- an option with a value
 abbrev pub option : Text → Text → Rule
@@ -53,6 +57,15 @@ span_shape name = record (new_shape name) {
   rules = folder_rule ∷ needed (codes "FROM") ∷ needed (codes "TO") ∷ [];
 }
 
+-- `roll` and `merge`
+abbrev pub keep_shape : Text → Shape
+keep_shape name = record (new_shape name) { rules = folder_rule ∷ needed (codes "KEEP") ∷ [] }
+
+abbrev pub feed_shape : Shape
+feed_shape = record (new_shape (codes "feed")) {
+  rules = folder_rule ∷ several (codes "FILE") ∷ option (codes "KEEP") (codes "keep") ∷ [];
+}
+
 abbrev pub program : App
 program = record {
   top = record (new_shape (codes "flowvault")) { has_version = true; subcommand_required = true };
@@ -64,7 +77,8 @@ explain_shape = record (new_shape (codes "explain")) { rules = needed (codes "NU
 
 -- the commands whose arguments are asked for as the parser reads them
 abbrev pub parsed_names : List Text
-parsed_names = codes "create" ∷ codes "check" ∷ codes "totals" ∷ codes "flows" ∷ codes "explain" ∷ []
+parsed_names = codes "create" ∷ codes "check" ∷ codes "totals" ∷ codes "flows" ∷ codes "feed" ∷ codes "roll"
+    ∷ codes "merge" ∷ codes "explain" ∷ []
 
 -- the program with the commands that read standard input
 abbrev pub with_streams : App
@@ -79,9 +93,18 @@ abbrev pub with_queries : App
 with_queries =
     with_subcommand (with_subcommand with_archives (span_shape (codes "totals"))) (span_shape (codes "flows"))
 
+-- and with the one that takes Files into it
+abbrev pub with_feeding : App
+with_feeding = with_subcommand with_queries feed_shape
+
+-- and with those that roll its files
+abbrev pub with_rolling : App
+with_rolling =
+    with_subcommand (with_subcommand with_feeding (keep_shape (codes "roll"))) (keep_shape (codes "merge"))
+
 -- and with all commands
 abbrev pub flowvault : App
-flowvault = with_subcommand with_queries explain_shape
+flowvault = with_subcommand with_rolling explain_shape
 
 -- ---- what is asked for
 

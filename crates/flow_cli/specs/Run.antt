@@ -1,17 +1,23 @@
 -- What one run of the program answers.
-use Rattle.std.specs.Prelude.{◌≡◌, ◌⊎◌, ℕ, List, Option, Some, IfSome, ⊤}
+use Rattle.std.specs.Prelude.{◌≡◌, ◌⊎◌, ℕ, List, Option, Some, IfSome, length, ⊤}
 use Rattle.std.specs.Io.KnownBytes.{Appends, Keeps}
 use Rattle.clap.specs.declared.error.kind.ErrorKind.{ErrorKind}
 use Rattle.clap.specs.declared.error.kind.ErrorKind.TheVariants.{DisplayHelp, DisplayVersion}
 use Rattle.clap.specs.Values.{kind_of}
 use Rattle.flow_report.specs.declared.refusal.Refusal.{Refusal}
 use Rattle.flow_cli.specs.declared.request.LineError.{LineError}
-use Rattle.flow_cli.specs.declared.request.LineError.TheVariants.{Parser, Width, Plan, Span, Number, OutOfMemory}
+use Rattle.flow_cli.specs.declared.request.LineError.TheVariants.{Parser, Width, Plan, Span, Keep, Files}
+use Rattle.flow_cli.specs.declared.request.LineError.TheVariants.{Number, OutOfMemory}
 use Rattle.flow_cli.specs.declared.request.Request.{Request}
-use Rattle.flow_cli.specs.declared.request.Request.TheVariants.{Measure, Dump, Create, Check, Totals, Flows, Explain}
+use Rattle.flow_cli.specs.declared.request.Request.TheVariants.{Measure, Dump, Create, Check, Totals, Flows}
+use Rattle.flow_cli.specs.declared.request.Request.TheVariants.{Feed, Roll as RollAsked, Merge as MergeAsked}
+use Rattle.flow_cli.specs.declared.request.Request.TheVariants.{Explain}
 use Rattle.flow_commands.specs.declared.archive_refusal.ArchiveRefusal.{ArchiveRefusal}
 use Rattle.flow_commands.specs.Archives.{archive_printed, archive_status}
 use Rattle.flow_commands.specs.Check.{IsChecked, KeepsOrChecks}
+use Rattle.flow_manifest.specs.declared.following.JobKind.TheVariants.{Roll, Merge}
+use Rattle.flow_commands.specs.Feeding.{FeedsLines, KeepsOrFeeds}
+use Rattle.flow_commands.specs.Rolling.{IsJobLine}
 use Rattle.flow_commands.specs.Asking.{AreFlows, AreRows, Writes, WritesOrNot}
 use Rattle.flow_cli.specs.CommandLine.{asked}
 use Rattle.flow_cli.specs.Requested.{IsLineError}
@@ -52,6 +58,12 @@ AskEnds are old new before after status =
     ((status ≡ 0) × Keeps before after × Writes are old new)
     ⊎ IsEndedBy (λ e. WritesOrNot are e old new) before after status
 
+-- `feed` of so many Files: a line for each, with the status of the first that stopped, and nothing on standard error
+abbrev pub FeedEnds : ℕ → Option (List ℕ) → Option (List ℕ) → Option (List ℕ) → Option (List ℕ) → ℕ → Type 0
+FeedEnds count old new before after status =
+    (Keeps before after × FeedsLines count status old new)
+    ⊎ IsEndedBy (λ e. KeepsOrFeeds count e old new) before after status
+
 -- Text is shown on standard output, with status 0 and nothing on standard error; or it couldn't be, and that is told.
 abbrev pub IsShown : Option (List ℕ) → Option (List ℕ) → ℕ → Type 0
 IsShown before after status =
@@ -81,6 +93,12 @@ Runs (Totals folder span) input left old new before after status =
     Keeps input left × AskEnds AreRows old new before after status
 Runs (Flows folder span) input left old new before after status =
     Keeps input left × AskEnds AreFlows old new before after status
+Runs (Feed folder keep files) input left old new before after status =
+    Keeps input left × FeedEnds (length files) old new before after status
+Runs (RollAsked folder keep) input left old new before after status =
+    Keeps input left × AskEnds (IsJobLine Roll) old new before after status
+Runs (MergeAsked folder keep) input left old new before after status =
+    Keeps input left × AskEnds (IsJobLine Merge) old new before after status
 Runs (Explain number) input left old new before after status = Keeps input left × IsShown before after status
 
 -- what was asked for is help, or the version
@@ -99,6 +117,8 @@ IsTold (Parser error) old new before after status =
 IsTold Width old new before after status = IsWrong Width 2 old new before after status
 IsTold Plan old new before after status = IsWrong Plan 2 old new before after status
 IsTold Span old new before after status = IsWrong Span 2 old new before after status
+IsTold Keep old new before after status = IsWrong Keep 2 old new before after status
+IsTold Files old new before after status = IsWrong Files 2 old new before after status
 IsTold Number old new before after status = IsWrong Number 2 old new before after status
 IsTold OutOfMemory old new before after status = IsWrong OutOfMemory 4 old new before after status
 

@@ -1,16 +1,17 @@
 //! What the values of a command's arguments are.
 
-ghost use Rattle.std.specs.Prelude.{◌≡◌, ◌≤◌, IfSome};
+ghost use Rattle.std.specs.Prelude.{◌≡◌, ◌≤◌, IfOk, IfSome};
 ghost use Rattle.clap.specs.Matches.{found_of};
 ghost use Rattle.clap.specs.Walk.{rows_of};
 ghost use Rattle.flow_cli.specs.Arguments.{explained_in, folder_in, limit_in, plan_in, second_in, span_in, wide_in};
-ghost use Rattle.flow_cli.specs.Arguments.{width_in};
+ghost use Rattle.flow_cli.specs.Arguments.{files_in, keep_in, kept_in, width_in};
 ghost use Rattle.flow_commands.specs.Plans.{IsWide};
 
 use crate::explaining::Explanation;
 use clap::ArgMatches;
 use flow_commands::{NewArchive, StartSpan};
 use flow_report::{Width, number_between};
+use std::alloc::{AllocError, Global};
 use std::marker::Model;
 
 /// The octets of messages that a segment takes where nothing else is asked for.
@@ -18,6 +19,15 @@ const USUAL_LIMIT: u32 = 1_048_576;
 
 /// The greatest second of a span: every flow starts before it.
 const MOST_SECOND: u64 = 4_294_967_296;
+
+/// The most files that may be left.
+const MOST_KEEP: u64 = 4_294_967_295;
+
+/// How many of the newest segments `feed` leaves where nothing else is asked for.
+const USUAL_KEEP: u32 = 8;
+
+/// The most Files that are fed in one run.
+const MOST_FILES: usize = 8;
 
 /// No refusal has a number above it.
 const MOST_NUMBER: u64 = 99;
@@ -34,6 +44,20 @@ impl<'a> Model for FolderName<'a> {
     ghost Value = { List ℕ };
 
     ghost view = { λ f. f.path.now };
+}
+
+/// Paths of 1 to 8 Files.
+#[derive(Drop)]
+pub struct FileNames<'a> {
+    pub(crate) paths: Vec<&'a str>,
+}
+
+impl<'a> Model for FileNames<'a> {
+    ghost use Rattle.std.specs.Prelude.{ℕ, List, map};
+
+    ghost Value = { List (List ℕ) };
+
+    ghost view = { λ f. map (λ s. s.now) f.paths.items };
 }
 
 /// The width among the arguments of `measure` or `create`.
@@ -112,6 +136,45 @@ pub(crate) fn span_in(arguments: &ArgMatches<'_>) -> Option<StartSpan>
     let from = second_in(arguments, "FROM")?;
     let to = second_in(arguments, "TO")?;
     Some(StartSpan::new(from, to))
+}
+
+/// How many of the newest files are left, among the arguments of `roll` and `merge`.
+#[tactic(auto, using(crate::proofs::Reading::first_value_is))]
+pub(crate) fn keep_in(arguments: &ArgMatches<'_>) -> Option<u32>
+    ensures { result ≡ keep_in (rows_of (found_of arguments.now)) }
+{
+    let keep = number_between(0, MOST_KEEP, arguments.get_str("KEEP")?.as_bytes())?;
+    Some(keep as u32)
+}
+
+/// How many of the newest segments are left, among the arguments of `feed`.
+#[tactic(auto, using(crate::proofs::Reading::first_value_is))]
+pub(crate) fn kept_in(arguments: &ArgMatches<'_>) -> Option<u32>
+    ensures { result ≡ kept_in (rows_of (found_of arguments.now)) }
+{
+    let Some(word) = arguments.get_str("KEEP") else {
+        return Some(USUAL_KEEP);
+    };
+    let keep = number_between(0, MOST_KEEP, word.as_bytes())?;
+    Some(keep as u32)
+}
+
+/// The Files among the arguments of `feed`: at most 8.
+#[tactic(auto, using(crate::proofs::Reading::all_values_are))]
+pub(crate) fn files_in<'a>(
+    alloc: Global,
+    arguments: &ArgMatches<'a>,
+) -> Result<Option<FileNames<'a>>, AllocError>
+    ensures { IfOk result (λ files. files ≡ files_in (rows_of (found_of arguments.now))) }
+{
+    let Some(paths) = arguments.get_strs("FILE") else {
+        return Ok(None);
+    };
+    if paths.len() > MOST_FILES {
+        return Ok(None);
+    }
+    let paths = Vec::from_slice(alloc, paths)?;
+    Ok(Some(FileNames { paths }))
 }
 
 /// What `explain` asks for.

@@ -192,8 +192,8 @@ What to do: sum over a narrower width.\n";
 const FILE_CUT: &str = "15 Cut AT: the File ends inside the message that begins at octet AT.\n\
 Usual cause: a capture or a copy that was cut off, or a File that its collector\n\
 still writes.\n\
-What to do: the messages before AT are whole, and 'dump' writes them. Copy the File\n\
-again, or wait until it is closed.\n";
+What to do: the messages before AT are whole: 'dump' writes them, and 'feed' has taken\n\
+them in. Copy the File again, or wait until it is closed, and feed what is new.\n";
 
 const FILE_VERSION: &str =
     "16 Version AT: at octet AT of the File, where a message is to begin, stands another\n\
@@ -282,7 +282,8 @@ What to do: seal, and append again.\n";
 
 const MANIFEST_FULL: &str = "41 ManifestFull: the archive has 4096 files, the most that it names.\n\
 Usual cause: many segments were sealed, and none were rolled.\n\
-What to do: roll old segments; or begin a new archive with a greater --limit.\n";
+What to do: roll old segments ('flowvault roll DIR 8') and merge old sums ('flowvault\n\
+merge DIR 8'); or begin a new archive with a greater --limit.\n";
 
 const NOTHING_TO_SEAL: &str =
     "42 NothingToSeal: the active segment has no message that was appended.\n\

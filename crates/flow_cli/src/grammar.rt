@@ -6,7 +6,8 @@ ghost use Rattle.clap.specs.Simple.{app_of, shape_of};
 ghost use Rattle.clap.specs.declared.builder.command.Command.TheViews.{out-Command as fields_of};
 ghost use Rattle.flow_cli.specs.CommandLine.{check_shape, create_shape, dump_shape, explain_shape, flowvault, folder_rule};
 ghost use Rattle.flow_cli.specs.CommandLine.{measure_shape, needed, option, program, sized_shape, span_shape, width_rule};
-ghost use Rattle.flow_cli.specs.CommandLine.{with_archives, with_queries, with_streams};
+ghost use Rattle.flow_cli.specs.CommandLine.{feed_shape, keep_shape, several, with_archives, with_feeding, with_queries};
+ghost use Rattle.flow_cli.specs.CommandLine.{with_rolling, with_streams};
 
 use clap::{Arg, ArgAction, Command};
 use std::alloc::{AllocError, Global};
@@ -86,6 +87,44 @@ const FLOWS_HELP: &str =
      \n\
      Example: flowvault flows flows 1700000000 1700003600";
 
+/// What `feed` does, in a line or two.
+const FEED_ABOUT: &str = "Takes IPFIX Files into the archive of a folder";
+
+/// What is told below the arguments of `feed`.
+const FEED_HELP: &str =
+    "The Files are taken in one after the other. Of each a line is written: fed N\n\
+     MESSAGES, or stopped N MESSAGES NUMBER NAME, where the message behind the first\n\
+     MESSAGES isn't taken in, or the File ends within it; N counts the Files from 1.\n\
+     Messages that were taken in stay, whatever comes later, a stop of the machine\n\
+     too: feed the rest of a File, not all of it again. Where there are more than\n\
+     --keep sealed segments, older ones are rolled meanwhile, as of roll.\n\
+     The exit status is that of the first File that stopped. An archive that can't be\n\
+     opened is told on standard error before a File is read.\n\
+     \n\
+     Example: flowvault feed flows FILE OTHER --keep 24";
+
+/// What `roll` does, in a line or two.
+const ROLL_ABOUT: &str = "Sums the sealed segments of the archive in a folder, but the newest";
+
+/// What is told below the arguments of `roll`.
+const ROLL_HELP: &str =
+    "All sealed segments but the newest KEEP become one file of sums, and are removed:\n\
+     their flows stay in totals, and are no longer told by flows. Writes rolled K: how\n\
+     many they were, 0 where there are none.\n\
+     \n\
+     Example: flowvault roll flows 8";
+
+/// What `merge` does, in a line or two.
+const MERGE_ABOUT: &str =
+    "Sums the rolled files of the archive in a folder over wide intervals,\nbut the newest";
+
+/// What is told below the arguments of `merge`.
+const MERGE_HELP: &str =
+    "All rolled files but the newest KEEP become one file of sums over wide intervals,\n\
+     and are removed. Writes merged K: how many they were, 0 where there are none.\n\
+     \n\
+     Example: flowvault merge flows 8";
+
 /// What `explain` does, in a line or two.
 const EXPLAIN_ABOUT: &str = "Tells what a refusal means, what usually causes it, and what to do";
 
@@ -112,6 +151,17 @@ fn needed<'a>(alloc: Global, id: &'a str, help: &'a str) -> Arg<'a>
     Arg::new(alloc, id)
         .required(true)
         .action(ArgAction::Set)
+        .help(help)
+}
+
+/// An argument that has to be there, and may be there again.
+fn several<'a>(alloc: Global, id: &'a str, help: &'a str) -> Arg<'a>
+    ensures rule { rule_of result ≡ several id.now }
+    ensures own { result.global ≡ false }
+{
+    Arg::new(alloc, id)
+        .required(true)
+        .action(ArgAction::Append)
         .help(help)
 }
 
@@ -231,6 +281,45 @@ fn span_command<'a>(
         .arg(needed(alloc, "TO", "Starts before it: up to 4294967296"))
 }
 
+/// The command `feed`, with its help.
+fn feed_command<'a>(alloc: Global) -> Result<Command<'a>, AllocError>
+    ensures shape { IfOk result (λ command. shape_of command ≡ feed_shape) }
+    ensures own { IfOk result (λ command. (fields_of command).has_globals ≡ false) }
+{
+    Command::new(alloc, "feed")
+        .about(FEED_ABOUT)
+        .after_help(FEED_HELP)
+        .arg(folder_argument(alloc))?
+        .arg(several(alloc, "FILE", "Paths of 1 to 8 IPFIX Files"))?
+        .arg(option(
+            alloc,
+            "KEEP",
+            "keep",
+            "Newest segments that aren't rolled: 0 to 4294967295 [8]",
+        ))
+}
+
+/// A command that sums files of an archive but the newest, with its help.
+fn keep_command<'a>(
+    alloc: Global,
+    name: &'a str,
+    about: &'a str,
+    help: &'a str,
+) -> Result<Command<'a>, AllocError>
+    ensures shape { IfOk result (λ command. shape_of command ≡ keep_shape name.now) }
+    ensures own { IfOk result (λ command. (fields_of command).has_globals ≡ false) }
+{
+    Command::new(alloc, name)
+        .about(about)
+        .after_help(help)
+        .arg(folder_argument(alloc))?
+        .arg(needed(
+            alloc,
+            "KEEP",
+            "How many of the newest are left: 0 to 4294967295",
+        ))
+}
+
 /// The command `explain`, with its help.
 fn explain_command<'a>(alloc: Global) -> Result<Command<'a>, AllocError>
     ensures shape { IfOk result (λ command. shape_of command ≡ explain_shape) }
@@ -280,9 +369,25 @@ fn with_queries<'a>(alloc: Global) -> Result<Command<'a>, AllocError>
         .subcommand(span_command(alloc, "flows", FLOWS_ABOUT, FLOWS_HELP)?)
 }
 
+/// The program with these, and the one that takes Files into an archive.
+fn with_feeding<'a>(alloc: Global) -> Result<Command<'a>, AllocError>
+    ensures { IfOk result (λ command. app_of command ≡ with_feeding) }
+{
+    with_queries(alloc)?.subcommand(feed_command(alloc)?)
+}
+
+/// The program with these, and those that roll the files of an archive.
+fn with_rolling<'a>(alloc: Global) -> Result<Command<'a>, AllocError>
+    ensures { IfOk result (λ command. app_of command ≡ with_rolling) }
+{
+    with_feeding(alloc)?
+        .subcommand(keep_command(alloc, "roll", ROLL_ABOUT, ROLL_HELP)?)?
+        .subcommand(keep_command(alloc, "merge", MERGE_ABOUT, MERGE_HELP)?)
+}
+
 /// The command line, with its commands and their help.
 pub(crate) fn command_line<'a>(alloc: Global) -> Result<Command<'a>, AllocError>
     ensures { IfOk result (λ command. app_of command ≡ flowvault) }
 {
-    with_queries(alloc)?.subcommand(explain_command(alloc)?)
+    with_rolling(alloc)?.subcommand(explain_command(alloc)?)
 }

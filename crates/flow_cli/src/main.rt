@@ -51,3 +51,5 @@ fn main(rt: HostRuntime) -> ExitCode {
 mod tests;
 #[cfg(test)]
 mod tests_archive;
+#[cfg(test)]
+mod tests_feed;

@@ -1,24 +1,27 @@
 //! What the words of a command line ask for.
 
-ghost use Rattle.std.specs.Prelude.{◌≡◌, ◌≢◌, ◌⊎◌, ◌≤◌, Some, map, IfOk, IfErr};
+ghost use Rattle.std.specs.Prelude.{◌≡◌, ◌≢◌, ◌⊎◌, Some, map, IfOk, IfErr};
 ghost use Rattle.clap.specs.Values.{kind_of};
 ghost use Rattle.clap.specs.Matches.{found_of};
 ghost use Rattle.clap.specs.Walk.{rows_of};
 ghost use Rattle.clap.specs.Simple.{subcommand_rows_of};
-ghost use Rattle.flow_cli.specs.Arguments.{create_in, queried, requested, request_in};
+ghost use Rattle.flow_cli.specs.Arguments.{changing, create_in, fed_in, queried, requested, request_in, unfed};
 ghost use Rattle.flow_cli.specs.CommandLine.{asked};
 ghost use Rattle.flow_cli.specs.Requested.{IsLineError, IsWrongValue};
 ghost use Rattle.clap.specs.declared.error.kind.ErrorKind.TheVariants as ErrorKind;
 ghost use Rattle.flow_cli.specs.declared.request.LineError.TheVariants as LineError;
 
-use crate::arguments::{FolderName, explained_in, folder_in, plan_in, span_in, width_in};
+use crate::arguments::{
+    FileNames, FolderName, explained_in, files_in, folder_in, keep_in, kept_in, plan_in, span_in,
+    width_in,
+};
 use crate::explaining::Explanation;
 use crate::grammar::command_line;
 use clap::error::ErrorKind;
 use clap::{ArgMatches, Error};
 use flow_commands::{NewArchive, StartSpan};
 use flow_report::Width;
-use std::alloc::Global;
+use std::alloc::{AllocError, Global};
 use std::convert::AsStr;
 
 /// A command with its arguments.
@@ -49,6 +52,22 @@ pub enum Request<'a> {
         folder: FolderName<'a>,
         span: StartSpan,
     },
+    /// Files are taken into the archive of a folder.
+    Feed {
+        folder: FolderName<'a>,
+        keep: u32,
+        files: FileNames<'a>,
+    },
+    /// All sealed segments but the newest become one rolled file.
+    Roll {
+        folder: FolderName<'a>,
+        keep: u32,
+    },
+    /// All rolled files but the newest become one file of wide intervals.
+    Merge {
+        folder: FolderName<'a>,
+        keep: u32,
+    },
     /// What a refusal means.
     Explain {
         refusal: Explanation,
@@ -66,6 +85,10 @@ pub enum LineError {
     Plan,
     /// A second of a span isn't digits alone, or is past 2^32.
     Span,
+    /// How many files are left isn't digits alone, or is past 2^32 - 1.
+    Keep,
+    /// There are more than 8 Files, or how many segments are left isn't digits alone, or is past 2^32 - 1.
+    Files,
     /// No refusal has the number.
     Number,
     OutOfMemory,
@@ -92,6 +115,23 @@ fn create_in<'a>(arguments: &ArgMatches<'a>) -> Option<Request<'a>>
     Some(Request::Create { folder, plan })
 }
 
+/// What a command that changes an archive asks for, by its name and its arguments.
+fn changing<'a>(name: &str, arguments: &ArgMatches<'a>) -> Option<Request<'a>>
+    ensures { result ≡ changing name.now (rows_of (found_of arguments.now)) }
+{
+    match name {
+        "roll" => Some(Request::Roll {
+            folder: folder_in(arguments)?,
+            keep: keep_in(arguments)?,
+        }),
+        "merge" => Some(Request::Merge {
+            folder: folder_in(arguments)?,
+            keep: keep_in(arguments)?,
+        }),
+        _ => None,
+    }
+}
+
 /// What a query asks for, by its name and its arguments.
 fn queried<'a>(name: &str, arguments: &ArgMatches<'a>) -> Option<Request<'a>>
     ensures { result ≡ queried name.now (rows_of (found_of arguments.now)) }
@@ -108,13 +148,13 @@ fn queried<'a>(name: &str, arguments: &ArgMatches<'a>) -> Option<Request<'a>>
         "explain" => Some(Request::Explain {
             refusal: explained_in(arguments)?,
         }),
-        _ => None,
+        _ => changing(name, arguments),
     }
 }
 
-/// What a command asks for, by its name and its arguments.
-fn requested<'a>(name: &str, arguments: &ArgMatches<'a>) -> Option<Request<'a>>
-    ensures { result ≡ requested name.now (rows_of (found_of arguments.now)) }
+/// What a command other than `feed` asks for, by its name and its arguments.
+fn unfed<'a>(name: &str, arguments: &ArgMatches<'a>) -> Option<Request<'a>>
+    ensures { result ≡ unfed name.now (rows_of (found_of arguments.now)) }
 {
     match name {
         "measure" => Some(Request::Measure {
@@ -129,12 +169,43 @@ fn requested<'a>(name: &str, arguments: &ArgMatches<'a>) -> Option<Request<'a>>
     }
 }
 
-/// What a command line asks for that its parser took.
-fn found<'a>(matches: &ArgMatches<'a>) -> Option<Request<'a>>
-    ensures { result ≡ request_in (subcommand_rows_of matches.now) }
+/// What `feed` asks for.
+fn fed_in<'a>(alloc: Global, arguments: &ArgMatches<'a>) -> Result<Option<Request<'a>>, AllocError>
+    ensures { IfOk result (λ request. request ≡ fed_in (rows_of (found_of arguments.now))) }
 {
-    let (name, arguments) = matches.subcommand()?;
-    requested(name, arguments)
+    let files = files_in(alloc, arguments)?;
+    match (folder_in(arguments), kept_in(arguments), files) {
+        (Some(folder), Some(keep), Some(files)) => Ok(Some(Request::Feed {
+            folder,
+            keep,
+            files,
+        })),
+        _ => Ok(None),
+    }
+}
+
+/// What a command asks for, by its name and its arguments.
+fn requested<'a>(
+    alloc: Global,
+    name: &str,
+    arguments: &ArgMatches<'a>,
+) -> Result<Option<Request<'a>>, AllocError>
+    ensures { IfOk result (λ request. request ≡ requested name.now (rows_of (found_of arguments.now))) }
+{
+    match name {
+        "feed" => fed_in(alloc, arguments),
+        _ => Ok(unfed(name, arguments)),
+    }
+}
+
+/// What a command line asks for that its parser took.
+fn found<'a>(alloc: Global, matches: &ArgMatches<'a>) -> Result<Option<Request<'a>>, AllocError>
+    ensures { IfOk result (λ request. request ≡ request_in (subcommand_rows_of matches.now)) }
+{
+    match matches.subcommand() {
+        Some((name, arguments)) => requested(alloc, name, arguments),
+        None => Ok(None),
+    }
 }
 
 /// What is wrong with the values that a command line has.
@@ -144,6 +215,8 @@ fn wrong_value(matches: &ArgMatches<'_>) -> LineError
     match matches.subcommand() {
         Some(("create", _)) => LineError::Plan,
         Some(("totals" | "flows", _)) => LineError::Span,
+        Some(("feed", _)) => LineError::Files,
+        Some(("roll" | "merge", _)) => LineError::Keep,
         Some(("explain", _)) => LineError::Number,
         _ => LineError::Width,
     }
@@ -158,7 +231,10 @@ pub fn parse<'a, S: AsStr>(alloc: Global, words: &'a [S]) -> Result<Request<'a>,
         return Err(LineError::OutOfMemory);
     };
     match command.try_get_matches_from(words) {
-        Ok(matches) => found(&matches).ok_or(wrong_value(&matches)),
+        Ok(matches) => match found(alloc, &matches) {
+            Ok(request) => request.ok_or(wrong_value(&matches)),
+            Err(AllocError) => Err(LineError::OutOfMemory),
+        },
         Err(error) => Err(line_error(error)),
     }
 }

@@ -1,6 +1,6 @@
 //! One run of the program: words and an input in, lines and a status out.
 
-ghost use Rattle.std.specs.Prelude.{◌≡◌, ◌≢◌, ◌≤◌, OnOk, OnErr, IfOk, IfErr, IfSome, map, string_bytes};
+ghost use Rattle.std.specs.Prelude.{◌≡◌, ◌≢◌, ◌≤◌, OnOk, OnErr, IfOk, IfErr, IfSome, length, map, string_bytes};
 ghost use Rattle.std.specs.Io.KnownBytes.{Appends, Keeps};
 ghost use Rattle.clap.specs.Values.{kind_of};
 ghost use Rattle.flow_report.specs.Refusals.{status_of};
@@ -9,19 +9,22 @@ ghost use Rattle.flow_cli.specs.Printed.{kind_text, words_text};
 ghost use Rattle.flow_report.specs.Writing.{AppendsFront};
 ghost use Rattle.flow_commands.specs.Archives.{archive_printed, archive_status};
 ghost use Rattle.flow_commands.specs.Asking.{AreFlows, AreRows};
-ghost use Rattle.flow_cli.specs.Run.{AskEnds, CheckEnds, CreateEnds, Runs, IsArchiveTold, IsHelp, IsTold, IsShown};
-ghost use Rattle.flow_cli.specs.Run.{IsRefusalTold, IsAnswered};
+ghost use Rattle.flow_commands.specs.Rolling.{IsJobLine};
+ghost use Rattle.flow_cli.specs.Run.{AskEnds, CheckEnds, CreateEnds, FeedEnds, Runs, IsArchiveTold, IsHelp, IsTold};
+ghost use Rattle.flow_cli.specs.Run.{IsRefusalTold, IsAnswered, IsShown};
 ghost use Rattle.flow_cli.specs.declared.request.Request.TheVariants as asked;
 
-use crate::arguments::FolderName;
+use crate::arguments::{FileNames, FolderName};
 use crate::explaining::Explanation;
 use crate::request::{LineError, Request, parse};
 use clap::Error;
 use clap::error::ErrorKind;
 use flow_commands::{
-    ArchiveRefusal, NewArchive, StartSpan, check_in, create_in, flows_in, totals_in,
+    ArchiveRefusal, NewArchive, StartSpan, check_in, create_in, feed_in, flows_in, roll_in,
+    totals_in,
 };
 use flow_folder::Lockable;
+use flow_manifest::JobKind;
 use flow_report::{Patience, Refusal, Width, dump, measure, write_patiently};
 use std::alloc::{AllocError, AllocGlobal, Global};
 use std::convert::AsStr;
@@ -51,6 +54,14 @@ const WRONG_PLAN: &str =
 /// What is told of seconds that no span has.
 const WRONG_SPAN: &str =
     "flowvault: FROM and TO are seconds since 1970-01-01 00:00 UTC, digits alone, 0 to 4294967296\n";
+
+/// What is told of a number of files that can't be left.
+const WRONG_KEEP: &str =
+    "flowvault: KEEP is how many of the newest files are left, digits alone, 0 to 4294967295\n";
+
+/// What is told of too many Files, or of a number of segments that can't be left.
+const WRONG_FILES: &str =
+    "flowvault: FILE is given 1 to 8 times, --keep is how many of the newest segments are left, 0 to 4294967295\n";
 
 /// What is told of a number that no refusal has.
 const WRONG_NUMBER: &str =
@@ -276,6 +287,52 @@ where
     }
 }
 
+/// Runs `feed`.
+fn run_feed<H: Files + AllocGlobal + Clone + Drop, W: Write, E: Write>(
+    rt: &H,
+    folder: &FolderName<'_>,
+    keep: u32,
+    files: &FileNames<'_>,
+    output: &mut W,
+    errors: &mut E,
+) -> u8
+where
+    H::File: FileExt + Lockable,
+    ensures runs { FeedEnds (length files.now) (W.contents output.old) (W.contents output.new) (E.contents errors.old)
+        (E.contents errors.new) result }
+    ensures quiet { result ≡ 0 → Keeps (E.contents errors.old) (E.contents errors.new) }
+    ensures status { result ≤ 5 }
+    ensures other { result ≢ 2 }
+{
+    match feed_in(rt, folder.path, keep, files.paths.as_slice(), output) {
+        Ok(status) => status,
+        Err(refusal) => tell_of_archive(rt.alloc(), errors, &refusal),
+    }
+}
+
+/// Runs `roll` or `merge`.
+fn run_job<H: Files + AllocGlobal + Clone + Drop, W: Write, E: Write>(
+    rt: &H,
+    folder: &FolderName<'_>,
+    kind: JobKind,
+    keep: u32,
+    output: &mut W,
+    errors: &mut E,
+) -> u8
+where
+    H::File: FileExt + Lockable,
+    ensures runs { AskEnds (IsJobLine kind) (W.contents output.old) (W.contents output.new) (E.contents errors.old)
+        (E.contents errors.new) result }
+    ensures quiet { result ≡ 0 → Keeps (E.contents errors.old) (E.contents errors.new) }
+    ensures status { result ≤ 5 }
+    ensures other { result ≢ 2 }
+{
+    match roll_in(rt, folder.path, kind, keep, output) {
+        Ok(()) => DONE,
+        Err(refusal) => tell_of_archive(rt.alloc(), errors, &refusal),
+    }
+}
+
 /// Runs `explain`.
 fn run_explain<W: Write, E: Write>(
     alloc: Global,
@@ -317,6 +374,15 @@ where
         Request::Check { folder } => run_check(rt, &folder, output, errors),
         Request::Totals { folder, span } => run_totals(rt, &folder, &span, output, errors),
         Request::Flows { folder, span } => run_flows(rt, &folder, &span, output, errors),
+        Request::Feed {
+            folder,
+            keep,
+            files,
+        } => run_feed(rt, &folder, keep, &files, output, errors),
+        Request::Roll { folder, keep } => run_job(rt, &folder, JobKind::Roll, keep, output, errors),
+        Request::Merge { folder, keep } => {
+            run_job(rt, &folder, JobKind::Merge, keep, output, errors)
+        }
         Request::Explain { refusal } => run_explain(rt.alloc(), &refusal, output, errors),
     }
 }
@@ -374,6 +440,14 @@ fn refuse<W: Write, E: Write>(
         }
         LineError::Span => {
             tell_line(errors, WRONG_SPAN.as_bytes());
+            WRONG_LINE
+        }
+        LineError::Keep => {
+            tell_line(errors, WRONG_KEEP.as_bytes());
+            WRONG_LINE
+        }
+        LineError::Files => {
+            tell_line(errors, WRONG_FILES.as_bytes());
             WRONG_LINE
         }
         LineError::Number => {

@@ -181,8 +181,8 @@ fn wrong_words_and_help(rt: HostRuntime) -> Result<(), Fail> {
 
 /// Takes octets while it has room, and then nothing.
 #[derive(Drop)]
-struct Narrow {
-    room: usize,
+pub(crate) struct Narrow {
+    pub(crate) room: usize,
 }
 
 impl Write for Narrow {

@@ -32,14 +32,14 @@ const IN_USE: &str =
     "flowvault: 30 Fault\nflowvault: the folder is in use, by a flowvault that still runs\n";
 
 /// An empty folder of this name, where the test runs.
-fn fresh(rt: &HostRuntime, folder: &str) -> Result<(), Fail> {
+pub(crate) fn fresh(rt: &HostRuntime, folder: &str) -> Result<(), Fail> {
     let _ = fs::remove_dir_all(rt, folder);
     fs::create_dir(rt, folder)?;
     Ok(())
 }
 
 /// An archive of which file 3 is a sealed segment with one message, and file 4 active, of width 300.
-fn sealed_one(rt: &HostRuntime, folder: &str) -> Result<(), Fail> {
+pub(crate) fn sealed_one(rt: &HostRuntime, folder: &str) -> Result<(), Fail> {
     fresh(rt, folder)?;
     let alloc = rt.alloc();
     for (name, text) in [
@@ -68,7 +68,7 @@ fn told(
 }
 
 /// Cuts the last octet off a file.
-fn shorten(rt: &HostRuntime, path: &str) -> Result<(), Fail> {
+pub(crate) fn shorten(rt: &HostRuntime, path: &str) -> Result<(), Fail> {
     let mut octets = fs::read(rt, path)?;
     let _ = octets.pop();
     fs::write(rt, path, octets.as_slice())?;
@@ -362,5 +362,33 @@ fn refusals_are_explained(rt: HostRuntime) -> Result<(), Fail> {
         assert_eq!(rt; got.told.is_empty(), known);
         assert_eq!(rt; output.as_slice().starts_with(word.as_bytes()), known);
     }
+    Ok(())
+}
+
+/// Sealed segments become one rolled file, and rolled files one of wide intervals; totals stay, flows go.
+#[test]
+fn files_are_rolled_and_merged(rt: HostRuntime) -> Result<(), Fail> {
+    sealed_one(&rt, "cli_rolled")?;
+    for (words, lines) in [
+        (["roll", "cli_rolled", "1"].as_slice(), "rolled 0\n"),
+        (["roll", "cli_rolled", "0"].as_slice(), "rolled 1\n"),
+        (["check", "cli_rolled"].as_slice(), "ok 1 1 1 0\n"),
+        (["roll", "cli_rolled", "0"].as_slice(), "rolled 0\n"),
+        (
+            ["totals", "cli_rolled", "0", "4294967296"].as_slice(),
+            "1699999800 7 6 1 1500 10\n",
+        ),
+        (["flows", "cli_rolled", "0", "4294967296"].as_slice(), ""),
+        (["merge", "cli_rolled", "0"].as_slice(), "merged 1\n"),
+        (["check", "cli_rolled"].as_slice(), "ok 1 1 1 0\n"),
+        (
+            ["totals", "cli_rolled", "0", "4294967296"].as_slice(),
+            "1699920000 7 6 1 1500 10 86400\n",
+        ),
+        (["merge", "cli_rolled", "0"].as_slice(), "merged 0\n"),
+    ] {
+        told(&rt, &rt, words, 0, lines, "")?;
+    }
+    fs::remove_dir_all(&rt, "cli_rolled")?;
     Ok(())
 }

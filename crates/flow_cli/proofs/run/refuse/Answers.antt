@@ -17,3 +17,11 @@ returns-in-Span-clause-told g c =
 pub returns-in-Number-clause-told : goal.returns-in-Number-clause-told
 returns-in-Number-clause-told g c =
     rw c.in-Number.is (refl, Keeps-refl _, rw c.as_bytes-in-Number.ensures.value at c.tell_line-in-Number.ensures)
+
+pub returns-in-Keep-clause-told : goal.returns-in-Keep-clause-told
+returns-in-Keep-clause-told g c =
+    rw c.in-Keep.is (refl, Keeps-refl _, rw c.as_bytes-in-Keep.ensures.value at c.tell_line-in-Keep.ensures)
+
+pub returns-in-Files-clause-told : goal.returns-in-Files-clause-told
+returns-in-Files-clause-told g c =
+    rw c.in-Files.is (refl, Keeps-refl _, rw c.as_bytes-in-Files.ensures.value at c.tell_line-in-Files.ensures)
