@@ -37,6 +37,8 @@ mod segments;
 #[cfg(test)]
 mod stage;
 #[cfg(test)]
+mod steps;
+#[cfg(test)]
 mod stops;
 #[cfg(test)]
 mod thawed;

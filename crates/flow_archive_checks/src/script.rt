@@ -13,7 +13,7 @@ use std::alloc::Global;
 use std::test::Fail;
 
 /// Room for a few small segments and rolled files.
-const ROOM: Room = Room {
+pub(crate) const ROOM: Room = Room {
     files: 16,
     octets: 1_024,
     calls: 512,
