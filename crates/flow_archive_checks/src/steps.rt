@@ -48,11 +48,11 @@ impl<D: Disk> Followed<D> {
         Ok(self.directory.apply(&step)?)
     }
 
-    /// Does the job that is under way, and tells the directory what was put in place.
+    /// Does the job over one file that is under way, and tells the directory what was put in place.
     fn work(&mut self, alloc: Global) -> Result<(), ArchiveError> {
         marks_of_answers();
         let mut faults = Faults::new();
-        while self.archive.roll_step(alloc, &mut faults)? > 0 {}
+        self.archive.roll_step(alloc, &mut faults)?;
         self.archive.roll_write(alloc)?;
         let _closed = self.archive.is_closed();
         let Some(job) = self.archive.job() else {
