@@ -1,7 +1,7 @@
-"""kill.py FLOWVAULT [ROUNDS]: feeds an archive in a folder, kills the program at a random moment, and opens the archive
-again, so many times (100). After each it is compared with what was given to it: at least the messages of the Files that
-were told are there; they are the first ones, in their order, each once; and its totals are those of `measure` of exactly
-these messages. The archive is rolled as it is fed."""
+"""kill.py FLOWVAULT [KILLS]: feeds an archive in a folder, kills the program at a random moment, and opens the archive
+again, until it was killed so many times (100). Each time it is compared with what was given to it: at least the messages
+of the Files that were told are there; they are the first ones, in their order, each once; and its totals are those of
+`measure` of exactly these messages. The archive is rolled as it is fed."""
 import os
 import random
 import struct
@@ -11,7 +11,7 @@ import tempfile
 import time
 
 program = os.path.abspath(sys.argv[1])
-rounds = int(sys.argv[2]) if len(sys.argv) > 2 else 100
+kills = int(sys.argv[2]) if len(sys.argv) > 2 else 100
 random.seed(7)
 
 
@@ -47,8 +47,9 @@ with tempfile.TemporaryDirectory(dir=os.environ.get("TMPDIR", ".")) as place:
     folder = os.path.join(place, "archive")
     os.mkdir(folder)
     asked("create", folder, "300", "--limit", "65535")
-    history, killed, longest = [], 0, 0.2
-    for number in range(rounds):
+    history, rounds, killed, longest = [], 0, 0, 0.2
+    while killed < kills:
+        rounds += 1
         files = [file_of(n, 150) for n in range(8)]
         paths = []
         for n, messages in enumerate(files):
@@ -62,8 +63,8 @@ with tempfile.TemporaryDirectory(dir=os.environ.get("TMPDIR", ".")) as place:
         position = int(asked("check", folder).split()[1])
         taken = position - len(history)
         if not sum(told) <= taken <= len(given):
-            sys.exit("round %d: %d messages were told, %d are there of %d" % (number, sum(told), taken, len(given)))
+            sys.exit("round %d: %d messages were told, %d are there of %d" % (rounds, sum(told), taken, len(given)))
         history += given[:taken]
         if asked("totals", folder, "0", "4294967296") != asked("measure", "300", octets=b"".join(history)):
-            sys.exit("round %d: the totals aren't those of the first %d messages" % (number, position))
+            sys.exit("round %d: the totals aren't those of the first %d messages" % (rounds, position))
     print("%d rounds, %d of them killed; %d messages, %s" % (rounds, killed, len(history), asked("check", folder).strip()))
