@@ -248,7 +248,8 @@ fn take_any<D: Disk>(
 
 /// Takes the messages of the File that `input` reads into an archive, in batches of up to 64 as they are read: up to its
 /// end, its first fault, or the first message that the archive refuses. Where the active segment has no room for them, it
-/// is sealed before; a batch for which no segment has room is taken message by message. After each batch the roller makes a turn. Reads of a roll's source that fail raise `faults`.
+/// is sealed before; a batch for which no segment has room is taken message by message. After each batch the roller
+/// makes a turn. Reads of a roll's source that fail raise `faults`.
 pub fn feed<D: Disk, R: Read>(
     archive: &mut Archive<D>,
     alloc: Global,
