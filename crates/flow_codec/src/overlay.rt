@@ -73,11 +73,10 @@ impl Overlay {
     }
 
     /// Whether no definition is left: each has a template record of some octets.
-    pub(crate) fn is_empty(&self, base: &Definitions) -> bool
-        requires { IsOver base.now self.now }
-        ensures { result ≡ (length (overlaid base.now self.now) == 0) }
+    pub(crate) fn is_empty(&self) -> bool
+        ensures { (base : List (ℕ × Layout)) → IsOver base self.now
+            → result ≡ (length (overlaid base self.now) == 0) }
     {
-        let _ = base;
         self.size == 0
     }
 

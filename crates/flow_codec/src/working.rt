@@ -9,6 +9,7 @@ ghost use Rattle.flow_codec.specs.Raw.{RawRecord};
 ghost use Rattle.flow_codec.specs.Templates.{AllTemplates, applied, changed, definition_of, definitions_of};
 ghost use Rattle.flow_codec.specs.Templates.{domain_size, is_empty, AreTemplatesInForce};
 ghost use Rattle.flow_codec.specs.Working.{current, changed_in, AreOver, AreChanges};
+ghost use Rattle.flow_codec.specs.declared.templates.DomainTemplates.{DomainTemplates};
 
 use crate::error::MessageError;
 use crate::kind::TemplateKind;
@@ -88,17 +89,16 @@ impl Changed {
     }
 
     /// Whether no definition is left.
-    fn is_empty(&self, here: &DomainTemplates) -> bool
-        requires { AreOver here.now self.now }
-        ensures { result ≡ is_empty (changed_in here.now self.now) }
+    pub(crate) fn is_empty(&self) -> bool
+        ensures { (here : DomainTemplates) → AreOver here self.now → result ≡ is_empty (changed_in here self.now) }
     {
-        self.templates.is_empty(&here.templates) && self.options.is_empty(&here.options)
+        self.templates.is_empty() && self.options.is_empty()
     }
 
     /// Whether the template records have more than 60,000 octets.
-    fn is_too_large(&self, here: &DomainTemplates) -> bool
-        requires { AreOver here.now self.now }
-        ensures { result ≡ nat_lt 60000 (domain_size (changed_in here.now self.now)) }
+    fn is_too_large(&self) -> bool
+        ensures { (here : DomainTemplates) → AreOver here self.now
+            → result ≡ nat_lt 60000 (domain_size (changed_in here self.now)) }
     {
         self.templates.size.saturating_add(self.options.size) > MOST_OCTETS
     }
@@ -122,15 +122,22 @@ pub(crate) fn find_in<'a>(
 }
 
 /// Takes out what is changed, or begins without a change.
-fn taken(alloc: Global, before: &Templates, domain: u32, changed: &mut Option<Changed>) -> Changed
-    requires { AreChanges domain before.now changed.old }
+fn taken(
+    alloc: Global,
+    before: &Templates,
+    domain: u32,
+    here: &DomainTemplates,
+    changed: &mut Option<Changed>,
+) -> Changed
+    requires here { here.now ≡ definitions_of domain before.now }
+    requires changes { AreChanges domain before.now changed.old }
     ensures over { AreOver (definitions_of domain before.now) result }
     ensures same { current domain before.now (Some result) ≡ current domain before.now changed.old }
 {
     before.are_in_force();
     match changed.take() {
         Some(now) => now,
-        None => Changed::new(alloc, before.here(domain)),
+        None => Changed::new(alloc, here),
     }
 }
 
@@ -154,8 +161,8 @@ pub(crate) fn apply_in(
     if changed.is_none() && here.has(kind, &change) {
         return Ok(());
     }
-    let mut now = taken(alloc, before, domain, changed);
-    now.left |= now.is_empty(here);
+    let mut now = taken(alloc, before, domain, here, changed);
+    now.left |= now.is_empty();
     now.apply(alloc, here, kind, change)?;
     *changed = Some(now);
     Ok(())
@@ -205,11 +212,10 @@ pub(crate) fn keep_limits(
     let Some(changed) = changed else {
         return Ok(());
     };
-    let here = before.here(header.domain);
-    if changed.is_too_large(here) {
+    if changed.is_too_large() {
         return Err(MessageError::TemplatesFull(header.domain));
     }
-    if changed.is_empty(here) {
+    if changed.is_empty() {
         return Ok(());
     }
     if before.lacks_room_for(header.domain) {

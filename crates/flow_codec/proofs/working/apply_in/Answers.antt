@@ -28,7 +28,7 @@ returns-clause-applied c =
     let here = changed_in base now in
     let is = c.here-here.ensures in
     let left : c.apply.new.self.left ≡ (now.left || is_empty here) = c.apply.ensures.left
-    ∙ ap (λ (b : Bool). now.left || b) (rw is at c.is_empty.ensures) in
+    ∙ ap (λ (b : Bool). now.left || b) (c.is_empty.ensures base c.taken-now.ensures.over) in
     let made : changed_in base c.apply.new.self ≡ changed c.args.kind c.args.change here =
     rw is at c.in_ok-apply.ensures.changed in
     ap (λ (l : Bool). put_back d l (changed_in base c.apply.new.self) before) left

@@ -11,7 +11,7 @@ returns-in-None-clause-same c =
     let before = c.args.before.now in
     let none : c.args.changed.now ≡ None = sym c.take.ensures.value ∙ c.in-None.is in
     let same : changed_in (definitions_of d before) c.new.result ≡ definitions_of d before =
-    rw c.here.ensures at c.new.ensures.same in
+    rw c.requires.here at c.new.ensures.same in
     rw none
     (ap (λ (l : Bool). put_back d l (changed_in (definitions_of d before) c.new.result) before) c.new.ensures.left
     ∙ ap (λ (g : DomainTemplates). put_back d false g before) same
