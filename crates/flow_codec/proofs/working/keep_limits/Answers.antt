@@ -20,7 +20,8 @@ returns-then-is_too_large c records =
           records;
     }) c.args.before.now c.are_in_force.ensures c.in-Some.changed.left
     (changed_in (definitions_of c.args.header.now.domain c.args.before.now) c.in-Some.changed)
-    (sym (c.is_too_large.ensures (definitions_of c.args.header.now.domain c.args.before.now) (rw c.in-Some.is at c.requires)) ∙ c.if-is_too_large.true))
+    (sym (c.is_too_large.ensures (definitions_of c.args.header.now.domain c.args.before.now)
+    (rw c.in-Some.is at c.requires)) ∙ c.if-is_too_large.true))
 
 pub returns-then-is_empty : goal.returns-then-is_empty
 returns-then-is_empty c records =
@@ -30,8 +31,10 @@ returns-then-is_empty c records =
           records;
     }) c.args.before.now c.are_in_force.ensures c.in-Some.changed.left
     (changed_in (definitions_of c.args.header.now.domain c.args.before.now) c.in-Some.changed)
-    (sym (c.is_too_large.ensures (definitions_of c.args.header.now.domain c.args.before.now) (rw c.in-Some.is at c.requires)) ∙ c.if-is_too_large.false)
-    (sym (c.is_empty.ensures (definitions_of c.args.header.now.domain c.args.before.now) (rw c.in-Some.is at c.requires)) ∙ c.if-is_empty.true))
+    (sym (c.is_too_large.ensures (definitions_of c.args.header.now.domain c.args.before.now)
+    (rw c.in-Some.is at c.requires)) ∙ c.if-is_too_large.false)
+    (sym (c.is_empty.ensures (definitions_of c.args.header.now.domain c.args.before.now)
+    (rw c.in-Some.is at c.requires)) ∙ c.if-is_empty.true))
 
 pub returns-then-lacks_room_for : goal.returns-then-lacks_room_for
 returns-then-lacks_room_for c records =
@@ -41,8 +44,10 @@ returns-then-lacks_room_for c records =
           records;
     }) c.args.before.now c.are_in_force.ensures c.in-Some.changed.left
     (changed_in (definitions_of c.args.header.now.domain c.args.before.now) c.in-Some.changed)
-    (sym (c.is_too_large.ensures (definitions_of c.args.header.now.domain c.args.before.now) (rw c.in-Some.is at c.requires)) ∙ c.if-is_too_large.false)
-    (sym (c.is_empty.ensures (definitions_of c.args.header.now.domain c.args.before.now) (rw c.in-Some.is at c.requires)) ∙ c.if-is_empty.false)
+    (sym (c.is_too_large.ensures (definitions_of c.args.header.now.domain c.args.before.now)
+    (rw c.in-Some.is at c.requires)) ∙ c.if-is_too_large.false)
+    (sym (c.is_empty.ensures (definitions_of c.args.header.now.domain c.args.before.now)
+    (rw c.in-Some.is at c.requires)) ∙ c.if-is_empty.false)
     (sym (c.lacks_room_for.ensures
     (changed_in (definitions_of c.args.header.now.domain c.args.before.now) c.in-Some.changed))
     ∙ c.if-lacks_room_for.true))
@@ -55,8 +60,10 @@ returns c records =
           records;
     }) c.args.before.now c.are_in_force.ensures c.in-Some.changed.left
     (changed_in (definitions_of c.args.header.now.domain c.args.before.now) c.in-Some.changed)
-    (sym (c.is_too_large.ensures (definitions_of c.args.header.now.domain c.args.before.now) (rw c.in-Some.is at c.requires)) ∙ c.if-is_too_large.false)
-    (sym (c.is_empty.ensures (definitions_of c.args.header.now.domain c.args.before.now) (rw c.in-Some.is at c.requires)) ∙ c.if-is_empty.false)
+    (sym (c.is_too_large.ensures (definitions_of c.args.header.now.domain c.args.before.now)
+    (rw c.in-Some.is at c.requires)) ∙ c.if-is_too_large.false)
+    (sym (c.is_empty.ensures (definitions_of c.args.header.now.domain c.args.before.now)
+    (rw c.in-Some.is at c.requires)) ∙ c.if-is_empty.false)
     (sym (c.lacks_room_for.ensures
     (changed_in (definitions_of c.args.header.now.domain c.args.before.now) c.in-Some.changed))
     ∙ c.if-lacks_room_for.false))
