@@ -1,8 +1,9 @@
 -- Changes of entries, one after the other, and what is told of them beside the entries.
 use Rattle.std.proofs.Common.{◌≡◌, ℕ, zero, suc, ◌+◌, ◌^◌, ◌<◌, ◌≤◌, Bool, true, false, cond, eqb, List, [], ◌∷◌}
-use Rattle.std.proofs.Common.{◌++◌, length, Option, Some, None, refl, sym, ap, subst, ◌∙◌, arith, inl, inr}
+use Rattle.std.proofs.Common.{◌++◌, length, take, get_or, Option, Some, None, refl, sym, ap, subst, ◌∙◌, arith, inl}
+use Rattle.std.proofs.Common.{inr, add-one}
+use Rattle.std.proofs.Math.Seq.{take-suc}
 use Rattle.std.specs.Prelude.{nat_eq, unwrap_or}
-use Rattle.std.specs.HashMap.{get}
 use Rattle.std.proofs.lemmas.Bool.{eqb-true}
 use Rattle.std.proofs.lemmas.Bool.Decides.{nat_tests}
 use Rattle.std.proofs.lemmas.List.{length-append}
@@ -13,7 +14,7 @@ use Rattle.flow_codec.specs.declared.overlay.Overlay.{Overlay}
 use Rattle.flow_codec.specs.Layout.{Layout, definition_size, specifier_size}
 use Rattle.flow_codec.specs.Entries.{IsOnce, entries_size, size_in}
 use Rattle.flow_codec.specs.Slots.{change_by, made, started}
-use Rattle.flow_codec.specs.Working.{overlaid, IsOver}
+use Rattle.flow_codec.specs.Working.{last_change, overlaid, IsOver, KnowsLast}
 use Rattle.flow_codec.proofs.Steps.{by_bool}
 use Rattle.flow_codec.proofs.Entries.{found, without, with_entry, lookup-insert, lookup-remove, remove-absent}
 use Rattle.flow_codec.proofs.Entries.{found-insert-other, found-remove-other, once_insert, once_remove}
@@ -45,6 +46,32 @@ found_change entries id q (Some layout) once = elim (by_bool (nat_eq id q)) [
       (lookup-insert id entries layout))
   | inr w ↦ rw w (found-insert-other id q entries layout (apart_back id q w))
 ]
+
+-- ---- the last change of an ID
+
+pub last_push : (id : ℕ) (changes : List (ℕ × Option Layout)) (change : ℕ × Option Layout)
+    → last_change id (changes ++ change ∷ []) ≡ cond (nat_eq change.0 id) (Some change.1) (last_change id changes)
+last_push id [] change = refl
+last_push id (c ∷ cs) change = elim (by_bool (nat_eq change.0 id)) [
+  | inl w ↦ rw (last_push id cs change, w) refl
+  | inr w ↦ rw (last_push id cs change, w) refl
+]
+
+pub last_take : (id : ℕ) (changes : List (ℕ × Option Layout)) (i : ℕ) (change : ℕ × Option Layout)
+    → i < length changes → change ≡ get_or changes i change
+    → last_change id (take (i + 1) changes) ≡ cond (nat_eq change.0 id) (Some change.1) (last_change id (take i changes))
+last_take id changes i change lt is =
+    let front : take (i + 1) changes ≡ take i changes ++ change ∷ [] = ap (λ (n : ℕ). take n changes) (add-one i)
+    ∙ take-suc changes i change lt ∙ ap (λ (c : ℕ × Option Layout). take i changes ++ c ∷ []) (sym is) in
+    ap (last_change id) front ∙ last_push id (take i changes) change
+
+-- what knows the last changes, and one more, knows the last ones still
+pub knows_more : (old new : ℕ → Option (Option Layout)) (changes : List (ℕ × Option Layout)) (id : ℕ)
+    (change : Option Layout) → ((q : ℕ) → old q ≡ last_change q changes)
+    → ((q : ℕ) → new q ≡ cond (nat_eq id q) (Some change) (old q)) → (q : ℕ)
+    → new q ≡ last_change q (changes ++ (id, change) ∷ [])
+knows_more old new changes id change was put q =
+    put q ∙ ap (cond (nat_eq id q) (Some change)) (was q) ∙ sym (last_push q changes (id, change))
 
 -- where nothing is there, nothing is taken out
 pub nothing_taken : (entries : List (ℕ × Layout)) (id : ℕ) → found id entries ≡ None
@@ -125,8 +152,7 @@ module _ (base : List (ℕ × Layout)) (o new : Overlay) (h : IsOver base o) (id
   pub over_entries : overlaid base new ≡ change_by (overlaid base o) id change
   over_entries = rw (cleared, log) (made_push (started o.cleared base) o.log.items id change)
 
-  pub over_change : ((q : ℕ) → get nat_eq new.own q ≡ cond (nat_eq id q) (Some change) (get nat_eq o.own q))
-      → new.size + size_in (found id (overlaid base o)) ≡ o.size + size_in change → size_in change < 2 ^ 20
+  pub over_change : KnowsLast new.own (o.log.items ++ (id, change) ∷ []) → new.size + size_in (found id (overlaid base o)) ≡ o.size + size_in change → size_in change < 2 ^ 20
       → IsOver base new
   over_change knows size small =
       let is = over_entries in
@@ -135,13 +161,14 @@ module _ (base : List (ℕ × Layout)) (o new : Overlay) (h : IsOver base o) (id
       record {
         once = subst IsOnce (sym is) (once_change (overlaid base o) id change h.once);
         found = λ q. ap (found q) is ∙ found_change (overlaid base o) id q change h.once ∙ seen q;
+        own = subst (KnowsLast new.own) (sym log) knows;
         size = omega (arith, size, h.size, ap entries_size is, size_change (overlaid base o) id change);
         bound = omega (arith, size, small, h.bound, more);
       }
     where
-      seen : (q : ℕ) → cond (nat_eq id q) change (found q (overlaid base o)) ≡ unwrap_or (get nat_eq new.own q)
+      seen : (q : ℕ) → cond (nat_eq id q) change (found q (overlaid base o)) ≡ unwrap_or (last_change q new.log.items)
           (found q (started new.cleared base))
       seen q = elim (by_bool (nat_eq id q)) [
-        | inl w ↦ rw (knows q, w) refl
-        | inr w ↦ rw (knows q, w, cleared) (h.found q)
+        | inl w ↦ rw (log, last_push q o.log.items (id, change), w) refl
+        | inr w ↦ rw (log, last_push q o.log.items (id, change), w, cleared) (h.found q)
       ]

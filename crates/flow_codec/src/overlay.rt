@@ -1,26 +1,30 @@
 //! What a message changes in one list of definitions, beside the list, which stays as it was.
 
-ghost use Rattle.std.specs.Prelude.{◌≡◌, ℕ, List, None, ◌<◌, ◌^◌, [], nat_eq, ◌==◌, length, OnOk, IfOk};
+ghost use Rattle.std.specs.Prelude.{◌≡◌, ℕ, List, None, ◌<◌, ◌^◌, [], ◌∷◌, ◌++◌, nat_eq, ◌==◌, length, OnOk, IfOk};
+ghost use Rattle.std.specs.HashMap.{get};
 ghost use Rattle.std.specs.Map.{lookup};
 ghost use Rattle.std.specs.Option.{option_copied};
 ghost use Rattle.flow_codec.specs.Layout.{Layout};
 ghost use Rattle.flow_codec.specs.Slots.{change_by};
 ghost use Rattle.flow_codec.specs.Entries.{entries_size, size_in};
-ghost use Rattle.flow_codec.specs.Working.{overlaid, IsOver};
+ghost use Rattle.flow_codec.specs.Working.{last_change, overlaid, IsOver, KnowsLast};
 
 use crate::definitions::Definitions;
 use crate::templates::Definition;
 use std::alloc::{AllocError, Global};
 use std::collections::HashMap;
 
-/// The changes in order, and the last one of each ID, which is looked at before the list itself. A definition that was
-/// taken out is `None`.
+/// So many changes are looked through for the last one of an ID. Where there are more, a map has it.
+const FEW: usize = 8;
+
+/// The changes in order; the last one of an ID counts before the list itself. A definition that was taken out is `None`.
 #[derive(Drop)]
 pub(crate) struct Overlay {
     /// Whether all definitions were withdrawn, before these changes.
     pub(crate) cleared: bool,
     pub(crate) log: Vec<(u16, Option<Definition>)>,
-    own: HashMap<u16, Option<Definition>>,
+    /// The last change of each ID, once there are more than a few.
+    own: Option<Box<HashMap<u16, Option<Definition>>>>,
     /// The octets of all template records after the changes. Within a message no limit bounds them.
     pub(crate) size: u128,
 }
@@ -45,6 +49,58 @@ fn copied(change: &Option<Definition>) -> Result<Option<Definition>, AllocError>
     }
 }
 
+/// The last change of an ID.
+fn last_in(log: &[(u16, Option<Definition>)], id: u16) -> Option<&Option<Definition>>
+    ensures { option_copied result ≡ last_change id log.now }
+{
+    let mut last = None;
+    for (key, change) in log {
+        if *key == id {
+            last = Some(change);
+        }
+    }
+    last
+}
+
+/// The last change of each ID.
+fn map_of(
+    alloc: Global,
+    log: &[(u16, Option<Definition>)],
+) -> Result<HashMap<u16, Option<Definition>>, AllocError>
+    ensures { IfOk result (λ own. (id : ℕ) → get nat_eq own id ≡ last_change id log.now) }
+{
+    let mut own = HashMap::new(alloc);
+    for (id, change) in log {
+        own.insert(*id, copied(change)?)?;
+    }
+    Ok(own)
+}
+
+/// Takes note of a change that is to follow those of `log`. After an `Err` the map is of no use.
+fn note(
+    own: &mut Option<Box<HashMap<u16, Option<Definition>>>>,
+    alloc: Global,
+    log: &[(u16, Option<Definition>)],
+    id: u16,
+    change: &Option<Definition>,
+) -> Result<(), AllocError>
+    requires { KnowsLast own.old log.now }
+    ensures { OnOk result (KnowsLast own.new (log.now ++ (id, change.now) ∷ [])) }
+{
+    match own {
+        Some(own) => {
+            own.insert(id, copied(change)?)?;
+        }
+        None if log.len() >= FEW => {
+            let mut map = map_of(alloc, log)?;
+            map.insert(id, copied(change)?)?;
+            *own = Some(Box::new(alloc, map)?);
+        }
+        None => {}
+    }
+    Ok(())
+}
+
 impl Overlay {
     /// No change.
     pub(crate) fn new(alloc: Global, base: &Definitions) -> Self
@@ -54,8 +110,19 @@ impl Overlay {
         Overlay {
             cleared: false,
             log: Vec::new(alloc),
-            own: HashMap::new(alloc),
+            own: None,
             size: base.size() as u128,
+        }
+    }
+
+    /// The last change of an ID.
+    fn last(&self, id: u16) -> Option<&Option<Definition>>
+        requires { KnowsLast self.now.own self.now.log.items }
+        ensures { option_copied result ≡ last_change id self.now.log.items }
+    {
+        match &self.own {
+            Some(own) => own.get(&id),
+            None => last_in(self.log.as_slice(), id),
         }
     }
 
@@ -64,7 +131,7 @@ impl Overlay {
         requires { IsOver base.now self.now }
         ensures { option_copied result ≡ lookup (nat_eq id) (overlaid base.now self.now) }
     {
-        match self.own.get(&id) {
+        match self.last(id) {
             Some(Some(definition)) => Some(definition),
             Some(None) => None,
             None if self.cleared => None,
@@ -83,6 +150,7 @@ impl Overlay {
     /// Puts a definition under an ID, or takes out what is there. After an `Err` the changes are of no use.
     pub(crate) fn change(
         &mut self,
+        alloc: Global,
         base: &Definitions,
         id: u16,
         change: Option<Definition>,
@@ -93,15 +161,20 @@ impl Overlay {
     {
         let before = size_in(self.get(base, id));
         let after = size_in(change.as_ref());
-        self.log.push((id, copied(&change)?))?;
-        self.own.insert(id, change)?;
+        note(&mut self.own, alloc, self.log.as_slice(), id, &change)?;
+        self.log.push((id, change))?;
         self.size = self.size - before as u128 + after as u128;
         Ok(())
     }
 
     /// Takes out what is there under an ID. After an `Err` the changes are of no use.
     #[tactic(auto, using(crate::proofs::OverlayLaws::nothing_taken))]
-    pub(crate) fn take(&mut self, base: &Definitions, id: u16) -> Result<(), AllocError>
+    pub(crate) fn take(
+        &mut self,
+        alloc: Global,
+        base: &Definitions,
+        id: u16,
+    ) -> Result<(), AllocError>
         requires { IsOver base.now self.old }
         ensures over { OnOk result (IsOver base.now self.new) }
         ensures entries { OnOk result (overlaid base.now self.new ≡ change_by (overlaid base.now self.old) id None) }
@@ -109,7 +182,7 @@ impl Overlay {
         if self.get(base, id).is_none() {
             return Ok(());
         }
-        self.change(base, id, None)
+        self.change(alloc, base, id, None)
     }
 
     /// Takes out all definitions.
@@ -119,7 +192,7 @@ impl Overlay {
     {
         self.cleared = true;
         self.log = Vec::new(alloc);
-        self.own = HashMap::new(alloc);
+        self.own = None;
         self.size = 0;
     }
 }

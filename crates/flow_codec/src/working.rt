@@ -69,18 +69,19 @@ impl Changed {
         match (kind, change) {
             (TemplateKind::Plain, TemplateRecord::Define(id, definition)) => {
                 self.templates
-                    .change(&here.templates, id, Some(definition))?;
-                self.options.take(&here.options, id)?;
+                    .change(alloc, &here.templates, id, Some(definition))?;
+                self.options.take(alloc, &here.options, id)?;
             }
             (TemplateKind::Options, TemplateRecord::Define(id, definition)) => {
-                self.templates.take(&here.templates, id)?;
-                self.options.change(&here.options, id, Some(definition))?;
+                self.templates.take(alloc, &here.templates, id)?;
+                self.options
+                    .change(alloc, &here.options, id, Some(definition))?;
             }
             (TemplateKind::Plain, TemplateRecord::Withdraw(id)) => {
-                self.templates.take(&here.templates, id)?;
+                self.templates.take(alloc, &here.templates, id)?;
             }
             (TemplateKind::Options, TemplateRecord::Withdraw(id)) => {
-                self.options.take(&here.options, id)?;
+                self.options.take(alloc, &here.options, id)?;
             }
             (TemplateKind::Plain, TemplateRecord::WithdrawAll) => self.templates.clear(alloc),
             (TemplateKind::Options, TemplateRecord::WithdrawAll) => self.options.clear(alloc),
