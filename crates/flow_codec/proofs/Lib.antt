@@ -41,4 +41,5 @@ pub mod Following
 pub mod Restating
 pub mod RestatingAll
 pub mod Writing
+pub mod InPlace
 mod Files

@@ -350,6 +350,27 @@ impl Templates {
         ensures ok { OnOk result (self.new ≡ current domain self.old (Some changed)) }
         ensures err { OnErr result (self.new ≡ self.old) }
     {
+        if changed.left || changed.is_empty() {
+            return self.take_in_elsewhere(alloc, domain, changed);
+        }
+        match self.domains.get_index_of(&domain) {
+            Some(place) => self.domains[place].make(changed),
+            None => self.take_in_elsewhere(alloc, domain, changed),
+        }
+    }
+
+    /// Makes what a message changed in its domain as `take_in` does, also where the domain has no place, or leaves it.
+    fn take_in_elsewhere(
+        &mut self,
+        alloc: Global,
+        domain: u32,
+        changed: Changed,
+    ) -> Result<(), AllocError>
+        requires over { AreOver (definitions_of domain self.old) changed }
+        requires in_force { AreTemplatesInForce (current domain self.old (Some changed)) }
+        ensures ok { OnOk result (self.new ≡ current domain self.old (Some changed)) }
+        ensures err { OnErr result (self.new ≡ self.old) }
+    {
         self.domains.reserve(2)?;
         let mut here = taken_out(&mut self.domains, alloc, domain);
         let left = changed.left;
