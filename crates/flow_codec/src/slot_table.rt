@@ -178,7 +178,9 @@ impl SlotTable {
         if cleared {
             return Ok(Some(SlotTable::with_room(*self.slots.allocator(), count)?));
         }
-        self.reserve(count)?;
+        if count > 0 {
+            self.reserve(count)?;
+        }
         Ok(None)
     }
 
