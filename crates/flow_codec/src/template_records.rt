@@ -17,6 +17,9 @@ const ENTERPRISE_BIT: u16 = 32768;
 /// The least ID of a template.
 const FIRST_TEMPLATE: u16 = 256;
 
+/// The octets of the shortest field specifier.
+const SPECIFIER: usize = 4;
+
 /// Whether a Set of template records ends here: fewer than 4 octets are left, or the next ID is 0.
 pub(crate) fn is_ended(octets: &[u8]) -> bool
     ensures { result ≡ is_ended octets.now }
@@ -59,7 +62,8 @@ fn specifiers_of(
     ensures count { IfOk result (λ x. length x.0 ≡ count) }
     ensures len { IfOk result (λ x. length x.1.now ≤ length octets.now) }
 {
-    let mut specifiers = Vec::new(alloc);
+    let room = (octets.len() / SPECIFIER).min(count as usize);
+    let mut specifiers = Vec::with_capacity(alloc, room)?;
     let mut rest = octets;
     for _ in 0..count {
         let (specifier, after) = specifier_of(at, rest)?;

@@ -6,7 +6,7 @@ use Rattle.flow_codec.proofs.template_records.specifiers_of.Goals as goal
 
 pub returns-in_err-specifier-clause-exact : goal.returns-in_err-specifier-clause-exact
 returns-in_err-specifier-clause-exact c =
-    let p = err_from_is_err_and c.from_residual.result c.from_residual.ensures.1 in
+    let p = err_from_is_err_and c.from_residual-in_err-specifier.result c.from_residual-in_err-specifier.ensures.1 in
     rw (p.1, p.2) (ends c.args.at c.args.count c.loop.counter c.loop.specifiers.items c.loop.rest.now
     (specifiers_at c.args.at c.args.count c.args.octets.now) c.loop-test.true c.in_err-specifier.field-0.0
     c.in_err-specifier.ensures.exact c.loop.invariant.0)
