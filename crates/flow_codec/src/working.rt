@@ -2,7 +2,7 @@
 //! templates and made in them as the last step, so that a refusal leaves them as they were and no message copies a
 //! domain.
 
-ghost use Rattle.std.specs.Prelude.{◌≡◌, ◌≤◌, List, false, length, nat_lt, OnOk, OnErr, IfOk};
+ghost use Rattle.std.specs.Prelude.{◌≡◌, ◌≤◌, ◌||◌, List, false, length, nat_lt, OnOk, OnErr, IfOk};
 ghost use Rattle.std.specs.Option.{option_copied};
 ghost use Rattle.flow_codec.specs.Reading.{Gives, templates_at, limited};
 ghost use Rattle.flow_codec.specs.Raw.{RawRecord};
@@ -89,6 +89,25 @@ impl Changed {
         Ok(())
     }
 
+    /// Applies a template record, and notes whether the domain was without definitions before it. After an `Err` the
+    /// changes are of no use.
+    fn step(
+        &mut self,
+        alloc: Global,
+        here: &DomainTemplates,
+        kind: TemplateKind,
+        change: TemplateRecord,
+    ) -> Result<(), AllocError>
+        requires { AreOver here.now self.old }
+        ensures over { OnOk result (AreOver here.now self.new) }
+        ensures changed { OnOk result
+            (changed_in here.now self.new ≡ changed kind change (changed_in here.now self.old)) }
+        ensures left { self.new.left ≡ (self.old.left || is_empty (changed_in here.now self.old)) }
+    {
+        self.left |= self.is_empty();
+        self.apply(alloc, here, kind, change)
+    }
+
     /// Whether no definition is left.
     pub(crate) fn is_empty(&self) -> bool
         ensures { (here : DomainTemplates) → AreOver here self.now → result ≡ is_empty (changed_in here self.now) }
@@ -122,26 +141,6 @@ pub(crate) fn find_in<'a>(
     }
 }
 
-/// Takes out what is changed, or begins without a change.
-fn taken(
-    alloc: Global,
-    before: &Templates,
-    domain: u32,
-    here: &DomainTemplates,
-    changed: &mut Option<Changed>,
-) -> Changed
-    requires here { here.now ≡ definitions_of domain before.now }
-    requires changes { AreChanges domain before.now changed.old }
-    ensures over { AreOver (definitions_of domain before.now) result }
-    ensures same { current domain before.now (Some result) ≡ current domain before.now changed.old }
-{
-    before.are_in_force();
-    match changed.take() {
-        Some(now) => now,
-        None => Changed::new(alloc, here),
-    }
-}
-
 /// Applies a template record. The first ones that define what is in force change nothing, and leave `changed` as it
 /// was. After an `Err`, `changed` is to be thrown away.
 pub(crate) fn apply_in(
@@ -159,14 +158,16 @@ pub(crate) fn apply_in(
 {
     before.are_in_force();
     let here = before.here(domain);
-    if changed.is_none() && here.has(kind, &change) {
-        return Ok(());
+    match changed {
+        Some(now) => now.step(alloc, here, kind, change),
+        None if here.has(kind, &change) => Ok(()),
+        None => {
+            let mut now = Changed::new(alloc, here);
+            now.step(alloc, here, kind, change)?;
+            *changed = Some(now);
+            Ok(())
+        }
     }
-    let mut now = taken(alloc, before, domain, here, changed);
-    now.left |= now.is_empty();
-    now.apply(alloc, here, kind, change)?;
-    *changed = Some(now);
-    Ok(())
 }
 
 /// Applies the template records of a Set that ends at `end`. After an `Err`, `changed` is to be thrown away.

@@ -1,37 +1,54 @@
-use Rattle.std.proofs.Common.{◌≡◌, Bool, true, not, Option, None, Some, refl, sym, ap, ◌∙◌}
+use Rattle.std.proofs.Common.{◌≡◌, ℕ, Bool, false, refl, sym, ap, ◌∙◌}
 use Rattle.std.specs.Prelude.{◌||◌}
-use Rattle.std.specs.Option.{is_some}
+use Rattle.std.proofs.lemmas.Result.{on_ok_weaker}
+use Rattle.flow_codec.specs.declared.kind.TemplateKind.{TemplateKind}
 use Rattle.flow_codec.specs.declared.templates.DomainTemplates.{DomainTemplates}
-use Rattle.flow_codec.specs.declared.working.Changed.{Changed}
-use Rattle.flow_codec.specs.Templates.{applied, changed, definitions_of, is_empty}
+use Rattle.flow_codec.specs.declared.templates.TemplateRecord.{TemplateRecord}
+use Rattle.flow_codec.specs.Templates.{AllTemplates, applied, changed, definitions_of, is_empty, IsOnce}
 use Rattle.flow_codec.specs.Working.{current, changed_in, put_back}
 use Rattle.flow_codec.proofs.Alike.{again}
-use Rattle.flow_codec.proofs.PuttingBack.{applied_put_back}
+use Rattle.flow_codec.proofs.PuttingBack.{applied_put_back, unchanged}
 use Rattle.flow_codec.proofs.working.apply_in.Goals as goal
 
-pub returns-then-has-clause-applied : goal.returns-then-has-clause-applied
-returns-then-has-clause-applied c = by c.args.changed.now c.if-is_none.ensures
-  where
-    by : (o : Option Changed) → is_some o ≡ not true
-        → current c.args.domain c.args.before.now o ≡ applied c.args.domain c.args.kind c.args.change
-        (current c.args.domain c.args.before.now o)
-    by None e = sym (again c.args.domain c.args.before.now c.args.kind c.args.change c.here-here.result.now
-        c.are_in_force.ensures c.here-here.ensures (c.if-has.ensures refl))
-    by (Some x) e = absurd cc
+-- a step of the domain's definitions on their own is one in their place among all
+step_put_back : (d : ℕ) (all : AllTemplates) (kind : TemplateKind) (change : TemplateRecord) (here new : DomainTemplates)
+    (left after : Bool) → IsOnce all → new ≡ changed kind change here → after ≡ (left || is_empty here)
+    → put_back d after new all ≡ applied d kind change (put_back d left here all)
+step_put_back d all kind change here new left after once made is =
+    ap (λ (l : Bool). put_back d l new all) is
+    ∙ ap (λ (g : DomainTemplates). put_back d (left || is_empty here) g all) made
+    ∙ sym (applied_put_back d all once kind change left here)
 
-pub returns-clause-applied : goal.returns-clause-applied
-returns-clause-applied c =
+pub returns-in-Some-clause-applied : goal.returns-in-Some-clause-applied
+returns-in-Some-clause-applied c =
     let d = c.args.domain in
     let before = c.args.before.now in
-    let now = c.taken-now.result in
+    let now = c.in-Some.now in
+    on_ok_weaker c.step.result (λ made. rw c.in-Some.is
+    (step_put_back d before c.args.kind c.args.change (changed_in (definitions_of d before) now)
+    (changed_in (definitions_of d before) c.step.new.self) now.left c.step.new.self.left
+    c.are_in_force.ensures.once (rw c.here-here.ensures at made) (rw c.here-here.ensures at c.step.ensures.left)))
+    c.step.ensures.changed
+
+pub returns-in-None-clause-applied : goal.returns-in-None-clause-applied
+returns-in-None-clause-applied c =
+    rw c.in-None.is (sym (again c.args.domain c.args.before.now c.args.kind c.args.change c.here-here.result.now
+    c.are_in_force.ensures c.here-here.ensures (c.if-has.ensures refl)))
+
+pub returns-in_ok-step-in-None-2-clause-applied : goal.returns-in_ok-step-in-None-2-clause-applied
+returns-in_ok-step-in-None-2-clause-applied c =
+    let d = c.args.domain in
+    let before = c.args.before.now in
     let base = definitions_of d before in
-    let here = changed_in base now in
-    let is = c.here-here.ensures in
-    let left : c.apply.new.self.left ≡ (now.left || is_empty here) = c.apply.ensures.left
-    ∙ ap (λ (b : Bool). now.left || b) (c.is_empty.ensures base c.taken-now.ensures.over) in
-    let made : changed_in base c.apply.new.self ≡ changed c.args.kind c.args.change here =
-    rw is at c.in_ok-apply.ensures.changed in
-    ap (λ (l : Bool). put_back d l (changed_in base c.apply.new.self) before) left
-    ∙ ap (λ (g : DomainTemplates). put_back d (now.left || is_empty here) g before) made
-    ∙ sym (applied_put_back d before c.are_in_force.ensures.once c.args.kind c.args.change now.left here)
-    ∙ ap (applied d c.args.kind c.args.change) c.taken-now.ensures.same
+    let now = c.new-now.result in
+    let same : changed_in base now ≡ base = rw c.here-here.ensures at c.new-now.ensures.same in
+    let begun : put_back d now.left (changed_in base now) before ≡ before =
+    ap (λ (l : Bool). put_back d l (changed_in base now) before) c.new-now.ensures.left
+    ∙ ap (λ (g : DomainTemplates). put_back d false g before) same
+    ∙ unchanged d before c.are_in_force.ensures in
+    rw c.in-None-2.is
+    (step_put_back d before c.args.kind c.args.change (changed_in base now)
+    (changed_in base c.step-in-None-2.new.self) now.left c.step-in-None-2.new.self.left c.are_in_force.ensures.once
+    (rw c.here-here.ensures at c.in_ok-step-in-None-2.ensures.changed)
+    (rw c.here-here.ensures at c.in_ok-step-in-None-2.ensures.left)
+    ∙ ap (applied d c.args.kind c.args.change) begun)
