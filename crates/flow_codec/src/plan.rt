@@ -12,6 +12,9 @@ use std::alloc::{AllocError, Global};
 /// The Field Length of a field of variable length (RFC 7011, section 7).
 pub const VARIABLE: u16 = 65535;
 
+/// Steps that get their memory at once.
+const FEW: usize = 4;
+
 /// What a field is counted as in a flow: IANA's elements 1, 2, 4, 150 and 152 (RFC 7012).
 #[derive(Clone, Copy, Debug, PartialEq, Eq)]
 pub enum Role {
@@ -139,7 +142,7 @@ fn steps_of(alloc: Global, fields: &[(ElementId, u16)]) -> Result<Vec<Step>, All
     requires { length fields.now < 2 ^ 16 }
     ensures { IfOk result (λ steps. steps.items ≡ steps_of fields.now) }
 {
-    let mut steps: Vec<Step> = Vec::new(alloc);
+    let mut steps: Vec<Step> = Vec::with_capacity(alloc, fields.len().min(FEW))?;
     let mut skipped: Option<usize> = None;
     for (id, len) in fields {
         match step_of(id, *len) {
