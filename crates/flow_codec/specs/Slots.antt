@@ -1,6 +1,8 @@
 -- A list of entries under numbers that is kept in slots: an entry that is taken out leaves its slot empty.
 use Rattle.std.specs.Prelude.{◌≡◌, ℕ, suc, ◌+◌, ◌≤◌, Bool, List, [], ◌∷◌, Option, Some, None, nat_eq, vec_len}
 use Rattle.std.specs.Prelude.{vec_capacity, if◌then◌else◌}
+use Rattle.std.specs.Box.{box_value}
+use Rattle.std.specs.Global.{Box}
 use Rattle.std.specs.HashMap.{get, spare}
 use Rattle.std.specs.Option.{option_map}
 use Rattle.indexmap.specs.IndexMap.{insert_entry, shift_remove_entry}
@@ -37,6 +39,11 @@ IsTable table = AreSlots table.slots.items (get nat_eq table.places)
 pub record HasRoom (n : ℕ) (table : SlotTable) : Type 0 where
   pub slots : vec_len table.slots + n ≤ vec_capacity table.slots
   pub places : n ≤ spare table.places
+
+-- what changes begin with: another table, where there is one
+abbrev pub begun : Option (Box SlotTable) → SlotTable → SlotTable
+begun None table = table
+begun (Some fresh) table = box_value fresh
 
 -- a table of these entries with room for n more
 pub record IsReady (entries : List (ℕ × Layout)) (n : ℕ) (table : SlotTable) : Type 0 where

@@ -1,11 +1,11 @@
 //! Definitions in slots: a map knows the slot of each ID, so each change takes constant time, wherever it is.
 
-ghost use Rattle.std.specs.Prelude.{◌≡◌, ℕ, suc, ◌+◌, ◌≤◌, [], ◌++◌, ◌==◌, nat_eq, length, OnOk, IfOk, unwrap_or};
+ghost use Rattle.std.specs.Prelude.{◌≡◌, ℕ, suc, ◌+◌, ◌≤◌, [], ◌++◌, ◌==◌, nat_eq, length, OnOk, IfOk};
 ghost use Rattle.std.specs.List.{AllByRecursion};
 ghost use Rattle.std.specs.Map.{lookup};
 ghost use Rattle.std.specs.Option.{option_copied};
 ghost use Rattle.indexmap.specs.IndexMap.{insert_entry, shift_remove_entry};
-ghost use Rattle.flow_codec.specs.Slots.{entries_of, change_by, made, started, IsTable, HasRoom, IsReady};
+ghost use Rattle.flow_codec.specs.Slots.{entries_of, begun, change_by, made, started, IsTable, HasRoom, IsReady};
 ghost use Rattle.flow_codec.specs.Templates.{IsEntry};
 ghost use Rattle.flow_codec.specs.Message.{joined};
 ghost use Rattle.flow_codec.specs.Prefix.{records_of};
@@ -168,15 +168,17 @@ impl SlotTable {
         &mut self,
         cleared: bool,
         count: usize,
-    ) -> Result<Option<SlotTable>, AllocError>
+    ) -> Result<Option<Box<SlotTable>>, AllocError>
         requires { IsTable self.old }
         ensures slots { IsTable self.new }
         ensures entries { entries_of self.new ≡ entries_of self.old }
         ensures ready { IfOk result
-            (λ fresh. IsReady (started cleared (entries_of self.old)) count (unwrap_or fresh self.new)) }
+            (λ fresh. IsReady (started cleared (entries_of self.old)) count (begun fresh self.new)) }
     {
         if cleared {
-            return Ok(Some(SlotTable::with_room(*self.slots.allocator(), count)?));
+            let alloc = *self.slots.allocator();
+            let fresh = SlotTable::with_room(alloc, count)?;
+            return Ok(Some(Box::new(alloc, fresh)?));
         }
         if count > 0 {
             self.reserve(count)?;
@@ -185,11 +187,11 @@ impl SlotTable {
     }
 
     /// Puts `fresh` in the place of this table, where there is one.
-    fn begin(&mut self, fresh: Option<SlotTable>)
-        ensures { self.new ≡ unwrap_or fresh self.old }
+    fn begin(&mut self, fresh: Option<Box<SlotTable>>)
+        ensures { self.new ≡ begun fresh self.old }
     {
         if let Some(fresh) = fresh {
-            *self = fresh;
+            *self = Box::into_inner(fresh);
         }
     }
 
@@ -208,13 +210,13 @@ impl SlotTable {
     /// Makes changes in what `prepare` gave for them.
     pub(crate) fn finish(
         &mut self,
-        fresh: Option<SlotTable>,
+        fresh: Option<Box<SlotTable>>,
         changes: Vec<(u16, Option<Definition>)>,
     )
-        requires slots { IsTable (unwrap_or fresh self.old) }
-        requires room { HasRoom (length changes.items) (unwrap_or fresh self.old) }
+        requires slots { IsTable (begun fresh self.old) }
+        requires room { HasRoom (length changes.items) (begun fresh self.old) }
         ensures slots { IsTable self.new }
-        ensures entries { entries_of self.new ≡ made (entries_of (unwrap_or fresh self.old)) changes.items }
+        ensures entries { entries_of self.new ≡ made (entries_of (begun fresh self.old)) changes.items }
     {
         self.begin(fresh);
         self.make(changes);
