@@ -22,7 +22,9 @@ module _ (d : ℕ) (entries all : AllTemplates) (same : entries ≡ all) (place 
   is_here = rw is_found refl
 
   set_at : (new : DomainTemplates) → set_value_at entries place new ≡ with_entry all d new
-  set_at new = sym (insert_entry-first nat_eq d new entries place (Found-position (nat_eq d) entries place (sym at)).first)
+  set_at new =
+      let first = (Found-position (nat_eq d) entries place (sym at)).first in
+      sym (insert_entry-first nat_eq d new entries place first)
       ∙ ap (λ (t : AllTemplates). with_entry t d new) same
 
   -- the same definitions once more

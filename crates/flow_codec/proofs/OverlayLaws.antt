@@ -59,7 +59,8 @@ last_push id (c ∷ cs) change = elim (by_bool (nat_eq change.0 id)) [
 
 pub last_take : (id : ℕ) (changes : List (ℕ × Option Layout)) (i : ℕ) (change : ℕ × Option Layout)
     → i < length changes → change ≡ get_or changes i change
-    → last_change id (take (i + 1) changes) ≡ cond (nat_eq change.0 id) (Some change.1) (last_change id (take i changes))
+    → last_change id (take (i + 1) changes)
+    ≡ cond (nat_eq change.0 id) (Some change.1) (last_change id (take i changes))
 last_take id changes i change lt is =
     let front : take (i + 1) changes ≡ take i changes ++ change ∷ [] = ap (λ (n : ℕ). take n changes) (add-one i)
     ∙ take-suc changes i change lt ∙ ap (λ (c : ℕ × Option Layout). take i changes ++ c ∷ []) (sym is) in
@@ -152,7 +153,8 @@ module _ (base : List (ℕ × Layout)) (o new : Overlay) (h : IsOver base o) (id
   pub over_entries : overlaid base new ≡ change_by (overlaid base o) id change
   over_entries = rw (cleared, log) (made_push (started o.cleared base) o.log.items id change)
 
-  pub over_change : KnowsLast new.own (o.log.items ++ (id, change) ∷ []) → new.size + size_in (found id (overlaid base o)) ≡ o.size + size_in change → size_in change < 2 ^ 20
+  pub over_change : KnowsLast new.own (o.log.items ++ (id, change) ∷ [])
+      → new.size + size_in (found id (overlaid base o)) ≡ o.size + size_in change → size_in change < 2 ^ 20
       → IsOver base new
   over_change knows size small =
       let is = over_entries in

@@ -17,7 +17,8 @@ use std::collections::HashMap;
 /// So many changes are looked through for the last one of an ID. Where there are more, a map has it.
 const FEW: usize = 8;
 
-/// The changes in order; the last one of an ID counts before the list itself. A definition that was taken out is `None`.
+/// The changes in order. The last one of an ID counts, before the list itself. A definition that was taken out is
+/// `None`.
 #[derive(Drop)]
 pub(crate) struct Overlay {
     /// Whether all definitions were withdrawn, before these changes.

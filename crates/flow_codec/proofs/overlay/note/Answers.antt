@@ -7,7 +7,8 @@ use Rattle.flow_codec.proofs.overlay.note.Goals as goal
 pub returns-in_ok-insert-in-Some : goal.returns-in_ok-insert-in-Some
 returns-in_ok-insert-in-Some c =
     let was = rw c.in-Some.is at c.requires in
-    let put = rw (c.in_ok-copied-in-Some.ensures, c.deref_mut.ensures.value) at c.in_ok-insert-in-Some.ensures.updates.0 in
+    let updates = c.in_ok-insert-in-Some.ensures.updates.0 in
+    let put = rw (c.in_ok-copied-in-Some.ensures, c.deref_mut.ensures.value) at updates in
     knows_more _ _ c.args.log.now c.args.id c.args.change.now was put
 
 pub returns-in_ok-new-in-None : goal.returns-in_ok-new-in-None

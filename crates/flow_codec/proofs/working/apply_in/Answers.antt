@@ -11,8 +11,9 @@ use Rattle.flow_codec.proofs.PuttingBack.{applied_put_back, unchanged}
 use Rattle.flow_codec.proofs.working.apply_in.Goals as goal
 
 -- a step of the domain's definitions on their own is one in their place among all
-step_put_back : (d : ℕ) (all : AllTemplates) (kind : TemplateKind) (change : TemplateRecord) (here new : DomainTemplates)
-    (left after : Bool) → IsOnce all → new ≡ changed kind change here → after ≡ (left || is_empty here)
+step_put_back : (d : ℕ) (all : AllTemplates) (kind : TemplateKind) (change : TemplateRecord)
+    (here new : DomainTemplates) (left after : Bool) → IsOnce all → new ≡ changed kind change here
+    → after ≡ (left || is_empty here)
     → put_back d after new all ≡ applied d kind change (put_back d left here all)
 step_put_back d all kind change here new left after once made is =
     ap (λ (l : Bool). put_back d l new all) is
