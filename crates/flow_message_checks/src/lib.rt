@@ -5,6 +5,8 @@
 #[cfg(test)]
 mod elements;
 #[cfg(test)]
+mod holds;
+#[cfg(test)]
 mod messages;
 #[cfg(test)]
 mod prefixes;

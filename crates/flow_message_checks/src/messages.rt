@@ -1,5 +1,6 @@
 //! Messages whose reading was worked out by hand, octet by octet.
 
+use crate::holds::holds;
 use flow_codec::{
     Count, Definition, Header, Message, MessageError, Templates, WalkError, judge_message,
     read_message, split_field, walk_message,
@@ -74,60 +75,70 @@ fn read(rt: HostRuntime, templates: &mut Templates, text: &str) -> Result<String
 }
 
 /// Each message after the ones before it, and what reading it answers.
-#[test]
-fn messages(rt: HostRuntime) -> Result<(), Fail> {
-    let mut templates = Templates::new(rt.alloc());
-    for (text, want) in [
-        (PLAIN, "[256 150=6553f100 4=06 1=000005dc 2=0000000a]"),
-        // Twelve octets are padding, thirteen are a record.
-        (
-            "000A 002D 6553F100 00000000 00000007 | 0100 001D 6553F100 06 000005DC 0000000A FFFFFFFFFFFFFFFFFFFFFFFF",
-            "[256 150=6553f100 4=06 1=000005dc 2=0000000a]",
-        ),
-        (
-            "000A 002E 6553F100 00000000 00000007 | 0100 001E 6553F100 06 000005DC 0000000A 00000000000000000000000000",
-            "[256 150=6553f100 4=06 1=000005dc 2=0000000a][256 150=00000000 4=00 1=00000000 2=00000000]",
-        ),
-        // Both spellings of a length.
-        (
-            "000A 0036 6553F100 00000000 00000007 | 0002 0010 012C 0002 0001 0004 00D2 FFFF | \
-             012C 0016 00000064 03 AABBCC 00000064 FF 0003 AABBCC",
-            "[300 1=00000064 210=aabbcc][300 1=00000064 210=aabbcc]",
-        ),
-        // No Set.
-        ("000A 0010 6553F100 00000000 00000007", ""),
-        (
-            "000A 001C 6553F100 00000000 00000007 | 0002 000C 0003 0001 0001 0004",
-            "6 TemplateId 20",
-        ),
-        (
-            "000A 0018 6553F100 00000000 00000007 | 0002 0008 0100 0001",
-            "5 TemplateCut 20",
-        ),
-        (
-            "000A 001E 6553F100 00000000 00000007 | 0003 000E 0102 0001 0000 0091 0002",
-            "7 ScopeCount 20",
-        ),
-        (
-            "000A 0024 6553F100 00000000 00000007 | 0002 000C 012C 0001 00D2 FFFF | 012C 0008 05AABBCC",
-            "8 RecordCut 32",
-        ),
-        // All Templates of the domain are withdrawn, and their data Sets have no records.
-        (
-            "000A 0018 6553F100 00000001 00000007 | 0002 0008 0002 0000",
-            "",
-        ),
-        (
-            "000A 0021 6553F100 00000000 00000007 | 0100 0011 6553F100 06 000005DC 0000000A",
-            "",
-        ),
-    ] {
-        assert!(rt;
-            read(rt, &mut templates, text)?.as_str() == want,
-            "at {text}"
-        );
+const IN_TURN: [(&str, &str); 11] = [
+    (PLAIN, "[256 150=6553f100 4=06 1=000005dc 2=0000000a]"),
+    // Twelve octets are padding, thirteen are a record.
+    (
+        "000A 002D 6553F100 00000000 00000007 | 0100 001D 6553F100 06 000005DC 0000000A FFFFFFFFFFFFFFFFFFFFFFFF",
+        "[256 150=6553f100 4=06 1=000005dc 2=0000000a]",
+    ),
+    (
+        "000A 002E 6553F100 00000000 00000007 | 0100 001E 6553F100 06 000005DC 0000000A 00000000000000000000000000",
+        "[256 150=6553f100 4=06 1=000005dc 2=0000000a][256 150=00000000 4=00 1=00000000 2=00000000]",
+    ),
+    // Both spellings of a length.
+    (
+        "000A 0036 6553F100 00000000 00000007 | 0002 0010 012C 0002 0001 0004 00D2 FFFF | \
+         012C 0016 00000064 03 AABBCC 00000064 FF 0003 AABBCC",
+        "[300 1=00000064 210=aabbcc][300 1=00000064 210=aabbcc]",
+    ),
+    // No Set.
+    ("000A 0010 6553F100 00000000 00000007", ""),
+    (
+        "000A 001C 6553F100 00000000 00000007 | 0002 000C 0003 0001 0001 0004",
+        "6 TemplateId 20",
+    ),
+    (
+        "000A 0018 6553F100 00000000 00000007 | 0002 0008 0100 0001",
+        "5 TemplateCut 20",
+    ),
+    (
+        "000A 001E 6553F100 00000000 00000007 | 0003 000E 0102 0001 0000 0091 0002",
+        "7 ScopeCount 20",
+    ),
+    (
+        "000A 0024 6553F100 00000000 00000007 | 0002 000C 012C 0001 00D2 FFFF | 012C 0008 05AABBCC",
+        "8 RecordCut 32",
+    ),
+    // All Templates of the domain are withdrawn, and their data Sets have no records.
+    (
+        "000A 0018 6553F100 00000001 00000007 | 0002 0008 0002 0000",
+        "",
+    ),
+    (
+        "000A 0021 6553F100 00000000 00000007 | 0100 0011 6553F100 06 000005DC 0000000A",
+        "",
+    ),
+];
+
+/// Reads each message after the ones before it.
+fn read_in_turn(
+    rt: HostRuntime,
+    templates: &mut Templates,
+    messages: &[(&str, &str)],
+) -> Result<(), Fail> {
+    for (text, want) in messages {
+        let found = read(rt, templates, text)?;
+        if found.as_str() != *want {
+            return Err(Fail::new(format_args!("{found} at {text}")));
+        }
     }
     Ok(())
+}
+
+#[test]
+fn messages(rt: HostRuntime) -> Result<(), Fail> {
+    read_in_turn(rt, &mut Templates::new(rt.alloc()), IN_TURN.as_slice())
 }
 
 /// What judging a message answers where no template is in force.
@@ -184,16 +195,29 @@ fn defines_plain(rt: HostRuntime, templates: &Templates) -> Result<bool, AllocEr
     Ok(here.as_str() == "false 0 150/4 4/1 1/4 2/4" && none.is_empty())
 }
 
-#[test]
-fn definitions(rt: HostRuntime) -> Result<(), Fail> {
-    let mut templates = Templates::new(rt.alloc());
+/// Whether the template of `PLAIN` alone is in force in a copy.
+fn copy_defines_plain(rt: HostRuntime, templates: &Templates) -> Result<bool, AllocError> {
+    defines_plain(rt, &templates.try_copy()?)
+}
+
+/// Whether `PLAIN` is taken in, with its one record.
+fn take_plain(rt: HostRuntime, templates: &mut Templates) -> Result<bool, Fail> {
     let mut count = Count { records: 0 };
     let plain = decoded(rt, PLAIN)?;
-    assert!(rt; walked(rt, &mut templates, &plain, &mut count)?.is_ok());
-    assert!(rt; count.records == 1 && defines_plain(rt, &templates)?);
-    let copy = templates.try_copy()?;
-    assert!(rt; defines_plain(rt, &copy)?);
-    Ok(())
+    let taken = walked(rt, templates, &plain, &mut count)?.is_ok();
+    Ok(taken && count.records == 1)
+}
+
+/// Takes in `PLAIN`, and looks for its template.
+fn are_defined(rt: HostRuntime, templates: &mut Templates) -> Result<(), Fail> {
+    holds(take_plain(rt, templates)?, "a message with one record")?;
+    holds(defines_plain(rt, templates)?, "its template in force")?;
+    holds(copy_defines_plain(rt, templates)?, "its template in a copy")
+}
+
+#[test]
+fn definitions(rt: HostRuntime) -> Result<(), Fail> {
+    are_defined(rt, &mut Templates::new(rt.alloc()))
 }
 
 /// A message of this domain with one Set of templates, each of one field, from this ID on.
@@ -249,20 +273,44 @@ fn take_one_each(
     Ok(true)
 }
 
+/// Fills domain 7: 60,000 octets of template records, and one too many.
+fn a_domain_fills(rt: HostRuntime, templates: &mut Templates) -> Result<(), Fail> {
+    let fits = refusal(rt, templates, 7, 256, 7500)?;
+    holds(fits == None, "room for 7,500 templates")?;
+    let full = refusal(rt, templates, 7, 7756, 1)?;
+    holds(
+        full == Some(MessageError::TemplatesFull(7)),
+        "no room for one more",
+    )?;
+    holds(
+        is_defined(templates, 7, 7755) && !is_defined(templates, 7, 7756),
+        "7,500 templates and no more",
+    )
+}
+
+/// Fills the templates that have domain 7: 64 domains, and one too many.
+fn domains_fill(rt: HostRuntime, templates: &mut Templates) -> Result<(), Fail> {
+    holds(take_one_each(rt, templates, 8..71)?, "room for 64 domains")?;
+    let full = refusal(rt, templates, 71, 256, 1)?;
+    holds(
+        full == Some(MessageError::DomainsFull),
+        "no room for one more",
+    )?;
+    holds(
+        is_defined(templates, 70, 256) && !is_defined(templates, 71, 256),
+        "64 domains and no more",
+    )
+}
+
+/// Fills a domain, and behind it the domains.
+fn all_fill(rt: HostRuntime, templates: &mut Templates) -> Result<(), Fail> {
+    a_domain_fills(rt, templates)?;
+    domains_fill(rt, templates)
+}
+
 #[test]
 fn limits(rt: HostRuntime) -> Result<(), Fail> {
-    let mut templates = Templates::new(rt.alloc());
-    // 60,000 octets of template records
-    assert!(rt; refusal(rt, &mut templates, 7, 256, 7500)? == None);
-    let full = Some(MessageError::TemplatesFull(7));
-    assert!(rt; refusal(rt, &mut templates, 7, 7756, 1)? == full);
-    assert!(rt; is_defined(&templates, 7, 7755) && !is_defined(&templates, 7, 7756));
-    // 64 domains
-    assert!(rt; take_one_each(rt, &mut templates, 8..71)?);
-    let full = Some(MessageError::DomainsFull);
-    assert!(rt; refusal(rt, &mut templates, 71, 256, 1)? == full);
-    assert!(rt; is_defined(&templates, 70, 256) && !is_defined(&templates, 71, 256));
-    Ok(())
+    all_fill(rt, &mut Templates::new(rt.alloc()))
 }
 
 #[test]

@@ -1,6 +1,7 @@
 //! Templates restated.
 
 use flow_codec::{Templates, read_message, restated_templates, write_templates};
+use std::alloc::{AllocError, Global};
 use std::test::Fail;
 
 /// An Options Template with a scope field, and behind it a Template with a field of an enterprise, in domain 7.
@@ -17,21 +18,35 @@ const PREFIX: [u8; 54] = [
     0, 3, 0, 18, 1, 1, 0, 2, 0, 1, 0, 149, 0, 4, 0, 41, 0, 8,
 ];
 
+/// What templates restate behind a message, at second 5 with these numbers.
+fn restated(
+    alloc: Global,
+    templates: &mut Templates,
+    message: &[u8],
+    due: &[(u32, u32)],
+) -> Result<Vec<u8>, Fail> {
+    read_message(templates, alloc, message)?;
+    Ok(write_templates(templates, alloc, 5, due)?)
+}
+
+/// What is restated behind this message alone.
+fn restated_behind(alloc: Global, message: &[u8], due: &[(u32, u32)]) -> Result<Vec<u8>, Fail> {
+    restated(alloc, &mut Templates::new(alloc), message, due)
+}
+
+/// What is restated where no templates are in force.
+fn without_templates(alloc: Global) -> Result<Vec<u8>, AllocError> {
+    write_templates(&Templates::new(alloc), alloc, 5, [].as_slice())
+}
+
 #[test]
 fn templates_restated(rt: HostRuntime) -> Result<(), Fail> {
     restated_templates();
     let alloc = rt.alloc();
-    let mut templates = Templates::new(alloc);
-    let none = write_templates(&templates, alloc, 5, [].as_slice())?;
-    assert!(rt; none.is_empty());
-    let read = read_message(&mut templates, alloc, MESSAGE.as_slice());
-    assert!(rt; read.is_ok());
-    let prefix = write_templates(&templates, alloc, 5, [(8, 3), (7, 9)].as_slice())?;
+    assert!(rt; without_templates(alloc)?.is_empty());
+    let prefix = restated_behind(alloc, MESSAGE.as_slice(), [(8, 3), (7, 9)].as_slice())?;
     assert_eq!(rt; prefix.as_slice(), PREFIX.as_slice());
-    let mut again = Templates::new(alloc);
-    let read = read_message(&mut again, alloc, prefix.as_slice());
-    assert!(rt; read.is_ok());
-    let same = write_templates(&again, alloc, 5, [(7, 9)].as_slice())?;
+    let same = restated_behind(alloc, prefix.as_slice(), [(7, 9)].as_slice())?;
     assert_eq!(rt; same.as_slice(), PREFIX.as_slice());
     Ok(())
 }

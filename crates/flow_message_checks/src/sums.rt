@@ -1,10 +1,12 @@
 //! Flows and their sums, worked out by hand.
 
+use crate::holds::holds;
 use flow_codec::{
     DataRecord, Field, Header, Message, MessageError, Templates, WalkError, walk_message,
 };
 use flow_elements::{ElementId, Items};
 use flow_measure::{Flow, Flows, Key, Row, Rows, SumError, Sums, Totals, flows_of_message};
+use std::alloc::{AllocError, Global};
 use std::test::*;
 
 fn flow(start: u32, protocol: Option<u8>) -> Flow {
@@ -48,10 +50,8 @@ fn sums(rt: HostRuntime) -> Result<(), Fail> {
     Ok(())
 }
 
-/// Flows of domains and of intervals that take turns, so that many keys share a remembered place.
-#[test]
-fn keys_take_turns(rt: HostRuntime) -> Result<(), Fail> {
-    let mut rows = Rows::new(rt.alloc(), 300);
+/// Adds flows of domains and of intervals that take turns, so that many keys share a remembered place.
+fn add_turns(rows: &mut Rows) -> Result<(), SumError> {
     for start in [1700000000, 1700000100, 1699999799, 1700000099] {
         for domain in 0..130 {
             for protocol in [None, Some(0), Some(255)] {
@@ -62,7 +62,18 @@ fn keys_take_turns(rt: HostRuntime) -> Result<(), Fail> {
             }
         }
     }
-    let all = rows.in_span(rt.alloc(), 0, 1 << 32)?;
+    Ok(())
+}
+
+/// The rows of flows that take turns.
+fn rows_of_turns(alloc: Global, rows: &mut Rows) -> Result<Vec<Row>, Fail> {
+    add_turns(rows)?;
+    Ok(rows.in_span(alloc, 0, 1 << 32)?)
+}
+
+#[test]
+fn keys_take_turns(rt: HostRuntime) -> Result<(), Fail> {
+    let all = rows_of_turns(rt.alloc(), &mut Rows::new(rt.alloc(), 300))?;
     assert_eq!(rt; all.len(), 3 * 130 * 3);
     let mut place = 0;
     for (start, flows) in [(1699999500, 1), (1699999800, 2), (1700000100, 1)] {
@@ -82,17 +93,27 @@ fn keys_take_turns(rt: HostRuntime) -> Result<(), Fail> {
     Ok(())
 }
 
-#[test]
-fn widened(rt: HostRuntime) -> Result<(), Fail> {
-    let mut rows = one_flow(&rt)?;
-    rows.add(&flow(1699999200, Some(6)))?;
-    rows.add(&flow(1700002800, Some(6)))?;
+/// Flows of two hours, in rows of 3,600 seconds.
+fn wide_rows(alloc: Global, rows: &mut Rows) -> Result<Rows, Fail> {
+    for start in [1700000000, 1699999200, 1700002800] {
+        rows.add(&flow(start, Some(6)))?;
+    }
     if rows.width() != 300 {
         return Err(Fail::new("a width of 300 is wanted"));
     }
-    let wide = rows.widen(rt.alloc(), 3600)?;
-    assert_eq!(rt; wide.width(), 3600);
-    let all = wide.in_span(rt.alloc(), 0, 1 << 32)?;
+    Ok(rows.widen(alloc, 3600)?)
+}
+
+/// The width of rows that are widened, and all of them.
+fn widened_rows(alloc: Global) -> Result<(u32, Vec<Row>), Fail> {
+    let wide = wide_rows(alloc, &mut Rows::new(alloc, 300))?;
+    Ok((wide.width(), wide.in_span(alloc, 0, 1 << 32)?))
+}
+
+#[test]
+fn widened(rt: HostRuntime) -> Result<(), Fail> {
+    let (width, all) = widened_rows(rt.alloc())?;
+    assert_eq!(rt; width, 3600);
     assert_eq!(rt; all.len(), 2);
     assert_eq!(rt; all[0].key.start, 1699999200);
     assert_eq!(rt;
@@ -106,32 +127,64 @@ fn widened(rt: HostRuntime) -> Result<(), Fail> {
     Ok(())
 }
 
-/// Two rows that add each other in turn: their counts of flows are the numbers of Fibonacci.
-#[test]
-fn spent(rt: HostRuntime) -> Result<(), Fail> {
-    let mut a = one_flow(&rt)?;
-    let mut b = one_flow(&rt)?;
+/// What adding other rows answers.
+fn merged(rows: &mut Rows, other: &Rows) -> Result<Result<(), SumError>, Fail> {
+    if rows.width() != other.width() {
+        return Err(Fail::new("equal widths are wanted"));
+    }
+    Ok(rows.merge(other))
+}
+
+/// Adds two rows to each other in turn, until a sum is spent.
+fn add_in_turn(a: &mut Rows, b: &mut Rows) -> Result<(), Fail> {
     for turn in 1..93u32 {
-        if a.width() != b.width() {
-            return Err(Fail::new("equal widths are wanted"));
-        }
         let added = if turn % 2 == 1 {
-            a.merge(&b)
+            merged(a, b)?
         } else {
-            b.merge(&a)
+            merged(b, a)?
         };
         if turn < 92 {
             added?;
         } else {
-            assert_eq!(rt; added, Err(SumError::SumSpent));
+            holds(added == Err(SumError::SumSpent), "a sum that is spent")?;
         }
     }
-    let a = a.in_span(rt.alloc(), 0, 1 << 32)?;
-    assert_eq!(rt; a.len(), 1);
-    assert_eq!(rt; a[0].sums.flows, 12200160415121876738);
-    let b = b.in_span(rt.alloc(), 0, 1 << 32)?;
-    assert_eq!(rt; b.len(), 1);
-    assert_eq!(rt; b[0].sums.flows, 7540113804746346429);
+    Ok(())
+}
+
+/// The count of flows in the only row.
+fn count_of(alloc: Global, rows: &Rows) -> Result<Option<u64>, AllocError> {
+    let all = rows.in_span(alloc, 0, 1 << 32)?;
+    Ok(match all.as_slice() {
+        [row] => Some(row.sums.flows),
+        _ => None,
+    })
+}
+
+/// The counts of flows of two rows of one flow, behind adding them in turn.
+fn counts_in_turn(
+    alloc: Global,
+    a: &mut Rows,
+    b: &mut Rows,
+) -> Result<(Option<u64>, Option<u64>), Fail> {
+    a.add(&flow(1700000000, Some(6)))?;
+    b.add(&flow(1700000000, Some(6)))?;
+    add_in_turn(a, b)?;
+    Ok((count_of(alloc, a)?, count_of(alloc, b)?))
+}
+
+/// The same, from no rows on.
+fn spent_counts(alloc: Global) -> Result<(Option<u64>, Option<u64>), Fail> {
+    let mut b = Rows::new(alloc, 300);
+    counts_in_turn(alloc, &mut Rows::new(alloc, 300), &mut b)
+}
+
+/// Two rows that add each other in turn: their counts of flows are the numbers of Fibonacci.
+#[test]
+fn spent(rt: HostRuntime) -> Result<(), Fail> {
+    let (a, b) = spent_counts(rt.alloc())?;
+    assert_eq!(rt; a, Some(12200160415121876738));
+    assert_eq!(rt; b, Some(7540113804746346429));
     Ok(())
 }
 
@@ -189,20 +242,39 @@ const LAST: [u8; 48] = [
     0x00, 0x00, 0x03, 0xE7, 0xFF, 0xFF, 0xFF, 0xFF, 0x00, 0x00, 0x00, 0x01,
 ];
 
-/// The rows of messages, by intervals of 300 seconds.
-fn rows_of(rt: &HostRuntime, messages: &[&[u8]]) -> Result<Vec<Row>, Fail> {
-    let mut templates = Templates::new(rt.alloc());
-    let mut totals = Totals {
-        rows: Rows::new(rt.alloc(), 300),
-    };
-    for octets in messages {
-        match walk_message(&mut templates, rt.alloc(), octets, &mut totals) {
-            Ok(_) => {}
-            Err(WalkError::Message(fault)) => return Err(fault)?,
-            Err(WalkError::Sink(error)) => return Err(error)?,
-        }
+/// Takes in a message.
+fn take(
+    alloc: Global,
+    templates: &mut Templates,
+    totals: &mut Totals,
+    octets: &[u8],
+) -> Result<(), Fail> {
+    match walk_message(templates, alloc, octets, totals) {
+        Ok(_) => Ok(()),
+        Err(WalkError::Message(fault)) => Err(Fail::from(fault)),
+        Err(WalkError::Sink(error)) => Err(Fail::from(error)),
     }
-    Ok(totals.rows.in_span(rt.alloc(), 0, 1 << 32)?)
+}
+
+/// Takes in messages one after the other, and lists the rows.
+fn take_all(
+    alloc: Global,
+    templates: &mut Templates,
+    totals: &mut Totals,
+    messages: &[&[u8]],
+) -> Result<Vec<Row>, Fail> {
+    for octets in messages {
+        take(alloc, templates, totals, octets)?;
+    }
+    Ok(totals.rows.in_span(alloc, 0, 1 << 32)?)
+}
+
+/// The rows of messages, by intervals of 300 seconds.
+fn rows_of(alloc: Global, messages: &[&[u8]]) -> Result<Vec<Row>, Fail> {
+    let mut totals = Totals {
+        rows: Rows::new(alloc, 300),
+    };
+    take_all(alloc, &mut Templates::new(alloc), &mut totals, messages)
 }
 
 fn row(start: u32, protocol: Option<u8>, flows: u64, octets: u128, packets: u128) -> Row {
@@ -223,7 +295,7 @@ fn row(start: u32, protocol: Option<u8>, flows: u64, octets: u128, packets: u128
 
 #[test]
 fn one_record(rt: HostRuntime) -> Result<(), Fail> {
-    let rows = rows_of(&rt, &[&PLAIN])?;
+    let rows = rows_of(rt.alloc(), &[&PLAIN])?;
     assert_eq!(rt;
         rows.as_slice(),
         [row(1699999800, Some(6), 1, 1500, 10)].as_slice()
@@ -233,7 +305,7 @@ fn one_record(rt: HostRuntime) -> Result<(), Fail> {
 
 #[test]
 fn redefined(rt: HostRuntime) -> Result<(), Fail> {
-    let rows = rows_of(&rt, &[&PLAIN, &REDEFINED])?;
+    let rows = rows_of(rt.alloc(), &[&PLAIN, &REDEFINED])?;
     assert_eq!(rt;
         rows.as_slice(),
         [row(1699999800, Some(6), 2, 3000, 20)].as_slice()
@@ -243,7 +315,7 @@ fn redefined(rt: HostRuntime) -> Result<(), Fail> {
 
 #[test]
 fn both_spellings(rt: HostRuntime) -> Result<(), Fail> {
-    let rows = rows_of(&rt, &[&SPELLINGS])?;
+    let rows = rows_of(rt.alloc(), &[&SPELLINGS])?;
     assert_eq!(rt;
         rows.as_slice(),
         [row(1699999800, None, 2, 200, 0)].as_slice()
@@ -253,7 +325,7 @@ fn both_spellings(rt: HostRuntime) -> Result<(), Fail> {
 
 #[test]
 fn greatest_sums(rt: HostRuntime) -> Result<(), Fail> {
-    let rows = rows_of(&rt, &[&GREATEST])?;
+    let rows = rows_of(rt.alloc(), &[&GREATEST])?;
     assert_eq!(rt;
         rows.as_slice(),
         [row(1699999800, None, 2, 36893488147419103230, 0)].as_slice()
@@ -263,12 +335,12 @@ fn greatest_sums(rt: HostRuntime) -> Result<(), Fail> {
 
 #[test]
 fn starts_in_milliseconds(rt: HostRuntime) -> Result<(), Fail> {
-    let late = rows_of(&rt, &[&LATE])?;
+    let late = rows_of(rt.alloc(), &[&LATE])?;
     assert_eq!(rt;
         late.as_slice(),
         [row(1699999800, None, 1, 1, 0)].as_slice()
     );
-    let last = rows_of(&rt, &[&LAST])?;
+    let last = rows_of(rt.alloc(), &[&LAST])?;
     assert_eq!(rt;
         last.as_slice(),
         [row(4294967100, None, 1, 1, 0)].as_slice()
@@ -276,14 +348,18 @@ fn starts_in_milliseconds(rt: HostRuntime) -> Result<(), Fail> {
     Ok(())
 }
 
+/// Takes the flows of `PLAIN`.
+fn take_flows(alloc: Global, templates: &mut Templates, flows: &mut Flows) -> Result<(), Fail> {
+    walk_message(templates, alloc, &PLAIN, flows).map_err(MessageError::from)?;
+    let wanted = [flow(1700000000, Some(6))];
+    holds(flows.flows.as_slice() == wanted.as_slice(), "one flow")
+}
+
 #[test]
 fn flows(rt: HostRuntime) -> Result<(), Fail> {
-    let mut templates = Templates::new(rt.alloc());
-    let mut flows = Flows::new(rt.alloc());
-    walk_message(&mut templates, rt.alloc(), &PLAIN, &mut flows).map_err(MessageError::from)?;
-    let wanted = [flow(1700000000, Some(6))];
-    assert_eq!(rt; flows.flows.as_slice(), wanted.as_slice());
-    Ok(())
+    let alloc = rt.alloc();
+    let mut flows = Flows::new(alloc);
+    take_flows(alloc, &mut Templates::new(alloc), &mut flows)
 }
 
 /// A record of these elements, each with its octets.
