@@ -1,11 +1,11 @@
 //! Messages whose reading was worked out by hand, octet by octet.
 
-use crate::holds::holds;
+use crate::holds::{holds, told};
 use flow_codec::{
     Count, Definition, Header, Message, MessageError, Templates, WalkError, judge_message,
     read_message, split_field, walk_message,
 };
-use std::alloc::AllocError;
+use std::alloc::{AllocError, Global};
 use std::fmt::Write;
 use std::ops::Range;
 use std::test::*;
@@ -141,10 +141,18 @@ fn messages(rt: HostRuntime) -> Result<(), Fail> {
     read_in_turn(rt, &mut Templates::new(rt.alloc()), IN_TURN.as_slice())
 }
 
-/// What judging a message answers where no template is in force.
+/// What judging a message is refused by.
+fn judge(
+    alloc: Global,
+    templates: &Templates,
+    octets: &[u8],
+) -> Result<Option<MessageError>, AllocError> {
+    Ok(answered(judge_message(templates, alloc, octets))?.err())
+}
+
+/// What judging a message is refused by where no template is in force.
 fn judged(rt: HostRuntime, octets: &[u8]) -> Result<Option<MessageError>, AllocError> {
-    let alloc = rt.alloc();
-    Ok(answered(judge_message(&Templates::new(alloc), alloc, octets))?.err())
+    judge(rt.alloc(), &Templates::new(rt.alloc()), octets)
 }
 
 /// What the front of a message of this length, with its own Length, is refused by.
@@ -345,7 +353,7 @@ fn texts_of_faults(rt: HostRuntime) -> Result<(), Fail> {
         (MessageError::DomainsFull, "10 DomainsFull"),
         (MessageError::OutOfMemory, "11 OutOfMemory"),
     ] {
-        assert_eq!(rt; format!(in rt.alloc(); "{fault}")?.as_str(), want);
+        told(rt.alloc(), Some(fault), want)?;
     }
     Ok(())
 }

@@ -1,7 +1,8 @@
 //! Files read from a stream, in pieces and with failed reads.
 
+use crate::holds::{holds, told};
 use flow_codec::{FileError, MessageReader, StreamError, split_file};
-use std::alloc::Global;
+use std::alloc::{AllocError, Global};
 use std::io;
 use std::io::{ErrorKind, Read};
 use std::test::Fail;
@@ -85,65 +86,89 @@ fn read_all<R: Read + Drop>(
     Ok((0, None))
 }
 
-#[test]
-fn reads_in_pieces(rt: HostRuntime) -> Result<(), Fail> {
-    let alloc = rt.alloc();
-    let mut file = Vec::new(alloc);
+/// Puts the longest message that there is, and three more.
+fn put_four(file: &mut Vec<u8>) -> Result<(), AllocError> {
     file.extend_from_slice(header(10, 65_535).as_slice())?;
     file.resize(65_535, 3)?;
     file.extend_from_slice(FLOW.as_slice())?;
     file.extend_from_slice(header(10, 16).as_slice())?;
     file.extend_from_slice(FLOW.as_slice())?;
+    Ok(())
+}
+
+/// Reads a File of four messages in pieces.
+fn read_four(alloc: Global, file: &[u8], piece: usize, interrupts: u32) -> Result<(), Fail> {
+    let mut octets = Vec::new(alloc);
+    let ended = read_all(alloc, Pieces::of(file, piece, interrupts), &mut octets)?;
+    if ended == (4, None) && octets.as_slice() == file {
+        return Ok(());
+    }
+    Err(Fail::new(format_args!("{ended:?} in pieces of {piece}")))
+}
+
+#[test]
+fn reads_in_pieces(rt: HostRuntime) -> Result<(), Fail> {
+    let mut file = Vec::new(rt.alloc());
+    put_four(&mut file)?;
     for piece in [1, 7, 65_536] {
         for interrupts in [0, 1] {
-            let mut octets = Vec::new(alloc);
-            let input = Pieces::of(file.as_slice(), piece, interrupts);
-            let ended = read_all(alloc, input, &mut octets)?;
-            assert_eq!(rt; ended, (4, None), "in pieces of {piece}");
-            assert_eq!(rt; octets.as_slice(), file.as_slice());
+            read_four(rt.alloc(), file.as_slice(), piece, interrupts)?;
         }
     }
     Ok(())
 }
 
+/// Reads one message, and the end behind it.
+fn read_one(reader: &mut MessageReader, input: &mut &[u8]) -> Result<(), Fail> {
+    holds(reader.advance(input) == Ok(true), "a message")?;
+    holds(reader.message() == FLOW.as_slice(), "a flow")?;
+    holds(
+        reader.count() == 1 && reader.at() == 57,
+        "one message of 57 octets",
+    )?;
+    holds(reader.advance(input) == Ok(false), "the end")?;
+    holds(input.is_empty(), "no more octets")
+}
+
 #[test]
 fn reads_from_a_slice(rt: HostRuntime) -> Result<(), Fail> {
-    let alloc = rt.alloc();
-    let mut input = FLOW.as_slice();
-    let mut reader = MessageReader::new(alloc)?;
-    assert_eq!(rt; reader.advance(&mut input), Ok(true));
-    assert_eq!(rt; reader.message(), FLOW.as_slice());
-    assert_eq!(rt; (reader.count(), reader.at()), (1, 57));
-    assert_eq!(rt; reader.advance(&mut input), Ok(false));
-    assert!(rt; input.is_empty());
+    let mut reader = MessageReader::new(rt.alloc())?;
+    read_one(&mut reader, &mut FLOW.as_slice())
+}
+
+/// Puts two messages.
+fn put_two(file: &mut Vec<u8>) -> Result<(), AllocError> {
+    file.extend_from_slice(FLOW.as_slice())?;
+    file.extend_from_slice(header(10, 16).as_slice())?;
     Ok(())
+}
+
+/// Reads so many pieces of a File of two messages, and fails.
+fn read_cut(alloc: Global, file: &[u8], pieces_left: usize) -> Result<(), Fail> {
+    let mut octets = Vec::new(alloc);
+    let mut input = Pieces::of(file, 7, 1);
+    input.pieces_left = pieces_left;
+    let (count, error) = read_all(alloc, input, &mut octets)?;
+    // Of 7 octets a piece, 9 pieces hold the first message, and 11 both.
+    let whole = if pieces_left < 9 {
+        0
+    } else if pieces_left < 11 {
+        1
+    } else {
+        2
+    };
+    if count != whole {
+        return Err(Fail::new(format_args!("{count} messages in {pieces_left} pieces")));
+    }
+    told(alloc, error, "31 Read")
 }
 
 #[test]
 fn a_failed_read_stands_for_a_cut(rt: HostRuntime) -> Result<(), Fail> {
-    let alloc = rt.alloc();
-    let mut file = Vec::new(alloc);
-    file.extend_from_slice(FLOW.as_slice())?;
-    file.extend_from_slice(header(10, 16).as_slice())?;
+    let mut file = Vec::new(rt.alloc());
+    put_two(&mut file)?;
     for pieces_left in 0..12 {
-        let mut octets = Vec::new(alloc);
-        let mut input = Pieces::of(file.as_slice(), 7, 1);
-        input.pieces_left = pieces_left;
-        let (count, error) = read_all(alloc, input, &mut octets)?;
-        // Of 7 octets a piece, 9 pieces hold the first message, and 11 both.
-        let whole = if pieces_left < 9 {
-            0
-        } else if pieces_left < 11 {
-            1
-        } else {
-            2
-        };
-        assert_eq!(rt; count, whole, "{pieces_left} pieces");
-        let Some(error) = error else {
-            assert!(rt; false, "{pieces_left} pieces");
-            return Ok(());
-        };
-        assert_eq!(rt; format!(in alloc; "{error}")?.as_str(), "31 Read");
+        read_cut(rt.alloc(), file.as_slice(), pieces_left)?;
     }
     Ok(())
 }
@@ -166,47 +191,43 @@ fn gives_up_at_the_millionth_interrupt(rt: HostRuntime) -> Result<(), Fail> {
     Ok(())
 }
 
+/// Reads a File in pieces up to its fault.
+fn read_fault(alloc: Global, file: &[u8], piece: usize, want: &str) -> Result<(), Fail> {
+    let mut octets = Vec::new(alloc);
+    let (_, error) = read_all(alloc, Pieces::of(file, piece, 0), &mut octets)?;
+    told(alloc, error, want)
+}
+
+/// The fault of a File as a whole; a test ends where memory ran out.
+fn split_fault(alloc: Global, file: &[u8]) -> Result<Option<FileError>, FileError> {
+    match split_file(alloc, file).err() {
+        Some(FileError::OutOfMemory) => Err(FileError::OutOfMemory),
+        fault => Ok(fault),
+    }
+}
+
+/// Reads a File of these parts up to its fault, in pieces and as a whole.
+fn find_fault(alloc: Global, parts: [&[u8]; 3], want: &str) -> Result<(), Fail> {
+    let mut file = Vec::new(alloc);
+    for part in parts {
+        file.extend_from_slice(part)?;
+    }
+    for piece in [1, 7, 65_536] {
+        read_fault(alloc, file.as_slice(), piece, want)?;
+    }
+    told(alloc, split_fault(alloc, file.as_slice())?, want)
+}
+
 #[test]
 fn faults_stand_behind_the_messages(rt: HostRuntime) -> Result<(), Fail> {
     let alloc = rt.alloc();
     let other_version = header(9, 16);
     let short_length = header(10, 15);
     let past_the_end = header(10, 17);
-    for (front, back, want) in [
-        (&FLOW[..56], [].as_slice(), "15 Cut 0"),
-        (FLOW.as_slice(), [0].as_slice(), "15 Cut 57"),
-        (FLOW.as_slice(), other_version.as_slice(), "16 Version 57"),
-        (FLOW.as_slice(), short_length.as_slice(), "17 Length 57"),
-        (FLOW.as_slice(), past_the_end.as_slice(), "15 Cut 57"),
-    ] {
-        let mut file = Vec::new(alloc);
-        file.extend_from_slice(front)?;
-        file.extend_from_slice(back)?;
-        if want == "16 Version 57" {
-            file.push(0)?;
-        }
-        for piece in [1, 7, 65_536] {
-            let mut octets = Vec::new(alloc);
-            let input = Pieces::of(file.as_slice(), piece, 0);
-            let (_, error) = read_all(alloc, input, &mut octets)?;
-            let Some(error) = error else {
-                assert!(rt; false, "{want}");
-                return Ok(());
-            };
-            assert_eq!(rt; format!(in alloc; "{error}")?.as_str(), want);
-        }
-        let Err(fault) = split_file(alloc, file.as_slice()) else {
-            assert!(rt; false, "{want}");
-            return Ok(());
-        };
-        if fault == FileError::OutOfMemory {
-            return Err(fault)?;
-        }
-        assert_eq!(rt; format!(in alloc; "{fault}")?.as_str(), want);
-    }
-    assert_eq!(rt;
-        format!(in alloc; "{}", StreamError::NumbersSpent)?.as_str(),
-        "25 NumbersSpent"
-    );
-    Ok(())
+    find_fault(alloc, [&FLOW[..56], &[], &[]], "15 Cut 0")?;
+    find_fault(alloc, [&FLOW, &[0], &[]], "15 Cut 57")?;
+    find_fault(alloc, [&FLOW, &other_version, &[0]], "16 Version 57")?;
+    find_fault(alloc, [&FLOW, &short_length, &[]], "17 Length 57")?;
+    find_fault(alloc, [&FLOW, &past_the_end, &[]], "15 Cut 57")?;
+    told(alloc, Some(StreamError::NumbersSpent), "25 NumbersSpent")
 }

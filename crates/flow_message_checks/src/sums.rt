@@ -1,6 +1,6 @@
 //! Flows and their sums, worked out by hand.
 
-use crate::holds::holds;
+use crate::holds::{holds, told};
 use flow_codec::{
     DataRecord, Field, Header, Message, MessageError, Templates, WalkError, walk_message,
 };
@@ -19,35 +19,68 @@ fn flow(start: u32, protocol: Option<u8>) -> Flow {
     }
 }
 
-fn one_flow(rt: &HostRuntime) -> Result<Rows, SumError> {
-    let mut rows = Rows::new(rt.alloc(), 300);
-    rows.add(&flow(1700000000, Some(6)))?;
-    Ok(rows)
+fn row(start: u32, protocol: Option<u8>, flows: u64, octets: u128, packets: u128) -> Row {
+    Row {
+        key: Key {
+            start,
+            domain: 7,
+            protocol,
+        },
+        sums: Sums {
+            flows,
+            octets,
+            packets,
+        },
+        width: 300,
+    }
+}
+
+/// Whether these are all rows that start within a span.
+fn are_rows(
+    alloc: Global,
+    rows: &Rows,
+    from: u64,
+    to: u64,
+    wanted: &[Row],
+) -> Result<bool, AllocError> {
+    Ok(rows.in_span(alloc, from, to)?.as_slice() == wanted)
+}
+
+/// Flows of two intervals.
+fn add_flows(rows: &mut Rows) -> Result<(), SumError> {
+    for (start, protocol) in [
+        (1700000000, Some(6)),
+        (1699999800, None),
+        (1700000099, Some(6)),
+        (1700000100, Some(6)),
+    ] {
+        rows.add(&flow(start, protocol))?;
+    }
+    Ok(())
+}
+
+/// Adds flows, and lists their rows in three spans.
+fn list_spans(alloc: Global, rows: &mut Rows) -> Result<(), Fail> {
+    add_flows(rows)?;
+    let wanted = [
+        row(1699999800, None, 1, 1500, 10),
+        row(1699999800, Some(6), 2, 3000, 20),
+        row(1700000100, Some(6), 1, 1500, 10),
+    ];
+    holds(are_rows(alloc, rows, 0, 1 << 32, &wanted)?, "three rows")?;
+    holds(
+        are_rows(alloc, rows, 1699999800, 1700000100, &wanted[..2])?,
+        "the rows of the first interval",
+    )?;
+    holds(
+        are_rows(alloc, rows, 1699999801, 1700000101, &wanted[2..])?,
+        "the row of the second interval",
+    )
 }
 
 #[test]
 fn sums(rt: HostRuntime) -> Result<(), Fail> {
-    let mut rows = one_flow(&rt)?;
-    rows.add(&flow(1699999800, None))?;
-    rows.add(&flow(1700000099, Some(6)))?;
-    rows.add(&flow(1700000100, Some(6)))?;
-    let all = rows.in_span(rt.alloc(), 0, 1 << 32)?;
-    assert_eq!(rt; all.len(), 3);
-    assert_eq!(rt; all[0].key.protocol, None);
-    assert_eq!(rt; all[1].key.start, 1699999800);
-    assert_eq!(rt;
-        all[1].sums,
-        Sums {
-            flows: 2,
-            octets: 3000,
-            packets: 20
-        }
-    );
-    assert_eq!(rt; all[2].key.start, 1700000100);
-    assert_eq!(rt; all[2].width, 300);
-    assert_eq!(rt; rows.in_span(rt.alloc(), 1699999800, 1700000100)?.len(), 2);
-    assert_eq!(rt; rows.in_span(rt.alloc(), 1699999801, 1700000101)?.len(), 1);
-    Ok(())
+    list_spans(rt.alloc(), &mut Rows::new(rt.alloc(), 300))
 }
 
 /// Adds flows of domains and of intervals that take turns, so that many keys share a remembered place.
@@ -104,27 +137,26 @@ fn wide_rows(alloc: Global, rows: &mut Rows) -> Result<Rows, Fail> {
     Ok(rows.widen(alloc, 3600)?)
 }
 
-/// The width of rows that are widened, and all of them.
-fn widened_rows(alloc: Global) -> Result<(u32, Vec<Row>), Fail> {
-    let wide = wide_rows(alloc, &mut Rows::new(alloc, 300))?;
-    Ok((wide.width(), wide.in_span(alloc, 0, 1 << 32)?))
+/// Looks at the rows of 3,600 seconds.
+fn are_wide(alloc: Global, wide: &Rows) -> Result<(), Fail> {
+    let wanted = [
+        Row {
+            width: 3600,
+            ..row(1699999200, Some(6), 2, 3000, 20)
+        },
+        Row {
+            width: 3600,
+            ..row(1700002800, Some(6), 1, 1500, 10)
+        },
+    ];
+    holds(wide.width() == 3600, "a width of 3,600")?;
+    holds(are_rows(alloc, wide, 0, 1 << 32, &wanted)?, "two rows")
 }
 
 #[test]
 fn widened(rt: HostRuntime) -> Result<(), Fail> {
-    let (width, all) = widened_rows(rt.alloc())?;
-    assert_eq!(rt; width, 3600);
-    assert_eq!(rt; all.len(), 2);
-    assert_eq!(rt; all[0].key.start, 1699999200);
-    assert_eq!(rt;
-        all[0].sums,
-        Sums {
-            flows: 2,
-            octets: 3000,
-            packets: 20
-        }
-    );
-    Ok(())
+    let wide = wide_rows(rt.alloc(), &mut Rows::new(rt.alloc(), 300))?;
+    are_wide(rt.alloc(), &wide)
 }
 
 /// What adding other rows answers.
@@ -190,11 +222,8 @@ fn spent(rt: HostRuntime) -> Result<(), Fail> {
 
 #[test]
 fn errors(rt: HostRuntime) -> Result<(), Fail> {
-    let spent = format!(in rt.alloc(); "{}", SumError::SumSpent)?;
-    assert_eq!(rt; spent.as_str(), "14 SumSpent");
-    let memory = format!(in rt.alloc(); "{}", SumError::OutOfMemory)?;
-    assert_eq!(rt; memory.as_str(), "11 OutOfMemory");
-    Ok(())
+    told(rt.alloc(), Some(SumError::SumSpent), "14 SumSpent")?;
+    told(rt.alloc(), Some(SumError::OutOfMemory), "11 OutOfMemory")
 }
 
 /// One template and one record of it.
@@ -277,75 +306,42 @@ fn rows_of(alloc: Global, messages: &[&[u8]]) -> Result<Vec<Row>, Fail> {
     take_all(alloc, &mut Templates::new(alloc), &mut totals, messages)
 }
 
-fn row(start: u32, protocol: Option<u8>, flows: u64, octets: u128, packets: u128) -> Row {
-    Row {
-        key: Key {
-            start,
-            domain: 7,
-            protocol,
-        },
-        sums: Sums {
-            flows,
-            octets,
-            packets,
-        },
-        width: 300,
-    }
+/// Takes in messages, and looks for their only row.
+fn sums_to(alloc: Global, messages: &[&[u8]], wanted: Row) -> Result<(), Fail> {
+    let rows = rows_of(alloc, messages)?;
+    holds(rows.as_slice() == [wanted].as_slice(), "this row alone")
 }
 
 #[test]
 fn one_record(rt: HostRuntime) -> Result<(), Fail> {
-    let rows = rows_of(rt.alloc(), &[&PLAIN])?;
-    assert_eq!(rt;
-        rows.as_slice(),
-        [row(1699999800, Some(6), 1, 1500, 10)].as_slice()
-    );
-    Ok(())
+    let wanted = row(1699999800, Some(6), 1, 1500, 10);
+    sums_to(rt.alloc(), &[&PLAIN], wanted)
 }
 
 #[test]
 fn redefined(rt: HostRuntime) -> Result<(), Fail> {
-    let rows = rows_of(rt.alloc(), &[&PLAIN, &REDEFINED])?;
-    assert_eq!(rt;
-        rows.as_slice(),
-        [row(1699999800, Some(6), 2, 3000, 20)].as_slice()
-    );
-    Ok(())
+    let wanted = row(1699999800, Some(6), 2, 3000, 20);
+    sums_to(rt.alloc(), &[&PLAIN, &REDEFINED], wanted)
 }
 
 #[test]
 fn both_spellings(rt: HostRuntime) -> Result<(), Fail> {
-    let rows = rows_of(rt.alloc(), &[&SPELLINGS])?;
-    assert_eq!(rt;
-        rows.as_slice(),
-        [row(1699999800, None, 2, 200, 0)].as_slice()
-    );
-    Ok(())
+    let wanted = row(1699999800, None, 2, 200, 0);
+    sums_to(rt.alloc(), &[&SPELLINGS], wanted)
 }
 
 #[test]
 fn greatest_sums(rt: HostRuntime) -> Result<(), Fail> {
-    let rows = rows_of(rt.alloc(), &[&GREATEST])?;
-    assert_eq!(rt;
-        rows.as_slice(),
-        [row(1699999800, None, 2, 36893488147419103230, 0)].as_slice()
-    );
-    Ok(())
+    let wanted = row(1699999800, None, 2, 36893488147419103230, 0);
+    sums_to(rt.alloc(), &[&GREATEST], wanted)
 }
 
 #[test]
 fn starts_in_milliseconds(rt: HostRuntime) -> Result<(), Fail> {
-    let late = rows_of(rt.alloc(), &[&LATE])?;
-    assert_eq!(rt;
-        late.as_slice(),
-        [row(1699999800, None, 1, 1, 0)].as_slice()
-    );
-    let last = rows_of(rt.alloc(), &[&LAST])?;
-    assert_eq!(rt;
-        last.as_slice(),
-        [row(4294967100, None, 1, 1, 0)].as_slice()
-    );
-    Ok(())
+    let late = row(1699999800, None, 1, 1, 0);
+    sums_to(rt.alloc(), &[&LATE], late)?;
+    let last = row(4294967100, None, 1, 1, 0);
+    sums_to(rt.alloc(), &[&LAST], last)
 }
 
 /// Takes the flows of `PLAIN`.
@@ -380,6 +376,26 @@ fn record(rt: &HostRuntime, elements: &[(u16, &[u8])]) -> Result<DataRecord, Fai
     })
 }
 
+/// A message in fields of one record of these elements.
+fn message(rt: &HostRuntime, elements: &[(u16, &[u8])]) -> Result<Message, Fail> {
+    let mut records = Vec::new(rt.alloc());
+    records.push(record(rt, elements)?)?;
+    Ok(Message {
+        header: Header {
+            length: 0,
+            time: 1700000000,
+            sequence: 0,
+            domain: 7,
+        },
+        records: Items::from_vec(records),
+    })
+}
+
+/// Whether this is the only flow of a message in fields.
+fn has_one_flow(alloc: Global, message: &Message, wanted: Flow) -> Result<bool, AllocError> {
+    Ok(flows_of_message(alloc, message)?.as_slice() == [wanted].as_slice())
+}
+
 /// A message in fields: elements that come twice, and one of a length that doesn't count.
 #[test]
 fn flows_by_fields(rt: HostRuntime) -> Result<(), Fail> {
@@ -391,19 +407,7 @@ fn flows_by_fields(rt: HostRuntime) -> Result<(), Fail> {
         (1, &[9]),
         (4, &[17]),
     ];
-    let mut records = Vec::new(rt.alloc());
-    records.push(record(&rt, &elements)?)?;
-    let message = Message {
-        header: Header {
-            length: 0,
-            time: 1700000000,
-            sequence: 0,
-            domain: 7,
-        },
-        records: Items::from_vec(records),
-    };
-    let flows = flows_of_message(rt.alloc(), &message)?;
-    let wanted = [flow(1700000000, Some(6))];
-    assert_eq!(rt; flows.as_slice(), wanted.as_slice());
+    let message = message(&rt, &elements)?;
+    assert!(rt; has_one_flow(rt.alloc(), &message, flow(1700000000, Some(6)))?);
     Ok(())
 }
