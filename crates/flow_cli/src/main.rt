@@ -4,15 +4,10 @@
 //! fault; a refusal is that of the first fault by place.
 #![tactic(auto)]
 
-mod arguments;
-mod explaining;
-mod grammar;
-mod request;
-mod run;
-
-use run::run_line;
+use flow_commands::Progress;
+use flow_words::run_line;
 use std::env;
-use std::io::ErrorKind;
+use std::io::{ErrorKind, IsTerminal};
 use std::process::ExitCode;
 
 /// The status where no memory was found.
@@ -43,7 +38,16 @@ fn main(rt: HostRuntime) -> ExitCode {
     let mut input = rt.stdin();
     let mut output = rt.stdout();
     let mut errors = rt.stderr();
-    let status = run_line(&rt, words.as_slice(), &mut input, &mut output, &mut errors);
+    let terminal = errors.is_terminal().then_some(rt.stderr());
+    let mut progress = Progress::new(terminal);
+    let status = run_line(
+        &rt,
+        words.as_slice(),
+        &mut input,
+        &mut output,
+        &mut errors,
+        &mut progress,
+    );
     ExitCode::from(status)
 }
 

@@ -1,4 +1,5 @@
-use crate::run::run_line;
+use flow_commands::Progress;
+use flow_words::run_line;
 use std::alloc::{AllocError, Global};
 use std::io;
 use std::io::{ErrorKind, Read, Write};
@@ -36,19 +37,31 @@ pub(crate) struct Answer {
     pub(crate) told: Vec<u8>,
 }
 
-/// Runs these words, behind the program's name.
+/// Runs these words, behind the program's name, where standard error is no terminal.
 pub(crate) fn ran<R: Read, W: Write>(
     host: &HostRuntime,
     words: &[&str],
     input: &mut R,
     output: &mut W,
 ) -> Result<Answer, AllocError> {
+    let mut progress: Progress<Vec<u8>> = Progress::new(None);
+    ran_before(host, words, input, output, &mut progress)
+}
+
+/// Runs these words, where progress is shown.
+pub(crate) fn ran_before<R: Read, W: Write, P: Write + Drop>(
+    host: &HostRuntime,
+    words: &[&str],
+    input: &mut R,
+    output: &mut W,
+    progress: &mut Progress<P>,
+) -> Result<Answer, AllocError> {
     let alloc = host.alloc();
     let mut line = Vec::new(alloc);
     line.push("flowvault")?;
     line.extend_from_slice(words)?;
     let mut told = Vec::new(alloc);
-    let status = run_line(host, line.as_slice(), input, output, &mut told);
+    let status = run_line(host, line.as_slice(), input, output, &mut told, progress);
     Ok(Answer { status, told })
 }
 

@@ -1,6 +1,7 @@
 // What no clause says: Files that are fed to archives in real folders, which are rolled and merged.
-use crate::tests::{Narrow, PLAIN, answers, decoded, ran};
+use crate::tests::{Narrow, PLAIN, answers, decoded, ran, ran_before};
 use crate::tests_archive::{fresh, sealed_one, shorten};
+use flow_commands::Progress;
 use flow_folder::FolderDisk;
 use std::fs;
 use std::process::Abort;
@@ -286,6 +287,53 @@ fn a_line_that_is_not_written(rt: HostRuntime) -> Result<(), Fail> {
     let check = [done(&["check", "cli_mute"], "ok 1 0 0 0\n")];
     all_told(&rt, &rt, check.as_slice())?;
     without_files(&rt, "cli_mute")
+}
+
+/// The longest message and the plain one, 33 times: two mebibytes and more.
+fn large_file(rt: &HostRuntime, path: &str) -> Result<(), Fail> {
+    let alloc = rt.alloc();
+    let plain = decoded(alloc, PLAIN)?;
+    let head = decoded(alloc, LONGEST)?;
+    let mut octets = Vec::new(alloc);
+    for _ in 0..33 {
+        let end = octets.len() + 65_535;
+        octets.extend_from_slice(head.as_slice())?;
+        octets.resize(end, 0)?;
+        octets.extend_from_slice(plain.as_slice())?;
+    }
+    Ok(fs::write(rt, path, octets.as_slice())?)
+}
+
+/// Where standard error is a terminal, each mebibyte that is read is shown there, and cleared before the File's line.
+#[test]
+fn progress_before_a_terminal(rt: HostRuntime) -> Result<(), Fail> {
+    with_files(&rt, "cli_shown")?;
+    large_file(&rt, "cli_shown_files/large")?;
+    let make = [done(&["create", "cli_shown", "300"], "")];
+    all_told(&rt, &rt, make.as_slice())?;
+    let words = [
+        "feed",
+        "cli_shown",
+        "cli_shown_files/plain",
+        "cli_shown_files/large",
+    ];
+    let mut seen = Vec::new(rt.alloc());
+    let mut output = Vec::new(rt.alloc());
+    let mut progress = Progress::new(Some(&mut seen));
+    let got = ran_before(
+        &rt,
+        words.as_slice(),
+        &mut b"".as_slice(),
+        &mut output,
+        &mut progress,
+    )?;
+    drop(progress);
+    assert_eq!(rt; got.status, 0);
+    assert!(rt; got.told.is_empty());
+    assert_eq!(rt; output.as_slice(), b"fed 1 1\nfed 2 66\n".as_slice());
+    let shown = b"\rFile 2: 1 MiB read\rFile 2: 2 MiB read\r\x1b[K".as_slice();
+    assert_eq!(rt; seen.as_slice(), shown);
+    without_files(&rt, "cli_shown")
 }
 
 /// Numbers are digits alone; 1 to 8 Files.

@@ -14,6 +14,10 @@ use Rattle.flow_recover.specs.declared.error.RecoverError.{RecoverError}
 use Rattle.flow_recover.specs.declared.error.RecoverError.TheVariants as opening
 use Rattle.flow_feed.specs.declared.batch.Fed.{Fed}
 use Rattle.flow_feed.specs.declared.batch.FeedStop.{FeedStop}
+use Rattle.flow_feed.specs.declared.turn.Roller.{Roller}
+use Rattle.flow_feed.specs.Turns.{stopped_by}
+use Rattle.flow_feed.proofs.Taking.{or_none, or_then}
+use Rattle.flow_feed.proofs.Turning.{stopped_none, stopped_then}
 use Rattle.flow_report.specs.Writing.{AppendsFront}
 use Rattle.flow_commands.specs.declared.archive_refusal.ArchiveRefusal.{ArchiveRefusal}
 use Rattle.flow_commands.specs.declared.archive_refusal.ArchiveRefusal.TheVariants as refusal
@@ -68,41 +72,68 @@ kept_front (Some xs) (Some ys) text kept = (0, omega arith, kept ∙ sym (append
 
 -- ---- Files
 
--- Files that were fed so far, with their lines
+-- Files that were fed so far, with their lines, by a roller that has made its turns between them
 pub record IsUnderWay {D : Type 0} (honest : D → Bool) (moment : D → ℕ) (left_since : D → ℕ → (ℕ → List ℕ) → Type 0)
-    (old now : Seen D) (before after : Option (List ℕ)) (count : ℕ) (first : Option FeedStop) : Type 0 where
+    (old now : Seen D) (before after : Option (List ℕ)) (count : ℕ) (first : Option FeedStop) (start roller : Roller)
+    : Type 0 where
   pub feds : List Fed
-  pub fed : AreFed honest moment left_since old now feds
+  pub rolling : Option ArchiveError
+  pub fed : AreFed honest moment left_since old now feds rolling
+  pub roller_is : roller ≡ stopped_by start rolling
   pub lines : Appends before after (fed_lines 0 feds)
   pub count_is : count ≡ length feds
   pub first_is : first ≡ first_stop feds
 
 module _ {D : Type 0} (honest : D → Bool) (moment : D → ℕ) (left_since : D → ℕ → (ℕ → List ℕ) → Type 0) where
-  fed_then : (old mid new : Seen D) (feds : List Fed) (fed : Fed) → AreFed honest moment left_since old mid feds
-      → IsFileFed honest moment left_since mid new fed → AreFed honest moment left_since old new (feds ++ fed ∷ [])
-  fed_then old mid new [] fed first next =
-      (new, subst (λ (s : Seen D). IsFileFed honest moment left_since s new fed) first next, refl)
-  fed_then old mid new (x ∷ xs) fed first next =
-      (first.0, first.1, fed_then first.0 mid new xs fed first.2 next)
+  fed_then : (old mid new : Seen D) (feds : List Fed) (fed : Fed) (r s : Option ArchiveError)
+      → AreFed honest moment left_since old mid feds r → IsFileFed honest moment left_since mid new fed s
+      → AreFed honest moment left_since old new (feds ++ fed ∷ []) (option_or r s)
+  fed_then old mid new [] fed r s before next = (
+    new,
+    s,
+    None,
+    subst (λ (m : Seen D). IsFileFed honest moment left_since m new fed s) before.0 next,
+    (refl, refl),
+    ap (λ (o : Option ArchiveError). option_or o s) before.1 ∙ sym (or_none s),
+  )
+  fed_then old mid new (x ∷ xs) fed r s (here, first, others, one, more, is) next = (
+    here,
+    first,
+    option_or others s,
+    one,
+    fed_then here mid new xs fed others s more next,
+    ap (λ (o : Option ArchiveError). option_or o s) is ∙ sym (or_then first others s),
+  )
 
-  pub none_fed : (old : Seen D) (output : Option (List ℕ))
-      → IsUnderWay honest moment left_since old old output output 0 None
-  none_fed old output = record {
+  pub none_fed : (old : Seen D) (output : Option (List ℕ)) (roller : Roller)
+      → IsUnderWay honest moment left_since old old output output 0 None roller roller
+  none_fed old output roller = record {
     feds = [];
-    fed = refl;
+    rolling = None;
+    fed = (refl, refl);
+    roller_is = sym (stopped_none roller);
     lines = Appends-nil output;
     count_is = refl;
     first_is = refl;
   }
 
   module _ (old now new : Seen D) (before mid after : Option (List ℕ)) (count : ℕ) (first : Option FeedStop)
-      (so_far : IsUnderWay honest moment left_since old now before mid count first) (fed : Fed)
-      (next : IsFileFed honest moment left_since now new fed) where
+      (start roller : Roller) (so_far : IsUnderWay honest moment left_since old now before mid count first start roller)
+      (fed : Fed) (rolling : Option ArchiveError) (next : IsFileFed honest moment left_since now new fed rolling)
+      (turned : Roller) (turned_is : turned ≡ stopped_by roller rolling) where
     abbrev all_feds : List Fed
     all_feds = so_far.feds ++ fed ∷ []
 
-    all_fed : AreFed honest moment left_since old new all_feds
-    all_fed = fed_then old now new so_far.feds fed so_far.fed next
+    abbrev all_rolling : Option ArchiveError
+    all_rolling = option_or so_far.rolling rolling
+
+    all_fed : AreFed honest moment left_since old new all_feds all_rolling
+    all_fed = fed_then old now new so_far.feds fed so_far.rolling rolling so_far.fed next
+
+    all_turned : turned ≡ stopped_by start all_rolling
+    all_turned =
+        turned_is ∙ ap (λ (r : Roller). stopped_by r rolling) so_far.roller_is
+        ∙ stopped_then start so_far.rolling rolling
 
     lines_are : fed_lines 0 all_feds ≡ fed_lines 0 so_far.feds ++ fed_line (count + 1) fed
     lines_are = let counted = so_far.count_is in
@@ -110,10 +141,12 @@ module _ {D : Type 0} (honest : D → Bool) (moment : D → ℕ) (left_since : D
 
     -- one File more
     pub one_more : (told : Fed) → TellsFile (count + 1) fed mid after (Ok told)
-        → IsUnderWay honest moment left_since old new before after (count + 1) (option_or first told.stop)
+        → IsUnderWay honest moment left_since old new before after (count + 1) (option_or first told.stop) start turned
     one_more told (same, written) = record {
       feds = all_feds;
+      rolling = all_rolling;
       fed = all_fed;
+      roller_is = all_turned;
       lines = subst (Appends before after) (sym lines_are)
           (Appends-trans before mid after (fed_lines 0 so_far.feds) (fed_line (count + 1) fed) so_far.lines written);
       count_is = let counted = so_far.count_is in let long = length-append so_far.feds (fed ∷ []) in
@@ -135,14 +168,16 @@ module _ {D : Type 0} (honest : D → Bool) (moment : D → ℕ) (left_since : D
     -- a File whose line isn't written, where that is passed on
     pub line_refused : (e : ArchiveRefusal) (paths : ℕ) (refused : Option ArchiveError)
         (r : Result ℕ ArchiveRefusal) → IsErrAnd r (λ x. x ≡ e) → TellsFile (count + 1) fed mid after (Err e)
-        → (feds : List Fed) × AreFed honest moment left_since old new feds
-        × TellsFiles paths feds refused before after r
+        → (feds : List Fed) × (rolling : Option ArchiveError) × AreFed honest moment left_since old new feds rolling
+        × (turned ≡ stopped_by start rolling) × TellsFiles paths feds refused before after r
     line_refused e paths refused (Ok status) is told = absurd is
     line_refused e paths refused (Err x) is told =
         let why = unwritten x (subst (λ (y : ArchiveRefusal). TellsFile (count + 1) fed mid after (Err y)) (sym is) told)
         in (
           all_feds,
+          all_rolling,
           all_fed,
+          all_turned,
           inr (
             why.0,
             subst (AppendsFront before after) (sym lines_are)
@@ -153,14 +188,16 @@ module _ {D : Type 0} (honest : D → Bool) (moment : D → ℕ) (left_since : D
 
   -- all Files
   pub all_told : (old new : Seen D) (before after : Option (List ℕ)) (count paths : ℕ) (first : Option FeedStop)
-      (refused : Option ArchiveError) (result : Result ℕ ArchiveRefusal)
-      → IsUnderWay honest moment left_since old new before after count first → count ≡ paths
+      (start roller : Roller) (refused : Option ArchiveError) (result : Result ℕ ArchiveRefusal)
+      → IsUnderWay honest moment left_since old new before after count first start roller → count ≡ paths
       → result ≡ feed_ended first refused
-      → (feds : List Fed) × AreFed honest moment left_since old new feds
-      × TellsFiles paths feds refused before after result
-  all_told old new before after count paths first refused result so_far all is = (
+      → (feds : List Fed) × (rolling : Option ArchiveError) × AreFed honest moment left_since old new feds rolling
+      × (roller ≡ stopped_by start rolling) × TellsFiles paths feds refused before after result
+  all_told old new before after count paths first start roller refused result so_far all is = (
     so_far.feds,
+    so_far.rolling,
     so_far.fed,
+    so_far.roller_is,
     inl (
       sym so_far.count_is ∙ all,
       so_far.lines,
@@ -234,18 +271,22 @@ fed_err count feds refused old new e (inr (un, front)) = by e un
     by refusal.InUse un = absurd un
 
 module _ {D : Type 0} (honest : D → Bool) (moment : D → ℕ) (left_since : D → ℕ → (ℕ → List ℕ) → Type 0)
-    (old now : Seen D) (count : ℕ) (refused : Option ArchiveError) (before after : Option (List ℕ)) where
-  pub result_ok : (r : Result ℕ ArchiveRefusal)
-      → ((feds : List Fed) × AreFed honest moment left_since old now feds × TellsFiles count feds refused before after r)
+    (old now : Seen D) (start roller : Roller) (count : ℕ) (refused : Option ArchiveError)
+    (before after : Option (List ℕ)) where
+  abbrev FeedsFiles : Result ℕ ArchiveRefusal → Type 0
+  FeedsFiles r =
+      (feds : List Fed) × (rolling : Option ArchiveError) × AreFed honest moment left_since old now feds rolling
+      × (roller ≡ stopped_by start rolling) × TellsFiles count feds refused before after r
+
+  pub result_ok : (r : Result ℕ ArchiveRefusal) → FeedsFiles r
       → IfOk r (λ status. FeedsLines count status before after)
-  result_ok (Ok status) (feds, fed, told) = fed_ok count feds refused before after status told
+  result_ok (Ok status) (feds, rolling, fed, is, told) = fed_ok count feds refused before after status told
   result_ok (Err e) told = tt
 
-  pub result_err : (r : Result ℕ ArchiveRefusal)
-      → ((feds : List Fed) × AreFed honest moment left_since old now feds × TellsFiles count feds refused before after r)
+  pub result_err : (r : Result ℕ ArchiveRefusal) → FeedsFiles r
       → IfErr r (λ e. KeepsOrFeeds count e before after)
   result_err (Ok status) told = tt
-  result_err (Err e) (feds, fed, told) = fed_err count feds refused before after e told
+  result_err (Err e) (feds, rolling, fed, is, told) = fed_err count feds refused before after e told
 
 -- an archive that isn't opened
 pub opening_kept : (count : ℕ) (output : Option (List ℕ)) (e : RecoverError)

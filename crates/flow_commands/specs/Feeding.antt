@@ -121,19 +121,22 @@ IsUnopened (Some (stop.File error)) = ⊥
 IsUnopened (Some (stop.Archive error)) = ⊥
 IsUnopened None = ⊥
 
--- A File of some octets was fed; or it couldn't be opened, and the archive is as it was.
+-- A File of some octets was fed; or it couldn't be opened, and the archive is as it was. The last argument is the first
+-- refusal of an event of rolling on the way, if any.
 abbrev pub IsFileFed : {D : Type 0} → (D → Bool) → (D → ℕ) → (D → ℕ → (ℕ → List ℕ) → Type 0) → Seen D → Seen D → Fed
-    → Type 0
-IsFileFed honest moment left_since old new fed =
-    ((octets : Option (List ℕ)) × IsFed honest moment left_since old new octets fed)
-    ⊎ ((fed.messages ≡ 0) × IsUnopened fed.stop × (new ≡ old))
+    → Option ArchiveError → Type 0
+IsFileFed honest moment left_since old new fed rolling =
+    ((octets : Option (List ℕ)) × IsFed honest moment left_since old new octets fed rolling)
+    ⊎ ((fed.messages ≡ 0) × IsUnopened fed.stop × (new ≡ old) × (rolling ≡ None))
 
--- Files, one after the other
+-- Files, one after the other, with the first refusal of an event of rolling on the way of all of them
 abbrev pub AreFed : {D : Type 0} → (D → Bool) → (D → ℕ) → (D → ℕ → (ℕ → List ℕ) → Type 0) → Seen D → Seen D
-    → List Fed → Type 0
-AreFed honest moment left_since old new [] = new ≡ old
-AreFed {D} honest moment left_since old new (fed ∷ feds) =
-    (mid : Seen D) × IsFileFed honest moment left_since old mid fed × AreFed honest moment left_since mid new feds
+    → List Fed → Option ArchiveError → Type 0
+AreFed honest moment left_since old new [] rolling = (new ≡ old) × (rolling ≡ None)
+AreFed {D} honest moment left_since old new (fed ∷ feds) rolling =
+    (mid : Seen D) × (first : Option ArchiveError) × (others : Option ArchiveError)
+    × IsFileFed honest moment left_since old mid fed first × AreFed honest moment left_since mid new feds others
+    × (rolling ≡ option_or first others)
 
 -- ---- what is written
 

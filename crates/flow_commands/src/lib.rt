@@ -1,11 +1,11 @@
 //! What the commands over an archive do, on any disk and over a folder.
 //!
-//! What the layers above may count on: on an honest disk `create` makes the archive that was asked for; `check` writes the
-//! line of the state for which what is read stands, and tells damage only where that is none. Whatever the disk, and so
-//! over a folder, `check` writes one line of numbers, or nothing, or a front of one where writing failed. A refusal is
-//! printed with its number and its name, and has its exit status. `feed` takes Files one after the other, writes exactly a
-//! line for each, and ends with the status of the first that stopped, or with the refusal of the rolling; `roll` and `merge`
-//! are whole jobs, and write exactly how many files they summed.
+//! What the layers above may count on: on an honest disk `create` makes the archive that was asked for; `check` writes
+//! the line of the state for which what is read stands, and tells damage only where that is none. Whatever the disk,
+//! and so over a folder, `check` writes one line of numbers, or nothing, or a front of one where writing failed. A
+//! refusal is printed with its number and its name, and has its exit status. `feed` takes Files one after the other,
+//! writes exactly a line for each, and ends with the status of the first that stopped, or with the refusal of the
+//! rolling; `roll` and `merge` are whole jobs, and write exactly how many files they summed.
 #![tactic(auto)]
 
 mod archive_refusal;
@@ -16,6 +16,7 @@ mod feed_line;
 mod feeding;
 mod listing;
 mod plan;
+mod progress;
 mod rolling;
 mod totalling;
 
@@ -25,5 +26,6 @@ pub use creating::{create, create_in};
 pub use feeding::{feed_files, feed_in};
 pub use listing::{flows, flows_in};
 pub use plan::{NewArchive, StartSpan};
+pub use progress::Progress;
 pub use rolling::{roll, roll_in};
 pub use totalling::{totals, totals_in};

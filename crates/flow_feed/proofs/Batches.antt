@@ -4,6 +4,7 @@ use Rattle.std.proofs.Common.{Option, Some, None, refl, sym, ◌∙◌, ap, subs
 use Rattle.std.proofs.Common.{add-one, arith, length-drop, take-append-drop}
 use Rattle.std.proofs.lemmas.List.{length-take-le, take_all}
 use Rattle.std.specs.Prelude.{All, Vec}
+use Rattle.std.specs.Option.{option_or}
 use Rattle.std.specs.declared.alloc.Global.{Global}
 use Rattle.std.specs.Io.KnownBytes.{Consumes, prepend_known}
 use Rattle.std.proofs.lemmas.List.Elements.{All-append, All-cons, All-head, All-nil, All-tail}
@@ -17,10 +18,13 @@ use Rattle.flow_archive.specs.Seen.{Seen}
 use Rattle.flow_feed.specs.declared.batch.Fed.{Fed}
 use Rattle.flow_feed.specs.declared.batch.FeedStop.{FeedStop}
 use Rattle.flow_feed.specs.declared.batch.FeedStop.TheVariants.{Archive, OutOfMemory}
+use Rattle.flow_feed.specs.declared.turn.Roller.{Roller}
 use Rattle.flow_feed.specs.Feed.{refusal_in, AreRead, IsEnd, IsFed}
 use Rattle.flow_feed.specs.Taken.{HasTaken}
+use Rattle.flow_feed.specs.Turns.{stopped_by}
 use Rattle.flow_feed.proofs.Reading.{consumes_none, consumes_then, joined_then, read_none, IsReading}
-use Rattle.flow_feed.proofs.Taking.{taken_none, taken_then}
+use Rattle.flow_feed.proofs.Taking.{or_none, taken_none, taken_then}
+use Rattle.flow_feed.proofs.Turning.{stopped_none, stopped_then}
 
 next_suc : (n : ℕ) (xs : List (List ℕ)) (x : List ℕ) (rest : List (List ℕ)) → drop n xs ≡ x ∷ rest
     → (take (suc n) xs ≡ take n xs ++ x ∷ []) × (drop (suc n) xs ≡ rest)
@@ -45,12 +49,14 @@ All-right : (xs ys : List (List ℕ)) → All IsCutOff (xs ++ ys) → All IsCutO
 All-right [] ys all = all
 All-right (x ∷ xs) ys all = All-right xs ys (All-tail IsCutOff x (xs ++ ys) all)
 
--- all of the File that was taken in so far
+-- all of the File that was taken in so far, by a roller that has made its turns behind it
 pub record IsFeeding {D : Type 0} (honest : D → Bool) (moment : D → ℕ)
     (left_since : D → ℕ → (ℕ → List ℕ) → Type 0) (old now : Seen D) (start reader : Progress) (count : ℕ)
-    : Type 0 where
+    (first roller : Roller) : Type 0 where
   pub messages : List (List ℕ)
-  pub taken : HasTaken honest moment left_since old now messages None
+  pub rolling : Option ArchiveError
+  pub taken : HasTaken honest moment left_since old now messages None rolling
+  pub roller_is : roller ≡ stopped_by first rolling
   pub reading : IsReading start messages reader
   pub count_is : count ≡ length messages
 
@@ -66,24 +72,32 @@ opened reader None is = ap (λ (r : Held). progress r None) is
 opened reader (Some octets) is = ap (λ (r : Held). progress r (Some octets)) is
 
 module _ {D : Type 0} (honest : D → Bool) (moment : D → ℕ) (left_since : D → ℕ → (ℕ → List ℕ) → Type 0)
-    (old : Seen D) (octets : Option (List ℕ)) where
+    (old : Seen D) (octets : Option (List ℕ)) (roller : Roller) where
   -- nothing is read
-  pub fed_nothing : IsFed honest moment left_since old old octets (record { messages = 0; stop = Some OutOfMemory })
-  fed_nothing = record {
-    messages = [];
-    taken = taken_none honest moment left_since old;
-    count = refl;
-    all = All-nil IsCutOff;
-    rest = octets;
-    front = consumes_none octets;
-    ended = tt;
-  }
+  pub fed_nothing : (rolling : Option ArchiveError)
+      × IsFed honest moment left_since old old octets (record { messages = 0; stop = Some OutOfMemory }) rolling
+      × (roller ≡ stopped_by roller rolling)
+  fed_nothing = (
+    None,
+    record {
+      messages = [];
+      taken = taken_none honest moment left_since old;
+      count = refl;
+      all = All-nil IsCutOff;
+      rest = octets;
+      front = consumes_none octets;
+      ended = tt;
+    },
+    sym (stopped_none roller),
+  )
 
   pub started : (reader : Progress) → reader ≡ start_of octets
-      → IsFeeding honest moment left_since old old (start_of octets) reader reader.count
+      → IsFeeding honest moment left_since old old (start_of octets) reader reader.count roller roller
   started reader is = record {
     messages = [];
+    rolling = None;
     taken = taken_none honest moment left_since old;
+    roller_is = sym (stopped_none roller);
     reading = subst (λ (p : Progress). IsReading (start_of octets) [] p) (sym is)
         (read_none (start_of octets) refl);
     count_is = ap (λ (p : Progress). p.count) is;
@@ -137,12 +151,12 @@ reads_on start mid reader messages more stop so_far read =
 
 module _ {D : Type 0} (honest : D → Bool) (moment : D → ℕ) (left_since : D → ℕ → (ℕ → List ℕ) → Type 0)
     (old now : Seen D) (start mid reader : Progress) (messages more : List (List ℕ)) (begins_at : start.at ≡ 0)
-    (so_far : IsReading start messages mid) where
+    (so_far : IsReading start messages mid) (rolling : Option ArchiveError) where
   -- the last batch
   pub fed_last : (stop : Option FeedStop) (fed : Fed) → AreRead mid more true stop reader
-      → HasTaken honest moment left_since old now (messages ++ more) None
+      → HasTaken honest moment left_since old now (messages ++ more) None rolling
       → fed.messages ≡ length messages + length more → fed.stop ≡ stop
-      → IsFed honest moment left_since old now start.rest fed
+      → IsFed honest moment left_since old now start.rest fed rolling
   fed_last stop fed read taken count is =
       let long = all_long messages more in
       let counted : length (messages ++ more) ≡ length messages + length more = length-append messages more in
@@ -150,8 +164,8 @@ module _ {D : Type 0} (honest : D → Bool) (moment : D → ℕ) (left_since : D
       let before = so_far.at in omega (arith, long, begins_at) in
       record {
         messages = messages ++ more;
-        taken = subst (λ (o : Option ArchiveError). HasTaken honest moment left_since old now (messages ++ more) o)
-            (sym (ap refusal_in is ∙ read.refused)) taken;
+        taken = subst (λ (o : Option ArchiveError). HasTaken honest moment left_since old now (messages ++ more) o
+            rolling) (sym (ap refusal_in is ∙ read.refused)) taken;
         count = count ∙ sym counted;
         all = All-append IsCutOff messages more so_far.all read.all;
         rest = read.rest;
@@ -163,9 +177,9 @@ module _ {D : Type 0} (honest : D → Bool) (moment : D → ℕ) (left_since : D
   -- a message that the archive refuses
   pub fed_refused : (n : ℕ) (is_last : Bool) (stop : Option FeedStop) (error : ArchiveError) (fed : Fed)
       → AreRead mid more is_last stop reader
-      → HasTaken honest moment left_since old now (messages ++ take n more) (Some error)
+      → HasTaken honest moment left_since old now (messages ++ take n more) (Some error) rolling
       → n < length more → fed.messages ≡ length messages + n → fed.stop ≡ Some (Archive error)
-      → IsFed honest moment left_since old now start.rest fed
+      → IsFed honest moment left_since old now start.rest fed rolling
   fed_refused n is_last stop error fed read taken fewer count is =
       let left = drop n more in
       let whole : take n more ++ left ≡ more = take-append-drop n more in
@@ -177,7 +191,7 @@ module _ {D : Type 0} (honest : D → Bool) (moment : D → ℕ) (left_since : D
       record {
         messages = messages ++ take n more;
         taken = subst (λ (o : Option ArchiveError). HasTaken honest moment left_since old now
-            (messages ++ take n more) o) (sym (ap refusal_in is)) taken;
+            (messages ++ take n more) o rolling) (sym (ap refusal_in is)) taken;
         count = count ∙ sym counted;
         all = All-append IsCutOff messages (take n more) so_far.all (All-left (take n more) left all);
         rest = rest;
@@ -196,50 +210,76 @@ texts_long [] = refl
 texts_long (m ∷ messages) = ap suc (texts_long messages)
 
 module _ {D : Type 0} (honest : D → Bool) (moment : D → ℕ) (left_since : D → ℕ → (ℕ → List ℕ) → Type 0)
-    (old now new : Seen D) (octets : Option (List ℕ)) (mid reader : Progress) (count : ℕ)
-    (so_far : IsFeeding honest moment left_since old now (start_of octets) mid count) (more : List (List ℕ)) (n : ℕ) where
-  taken_all : n ≡ length more → (after : Seen D) → HasTaken honest moment left_since now new (take n more) None
-      → HasTaken honest moment left_since new after [] None
-      → HasTaken honest moment left_since old after (so_far.messages ++ more) None
-  taken_all all after taken turn =
-      let whole : take n more ≡ more = take_all n more (omega (arith, all)) in
-      let batch = taken_then honest moment left_since old now new so_far.messages (take n more) None None so_far.taken
-      taken in
-      subst (λ (l : List (List ℕ)). HasTaken honest moment left_since old after l None)
-      (append-nil (so_far.messages ++ take n more) ∙ ap (λ (l : List (List ℕ)). so_far.messages ++ l) whole)
-      (taken_then honest moment left_since old new after (so_far.messages ++ take n more) [] None None batch turn)
+    (old now new : Seen D) (octets : Option (List ℕ)) (mid reader : Progress) (count : ℕ) (first roller : Roller)
+    (so_far : IsFeeding honest moment left_since old now (start_of octets) mid count first roller)
+    (more : List (List ℕ)) (n : ℕ) where
+  -- a batch of which so many are taken
+  taken_batch : (stop : Option ArchiveError) → HasTaken honest moment left_since now new (take n more) stop None
+      → HasTaken honest moment left_since old new (so_far.messages ++ take n more) stop so_far.rolling
+  taken_batch stop taken =
+      subst (λ (o : Option ArchiveError).
+      HasTaken honest moment left_since old new (so_far.messages ++ take n more) stop o) (or_none so_far.rolling)
+      (taken_then honest moment left_since old now new so_far.messages (take n more) None stop so_far.rolling None
+      so_far.taken taken)
 
-  -- a batch more, and a turn behind it
-  pub feeds_on : (stop : Option FeedStop) → AreRead mid more false stop reader → n ≡ length more
-      → (after : Seen D) → HasTaken honest moment left_since now new (take n more) None
-      → HasTaken honest moment left_since new after [] None
-      → IsFeeding honest moment left_since old after (start_of octets) reader reader.count
-  feeds_on stop read all after taken turn = record {
-    messages = so_far.messages ++ more;
-    taken = taken_all all after taken turn;
-    reading = reads_on (start_of octets) mid reader so_far.messages more stop so_far.reading read;
-    count_is = let counted =
-        (reads_on (start_of octets) mid reader so_far.messages more stop so_far.reading read).count in
-        omega (arith, counted);
-  }
+  module _ (all : n ≡ length more) (after : Seen D)
+      (taken : HasTaken honest moment left_since now new (take n more) None None) (rolling : Option ArchiveError)
+      (turn : HasTaken honest moment left_since new after [] None rolling) (turned : Roller)
+      (turned_is : turned ≡ stopped_by roller rolling) where
+    taken_all : HasTaken honest moment left_since old after (so_far.messages ++ more) None
+        (option_or so_far.rolling rolling)
+    taken_all =
+        let whole : take n more ≡ more = take_all n more (omega (arith, all)) in
+        subst (λ (l : List (List ℕ)). HasTaken honest moment left_since old after l None
+        (option_or so_far.rolling rolling))
+        (append-nil (so_far.messages ++ take n more) ∙ ap (λ (l : List (List ℕ)). so_far.messages ++ l) whole)
+        (taken_then honest moment left_since old new after (so_far.messages ++ take n more) [] None None so_far.rolling
+        rolling (taken_batch None taken) turn)
 
-  pub ends_last : (stop : Option FeedStop) → AreRead mid more true stop reader → n ≡ length more
-      → (after : Seen D) → HasTaken honest moment left_since now new (take n more) None
-      → HasTaken honest moment left_since new after [] None
-      → IsFed honest moment left_since old after octets (record { messages = count + n; stop = stop })
-  ends_last stop read all after taken turn =
+    stopped_all : turned ≡ stopped_by first (option_or so_far.rolling rolling)
+    stopped_all =
+        turned_is ∙ ap (λ (r : Roller). stopped_by r rolling) so_far.roller_is
+        ∙ stopped_then first so_far.rolling rolling
+
+    -- a batch more, and a turn behind it
+    pub feeds_on : (stop : Option FeedStop) → AreRead mid more false stop reader
+        → IsFeeding honest moment left_since old after (start_of octets) reader reader.count first turned
+    feeds_on stop read = record {
+      messages = so_far.messages ++ more;
+      rolling = option_or so_far.rolling rolling;
+      taken = taken_all;
+      roller_is = stopped_all;
+      reading = reads_on (start_of octets) mid reader so_far.messages more stop so_far.reading read;
+      count_is = let counted =
+          (reads_on (start_of octets) mid reader so_far.messages more stop so_far.reading read).count in
+          omega (arith, counted);
+    }
+
+    pub ends_last : (stop : Option FeedStop) → AreRead mid more true stop reader
+        → (rolling : Option ArchiveError)
+        × IsFed honest moment left_since old after octets (record { messages = count + n; stop = stop }) rolling
+        × (turned ≡ stopped_by first rolling)
+    ends_last stop read = (
+      option_or so_far.rolling rolling,
       fed_last honest moment left_since old after (start_of octets) mid reader so_far.messages more refl so_far.reading
-      stop (record { messages = count + n; stop = stop }) read (taken_all all after taken turn)
-      (let were = so_far.count_is in omega (arith, all)) refl
+          (option_or so_far.rolling rolling) stop (record { messages = count + n; stop = stop }) read taken_all
+          (let were = so_far.count_is in omega (arith, all)) refl,
+      stopped_all,
+    )
 
   pub ends_refused : (is_last : Bool) (stop : Option FeedStop) (error : ArchiveError) (told : Option ArchiveError)
       → told ≡ Some error → AreRead mid more is_last stop reader → n < length more
-      → HasTaken honest moment left_since now new (take n more) told
-      → IsFed honest moment left_since old new octets
-      (record { messages = count + n; stop = Some (Archive error) })
-  ends_refused is_last stop error told is read fewer taken =
-      fed_refused honest moment left_since old new (start_of octets) mid reader so_far.messages more refl so_far.reading
-      n is_last stop error (record { messages = count + n; stop = Some (Archive error) }) read
-      (taken_then honest moment left_since old now new so_far.messages (take n more) None (Some error) so_far.taken
-      (subst (λ (o : Option ArchiveError). HasTaken honest moment left_since now new (take n more) o) is taken))
-      fewer (let were = so_far.count_is in omega (arith)) refl
+      → HasTaken honest moment left_since now new (take n more) told None
+      → (rolling : Option ArchiveError)
+      × IsFed honest moment left_since old new octets
+      (record { messages = count + n; stop = Some (Archive error) }) rolling
+      × (roller ≡ stopped_by first rolling)
+  ends_refused is_last stop error told is read fewer taken = (
+    so_far.rolling,
+    fed_refused honest moment left_since old new (start_of octets) mid reader so_far.messages more refl so_far.reading
+        so_far.rolling n is_last stop error (record { messages = count + n; stop = Some (Archive error) }) read
+        (taken_batch (Some error)
+        (subst (λ (o : Option ArchiveError). HasTaken honest moment left_since now new (take n more) o None) is taken))
+        fewer (let were = so_far.count_is in omega (arith)) refl,
+    so_far.roller_is,
+  )

@@ -1,4 +1,5 @@
-mod Taking
-mod Turning
+pub mod Taking
+pub mod Turning
 mod Reading
 mod Batches
+mod Telling

@@ -48,11 +48,12 @@ pub record AreRead (old : Progress) (messages : List (List ℕ)) (is_last : Bool
 -- ---- a whole File
 
 -- The archive has acknowledged the first messages of the File, in their order, each once, and no other; as many as are
--- told; and what stands behind them is why there aren't more.
+-- told; and what stands behind them is why there aren't more. `rolling` is the first refusal of an event of rolling on
+-- the way, if any.
 pub record IsFed {D : Type 0} (honest : D → Bool) (moment : D → ℕ) (left_since : D → ℕ → (ℕ → List ℕ) → Type 0)
-    (old new : Seen D) (octets : Option (List ℕ)) (fed : Fed) : Type 0 where
+    (old new : Seen D) (octets : Option (List ℕ)) (fed : Fed) (rolling : Option ArchiveError) : Type 0 where
   pub messages : List (List ℕ)
-  pub taken : HasTaken honest moment left_since old new messages (refusal_in fed.stop)
+  pub taken : HasTaken honest moment left_since old new messages (refusal_in fed.stop) rolling
   pub count : fed.messages ≡ length messages
   pub all : All IsCutOff messages
   pub rest : Option (List ℕ)

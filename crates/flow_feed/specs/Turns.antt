@@ -1,7 +1,9 @@
 -- Turns of rolling, and whole jobs.
 use Rattle.std.specs.Prelude.{◌≡◌, ◌⊎◌, ℕ, zero, suc, ◌-◌, Bool, true, false, List, [], ◌∷◌, ◌++◌, min, replicate, ◌==◌}
 use Rattle.std.specs.Prelude.{if◌then◌else◌}
-use Rattle.std.specs.Prelude.{Option, Some, None, Result, Ok, Err}
+use Rattle.std.specs.Prelude.{Option, Some, None, Result, Ok, Err, OnOk, IsErrOf, ◌≤◌}
+use Rattle.std.specs.Option.{option_or}
+use Rattle.flow_disk.specs.Cause.{HasRisen}
 use Rattle.flow_manifest.specs.declared.following.JobKind.{JobKind}
 use Rattle.flow_manifest.specs.declared.following.JobKind.TheVariants.{Roll, Merge}
 use Rattle.flow_manifest.specs.Following.{count_of, source_of}
@@ -22,8 +24,10 @@ use Rattle.flow_archive.specs.Answers.{Answers, Takes}
 use Rattle.flow_archive.specs.Runs.{IsRun}
 use Rattle.flow_archive.specs.Seen.{Seen, IsStep}
 use Rattle.flow_archive.specs.UnderWay.{status_of}
+use Rattle.flow_feed.specs.declared.turn.Roller.{Roller}
 use Rattle.flow_feed.specs.declared.turn.Turn.{Turn}
 use Rattle.flow_feed.specs.declared.turn.Turn.TheVariants as turn
+use Rattle.flow_feed.specs.Taken.{refusal_but_removal}
 
 -- How many files a job of this kind may be begun over, where the newest `keep` are left as they are. No manifest names
 -- more than 4,096.
@@ -123,6 +127,12 @@ IsTurn honest moment left_since old new (Some event) result =
     (answer : Result Answer ArchiveError) × Answers (honest old.disk) old.closed old.state event answer new.state
     × IsStep honest moment left_since old new (Takes true old.state event) answer × (result ≡ turn_told event answer)
 
+-- ---- a roller
+
+-- A roller behind events of which the first refusal of rolling is this one: it keeps the first that it has met.
+abbrev pub stopped_by : Roller → Option ArchiveError → Roller
+stopped_by roller rolling = record { keep = roller.keep; refused = option_or roller.refused rolling }
+
 -- ---- whole jobs
 
 -- The events of a job over so many files: it begins, reads each, makes its file, installs it, and its sources are removed.
@@ -132,26 +142,20 @@ job_events kind count =
     else (begun_by kind count ∷ replicate count RollStep ++ RollWrite ∷ RollInstall ∷ replicate count Retire)
 
 -- the first refusal of these answers, but for that of a removal
+abbrev pub told_or : Option ArchiveError → Result ℕ ArchiveError → Result ℕ ArchiveError
+told_or None told = told
+told_or (Some error) told = Err error
+
 abbrev pub job_told : ℕ → List (Result Answer ArchiveError) → Result ℕ ArchiveError
 job_told count [] = Ok count
 job_told count (Ok answer ∷ answers) = job_told count answers
-job_told count (Err Pinned ∷ answers) = job_told count answers
-job_told count (Err NothingToRetire ∷ answers) = job_told count answers
-job_told count (Err (Message fault) ∷ answers) = Err (Message fault)
-job_told count (Err OutOfMemory ∷ answers) = Err OutOfMemory
-job_told count (Err NumbersSpent ∷ answers) = Err NumbersSpent
-job_told count (Err NotEmpty ∷ answers) = Err NotEmpty
-job_told count (Err Fault ∷ answers) = Err Fault
-job_told count (Err NoRoom ∷ answers) = Err NoRoom
-job_told count (Err ManifestFull ∷ answers) = Err ManifestFull
-job_told count (Err NothingToSeal ∷ answers) = Err NothingToSeal
-job_told count (Err Closed ∷ answers) = Err Closed
-job_told count (Err (Damaged file at) ∷ answers) = Err (Damaged file at)
-job_told count (Err SourceFault ∷ answers) = Err SourceFault
-job_told count (Err RollBusy ∷ answers) = Err RollBusy
-job_told count (Err NoRoll ∷ answers) = Err NoRoll
-job_told count (Err RollCount ∷ answers) = Err RollCount
-job_told count (Err RollNotDone ∷ answers) = Err RollNotDone
+job_told count (Err error ∷ answers) = told_or (refusal_but_removal error) (job_told count answers)
+
+-- what is told behind one answer more
+abbrev pub told_behind : Result ℕ ArchiveError → Result Answer ArchiveError → Result ℕ ArchiveError
+told_behind (Err refused) answer = Err refused
+told_behind (Ok count) (Ok answer) = Ok count
+told_behind (Ok count) (Err error) = told_or (refusal_but_removal error) (Ok count)
 
 -- The archive took the events of a job over so many files, and told of them; or there was no memory for that, and all is
 -- as it was.
@@ -161,3 +165,10 @@ IsJobRun honest moment left_since old new kind count result =
     ((answers : List (Result Answer ArchiveError))
     × IsRun honest moment left_since old (job_events kind count) answers new × (result ≡ job_told count answers))
     ⊎ ((result ≡ Err OutOfMemory) × (new ≡ old))
+
+-- Where Ok is told the count of failures is as it was; where this refusal is told it has risen. Behind another refusal
+-- the later events of the job are still given, and one of them may have failed.
+pub record IsCaused (failed : ArchiveError) (before now : ℕ) (result : Result ℕ ArchiveError) : Type 0 where
+  pub later : before ≤ now
+  pub done : OnOk result (now ≡ before)
+  pub risen : IsErrOf result failed → HasRisen before now

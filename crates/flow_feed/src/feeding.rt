@@ -1,12 +1,14 @@
 //! A File into an archive.
 
 ghost use Rattle.std.specs.Prelude.{◌≡◌, ◌≢◌, false, true, ◌≤◌, ◌<◌, ◌+◌, ◌^◌, [], ◌∷◌, ◌++◌, ℕ, take, length, None, OnOk, IfOk, IfErr};
-ghost use Rattle.std.specs.Prelude.{IfSome, IfNone};
+ghost use Rattle.std.specs.Prelude.{Option, IfSome, IfNone};
 ghost use Rattle.flow_codec.specs.Stream.{progress};
 ghost use Rattle.flow_gate.specs.Scan.{texts};
+ghost use Rattle.flow_archive.specs.declared.refusal.ArchiveError.{ArchiveError as Refusal};
 ghost use Rattle.flow_archive.specs.Runs.{IsEvent};
 ghost use Rattle.flow_feed.specs.Feed.{AreRead, IsFed};
-ghost use Rattle.flow_feed.specs.Taken.{batch_in, given_by, refusal_by, taken_by, HasTaken};
+ghost use Rattle.flow_feed.specs.Taken.{batch_in, given_by, is_rolling, refusal_by, taken_by, HasTaken};
+ghost use Rattle.flow_feed.specs.Turns.{stopped_by};
 
 use crate::batch::{Fed, FeedStop};
 use crate::turn::Roller;
@@ -41,9 +43,10 @@ fn give<D: Disk>(
     event: &Event,
     faults: &mut Faults<D::Sealed>,
 ) -> Result<(), ArchiveError>
-    requires { IsEvent event.now }
+    requires event { IsEvent event.now }
+    requires no_rolling { is_rolling event.now ≡ false }
     ensures { HasTaken D.honest D.moment D.left_since archive.old archive.new (taken_by (given_by event.now) result)
-        (refusal_by result) }
+        (refusal_by result) None }
 {
     match take_event(archive, alloc, event, faults) {
         Ok(_) => Ok(()),
@@ -58,9 +61,10 @@ fn take_together<D: Disk>(
     event: &Event,
     faults: &mut Faults<D::Sealed>,
 ) -> Result<(), ArchiveError>
-    requires { IsEvent event.now }
+    requires event { IsEvent event.now }
+    requires no_rolling { is_rolling event.now ≡ false }
     ensures { HasTaken D.honest D.moment D.left_since archive.old archive.new (taken_by (given_by event.now) result)
-        (refusal_by result) }
+        (refusal_by result) None }
 {
     match give(archive, alloc, event, faults) {
         Err(ArchiveError::NoRoom) => {}
@@ -84,7 +88,7 @@ fn take_singly<D: Disk>(
     requires { length messages.items < 2 ^ 64 }
     ensures most { result.count ≤ length messages.items }
     ensures taken { HasTaken D.honest D.moment D.left_since archive.old archive.new
-        (take result.count (texts messages.items)) result.stop }
+        (take result.count (texts messages.items)) result.stop None }
     ensures fewer { IfSome result.stop (λ _. result.count < length messages.items) }
     ensures all { IfNone result.stop (result.count ≡ length messages.items) }
 {
@@ -147,7 +151,7 @@ fn take_batch<D: Disk>(
     requires few { length messages.items ≤ 64 }
     ensures most { result.count ≤ length messages.items }
     ensures taken { HasTaken D.honest D.moment D.left_since archive.old archive.new
-        (take result.count (texts messages.items)) result.stop }
+        (take result.count (texts messages.items)) result.stop None }
     ensures fewer { IfSome result.stop (λ _. result.count < length messages.items) }
     ensures all { IfNone result.stop (result.count ≡ length messages.items) }
 {
@@ -236,7 +240,7 @@ fn take_any<D: Disk>(
     requires few { length messages.items ≤ 64 }
     ensures most { result.count ≤ length messages.items }
     ensures taken { HasTaken D.honest D.moment D.left_since archive.old archive.new
-        (take result.count (texts messages.items)) result.stop }
+        (take result.count (texts messages.items)) result.stop None }
     ensures fewer { IfSome result.stop (λ _. result.count < length messages.items) }
     ensures all { IfNone result.stop (result.count ≡ length messages.items) }
 {
@@ -249,7 +253,7 @@ fn take_any<D: Disk>(
 /// Takes the messages of the File that `input` reads into an archive, in batches of up to 64 as they are read: up to its
 /// end, its first fault, or the first message that the archive refuses. Where the active segment has no room for them, it
 /// is sealed before; a batch for which no segment has room is taken message by message. After each batch the roller
-/// makes a turn. Reads of a roll's source that fail raise `faults`.
+/// makes a turn, and keeps the first refusal of one. Reads of a roll's source that fail raise `faults`.
 pub fn feed<D: Disk, R: Read>(
     archive: &mut Archive<D>,
     alloc: Global,
@@ -257,7 +261,8 @@ pub fn feed<D: Disk, R: Read>(
     roller: &mut Roller,
     faults: &mut Faults<D::Sealed>,
 ) -> Fed
-    ensures { IsFed D.honest D.moment D.left_since archive.old archive.new (R.remaining input.old) result }
+    ensures { (rolling : Option Refusal) × IsFed D.honest D.moment D.left_since archive.old archive.new
+        (R.remaining input.old) result rolling × (roller.new ≡ stopped_by roller.old rolling) }
 {
     let Ok(mut reader) = MessageReader::new(alloc) else {
         return Fed {

@@ -1,12 +1,13 @@
 //! Turns of rolling.
 
-ghost use Rattle.std.specs.Prelude.{◌≡◌, None, []};
+ghost use Rattle.std.specs.Prelude.{◌≡◌, Option, None, []};
 ghost use Rattle.flow_disk.specs.Cause.{HasCause};
 ghost use Rattle.flow_archive.specs.declared.event.Answer.{Answer as Told};
+ghost use Rattle.flow_archive.specs.declared.refusal.ArchiveError.{ArchiveError as Refusal};
 ghost use Rattle.flow_manifest.specs.Following.{source_of, count_of};
 ghost use Rattle.flow_manifest.specs.declared.following.JobKind.TheVariants.{Merge, Roll};
 ghost use Rattle.flow_feed.specs.Taken.{HasTaken};
-ghost use Rattle.flow_feed.specs.Turns.{begun_by, due, files_over, next_step, turn_told, IsTurn};
+ghost use Rattle.flow_feed.specs.Turns.{begun_by, due, files_over, next_step, stopped_by, turn_told, IsTurn};
 
 use flow_archive::{Answer, Archive, ArchiveError, Event, JobStatus, take_event};
 use flow_disk::{Disk, Faults};
@@ -168,7 +169,7 @@ pub fn merge_turn<D: Disk>(
 pub struct Roller {
     /// How many of the newest sealed segments it leaves as they are.
     pub keep: u32,
-    /// Why it has stopped.
+    /// Why it has stopped: the refusal of the first turn that was refused.
     pub refused: Option<ArchiveError>,
 }
 
@@ -180,7 +181,8 @@ impl Roller {
         alloc: Global,
         faults: &mut Faults<D::Sealed>,
     )
-        ensures { HasTaken D.honest D.moment D.left_since archive.old archive.new [] None }
+        ensures { (rolling : Option Refusal) × HasTaken D.honest D.moment D.left_since archive.old archive.new [] None
+            rolling × (self.new ≡ stopped_by self.old rolling) }
     {
         if self.refused.is_none() {
             self.refused = roll_turn(archive, alloc, self.keep, faults).err();

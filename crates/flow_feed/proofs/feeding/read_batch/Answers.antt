@@ -1,4 +1,4 @@
-use Rattle.std.proofs.Common.{◌≡◌, List, ℕ, ◌+◌, ◌++◌, ◌∷◌, [], sym, ◌∙◌, ap, subst}
+use Rattle.std.proofs.Common.{List, ℕ, ◌+◌, ◌++◌, ◌∷◌, [], sym, ◌∙◌, ap, subst}
 use Rattle.flow_codec.specs.Stream.{progress}
 use Rattle.flow_gate.specs.Scan.{texts}
 use Rattle.flow_feed.proofs.Reading.{read_more, read_stop, IsReading}

@@ -9,22 +9,22 @@ returns-in-Ok g c =
     let D = g.D.Disk in
     let old = c.args.archive.now in
     let sealed = taken_then D.honest D.moment D.left_since old c.give.new.archive c.give-2.new.archive [] []
-    (Some c.in-Err-NoRoom.field-0) None c.in-Err-NoRoom.ensures c.in-Ok.ensures in
+    (Some c.in-Err-NoRoom.field-0) None None None c.in-Err-NoRoom.ensures c.in-Ok.ensures in
     taken_then D.honest D.moment D.left_since old c.give-2.new.archive c.give-in-Ok.new.archive []
-    (taken_by (given_by c.args.event.now) c.give-in-Ok.result) None (refusal_by c.give-in-Ok.result) sealed
+    (taken_by (given_by c.args.event.now) c.give-in-Ok.result) None (refusal_by c.give-in-Ok.result) None None sealed
     c.give-in-Ok.ensures
 
 pub returns-in-Err-NothingToSeal : goal.returns-in-Err-NothingToSeal
 returns-in-Err-NothingToSeal g c =
     let D = g.D.Disk in
     subst (λ (e : ArchiveError). HasTaken D.honest D.moment D.left_since c.args.archive.now c.give-2.new.archive []
-    (Some e)) c.in-Err-NoRoom.field-0-is
+    (Some e) None) c.in-Err-NoRoom.field-0-is
     (refused_before D.honest D.moment D.left_since c.args.archive.now c.give.new.archive c.give-2.new.archive [] []
-    c.in-Err-NoRoom.field-0 (Some c.in-Err-NothingToSeal.field-0) c.in-Err-NoRoom.ensures
+    c.in-Err-NoRoom.field-0 (Some c.in-Err-NothingToSeal.field-0) None None c.in-Err-NoRoom.ensures
     c.in-Err-NothingToSeal.ensures)
 
 pub returns-in-Err : goal.returns-in-Err
 returns-in-Err g c =
     let D = g.D.Disk in
     taken_then D.honest D.moment D.left_since c.args.archive.now c.give.new.archive c.give-2.new.archive [] []
-    (Some c.in-Err-NoRoom.field-0) (Some c.in-Err.error) c.in-Err-NoRoom.ensures c.in-Err.ensures
+    (Some c.in-Err-NoRoom.field-0) (Some c.in-Err.error) None None c.in-Err-NoRoom.ensures c.in-Err.ensures

@@ -1,0 +1,27 @@
+use Rattle.std.proofs.Common.{refl}
+use Rattle.std.proofs.KnownBytes.{Keeps-refl}
+use Rattle.flow_words.proofs.run.refuse.Goals as goal
+
+pub returns-in-Width-clause-told : goal.returns-in-Width-clause-told
+returns-in-Width-clause-told g c =
+    rw c.in-Width.is (refl, Keeps-refl _, rw c.as_bytes-in-Width.ensures.value at c.tell_line-in-Width.ensures)
+
+pub returns-in-Plan-clause-told : goal.returns-in-Plan-clause-told
+returns-in-Plan-clause-told g c =
+    rw c.in-Plan.is (refl, Keeps-refl _, rw c.as_bytes-in-Plan.ensures.value at c.tell_line-in-Plan.ensures)
+
+pub returns-in-Span-clause-told : goal.returns-in-Span-clause-told
+returns-in-Span-clause-told g c =
+    rw c.in-Span.is (refl, Keeps-refl _, rw c.as_bytes-in-Span.ensures.value at c.tell_line-in-Span.ensures)
+
+pub returns-in-Number-clause-told : goal.returns-in-Number-clause-told
+returns-in-Number-clause-told g c =
+    rw c.in-Number.is (refl, Keeps-refl _, rw c.as_bytes-in-Number.ensures.value at c.tell_line-in-Number.ensures)
+
+pub returns-in-Keep-clause-told : goal.returns-in-Keep-clause-told
+returns-in-Keep-clause-told g c =
+    rw c.in-Keep.is (refl, Keeps-refl _, rw c.as_bytes-in-Keep.ensures.value at c.tell_line-in-Keep.ensures)
+
+pub returns-in-Files-clause-told : goal.returns-in-Files-clause-told
+returns-in-Files-clause-told g c =
+    rw c.in-Files.is (refl, Keeps-refl _, rw c.as_bytes-in-Files.ensures.value at c.tell_line-in-Files.ensures)

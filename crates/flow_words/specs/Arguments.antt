@@ -1,0 +1,117 @@
+-- What a command asks for, by its name and the values that were found for its arguments.
+use Rattle.std.specs.Prelude.{ℕ, ◌%◌, ◌==◌, List, Option, Some, None, option_map, option_and_then}
+use Rattle.std.specs.Prelude.{codes, if◌then◌else◌, length, nat_lt}
+use Rattle.std.specs.Option.{option_map_or}
+use Rattle.std.specs.Str.{bytes_eq}
+use Rattle.clap.specs.Walk.{Row, Text, all_of, first_of}
+use Rattle.flow_words.specs.declared.request.Request.{Request}
+use Rattle.flow_words.specs.declared.request.Request.TheVariants.{Measure, Dump, Create, Check, Totals, Flows}
+use Rattle.flow_words.specs.declared.request.Request.TheVariants.{Feed, Roll, Merge, Explain}
+use Rattle.flow_words.specs.Explain.{is_refusal}
+use Rattle.flow_report.specs.Numbers.{number_between}
+use Rattle.flow_commands.specs.Plans.{Plan, Span}
+
+abbrev pub width_in : List Row → Option ℕ
+width_in rows = option_and_then (number_between 1 86400) (first_of (codes "WIDTH") rows)
+
+-- the octets of messages that a segment takes: 1,048,576 where nothing else is asked for
+abbrev pub limit_in : List Row → Option ℕ
+limit_in rows = option_map_or (number_between 65535 16777216) (first_of (codes "N") rows) (Some 1048576)
+
+-- a multiple of the width, up to a day
+abbrev pub multiple_of : ℕ → Text → Option (Option ℕ)
+multiple_of width word =
+    option_and_then (λ n. if n % width == 0 then Some (Some n) else None) (number_between width 86400 word)
+
+-- the wide width, where one is asked for
+abbrev pub wide_in : ℕ → List Row → Option (Option ℕ)
+wide_in width rows = option_map_or (multiple_of width) (first_of (codes "SECONDS") rows) (Some None)
+
+abbrev pub plan_in : List Row → Option Plan
+plan_in rows =
+    option_and_then (λ width. option_and_then (λ limit. option_map (λ wide. record {
+      width = width;
+      wide = wide;
+      limit = limit;
+    }) (wide_in width rows)) (limit_in rows)) (width_in rows)
+
+-- seconds since 1970-01-01 00:00 UTC, up to 2^32
+abbrev pub second_in : Text → List Row → Option ℕ
+second_in id rows = option_and_then (number_between 0 4294967296) (first_of id rows)
+
+abbrev pub span_in : List Row → Option Span
+span_in rows =
+    option_and_then (λ from. option_map (λ to. record { from = from; to = to }) (second_in (codes "TO") rows))
+    (second_in (codes "FROM") rows)
+
+abbrev pub folder_in : List Row → Option Text
+folder_in rows = first_of (codes "DIR") rows
+
+-- what `create` asks for
+abbrev pub create_in : List Row → Option Request
+create_in rows = option_and_then (λ folder. option_map (Create folder) (plan_in rows)) (folder_in rows)
+
+-- what `totals` and `flows` ask for
+abbrev pub asked_in : (Text → Span → Request) → List Row → Option Request
+asked_in request rows = option_and_then (λ folder. option_map (request folder) (span_in rows)) (folder_in rows)
+
+-- how many of the newest files are left
+abbrev pub keep_in : List Row → Option ℕ
+keep_in rows = option_and_then (number_between 0 4294967295) (first_of (codes "KEEP") rows)
+
+-- what `roll` and `merge` ask for
+abbrev pub rolled_in : (Text → ℕ → Request) → List Row → Option Request
+rolled_in request rows = option_and_then (λ folder. option_map (request folder) (keep_in rows)) (folder_in rows)
+
+-- how many of the newest segments `feed` leaves: 8 where nothing else is asked for
+abbrev pub kept_in : List Row → Option ℕ
+kept_in rows = option_map_or (number_between 0 4294967295) (first_of (codes "KEEP") rows) (Some 8)
+
+-- at most 8 Files
+abbrev pub few_of : List Text → Option (List Text)
+few_of files = if nat_lt 8 (length files) then None else Some files
+
+abbrev pub files_in : List Row → Option (List Text)
+files_in rows = option_and_then few_of (all_of (codes "FILE") rows)
+
+-- what `feed` asks for
+abbrev pub fed_in : List Row → Option Request
+fed_in rows = option_and_then (λ folder. option_and_then (λ keep. option_map (Feed folder keep) (files_in rows))
+    (kept_in rows)) (folder_in rows)
+
+-- what `explain` asks for: the number of a refusal
+abbrev pub explained_in : List Row → Option ℕ
+explained_in rows =
+    option_and_then (λ n. if is_refusal n then Some n else None)
+    (option_and_then (number_between 0 99) (first_of (codes "NUMBER") rows))
+
+-- what the name of a command that changes an archive, and the values of its arguments, ask for
+abbrev pub changing : Text → List Row → Option Request
+changing name rows =
+    if bytes_eq (codes "roll") name then rolled_in Roll rows
+    else if bytes_eq (codes "merge") name then rolled_in Merge rows
+    else None
+
+-- what a query's name and the values of its arguments ask for
+abbrev pub queried : Text → List Row → Option Request
+queried name rows =
+    if bytes_eq (codes "totals") name then asked_in Totals rows
+    else if bytes_eq (codes "flows") name then asked_in Flows rows
+    else if bytes_eq (codes "explain") name then option_map Explain (explained_in rows)
+    else changing name rows
+
+-- what the name of a command other than `feed`, and the values of its arguments, ask for
+abbrev pub unfed : Text → List Row → Option Request
+unfed name rows =
+    if bytes_eq (codes "measure") name then option_map Measure (width_in rows)
+    else if bytes_eq (codes "dump") name then Some Dump
+    else if bytes_eq (codes "create") name then create_in rows
+    else if bytes_eq (codes "check") name then option_map Check (folder_in rows)
+    else queried name rows
+
+-- what a command's name and the values of its arguments ask for
+abbrev pub requested : Text → List Row → Option Request
+requested name rows = if bytes_eq (codes "feed") name then fed_in rows else unfed name rows
+
+abbrev pub request_in : Option (Text × List Row) → Option Request
+request_in command = option_and_then (λ c. requested c.0 c.1) command

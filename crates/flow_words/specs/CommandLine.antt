@@ -1,0 +1,148 @@
+-- What the words of a command line ask for, and what the parser of the command line is told of its commands.
+use Rattle.std.specs.Prelude.{ℕ, Bool, true, List, [], ◌∷◌, ◌++◌, Option, Some, None, option_map, codes}
+use Rattle.std.specs.Prelude.{if◌then◌else◌}
+use Rattle.std.specs.List.{list_any}
+use Rattle.std.specs.Str.{bytes_eq}
+use Rattle.clap.specs.declared.builder.action.ArgAction.TheVariants.{Append, Set}
+use Rattle.clap.specs.Faults.{fault_of}
+use Rattle.clap.specs.Kinds.{Kinds}
+use Rattle.clap.specs.Walk.{Rule, Text}
+use Rattle.clap.specs.Simple.{App, Shape, new_rule, new_shape, subcommand_of, with_subcommand}
+use Rattle.flow_words.specs.declared.request.Request.{Request}
+use Rattle.flow_words.specs.declared.request.Request.TheVariants.{Measure, Dump}
+use Rattle.flow_report.specs.Numbers.{number_between}
+use Rattle.flow_words.specs.Arguments.{request_in}
+
+-- ---- what the parser is told
+
+-- an argument that has to be there, once
+abbrev pub needed : Text → Rule
+needed id = record (new_rule id) { required = true; action = Some Set }
+
+-- an argument that has to be there, and may be there again
+abbrev pub several : Text → Rule
+several id = record (new_rule id) { required = true; action = Some Append }
+
+-- an option with a value
+abbrev pub option : Text → Text → Rule
+option id name = record (new_rule id) { long = Some name; action = Some Set }
+
+abbrev pub width_rule : Rule
+width_rule = needed (codes "WIDTH")
+
+abbrev pub folder_rule : Rule
+folder_rule = needed (codes "DIR")
+
+abbrev pub measure_shape : Shape
+measure_shape = record (new_shape (codes "measure")) { rules = width_rule ∷ [] }
+
+abbrev pub dump_shape : Shape
+dump_shape = new_shape (codes "dump")
+
+-- the arguments of `create` but for its last
+abbrev pub sized_shape : Shape
+sized_shape = record (new_shape (codes "create")) {
+  rules = folder_rule ∷ width_rule ∷ option (codes "N") (codes "limit") ∷ [];
+}
+
+abbrev pub create_shape : Shape
+create_shape = record sized_shape { rules = sized_shape.rules ++ option (codes "SECONDS") (codes "wide") ∷ [] }
+
+abbrev pub check_shape : Shape
+check_shape = record (new_shape (codes "check")) { rules = folder_rule ∷ [] }
+
+-- `totals` and `flows`
+abbrev pub span_shape : Text → Shape
+span_shape name = record (new_shape name) {
+  rules = folder_rule ∷ needed (codes "FROM") ∷ needed (codes "TO") ∷ [];
+}
+
+-- `roll` and `merge`
+abbrev pub keep_shape : Text → Shape
+keep_shape name = record (new_shape name) { rules = folder_rule ∷ needed (codes "KEEP") ∷ [] }
+
+abbrev pub feed_shape : Shape
+feed_shape = record (new_shape (codes "feed")) {
+  rules = folder_rule ∷ several (codes "FILE") ∷ option (codes "KEEP") (codes "keep") ∷ [];
+}
+
+abbrev pub program : App
+program = record {
+  top = record (new_shape (codes "flowvault")) { has_version = true; subcommand_required = true };
+  subs = [];
+}
+
+abbrev pub explain_shape : Shape
+explain_shape = record (new_shape (codes "explain")) { rules = needed (codes "NUMBER") ∷ [] }
+
+-- the commands whose arguments are asked for as the parser reads them
+abbrev pub parsed_names : List Text
+parsed_names = codes "create" ∷ codes "check" ∷ codes "totals" ∷ codes "flows" ∷ codes "feed" ∷ codes "roll"
+    ∷ codes "merge" ∷ codes "explain" ∷ []
+
+-- the program with the commands that read standard input
+abbrev pub with_streams : App
+with_streams = with_subcommand (with_subcommand program measure_shape) dump_shape
+
+-- and with those that make or open an archive, and ask it nothing
+abbrev pub with_archives : App
+with_archives = with_subcommand (with_subcommand with_streams create_shape) check_shape
+
+-- and with those that ask it
+abbrev pub with_queries : App
+with_queries =
+    with_subcommand (with_subcommand with_archives (span_shape (codes "totals"))) (span_shape (codes "flows"))
+
+-- and with the one that takes Files into it
+abbrev pub with_feeding : App
+with_feeding = with_subcommand with_queries feed_shape
+
+-- and with those that roll its files
+abbrev pub with_rolling : App
+with_rolling =
+    with_subcommand (with_subcommand with_feeding (keep_shape (codes "roll"))) (keep_shape (codes "merge"))
+
+-- and with all commands
+abbrev pub flowvault : App
+flowvault = with_subcommand with_rolling explain_shape
+
+-- ---- what is asked for
+
+-- the words but for the first `--`, behind which a parser takes no word for an option
+abbrev pub without_dashes : List (List ℕ) → List (List ℕ)
+without_dashes [] = []
+without_dashes (word ∷ rest) = if bytes_eq word (codes "--") then rest else word ∷ without_dashes rest
+
+-- one argument: digits alone, from 1 to 86,400
+abbrev pub measure_of : List (List ℕ) → Option Request
+measure_of [] = None
+measure_of (word ∷ []) = option_map Measure (number_between 1 86400 word)
+measure_of (word ∷ other ∷ rest) = None
+
+-- no argument
+abbrev pub dump_of : List (List ℕ) → Option Request
+dump_of [] = Some Dump
+dump_of (word ∷ rest) = None
+
+abbrev pub is_parsed : List ℕ → Bool
+is_parsed command = list_any (λ name. bytes_eq name command) parsed_names
+
+-- what was made, where there is no fault
+abbrev pub unless : Kinds → Option Request → Option Request
+unless [] made = made
+unless (fault ∷ faults) made = None
+
+-- what the values ask for that the parser finds in words, where it finds no fault
+abbrev pub parsed : List (List ℕ) → Option Request
+parsed words = unless (fault_of flowvault words) (request_in (subcommand_of flowvault words))
+
+-- The program's name, a command, and the command's arguments: of `measure` and `dump` word by word; of the others as
+-- the parser reads them.
+abbrev pub asked : List (List ℕ) → Option Request
+asked [] = None
+asked (name ∷ []) = None
+asked (name ∷ command ∷ arguments) =
+    if bytes_eq (codes "measure") command then measure_of (without_dashes arguments)
+    else if bytes_eq (codes "dump") command then dump_of (without_dashes arguments)
+    else if is_parsed command then parsed (name ∷ command ∷ arguments)
+    else None

@@ -1,0 +1,27 @@
+-- The lines on standard error of wrong words.
+use Rattle.std.specs.Prelude.{ℕ, List, codes}
+use Rattle.clap.specs.declared.error.kind.ErrorKind.{ErrorKind}
+use Rattle.clap.specs.declared.error.kind.ErrorKind.TheVariants.{MissingSubcommand, MissingRequiredArgument}
+use Rattle.clap.specs.Values.{kind_of}
+use Rattle.flow_words.specs.declared.request.LineError.{LineError}
+use Rattle.flow_words.specs.declared.request.LineError.TheVariants as line
+
+-- no command; an argument is missing; any other word
+abbrev pub kind_text : ErrorKind → List ℕ
+kind_text MissingSubcommand = codes "a command is needed: flowvault --help lists them"
+kind_text MissingRequiredArgument =
+    codes "an argument is missing, as WIDTH in: flowvault measure 300 < FILE; flowvault help COMMAND tells them"
+kind_text _ = codes "a word isn't understood; a File is read from standard input: flowvault measure 300 < FILE"
+
+abbrev pub words_text : LineError → List ℕ
+words_text (line.Parser error) = kind_text (kind_of error)
+words_text line.Width = codes "WIDTH is 1 to 86400, digits alone, as in: flowvault measure 300 < FILE"
+words_text line.Plan =
+    codes "WIDTH is 1 to 86400, --limit 65535 to 16777216, --wide a multiple of WIDTH up to 86400, all digits alone"
+words_text line.Span =
+    codes "FROM and TO are seconds since 1970-01-01 00:00 UTC, digits alone, 0 to 4294967296"
+words_text line.Keep = codes "KEEP is how many of the newest files are left, digits alone, 0 to 4294967295"
+words_text line.Files =
+    codes "FILE is given 1 to 8 times, --keep is how many of the newest segments are left, 0 to 4294967295"
+words_text line.Number = codes "no refusal has this NUMBER: they are 1 to 11, 14 to 17, 20 to 27, 30 to 32, 40 to 49"
+words_text line.OutOfMemory = codes "11 OutOfMemory"

@@ -1,0 +1,130 @@
+-- What one run of the program answers.
+use Rattle.std.specs.Prelude.{◌≡◌, ◌⊎◌, ℕ, List, Option, Some, IfSome, length, ⊤}
+use Rattle.std.specs.Io.KnownBytes.{Appends, Keeps}
+use Rattle.clap.specs.declared.error.kind.ErrorKind.{ErrorKind}
+use Rattle.clap.specs.declared.error.kind.ErrorKind.TheVariants.{DisplayHelp, DisplayVersion}
+use Rattle.clap.specs.Values.{kind_of}
+use Rattle.flow_report.specs.declared.refusal.Refusal.{Refusal}
+use Rattle.flow_words.specs.declared.request.LineError.{LineError}
+use Rattle.flow_words.specs.declared.request.LineError.TheVariants.{Parser, Width, Plan, Span, Keep, Files}
+use Rattle.flow_words.specs.declared.request.LineError.TheVariants.{Number, OutOfMemory}
+use Rattle.flow_words.specs.declared.request.Request.{Request}
+use Rattle.flow_words.specs.declared.request.Request.TheVariants.{Measure, Dump, Create, Check, Totals, Flows}
+use Rattle.flow_words.specs.declared.request.Request.TheVariants.{Feed, Roll as RollAsked, Merge as MergeAsked}
+use Rattle.flow_words.specs.declared.request.Request.TheVariants.{Explain}
+use Rattle.flow_commands.specs.declared.archive_refusal.ArchiveRefusal.{ArchiveRefusal}
+use Rattle.flow_commands.specs.Archives.{archive_printed, archive_status}
+use Rattle.flow_commands.specs.Check.{IsChecked, KeepsOrChecks}
+use Rattle.flow_manifest.specs.declared.following.JobKind.TheVariants.{Roll, Merge}
+use Rattle.flow_commands.specs.Feeding.{FeedsLines, KeepsOrFeeds}
+use Rattle.flow_commands.specs.Rolling.{IsJobLine}
+use Rattle.flow_commands.specs.Asking.{AreFlows, AreRows, Writes, WritesOrNot}
+use Rattle.flow_words.specs.CommandLine.{asked}
+use Rattle.flow_words.specs.Requested.{IsLineError}
+use Rattle.flow_report.specs.Refusals.{status_of}
+use Rattle.flow_words.specs.Printed.{words_text}
+use Rattle.flow_report.specs.Printed.{printed, line_of}
+use Rattle.flow_report.specs.Writing.{AppendsFront}
+use Rattle.flow_report.specs.Dump.{IsDumped, IsDumpedUntil}
+use Rattle.flow_report.specs.Measure.{HasTotals, IsRefusedBy, KeepsOrFront}
+
+-- the line of a refusal came on standard error, or a front of it where that could be written no further
+abbrev pub IsRefusalTold : Refusal → Option (List ℕ) → Option (List ℕ) → Type 0
+IsRefusalTold e before after = AppendsFront before after (line_of (printed e))
+
+-- the lines of a refusal of a command over an archive, or a front of them
+abbrev pub IsArchiveTold : ArchiveRefusal → Option (List ℕ) → Option (List ℕ) → Type 0
+IsArchiveTold e before after = AppendsFront before after (line_of (archive_printed e))
+
+-- A command over an archive was refused, and that is told.
+abbrev pub IsEndedBy : (ArchiveRefusal → Type 0) → Option (List ℕ) → Option (List ℕ) → ℕ → Type 0
+IsEndedBy also before after status =
+    (e : ArchiveRefusal) × (status ≡ archive_status e) × IsArchiveTold e before after × also e
+
+-- Commands over an archive in a folder. No contract knows what a folder holds: the work of each is told of any disk,
+-- and here how it ends.
+abbrev pub CreateEnds : Option (List ℕ) → Option (List ℕ) → ℕ → Type 0
+CreateEnds before after status = ((status ≡ 0) × Keeps before after) ⊎ IsEndedBy (λ e. ⊤) before after status
+
+abbrev pub CheckEnds : Option (List ℕ) → Option (List ℕ) → Option (List ℕ) → Option (List ℕ) → ℕ → Type 0
+CheckEnds old new before after status =
+    ((status ≡ 0) × Keeps before after × IsChecked old new)
+    ⊎ IsEndedBy (λ e. KeepsOrChecks e old new) before after status
+
+-- a command that writes such lines
+abbrev pub AskEnds : (List ℕ → Type 0) → Option (List ℕ) → Option (List ℕ) → Option (List ℕ) → Option (List ℕ) → ℕ
+    → Type 0
+AskEnds are old new before after status =
+    ((status ≡ 0) × Keeps before after × Writes are old new)
+    ⊎ IsEndedBy (λ e. WritesOrNot are e old new) before after status
+
+-- `feed` of so many Files: a line for each, with the status of the first that stopped, and nothing on standard error
+abbrev pub FeedEnds : ℕ → Option (List ℕ) → Option (List ℕ) → Option (List ℕ) → Option (List ℕ) → ℕ → Type 0
+FeedEnds count old new before after status =
+    (Keeps before after × FeedsLines count status old new)
+    ⊎ IsEndedBy (λ e. KeepsOrFeeds count e old new) before after status
+
+-- Text is shown on standard output, with status 0 and nothing on standard error; or it couldn't be, and that is told.
+abbrev pub IsShown : Option (List ℕ) → Option (List ℕ) → ℕ → Type 0
+IsShown before after status =
+    ((status ≡ 0) × Keeps before after) ⊎ ((e : Refusal) × (status ≡ status_of e) × IsRefusalTold e before after)
+
+-- A run of a command, by what standard input had and has left, and by what standard output (old, new) and standard
+-- error (before, after) hold: status 0 where the
+-- lines of the whole File were written, and nothing on standard error; else that of the refusal, which is told.
+abbrev pub Runs : Request → Option (List ℕ) → Option (List ℕ) → Option (List ℕ) → Option (List ℕ) → Option (List ℕ)
+    → Option (List ℕ) → ℕ → Type 0
+Runs (Measure width) input left old new before after status =
+    ((status ≡ 0) × Keeps before after
+    × IfSome input (λ octets. (lines : List ℕ) × HasTotals width octets lines × Appends old new lines))
+    ⊎ ((e : Refusal) × (status ≡ status_of e) × IsRefusalTold e before after
+    × IfSome input (λ octets. IsRefusedBy octets left e)
+    × KeepsOrFront width input old new e)
+Runs Dump input left old new before after status =
+    ((status ≡ 0) × Keeps before after × IfSome input (λ octets. IsDumped octets old new))
+    ⊎ ((e : Refusal) × (status ≡ status_of e) × IsRefusalTold e before after
+    × IfSome input (λ octets. IsDumpedUntil octets left old new e))
+-- None of these reads standard input, and `create` writes nothing.
+Runs (Create folder plan) input left old new before after status =
+    Keeps input left × Keeps old new × CreateEnds before after status
+Runs (Check folder) input left old new before after status =
+    Keeps input left × CheckEnds old new before after status
+Runs (Totals folder span) input left old new before after status =
+    Keeps input left × AskEnds AreRows old new before after status
+Runs (Flows folder span) input left old new before after status =
+    Keeps input left × AskEnds AreFlows old new before after status
+Runs (Feed folder keep files) input left old new before after status =
+    Keeps input left × FeedEnds (length files) old new before after status
+Runs (RollAsked folder keep) input left old new before after status =
+    Keeps input left × AskEnds (IsJobLine Roll) old new before after status
+Runs (MergeAsked folder keep) input left old new before after status =
+    Keeps input left × AskEnds (IsJobLine Merge) old new before after status
+Runs (Explain number) input left old new before after status = Keeps input left × IsShown before after status
+
+-- what was asked for is help, or the version
+abbrev pub IsHelp : ErrorKind → Type 0
+IsHelp kind = (kind ≡ DisplayHelp) ⊎ (kind ≡ DisplayVersion)
+
+-- words that ask for nothing: the output stays, and one line says why
+abbrev pub IsWrong : LineError → ℕ → Option (List ℕ) → Option (List ℕ) → Option (List ℕ) → Option (List ℕ) → ℕ → Type 0
+IsWrong e wanted old new before after status =
+    (status ≡ wanted) × Keeps old new × AppendsFront before after (line_of (words_text e))
+
+-- What is answered of words that ask for nothing, or for help.
+abbrev pub IsTold : LineError → Option (List ℕ) → Option (List ℕ) → Option (List ℕ) → Option (List ℕ) → ℕ → Type 0
+IsTold (Parser error) old new before after status =
+    (IsHelp (kind_of error) × IsShown before after status) ⊎ IsWrong (Parser error) 2 old new before after status
+IsTold Width old new before after status = IsWrong Width 2 old new before after status
+IsTold Plan old new before after status = IsWrong Plan 2 old new before after status
+IsTold Span old new before after status = IsWrong Span 2 old new before after status
+IsTold Keep old new before after status = IsWrong Keep 2 old new before after status
+IsTold Files old new before after status = IsWrong Files 2 old new before after status
+IsTold Number old new before after status = IsWrong Number 2 old new before after status
+IsTold OutOfMemory old new before after status = IsWrong OutOfMemory 4 old new before after status
+
+-- What is answered of any words: the run of the request that they ask for, or why there is none.
+abbrev pub IsAnswered : List (List ℕ) → Option (List ℕ) → Option (List ℕ) → Option (List ℕ) → Option (List ℕ)
+    → Option (List ℕ) → Option (List ℕ) → ℕ → Type 0
+IsAnswered words input left old new before after status =
+    ((request : Request) × (asked words ≡ Some request) × Runs request input left old new before after status)
+    ⊎ ((e : LineError) × IsLineError words e × IsTold e old new before after status)

@@ -1,0 +1,187 @@
+//! What the values of a command's arguments are.
+
+ghost use Rattle.std.specs.Prelude.{◌≡◌, ◌≤◌, IfOk, IfSome};
+ghost use Rattle.clap.specs.Matches.{found_of};
+ghost use Rattle.clap.specs.Walk.{rows_of};
+ghost use Rattle.flow_words.specs.Arguments.{explained_in, folder_in, limit_in, plan_in, second_in, span_in, wide_in};
+ghost use Rattle.flow_words.specs.Arguments.{files_in, keep_in, kept_in, width_in};
+ghost use Rattle.flow_commands.specs.Plans.{IsWide};
+
+use crate::explaining::Explanation;
+use clap::ArgMatches;
+use flow_commands::{NewArchive, StartSpan};
+use flow_report::{Width, number_between};
+use std::alloc::{AllocError, Global};
+use std::marker::Model;
+
+/// The octets of messages that a segment takes where nothing else is asked for.
+const USUAL_LIMIT: u32 = 1_048_576;
+
+/// The greatest second of a span: every flow starts before it.
+const MOST_SECOND: u64 = 4_294_967_296;
+
+/// The most files that may be left.
+const MOST_KEEP: u64 = 4_294_967_295;
+
+/// How many of the newest segments `feed` leaves where nothing else is asked for.
+const USUAL_KEEP: u32 = 8;
+
+/// The most Files that are fed in one run.
+const MOST_FILES: usize = 8;
+
+/// No refusal has a number above it.
+const MOST_NUMBER: u64 = 99;
+
+/// A path of a folder.
+#[derive(Drop)]
+pub struct FolderName<'a> {
+    pub(crate) path: &'a str,
+}
+
+impl<'a> Model for FolderName<'a> {
+    ghost use Rattle.std.specs.Prelude.{ℕ, List};
+
+    ghost Value = { List ℕ };
+
+    ghost view = { λ f. f.path.now };
+}
+
+/// Paths of 1 to 8 Files.
+#[derive(Drop)]
+pub struct FileNames<'a> {
+    pub(crate) paths: Vec<&'a str>,
+}
+
+impl<'a> Model for FileNames<'a> {
+    ghost use Rattle.std.specs.Prelude.{ℕ, List, map};
+
+    ghost Value = { List (List ℕ) };
+
+    ghost view = { λ f. map (λ s. s.now) f.paths.items };
+}
+
+/// The width among the arguments of `measure` or `create`.
+#[tactic(auto, using(crate::proofs::Reading::first_value_is))]
+pub(crate) fn width_in(arguments: &ArgMatches<'_>) -> Option<Width>
+    ensures { result ≡ width_in (rows_of (found_of arguments.now)) }
+{
+    Width::of(arguments.get_str("WIDTH")?)
+}
+
+/// The folder among a command's arguments.
+#[tactic(auto, using(crate::proofs::Reading::first_value_is))]
+pub(crate) fn folder_in<'a>(arguments: &ArgMatches<'a>) -> Option<FolderName<'a>>
+    ensures { result ≡ folder_in (rows_of (found_of arguments.now)) }
+{
+    Some(FolderName {
+        path: arguments.get_str("DIR")?,
+    })
+}
+
+/// The limit of a segment among the arguments of `create`.
+#[tactic(auto, using(crate::proofs::Reading::first_value_is))]
+fn limit_in(arguments: &ArgMatches<'_>) -> Option<u32>
+    ensures value { result ≡ limit_in (rows_of (found_of arguments.now)) }
+    ensures from { IfSome result (λ limit. 65535 ≤ limit) }
+    ensures to { IfSome result (λ limit. limit ≤ 16777216) }
+{
+    let Some(word) = arguments.get_str("N") else {
+        return Some(USUAL_LIMIT);
+    };
+    let limit = number_between(65_535, 16_777_216, word.as_bytes())?;
+    Some(limit as u32)
+}
+
+/// The wide width among the arguments of `create`, where one is asked for: a multiple of the width, up to a day.
+#[tactic(auto, using(crate::proofs::Reading::first_value_is))]
+fn wide_in(arguments: &ArgMatches<'_>, width: u32) -> Option<Option<u32>>
+    requires { 1 ≤ width }
+    ensures value { result ≡ wide_in width (rows_of (found_of arguments.now)) }
+    ensures found { IfSome result (λ o. IfSome o (IsWide width)) }
+{
+    let Some(word) = arguments.get_str("SECONDS") else {
+        return Some(None);
+    };
+    let wide = number_between(u64::from(width), 86_400, word.as_bytes())?;
+    if wide % u64::from(width) == 0 {
+        Some(Some(wide as u32))
+    } else {
+        None
+    }
+}
+
+/// The numbers of a new archive among the arguments of `create`.
+pub(crate) fn plan_in(arguments: &ArgMatches<'_>) -> Option<NewArchive>
+    ensures { result ≡ plan_in (rows_of (found_of arguments.now)) }
+{
+    let width = width_in(arguments)?.seconds();
+    let limit = limit_in(arguments)?;
+    let wide = wide_in(arguments, width)?;
+    Some(NewArchive::new(width, wide, limit))
+}
+
+/// A second among the arguments of a command that asks for a span.
+#[tactic(auto, using(crate::proofs::Reading::first_value_is))]
+fn second_in(arguments: &ArgMatches<'_>, id: &str) -> Option<u64>
+    ensures value { result ≡ second_in id.now (rows_of (found_of arguments.now)) }
+    ensures most { IfSome result (λ second. second ≤ 4294967296) }
+{
+    number_between(0, MOST_SECOND, arguments.get_str(id)?.as_bytes())
+}
+
+/// The span among the arguments of a command that asks for one.
+pub(crate) fn span_in(arguments: &ArgMatches<'_>) -> Option<StartSpan>
+    ensures { result ≡ span_in (rows_of (found_of arguments.now)) }
+{
+    let from = second_in(arguments, "FROM")?;
+    let to = second_in(arguments, "TO")?;
+    Some(StartSpan::new(from, to))
+}
+
+/// How many of the newest files are left, among the arguments of `roll` and `merge`.
+#[tactic(auto, using(crate::proofs::Reading::first_value_is))]
+pub(crate) fn keep_in(arguments: &ArgMatches<'_>) -> Option<u32>
+    ensures { result ≡ keep_in (rows_of (found_of arguments.now)) }
+{
+    let keep = number_between(0, MOST_KEEP, arguments.get_str("KEEP")?.as_bytes())?;
+    Some(keep as u32)
+}
+
+/// How many of the newest segments are left, among the arguments of `feed`.
+#[tactic(auto, using(crate::proofs::Reading::first_value_is))]
+pub(crate) fn kept_in(arguments: &ArgMatches<'_>) -> Option<u32>
+    ensures { result ≡ kept_in (rows_of (found_of arguments.now)) }
+{
+    let Some(word) = arguments.get_str("KEEP") else {
+        return Some(USUAL_KEEP);
+    };
+    let keep = number_between(0, MOST_KEEP, word.as_bytes())?;
+    Some(keep as u32)
+}
+
+/// The Files among the arguments of `feed`: at most 8.
+#[tactic(auto, using(crate::proofs::Reading::all_values_are))]
+pub(crate) fn files_in<'a>(
+    alloc: Global,
+    arguments: &ArgMatches<'a>,
+) -> Result<Option<FileNames<'a>>, AllocError>
+    ensures { IfOk result (λ files. files ≡ files_in (rows_of (found_of arguments.now))) }
+{
+    let Some(paths) = arguments.get_strs("FILE") else {
+        return Ok(None);
+    };
+    if paths.len() > MOST_FILES {
+        return Ok(None);
+    }
+    let paths = Vec::from_slice(alloc, paths)?;
+    Ok(Some(FileNames { paths }))
+}
+
+/// What `explain` asks for.
+#[tactic(auto, using(crate::proofs::Reading::first_value_is))]
+pub(crate) fn explained_in(arguments: &ArgMatches<'_>) -> Option<Explanation>
+    ensures { result ≡ explained_in (rows_of (found_of arguments.now)) }
+{
+    let number = number_between(0, MOST_NUMBER, arguments.get_str("NUMBER")?.as_bytes())?;
+    Explanation::of(number)
+}

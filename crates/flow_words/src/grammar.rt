@@ -1,0 +1,394 @@
+//! What the parser of the command line is told of the commands, and their help.
+
+ghost use Rattle.std.specs.Prelude.{◌≡◌, false, IfOk};
+ghost use Rattle.clap.specs.Walk.{rule_of};
+ghost use Rattle.clap.specs.Simple.{app_of, shape_of};
+ghost use Rattle.clap.specs.declared.builder.command.Command.TheViews.{out-Command as fields_of};
+ghost use Rattle.flow_words.specs.CommandLine.{check_shape, create_shape, dump_shape, explain_shape, feed_shape};
+ghost use Rattle.flow_words.specs.CommandLine.{flowvault, folder_rule, keep_shape, measure_shape, needed, option};
+ghost use Rattle.flow_words.specs.CommandLine.{program, several, sized_shape, span_shape, width_rule, with_archives};
+ghost use Rattle.flow_words.specs.CommandLine.{with_feeding, with_queries, with_rolling, with_streams};
+
+use clap::{Arg, ArgAction, Command};
+use std::alloc::{AllocError, Global};
+
+/// What `measure` does, in a line or two.
+const MEASURE_ABOUT: &str =
+    "Sums the flows of the IPFIX File on standard input, by interval,\nObservation Domain and protocol";
+
+/// What is told below the arguments of `measure`.
+const MEASURE_HELP: &str =
+    "Each line: START DOMAIN PROTOCOL FLOWS OCTETS PACKETS. START is in seconds since\n\
+     1970-01-01 00:00 UTC; PROTOCOL is - where a flow has none. Nothing is written\n\
+     unless the whole File is accepted.\n\
+     \n\
+     Example: flowvault measure 300 < FILE";
+
+/// What `dump` does, in a line or two.
+const DUMP_ABOUT: &str =
+    "Writes the messages of the IPFIX File on standard input and their\ndata records, a line each";
+
+/// What is told below the options of `dump`.
+const DUMP_HELP: &str =
+    "The lines: message LENGTH TIME SEQUENCE DOMAIN, then for each data record\n\
+     record ID NAME=VALUE .. or options ID NAME=VALUE ..\n\
+     TIME and elements of seconds or milliseconds count from 1970-01-01 00:00 UTC. An\n\
+     element without a name here is eNUMBER, an enterprise's eENTERPRISE.NUMBER. The\n\
+     lines before a refused message stay.\n\
+     \n\
+     Example: flowvault dump < FILE";
+
+/// What `create` does, in a line or two.
+const CREATE_ABOUT: &str = "Makes an archive in a folder that exists";
+
+/// What is told below the arguments of `create`.
+const CREATE_HELP: &str =
+    "Writes nothing on standard output. A segment takes --limit octets of messages;\n\
+     old sums are made over --wide seconds, the greatest multiple of WIDTH where it\n\
+     isn't given. A folder with any n.ipfix, 1.slot or 2.slot is refused: 27\n\
+     NotEmpty, status 1. One that isn't there, or is in use: 30 Fault, status 3.\n\
+     \n\
+     Example: mkdir flows && flowvault create flows 300";
+
+/// What `check` does, in a line or two.
+const CHECK_ABOUT: &str = "Opens the archive of a folder and tells how it stands";
+
+/// What is told below the arguments of `check`.
+const CHECK_HELP: &str =
+    "Writes ok POSITION CUT ROLLED SEALED: how many messages were taken in, how many\n\
+     of them stand in sums alone, how many files of sums and how many sealed segments\n\
+     there are. A damaged archive is told on standard error as 20 Damaged FILE AT,\n\
+     21 Format SLOT, 22 Entries SLOT, 23 Cut SLOT or 24 NoArchive: status 5.\n\
+     \n\
+     Example: flowvault check flows";
+
+/// What `totals` does, in a line or two.
+const TOTALS_ABOUT: &str =
+    "Sums the flows in the archive of a folder, by interval, Observation\nDomain and protocol";
+
+/// What is told below the arguments of `totals`.
+const TOTALS_HELP: &str =
+    "Each line: START DOMAIN PROTOCOL FLOWS OCTETS PACKETS, as of measure, for the\n\
+     intervals that start from FROM on and before TO. Sums over wide intervals have\n\
+     the interval's width in seconds as a seventh number. A damaged archive is told\n\
+     as of check: status 5.\n\
+     \n\
+     Example: flowvault totals flows 0 4294967296";
+
+/// What `flows` does, in a line or two.
+const FLOWS_ABOUT: &str = "Writes the flows in the archive of a folder that aren't rolled";
+
+/// What is told below the arguments of `flows`.
+const FLOWS_HELP: &str =
+    "Each line: START DOMAIN PROTOCOL OCTETS PACKETS, for the flows that start from\n\
+     FROM on and before TO, in the order in which they were taken in. START is in\n\
+     seconds since 1970-01-01 00:00 UTC; PROTOCOL is - where a flow has none. A\n\
+     damaged archive is told as of check: status 5.\n\
+     \n\
+     Example: flowvault flows flows 1700000000 1700003600";
+
+/// What `feed` does, in a line or two.
+const FEED_ABOUT: &str = "Takes IPFIX Files into the archive of a folder";
+
+/// What is told below the arguments of `feed`.
+const FEED_HELP: &str =
+    "The Files are taken in one after the other. Of each a line is written: fed N\n\
+     MESSAGES, or stopped N MESSAGES NUMBER NAME, where the message behind the first\n\
+     MESSAGES isn't taken in, or the File ends within it; N counts the Files from 1.\n\
+     Messages that were taken in stay, whatever comes later, a stop of the machine\n\
+     too: feed the rest of a File, not all of it again. Where there are more than\n\
+     --keep sealed segments, older ones are rolled meanwhile, as of roll. A terminal\n\
+     on standard error is shown how much of a File is read.\n\
+     The exit status is that of the first File that stopped. An archive that can't be\n\
+     opened is told on standard error before a File is read.\n\
+     \n\
+     Example: flowvault feed flows FILE OTHER --keep 24";
+
+/// What `roll` does, in a line or two.
+const ROLL_ABOUT: &str = "Sums the sealed segments of the archive in a folder, but the newest";
+
+/// What is told below the arguments of `roll`.
+const ROLL_HELP: &str =
+    "All sealed segments but the newest KEEP become one file of sums, and are removed:\n\
+     their flows stay in totals, and are no longer told by flows. Writes rolled K: how\n\
+     many they were, 0 where there are none.\n\
+     \n\
+     Example: flowvault roll flows 8";
+
+/// What `merge` does, in a line or two.
+const MERGE_ABOUT: &str =
+    "Sums the rolled files of the archive in a folder over wide intervals,\nbut the newest";
+
+/// What is told below the arguments of `merge`.
+const MERGE_HELP: &str =
+    "All rolled files but the newest KEEP become one file of sums over wide intervals,\n\
+     and are removed. Writes merged K: how many they were, 0 where there are none.\n\
+     \n\
+     Example: flowvault merge flows 8";
+
+/// What `explain` does, in a line or two.
+const EXPLAIN_ABOUT: &str = "Tells what a refusal means, what usually causes it, and what to do";
+
+/// What is told below the arguments of `explain`.
+const EXPLAIN_HELP: &str =
+    "A refusal is told on standard error as 'flowvault: NUMBER NAME ..'. A number that\n\
+     no refusal has is a wrong command line: status 2.\n\
+     \n\
+     Example: flowvault explain 16";
+
+/// What is told below the commands.
+const PROGRAM_HELP: &str = "Examples: flowvault measure 300 < FILE\n\
+     \x20         flowvault create flows 300 && flowvault check flows\n\
+     \n\
+     A refusal is told on standard error as 'flowvault: NUMBER NAME ..'.\n\
+     Exit status: 0 done, 1 input refused, 2 wrong command line,\n\
+     3 reading, writing or the device failed, 4 no memory, 5 archive damaged";
+
+/// An argument that has to be there, once.
+fn needed<'a>(alloc: Global, id: &'a str, help: &'a str) -> Arg<'a>
+    ensures rule { rule_of result ≡ needed id.now }
+    ensures own { result.global ≡ false }
+{
+    Arg::new(alloc, id)
+        .required(true)
+        .action(ArgAction::Set)
+        .help(help)
+}
+
+/// An argument that has to be there, and may be there again.
+fn several<'a>(alloc: Global, id: &'a str, help: &'a str) -> Arg<'a>
+    ensures rule { rule_of result ≡ several id.now }
+    ensures own { result.global ≡ false }
+{
+    Arg::new(alloc, id)
+        .required(true)
+        .action(ArgAction::Append)
+        .help(help)
+}
+
+/// An option with a value.
+fn option<'a>(alloc: Global, id: &'a str, name: &'a str, help: &'a str) -> Arg<'a>
+    ensures rule { rule_of result ≡ option id.now name.now }
+    ensures own { result.global ≡ false }
+{
+    Arg::new(alloc, id)
+        .long(name)
+        .action(ArgAction::Set)
+        .help(help)
+}
+
+/// The width of the intervals.
+fn width_argument<'a>(alloc: Global) -> Arg<'a>
+    ensures rule { rule_of result ≡ width_rule }
+    ensures own { result.global ≡ false }
+{
+    needed(
+        alloc,
+        "WIDTH",
+        "Interval width in seconds: digits alone, 1 to 86400",
+    )
+}
+
+/// The folder of an archive.
+fn folder_argument<'a>(alloc: Global) -> Arg<'a>
+    ensures rule { rule_of result ≡ folder_rule }
+    ensures own { result.global ≡ false }
+{
+    needed(alloc, "DIR", "Folder of the archive")
+}
+
+/// The command `measure`, with its help.
+fn measure_command<'a>(alloc: Global) -> Result<Command<'a>, AllocError>
+    ensures shape { IfOk result (λ command. shape_of command ≡ measure_shape) }
+    ensures own { IfOk result (λ command. (fields_of command).has_globals ≡ false) }
+{
+    Command::new(alloc, "measure")
+        .about(MEASURE_ABOUT)
+        .after_help(MEASURE_HELP)
+        .arg(width_argument(alloc))
+}
+
+/// The command `dump`, with its help.
+fn dump_command<'a>(alloc: Global) -> Command<'a>
+    ensures shape { shape_of result ≡ dump_shape }
+    ensures own { (fields_of result).has_globals ≡ false }
+{
+    Command::new(alloc, "dump")
+        .about(DUMP_ABOUT)
+        .after_help(DUMP_HELP)
+}
+
+/// The command `create` but for its last argument.
+fn sized_command<'a>(alloc: Global) -> Result<Command<'a>, AllocError>
+    ensures shape { IfOk result (λ command. shape_of command ≡ sized_shape) }
+    ensures own { IfOk result (λ command. (fields_of command).has_globals ≡ false) }
+{
+    Command::new(alloc, "create")
+        .about(CREATE_ABOUT)
+        .after_help(CREATE_HELP)
+        .arg(folder_argument(alloc))?
+        .arg(width_argument(alloc))?
+        .arg(option(
+            alloc,
+            "N",
+            "limit",
+            "Octets of a segment: 65535 to 16777216 [1048576]",
+        ))
+}
+
+/// The command `create`, with its help.
+fn create_command<'a>(alloc: Global) -> Result<Command<'a>, AllocError>
+    ensures shape { IfOk result (λ command. shape_of command ≡ create_shape) }
+    ensures own { IfOk result (λ command. (fields_of command).has_globals ≡ false) }
+{
+    sized_command(alloc)?.arg(option(
+        alloc,
+        "SECONDS",
+        "wide",
+        "Wide width: a multiple of WIDTH up to 86400",
+    ))
+}
+
+/// The command `check`, with its help.
+fn check_command<'a>(alloc: Global) -> Result<Command<'a>, AllocError>
+    ensures shape { IfOk result (λ command. shape_of command ≡ check_shape) }
+    ensures own { IfOk result (λ command. (fields_of command).has_globals ≡ false) }
+{
+    Command::new(alloc, "check")
+        .about(CHECK_ABOUT)
+        .after_help(CHECK_HELP)
+        .arg(folder_argument(alloc))
+}
+
+/// A command that asks an archive about a span of starts, with its help.
+fn span_command<'a>(
+    alloc: Global,
+    name: &'a str,
+    about: &'a str,
+    help: &'a str,
+) -> Result<Command<'a>, AllocError>
+    ensures shape { IfOk result (λ command. shape_of command ≡ span_shape name.now) }
+    ensures own { IfOk result (λ command. (fields_of command).has_globals ≡ false) }
+{
+    Command::new(alloc, name)
+        .about(about)
+        .after_help(help)
+        .arg(folder_argument(alloc))?
+        .arg(needed(
+            alloc,
+            "FROM",
+            "Starts from it on: seconds since 1970-01-01 00:00 UTC",
+        ))?
+        .arg(needed(alloc, "TO", "Starts before it: up to 4294967296"))
+}
+
+/// The command `feed`, with its help.
+fn feed_command<'a>(alloc: Global) -> Result<Command<'a>, AllocError>
+    ensures shape { IfOk result (λ command. shape_of command ≡ feed_shape) }
+    ensures own { IfOk result (λ command. (fields_of command).has_globals ≡ false) }
+{
+    Command::new(alloc, "feed")
+        .about(FEED_ABOUT)
+        .after_help(FEED_HELP)
+        .arg(folder_argument(alloc))?
+        .arg(several(alloc, "FILE", "Paths of 1 to 8 IPFIX Files"))?
+        .arg(option(
+            alloc,
+            "KEEP",
+            "keep",
+            "Newest segments that aren't rolled: 0 to 4294967295 [8]",
+        ))
+}
+
+/// A command that sums files of an archive but the newest, with its help.
+fn keep_command<'a>(
+    alloc: Global,
+    name: &'a str,
+    about: &'a str,
+    help: &'a str,
+) -> Result<Command<'a>, AllocError>
+    ensures shape { IfOk result (λ command. shape_of command ≡ keep_shape name.now) }
+    ensures own { IfOk result (λ command. (fields_of command).has_globals ≡ false) }
+{
+    Command::new(alloc, name)
+        .about(about)
+        .after_help(help)
+        .arg(folder_argument(alloc))?
+        .arg(needed(
+            alloc,
+            "KEEP",
+            "How many of the newest are left: 0 to 4294967295",
+        ))
+}
+
+/// The command `explain`, with its help.
+fn explain_command<'a>(alloc: Global) -> Result<Command<'a>, AllocError>
+    ensures shape { IfOk result (λ command. shape_of command ≡ explain_shape) }
+    ensures own { IfOk result (λ command. (fields_of command).has_globals ≡ false) }
+{
+    Command::new(alloc, "explain")
+        .about(EXPLAIN_ABOUT)
+        .after_help(EXPLAIN_HELP)
+        .arg(needed(alloc, "NUMBER", "Number of a refusal"))
+}
+
+/// The program without its commands, with its help.
+fn program<'a>(alloc: Global) -> Command<'a>
+    ensures { app_of result ≡ program }
+{
+    Command::new(alloc, "flowvault")
+        .about("A crash-safe archive of IPFIX Files (RFC 5655)")
+        .version("0.1.0")
+        .after_help(PROGRAM_HELP)
+        .subcommand_required(true)
+}
+
+/// The program with the commands that read standard input.
+fn with_streams<'a>(alloc: Global) -> Result<Command<'a>, AllocError>
+    ensures { IfOk result (λ command. app_of command ≡ with_streams) }
+{
+    program(alloc)
+        .subcommand(measure_command(alloc)?)?
+        .subcommand(dump_command(alloc))
+}
+
+/// The program with these, and those that make or open an archive and ask it nothing.
+fn with_archives<'a>(alloc: Global) -> Result<Command<'a>, AllocError>
+    ensures { IfOk result (λ command. app_of command ≡ with_archives) }
+{
+    with_streams(alloc)?
+        .subcommand(create_command(alloc)?)?
+        .subcommand(check_command(alloc)?)
+}
+
+/// The program with these, and those that ask an archive.
+fn with_queries<'a>(alloc: Global) -> Result<Command<'a>, AllocError>
+    ensures { IfOk result (λ command. app_of command ≡ with_queries) }
+{
+    with_archives(alloc)?
+        .subcommand(span_command(alloc, "totals", TOTALS_ABOUT, TOTALS_HELP)?)?
+        .subcommand(span_command(alloc, "flows", FLOWS_ABOUT, FLOWS_HELP)?)
+}
+
+/// The program with these, and the one that takes Files into an archive.
+fn with_feeding<'a>(alloc: Global) -> Result<Command<'a>, AllocError>
+    ensures { IfOk result (λ command. app_of command ≡ with_feeding) }
+{
+    with_queries(alloc)?.subcommand(feed_command(alloc)?)
+}
+
+/// The program with these, and those that roll the files of an archive.
+fn with_rolling<'a>(alloc: Global) -> Result<Command<'a>, AllocError>
+    ensures { IfOk result (λ command. app_of command ≡ with_rolling) }
+{
+    with_feeding(alloc)?
+        .subcommand(keep_command(alloc, "roll", ROLL_ABOUT, ROLL_HELP)?)?
+        .subcommand(keep_command(alloc, "merge", MERGE_ABOUT, MERGE_HELP)?)
+}
+
+/// The command line, with its commands and their help.
+pub(crate) fn command_line<'a>(alloc: Global) -> Result<Command<'a>, AllocError>
+    ensures { IfOk result (λ command. app_of command ≡ flowvault) }
+{
+    with_rolling(alloc)?.subcommand(explain_command(alloc)?)
+}

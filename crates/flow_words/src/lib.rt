@@ -1,0 +1,14 @@
+//! Command lines: what their words ask for, and what a run of the program answers.
+//!
+//! What the program may count on: words ask for exactly what is said of them, or for nothing, which one line tells; a
+//! run is that of the command that they ask for, on the input and the folder that they name, and answers its status;
+//! status 0 leaves standard error as it was.
+#![tactic(auto)]
+
+mod arguments;
+mod explaining;
+mod grammar;
+mod request;
+mod run;
+
+pub use run::run_line;

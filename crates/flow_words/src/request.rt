@@ -1,0 +1,240 @@
+//! What the words of a command line ask for.
+
+ghost use Rattle.std.specs.Prelude.{◌≡◌, ◌≢◌, ◌⊎◌, Some, map, IfOk, IfErr};
+ghost use Rattle.clap.specs.Values.{kind_of};
+ghost use Rattle.clap.specs.Matches.{found_of};
+ghost use Rattle.clap.specs.Walk.{rows_of};
+ghost use Rattle.clap.specs.Simple.{subcommand_rows_of};
+ghost use Rattle.flow_words.specs.Arguments.{changing, create_in, fed_in, queried, requested, request_in, unfed};
+ghost use Rattle.flow_words.specs.CommandLine.{asked};
+ghost use Rattle.flow_words.specs.Requested.{IsLineError, IsWrongValue};
+ghost use Rattle.clap.specs.declared.error.kind.ErrorKind.TheVariants as ErrorKind;
+ghost use Rattle.flow_words.specs.declared.request.LineError.TheVariants as LineError;
+
+use crate::arguments::{
+    FileNames, FolderName, explained_in, files_in, folder_in, keep_in, kept_in, plan_in, span_in,
+    width_in,
+};
+use crate::explaining::Explanation;
+use crate::grammar::command_line;
+use clap::error::ErrorKind;
+use clap::{ArgMatches, Error};
+use flow_commands::{NewArchive, StartSpan};
+use flow_report::Width;
+use std::alloc::{AllocError, Global};
+use std::convert::AsStr;
+
+/// A command with its arguments.
+#[derive(Drop)]
+pub enum Request<'a> {
+    /// Totals lines of the File on standard input.
+    Measure {
+        width: Width,
+    },
+    /// Message and record lines of the File on standard input.
+    Dump,
+    /// A new archive in a folder.
+    Create {
+        folder: FolderName<'a>,
+        plan: NewArchive,
+    },
+    /// The line of what stands in the archive of a folder.
+    Check {
+        folder: FolderName<'a>,
+    },
+    /// Totals lines of the archive of a folder.
+    Totals {
+        folder: FolderName<'a>,
+        span: StartSpan,
+    },
+    /// Lines of the flows in the archive of a folder that aren't rolled.
+    Flows {
+        folder: FolderName<'a>,
+        span: StartSpan,
+    },
+    /// Files are taken into the archive of a folder.
+    Feed {
+        folder: FolderName<'a>,
+        keep: u32,
+        files: FileNames<'a>,
+    },
+    /// All sealed segments but the newest become one rolled file.
+    Roll {
+        folder: FolderName<'a>,
+        keep: u32,
+    },
+    /// All rolled files but the newest become one file of wide intervals.
+    Merge {
+        folder: FolderName<'a>,
+        keep: u32,
+    },
+    /// What a refusal means.
+    Explain {
+        refusal: Explanation,
+    },
+}
+
+/// Why a command line asks for nothing.
+#[derive(Drop)]
+pub enum LineError {
+    /// The parser of the command line says why, or has the help that was asked for.
+    Parser(Error),
+    /// The width of `measure` isn't digits alone, from 1 to 86,400.
+    Width,
+    /// A number of a new archive isn't digits alone, or out of its range.
+    Plan,
+    /// A second of a span isn't digits alone, or is past 2^32.
+    Span,
+    /// How many files are left isn't digits alone, or is past 2^32 - 1.
+    Keep,
+    /// There are more than 8 Files, or how many segments are left isn't digits alone, or is past 2^32 - 1.
+    Files,
+    /// No refusal has the number.
+    Number,
+    OutOfMemory,
+}
+
+/// Why the parser of the command line stopped.
+fn line_error(error: Error) -> LineError
+    ensures memory { kind_of error ≡ ErrorKind.OutOfMemory → result ≡ LineError.OutOfMemory }
+    ensures other { kind_of error ≢ ErrorKind.OutOfMemory → result ≡ LineError.Parser error }
+    ensures either { (result ≡ LineError.OutOfMemory) ⊎ (result ≡ LineError.Parser error) }
+{
+    if error.kind() == ErrorKind::OutOfMemory {
+        return LineError::OutOfMemory;
+    }
+    LineError::Parser(error)
+}
+
+/// What `create` asks for.
+fn create_in<'a>(arguments: &ArgMatches<'a>) -> Option<Request<'a>>
+    ensures { result ≡ create_in (rows_of (found_of arguments.now)) }
+{
+    let folder = folder_in(arguments)?;
+    let plan = plan_in(arguments)?;
+    Some(Request::Create { folder, plan })
+}
+
+/// What a command that changes an archive asks for, by its name and its arguments.
+fn changing<'a>(name: &str, arguments: &ArgMatches<'a>) -> Option<Request<'a>>
+    ensures { result ≡ changing name.now (rows_of (found_of arguments.now)) }
+{
+    match name {
+        "roll" => Some(Request::Roll {
+            folder: folder_in(arguments)?,
+            keep: keep_in(arguments)?,
+        }),
+        "merge" => Some(Request::Merge {
+            folder: folder_in(arguments)?,
+            keep: keep_in(arguments)?,
+        }),
+        _ => None,
+    }
+}
+
+/// What a query asks for, by its name and its arguments.
+fn queried<'a>(name: &str, arguments: &ArgMatches<'a>) -> Option<Request<'a>>
+    ensures { result ≡ queried name.now (rows_of (found_of arguments.now)) }
+{
+    match name {
+        "totals" => Some(Request::Totals {
+            folder: folder_in(arguments)?,
+            span: span_in(arguments)?,
+        }),
+        "flows" => Some(Request::Flows {
+            folder: folder_in(arguments)?,
+            span: span_in(arguments)?,
+        }),
+        "explain" => Some(Request::Explain {
+            refusal: explained_in(arguments)?,
+        }),
+        _ => changing(name, arguments),
+    }
+}
+
+/// What a command other than `feed` asks for, by its name and its arguments.
+fn unfed<'a>(name: &str, arguments: &ArgMatches<'a>) -> Option<Request<'a>>
+    ensures { result ≡ unfed name.now (rows_of (found_of arguments.now)) }
+{
+    match name {
+        "measure" => Some(Request::Measure {
+            width: width_in(arguments)?,
+        }),
+        "dump" => Some(Request::Dump),
+        "create" => create_in(arguments),
+        "check" => Some(Request::Check {
+            folder: folder_in(arguments)?,
+        }),
+        _ => queried(name, arguments),
+    }
+}
+
+/// What `feed` asks for.
+fn fed_in<'a>(alloc: Global, arguments: &ArgMatches<'a>) -> Result<Option<Request<'a>>, AllocError>
+    ensures { IfOk result (λ request. request ≡ fed_in (rows_of (found_of arguments.now))) }
+{
+    let files = files_in(alloc, arguments)?;
+    match (folder_in(arguments), kept_in(arguments), files) {
+        (Some(folder), Some(keep), Some(files)) => Ok(Some(Request::Feed {
+            folder,
+            keep,
+            files,
+        })),
+        _ => Ok(None),
+    }
+}
+
+/// What a command asks for, by its name and its arguments.
+fn requested<'a>(
+    alloc: Global,
+    name: &str,
+    arguments: &ArgMatches<'a>,
+) -> Result<Option<Request<'a>>, AllocError>
+    ensures { IfOk result (λ request. request ≡ requested name.now (rows_of (found_of arguments.now))) }
+{
+    match name {
+        "feed" => fed_in(alloc, arguments),
+        _ => Ok(unfed(name, arguments)),
+    }
+}
+
+/// What a command line asks for that its parser took.
+fn found<'a>(alloc: Global, matches: &ArgMatches<'a>) -> Result<Option<Request<'a>>, AllocError>
+    ensures { IfOk result (λ request. request ≡ request_in (subcommand_rows_of matches.now)) }
+{
+    match matches.subcommand() {
+        Some((name, arguments)) => requested(alloc, name, arguments),
+        None => Ok(None),
+    }
+}
+
+/// What is wrong with the values that a command line has.
+fn wrong_value(matches: &ArgMatches<'_>) -> LineError
+    ensures { IsWrongValue result }
+{
+    match matches.subcommand() {
+        Some(("create", _)) => LineError::Plan,
+        Some(("totals" | "flows", _)) => LineError::Span,
+        Some(("feed", _)) => LineError::Files,
+        Some(("roll" | "merge", _)) => LineError::Keep,
+        Some(("explain", _)) => LineError::Number,
+        _ => LineError::Width,
+    }
+}
+
+/// Reads the words, of which the first is the program's name.
+pub fn parse<'a, S: AsStr>(alloc: Global, words: &'a [S]) -> Result<Request<'a>, LineError>
+    ensures found { IfOk result (λ request. asked (map S.text words.now) ≡ Some request) }
+    ensures refused { IfErr result (λ e. IsLineError (map S.text words.now) e) }
+{
+    let Ok(command) = command_line(alloc) else {
+        return Err(LineError::OutOfMemory);
+    };
+    match command.try_get_matches_from(words) {
+        Ok(matches) => match found(alloc, &matches) {
+            Ok(request) => request.ok_or(wrong_value(&matches)),
+            Err(AllocError) => Err(LineError::OutOfMemory),
+        },
+        Err(error) => Err(line_error(error)),
+    }
+}

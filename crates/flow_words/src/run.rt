@@ -1,0 +1,511 @@
+//! One run of the program: words and an input in, lines and a status out.
+
+ghost use Rattle.std.specs.Prelude.{◌≡◌, ◌≢◌, ◌≤◌, OnOk, OnErr, IfOk, IfErr, IfSome, length, map, string_bytes};
+ghost use Rattle.std.specs.Io.KnownBytes.{Appends, Keeps};
+ghost use Rattle.clap.specs.Values.{kind_of};
+ghost use Rattle.flow_report.specs.Refusals.{status_of};
+ghost use Rattle.flow_report.specs.Printed.{printed, line_of};
+ghost use Rattle.flow_words.specs.Printed.{kind_text, words_text};
+ghost use Rattle.flow_report.specs.Writing.{AppendsFront};
+ghost use Rattle.flow_commands.specs.Archives.{archive_printed, archive_status};
+ghost use Rattle.flow_commands.specs.Asking.{AreFlows, AreRows};
+ghost use Rattle.flow_commands.specs.Rolling.{IsJobLine};
+ghost use Rattle.flow_words.specs.Run.{AskEnds, CheckEnds, CreateEnds, FeedEnds, Runs, IsArchiveTold, IsHelp, IsTold};
+ghost use Rattle.flow_words.specs.Run.{IsRefusalTold, IsAnswered, IsShown};
+ghost use Rattle.flow_words.specs.declared.request.Request.TheVariants as asked;
+
+use crate::arguments::{FileNames, FolderName};
+use crate::explaining::Explanation;
+use crate::request::{LineError, Request, parse};
+use clap::Error;
+use clap::error::ErrorKind;
+use flow_commands::{
+    ArchiveRefusal, NewArchive, Progress, StartSpan, check_in, create_in, feed_in, flows_in,
+    roll_in, totals_in,
+};
+use flow_folder::Lockable;
+use flow_manifest::JobKind;
+use flow_report::{Patience, Refusal, Width, dump, measure, write_patiently};
+use std::alloc::{AllocError, AllocGlobal, Global};
+use std::convert::AsStr;
+use std::fmt::Display;
+use std::fs::Files;
+use std::io::{Read, Write};
+use std::os::unix::fs::FileExt;
+
+/// The status of a run that did its work, or showed its help.
+const DONE: u8 = 0;
+
+/// The status of a run whose words ask for nothing.
+const WRONG_LINE: u8 = 2;
+
+/// What is told where no memory was found.
+const NO_MEMORY: &str = "flowvault: 11 OutOfMemory\n";
+
+/// What is told of a width that isn't one.
+const WRONG_WIDTH: &str =
+    "flowvault: WIDTH is 1 to 86400, digits alone, as in: flowvault measure 300 < FILE\n";
+
+/// What is told of numbers that no new archive has.
+const WRONG_PLAN: &str =
+    "flowvault: WIDTH is 1 to 86400, --limit 65535 to 16777216, --wide a multiple of WIDTH up to \
+     86400, all digits alone\n";
+
+/// What is told of seconds that no span has.
+const WRONG_SPAN: &str =
+    "flowvault: FROM and TO are seconds since 1970-01-01 00:00 UTC, digits alone, 0 to 4294967296\n";
+
+/// What is told of a number of files that can't be left.
+const WRONG_KEEP: &str =
+    "flowvault: KEEP is how many of the newest files are left, digits alone, 0 to 4294967295\n";
+
+/// What is told of too many Files, or of a number of segments that can't be left.
+const WRONG_FILES: &str =
+    "flowvault: FILE is given 1 to 8 times, --keep is how many of the newest segments are left, 0 to 4294967295\n";
+
+/// What is told of a number that no refusal has.
+const WRONG_NUMBER: &str =
+    "flowvault: no refusal has this NUMBER: they are 1 to 11, 14 to 17, 20 to 27, 30 to 32, 40 to 49\n";
+
+/// What is told where a command is missing.
+const NO_COMMAND: &str = "flowvault: a command is needed: flowvault --help lists them\n";
+
+/// What is told where an argument is missing.
+const NO_ARGUMENT: &str =
+    "flowvault: an argument is missing, as WIDTH in: flowvault measure 300 < FILE; flowvault help COMMAND tells them\n";
+
+/// What is told of any other wrong words.
+const WRONG_WORDS: &str =
+    "flowvault: a word isn't understood; a File is read from standard input: flowvault measure 300 < FILE\n";
+
+/// Writes octets.
+fn write_octets<W: Write>(to: &mut W, octets: &[u8]) -> Result<(), Refusal>
+    ensures all { OnOk result (Appends (W.contents to.old) (W.contents to.new) octets.now) }
+    ensures front { OnErr result (AppendsFront (W.contents to.old) (W.contents to.new) octets.now) }
+{
+    write_patiently(to, octets, &mut Patience::new())?;
+    Ok(())
+}
+
+/// Tells a line on standard error, or as much of it as can be written: the status tells the same.
+fn tell_line<E: Write>(errors: &mut E, line: &[u8])
+    ensures { AppendsFront (E.contents errors.old) (E.contents errors.new) line.now }
+{
+    let _ = write_octets(errors, line);
+}
+
+/// The line of a refusal.
+fn refusal_line(alloc: Global, refusal: &Refusal) -> Result<String, AllocError>
+    ensures { IfOk result (λ line. string_bytes line ≡ line_of (printed refusal.now)) }
+{
+    format!(in alloc; "flowvault: {refusal}\n")
+}
+
+/// Tells a refusal as `flowvault: NUMBER NAME ..`. A want of memory is told without any; where there is none for the
+/// line of another refusal, nothing is told.
+#[tactic(auto, using(crate::proofs::Told::nothing_told, crate::proofs::Told::line_told))]
+fn tell_refusal<E: Write>(alloc: Global, errors: &mut E, refusal: &Refusal)
+    ensures { IsRefusalTold refusal.now (E.contents errors.old) (E.contents errors.new) }
+{
+    if let Refusal::OutOfMemory = refusal {
+        tell_line(errors, NO_MEMORY.as_bytes());
+        return;
+    }
+    let Ok(line) = refusal_line(alloc, refusal) else {
+        return;
+    };
+    tell_line(errors, line.as_bytes());
+}
+
+/// Tells a refusal, and answers its exit status.
+fn tell<E: Write>(alloc: Global, errors: &mut E, refusal: &Refusal) -> u8
+    ensures status { result ≡ status_of refusal.now }
+    ensures failed { 1 ≤ result }
+    ensures other { result ≢ 2 }
+    ensures told { IsRefusalTold refusal.now (E.contents errors.old) (E.contents errors.new) }
+{
+    tell_refusal(alloc, errors, refusal);
+    refusal.status()
+}
+
+/// The line of a refusal of a command over an archive.
+fn archive_line(alloc: Global, refusal: &ArchiveRefusal) -> Result<String, AllocError>
+    ensures { IfOk result (λ line. string_bytes line ≡ line_of (archive_printed refusal.now)) }
+{
+    format!(in alloc; "flowvault: {refusal}\n")
+}
+
+/// Tells the refusal of a command over an archive. A want of memory is told without any; where there is none for the
+/// line of another refusal, nothing is told.
+#[tactic(auto, using(crate::proofs::Told::nothing_told_of_archive, crate::proofs::Told::line_told_of_archive))]
+fn tell_archive_refusal<E: Write>(alloc: Global, errors: &mut E, refusal: &ArchiveRefusal)
+    ensures { IsArchiveTold refusal.now (E.contents errors.old) (E.contents errors.new) }
+{
+    if let ArchiveRefusal::OutOfMemory = refusal {
+        tell_line(errors, NO_MEMORY.as_bytes());
+        return;
+    }
+    let Ok(line) = archive_line(alloc, refusal) else {
+        return;
+    };
+    tell_line(errors, line.as_bytes());
+}
+
+/// Tells the refusal of a command over an archive, and answers its exit status.
+fn tell_of_archive<E: Write>(alloc: Global, errors: &mut E, refusal: &ArchiveRefusal) -> u8
+    ensures status { result ≡ archive_status refusal.now }
+    ensures failed { 1 ≤ result }
+    ensures other { result ≢ 2 }
+    ensures most { result ≤ 5 }
+    ensures told { IsArchiveTold refusal.now (E.contents errors.old) (E.contents errors.new) }
+{
+    tell_archive_refusal(alloc, errors, refusal);
+    refusal.status()
+}
+
+/// Runs `measure`.
+fn run_measure<R: Read, W: Write, E: Write>(
+    alloc: Global,
+    width: Width,
+    input: &mut R,
+    output: &mut W,
+    errors: &mut E,
+) -> u8
+    ensures runs { Runs (asked.Measure width) (R.remaining input.old) (R.remaining input.new) (W.contents output.old)
+        (W.contents output.new) (E.contents errors.old) (E.contents errors.new) result }
+    ensures quiet { result ≡ 0 → Keeps (E.contents errors.old) (E.contents errors.new) }
+    ensures status { result ≤ 5 }
+    ensures other { result ≢ 2 }
+{
+    match measure(alloc, width, input, output) {
+        Ok(()) => DONE,
+        Err(refusal) => tell(alloc, errors, &refusal),
+    }
+}
+
+/// Runs `dump`.
+fn run_dump<R: Read, W: Write, E: Write>(
+    alloc: Global,
+    input: &mut R,
+    output: &mut W,
+    errors: &mut E,
+) -> u8
+    ensures runs { Runs asked.Dump (R.remaining input.old) (R.remaining input.new) (W.contents output.old)
+        (W.contents output.new) (E.contents errors.old) (E.contents errors.new) result }
+    ensures quiet { result ≡ 0 → Keeps (E.contents errors.old) (E.contents errors.new) }
+    ensures status { result ≤ 5 }
+    ensures other { result ≢ 2 }
+{
+    match dump(alloc, input, output) {
+        Ok(()) => DONE,
+        Err(refusal) => tell(alloc, errors, &refusal),
+    }
+}
+
+/// Runs `create`.
+fn run_create<H: Files + AllocGlobal + Clone + Drop, E: Write>(
+    rt: &H,
+    folder: &FolderName<'_>,
+    plan: &NewArchive,
+    errors: &mut E,
+) -> u8
+where
+    H::File: FileExt + Lockable,
+    ensures runs { CreateEnds (E.contents errors.old) (E.contents errors.new) result }
+    ensures quiet { result ≡ 0 → Keeps (E.contents errors.old) (E.contents errors.new) }
+    ensures status { result ≤ 5 }
+    ensures other { result ≢ 2 }
+{
+    match create_in(rt, folder.path, plan) {
+        Ok(()) => DONE,
+        Err(refusal) => tell_of_archive(rt.alloc(), errors, &refusal),
+    }
+}
+
+/// Runs `check`.
+fn run_check<H: Files + AllocGlobal + Clone + Drop, W: Write, E: Write>(
+    rt: &H,
+    folder: &FolderName<'_>,
+    output: &mut W,
+    errors: &mut E,
+) -> u8
+where
+    H::File: FileExt + Lockable,
+    ensures runs { CheckEnds (W.contents output.old) (W.contents output.new) (E.contents errors.old)
+        (E.contents errors.new) result }
+    ensures quiet { result ≡ 0 → Keeps (E.contents errors.old) (E.contents errors.new) }
+    ensures status { result ≤ 5 }
+    ensures other { result ≢ 2 }
+{
+    match check_in(rt, folder.path, output) {
+        Ok(()) => DONE,
+        Err(refusal) => tell_of_archive(rt.alloc(), errors, &refusal),
+    }
+}
+
+/// Runs `totals`.
+fn run_totals<H: Files + AllocGlobal + Clone + Drop, W: Write, E: Write>(
+    rt: &H,
+    folder: &FolderName<'_>,
+    span: &StartSpan,
+    output: &mut W,
+    errors: &mut E,
+) -> u8
+where
+    H::File: FileExt + Lockable,
+    ensures runs { AskEnds AreRows (W.contents output.old) (W.contents output.new) (E.contents errors.old)
+        (E.contents errors.new) result }
+    ensures quiet { result ≡ 0 → Keeps (E.contents errors.old) (E.contents errors.new) }
+    ensures status { result ≤ 5 }
+    ensures other { result ≢ 2 }
+{
+    match totals_in(rt, folder.path, span, output) {
+        Ok(()) => DONE,
+        Err(refusal) => tell_of_archive(rt.alloc(), errors, &refusal),
+    }
+}
+
+/// Runs `flows`.
+fn run_flows<H: Files + AllocGlobal + Clone + Drop, W: Write, E: Write>(
+    rt: &H,
+    folder: &FolderName<'_>,
+    span: &StartSpan,
+    output: &mut W,
+    errors: &mut E,
+) -> u8
+where
+    H::File: FileExt + Lockable,
+    ensures runs { AskEnds AreFlows (W.contents output.old) (W.contents output.new) (E.contents errors.old)
+        (E.contents errors.new) result }
+    ensures quiet { result ≡ 0 → Keeps (E.contents errors.old) (E.contents errors.new) }
+    ensures status { result ≤ 5 }
+    ensures other { result ≢ 2 }
+{
+    match flows_in(rt, folder.path, span, output) {
+        Ok(()) => DONE,
+        Err(refusal) => tell_of_archive(rt.alloc(), errors, &refusal),
+    }
+}
+
+/// Runs `feed`.
+fn run_feed<H: Files + AllocGlobal + Clone + Drop, W: Write, E: Write, P: Write + Drop>(
+    rt: &H,
+    folder: &FolderName<'_>,
+    keep: u32,
+    files: &FileNames<'_>,
+    output: &mut W,
+    errors: &mut E,
+    progress: &mut Progress<P>,
+) -> u8
+where
+    H::File: FileExt + Lockable,
+    ensures runs { FeedEnds (length files.now) (W.contents output.old) (W.contents output.new) (E.contents errors.old)
+        (E.contents errors.new) result }
+    ensures quiet { result ≡ 0 → Keeps (E.contents errors.old) (E.contents errors.new) }
+    ensures status { result ≤ 5 }
+    ensures other { result ≢ 2 }
+{
+    match feed_in(
+        rt,
+        folder.path,
+        keep,
+        files.paths.as_slice(),
+        output,
+        progress,
+    ) {
+        Ok(status) => status,
+        Err(refusal) => tell_of_archive(rt.alloc(), errors, &refusal),
+    }
+}
+
+/// Runs `roll` or `merge`.
+fn run_job<H: Files + AllocGlobal + Clone + Drop, W: Write, E: Write>(
+    rt: &H,
+    folder: &FolderName<'_>,
+    kind: JobKind,
+    keep: u32,
+    output: &mut W,
+    errors: &mut E,
+) -> u8
+where
+    H::File: FileExt + Lockable,
+    ensures runs { AskEnds (IsJobLine kind) (W.contents output.old) (W.contents output.new) (E.contents errors.old)
+        (E.contents errors.new) result }
+    ensures quiet { result ≡ 0 → Keeps (E.contents errors.old) (E.contents errors.new) }
+    ensures status { result ≤ 5 }
+    ensures other { result ≢ 2 }
+{
+    match roll_in(rt, folder.path, kind, keep, output) {
+        Ok(()) => DONE,
+        Err(refusal) => tell_of_archive(rt.alloc(), errors, &refusal),
+    }
+}
+
+/// Runs `explain`.
+fn run_explain<W: Write, E: Write>(
+    alloc: Global,
+    refusal: &Explanation,
+    output: &mut W,
+    errors: &mut E,
+) -> u8
+    ensures shown { IsShown (E.contents errors.old) (E.contents errors.new) result }
+    ensures quiet { result ≡ 0 → Keeps (E.contents errors.old) (E.contents errors.new) }
+    ensures status { result ≤ 5 }
+    ensures other { result ≢ 2 }
+{
+    match write_octets(output, refusal.text().as_bytes()) {
+        Ok(()) => DONE,
+        Err(refusal) => tell(alloc, errors, &refusal),
+    }
+}
+
+/// Runs a command, and tells a refusal on `errors` as `flowvault: NUMBER NAME ..`. It answers the exit status.
+fn run<H: Files + AllocGlobal + Clone + Drop, R: Read, W: Write, E: Write, P: Write + Drop>(
+    rt: &H,
+    request: Request<'_>,
+    input: &mut R,
+    output: &mut W,
+    errors: &mut E,
+    progress: &mut Progress<P>,
+) -> u8
+where
+    H::File: FileExt + Lockable,
+    ensures runs { Runs request.entry (R.remaining input.old) (R.remaining input.new) (W.contents output.old)
+        (W.contents output.new) (E.contents errors.old) (E.contents errors.new) result }
+    ensures quiet { result ≡ 0 → Keeps (E.contents errors.old) (E.contents errors.new) }
+    ensures status { result ≤ 5 }
+    ensures other { result ≢ 2 }
+{
+    match request {
+        Request::Measure { width } => run_measure(rt.alloc(), width, input, output, errors),
+        Request::Dump => run_dump(rt.alloc(), input, output, errors),
+        Request::Create { folder, plan } => run_create(rt, &folder, &plan, errors),
+        Request::Check { folder } => run_check(rt, &folder, output, errors),
+        Request::Totals { folder, span } => run_totals(rt, &folder, &span, output, errors),
+        Request::Flows { folder, span } => run_flows(rt, &folder, &span, output, errors),
+        Request::Feed {
+            folder,
+            keep,
+            files,
+        } => run_feed(rt, &folder, keep, &files, output, errors, progress),
+        Request::Roll { folder, keep } => run_job(rt, &folder, JobKind::Roll, keep, output, errors),
+        Request::Merge { folder, keep } => {
+            run_job(rt, &folder, JobKind::Merge, keep, output, errors)
+        }
+        Request::Explain { refusal } => run_explain(rt.alloc(), &refusal, output, errors),
+    }
+}
+
+/// Runs one command line, whose first word is the program's name, and answers the exit status. Feeding shows its
+/// `progress`, which no clause tells of.
+pub fn run_line<
+    H: Files + AllocGlobal + Clone + Drop,
+    S: AsStr,
+    R: Read,
+    W: Write,
+    E: Write,
+    P: Write + Drop,
+>(
+    rt: &H,
+    words: &[S],
+    input: &mut R,
+    output: &mut W,
+    errors: &mut E,
+    progress: &mut Progress<P>,
+) -> u8
+where
+    H::File: FileExt + Lockable,
+    // The words decide which command runs, on what width, or why none does.
+    ensures answered { IsAnswered (map S.text words.now) (R.remaining input.old) (R.remaining input.new)
+        (W.contents output.old) (W.contents output.new) (E.contents errors.old) (E.contents errors.new) result }
+    ensures quiet { result ≡ 0 → Keeps (E.contents errors.old) (E.contents errors.new) }
+    ensures status { result ≤ 5 }
+    // Of words that ask for nothing nothing is written but why.
+    ensures wrong { result ≡ 2 → Keeps (W.contents output.old) (W.contents output.new) }
+{
+    match parse(rt.alloc(), words) {
+        Ok(request) => run(rt, request, input, output, errors, progress),
+        Err(error) => refuse(rt.alloc(), &error, output, errors),
+    }
+}
+
+/// Tells why a command line asks for nothing, or shows the help that it asks for. It answers the exit status.
+fn refuse<W: Write, E: Write>(
+    alloc: Global,
+    error: &LineError,
+    output: &mut W,
+    errors: &mut E,
+) -> u8
+    ensures told { IsTold error.now (W.contents output.old) (W.contents output.new) (E.contents errors.old)
+        (E.contents errors.new) result }
+    ensures quiet { result ≡ 0 → Keeps (E.contents errors.old) (E.contents errors.new) }
+    ensures status { result ≤ 5 }
+    ensures wrong { result ≡ 2 → Keeps (W.contents output.old) (W.contents output.new) }
+{
+    match error {
+        LineError::Parser(error) if error.use_stderr() => {
+            tell_line(errors, kind_line(error.kind()).as_bytes());
+            WRONG_LINE
+        }
+        LineError::Parser(help) => show(alloc, help, output, errors),
+        LineError::Width => {
+            tell_line(errors, WRONG_WIDTH.as_bytes());
+            WRONG_LINE
+        }
+        LineError::Plan => {
+            tell_line(errors, WRONG_PLAN.as_bytes());
+            WRONG_LINE
+        }
+        LineError::Span => {
+            tell_line(errors, WRONG_SPAN.as_bytes());
+            WRONG_LINE
+        }
+        LineError::Keep => {
+            tell_line(errors, WRONG_KEEP.as_bytes());
+            WRONG_LINE
+        }
+        LineError::Files => {
+            tell_line(errors, WRONG_FILES.as_bytes());
+            WRONG_LINE
+        }
+        LineError::Number => {
+            tell_line(errors, WRONG_NUMBER.as_bytes());
+            WRONG_LINE
+        }
+        LineError::OutOfMemory => tell(alloc, errors, &Refusal::OutOfMemory),
+    }
+}
+
+/// What is told of words that the parser of the command line refuses.
+fn kind_line(kind: ErrorKind) -> &'static str
+    ensures { result.now ≡ line_of (kind_text kind) }
+{
+    match kind {
+        ErrorKind::MissingSubcommand => NO_COMMAND,
+        ErrorKind::MissingRequiredArgument => NO_ARGUMENT,
+        _ => WRONG_WORDS,
+    }
+}
+
+/// Writes a text.
+fn write_text<W: Write, D: Display + Drop>(
+    alloc: Global,
+    to: &mut W,
+    text: D,
+) -> Result<(), Refusal> {
+    let text = format!(in alloc; "{text}")?;
+    write_octets(to, text.as_bytes())
+}
+
+/// Shows help on `output`.
+fn show<W: Write, E: Write>(alloc: Global, help: &Error, output: &mut W, errors: &mut E) -> u8
+    ensures shown { IsShown (E.contents errors.old) (E.contents errors.new) result }
+    ensures quiet { result ≡ 0 → Keeps (E.contents errors.old) (E.contents errors.new) }
+    ensures status { result ≤ 5 }
+    ensures other { result ≢ 2 }
+{
+    match write_text(alloc, output, help) {
+        Ok(()) => DONE,
+        Err(refusal) => tell(alloc, errors, &refusal),
+    }
+}
