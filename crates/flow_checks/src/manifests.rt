@@ -1,6 +1,6 @@
 // Manifests by their octets: what they are read as, and the first fault of other octets.
 use crate::octets::{CREATED, CREATED_1, SEALED, SEALED_1, body_of, changed};
-use flow_manifest::{Entry, Kind, ManifestError, OpenError, decode, encode, read_back};
+use flow_manifest::{Entry, Kind, Manifest, ManifestError, OpenError, decode, encode, read_back};
 use std::alloc::Global;
 use std::test::*;
 
@@ -51,16 +51,28 @@ fn fault_with(alloc: Global, at: usize, part: &[u8]) -> Result<Option<ManifestEr
     Ok(fault_of(alloc, &changed(alloc, &EACH_KIND, at, part)?))
 }
 
+/// The generation, the widths and the segment limit, then the next file, and the messages rolled and wide.
+type Numbers = ((u64, u32, u32, u32), (u64, u64, u64));
+
+fn numbers_of(manifest: &Manifest) -> Numbers {
+    let Manifest {
+        generation,
+        width,
+        wide,
+        limit,
+        next,
+        rolled,
+        second,
+        ..
+    } = *manifest;
+    ((generation, width, wide, limit), (next, rolled, second))
+}
+
 #[test]
 fn the_manifest_of_a_new_archive(rt: HostRuntime) -> Result<(), Fail> {
     let manifest = decode(rt.alloc(), body_of(&CREATED))?;
-    assert_eq!(rt; manifest.generation, 1);
-    assert_eq!(rt; manifest.width, 300);
-    assert_eq!(rt; manifest.wide, 86_400);
-    assert_eq!(rt; manifest.limit, 1_048_576);
-    assert_eq!(rt; manifest.next, 4);
-    assert_eq!(rt; manifest.rolled, 0);
-    assert_eq!(rt; manifest.second, 0);
+    let numbers = ((1, 300, 86_400, 1_048_576), (4, 0, 0));
+    assert_eq!(rt; numbers_of(&manifest), numbers);
     let entries = [entry(Kind::Active, 0, 3, 0, 0)];
     assert_eq!(rt; manifest.entries.as_slice(), entries.as_slice());
     Ok(())
@@ -69,8 +81,8 @@ fn the_manifest_of_a_new_archive(rt: HostRuntime) -> Result<(), Fail> {
 #[test]
 fn the_manifest_after_a_seal(rt: HostRuntime) -> Result<(), Fail> {
     let manifest = decode(rt.alloc(), body_of(&SEALED))?;
-    assert_eq!(rt; manifest.generation, 2);
-    assert_eq!(rt; manifest.next, 5);
+    let numbers = ((2, 300, 86_400, 1_048_576), (5, 0, 0));
+    assert_eq!(rt; numbers_of(&manifest), numbers);
     let entries = [
         entry(Kind::Sealed, 0, 3, 57, 1),
         entry(Kind::Active, 40, 4, 0, 0),
@@ -82,10 +94,8 @@ fn the_manifest_after_a_seal(rt: HostRuntime) -> Result<(), Fail> {
 #[test]
 fn a_manifest_with_an_entry_of_each_kind(rt: HostRuntime) -> Result<(), Fail> {
     let manifest = decode(rt.alloc(), &EACH_KIND)?;
-    assert_eq!(rt; manifest.wide, 3_600);
-    assert_eq!(rt; manifest.next, 12);
-    assert_eq!(rt; manifest.rolled, 6);
-    assert_eq!(rt; manifest.second, 3);
+    let numbers = ((9, 300, 3_600, 1_048_576), (12, 6, 3));
+    assert_eq!(rt; numbers_of(&manifest), numbers);
     let entries = [
         entry(Kind::Wide, 0, 10, 161, 3),
         entry(Kind::Rolled, 0, 11, 161, 3),
@@ -115,20 +125,26 @@ fn manifests_written(rt: HostRuntime) -> Result<(), Fail> {
     Ok(())
 }
 
+/// The numbers in octets of a manifest.
+fn numbers_in(alloc: Global, octets: &[u8]) -> Result<Numbers, ManifestError> {
+    let manifest = decode(alloc, octets)?;
+    Ok(numbers_of(&manifest))
+}
+
+/// The wide width of a manifest of format 1 with this width.
+fn wide_of(alloc: Global, width: &[u8]) -> Result<u32, Fail> {
+    let octets = changed(alloc, body_of(&CREATED_1), 10, width)?;
+    let ((_, _, wide, _), _) = numbers_in(alloc, &octets)?;
+    Ok(wide)
+}
+
 #[test]
 fn a_manifest_of_format_1(rt: HostRuntime) -> Result<(), Fail> {
-    let manifest = decode(rt.alloc(), body_of(&SEALED_1))?;
-    assert_eq!(rt; manifest.generation, 2);
-    assert_eq!(rt; manifest.width, 300);
-    assert_eq!(rt; manifest.wide, 86_400);
-    assert_eq!(rt; manifest.limit, 1_048_576);
-    assert_eq!(rt; manifest.next, 5);
-    assert_eq!(rt; manifest.rolled, 0);
-    assert_eq!(rt; manifest.second, 0);
+    let numbers = ((2, 300, 86_400, 1_048_576), (5, 0, 0));
+    assert_eq!(rt; numbers_in(rt.alloc(), body_of(&SEALED_1))?, numbers);
     // The wide width is the greatest multiple of the width up to a day.
     for (width, wide) in [([0, 0, 0, 7], 86_394), ([0, 1, 0x51, 0x80], 86_400)] {
-        let octets = changed(rt.alloc(), body_of(&CREATED_1), 10, &width)?;
-        assert_eq!(rt; decode(rt.alloc(), &octets)?.wide, wide);
+        assert_eq!(rt; wide_of(rt.alloc(), &width)?, wide);
     }
     Ok(())
 }
@@ -190,15 +206,25 @@ fn out_of_range() -> [(usize, &'static [u8]); 9] {
     ]
 }
 
+/// The fault of the manifest with an entry of each kind, once these octets stand at a place, and of its front.
+fn faults_with(
+    alloc: Global,
+    at: usize,
+    part: &[u8],
+) -> Result<(Option<ManifestError>, Option<ManifestError>), Fail> {
+    let octets = changed(alloc, &EACH_KIND, at, part)?;
+    Ok((
+        fault_of(alloc, &octets),
+        fault_of(alloc, front(&octets, 60)),
+    ))
+}
+
 #[test]
 fn numbers_out_of_range(rt: HostRuntime) -> Result<(), Fail> {
+    // The ranges are judged before the length.
+    let faults = (Some(ManifestError::Entries), Some(ManifestError::Entries));
     for (at, part) in out_of_range() {
-        let octets = changed(rt.alloc(), &EACH_KIND, at, part)?;
-        let fault = fault_of(rt.alloc(), &octets);
-        assert_eq!(rt; fault, Some(ManifestError::Entries), "at {at}");
-        // The ranges are judged before the length.
-        let fault = fault_of(rt.alloc(), front(&octets, 60));
-        assert_eq!(rt; fault, Some(ManifestError::Entries), "at {at}");
+        assert_eq!(rt; faults_with(rt.alloc(), at, part)?, faults, "at {at}");
     }
     Ok(())
 }
@@ -285,6 +311,11 @@ fn least_and_greatest_numbers(rt: HostRuntime) -> Result<(), Fail> {
     Ok(())
 }
 
+/// The fault of octets whose entry at a place stands behind the one that followed it.
+fn fault_exchanged(alloc: Global, octets: &[u8], at: usize) -> Result<Option<ManifestError>, Fail> {
+    Ok(fault_of(alloc, &exchanged(alloc, octets, at)?))
+}
+
 /// Octets whose entry at a place stands behind the one that followed it.
 fn exchanged(alloc: Global, octets: &[u8], at: usize) -> Result<Vec<u8>, Fail> {
     let (before, rest) = octets.split_at(at.min(octets.len()));
@@ -306,8 +337,7 @@ fn exchanged_entries(rt: HostRuntime) -> Result<(), Fail> {
         (body_of(&SEALED), 50),
     ];
     for (octets, at) in places {
-        let octets = exchanged(rt.alloc(), octets, at)?;
-        let fault = fault_of(rt.alloc(), &octets);
+        let fault = fault_exchanged(rt.alloc(), octets, at)?;
         assert_eq!(rt; fault, Some(ManifestError::Entries), "at {at}");
     }
     Ok(())
