@@ -23,7 +23,8 @@ use Rattle.flow_commands.specs.declared.archive_refusal.ArchiveRefusal.{ArchiveR
 use Rattle.flow_commands.specs.declared.archive_refusal.ArchiveRefusal.TheVariants as refusal
 use Rattle.flow_commands.specs.Archives.{of_archive, of_folder, of_opening}
 use Rattle.flow_commands.specs.Feeding.{AreFed, FeedsLines, IsFileFed, IsUnwritten, KeepsOrFeeds, TellsFile, TellsFiles}
-use Rattle.flow_commands.specs.Feeding.{fed_line, fed_lines, feed_ended, first_status, first_stop}
+use Rattle.flow_commands.specs.Feeding.{IsNotFed, fed_line, fed_lines, feed_ended, first_status, first_stop}
+use Rattle.flow_commands.specs.Asking.{IsUnopened}
 
 -- ---- lines
 
@@ -270,6 +271,47 @@ fed_err count feds refused old new e (inr (un, front)) = by e un
     by refusal.Away un = absurd un
     by refusal.InUse un = absurd un
 
+-- why feeding is refused, once the archive is opened
+rolling_not_fed : (reads : ℕ → List ℕ) (e : ArchiveError) → IsNotFed reads (of_archive e)
+rolling_not_fed reads (archive.Message fault) = tt
+rolling_not_fed reads archive.OutOfMemory = tt
+rolling_not_fed reads (archive.Damaged file at) = tt
+rolling_not_fed reads archive.NumbersSpent = tt
+rolling_not_fed reads archive.NotEmpty = tt
+rolling_not_fed reads archive.Fault = tt
+rolling_not_fed reads archive.SourceFault = tt
+rolling_not_fed reads archive.NoRoom = tt
+rolling_not_fed reads archive.ManifestFull = tt
+rolling_not_fed reads archive.NothingToSeal = tt
+rolling_not_fed reads archive.RollBusy = tt
+rolling_not_fed reads archive.NoRoll = tt
+rolling_not_fed reads archive.RollCount = tt
+rolling_not_fed reads archive.RollNotDone = tt
+rolling_not_fed reads archive.Pinned = tt
+rolling_not_fed reads archive.NothingToRetire = tt
+rolling_not_fed reads archive.Closed = tt
+
+not_fed : (reads : ℕ → List ℕ) (count : ℕ) (feds : List Fed) (refused : Option ArchiveError) (old new : Option (List ℕ))
+    (e : ArchiveRefusal) → TellsFiles count feds refused old new (Err e) → IsNotFed reads e
+not_fed reads count feds refused old new e (inl (all, lines, is)) = by (first_stop feds) refused is
+  where
+    by : (first : Option FeedStop) (r : Option ArchiveError) → Err e ≡ feed_ended first r → IsNotFed reads e
+    by (Some s) r ends = absurd cc
+    by None (Some error) ends =
+        let same : e ≡ of_archive error = cc in
+        subst (λ (x : ArchiveRefusal). IsNotFed reads x) (sym same) (rolling_not_fed reads error)
+    by None None ends = absurd cc
+not_fed reads count feds refused old new e (inr (un, front)) = by e un
+  where
+    by : (e : ArchiveRefusal) → IsUnwritten (Err e) → IsNotFed reads e
+    by (refusal.Write failed) un = tt
+    by refusal.OutOfMemory un = tt
+    by (refusal.Opening e) un = absurd un
+    by (refusal.Archive e) un = absurd un
+    by (refusal.Query e) un = absurd un
+    by refusal.Away un = absurd un
+    by refusal.InUse un = absurd un
+
 module _ {D : Type 0} (honest : D → Bool) (moment : D → ℕ) (left_since : D → ℕ → (ℕ → List ℕ) → Type 0)
     (old now : Seen D) (start roller : Roller) (count : ℕ) (refused : Option ArchiveError)
     (before after : Option (List ℕ)) where
@@ -288,6 +330,11 @@ module _ {D : Type 0} (honest : D → Bool) (moment : D → ℕ) (left_since : D
   result_err (Ok status) told = tt
   result_err (Err e) (feds, rolling, fed, is, told) = fed_err count feds refused before after e told
 
+  pub result_not_fed : (reads : ℕ → List ℕ) (r : Result ℕ ArchiveRefusal) → FeedsFiles r
+      → IfErr r (λ e. IsNotFed reads e)
+  result_not_fed reads (Ok status) told = tt
+  result_not_fed reads (Err e) (feds, rolling, fed, is, told) = not_fed reads count feds refused before after e told
+
 -- an archive that isn't opened
 pub opening_kept : (count : ℕ) (output : Option (List ℕ)) (e : RecoverError)
     → KeepsOrFeeds count (of_opening e) output output
@@ -298,6 +345,15 @@ opening_kept count output (opening.Cut file) = Keeps-refl output
 opening_kept count output opening.NoArchive = Keeps-refl output
 opening_kept count output opening.Fault = Keeps-refl output
 opening_kept count output opening.OutOfMemory = ([], (0, omega arith, Appends-nil output))
+
+pub opening_not_fed : (reads : ℕ → List ℕ) (e : RecoverError) → IsUnopened reads e → IsNotFed reads (of_opening e)
+opening_not_fed reads (opening.Damaged file at) why = why
+opening_not_fed reads (opening.Format file) why = why
+opening_not_fed reads (opening.Entries file) why = why
+opening_not_fed reads (opening.Cut file) why = why
+opening_not_fed reads opening.NoArchive why = why
+opening_not_fed reads opening.Fault why = why
+opening_not_fed reads opening.OutOfMemory why = tt
 
 -- a folder that can't be opened
 pub folder_kept : (count : ℕ) (output : Option (List ℕ)) (e : FolderError)

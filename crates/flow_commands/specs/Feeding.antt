@@ -20,6 +20,7 @@ use Rattle.flow_commands.specs.declared.archive_refusal.ArchiveRefusal.{ArchiveR
 use Rattle.flow_commands.specs.declared.archive_refusal.ArchiveRefusal.TheVariants.{Away, InUse, Opening, Archive, Query}
 use Rattle.flow_commands.specs.declared.archive_refusal.ArchiveRefusal.TheVariants.{OutOfMemory, Write}
 use Rattle.flow_commands.specs.Archives.{event_status, of_archive}
+use Rattle.flow_commands.specs.Asking.{IsUnopened as IsNotOpened}
 
 -- ---- the line of a File
 
@@ -169,6 +170,19 @@ abbrev pub TellsFiles : ℕ → List Fed → Option ArchiveError → Option (Lis
 TellsFiles count feds refused old new result =
     ((length feds ≡ count) × Appends old new (fed_lines 0 feds) × (result ≡ feed_ended (first_stop feds) refused))
     ⊎ (IsUnwritten result × AppendsFront old new (fed_lines 0 feds))
+
+-- ---- of an archive on a disk
+
+-- Why feeding is refused: the archive isn't opened, an event of rolling was refused, or a line couldn't be made or
+-- written.
+abbrev pub IsNotFed : (ℕ → List ℕ) → ArchiveRefusal → Type 0
+IsNotFed reads (Opening e) = IsNotOpened reads e
+IsNotFed reads (Archive e) = ⊤
+IsNotFed reads (Write failed) = ⊤
+IsNotFed reads OutOfMemory = ⊤
+IsNotFed reads (Query e) = ⊥
+IsNotFed reads Away = ⊥
+IsNotFed reads InUse = ⊥
 
 -- ---- of an archive in a folder
 

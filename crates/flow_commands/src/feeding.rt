@@ -1,11 +1,12 @@
 //! The command `feed`.
 
-ghost use Rattle.std.specs.Prelude.{◌≡◌, ◌≢◌, ◌≤◌, ℕ, List, Option, false, length, IfOk, IfErr};
+ghost use Rattle.std.specs.Prelude.{◌≡◌, ◌≢◌, ◌≤◌, ℕ, List, Option, false, length, IsTrue, IfOk, IfErr};
+ghost use Rattle.flow_manifest.specs.Slots.{reads_of};
 ghost use Rattle.flow_archive.specs.declared.refusal.ArchiveError.{ArchiveError as Refusal};
 ghost use Rattle.flow_feed.specs.declared.batch.Fed.{Fed as FedFile};
 ghost use Rattle.flow_feed.specs.Turns.{stopped_by};
 ghost use Rattle.flow_commands.specs.Feeding.{AreFed, FeedsLines, IsFileFed, KeepsOrFeeds, TellsFile, TellsFiles};
-ghost use Rattle.flow_commands.specs.Feeding.{feed_ended};
+ghost use Rattle.flow_commands.specs.Feeding.{feed_ended, IsNotFed};
 
 use crate::archive_refusal::ArchiveRefusal;
 use crate::feed_line::{line, stop_status};
@@ -134,6 +135,7 @@ fn feed_on<H: Files + AllocGlobal + Clone + Drop, D: Disk, W: Write, P: Write + 
     progress: &mut Progress<P>,
 ) -> Result<u8, ArchiveRefusal>
     requires { (n : ℕ) → (D.marks disk n).frozen ≡ false }
+    ensures refused { IsTrue (D.honest disk) → IfErr result (λ e. IsNotFed (reads_of (D.held disk)) e) }
     ensures written { IfOk result (λ status. FeedsLines (length paths.now) status (W.contents output.old)
         (W.contents output.new)) }
     ensures kept { IfErr result (λ e. KeepsOrFeeds (length paths.now) e (W.contents output.old)
