@@ -173,8 +173,7 @@ TellsFiles count feds refused old new result =
 
 -- ---- of an archive on a disk
 
--- Why feeding is refused: the archive isn't opened, an event of rolling was refused, or a line couldn't be made or
--- written.
+-- Why feeding is refused: the archive isn't opened, it refused an event, or a line couldn't be made or written.
 abbrev pub IsNotFed : (ℕ → List ℕ) → ArchiveRefusal → Type 0
 IsNotFed reads (Opening e) = IsNotOpened reads e
 IsNotFed reads (Archive e) = ⊤
