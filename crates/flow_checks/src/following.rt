@@ -1,16 +1,17 @@
 // The manifests that follow one another, from a new archive's through seals, rolls and merges.
-ghost use Rattle.std.specs.Prelude.{◌≡◌, ◌≢◌, IfSome, IsTrue};
+ghost use Rattle.std.specs.Prelude.{◌≡◌, ◌≢◌, ◌+◌, ◌<◌, ◌≤◌, ◌^◌, IfOk, IfSome, IsTrue, length};
 ghost use Rattle.std.specs.List.{AllByRecursion};
-ghost use Rattle.flow_manifest.specs.Following.{messages_of};
+ghost use Rattle.flow_manifest.specs.Following.{active_of, count_of, messages_of, source_of};
+ghost use Rattle.flow_manifest.specs.Manifest.{IsValidManifest};
 
-use crate::manifests::entry;
+use crate::manifests::tells;
 use crate::octets::{CREATED, SEALED, body_of};
 use flow_manifest::{
     Entry, JobKind, Kind, Manifest, Staged, count_of, decode, encode, installed_manifest,
     next_manifest,
 };
 use std::alloc::Global;
-use std::test::*;
+use std::test::Fail;
 
 /// How many messages entries stand for.
 fn messages_in(entries: &[Entry]) -> Option<u64>
@@ -40,23 +41,57 @@ struct Seal {
     prefix: u32,
 }
 
-/// The octets of the manifest after the seal of a segment of one message.
-fn sealed_after(alloc: Global, octets: &[u8], seal: Seal) -> Result<Vec<u8>, Fail> {
+/// Whether a manifest may be followed by one with an entry and a message more.
+fn has_room(now: &Manifest) -> bool
+    ensures generation { IsTrue result → now.now.generation + 1 < 2 ^ 64 }
+    ensures few { IsTrue result → length now.now.entries < 4096 }
+    ensures all { IsTrue result → messages_of now.now.entries + 1 < 2 ^ 48 }
+{
+    match messages_in(now.entries.as_slice()) {
+        Some(all) => {
+            all < (1 << 48) - 1 && now.entries.len() < 4096 && now.generation < u64::MAX
+        }
+        None => false,
+    }
+}
+
+/// Whether the active segment may end there.
+fn may_end(now: &Manifest, end: u64) -> bool
+    requires { IsValidManifest now.now }
+    ensures long { IsTrue result → (active_of now.now).prefix + 16 ≤ end }
+    ensures within { IsTrue result → end ≤ (active_of now.now).prefix + now.now.limit }
+{
+    match now.entries.as_slice() {
+        [.., active] => {
+            let before = u64::from(active.prefix);
+            before + 16 <= end && end <= before + u64::from(now.limit)
+        }
+        [] => false,
+    }
+}
+
+/// The manifest after the seal of a segment of one message.
+fn sealed(alloc: Global, now: &Manifest, seal: Seal) -> Result<Manifest, Fail>
+    requires { IsValidManifest now.now }
+    ensures { IfOk result (λ next. IsValidManifest next) }
+{
     let Seal { end, file, prefix } = seal;
-    let now = decode(alloc, octets)?;
-    let entries = now.entries.as_slice();
-    let before = u64::from(entries.last().ok_or("an entry")?.prefix);
-    let all = messages_in(entries).ok_or("fewer messages")?;
-    if entries.len() >= 4096 || now.generation == u64::MAX || all >= (1 << 48) - 1 {
+    if !has_room(now) {
         return Err(Fail::from("no room in the manifest"));
     }
     if file < now.next || file == u64::MAX {
         return Err(Fail::from("no new file"));
     }
-    if end < before + 16 || before + u64::from(now.limit) < end {
+    if !may_end(now, end) {
         return Err(Fail::from("no end of a segment"));
     }
-    let next = next_manifest(alloc, &now, end, 1, file, prefix)?;
+    Ok(next_manifest(alloc, now, end, 1, file, prefix)?)
+}
+
+/// Its octets.
+fn sealed_after(alloc: Global, octets: &[u8], seal: Seal) -> Result<Vec<u8>, Fail> {
+    let now = decode(alloc, octets)?;
+    let next = sealed(alloc, &now, seal)?;
     Ok(encode(alloc, &next)?)
 }
 
@@ -69,26 +104,44 @@ struct Install {
     next: u64,
 }
 
-/// The octets of the manifest after an install.
-fn installed_after(alloc: Global, octets: &[u8], install: Install) -> Result<Vec<u8>, Fail> {
+/// Whether a job has so many sources.
+fn has_sources(now: &Manifest, job: JobKind, sources: usize) -> bool
+    ensures some { IsTrue result → 1 ≤ sources }
+    ensures sources { IsTrue result → sources ≤ count_of (source_of job) now.now.entries }
+    ensures generation { IsTrue result → now.now.generation + 1 < 2 ^ 64 }
+{
+    sources > 0
+        && sources <= count_of(now.entries.as_slice(), job.source())
+        && now.generation < u64::MAX
+}
+
+/// The manifest after an install.
+fn installed(alloc: Global, now: &Manifest, install: Install) -> Result<Manifest, Fail>
+    requires { IsValidManifest now.now }
+    ensures { IfOk result (λ made. IsValidManifest made) }
+{
     let Install {
         job,
         sources,
         staged,
         next,
     } = install;
-    let now = decode(alloc, octets)?;
-    let entries = now.entries.as_slice();
-    if sources == 0 || count_of(entries, job.source()) < sources || now.generation == u64::MAX {
+    if !has_sources(now, job, sources) {
         return Err(Fail::from("no such sources"));
     }
-    if staged.file < 3 || !is_unnamed(staged.file, entries) {
+    if staged.file < 3 || !is_unnamed(staged.file, now.entries.as_slice()) {
         return Err(Fail::from("no file of its own"));
     }
     if next <= staged.file || next < now.next {
         return Err(Fail::from("no next file"));
     }
-    let made = installed_manifest(alloc, &now, job, sources, staged, next)?;
+    Ok(installed_manifest(alloc, now, job, sources, staged, next)?)
+}
+
+/// Its octets.
+fn installed_after(alloc: Global, octets: &[u8], install: Install) -> Result<Vec<u8>, Fail> {
+    let now = decode(alloc, octets)?;
+    let made = installed(alloc, &now, install)?;
     Ok(encode(alloc, &made)?)
 }
 
@@ -132,16 +185,9 @@ fn merged(alloc: Global) -> Result<Vec<u8>, Fail> {
     Ok(octets)
 }
 
-/// Its generation, the next file, and the messages rolled and wide.
-fn numbers_of(manifest: &Manifest) -> (u64, u64, u64, u64) {
-    let Manifest {
-        generation,
-        next,
-        rolled,
-        second,
-        ..
-    } = *manifest;
-    (generation, next, rolled, second)
+/// Whether a seal of a new archive's manifest makes these octets.
+fn seals(alloc: Global, seal: Seal, octets: &[u8]) -> Result<bool, Fail> {
+    Ok(sealed_after(alloc, body_of(&CREATED), seal)?.as_slice() == octets)
 }
 
 #[test]
@@ -151,34 +197,29 @@ fn a_seal(rt: HostRuntime) -> Result<(), Fail> {
         file: 4,
         prefix: 40,
     };
-    let octets = sealed_after(rt.alloc(), body_of(&CREATED), seal)?;
-    assert_eq!(rt; octets.as_slice(), body_of(&SEALED));
+    assert!(rt; seals(rt.alloc(), seal, body_of(&SEALED))?);
     Ok(())
 }
 
 #[test]
 fn a_roll_behind_seals(rt: HostRuntime) -> Result<(), Fail> {
-    let manifest = decode(rt.alloc(), &rolled(rt.alloc())?)?;
-    assert_eq!(rt; numbers_of(&manifest), (6, 9, 2, 0));
-    let entries = [
-        entry(Kind::Rolled, 0, 7, 161, 2),
-        entry(Kind::Sealed, 40, 5, 73, 1),
-        entry(Kind::Sealed, 40, 6, 73, 1),
-        entry(Kind::Active, 40, 8, 0, 0),
+    let numbers = ((6, 300, 86_400, 1_048_576), (9, 2, 0));
+    let lines = [
+        (Kind::Rolled, 0, 7, 161, 2),
+        (Kind::Sealed, 40, 5, 73, 1),
+        (Kind::Sealed, 40, 6, 73, 1),
+        (Kind::Active, 40, 8, 0, 0),
     ];
-    assert_eq!(rt; manifest.entries.as_slice(), entries.as_slice());
-    Ok(())
+    tells(rt.alloc(), &rolled(rt.alloc())?, &numbers, &lines)
 }
 
 #[test]
 fn a_merge_behind_rolls(rt: HostRuntime) -> Result<(), Fail> {
-    let manifest = decode(rt.alloc(), &merged(rt.alloc())?)?;
-    assert_eq!(rt; numbers_of(&manifest), (8, 11, 3, 3));
-    let entries = [
-        entry(Kind::Wide, 0, 10, 161, 3),
-        entry(Kind::Sealed, 40, 6, 73, 1),
-        entry(Kind::Active, 40, 8, 0, 0),
+    let numbers = ((8, 300, 86_400, 1_048_576), (11, 3, 3));
+    let lines = [
+        (Kind::Wide, 0, 10, 161, 3),
+        (Kind::Sealed, 40, 6, 73, 1),
+        (Kind::Active, 40, 8, 0, 0),
     ];
-    assert_eq!(rt; manifest.entries.as_slice(), entries.as_slice());
-    Ok(())
+    tells(rt.alloc(), &merged(rt.alloc())?, &numbers, &lines)
 }

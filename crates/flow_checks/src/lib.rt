@@ -11,6 +11,8 @@ mod manifests;
 #[cfg(test)]
 mod octets;
 #[cfg(test)]
+mod same;
+#[cfg(test)]
 mod segment;
 #[cfg(test)]
 mod slots;
