@@ -2,6 +2,7 @@
 ghost use Rattle.std.specs.Prelude.{◌+◌};
 ghost use Rattle.flow_disk.specs.Cause.{HasCause};
 
+use crate::same::same;
 use crate::segment::{FILE, FIRST, SECOND, Segment, begin};
 use flow_disk::{Disk, DiskError};
 use flow_gate::{ScanError, Tail, scan};
@@ -45,47 +46,66 @@ fn are(messages: &[Vec<u8>], wanted: &[&[u8]]) -> bool {
 /// Whether file 3 has so many octets, and a scan gives these messages and this end.
 fn holds<D: Disk>(
     alloc: Global,
-    mut disk: D,
+    disk: &mut D,
     messages: &[&[u8]],
     end: u64,
     length: u64,
 ) -> Result<bool, ScanError> {
-    let tail = scan(alloc, &mut disk, FILE, 0)?;
     let is_long = disk.length(FILE)? == length;
+    let tail = scan(alloc, disk, FILE, 0)?;
     Ok(is_long && tail.end == end && are(&tail.messages, messages))
+}
+
+/// Whether the first message is none once it is placed.
+fn is_placed(alloc: Global) -> Result<bool, Fail> {
+    let (mut disk, result) = segment(alloc)?.place_first();
+    result?;
+    Ok(holds(alloc, &mut disk, &[], 0, 59)?)
+}
+
+/// Whether the first message is there once its gate is open.
+fn is_added(alloc: Global) -> Result<bool, Fail> {
+    let (mut disk, result) = segment(alloc)?.add_first();
+    result?;
+    Ok(holds(alloc, &mut disk, &[&FIRST], 57, 59)?)
 }
 
 #[test]
 fn a_message_counts_once_its_gate_is_open(rt: HostRuntime) -> Result<(), Fail> {
-    let alloc = rt.alloc();
-    let (placed, result) = segment(alloc)?.place_first();
-    result?;
-    assert!(rt; holds(alloc, placed, &[], 0, 59)?);
-    let (opened, result) = segment(alloc)?.add_first();
-    result?;
-    assert!(rt; holds(alloc, opened, &[&FIRST], 57, 59)?);
+    assert!(rt; is_placed(rt.alloc())?);
+    assert!(rt; is_added(rt.alloc())?);
     Ok(())
+}
+
+/// What a stop leaves.
+fn left(disk: FusedDisk<MemoryDisk>, choice: Choice<'_>) -> Result<MemoryDisk, Fail> {
+    if !disk.can_crash(choice) {
+        return Err(Fail::from("no room for what the stop leaves"));
+    }
+    Ok(disk.crash(choice))
+}
+
+/// Whether no message is there after a stop where the two writes of placing passed, and its sync failed.
+fn is_lost(alloc: Global, choice: Choice<'_>) -> Result<bool, Fail> {
+    let (disk, result) = segment(alloc)?.fused(2).place_first();
+    let is_fault = result == Err(DiskError::Fault);
+    let mut disk = left(disk, choice)?;
+    Ok(holds(alloc, &mut disk, &[], 0, 59)? && is_fault)
 }
 
 #[test]
 fn what_was_placed_and_not_synced_is_no_message(rt: HostRuntime) -> Result<(), Fail> {
-    let alloc = rt.alloc();
-    // the two writes of placing pass, and its sync fails
-    let (disk, result) = segment(alloc)?.fused(2).place_first();
-    assert_eq!(rt; result, Err(DiskError::Fault));
-    assert!(rt; disk.can_crash(Choice::Filled(&[0x0A])));
-    let after = disk.crash(Choice::Filled(&[0x0A]));
-    assert!(rt; holds(alloc, after, &[], 0, 59)?);
+    assert!(rt; is_lost(rt.alloc(), Choice::Filled(&[0x0A]))?);
     Ok(())
 }
 
 /// Whether file 3 begins with both messages, and not with none.
-fn has_both<D: Disk>(alloc: Global, mut disk: D) -> Result<bool, Fail> {
-    let tail = scan(alloc, &mut disk, FILE, 0)?;
+fn has_both<D: Disk>(alloc: Global, disk: &mut D) -> Result<bool, Fail> {
+    let is_long = disk.length(FILE)? == 92;
+    let tail = scan(alloc, disk, FILE, 0)?;
     if tail.end == 0 && tail.messages.is_empty() {
         return Ok(false);
     }
-    let is_long = disk.length(FILE)? == 92;
     if is_long && tail.end == 90 && are(&tail.messages, &[&FIRST, &SECOND]) {
         return Ok(true);
     }
@@ -95,10 +115,9 @@ fn has_both<D: Disk>(alloc: Global, mut disk: D) -> Result<bool, Fail> {
 /// Whether both messages are there after a stop behind so many calls of adding them, and whether adding answered Ok.
 fn both_left(alloc: Global, calls: u64, choice: Choice<'_>) -> Result<(bool, bool), Fail> {
     let (disk, result) = segment(alloc)?.fused(calls).add_both();
-    if !disk.can_crash(choice) {
-        return Err(Fail::from("no room for what the stop leaves"));
-    }
-    Ok((has_both(alloc, disk.crash(choice))?, result.is_ok()))
+    let is_done = result.is_ok();
+    let mut disk = left(disk, choice)?;
+    Ok((has_both(alloc, &mut disk)?, is_done))
 }
 
 #[test]
@@ -123,7 +142,7 @@ fn a_batch_is_there_whole_or_not_at_all(rt: HostRuntime) -> Result<(), Fail> {
 }
 
 /// What a scan of these octets tells: the end of the list, or damage.
-fn scanned(alloc: Global, octets: &[u8], from: u64) -> Result<Result<u64, ScanError>, Fail> {
+fn scanned(alloc: Global, octets: &[u8], from: u64) -> Result<Told, Fail> {
     let mut disk = MemoryDisk::new(alloc, AMPLE)?;
     disk.write_at(FILE, 0, octets)?;
     match scan(alloc, &mut disk, FILE, from) {
@@ -140,73 +159,39 @@ fn behind_first(alloc: Global, octets: &[u8]) -> Result<Vec<u8>, AllocError> {
     Ok(all)
 }
 
-/// Damage of file 3 at a place.
-fn at(place: u64) -> Result<u64, ScanError> {
-    Err(ScanError::Damaged(FILE, place))
-}
+/// The end of the list, or damage.
+type Told = Result<u64, ScanError>;
+
+/// Damage of file 3 at its begin, and behind the first message.
+const DAMAGE: Told = Err(ScanError::Damaged(FILE, 0));
+
+const DAMAGE_BEHIND: Told = Err(ScanError::Damaged(FILE, 57));
 
 /// Octets, what is told of them alone, and of them behind a message.
-#[derive(Clone, Copy, Drop)]
-struct Case {
-    name: &'static str,
-    octets: &'static [u8],
-    alone: Result<u64, ScanError>,
-    behind: Result<u64, ScanError>,
-}
-
-impl Case {
-    fn damage(name: &'static str, octets: &'static [u8]) -> Case {
-        Case {
-            name,
-            octets,
-            alone: at(0),
-            behind: at(57),
-        }
-    }
-
-    fn short(name: &'static str, octets: &'static [u8]) -> Case {
-        Case {
-            name,
-            octets,
-            alone: at(0),
-            behind: at(0),
-        }
-    }
-
-    fn closed(name: &'static str, octets: &'static [u8]) -> Case {
-        Case {
-            name,
-            octets,
-            alone: Ok(0),
-            behind: Ok(57),
-        }
-    }
-}
-
-fn cases() -> [Case; 8] {
-    [
-        Case::short("no octet", &[]),
-        Case::short("one octet", &[0]),
-        Case::closed("a closed gate", &[0, 0]),
-        Case::closed("another closed gate", &[0, 11]),
-        Case::damage("another first octet", &[1, 0]),
-        Case::damage("a gate without a message", &[0, 10]),
-        Case::damage(
-            "a message of 15 octets",
-            &[0, 10, 0, 15, 0, 0, 0, 0, 0, 0, 0, 0, 0, 0, 0, 0, 0],
-        ),
-        Case::damage(
-            "one octet behind a message",
-            &[0, 10, 0, 16, 0, 0, 0, 0, 0, 0, 0, 0, 0, 0, 0, 0, 0],
-        ),
-    ]
-}
+const CASES: [(&[u8], (Told, Told)); 8] = [
+    // No octet, and one.
+    (&[], (DAMAGE, DAMAGE)),
+    (&[0], (DAMAGE, DAMAGE)),
+    // Closed gates.
+    (&[0, 0], (Ok(0), Ok(57))),
+    (&[0, 11], (Ok(0), Ok(57))),
+    // Another first octet.
+    (&[1, 0], (DAMAGE, DAMAGE_BEHIND)),
+    // A gate without a message, and with one of 15 octets.
+    (&[0, 10], (DAMAGE, DAMAGE_BEHIND)),
+    (
+        &[0, 10, 0, 15, 0, 0, 0, 0, 0, 0, 0, 0, 0, 0, 0, 0, 0],
+        (DAMAGE, DAMAGE_BEHIND),
+    ),
+    // One octet behind a message.
+    (
+        &[0, 10, 0, 16, 0, 0, 0, 0, 0, 0, 0, 0, 0, 0, 0, 0, 0],
+        (DAMAGE, DAMAGE_BEHIND),
+    ),
+];
 
 /// What a scan tells of these octets alone, and behind a message.
-fn told_of(
-    alloc: Global,
-    octets: &[u8],
-) -> Result<(Result<u64, ScanError>, Result<u64, ScanError>), Fail> {
+fn told_of(alloc: Global, octets: &[u8]) -> Result<(Told, Told), Fail> {
     let alone = scanned(alloc, octets, 0)?;
     let all = behind_first(alloc, octets)?;
     Ok((alone, scanned(alloc, &all, 0)?))
@@ -215,12 +200,11 @@ fn told_of(
 #[test]
 fn damage_is_told_at_its_place(rt: HostRuntime) -> Result<(), Fail> {
     let alloc = rt.alloc();
-    for case in cases() {
-        let told = told_of(alloc, case.octets)?;
-        assert_eq!(rt; told, (case.alone, case.behind), "{}", case.name);
+    for (octets, told) in &CASES {
+        same(&told_of(alloc, octets)?, told, octets.len() as u64)?;
     }
-    assert_eq!(rt; scanned(alloc, &[0, 0], 3)?, at(3));
-    Ok(())
+    let damage = Err(ScanError::Damaged(FILE, 3));
+    same(&scanned(alloc, &[0, 0], 3)?, &damage, 3)
 }
 
 /// Scans a disk behind a fuse: its failures are counted exactly where the answer is a fault.
@@ -231,24 +215,32 @@ fn scan_fused(alloc: Global, disk: &mut FusedDisk<MemoryDisk>) -> Result<Tail, S
     scan(alloc, disk, FILE, 0)
 }
 
+/// What a scan tells of the first message on a disk that fails after so many calls: where its list ends.
+fn told_by_fuse(alloc: Global, calls: u64) -> Result<Told, Fail> {
+    let (disk, result) = segment(alloc)?.add_first();
+    result?;
+    Ok(scan_fused(alloc, &mut FusedDisk::new(disk, calls)).map(|tail| tail.end))
+}
+
 #[test]
 fn a_scan_answers_the_fault_of_each_call(rt: HostRuntime) -> Result<(), Fail> {
-    let alloc = rt.alloc();
+    // a length and a read
     for calls in 0..4 {
-        let (disk, result) = segment(alloc)?.add_first();
-        result?;
-        let mut disk = FusedDisk::new(disk, calls);
-        // a length and a read
-        match scan_fused(alloc, &mut disk) {
-            Ok(tail) => assert!(rt; calls >= 2 && tail.end == 57, "{calls} calls"),
-            Err(error) => assert_eq!(rt; (error, calls < 2), (ScanError::Fault, true)),
-        }
+        let wanted = if calls < 2 {
+            Err(ScanError::Fault)
+        } else {
+            Ok(57)
+        };
+        same(&told_by_fuse(rt.alloc(), calls)?, &wanted, calls)?;
     }
     Ok(())
 }
 
-/// Whether a scan gives a list, and not damage of file 3, or of a file that is told too long to be read.
-fn gives_list<D: Disk>(alloc: Global, mut disk: D) -> Result<bool, ScanError> {
+/// Whether a scan of both messages, once added, gives a list, and not damage of file 3, or of a file that is told too
+/// long to be read.
+fn gives_list<D: Disk>(alloc: Global, segment: Segment<D>) -> Result<bool, ScanError> {
+    let (mut disk, result) = segment.add_both();
+    result?;
     match scan(alloc, &mut disk, FILE, 0) {
         Ok(_) => Ok(true),
         Err(ScanError::Damaged(FILE, _) | ScanError::OutOfMemory) => Ok(false),
@@ -256,14 +248,16 @@ fn gives_list<D: Disk>(alloc: Global, mut disk: D) -> Result<bool, ScanError> {
     }
 }
 
+/// Whether a disk that lies gives a list.
+fn lies_in_list(alloc: Global, seed: u64) -> Result<bool, Fail> {
+    Ok(gives_list(alloc, segment(alloc)?.lying(seed))?)
+}
+
 #[test]
 fn a_disk_that_lies_is_answered(rt: HostRuntime) -> Result<(), Fail> {
-    let alloc = rt.alloc();
     let mut lists = 0u64;
     for seed in 0..300 {
-        let (disk, result) = segment(alloc)?.lying(seed).add_both();
-        result?;
-        if gives_list(alloc, disk)? {
+        if lies_in_list(rt.alloc(), seed)? {
             lists = lists.saturating_add(1);
         }
     }
