@@ -9,6 +9,7 @@ ghost use Rattle.flow_memory_disk.specs.Memory.{story_of};
 use crate::octets::{
     CREATED, CREATED_1, MERGED, OLDER, ROLLED, SEALED, SEALED_1, SEALED_TWICE, body_of, changed,
 };
+use crate::same::same;
 use crate::swap::swapped_to;
 use flow_disk::{Disk, DiskError};
 use flow_manifest::{OpenError, Slot, Slots, create_slots, decode, encode, read_slots};
@@ -24,16 +25,14 @@ const AMPLE: Room = Room {
 };
 
 /// The choices of a stop; what is longer begins as an open gate would.
-fn choices() -> [Choice<'static>; 6] {
-    [
-        Choice::Kept,
-        Choice::Settled,
-        Choice::Filled(&[0x0A]),
-        Choice::Filled(&[0xA5]),
-        Choice::Longer(&[0, 10, 0, 16, 0, 0, 0, 0, 0, 0, 0, 0, 0, 0, 0, 0]),
-        Choice::Longer(&[0xA5, 0, 2, 0, 0, 0, 0, 0, 0, 0, 3]),
-    ]
-}
+const CHOICES: [Choice<'static>; 6] = [
+    Choice::Kept,
+    Choice::Settled,
+    Choice::Filled(&[0x0A]),
+    Choice::Filled(&[0xA5]),
+    Choice::Longer(&[0, 10, 0, 16, 0, 0, 0, 0, 0, 0, 0, 0, 0, 0, 0, 0]),
+    Choice::Longer(&[0xA5, 0, 2, 0, 0, 0, 0, 0, 0, 0, 3]),
+];
 
 /// How many device calls prepare a slot and open it.
 const CALLS: u64 = 7;
@@ -89,23 +88,26 @@ fn in_force<D: Disk>(alloc: Global, disk: &mut D) -> Result<Vec<u8>, OpenError>
     Ok(contents(alloc, disk, slots.current_slot.file())?)
 }
 
+/// Whether a file has these octets.
+fn has<D: Disk>(alloc: Global, disk: &mut D, file: u64, octets: &[u8]) -> Result<bool, DiskError> {
+    Ok(contents(alloc, disk, file)?.as_slice() == octets)
+}
+
+/// Which slot is in force, and whether the other is open.
+fn state_of<D: Disk>(alloc: Global, disk: &mut D) -> Result<(Slot, bool), OpenError> {
+    let slots = read_slots(alloc, disk)?;
+    Ok((slots.current_slot, slots.other_open))
+}
+
 /// Whether the slots hold these octets, both are open, and this one is in force.
 fn holds<D: Disk>(
     alloc: Global,
-    mut disk: D,
-    first: &[u8],
-    second: &[u8],
+    disk: &mut D,
+    (first, second): (&[u8], &[u8]),
     current: Slot,
 ) -> Result<bool, OpenError> {
-    let one = contents(alloc, &mut disk, 1)?;
-    let two = contents(alloc, &mut disk, 2)?;
-    let slots = read_slots(alloc, &mut disk)?;
-    Ok(
-        one.as_slice() == first
-            && two.as_slice() == second
-            && slots.current_slot == current
-            && slots.other_open,
-    )
+    let are_held = has(alloc, disk, 1, first)? && has(alloc, disk, 2, second)?;
+    Ok(state_of(alloc, disk)? == (current, true) && are_held)
 }
 
 impl Archive {
@@ -136,8 +138,16 @@ impl Archive {
         Ok(left)
     }
 
-    fn in_force(&mut self, alloc: Global) -> Result<Vec<u8>, OpenError> {
-        in_force(alloc, &mut self.disk)
+    /// Whether this slot is in force, and not the one before.
+    fn has_new(&mut self, alloc: Global, before: &[u8], slot: &[u8]) -> Result<bool, Fail> {
+        let octets = in_force(alloc, &mut self.disk)?;
+        if octets.as_slice() == slot {
+            return Ok(true);
+        }
+        if octets.as_slice() == before {
+            return Ok(false);
+        }
+        Err(Fail::from("a third manifest"))
     }
 
     /// The same swap of slots of which this one is in force: one of the two is in force afterwards.
@@ -150,11 +160,7 @@ impl Archive {
         choice: Choice<'_>,
     ) -> Result<Torn, Fail> {
         let (whole, mut left) = self.stopped(alloc, slot, calls, choice)?;
-        let octets = left.in_force(alloc)?;
-        let is_new = octets.as_slice() == slot;
-        if !is_new && octets.as_slice() != before {
-            return Err(Fail::from("a third manifest"));
-        }
+        let is_new = left.has_new(alloc, before, slot)?;
         Ok(Torn {
             whole,
             is_new,
@@ -173,49 +179,59 @@ fn swapped_through(alloc: Global, slots: &[&[u8]]) -> Result<MemoryDisk, Fail> {
     Ok(disk)
 }
 
+/// The generation, the width, the segment limit and the next file of the manifest in force.
+fn head_of(alloc: Global, disk: &mut MemoryDisk) -> Result<(u64, u32, u32, u64), OpenError> {
+    let slots = read_slots(alloc, disk)?;
+    let now = &slots.current;
+    Ok((now.generation, now.width, now.limit, now.next))
+}
+
+/// The head of a new archive, and whether its slots have their octets.
+fn told_of_new(alloc: Global) -> Result<((u64, u32, u32, u64), bool), Fail> {
+    let mut disk = swapped_through(alloc, &[])?;
+    let head = head_of(alloc, &mut disk)?;
+    let is_new = holds(alloc, &mut disk, (&CREATED, &OLDER), Slot::First)?;
+    Ok((head, is_new))
+}
+
 #[test]
 fn new_slots_by_their_octets(rt: HostRuntime) -> Result<(), Fail> {
-    let alloc = rt.alloc();
-    let mut disk = swapped_through(alloc, &[])?;
-    let Slots { current, .. } = read_slots(alloc, &mut disk)?;
-    let head = (
-        current.generation,
-        current.width,
-        current.limit,
-        current.next,
-    );
-    assert_eq!(rt; head, (1, 300, 1_048_576, 4));
-    assert!(rt; holds(alloc, disk, &CREATED, &OLDER, Slot::First)?);
-    Ok(())
+    let head = (1, 300, 1_048_576, 4);
+    same(&told_of_new(rt.alloc())?, &(head, true), 0)
 }
 
 /// Slots that are swapped to, then what slots 1 and 2 hold and which is in force.
-fn swaps() -> [(&'static [&'static [u8]], &'static [u8], &'static [u8], Slot); 3] {
-    [
-        (&[&SEALED], &CREATED, &SEALED, Slot::Second),
-        (
-            &[&SEALED, &SEALED_TWICE],
-            &SEALED_TWICE,
-            &SEALED,
-            Slot::First,
-        ),
-        // what stands in slot 1 is longer than what comes there
-        (
-            &[&SEALED, &SEALED_TWICE, &ROLLED, &MERGED],
-            &MERGED,
-            &ROLLED,
-            Slot::First,
-        ),
-    ]
+const SWAPS: [(&[&[u8]], (&[u8], &[u8]), Slot); 3] = [
+    (&[&SEALED], (&CREATED, &SEALED), Slot::Second),
+    (
+        &[&SEALED, &SEALED_TWICE],
+        (&SEALED_TWICE, &SEALED),
+        Slot::First,
+    ),
+    // what stands in slot 1 is longer than what comes there
+    (
+        &[&SEALED, &SEALED_TWICE, &ROLLED, &MERGED],
+        (&MERGED, &ROLLED),
+        Slot::First,
+    ),
+];
+
+/// Whether swaps leave these slots, and this one in force.
+fn leave(
+    alloc: Global,
+    slots: &[&[u8]],
+    held: (&[u8], &[u8]),
+    current: Slot,
+) -> Result<bool, Fail> {
+    let mut disk = swapped_through(alloc, slots)?;
+    Ok(holds(alloc, &mut disk, held, current)?)
 }
 
 #[test]
 fn swapped_slots_by_their_octets(rt: HostRuntime) -> Result<(), Fail> {
-    let alloc = rt.alloc();
-    for (slots, first, second, current) in swaps() {
-        let disk = swapped_through(alloc, slots)?;
+    for (slots, held, current) in &SWAPS {
         assert!(rt;
-            holds(alloc, disk, first, second, current)?,
+            leave(rt.alloc(), slots, *held, *current)?,
             "{} swaps",
             slots.len()
         );
@@ -224,11 +240,16 @@ fn swapped_slots_by_their_octets(rt: HostRuntime) -> Result<(), Fail> {
 }
 
 /// What reading the slots answers: the number of the slot in force, and its generation.
-fn opened(
-    alloc: Global,
-    first: &[u8],
-    second: &[u8],
-) -> Result<Result<(u64, u64), OpenError>, Fail> {
+type Told = Result<(u64, u64), OpenError>;
+
+/// What is told of a disk.
+fn told_of(alloc: Global, disk: &mut MemoryDisk) -> Told {
+    let slots = read_slots(alloc, disk)?;
+    Ok((slots.current_slot.file(), slots.current.generation))
+}
+
+/// What is told of slots with these octets.
+fn opened(alloc: Global, first: &[u8], second: &[u8]) -> Result<Told, Fail> {
     let mut disk = MemoryDisk::new(alloc, AMPLE)?;
     // a slot without octets is a file that isn't there
     if !first.is_empty() {
@@ -237,10 +258,9 @@ fn opened(
     if !second.is_empty() {
         disk.write_at(2, 0, second)?;
     }
-    match read_slots(alloc, &mut disk) {
-        Ok(slots) => Ok(Ok((slots.current_slot.file(), slots.current.generation))),
+    match told_of(alloc, &mut disk) {
         Err(OpenError::OutOfMemory) => Err(Fail::from(OpenError::OutOfMemory)),
-        Err(error) => Ok(Err(error)),
+        told => Ok(told),
     }
 }
 
@@ -257,26 +277,35 @@ fn exchanged(alloc: Global, slot: &[u8]) -> Result<Vec<u8>, Fail> {
 
 /// What is told of slots of each format beside a slot of generation 1; a closed gate alone is a slot, and what stands
 /// behind one isn't judged.
-fn readable() -> [(&'static [u8], (u64, u64)); 5] {
-    [
-        (&OLDER, (1, 1)),
-        (&SEALED, (2, 2)),
-        (&SEALED_1, (2, 2)),
-        (&[0], (1, 1)),
-        (&[0xA4, 7], (1, 1)),
-    ]
+const READABLE: [(&[u8], (u64, u64)); 5] = [
+    (&OLDER, (1, 1)),
+    (&SEALED, (2, 2)),
+    (&SEALED_1, (2, 2)),
+    (&[0], (1, 1)),
+    (&[0xA4, 7], (1, 1)),
+];
+
+/// Looks for what is told of this slot beside each other one.
+fn are_read(alloc: Global, first: &[u8]) -> Result<(), Fail> {
+    for (second, told) in &READABLE {
+        let length = second.len() as u64;
+        same(&opened(alloc, first, second)?, &Ok(*told), length)?;
+    }
+    Ok(())
+}
+
+/// What is told of this slot beside one of format 1 and generation 0.
+fn opened_beside_older(alloc: Global, first: &[u8]) -> Result<Told, Fail> {
+    let older_1 = changed(alloc, &CREATED_1, 10, &[0])?;
+    opened(alloc, first, &older_1)
 }
 
 #[test]
 fn slots_of_both_formats_are_read(rt: HostRuntime) -> Result<(), Fail> {
-    let alloc = rt.alloc();
-    let older_1 = changed(alloc, &CREATED_1, 10, &[0])?;
     let firsts: [&[u8]; 2] = [&CREATED, &CREATED_1];
     for first in firsts {
-        assert_eq!(rt; opened(alloc, first, &older_1)?, Ok((1, 1)));
-        for (second, told) in readable() {
-            assert_eq!(rt; opened(alloc, first, second)?, Ok(told));
-        }
+        same(&opened_beside_older(rt.alloc(), first)?, &Ok((1, 1)), 0)?;
+        are_read(rt.alloc(), first)?;
     }
     Ok(())
 }
@@ -288,7 +317,7 @@ fn shortened(alloc: Global, slot: &[u8]) -> Result<Vec<u8>, Fail> {
 }
 
 /// What is made of two slots to forge one of them.
-#[derive(Clone, Copy, Debug)]
+#[derive(Clone, Copy)]
 enum Forgery {
     First,
     Second,
@@ -318,98 +347,107 @@ fn forged(alloc: Global, first: &[u8], second: &[u8], forgery: Forgery) -> Resul
 }
 
 /// What is told of slots 1 and 2 that were forged so.
-fn forgeries() -> [(Forgery, Forgery, OpenError); 12] {
-    [
-        (Forgery::Nothing, Forgery::Nothing, OpenError::NoArchive),
-        (Forgery::First, Forgery::SecondCut, OpenError::Cut(2)),
-        (Forgery::First, Forgery::GateAlone, OpenError::Cut(2)),
-        (Forgery::First, Forgery::Nothing, OpenError::Cut(2)),
-        (
-            Forgery::First,
-            Forgery::SecondInFormat3,
-            OpenError::Format(2),
-        ),
-        (
-            Forgery::First,
-            Forgery::SecondInAnotherOrder,
-            OpenError::Entries(2),
-        ),
-        (
-            Forgery::FirstOfSecondGeneration,
-            Forgery::Second,
-            OpenError::Damaged(2, 3),
-        ),
-        // slot 1 is judged first
-        (
-            Forgery::Nothing,
-            Forgery::SecondInFormat3,
-            OpenError::Cut(1),
-        ),
-        (
-            Forgery::SecondInAnotherOrder,
-            Forgery::SecondInFormat3,
-            OpenError::Entries(1),
-        ),
-        (
-            Forgery::SecondInFormat3,
-            Forgery::SecondCut,
-            OpenError::Format(1),
-        ),
-        // no slot is open
-        (
-            Forgery::Nothing,
-            Forgery::SecondClosed,
-            OpenError::NoArchive,
-        ),
-        (
-            Forgery::ClosedGateAlone,
-            Forgery::SecondClosed,
-            OpenError::NoArchive,
-        ),
-    ]
-}
+const FORGERIES: [(Forgery, Forgery, OpenError); 12] = [
+    (Forgery::Nothing, Forgery::Nothing, OpenError::NoArchive),
+    (Forgery::First, Forgery::SecondCut, OpenError::Cut(2)),
+    (Forgery::First, Forgery::GateAlone, OpenError::Cut(2)),
+    (Forgery::First, Forgery::Nothing, OpenError::Cut(2)),
+    (
+        Forgery::First,
+        Forgery::SecondInFormat3,
+        OpenError::Format(2),
+    ),
+    (
+        Forgery::First,
+        Forgery::SecondInAnotherOrder,
+        OpenError::Entries(2),
+    ),
+    (
+        Forgery::FirstOfSecondGeneration,
+        Forgery::Second,
+        OpenError::Damaged(2, 3),
+    ),
+    // slot 1 is judged first
+    (
+        Forgery::Nothing,
+        Forgery::SecondInFormat3,
+        OpenError::Cut(1),
+    ),
+    (
+        Forgery::SecondInAnotherOrder,
+        Forgery::SecondInFormat3,
+        OpenError::Entries(1),
+    ),
+    (
+        Forgery::SecondInFormat3,
+        Forgery::SecondCut,
+        OpenError::Format(1),
+    ),
+    // no slot is open
+    (
+        Forgery::Nothing,
+        Forgery::SecondClosed,
+        OpenError::NoArchive,
+    ),
+    (
+        Forgery::ClosedGateAlone,
+        Forgery::SecondClosed,
+        OpenError::NoArchive,
+    ),
+];
 
-/// What reading the slots answers once they are forged.
+/// What is told of two slots once they are forged.
 fn opened_forged(
     alloc: Global,
     (first, second): (&[u8], &[u8]),
     one: Forgery,
     two: Forgery,
-) -> Result<Result<(u64, u64), OpenError>, Fail> {
+) -> Result<Told, Fail> {
     let slot_1 = forged(alloc, first, second, one)?;
     let slot_2 = forged(alloc, first, second, two)?;
     opened(alloc, &slot_1, &slot_2)
 }
 
-#[test]
-fn forged_slots_are_refused(rt: HostRuntime) -> Result<(), Fail> {
-    let alloc = rt.alloc();
-    let pairs: [(&[u8], &[u8]); 2] = [(&CREATED, &SEALED), (&CREATED_1, &SEALED_1)];
-    for pair in pairs {
-        for (one, two, error) in forgeries() {
-            assert_eq!(rt;
-                opened_forged(alloc, pair, one, two)?,
-                Err(error),
-                "{one:?}, {two:?}"
-            );
-        }
+/// Looks for what is told of two slots by each forgery.
+fn are_refused(alloc: Global, slots: (&[u8], &[u8])) -> Result<(), Fail> {
+    let mut case = 0u64;
+    for (one, two, error) in &FORGERIES {
+        same(
+            &opened_forged(alloc, slots, *one, *two)?,
+            &Err(*error),
+            case,
+        )?;
+        case = case.saturating_add(1);
     }
     Ok(())
 }
 
 #[test]
+fn forged_slots_are_refused(rt: HostRuntime) -> Result<(), Fail> {
+    are_refused(rt.alloc(), (&CREATED, &SEALED))?;
+    are_refused(rt.alloc(), (&CREATED_1, &SEALED_1))
+}
+
+/// Whether a first swap answered Ok that was stopped after so many calls, and whether it left the new slot in force.
+fn left_by(alloc: Global, calls: u64, choice: Choice<'_>) -> Result<(bool, bool), Fail> {
+    let torn = created(alloc)?.torn(alloc, &CREATED, &SEALED, calls, choice)?;
+    Ok((torn.whole, torn.is_new))
+}
+
+#[test]
 fn a_torn_slot_is_the_old_or_the_new_one(rt: HostRuntime) -> Result<(), Fail> {
-    let alloc = rt.alloc();
     let mut new = 0u64;
     for calls in 0..=CALLS {
-        for choice in choices() {
-            let torn = created(alloc)?.torn(alloc, &CREATED, &SEALED, calls, choice)?;
-            if torn.is_new {
+        for choice in &CHOICES {
+            let (whole, is_new) = left_by(rt.alloc(), calls, *choice)?;
+            if is_new {
                 new = new.saturating_add(1);
             }
             // the last call but one opens the gate
-            assert!(rt; torn.is_new || !torn.whole, "{calls} calls");
-            assert!(rt; calls >= CALLS - 1 || !torn.is_new, "{calls} calls");
+            assert!(rt;
+                (is_new || !whole) && (calls >= CALLS - 1 || !is_new),
+                "{calls} calls"
+            );
         }
     }
     assert!(rt; new > 6 && new < 18, "{new} of 48 times the new one");
@@ -434,21 +472,27 @@ fn torn_again(
     torn.left.torn(alloc, before, after, again, last)
 }
 
+/// How often the slot is the new one that was torn so and then torn again, by each choice and behind each call.
+fn count_new(alloc: Global, calls: u64, choice: Choice<'_>) -> Result<u64, Fail> {
+    let mut new = 0u64;
+    for again in 0..=CALLS {
+        for last in &CHOICES {
+            let torn = torn_again(alloc, calls, choice, again, *last)?;
+            if torn.whole && !torn.is_new {
+                return Err(Fail::from("a swap that answered Ok and is lost"));
+            }
+            new = new.saturating_add(u64::from(torn.is_new));
+        }
+    }
+    Ok(new)
+}
+
 #[test]
 fn a_slot_torn_again_is_the_old_or_the_new_one(rt: HostRuntime) -> Result<(), Fail> {
-    let alloc = rt.alloc();
     let mut new = 0u64;
     for calls in 0..=CALLS {
-        for choice in choices() {
-            for again in 0..=CALLS {
-                for last in choices() {
-                    let torn = torn_again(alloc, calls, choice, again, last)?;
-                    assert!(rt; torn.is_new || !torn.whole, "{calls} calls, then {again}");
-                    if torn.is_new {
-                        new = new.saturating_add(1);
-                    }
-                }
-            }
+        for choice in &CHOICES {
+            new = new.saturating_add(count_new(rt.alloc(), calls, *choice)?);
         }
     }
     assert!(rt; new > 300 && new < 1304, "{new} of 2304 times the new one");
@@ -463,39 +507,46 @@ fn read_fused(alloc: Global, disk: &mut FusedDisk<MemoryDisk>) -> Result<Slots, 
     read_slots(alloc, disk)
 }
 
+/// The generation that is read on a disk that fails after so many calls.
+fn generation_by_fuse(alloc: Global, calls: u64) -> Result<Result<u64, OpenError>, Fail> {
+    let mut disk = FusedDisk::new(swapped_through(alloc, &[&SEALED])?, calls);
+    Ok(read_fused(alloc, &mut disk).map(|slots| slots.current.generation))
+}
+
 #[test]
 fn reading_the_slots_answers_the_fault_of_each_call(rt: HostRuntime) -> Result<(), Fail> {
-    let alloc = rt.alloc();
     for calls in 0..6 {
-        let mut disk = FusedDisk::new(swapped_through(alloc, &[&SEALED])?, calls);
         // a length and a read of each slot
-        let generation = read_fused(alloc, &mut disk).map(|slots| slots.current.generation);
         let wanted = if calls < 4 {
             Err(OpenError::Fault)
         } else {
             Ok(2)
         };
-        assert_eq!(rt; generation, wanted, "{calls} calls");
+        same(&generation_by_fuse(rt.alloc(), calls)?, &wanted, calls)?;
     }
     Ok(())
 }
 
 /// Whether slots that are lied about are taken.
-fn are_taken<D: Disk>(alloc: Global, mut disk: D) -> Result<bool, OpenError> {
-    match read_slots(alloc, &mut disk) {
+fn are_taken<D: Disk>(alloc: Global, disk: &mut D) -> Result<bool, OpenError> {
+    match read_slots(alloc, disk) {
         Ok(_) => Ok(true),
         Err(error @ (OpenError::Fault | OpenError::OutOfMemory)) => Err(error),
         Err(_) => Ok(false),
     }
 }
 
+/// Whether the slots after a swap are taken on a disk that lies.
+fn lies_are_taken(alloc: Global, seed: u64) -> Result<bool, Fail> {
+    let mut disk = LyingDisk::new(swapped_through(alloc, &[&SEALED])?, seed);
+    Ok(are_taken(alloc, &mut disk)?)
+}
+
 #[test]
 fn slots_that_are_lied_about_are_answered(rt: HostRuntime) -> Result<(), Fail> {
-    let alloc = rt.alloc();
     let mut taken = 0u64;
     for seed in 0..100 {
-        let disk = LyingDisk::new(swapped_through(alloc, &[&SEALED])?, seed);
-        if are_taken(alloc, disk)? {
+        if lies_are_taken(rt.alloc(), seed)? {
             taken = taken.saturating_add(1);
         }
     }

@@ -1,6 +1,7 @@
 // What each choice of a stop leaves, what a failed call leaves, and a disk that lies.
-ghost use Rattle.std.specs.Prelude.{◌≡◌, ◌≤◌, ℕ, true, false, IfOk};
+ghost use Rattle.std.specs.Prelude.{◌≡◌, ◌≤◌, ℕ, true, false, IfOk, OnOk};
 
+use crate::same::same;
 use flow_disk::{Disk, DiskError, SealedFile};
 use flow_memory_disk::{Choice, FusedDisk, LyingDisk, MemoryDisk, OneFaultDisk, Room};
 use std::alloc::Global;
@@ -48,8 +49,7 @@ impl<D: Disk> Thawed<D> {
     }
 
     fn read(&mut self, alloc: Global, file: u64) -> Result<Vec<u8>, DiskError> {
-        let count = self.disk.length(file)?;
-        self.disk.read(alloc, file, 0, count as usize)
+        contents(alloc, &mut self.disk, file)
     }
 
     fn files(&mut self, alloc: Global) -> Result<Vec<u64>, DiskError> {
@@ -57,79 +57,80 @@ impl<D: Disk> Thawed<D> {
     }
 }
 
+/// All octets of a file.
+fn contents<D: Disk>(alloc: Global, disk: &mut D, file: u64) -> Result<Vec<u8>, DiskError>
+    ensures { (n : ℕ) → (D.marks disk.new n).frozen ≡ (D.marks disk.old n).frozen }
+{
+    let count = disk.length(file)?;
+    disk.read(alloc, file, 0, count as usize)
+}
+
+/// Whether file 7 has these octets.
+fn reads_as<D: Disk>(alloc: Global, disk: &mut D, octets: &[u8]) -> Result<bool, DiskError> {
+    Ok(contents(alloc, disk, 7)?.as_slice() == octets)
+}
+
 /// A file that was settled as 1 2 3 4, then written over at its third octet and lengthened.
-fn changed<D: Disk>(disk: &mut Thawed<D>) -> Result<(), DiskError> {
+fn change<D: Disk>(disk: &mut Thawed<D>) -> Result<(), DiskError> {
     disk.write(7, 0, &[1, 2, 3, 4])?;
     disk.sync(7)?;
     disk.write(7, 2, &[5])?;
     disk.write(7, 4, &[6, 7, 8])
 }
 
-/// What file 7 reads as after a stop; none where it can't leave that.
-fn left_by(alloc: Global, choice: Choice<'_>) -> Result<Option<Vec<u8>>, Fail> {
-    let mut disk = Thawed {
-        disk: MemoryDisk::new(alloc, AMPLE)?,
-    };
-    changed(&mut disk)?;
-    let Thawed { disk } = disk;
+/// A disk with that file.
+fn changed(alloc: Global) -> Result<MemoryDisk, DiskError> {
+    let disk = MemoryDisk::new(alloc, AMPLE)?;
+    let mut thawed = Thawed { disk };
+    change(&mut thawed)?;
+    let Thawed { disk } = thawed;
+    Ok(disk)
+}
+
+/// Whether a stop leaves these octets of that file, or can't leave what is chosen.
+fn leaves(alloc: Global, choice: Choice<'_>, wanted: Option<&[u8]>) -> Result<bool, DiskError> {
+    let disk = changed(alloc)?;
     if !disk.can_crash(choice) {
-        return Ok(None);
+        return Ok(wanted.is_none());
     }
-    let mut after = Thawed {
-        disk: disk.crash(choice),
-    };
-    Ok(Some(after.read(alloc, 7)?))
-}
-
-/// Whether a stop leaves these octets of file 7, or can't leave what is chosen.
-fn leaves(alloc: Global, choice: Choice<'_>, wanted: Option<&[u8]>) -> Result<bool, Fail> {
-    match (left_by(alloc, choice)?, wanted) {
-        (Some(left), Some(octets)) => Ok(left.as_slice() == octets),
-        (None, None) => Ok(true),
-        _ => Ok(false),
+    let mut after = disk.crash(choice);
+    match wanted {
+        Some(octets) => reads_as(alloc, &mut after, octets),
+        None => Ok(false),
     }
 }
 
-/// What a stop leaves of file 7 by each choice.
-fn choices() -> [(Choice<'static>, Option<&'static [u8]>); 6] {
-    [
-        (Choice::Kept, Some(&[1, 2, 5, 4, 6, 7, 8])),
-        (Choice::Settled, Some(&[1, 2, 3, 4])),
-        (
-            Choice::Filled(&[20, 21, 22]),
-            Some(&[1, 2, 20, 4, 21, 22, 20]),
-        ),
-        (Choice::Longer(&[30, 31]), Some(&[1, 2, 3, 4, 30, 31])),
-        // nothing to fill with, and no room
-        (Choice::Filled(&[]), None),
-        (Choice::Longer(&[0; 97]), None),
-    ]
-}
+/// What a stop leaves of that file by each choice.
+const CHOICES: [(Choice<'static>, Option<&[u8]>); 6] = [
+    (Choice::Kept, Some(&[1, 2, 5, 4, 6, 7, 8])),
+    (Choice::Settled, Some(&[1, 2, 3, 4])),
+    (
+        Choice::Filled(&[20, 21, 22]),
+        Some(&[1, 2, 20, 4, 21, 22, 20]),
+    ),
+    (Choice::Longer(&[30, 31]), Some(&[1, 2, 3, 4, 30, 31])),
+    // nothing to fill with, and no room
+    (Choice::Filled(&[]), None),
+    (Choice::Longer(&[0; 97]), None),
+];
 
 #[test]
 fn a_stop_leaves_what_is_chosen(rt: HostRuntime) -> Result<(), Fail> {
-    let alloc = rt.alloc();
-    for (choice, wanted) in choices() {
-        assert!(rt; leaves(alloc, choice, wanted)?, "not {wanted:?}");
+    for (choice, wanted) in &CHOICES {
+        assert!(rt; leaves(rt.alloc(), *choice, *wanted)?, "not {wanted:?}");
     }
     Ok(())
 }
 
+/// Whether that file has these octets after a restart.
+fn restarts_as(alloc: Global, octets: &[u8]) -> Result<bool, DiskError> {
+    let mut after = changed(alloc)?.restart();
+    reads_as(alloc, &mut after, octets)
+}
+
 #[test]
 fn a_restarted_disk_reads_as_before(rt: HostRuntime) -> Result<(), Fail> {
-    let alloc = rt.alloc();
-    let mut disk = Thawed {
-        disk: MemoryDisk::new(alloc, AMPLE)?,
-    };
-    changed(&mut disk)?;
-    let Thawed { disk } = disk;
-    let mut after = Thawed {
-        disk: disk.restart(),
-    };
-    assert_eq!(rt;
-        after.read(alloc, 7)?.as_slice(),
-        [1, 2, 5, 4, 6, 7, 8].as_slice()
-    );
+    assert!(rt; restarts_as(rt.alloc(), &[1, 2, 5, 4, 6, 7, 8])?);
     Ok(())
 }
 
@@ -176,21 +177,23 @@ fn passed_by_fuse(alloc: Global, calls: u64) -> Result<u8, DiskError> {
     passed(alloc, FusedDisk::new(MemoryDisk::new(alloc, AMPLE)?, calls))
 }
 
+/// Behind how many calls a disk fails, and how many then answer Ok. Write and cut look up the length first, and so does
+/// read.
+const PASSED: [(u64, u8); 8] = [
+    (0, 0),
+    (1, 0),
+    (2, 1),
+    (4, 2),
+    (5, 3),
+    (8, 5),
+    (10, 7),
+    (99, 7),
+];
+
 #[test]
 fn a_fuse_passes_so_many_calls(rt: HostRuntime) -> Result<(), Fail> {
-    let alloc = rt.alloc();
-    // write and cut look up the length first, and so does read
-    for (calls, wanted) in [
-        (0, 0),
-        (1, 0),
-        (2, 1),
-        (4, 2),
-        (5, 3),
-        (8, 5),
-        (10, 7),
-        (99, 7),
-    ] {
-        assert_eq!(rt; passed_by_fuse(alloc, calls)?, wanted, "{calls} calls");
+    for (calls, wanted) in &PASSED {
+        same(&passed_by_fuse(rt.alloc(), *calls)?, wanted, *calls)?;
     }
     Ok(())
 }
@@ -204,164 +207,181 @@ fn passed_but_one(alloc: Global, call: u64) -> Result<u8, DiskError> {
 
 #[test]
 fn one_call_fails(rt: HostRuntime) -> Result<(), Fail> {
-    let alloc = rt.alloc();
     for call in 0..12 {
         let wanted = if call == 0 || call > 10 { 7 } else { 6 };
-        assert_eq!(rt; passed_but_one(alloc, call)?, wanted, "call {call}");
+        same(&passed_but_one(rt.alloc(), call)?, &wanted, call)?;
     }
     Ok(())
 }
 
+/// What is made of file 7 last.
+#[derive(Clone, Copy)]
+enum Last {
+    Write,
+    Cut,
+    Sync,
+    Remove,
+}
+
 /// Writes file 7 and makes one call more that changes it, or makes a long write alone.
-fn changed_by<D: Disk>(disk: &mut Thawed<D>, last: &str) -> Result<(), DiskError> {
-    if last == "write" {
-        return disk.write(7, 0, &[1, 2, 3, 4, 5]);
-    }
-    disk.write(7, 0, &[1, 2, 3])?;
+fn change_by<D: Disk>(disk: &mut Thawed<D>, last: Last) -> Result<(), DiskError> {
+    let octets: &[u8] = match last {
+        Last::Write => &[1, 2, 3, 4, 5],
+        _ => &[1, 2, 3],
+    };
+    disk.write(7, 0, octets)?;
     match last {
-        "cut" => disk.cut(7, 1),
-        "sync" => disk.sync(7),
-        _ => disk.remove(7),
+        Last::Write => Ok(()),
+        Last::Cut => disk.cut(7, 1),
+        Last::Sync => disk.sync(7),
+        Last::Remove => disk.remove(7),
     }
 }
 
-/// What file 7 reads as once these calls met a fault.
-fn read_after_fault<D: Disk>(
+/// Makes these calls, of which one meets a fault.
+fn failed<D: Disk>(disk: D, last: Last) -> Result<D, Fail>
+    requires { (n : ℕ) → (D.marks disk n).frozen ≡ false }
+{
+    let mut thawed = Thawed { disk };
+    let result = change_by(&mut thawed, last);
+    let Thawed { disk } = thawed;
+    if result != Err(DiskError::Fault) {
+        return Err(Fail::from("no fault"));
+    }
+    Ok(disk)
+}
+
+/// Whether file 7 has these octets once these calls met a fault.
+fn fails_as<D: Disk>(alloc: Global, disk: D, last: Last, octets: &[u8]) -> Result<bool, Fail>
+    requires { (n : ℕ) → (D.marks disk n).frozen ≡ false }
+{
+    let mut disk = failed(disk, last)?;
+    Ok(reads_as(alloc, &mut disk, octets)?)
+}
+
+/// Whether file 7 has these octets on a disk whose one call behind so many fails.
+fn is_left_by_one_fault(
     alloc: Global,
-    disk: &mut Thawed<D>,
-    last: &str,
-) -> Result<Vec<u8>, Fail> {
-    if changed_by(disk, last) != Err(DiskError::Fault) {
-        return Err(Fail::from("no fault"));
-    }
-    Ok(disk.read(alloc, 7)?)
+    calls: u64,
+    last: Last,
+    octets: &[u8],
+) -> Result<bool, Fail> {
+    let disk = OneFaultDisk::new(MemoryDisk::new(alloc, AMPLE)?, calls.saturating_add(1));
+    fails_as(alloc, disk, last, octets)
 }
 
-/// The same of a disk whose one call behind so many fails.
-fn left_by_one_fault(alloc: Global, calls: u64, last: &str) -> Result<Vec<u8>, Fail> {
-    let mut disk = Thawed {
-        disk: OneFaultDisk::new(MemoryDisk::new(alloc, AMPLE)?, calls.saturating_add(1)),
-    };
-    read_after_fault(alloc, &mut disk, last)
+/// Whether file 7 has these octets after a restart, behind a fuse of so many calls.
+fn is_left_by_fuse(alloc: Global, calls: u64, last: Last, octets: &[u8]) -> Result<bool, Fail> {
+    let disk = FusedDisk::new(MemoryDisk::new(alloc, AMPLE)?, calls);
+    let mut after = failed(disk, last)?.restart();
+    Ok(reads_as(alloc, &mut after, octets)?)
 }
 
-/// What file 7 reads as after a restart once these calls met a fault, behind a fuse of so many calls.
-fn left_by_fuse(alloc: Global, calls: u64, last: &str) -> Result<Vec<u8>, Fail> {
-    let mut disk = Thawed {
-        disk: FusedDisk::new(MemoryDisk::new(alloc, AMPLE)?, calls),
-    };
-    if changed_by(&mut disk, last) != Err(DiskError::Fault) {
-        return Err(Fail::from("no fault"));
-    }
-    let Thawed { disk } = disk;
-    let mut after = Thawed {
-        disk: disk.restart(),
-    };
-    Ok(after.read(alloc, 7)?)
-}
-
-/// What is made of file 7, behind how many calls it fails, and what file 7 then reads as.
-fn failures() -> [(&'static str, u64, &'static [u8]); 4] {
-    // write and cut look up the length first
-    [
-        ("write", 1, &[1, 2]),
-        ("cut", 3, &[1, 2, 3]),
-        ("sync", 2, &[1, 2, 3]),
-        ("remove", 2, &[1, 2, 3]),
-    ]
-}
+/// What is made of file 7, behind how many calls it fails, and what file 7 then reads as. Write and cut look up the
+/// length first.
+const FAILURES: [(Last, u64, &[u8]); 4] = [
+    (Last::Write, 1, &[1, 2]),
+    (Last::Cut, 3, &[1, 2, 3]),
+    (Last::Sync, 2, &[1, 2, 3]),
+    (Last::Remove, 2, &[1, 2, 3]),
+];
 
 #[test]
 fn a_failed_call_leaves_the_file_and_a_failed_write_half(rt: HostRuntime) -> Result<(), Fail> {
     let alloc = rt.alloc();
-    for (last, calls, wanted) in failures() {
-        let left = left_by_fuse(alloc, calls, last)?;
-        assert_eq!(rt; left.as_slice(), wanted, "{last}, then a restart");
-    }
-    for (last, calls, wanted) in failures() {
-        let left = left_by_one_fault(alloc, calls, last)?;
-        assert_eq!(rt; left.as_slice(), wanted, "{last}");
+    for (last, calls, octets) in &FAILURES {
+        assert!(rt; is_left_by_fuse(alloc, *calls, *last, octets)?);
+        assert!(rt; is_left_by_one_fault(alloc, *calls, *last, octets)?);
     }
     Ok(())
 }
 
 /// Writes file 7 as 1 2 3, and settles it.
-fn settled<D: Disk>(mut disk: D) -> Result<D, DiskError>
-    requires { (D.marks disk 7).frozen ≡ false }
-    ensures frozen { IfOk result (λ disk. (D.marks disk 7).frozen ≡ false) }
-    ensures settled { IfOk result (λ disk. (D.marks disk 7).settled ≡ true) }
+fn settle<D: Disk>(disk: &mut D) -> Result<(), DiskError>
+    requires { (D.marks disk.old 7).frozen ≡ false }
+    ensures frozen { OnOk result ((D.marks disk.new 7).frozen ≡ false) }
+    ensures settled { OnOk result ((D.marks disk.new 7).settled ≡ true) }
 {
     disk.write_at(7, 0, &[1, 2, 3])?;
-    disk.sync(7)?;
-    Ok(disk)
+    disk.sync(7)
 }
 
-/// Freezes file 7 twice, of which the first fails, and removes it: how long it was frozen and afterwards.
-fn frozen_again<D: Disk>(disk: D) -> Result<Option<(u64, u64)>, DiskError>
-    requires { (D.marks disk 7).frozen ≡ false }
+/// Freezes file 7, which is settled, and removes it: how long it was frozen.
+fn retired<D: Disk>(disk: &mut D) -> Result<u64, DiskError>
+    requires thawed { (D.marks disk.old 7).frozen ≡ false }
+    requires settled { (D.marks disk.old 7).settled ≡ true }
 {
-    let mut disk = settled(disk)?;
-    if disk.freeze(7).is_ok() {
-        return Ok(None);
-    }
     let sealed = disk.freeze(7)?;
     let length = sealed.length();
     disk.retire(sealed)?;
+    Ok(length)
+}
+
+/// Freezes file 7 twice, of which the first fails, and removes it: how long it was frozen and afterwards.
+fn frozen_again<D: Disk>(disk: &mut D) -> Result<Option<(u64, u64)>, DiskError>
+    requires { (D.marks disk.old 7).frozen ≡ false }
+{
+    settle(disk)?;
+    if disk.freeze(7).is_ok() {
+        return Ok(None);
+    }
+    let length = retired(disk)?;
     Ok(Some((length, disk.length(7)?)))
 }
 
 /// Freezes file 7 on a disk whose third call fails, which freezes; the next one freezes.
 fn frozen_at_last(alloc: Global) -> Result<Option<(u64, u64)>, DiskError> {
-    frozen_again(OneFaultDisk::new(MemoryDisk::new(alloc, AMPLE)?, 3))
+    frozen_again(&mut OneFaultDisk::new(MemoryDisk::new(alloc, AMPLE)?, 3))
 }
 
 /// Freezes file 7 and fails to remove it.
-fn fails_to_retire<D: Disk>(disk: D) -> Result<D, DiskError>
-    requires { (D.marks disk 7).frozen ≡ false }
+fn fail_to_retire<D: Disk>(disk: &mut D) -> Result<(), DiskError>
+    requires { (D.marks disk.old 7).frozen ≡ false }
 {
-    let mut disk = settled(disk)?;
+    settle(disk)?;
     let sealed = disk.freeze(7)?;
     match disk.retire(sealed) {
-        Err(DiskError::Fault) => Ok(disk),
+        Err(DiskError::Fault) => Ok(()),
         _ => Err(DiskError::OutOfMemory),
     }
 }
 
 /// How long file 7 is after a restart behind a removal that failed, the fourth call.
 fn length_left(alloc: Global) -> Result<u64, DiskError> {
-    let disk = fails_to_retire(FusedDisk::new(MemoryDisk::new(alloc, AMPLE)?, 3))?;
+    let mut disk = FusedDisk::new(MemoryDisk::new(alloc, AMPLE)?, 3);
+    fail_to_retire(&mut disk)?;
     disk.restart().length(7)
 }
 
 #[test]
 fn a_failed_call_leaves_a_frozen_file(rt: HostRuntime) -> Result<(), Fail> {
-    let alloc = rt.alloc();
-    assert_eq!(rt; frozen_at_last(alloc)?, Some((3, 0)));
-    assert_eq!(rt; length_left(alloc)?, 3);
-    Ok(())
+    same(&frozen_at_last(rt.alloc())?, &Some((3, 0)), 0)?;
+    same(&length_left(rt.alloc())?, &3, 1)
 }
 
-/// Whether a file that was settled as 1 2 3 4 is read so.
-fn is_read_as_settled<D: Disk>(alloc: Global, disk: D) -> Result<bool, DiskError>
-    requires { (n : ℕ) → (D.marks disk n).frozen ≡ false }
+/// Whether a file that is settled as 1 2 3 4 is read so.
+fn is_read_as_settled<D: Disk>(alloc: Global, disk: &mut D) -> Result<bool, DiskError>
+    requires { (D.marks disk.old 7).frozen ≡ false }
 {
-    let mut disk = Thawed { disk };
-    disk.write(7, 0, &[1, 2, 3, 4])?;
+    // a disk that lies keeps to the length that it tells first
+    disk.length(7)?;
+    disk.write_at(7, 0, &[1, 2, 3, 4])?;
     disk.sync(7)?;
-    let read = disk.read(alloc, 7)?;
-    Ok(read.as_slice() == [1, 2, 3, 4].as_slice())
+    reads_as(alloc, disk, &[1, 2, 3, 4])
 }
 
 fn is_true(alloc: Global, seed: u64) -> Result<bool, DiskError> {
-    is_read_as_settled(alloc, LyingDisk::new(MemoryDisk::new(alloc, AMPLE)?, seed))
+    is_read_as_settled(
+        alloc,
+        &mut LyingDisk::new(MemoryDisk::new(alloc, AMPLE)?, seed),
+    )
 }
 
 #[test]
 fn a_disk_lies_about_what_is_read(rt: HostRuntime) -> Result<(), Fail> {
-    let alloc = rt.alloc();
     let mut lies = 0u64;
     for seed in 0..50 {
-        if !is_true(alloc, seed)? {
+        if !is_true(rt.alloc(), seed)? {
             lies = lies.saturating_add(1);
         }
     }

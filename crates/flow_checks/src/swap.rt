@@ -1,5 +1,5 @@
 // A swap of the slots, on a disk that fails.
-ghost use Rattle.std.specs.Prelude.{◌≡◌, ◌+◌, ◌≤◌, true, false, IsTrue};
+ghost use Rattle.std.specs.Prelude.{◌≡◌, ◌+◌, ◌≤◌, true, false, IfOk, IsTrue};
 ghost use Rattle.flow_manifest.specs.declared.slots.Slot.{Slot};
 ghost use Rattle.flow_manifest.specs.Manifest.{IsValidManifest, manifest_octets};
 ghost use Rattle.flow_manifest.specs.Slots.{file_of, other, reads_of, AreSlots};
@@ -22,14 +22,24 @@ pub(crate) fn swapped_to(
     requires settled { (slot : Slot) → ((story_of disk).marks (file_of slot)).settled ≡ true }
 {
     let mut slots = read_slots(alloc, &mut disk)?;
+    let (next, octets) = following(alloc, slots.current.generation, body)?;
+    let mut fused = FusedDisk::new(disk, calls);
+    let result = swap(&mut fused, &mut slots, next, &octets);
+    Ok((fused, result))
+}
+
+/// The manifest of a body, which follows one of this generation, and the octets that it is written in.
+fn following(alloc: Global, generation: u64, body: &[u8]) -> Result<(Manifest, Vec<u8>), Fail>
+    ensures valid { IfOk result (λ made. IsValidManifest made.0) }
+    ensures follows { IfOk result (λ made. made.0.generation ≡ generation + 1) }
+    ensures octets { IfOk result (λ made. made.1.items ≡ manifest_octets made.0) }
+{
     let next = decode(alloc, body)?;
-    let body = encode(alloc, &next)?;
-    if next.generation == 0 || next.generation - 1 != slots.current.generation {
+    let octets = encode(alloc, &next)?;
+    if next.generation == 0 || next.generation - 1 != generation {
         return Err(Fail::from("a generation that does not follow"));
     }
-    let mut fused = FusedDisk::new(disk, calls);
-    let result = swap(&mut fused, &mut slots, next, &body);
-    Ok((fused, result))
+    Ok((next, octets))
 }
 
 /// Prepares the slot that isn't in force, and opens it.

@@ -43,31 +43,29 @@ fn are(messages: &[Vec<u8>], wanted: &[&[u8]]) -> bool {
     messages.len() == wanted.len()
 }
 
-/// Whether file 3 has so many octets, and a scan gives these messages and this end.
-fn holds<D: Disk>(
+/// How many octets file 3 has, where the list ends that a scan gives, and whether it is of these messages.
+fn listed<D: Disk>(
     alloc: Global,
     disk: &mut D,
     messages: &[&[u8]],
-    end: u64,
-    length: u64,
-) -> Result<bool, ScanError> {
-    let is_long = disk.length(FILE)? == length;
+) -> Result<(u64, u64, bool), ScanError> {
+    let length = disk.length(FILE)?;
     let tail = scan(alloc, disk, FILE, 0)?;
-    Ok(is_long && tail.end == end && are(&tail.messages, messages))
+    Ok((length, tail.end, are(&tail.messages, messages)))
 }
 
 /// Whether the first message is none once it is placed.
 fn is_placed(alloc: Global) -> Result<bool, Fail> {
     let (mut disk, result) = segment(alloc)?.place_first();
     result?;
-    Ok(holds(alloc, &mut disk, &[], 0, 59)?)
+    Ok(listed(alloc, &mut disk, &[])? == (59, 0, true))
 }
 
 /// Whether the first message is there once its gate is open.
 fn is_added(alloc: Global) -> Result<bool, Fail> {
     let (mut disk, result) = segment(alloc)?.add_first();
     result?;
-    Ok(holds(alloc, &mut disk, &[&FIRST], 57, 59)?)
+    Ok(listed(alloc, &mut disk, &[&FIRST])? == (59, 57, true))
 }
 
 #[test]
@@ -90,7 +88,7 @@ fn is_lost(alloc: Global, choice: Choice<'_>) -> Result<bool, Fail> {
     let (disk, result) = segment(alloc)?.fused(2).place_first();
     let is_fault = result == Err(DiskError::Fault);
     let mut disk = left(disk, choice)?;
-    Ok(holds(alloc, &mut disk, &[], 0, 59)? && is_fault)
+    Ok(is_fault && listed(alloc, &mut disk, &[])? == (59, 0, true))
 }
 
 #[test]
@@ -100,16 +98,14 @@ fn what_was_placed_and_not_synced_is_no_message(rt: HostRuntime) -> Result<(), F
 }
 
 /// Whether file 3 begins with both messages, and not with none.
-fn has_both<D: Disk>(alloc: Global, disk: &mut D) -> Result<bool, Fail> {
-    let is_long = disk.length(FILE)? == 92;
-    let tail = scan(alloc, disk, FILE, 0)?;
-    if tail.end == 0 && tail.messages.is_empty() {
+fn has_both(alloc: Global, disk: &mut MemoryDisk) -> Result<bool, Fail> {
+    if let (_, 0, true) = listed(alloc, disk, &[])? {
         return Ok(false);
     }
-    if is_long && tail.end == 90 && are(&tail.messages, &[&FIRST, &SECOND]) {
-        return Ok(true);
+    match listed(alloc, disk, &[&FIRST, &SECOND])? {
+        (92, 90, true) => Ok(true),
+        _ => Err(Fail::from("a part of the batch")),
     }
-    Err(Fail::from("a part of the batch"))
 }
 
 /// Whether both messages are there after a stop behind so many calls of adding them, and whether adding answered Ok.
