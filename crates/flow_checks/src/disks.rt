@@ -1,7 +1,8 @@
 // Each call of each disk: once where there is room for it, and once where there is none.
-ghost use Rattle.std.specs.Prelude.{◌≡◌, ◌≢◌, ℕ, ◌≤◌, true, false, IfOk, OnOk};
+ghost use Rattle.std.specs.Prelude.{◌≡◌, ◌≢◌, ℕ, ◌<◌, ◌≤◌, ◌+◌, true, false, IfOk, OnOk};
 ghost use Rattle.flow_memory_disk.specs.Memory.{story_of};
 
+use crate::same::same;
 use flow_disk::{Disk, DiskError, Faults, SealedFile};
 use flow_memory_disk::{FusedDisk, LyingDisk, MemoryDisk, OneFaultDisk, Room};
 use std::alloc::{AllocError, Global};
@@ -36,25 +37,50 @@ const NONE: Room = Room {
 
 /// What the calls of a disk told, of two files that were written: file 7 as 1 2 3 4 5, cut to four octets, then 6 7
 /// over its third octet; file 2 as 9, removed behind the first list of files.
-#[derive(Drop, PartialEq)]
+#[derive(Clone, Copy, PartialEq)]
 struct Told {
-    listed: Vec<u64>,
-    left: Vec<u64>,
-    read: Vec<u8>,
+    /// Whether files 2 and 7 are listed, and file 7 alone behind the removal.
+    listed: bool,
+    left: bool,
+    read: Read,
     length: u64,
     frozen: ToldFrozen,
     retired_length: u64,
 }
 
-/// Writes file 2, and removes it: the files that are listed before and after the removal.
-fn listed_and_left<D: Disk>(alloc: Global, disk: &mut D) -> Result<(Vec<u64>, Vec<u64>), DiskError>
+/// How many octets are read, and whether they are 2 6 7.
+type Read = (usize, bool);
+
+/// What a disk tells that doesn't lie.
+const TRUTH: Told = Told {
+    listed: true,
+    left: true,
+    read: (3, true),
+    length: 4,
+    frozen: ToldFrozen {
+        file: 7,
+        length: 4,
+        read: (3, true),
+    },
+    retired_length: 0,
+};
+
+/// Whether these files are listed.
+fn are_listed<D: Disk>(alloc: Global, disk: &mut D, files: &[u64]) -> Result<bool, DiskError>
+    ensures { (n : ℕ) → D.marks disk.new n ≡ D.marks disk.old n }
+{
+    Ok(disk.files(alloc)?.as_slice() == files)
+}
+
+/// Writes file 2, and removes it: whether the files are listed before and after the removal.
+fn listed_and_left<D: Disk>(alloc: Global, disk: &mut D) -> Result<(bool, bool), DiskError>
     requires { (D.marks disk.old 2).frozen ≡ false }
     ensures { (n : ℕ) → n ≢ 2 → D.marks disk.new n ≡ D.marks disk.old n }
 {
     disk.write_at(2, 0, &[9])?;
-    let listed = disk.files(alloc)?;
+    let listed = are_listed(alloc, disk, &[2, 7])?;
     disk.remove(2)?;
-    Ok((listed, disk.files(alloc)?))
+    Ok((listed, are_listed(alloc, disk, &[7])?))
 }
 
 /// Writes over file 7 once cut, and settles it.
@@ -70,37 +96,57 @@ fn cut_and_settled<D: Disk>(disk: &mut D) -> Result<(), DiskError>
     disk.sync(7)
 }
 
+fn read_of(octets: &[u8]) -> Read {
+    (octets.len(), octets == [2, 6, 7].as_slice())
+}
+
+/// What is read of file 7 once it is written over.
+fn told_read<D: Disk>(alloc: Global, disk: &mut D) -> Result<Read, DiskError>
+    requires { (D.marks disk.old 7).size ≡ 4 }
+    ensures { (n : ℕ) → D.marks disk.new n ≡ D.marks disk.old n }
+{
+    Ok(read_of(&disk.read(alloc, 7, 1, 3)?))
+}
+
 /// What is told of a frozen file.
-#[derive(Drop, PartialEq)]
+#[derive(Clone, Copy, PartialEq)]
 struct ToldFrozen {
     file: u64,
     length: u64,
-    read: Vec<u8>,
+    read: Read,
 }
 
 fn told_frozen<S: SealedFile>(alloc: Global, sealed: &S) -> Result<ToldFrozen, DiskError>
     requires { S.size sealed.now ≡ 4 }
 {
     let mut faults = Faults::new();
-    Ok(ToldFrozen {
-        file: sealed.file(),
-        length: sealed.length(),
-        read: sealed.read(alloc, &mut faults, 1, 3)?,
-    })
+    let (file, length) = (sealed.file(), sealed.length());
+    let read = read_of(&sealed.read(alloc, &mut faults, 1, 3)?);
+    Ok(ToldFrozen { file, length, read })
 }
 
-/// Makes each call of a disk, and each of a frozen file.
-fn each_call<D: Disk>(alloc: Global, mut disk: D) -> Result<Told, DiskError>
-    requires { (n : ℕ) → (D.marks disk n).frozen ≡ false }
+/// Freezes file 7, and removes it: what is told while it is frozen, and how long it is then.
+fn frozen_and_retired<D: Disk>(alloc: Global, disk: &mut D) -> Result<(ToldFrozen, u64), DiskError>
+    requires settled { (D.marks disk.old 7).settled ≡ true }
+    requires thawed { (D.marks disk.old 7).frozen ≡ false }
+    requires size { (D.marks disk.old 7).size ≡ 4 }
 {
-    disk.write_at(7, 0, &[1, 2, 3, 4, 5])?;
-    let (listed, left) = listed_and_left(alloc, &mut disk)?;
-    cut_and_settled(&mut disk)?;
-    let read = disk.read(alloc, 7, 1, 3)?;
     let sealed = disk.freeze(7)?;
     let frozen = told_frozen(alloc, &sealed)?;
     let length = disk.length(7)?;
     disk.retire(sealed)?;
+    Ok((frozen, length))
+}
+
+/// Makes each call of a disk, and each of a frozen file.
+fn each_call<D: Disk>(alloc: Global, disk: &mut D) -> Result<Told, DiskError>
+    requires { (n : ℕ) → (D.marks disk.old n).frozen ≡ false }
+{
+    disk.write_at(7, 0, &[1, 2, 3, 4, 5])?;
+    let (listed, left) = listed_and_left(alloc, disk)?;
+    cut_and_settled(disk)?;
+    let read = told_read(alloc, disk)?;
+    let (frozen, length) = frozen_and_retired(alloc, disk)?;
     Ok(Told {
         listed,
         left,
@@ -108,22 +154,6 @@ fn each_call<D: Disk>(alloc: Global, mut disk: D) -> Result<Told, DiskError>
         length,
         frozen,
         retired_length: disk.length(7)?,
-    })
-}
-
-/// What a disk tells that doesn't lie.
-fn truth(alloc: Global) -> Result<Told, AllocError> {
-    Ok(Told {
-        listed: vec![in alloc; 2, 7]?,
-        left: vec![in alloc; 7]?,
-        read: vec![in alloc; 2, 6, 7]?,
-        length: 4,
-        frozen: ToldFrozen {
-            file: 7,
-            length: 4,
-            read: vec![in alloc; 2, 6, 7]?,
-        },
-        retired_length: 0,
     })
 }
 
@@ -135,43 +165,44 @@ fn memory(alloc: Global, room: Room) -> Result<MemoryDisk, AllocError>
     MemoryDisk::new(alloc, room)
 }
 
-/// Whether each call tells the truth.
-fn is_true<D: Disk>(alloc: Global, disk: D) -> Result<bool, DiskError>
-    requires { (n : ℕ) → (D.marks disk n).frozen ≡ false }
-{
-    let told = each_call(alloc, disk)?;
-    Ok(told == truth(alloc)?)
-}
-
 /// Whether each call tells the truth, or else one meets a fault.
-fn is_so<D: Disk>(alloc: Global, disk: D, truth: bool) -> Result<bool, DiskError>
-    requires { (n : ℕ) → (D.marks disk n).frozen ≡ false }
+fn is_so<D: Disk>(alloc: Global, disk: &mut D, truth: bool) -> Result<bool, DiskError>
+    requires { (n : ℕ) → (D.marks disk.old n).frozen ≡ false }
 {
-    match is_true(alloc, disk) {
-        Ok(is_true) => Ok(is_true && truth),
+    match each_call(alloc, disk) {
+        Ok(told) => Ok(truth && told == TRUTH),
         Err(DiskError::Fault) => Ok(!truth),
         Err(error) => Err(error),
     }
 }
 
+fn is_so_in_memory(alloc: Global) -> Result<bool, DiskError> {
+    is_so(alloc, &mut memory(alloc, ENOUGH)?, true)
+}
+
 #[test]
 fn each_call_of_a_memory_disk(rt: HostRuntime) -> Result<(), Fail> {
-    let alloc = rt.alloc();
-    assert!(rt; is_true(alloc, memory(alloc, ENOUGH)?)?);
+    assert!(rt; is_so_in_memory(rt.alloc())?);
     Ok(())
 }
 
 /// Whether each call tells the truth that passes a fuse, or else one meets a fault.
 fn is_so_fused(alloc: Global, calls: u64, truth: bool) -> Result<bool, DiskError> {
-    let disk = FusedDisk::new(memory(alloc, ENOUGH)?, calls);
-    is_so(alloc, disk, truth)
+    is_so(
+        alloc,
+        &mut FusedDisk::new(memory(alloc, ENOUGH)?, calls),
+        truth,
+    )
 }
 
 #[test]
 fn each_call_of_a_fused_disk(rt: HostRuntime) -> Result<(), Fail> {
-    let alloc = rt.alloc();
     for calls in 0..CALLS + 1 {
-        assert!(rt; is_so_fused(alloc, calls, calls == CALLS)?, "{calls} calls");
+        same(
+            &is_so_fused(rt.alloc(), calls, calls == CALLS)?,
+            &true,
+            calls,
+        )?;
     }
     Ok(())
 }
@@ -183,63 +214,71 @@ fn is_so_with_bad_reads(
     from: u64,
     truth: bool,
 ) -> Result<bool, DiskError> {
-    let disk = FusedDisk::with_bad_reads(memory(alloc, ENOUGH)?, CALLS, file, from);
-    is_so(alloc, disk, truth)
+    let disk = memory(alloc, ENOUGH)?;
+    is_so(
+        alloc,
+        &mut FusedDisk::with_bad_reads(disk, CALLS, file, from),
+        truth,
+    )
 }
+
+/// A file, the octet from which its reads fail, and whether all is read. What is read of the frozen file ends at its
+/// octet 3.
+const BAD_READS: [(u64, u64, bool); 4] = [(7, 0, false), (7, 3, false), (7, 4, true), (2, 0, true)];
 
 #[test]
 fn each_call_of_a_fused_disk_with_bad_reads(rt: HostRuntime) -> Result<(), Fail> {
-    let alloc = rt.alloc();
-    // what is read of the frozen file ends at its octet 3
-    for (file, from, truth) in [(7, 0, false), (7, 3, false), (7, 4, true), (2, 0, true)] {
-        assert!(rt;
-            is_so_with_bad_reads(alloc, file, from, truth)?,
-            "file {file} from {from}"
-        );
+    for (file, from, truth) in &BAD_READS {
+        let is_so = is_so_with_bad_reads(rt.alloc(), *file, *from, *truth)?;
+        same(&is_so, &true, *from)?;
     }
     Ok(())
 }
 
 /// The same of a disk whose call of this number fails.
 fn is_so_but_one(alloc: Global, call: u64, truth: bool) -> Result<bool, DiskError> {
-    let disk = OneFaultDisk::new(memory(alloc, ENOUGH)?, call);
-    is_so(alloc, disk, truth)
+    is_so(
+        alloc,
+        &mut OneFaultDisk::new(memory(alloc, ENOUGH)?, call),
+        truth,
+    )
 }
 
 #[test]
 fn each_call_of_a_disk_with_one_fault(rt: HostRuntime) -> Result<(), Fail> {
-    let alloc = rt.alloc();
     for call in 0..CALLS + 2 {
         let truth = call == 0 || call > CALLS;
-        assert!(rt; is_so_but_one(alloc, call, truth)?, "call {call}");
+        same(&is_so_but_one(rt.alloc(), call, truth)?, &true, call)?;
     }
     Ok(())
 }
 
 /// Whether lengths are as they were made, before one was asked for.
-fn keeps_lengths(told: &Told, truth: &Told) -> bool {
-    told.read.len() == truth.read.len()
-        && told.frozen.file == truth.frozen.file
-        && told.frozen.length == truth.frozen.length
-        && told.frozen.read.len() == truth.frozen.read.len()
+fn keeps_lengths(told: &Told) -> bool {
+    let (count, _) = told.read;
+    let (frozen_count, _) = told.frozen.read;
+    count == 3 && told.frozen.file == 7 && told.frozen.length == 4 && frozen_count == 3
 }
 
-/// Whether each call of a disk that lies tells the truth. It lies of a length from a call on that asks for it.
+/// What a disk that lies tells. It lies of a length from a call on that asks for it.
+fn told_by_liar(alloc: Global, seed: u64) -> Result<Told, DiskError> {
+    each_call(alloc, &mut LyingDisk::new(memory(alloc, ENOUGH)?, seed))
+}
+
+/// Whether each call of a disk that lies tells the truth.
 fn is_true_of_liar(alloc: Global, seed: u64) -> Result<bool, Fail> {
-    let told = each_call(alloc, LyingDisk::new(memory(alloc, ENOUGH)?, seed))?;
-    let truth = truth(alloc)?;
-    if !keeps_lengths(&told, &truth) {
+    let told = told_by_liar(alloc, seed)?;
+    if !keeps_lengths(&told) {
         return Err(Fail::from("another length"));
     }
-    Ok(told == truth)
+    Ok(told == TRUTH)
 }
 
 #[test]
 fn each_call_of_a_disk_that_lies(rt: HostRuntime) -> Result<(), Fail> {
-    let alloc = rt.alloc();
     let mut true_ones = 0u64;
     for seed in 0..100 {
-        if is_true_of_liar(alloc, seed)? {
+        if is_true_of_liar(rt.alloc(), seed)? {
             true_ones = true_ones.saturating_add(1);
         }
     }
@@ -251,11 +290,7 @@ fn each_call_of_a_disk_that_lies(rt: HostRuntime) -> Result<(), Fail> {
 }
 
 /// A file's end as it is told: how many octets it has, and how many are read of its last eight.
-#[derive(Drop, PartialEq)]
-struct End {
-    length: u64,
-    read: usize,
-}
+type End = (u64, usize);
 
 fn end_of<D: Disk>(alloc: Global, disk: &mut D, length: u64) -> Result<End, DiskError>
     requires { (D.marks disk.old 7).size ≡ length }
@@ -263,10 +298,7 @@ fn end_of<D: Disk>(alloc: Global, disk: &mut D, length: u64) -> Result<End, Disk
 {
     let count = length.min(8);
     let read = disk.read(alloc, 7, length - count, count as usize)?;
-    Ok(End {
-        length,
-        read: read.len(),
-    })
+    Ok((length, read.len()))
 }
 
 fn frozen_end<S: SealedFile>(alloc: Global, sealed: &S) -> Result<End, DiskError> {
@@ -274,71 +306,101 @@ fn frozen_end<S: SealedFile>(alloc: Global, sealed: &S) -> Result<End, DiskError
     let count = length.min(8);
     let mut faults = Faults::new();
     let read = sealed.read(alloc, &mut faults, length - count, count as usize)?;
-    Ok(End {
-        length,
-        read: read.len(),
-    })
+    Ok((length, read.len()))
+}
+
+/// Where file 7 ends once 64 octets are written behind it.
+fn lengthened<D: Disk>(alloc: Global, disk: &mut D, length: u64) -> Result<End, DiskError>
+    requires thawed { (D.marks disk.old 7).frozen ≡ false }
+    requires size { (D.marks disk.old 7).size ≡ length }
+    ensures thawed { OnOk result ((D.marks disk.new 7).frozen ≡ false) }
+    ensures size { OnOk result ((D.marks disk.new 7).size ≡ length + 64) }
+{
+    disk.write_at(7, length, &[6; 64])?;
+    end_of(alloc, disk, length + 64)
+}
+
+/// Where file 7 ends once it is cut there and frozen. It is removed.
+fn shortened<D: Disk>(alloc: Global, disk: &mut D, length: u64) -> Result<End, DiskError>
+    requires thawed { (D.marks disk.old 7).frozen ≡ false }
+    requires size { length ≤ (D.marks disk.old 7).size }
+{
+    disk.cut(7, length)?;
+    disk.sync(7)?;
+    let sealed = disk.freeze(7)?;
+    let end = frozen_end(alloc, &sealed)?;
+    disk.retire(sealed)?;
+    Ok(end)
 }
 
 /// Where file 7 ends, of five octets, as a disk tells it; where it ends once 64 octets are written there; and where it
 /// ends once these are cut off again and it is frozen.
-fn ends<D: Disk>(alloc: Global, mut disk: D) -> Result<[End; 3], DiskError>
-    requires { (n : ℕ) → (D.marks disk n).frozen ≡ false }
+fn ends<D: Disk>(alloc: Global, disk: &mut D) -> Result<[End; 3], DiskError>
+    requires { (n : ℕ) → (D.marks disk.old n).frozen ≡ false }
 {
     disk.write_at(7, 0, &[1, 2, 3, 4, 5])?;
     let length = disk.length(7)?;
-    let first = end_of(alloc, &mut disk, length)?;
-    disk.write_at(7, length, &[6; 64])?;
-    let second = end_of(alloc, &mut disk, length + 64)?;
-    disk.cut(7, length)?;
-    disk.sync(7)?;
-    let sealed = disk.freeze(7)?;
-    let third = frozen_end(alloc, &sealed)?;
-    disk.retire(sealed)?;
+    let first = end_of(alloc, disk, length)?;
+    let second = lengthened(alloc, disk, length)?;
+    let third = shortened(alloc, disk, length)?;
     Ok([first, second, third])
 }
 
-/// How many octets a disk that lies tells of a file of five. Each later call keeps to it.
-fn told_of_five(alloc: Global, seed: u64) -> Result<u64, Fail> {
-    let [first, second, third] = ends(alloc, LyingDisk::new(memory(alloc, LONGER)?, seed))?;
-    let told = first.length;
-    if first.read as u64 != told.min(8) || second.read != 8 || third != first {
+fn ends_by_liar(alloc: Global, seed: u64) -> Result<[End; 3], DiskError> {
+    ends(alloc, &mut LyingDisk::new(memory(alloc, LONGER)?, seed))
+}
+
+/// How many octets are told of file 7 by its ends. Each later call keeps to it.
+fn length_told(ends: [End; 3]) -> Result<u64, Fail> {
+    let [first, second, third] = ends;
+    let (told, read) = first;
+    if read as u64 != told.min(8) || second.1 != 8 || third != first {
         return Err(Fail::from("not as many octets as are told"));
     }
     Ok(told)
 }
 
-/// Whether a disk that lies tells so many octets of it that 64 more are a fault.
-fn is_full(alloc: Global, seed: u64) -> Result<bool, DiskError> {
-    let result = ends(alloc, LyingDisk::new(memory(alloc, LONGER)?, seed));
-    match result {
-        Ok(_) => Ok(false),
-        Err(DiskError::Fault) => Ok(true),
-        Err(error) => Err(error),
+/// How many octets a disk that lies tells of a file of five; none where it tells so many that 64 more are a fault.
+fn told_of_five(alloc: Global, seed: u64) -> Result<Option<u64>, Fail> {
+    match ends_by_liar(alloc, seed) {
+        Ok(ends) => Ok(Some(length_told(ends)?)),
+        Err(DiskError::Fault) => Ok(None),
+        Err(error) => Err(Fail::from(error)),
     }
+}
+
+/// Where less than five octets are told, the truth, more and too much.
+fn kind_of(told: Option<u64>) -> usize
+    ensures { result < 4 }
+{
+    match told {
+        Some(0..5) => 0,
+        Some(5) => 1,
+        Some(_) => 2,
+        None => 3,
+    }
+}
+
+/// How often each of these is told of 200 files of five octets.
+fn told_of_fives(alloc: Global) -> Result<[u64; 4], Fail> {
+    let mut told = [0u64; 4];
+    for seed in 0..200 {
+        let kind = kind_of(told_of_five(alloc, seed)?);
+        told[kind] = told[kind].saturating_add(1);
+    }
+    Ok(told)
 }
 
 #[test]
 fn lengths_of_a_disk_that_lies(rt: HostRuntime) -> Result<(), Fail> {
-    let alloc = rt.alloc();
-    let mut told = [0u64; 4];
-    for seed in 0..200 {
-        let kind = if is_full(alloc, seed)? {
-            3
-        } else {
-            match told_of_five(alloc, seed)? {
-                0..5 => 0,
-                5 => 1,
-                _ => 2,
-            }
-        };
-        if let Some(count) = told.get_mut(kind) {
-            *count = count.saturating_add(1);
-        }
-    }
+    let [less, true_ones, more, too_much] = told_of_fives(rt.alloc())?;
     assert!(rt;
-        told.iter().all(|count| *count > 10),
-        "{told:?} times less, the truth, more and too much"
+        less > 10 && true_ones > 10,
+        "{less} times less, {true_ones} times the truth"
+    );
+    assert!(rt;
+        more > 10 && too_much > 10,
+        "{more} times more, {too_much} times too much"
     );
     Ok(())
 }
@@ -462,31 +524,37 @@ fn told_of_nothing<D: Disk>(alloc: Global, disk: D) -> Result<(u64, usize, usize
 {
     let (mut disk, _) = faults_of(disk);
     let length = disk.length(7)?;
-    let read = disk.read(alloc, 7, 0, 0)?;
-    let files = disk.files(alloc)?;
-    Ok((length, read.len(), files.len()))
+    let read = disk.read(alloc, 7, 0, 0)?.len();
+    Ok((length, read, disk.files(alloc)?.len()))
+}
+
+/// What is told of a disk in memory with no room.
+fn told_in_memory(alloc: Global) -> Result<(u64, usize, usize), DiskError> {
+    told_of_nothing(alloc, memory(alloc, NONE)?)
 }
 
 /// Whether file 7 is frozen and its removal met a fault.
-fn fails_to_retire<D: Disk>(mut disk: D) -> Result<bool, DiskError>
-    requires thawed { (n : ℕ) → (D.marks disk n).frozen ≡ false }
-    requires settled { (n : ℕ) → (D.marks disk n).settled ≡ true }
+fn fails_to_retire<D: Disk>(disk: &mut D) -> Result<bool, DiskError>
+    requires thawed { (D.marks disk.old 7).frozen ≡ false }
+    requires settled { (D.marks disk.old 7).settled ≡ true }
 {
     let sealed = disk.freeze(7)?;
     Ok(disk.retire(sealed) == Err(DiskError::Fault))
 }
 
-#[test]
-fn other_calls_of_a_disk_with_no_room(rt: HostRuntime) -> Result<(), Fail> {
-    let alloc = rt.alloc();
-    assert_eq!(rt; told_of_nothing(alloc, memory(alloc, NONE)?)?, (0, 0, 0));
-    // a frozen file is no call of the record, and its removal is two
+/// The same in memory with room for one call: a frozen file is no call of the record, and its removal is two.
+fn fails_to_retire_in_memory(alloc: Global) -> Result<bool, DiskError> {
     let one = Room {
         files: 1,
         octets: 0,
         calls: 1,
         written: 0,
     };
-    assert!(rt; fails_to_retire(memory(alloc, one)?)?);
-    Ok(())
+    fails_to_retire(&mut memory(alloc, one)?)
+}
+
+#[test]
+fn other_calls_of_a_disk_with_no_room(rt: HostRuntime) -> Result<(), Fail> {
+    same(&told_in_memory(rt.alloc())?, &(0, 0, 0), 0)?;
+    same(&fails_to_retire_in_memory(rt.alloc())?, &true, 1)
 }
