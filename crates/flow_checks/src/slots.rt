@@ -89,20 +89,20 @@ fn in_force<D: Disk>(alloc: Global, disk: &mut D) -> Result<Vec<u8>, OpenError>
 }
 
 /// Whether a file has these octets.
-fn has<D: Disk>(alloc: Global, disk: &mut D, file: u64, octets: &[u8]) -> Result<bool, DiskError> {
+fn has(alloc: Global, disk: &mut MemoryDisk, file: u64, octets: &[u8]) -> Result<bool, DiskError> {
     Ok(contents(alloc, disk, file)?.as_slice() == octets)
 }
 
 /// Which slot is in force, and whether the other is open.
-fn state_of<D: Disk>(alloc: Global, disk: &mut D) -> Result<(Slot, bool), OpenError> {
+fn state_of(alloc: Global, disk: &mut MemoryDisk) -> Result<(Slot, bool), OpenError> {
     let slots = read_slots(alloc, disk)?;
     Ok((slots.current_slot, slots.other_open))
 }
 
 /// Whether the slots hold these octets, both are open, and this one is in force.
-fn holds<D: Disk>(
+fn holds(
     alloc: Global,
-    disk: &mut D,
+    disk: &mut MemoryDisk,
     (first, second): (&[u8], &[u8]),
     current: Slot,
 ) -> Result<bool, OpenError> {
@@ -230,11 +230,8 @@ fn leave(
 #[test]
 fn swapped_slots_by_their_octets(rt: HostRuntime) -> Result<(), Fail> {
     for (slots, held, current) in &SWAPS {
-        assert!(rt;
-            leave(rt.alloc(), slots, *held, *current)?,
-            "{} swaps",
-            slots.len()
-        );
+        let is_left = leave(rt.alloc(), slots, *held, *current)?;
+        same(&is_left, &true, slots.len() as u64)?;
     }
     Ok(())
 }
@@ -444,10 +441,8 @@ fn a_torn_slot_is_the_old_or_the_new_one(rt: HostRuntime) -> Result<(), Fail> {
                 new = new.saturating_add(1);
             }
             // the last call but one opens the gate
-            assert!(rt;
-                (is_new || !whole) && (calls >= CALLS - 1 || !is_new),
-                "{calls} calls"
-            );
+            let is_so = (is_new || !whole) && (calls >= CALLS - 1 || !is_new);
+            same(&is_so, &true, calls)?;
         }
     }
     assert!(rt; new > 6 && new < 18, "{new} of 48 times the new one");

@@ -71,7 +71,7 @@ fn reads_as<D: Disk>(alloc: Global, disk: &mut D, octets: &[u8]) -> Result<bool,
 }
 
 /// A file that was settled as 1 2 3 4, then written over at its third octet and lengthened.
-fn change<D: Disk>(disk: &mut Thawed<D>) -> Result<(), DiskError> {
+fn change(disk: &mut Thawed<MemoryDisk>) -> Result<(), DiskError> {
     disk.write(7, 0, &[1, 2, 3, 4])?;
     disk.sync(7)?;
     disk.write(7, 2, &[5])?;
@@ -116,8 +116,10 @@ const CHOICES: [(Choice<'static>, Option<&[u8]>); 6] = [
 
 #[test]
 fn a_stop_leaves_what_is_chosen(rt: HostRuntime) -> Result<(), Fail> {
+    let mut case = 0u64;
     for (choice, wanted) in &CHOICES {
-        assert!(rt; leaves(rt.alloc(), *choice, *wanted)?, "not {wanted:?}");
+        same(&leaves(rt.alloc(), *choice, *wanted)?, &true, case)?;
+        case = case.saturating_add(1);
     }
     Ok(())
 }

@@ -44,9 +44,9 @@ fn are(messages: &[Vec<u8>], wanted: &[&[u8]]) -> bool {
 }
 
 /// How many octets file 3 has, where the list ends that a scan gives, and whether it is of these messages.
-fn listed<D: Disk>(
+fn listed(
     alloc: Global,
-    disk: &mut D,
+    disk: &mut MemoryDisk,
     messages: &[&[u8]],
 ) -> Result<(u64, u64, bool), ScanError> {
     let length = disk.length(FILE)?;
