@@ -1,8 +1,12 @@
-use Rattle.std.proofs.Common.{ℕ, take, IsTrue, subst, sym, ◌∙◌, ap}
+use Rattle.std.proofs.Common.{◌≡◌, ℕ, ◌+◌, ◌≤◌, min, take, IsTrue, subst, sym, ◌∙◌, ap, arith}
 use Rattle.flow_disk.specs.Disk.{Held}
 use Rattle.flow_manifest.specs.Opening.{enough}
 use Rattle.flow_manifest.proofs.Enough.{read_front}
 use Rattle.flow_manifest.proofs.reading.slot_octets.Goals as goal
+
+-- as many octets as are there, or fewer
+within : (count size least : ℕ) → least ≡ min count 131124 → size ≡ count → 0 + least ≤ size
+within count size least is there = omega arith
 
 pub returns-clause-octets : goal.returns-clause-octets
 returns-clause-octets g c h =
@@ -15,3 +19,6 @@ returns-clause-octets g c h =
     read ∙ ap (λ (n : ℕ). take n reads) c.min.ensures
     ∙ read_front reads c.in_ok-count.count (sym c.in_ok-count.ensures.count ∙ size)
     ∙ ap (λ (f : Held). take enough f.reads) (c.length.ensures.held h c.args.file)
+
+pub read-requires : goal.read-requires
+read-requires g c = within c.in_ok-count.count _ c.min.result c.min.ensures c.in_ok-count.ensures.count
