@@ -62,7 +62,7 @@ impl JobKind {
 }
 
 /// A file that a job has made, before a manifest names it.
-#[derive(Clone, Copy, Debug, PartialEq, Eq)]
+#[derive(Clone, Copy)]
 pub struct Staged {
     /// The file's number.
     pub file: u64,

@@ -1,7 +1,7 @@
 //! The numbers in front of the entries.
 
 /// All of a manifest but its entries, and how many these are.
-#[derive(Clone, Copy, Debug)]
+#[derive(Clone, Copy)]
 pub(crate) struct Head {
     pub(crate) generation: u64,
     pub(crate) width: u32,

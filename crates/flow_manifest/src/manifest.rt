@@ -32,7 +32,7 @@ pub struct Entry {
 }
 
 /// The entries of a manifest, which contracts see as a list.
-#[derive(Clone, Debug, Drop)]
+#[derive(Drop)]
 pub struct Entries {
     items: Vec<Entry>,
 }
@@ -75,7 +75,7 @@ impl Entries {
 }
 
 /// Which files an archive consists of, and what was rolled of it.
-#[derive(Clone, Debug, Drop)]
+#[derive(Drop)]
 pub struct Manifest {
     /// Grows by one with each manifest of the archive.
     pub generation: u64,

@@ -14,7 +14,7 @@ use crate::swap::{open_slot, prepare_slot};
 use flow_disk::{Disk, DiskError};
 
 /// One of the two files that hold manifests.
-#[derive(Clone, Copy, Debug, PartialEq, Eq)]
+#[derive(Clone, Copy, PartialEq, Eq)]
 pub enum Slot {
     /// File 1.
     First,
@@ -45,7 +45,7 @@ impl Slot {
 }
 
 /// What the two slots hold.
-#[derive(Clone, Debug, Drop)]
+#[derive(Drop)]
 pub struct Slots {
     /// The manifest in force.
     pub current: Manifest,
