@@ -1,3 +1,4 @@
+pub mod Looks
 pub mod Numbers
 pub mod Heads
 pub mod Bodies

@@ -36,8 +36,7 @@ pub fn create_slots<D: Disk>(disk: &mut D, first: &[u8], older: &[u8]) -> Result
     ensures cause { FailsOnlyByFault (D.faults disk.old) (D.faults disk.new) result }
 {
     write_slot(disk, 2, older)?;
-    write_slot(disk, 1, first)?;
-    Ok(())
+    write_slot(disk, 1, first)
 }
 
 /// Makes an open slot of a body and nothing more, settled, whatever the file held. What a stop leaves of it isn't said.
@@ -61,6 +60,5 @@ fn write_slot<D: Disk>(disk: &mut D, file: u64, body: &[u8]) -> Result<(), DiskE
     disk.write_at(file, 0, &[OPEN])?;
     disk.write_at(file, GATE_LENGTH, body)?;
     disk.cut(file, GATE_LENGTH + body.len() as u64)?;
-    disk.sync(file)?;
-    Ok(())
+    disk.sync(file)
 }

@@ -43,8 +43,7 @@ fn write_gate<D: Disk>(disk: &mut D, file: u64, gate: u8) -> Result<(), DiskErro
     ensures cause { FailsOnlyByFault (D.faults disk.old) (D.faults disk.new) result }
 {
     disk.write_at(file, 0, &[gate])?;
-    disk.sync(file)?;
-    Ok(())
+    disk.sync(file)
 }
 
 /// Closes a slot where it is open, and settles it. A closed gate is not written.
@@ -74,8 +73,7 @@ pub(crate) fn close_slot<D: Disk>(disk: &mut D, file: u64, was_open: bool) -> Re
     if !was_open {
         return Ok(());
     }
-    write_gate(disk, file, CLOSED)?;
-    Ok(())
+    write_gate(disk, file, CLOSED)
 }
 
 /// Writes a body behind the gate of a closed slot, cuts the slot behind it, and settles it.
@@ -104,8 +102,7 @@ pub(crate) fn write_body<D: Disk>(disk: &mut D, file: u64, body: &[u8]) -> Resul
 {
     disk.write_at(file, GATE_LENGTH, body)?;
     disk.cut(file, GATE_LENGTH + body.len() as u64)?;
-    disk.sync(file)?;
-    Ok(())
+    disk.sync(file)
 }
 
 /// Makes a closed slot of a body and nothing more, settled, whether it was open or closed. A closed gate is not
@@ -140,8 +137,7 @@ pub fn prepare_slot<D: Disk>(
     ensures cause { FailsOnlyByFault (D.faults disk.old) (D.faults disk.new) result }
 {
     close_slot(disk, file, was_open)?;
-    write_body(disk, file, body)?;
-    Ok(())
+    write_body(disk, file, body)
 }
 
 /// Opens a closed slot, and settles it.
@@ -169,6 +165,5 @@ pub fn open_slot<D: Disk>(disk: &mut D, file: u64) -> Result<(), DiskError>
         → OnOk result (AllImages (D.held disk.new) (ComesOf (D.held disk.old) (InFile file Opens))) }
     ensures cause { FailsOnlyByFault (D.faults disk.old) (D.faults disk.new) result }
 {
-    write_gate(disk, file, OPEN)?;
-    Ok(())
+    write_gate(disk, file, OPEN)
 }

@@ -9,6 +9,7 @@ use Rattle.flow_manifest.specs.declared.slots.Slot.{Slot}
 use Rattle.flow_manifest.specs.Slots.{file_of, other, reads_of, AreSlots, IsInForce}
 use Rattle.flow_manifest.specs.Opening.{IsOpenFault, NamesSlot, enough}
 use Rattle.flow_disk.proofs.Results.{on_ok_by, if_ok_by, if_err_by}
+use Rattle.flow_manifest.proofs.Looks.{part_kept}
 use Rattle.flow_manifest.proofs.Openings.{each_slot, quiet, open_fault_named}
 use Rattle.flow_manifest.proofs.Enough.{slots_whole, open_fault_whole}
 use Rattle.flow_manifest.proofs.Swaps.{same_slots}
@@ -30,6 +31,107 @@ returns-clause-room g c =
     ))
     (omega (arith, gates.1, c.deref-2.ensures.len, c.in_ok-second.ensures.size)))
     c.slots_of.ensures.gates
+
+pub returns-in_err-first-clause-settled : goal.returns-in_err-first-clause-settled
+returns-in_err-first-clause-settled g c =
+    let D = g.D.Disk in
+    part_kept (λ m. m.settled) (D.marks c.args.disk.now) (D.marks c.slot_octets.new.disk) 1
+    c.slot_octets.ensures.other_marks c.slot_octets.ensures.settled
+
+pub returns-in_err-second-clause-settled : goal.returns-in_err-second-clause-settled
+returns-in_err-second-clause-settled g c n =
+    let D = g.D.Disk in
+    let mid = D.marks c.slot_octets.new.disk in
+    part_kept (λ m. m.settled) mid (D.marks c.slot_octets-2.new.disk) 2 c.slot_octets-2.ensures.other_marks
+    c.slot_octets-2.ensures.settled n
+    ∙ part_kept (λ m. m.settled) (D.marks c.args.disk.now) mid 1 c.slot_octets.ensures.other_marks
+    c.slot_octets.ensures.settled n
+
+pub returns-clause-settled : goal.returns-clause-settled
+returns-clause-settled g c n =
+    let D = g.D.Disk in
+    let mid = D.marks c.slot_octets.new.disk in
+    part_kept (λ m. m.settled) mid (D.marks c.slot_octets-2.new.disk) 2 c.slot_octets-2.ensures.other_marks
+    c.slot_octets-2.ensures.settled n
+    ∙ part_kept (λ m. m.settled) (D.marks c.args.disk.now) mid 1 c.slot_octets.ensures.other_marks
+    c.slot_octets.ensures.settled n
+
+pub returns-in_err-first-clause-frozen : goal.returns-in_err-first-clause-frozen
+returns-in_err-first-clause-frozen g c =
+    let D = g.D.Disk in
+    part_kept (λ m. m.frozen) (D.marks c.args.disk.now) (D.marks c.slot_octets.new.disk) 1
+    c.slot_octets.ensures.other_marks c.slot_octets.ensures.frozen
+
+pub returns-in_err-second-clause-frozen : goal.returns-in_err-second-clause-frozen
+returns-in_err-second-clause-frozen g c n =
+    let D = g.D.Disk in
+    let mid = D.marks c.slot_octets.new.disk in
+    part_kept (λ m. m.frozen) mid (D.marks c.slot_octets-2.new.disk) 2 c.slot_octets-2.ensures.other_marks
+    c.slot_octets-2.ensures.frozen n
+    ∙ part_kept (λ m. m.frozen) (D.marks c.args.disk.now) mid 1 c.slot_octets.ensures.other_marks
+    c.slot_octets.ensures.frozen n
+
+pub returns-clause-frozen : goal.returns-clause-frozen
+returns-clause-frozen g c n =
+    let D = g.D.Disk in
+    let mid = D.marks c.slot_octets.new.disk in
+    part_kept (λ m. m.frozen) mid (D.marks c.slot_octets-2.new.disk) 2 c.slot_octets-2.ensures.other_marks
+    c.slot_octets-2.ensures.frozen n
+    ∙ part_kept (λ m. m.frozen) (D.marks c.args.disk.now) mid 1 c.slot_octets.ensures.other_marks
+    c.slot_octets.ensures.frozen n
+
+pub returns-in_err-first-clause-listed : goal.returns-in_err-first-clause-listed
+returns-in_err-first-clause-listed g c =
+    let D = g.D.Disk in
+    part_kept (λ m. m.listed) (D.marks c.args.disk.now) (D.marks c.slot_octets.new.disk) 1
+    c.slot_octets.ensures.other_marks c.slot_octets.ensures.listed
+
+pub returns-in_err-second-clause-listed : goal.returns-in_err-second-clause-listed
+returns-in_err-second-clause-listed g c n =
+    let D = g.D.Disk in
+    let mid = D.marks c.slot_octets.new.disk in
+    part_kept (λ m. m.listed) mid (D.marks c.slot_octets-2.new.disk) 2 c.slot_octets-2.ensures.other_marks
+    c.slot_octets-2.ensures.listed n
+    ∙ part_kept (λ m. m.listed) (D.marks c.args.disk.now) mid 1 c.slot_octets.ensures.other_marks
+    c.slot_octets.ensures.listed n
+
+pub returns-clause-listed : goal.returns-clause-listed
+returns-clause-listed g c n =
+    let D = g.D.Disk in
+    let mid = D.marks c.slot_octets.new.disk in
+    part_kept (λ m. m.listed) mid (D.marks c.slot_octets-2.new.disk) 2 c.slot_octets-2.ensures.other_marks
+    c.slot_octets-2.ensures.listed n
+    ∙ part_kept (λ m. m.listed) (D.marks c.args.disk.now) mid 1 c.slot_octets.ensures.other_marks
+    c.slot_octets.ensures.listed n
+
+pub returns-in_err-second-clause-other_marks : goal.returns-in_err-second-clause-other_marks
+returns-in_err-second-clause-other_marks g c n one two = c.slot_octets-2.ensures.other_marks n two
+    ∙ c.slot_octets.ensures.other_marks n one
+
+pub returns-in_err-second-clause-held : goal.returns-in_err-second-clause-held
+returns-in_err-second-clause-held g c h n = c.slot_octets-2.ensures.held (subst IsTrue (sym c.slot_octets.ensures.honest) h) n
+    ∙ c.slot_octets.ensures.held h n
+
+pub returns-clause-other_marks : goal.returns-clause-other_marks
+returns-clause-other_marks g c n one two = c.slot_octets-2.ensures.other_marks n two
+    ∙ c.slot_octets.ensures.other_marks n one
+
+pub returns-clause-held : goal.returns-clause-held
+returns-clause-held g c h n = c.slot_octets-2.ensures.held (subst IsTrue (sym c.slot_octets.ensures.honest) h) n
+    ∙ c.slot_octets.ensures.held h n
+
+pub returns-in_err-second-clause-any_moment : goal.returns-in_err-second-clause-any_moment
+returns-in_err-second-clause-any_moment g c h =
+    let D = g.D.Disk in
+    let d = c.args.disk.now in
+    let mid = c.slot_octets.new.disk in
+    let new = c.slot_octets-2.new.disk in
+    let h1 = subst IsTrue (sym c.slot_octets.ensures.honest) h in
+    let stays = c.slot_octets.ensures.held h in
+    one_run D.moment D.left_since d mid new (IsDiskImage (D.held d)) (c.slot_octets.ensures.any_moment h)
+    (by D.moment D.left_since mid new (IsDiskImage (D.held mid)) (IsDiskImage (D.held d))
+    (c.slot_octets-2.ensures.any_moment h1)
+    (λ image is n. subst (λ (f : Held). IsImage f (image n)) (stays n) (is n)))
 
 pub returns-clause-any_moment : goal.returns-clause-any_moment
 returns-clause-any_moment g c h =
