@@ -8,3 +8,5 @@ pub mod Read
 pub mod Filling
 pub mod Stops
 pub mod StoppedFiles
+pub mod Turns
+pub mod Halves

@@ -1,5 +1,7 @@
 // A disk of which some calls fail.
-ghost use Rattle.std.specs.Prelude.{◌≡◌, ◌+◌};
+ghost use Rattle.std.specs.Prelude.{◌≡◌, ◌+◌, ◌≤◌, true, false};
+ghost use Rattle.flow_disk.specs.Cause.{HasRisen};
+ghost use Rattle.flow_memory_disk.specs.Failing.{raised, bad_from};
 
 use crate::bad_reads::{BadReads, FusedFile};
 use crate::choice::Choice;
@@ -18,11 +20,33 @@ pub struct FailingDisk<D: Disk, W: When> {
     failed: u64,
 }
 
-impl<D: Disk, W: When> FailingDisk<D, W> {
-    ghost use Rattle.std.specs.Prelude.{◌≤◌, true, false};
-    ghost use Rattle.flow_disk.specs.Cause.{HasRisen};
-    ghost use Rattle.flow_memory_disk.specs.Failing.{raised};
+/// Whether this call fails, which is counted then.
+fn fails<W: When>(when: &mut W, failed: &mut u64) -> bool
+    ensures fails { result ≡ W.fails when.old }
+    ensures once { when.new ≡ W.next when.old }
+    ensures failing { result ≡ true → failed.new ≡ raised failed.old }
+    ensures passing { result ≡ false → failed.new ≡ failed.old }
+    ensures later { failed.old ≤ failed.new }
+    ensures risen { result ≡ true → HasRisen failed.old failed.new }
+{
+    let fails = when.asks();
+    if fails {
+        *failed = failed.saturating_add(1);
+    }
+    fails
+}
 
+/// From where a file is bad once it is frozen.
+fn bad_from(bad: Option<BadReads>, file: u64) -> Option<u64>
+    ensures { result ≡ bad_from bad file }
+{
+    match bad {
+        Some(bad) if bad.file == file => Some(bad.from),
+        _ => None,
+    }
+}
+
+impl<D: Disk, W: When> FailingDisk<D, W> {
     pub(crate) fn make(disk: D, when: W, bad: Option<BadReads>) -> Self
         ensures { result ≡ record { disk = disk; when = when; bad = bad; failed = 0 } }
     {
@@ -32,24 +56,6 @@ impl<D: Disk, W: When> FailingDisk<D, W> {
             bad,
             failed: 0,
         }
-    }
-
-    /// Whether this call fails, which is counted then.
-    fn fails(&mut self) -> bool
-        ensures fails { result ≡ W.fails self.old.when }
-        ensures once { self.new.when ≡ W.next self.old.when }
-        ensures disk { self.new.disk ≡ self.old.disk }
-        ensures bad { self.new.bad ≡ self.old.bad }
-        ensures failing { result ≡ true → self.new.failed ≡ raised self.old.failed }
-        ensures passing { result ≡ false → self.new.failed ≡ self.old.failed }
-        ensures later { self.old.failed ≤ self.new.failed }
-        ensures risen { result ≡ true → HasRisen self.old.failed self.new.failed }
-    {
-        let fails = self.when.asks();
-        if fails {
-            self.failed = self.failed.saturating_add(1);
-        }
-        fails
     }
 
     /// The disk below it.
@@ -122,7 +128,7 @@ impl<D: Disk, W: When> Disk for FailingDisk<D, W> {
     ghost use Rattle.flow_disk.specs.Moments.{Passes, Covers};
     ghost use Rattle.flow_disk.specs.Files.{Writes, Cuts, Syncs, Removes, while_writing, while_cutting};
     ghost use Rattle.flow_disk.specs.Files.{while_removing, MarkedByWrite, MarkedBySync, MarkedByRemoval, frozen_as};
-    ghost use Rattle.flow_memory_disk.specs.Failing.{TakesTurn, WroteAt, raised, half, bad_from};
+    ghost use Rattle.flow_memory_disk.specs.Failing.{TakesTurn, WroteAt, half};
 
     ghost honest = { λ f. D.honest f.disk };
 
@@ -167,7 +173,7 @@ impl<D: Disk, W: When> Disk for FailingDisk<D, W> {
             (self.new.failed + D.faults self.new.disk) result }
         ensures turn { TakesTurn W.fails W.next D.faults self.old self.new result }
     {
-        if self.fails() {
+        if fails(&mut self.when, &mut self.failed) {
             return Err(DiskError::Fault);
         }
         self.disk.length(file)
@@ -194,7 +200,7 @@ impl<D: Disk, W: When> Disk for FailingDisk<D, W> {
             (self.new.failed + D.faults self.new.disk) result }
         ensures turn { TakesTurn W.fails W.next D.faults self.old self.new result }
     {
-        if self.fails() {
+        if fails(&mut self.when, &mut self.failed) {
             return Err(DiskError::Fault);
         }
         self.disk.read(alloc, file, at, count)
@@ -227,9 +233,8 @@ impl<D: Disk, W: When> Disk for FailingDisk<D, W> {
         ensures passing { W.fails self.old.when ≡ false → (self.new.failed ≡ self.old.failed)
             × WroteAt D.honest D.marks D.held D.faults self.old.disk self.new.disk file at octets.now result }
     {
-        if self.when.asks() {
+        if fails(&mut self.when, &mut self.failed) {
             let _ = self.disk.write_at(file, at, &octets[..octets.len() / 2]);
-            self.failed = self.failed.saturating_add(1);
             return Err(DiskError::Fault);
         }
         self.disk.write_at(file, at, octets)
@@ -253,7 +258,7 @@ impl<D: Disk, W: When> Disk for FailingDisk<D, W> {
             (self.new.failed + D.faults self.new.disk) result }
         ensures turn { TakesTurn W.fails W.next D.faults self.old self.new result }
     {
-        if self.fails() {
+        if fails(&mut self.when, &mut self.failed) {
             return Err(DiskError::Fault);
         }
         self.disk.cut(file, count)
@@ -271,7 +276,7 @@ impl<D: Disk, W: When> Disk for FailingDisk<D, W> {
             (self.new.failed + D.faults self.new.disk) result }
         ensures turn { TakesTurn W.fails W.next D.faults self.old self.new result }
     {
-        if self.fails() {
+        if fails(&mut self.when, &mut self.failed) {
             return Err(DiskError::Fault);
         }
         self.disk.sync(file)
@@ -293,7 +298,7 @@ impl<D: Disk, W: When> Disk for FailingDisk<D, W> {
             (self.new.failed + D.faults self.new.disk) result }
         ensures turn { TakesTurn W.fails W.next D.faults self.old self.new result }
     {
-        if self.fails() {
+        if fails(&mut self.when, &mut self.failed) {
             return Err(DiskError::Fault);
         }
         self.disk.remove(file)
@@ -313,7 +318,7 @@ impl<D: Disk, W: When> Disk for FailingDisk<D, W> {
             (self.new.failed + D.faults self.new.disk) result }
         ensures turn { TakesTurn W.fails W.next D.faults self.old self.new result }
     {
-        if self.fails() {
+        if fails(&mut self.when, &mut self.failed) {
             return Err(DiskError::Fault);
         }
         self.disk.files(alloc)
@@ -340,15 +345,14 @@ impl<D: Disk, W: When> Disk for FailingDisk<D, W> {
         ensures turn { TakesTurn W.fails W.next D.faults self.old self.new result }
         ensures bad { IfOk result (λ sealed. sealed.bad ≡ bad_from self.old.bad file) }
     {
-        if self.fails() {
+        if fails(&mut self.when, &mut self.failed) {
             return Err(DiskError::Fault);
         }
-        let sealed = self.disk.freeze(file)?;
-        let bad = match self.bad {
-            Some(bad) if bad.file == file => Some(bad.from),
-            _ => None,
-        };
-        Ok(FusedFile { sealed, bad })
+        let bad = bad_from(self.bad, file);
+        match self.disk.freeze(file) {
+            Ok(sealed) => Ok(FusedFile { sealed, bad }),
+            Err(error) => Err(error),
+        }
     }
 
     fn retire(&mut self, sealed: FusedFile<D::Sealed>) -> Result<(), DiskError>
@@ -369,7 +373,7 @@ impl<D: Disk, W: When> Disk for FailingDisk<D, W> {
             (self.new.failed + D.faults self.new.disk) result }
         ensures turn { TakesTurn W.fails W.next D.faults self.old self.new result }
     {
-        if self.fails() {
+        if fails(&mut self.when, &mut self.failed) {
             return Err(DiskError::Fault);
         }
         let FusedFile { sealed, bad: _ } = sealed;
