@@ -19,6 +19,7 @@ mod room;
 mod sealed;
 mod stop;
 mod stored;
+mod there;
 mod when;
 
 pub use bad_reads::{BadRead, FusedFile};

@@ -1,8 +1,22 @@
 // What a disk that lies tells of a length.
-ghost use Rattle.std.specs.Prelude.{◌≡◌, ◌≤◌, ◌^◌, ℕ, Some};
+ghost use Rattle.std.specs.Prelude.{◌≡◌, ◌≤◌, ◌^◌, ℕ, Some, IfSome};
 
 /// The most octets that a file has.
 pub(crate) const LIMIT: u64 = 1 << 62;
+
+/// What is told of a length, as a seed chooses: less, some octets more, almost 2^62, or the truth, which is no lie.
+fn told_length(real: u64, seed: u64) -> Option<u64>
+    requires { real ≤ 2 ^ 62 }
+    ensures { IfSome result (λ count. count ≤ 2 ^ 62) }
+{
+    let part = seed / 65536;
+    match seed / 4294967296 % 8 {
+        0 | 1 => Some(part % (real + 1)),
+        2 | 3 => Some((real + part % 64).min(LIMIT)),
+        4 => Some(LIMIT - part % 64),
+        _ => None,
+    }
+}
 
 /// How many octets a file is told to have, of one file at a time.
 #[derive(Drop)]
@@ -13,7 +27,7 @@ pub(crate) struct Lie {
 }
 
 impl Lie {
-    ghost use Rattle.std.specs.Prelude.{◌≢◌, false, None, IfSome, IsTrue};
+    ghost use Rattle.std.specs.Prelude.{◌≢◌, false, None, IsTrue, unwrap_or};
     ghost use Rattle.flow_memory_disk.specs.Lying.{told_of};
 
     /// Nothing is told of any file.
@@ -54,6 +68,22 @@ impl Lie {
             file,
             told: Some(count),
         };
+    }
+
+    /// How many octets a file of so many is told to have, as a seed chooses: others only where no lie is told yet.
+    pub(crate) fn choose(&mut self, file: u64, real: u64, seed: u64) -> u64
+        requires within { real ≤ 2 ^ 62 }
+        requires first { told_of self.old file ≡ None }
+        ensures here { unwrap_or (told_of self.new file) real ≡ result }
+        ensures others { (n : ℕ) → n ≢ file → told_of self.new n ≡ told_of self.old n }
+    {
+        match told_length(real, seed) {
+            Some(count) if self.is_none() => {
+                self.tell(file, count);
+                count
+            }
+            _ => real,
+        }
     }
 
     /// Tells nothing of a file any longer.

@@ -1,11 +1,12 @@
 // A disk that lies.
-ghost use Rattle.std.specs.Prelude.{◌≡◌, ◌≤◌, ◌^◌, ℕ, None, IfSome, IfOk, vec_len};
-ghost use Rattle.flow_disk.specs.Cause.{HasRisen};
+ghost use Rattle.std.specs.Prelude.{◌≡◌, ◌≤◌, ℕ, None, IfOk, vec_len};
+ghost use Rattle.flow_disk.specs.Cause.{HasCause, HasRisen};
 ghost use Rattle.flow_memory_disk.specs.Lying.{told_of};
 
 use crate::lie::{LIMIT, Lie};
+use crate::there::{cut_there, read_there, write_there};
 use flow_disk::{Disk, DiskError, Faults, MayFail, SealedFile};
-use std::alloc::{AllocError, Global};
+use std::alloc::Global;
 
 /// Numbers that follow from a seed.
 fn following(seed: u64) -> u64 {
@@ -35,25 +36,18 @@ fn distort(octets: &mut [u8], seed: u64) {
     }
 }
 
-/// What is told of a length, as a seed chooses: less, some octets more, almost 2^62, or the truth, which is no lie.
-fn told_length(real: u64, seed: u64) -> Option<u64>
-    requires { real ≤ 2 ^ 62 }
-    ensures { IfSome result (λ count. count ≤ 2 ^ 62) }
+/// What is told of what was read: so many octets, those behind what was read zeros, and changed as a seed chooses.
+fn told_octets(
+    got: Result<Vec<u8>, DiskError>,
+    count: usize,
+    seed: u64,
+) -> Result<Vec<u8>, DiskError>
+    ensures count { IfOk result (λ octets. vec_len octets ≡ count) }
+    ensures cause { (was now : ℕ) → HasCause DiskError.Fault was now got → HasCause DiskError.Fault was now result }
 {
-    let part = seed / 65536;
-    match seed / 4294967296 % 8 {
-        0 | 1 => Some(part % (real + 1)),
-        2 | 3 => Some((real + part % 64).min(LIMIT)),
-        4 => Some(LIMIT - part % 64),
-        _ => None,
-    }
-}
-
-/// What was read, and zeros behind it up to a count.
-fn lengthened(mut octets: Vec<u8>, count: usize) -> Result<Vec<u8>, AllocError>
-    ensures { IfOk result (λ octets. vec_len octets ≡ count) }
-{
+    let mut octets = got?;
     octets.resize(count, 0)?;
+    distort(&mut octets, seed);
     Ok(octets)
 }
 
@@ -153,13 +147,7 @@ impl<D: Disk> Disk for LyingDisk<D> {
         self.seed = following(self.seed);
         self.lie.forget(file);
         let real = self.disk.length(file)?;
-        match told_length(real, self.seed) {
-            Some(count) if self.lie.is_none() => {
-                self.lie.tell(file, count);
-                Ok(count)
-            }
-            _ => Ok(real),
-        }
+        Ok(self.lie.choose(file, real, self.seed))
     }
 
     fn read(
@@ -170,17 +158,11 @@ impl<D: Disk> Disk for LyingDisk<D> {
         count: usize,
     ) -> Result<Vec<u8>, DiskError> {
         self.seed = following(self.seed);
-        let mut octets = match self.lie.of(file) {
-            None => self.disk.read(alloc, file, at, count)?,
-            Some(_) => {
-                let real = self.disk.length(file)?;
-                let place = at.min(real);
-                let there = (count as u64).min(real - place) as usize;
-                lengthened(self.disk.read(alloc, file, place, there)?, count)?
-            }
+        let got = match self.lie.of(file) {
+            None => self.disk.read(alloc, file, at, count),
+            Some(_) => read_there(&mut self.disk, alloc, file, at, count),
         };
-        distort(&mut octets, self.seed);
-        Ok(octets)
+        told_octets(got, count, self.seed)
     }
 
     fn write_at(&mut self, file: u64, at: u64, octets: &[u8]) -> Result<(), DiskError> {
@@ -191,20 +173,22 @@ impl<D: Disk> Disk for LyingDisk<D> {
         if count > LIMIT - at {
             return Err(self.fault());
         }
-        let real = self.disk.length(file)?;
-        self.disk.write_at(file, at.min(real), octets)?;
-        self.lie.tell(file, told.max(at + count));
-        Ok(())
+        let result = write_there(&mut self.disk, file, at, octets);
+        if result.is_ok() {
+            self.lie.tell(file, told.max(at + count));
+        }
+        result
     }
 
     fn cut(&mut self, file: u64, count: u64) -> Result<(), DiskError> {
         if self.lie.of(file).is_none() {
             return self.disk.cut(file, count);
         }
-        let real = self.disk.length(file)?;
-        self.disk.cut(file, count.min(real))?;
-        self.lie.tell(file, count);
-        Ok(())
+        let result = cut_there(&mut self.disk, file, count);
+        if result.is_ok() {
+            self.lie.tell(file, count);
+        }
+        result
     }
 
     fn sync(&mut self, file: u64) -> Result<(), DiskError> {
@@ -288,8 +272,6 @@ impl<S: SealedFile> SealedFile for LyingFile<S> {
         if got == Err(DiskError::Fault) {
             faults.raise(&ReadBelow { _made_here: () });
         }
-        let mut octets = lengthened(got?, count)?;
-        distort(&mut octets, following(self.seed.wrapping_add(at)));
-        Ok(octets)
+        told_octets(got, count, following(self.seed.wrapping_add(at)))
     }
 }

@@ -9,7 +9,7 @@ pub returns-then-fails-clause-cause : goal.returns-then-fails-clause-cause
 returns-then-fails-clause-cause g c = refused_cause _ _ _ c.fails.ensures.later (c.fails.ensures.risen c.if-fails.true)
 
 pub returns-then-fails-clause-turn : goal.returns-then-fails-clause-turn
-returns-then-fails-clause-turn g c = 
+returns-then-fails-clause-turn g c =
     failing _ _ _ _ _ c.fails.ensures.once refl refl (c.fails.ensures.failing c.if-fails.true)
     (sym c.if-fails.true ∙ c.fails.ensures.fails)
 
@@ -17,6 +17,6 @@ pub returns-clause-cause : goal.returns-clause-cause
 returns-clause-cause g c = passed_cause _ _ _ _ _ (c.fails.ensures.passing c.if-fails.false) c.read.ensures.cause
 
 pub returns-clause-turn : goal.returns-clause-turn
-returns-clause-turn g c = 
+returns-clause-turn g c =
     passing _ _ _ _ _ _ c.fails.ensures.once refl (c.fails.ensures.passing c.if-fails.false)
     (sym c.if-fails.false ∙ c.fails.ensures.fails) c.read.ensures.cause

@@ -21,11 +21,14 @@ returns-then-fails-clause-cause g c =
     refused_too _ _ _ _ _ c.fails.ensures.later (c.fails.ensures.risen c.if-fails.true) c.write_at.ensures.cause
 
 pub returns-then-fails-clause-half : goal.returns-then-fails-clause-half
-returns-then-fails-clause-half g c = λ fail. (c.write_at.result, record {
-  kept = c.write_at.ensures.marks;
-  written = c.write_at.ensures.held;
-  cause = c.write_at.ensures.cause;
-})
+returns-then-fails-clause-half g c = λ fail. (
+  c.write_at.result,
+  record {
+    kept = c.write_at.ensures.marks;
+    written = c.write_at.ensures.held;
+    cause = c.write_at.ensures.cause;
+  },
+)
 
 pub returns-then-fails-clause-failing : goal.returns-then-fails-clause-failing
 returns-then-fails-clause-failing g c = λ fail. (refl, c.fails.ensures.failing c.if-fails.true)
@@ -46,8 +49,11 @@ returns-clause-failing g c =
     λ fail. absurd (false≢true (sym c.if-fails.false ∙ c.fails.ensures.fails ∙ fail))
 
 pub returns-clause-passing : goal.returns-clause-passing
-returns-clause-passing g c = λ pass. (c.fails.ensures.passing c.if-fails.false, record {
-  kept = c.write_at-2.ensures.marks;
-  written = c.write_at-2.ensures.held;
-  cause = c.write_at-2.ensures.cause;
-})
+returns-clause-passing g c = λ pass. (
+  c.fails.ensures.passing c.if-fails.false,
+  record {
+    kept = c.write_at-2.ensures.marks;
+    written = c.write_at-2.ensures.held;
+    cause = c.write_at-2.ensures.cause;
+  },
+)

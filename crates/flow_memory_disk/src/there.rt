@@ -1,0 +1,55 @@
+// Calls on a file that is told to have another length than it has: each keeps to what is there.
+ghost use Rattle.std.specs.Prelude.{◌≡◌, ◌≤◌, false, Some};
+ghost use Rattle.flow_disk.specs.Cause.{HasCause, FailsOnlyByFault};
+ghost use Rattle.flow_disk.specs.Disk.{Changes};
+ghost use Rattle.flow_disk.specs.Files.{MarkedByWrite};
+ghost use Rattle.flow_memory_disk.specs.Lying.{resized};
+
+use flow_disk::{Disk, DiskError};
+use std::alloc::Global;
+
+/// Reads those that there are of so many octets from a place on.
+pub(crate) fn read_there<D: Disk>(
+    disk: &mut D,
+    alloc: Global,
+    file: u64,
+    at: u64,
+    count: usize,
+) -> Result<Vec<u8>, DiskError>
+    ensures clock { D.moment disk.old ≤ D.moment disk.new }
+    ensures marks { Changes (D.marks disk.old) (D.marks disk.new) file
+        (resized (Some (D.marks disk.new file).size) (D.marks disk.old file)) }
+    ensures cause { HasCause DiskError.Fault (D.faults disk.old) (D.faults disk.new) result }
+{
+    let real = disk.length(file)?;
+    let place = at.min(real);
+    let there = (count as u64).min(real - place) as usize;
+    disk.read(alloc, file, place, there)
+}
+
+/// Writes octets at a place, or at the end where that comes first.
+pub(crate) fn write_there<D: Disk>(
+    disk: &mut D,
+    file: u64,
+    at: u64,
+    octets: &[u8],
+) -> Result<(), DiskError>
+    requires { (D.marks disk.old file).frozen ≡ false }
+    ensures clock { D.moment disk.old ≤ D.moment disk.new }
+    ensures marks { MarkedByWrite (D.marks disk.old) (D.marks disk.new) file (D.marks disk.new file).size result }
+    ensures cause { FailsOnlyByFault (D.faults disk.old) (D.faults disk.new) result }
+{
+    let real = disk.length(file)?;
+    disk.write_at(file, at.min(real), octets)
+}
+
+/// Cuts a file to so many octets, where it has more.
+pub(crate) fn cut_there<D: Disk>(disk: &mut D, file: u64, count: u64) -> Result<(), DiskError>
+    requires { (D.marks disk.old file).frozen ≡ false }
+    ensures clock { D.moment disk.old ≤ D.moment disk.new }
+    ensures marks { MarkedByWrite (D.marks disk.old) (D.marks disk.new) file (D.marks disk.new file).size result }
+    ensures cause { FailsOnlyByFault (D.faults disk.old) (D.faults disk.new) result }
+{
+    let real = disk.length(file)?;
+    disk.cut(file, count.min(real))
+}
