@@ -10,3 +10,4 @@ pub mod Stops
 pub mod StoppedFiles
 pub mod Turns
 pub mod Halves
+pub mod Lies

@@ -17,6 +17,9 @@ more_risen : (was now below : ℕ) → HasRisen was now → HasRisen (was + belo
 more_risen was now below risen =
     ⊎_elim (λ less. inl (omega (arith, less))) (λ full. inr (omega (arith, full))) risen
 
+no_fault : OutOfMemory ≡ Fault → ⊥
+no_fault is = cc
+
 pub refused : {T : Type 0} (was now below : ℕ) → was ≤ now → HasRisen was now
     → FailsOnlyByFault {T = T} (was + below) (now + below) (Err Fault)
 refused was now below later risen = record {
@@ -25,6 +28,11 @@ refused was now below later risen = record {
   risen = more_risen was now below risen;
   memory = λ is. cc;
 }
+
+pub refused_by : {T : Type 0} (was now below : ℕ) (error : DiskError) → error ≡ Fault → was ≤ now → HasRisen was now
+    → FailsOnlyByFault {T = T} (was + below) (now + below) (Err error)
+refused_by was now below Fault is later risen = refused was now below later risen
+refused_by was now below OutOfMemory is later risen = absurd (no_fault is)
 
 pub refused_cause : {T : Type 0} (was now below : ℕ) → was ≤ now → HasRisen was now
     → HasCause {T = T} Fault (was + below) (now + below) (Err Fault)

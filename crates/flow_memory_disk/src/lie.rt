@@ -1,6 +1,8 @@
 // What a disk that lies tells of a length.
 ghost use Rattle.std.specs.Prelude.{◌≡◌, ◌≤◌, ◌^◌, ℕ, Some, IfSome};
 
+use flow_disk::DiskError;
+
 /// The most octets that a file has.
 pub(crate) const LIMIT: u64 = 1 << 62;
 
@@ -27,7 +29,7 @@ pub(crate) struct Lie {
 }
 
 impl Lie {
-    ghost use Rattle.std.specs.Prelude.{◌≢◌, false, None, IsTrue, unwrap_or};
+    ghost use Rattle.std.specs.Prelude.{◌≢◌, false, None, IsTrue, OnOk, unwrap_or};
     ghost use Rattle.flow_memory_disk.specs.Lying.{told_of};
 
     /// Nothing is told of any file.
@@ -68,6 +70,18 @@ impl Lie {
             file,
             told: Some(count),
         };
+    }
+
+    /// Tells this of a file where a call has passed, and where nothing is told of another one.
+    pub(crate) fn tell_after(&mut self, call: &Result<(), DiskError>, file: u64, count: u64)
+        requires within { count ≤ 2 ^ 62 }
+        requires alone { (n : ℕ) → n ≢ file → told_of self.old n ≡ None }
+        ensures here { OnOk call.now (told_of self.new file ≡ Some count) }
+        ensures others { (n : ℕ) → n ≢ file → told_of self.new n ≡ told_of self.old n }
+    {
+        if call.is_ok() {
+            self.tell(file, count);
+        }
     }
 
     /// How many octets a file of so many is told to have, as a seed chooses: others only where no lie is told yet.

@@ -94,19 +94,16 @@ impl<D: Disk> LyingDisk<D> {
             failed: 0,
         }
     }
+}
 
-    /// Counts a fault.
-    fn fault(&mut self) -> DiskError
-        ensures fault { result ≡ DiskError.Fault }
-        ensures disk { self.new.disk ≡ self.old.disk }
-        ensures seed { self.new.seed ≡ self.old.seed }
-        ensures lie { self.new.lie ≡ self.old.lie }
-        ensures later { self.old.failed ≤ self.new.failed }
-        ensures risen { HasRisen self.old.failed self.new.failed }
-    {
-        self.failed = self.failed.saturating_add(1);
-        DiskError::Fault
-    }
+/// Counts a fault.
+fn fault(failed: &mut u64) -> DiskError
+    ensures fault { result ≡ DiskError.Fault }
+    ensures later { failed.old ≤ failed.new }
+    ensures risen { HasRisen failed.old failed.new }
+{
+    *failed = failed.saturating_add(1);
+    DiskError::Fault
 }
 
 impl<D: Disk> Disk for LyingDisk<D> {
@@ -171,23 +168,19 @@ impl<D: Disk> Disk for LyingDisk<D> {
         };
         let count = octets.len() as u64;
         if count > LIMIT - at {
-            return Err(self.fault());
+            return Err(fault(&mut self.failed));
         }
         let result = write_there(&mut self.disk, file, at, octets);
-        if result.is_ok() {
-            self.lie.tell(file, told.max(at + count));
-        }
+        self.lie.tell_after(&result, file, told.max(at + count));
         result
     }
 
     fn cut(&mut self, file: u64, count: u64) -> Result<(), DiskError> {
-        if self.lie.of(file).is_none() {
+        let Some(_) = self.lie.of(file) else {
             return self.disk.cut(file, count);
-        }
+        };
         let result = cut_there(&mut self.disk, file, count);
-        if result.is_ok() {
-            self.lie.tell(file, count);
-        }
+        self.lie.tell_after(&result, file, count);
         result
     }
 
