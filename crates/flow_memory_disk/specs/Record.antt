@@ -4,13 +4,6 @@ use Rattle.flow_memory_disk.specs.declared.deed.Deed.{Deed}
 use Rattle.flow_memory_disk.specs.declared.deed.Deed.TheVariants.{Wrote, Cut, Synced, Abandoned, Removed}
 use Rattle.flow_memory_disk.specs.Calls.{Call, written, shortened, settled, abandoned, removed}
 
-abbrev pub file_of_deed : Deed → ℕ
-file_of_deed (Wrote file at count) = file
-file_of_deed (Cut file count) = file
-file_of_deed (Synced file) = file
-file_of_deed (Abandoned file) = file
-file_of_deed (Removed file) = file
-
 abbrev pub count_of : Deed → ℕ
 count_of (Wrote file at count) = count
 count_of (Cut file count) = 0

@@ -13,20 +13,7 @@ pub(crate) enum Deed {
 
 impl Deed {
     ghost use Rattle.std.specs.Prelude.{◌≡◌};
-    ghost use Rattle.flow_memory_disk.specs.Record.{file_of_deed, count_of};
-
-    /// The number of its file.
-    pub(crate) fn file(&self) -> u64
-        ensures { result ≡ file_of_deed self.now }
-    {
-        match self {
-            Deed::Wrote(file, _, _) => *file,
-            Deed::Cut(file, _) => *file,
-            Deed::Synced(file) => *file,
-            Deed::Abandoned(file) => *file,
-            Deed::Removed(file) => *file,
-        }
-    }
+    ghost use Rattle.flow_memory_disk.specs.Record.{count_of};
 
     /// How many octets it wrote.
     pub(crate) fn count(&self) -> usize

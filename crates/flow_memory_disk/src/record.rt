@@ -16,6 +16,13 @@ pub(crate) struct Record {
     ghost whole: { count_all deeds.items ≡ length octets.items },
 }
 
+/// Whether so many more would pass a limit.
+fn passes(had: usize, more: usize, limit: usize) -> bool
+    ensures { result ≡ nat_lt limit (had + more) }
+{
+    more > limit || had > limit - more
+}
+
 impl Record {
     /// An empty record with room for so many calls and octets.
     pub(crate) fn new(alloc: Global, calls: usize, octets: usize) -> Result<Self, AllocError>
@@ -35,10 +42,8 @@ impl Record {
         ensures { result ≡ (nat_lt room.calls (vec_len self.now.deeds + calls)
             || nat_lt room.written (vec_len self.now.octets + octets)) }
     {
-        calls > room.calls
-            || self.deeds.len() > room.calls - calls
-            || octets > room.written
-            || self.octets.len() > room.written - octets
+        passes(self.deeds.len(), calls, room.calls)
+            || passes(self.octets.len(), octets, room.written)
     }
 
     /// Takes a call up, with the octets that it wrote.
