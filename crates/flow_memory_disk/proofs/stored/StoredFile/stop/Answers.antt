@@ -17,7 +17,7 @@ left c =
     let image = λ (k : Choice). image_of k file in
     elim c.match-choice.branch [
       | in-Kept w ↦ ap octets w.self-is ∙ sym (ap image w.in-Kept.is)
-      | in-Settled w ↦ ap octets w.self-is ∙ w.replace.ensures.items ∙ w.deref.ensures.value ∙ sym (ap image w.in-Settled.is)
+      | in-Settled w ↦ cc (ap octets w.self-is, ap image w.in-Settled.is)
       | in-Filled w ↦ grind (arith, common_steps)
       | in-Longer+then-self w ↦ grind (arith, common_steps)
       | in-Longer+else-self w ↦ grind (arith, common_steps)
