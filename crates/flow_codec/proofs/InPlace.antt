@@ -1,12 +1,12 @@
 -- A domain's definitions that are changed in their place among all.
-use Rattle.std.proofs.Common.{◌≡◌, ◌⊎◌, ℕ, Bool, true, false, position, List, Option, Some, Result, Ok, Err, refl, sym}
-use Rattle.std.proofs.Common.{ap, subst, ◌∙◌, inl, inr, slice_get}
+use Rattle.std.proofs.Common.{◌≡◌, ℕ, Bool, false, position, Some, Result, Ok, Err, refl, sym}
+use Rattle.std.proofs.Common.{ap, subst, ◌∙◌, slice_get}
 use Rattle.std.specs.Prelude.{nat_eq, OnOk, OnErr}
 use Rattle.std.specs.Map.{keys_of, values_of}
 use Rattle.indexmap.specs.IndexMap.{set_value_at}
 use Rattle.indexmap.proofs.MapLemmas.{insert_entry-first, Found-position}
 use Rattle.flow_codec.specs.declared.templates.DomainTemplates.{DomainTemplates}
-use Rattle.flow_codec.specs.Templates.{AllTemplates, AreTemplatesInForce, definitions_of, is_empty}
+use Rattle.flow_codec.specs.Templates.{AllTemplates, definitions_of, is_empty}
 use Rattle.flow_codec.specs.Working.{put_back}
 use Rattle.flow_codec.proofs.Entries.{found, with_entry, insert-present}
 

@@ -4,9 +4,12 @@ use Rattle.std.proofs.Common.{◌++◌, length, take, get_or, Option, Some, None
 use Rattle.std.proofs.Common.{inr, add-one}
 use Rattle.std.proofs.Math.Seq.{take-suc}
 use Rattle.std.specs.Prelude.{nat_eq, unwrap_or}
+use Rattle.std.specs.Option.{option_map, option_or}
+use Rattle.std.proofs.lemmas.Option.{slice_get_within, slice_get-get_or}
+use Rattle.std.specs.List.{slice_get}
 use Rattle.std.proofs.lemmas.Bool.{eqb-true}
 use Rattle.std.proofs.lemmas.Bool.Decides.{nat_tests}
-use Rattle.std.proofs.lemmas.List.{length-append}
+use Rattle.std.proofs.lemmas.List.{length-append, length-take-le}
 use Rattle.std.proofs.lemmas.List.Sums.{sum_by-cons}
 use Rattle.std.proofs.Math.Dec.{eqb-suc-zero}
 use Rattle.std.specs.Prelude.{sum_by}
@@ -14,7 +17,7 @@ use Rattle.flow_codec.specs.declared.overlay.Overlay.{Overlay}
 use Rattle.flow_codec.specs.Layout.{Layout, definition_size, specifier_size}
 use Rattle.flow_codec.specs.Entries.{IsOnce, entries_size, size_in}
 use Rattle.flow_codec.specs.Slots.{change_by, made, started}
-use Rattle.flow_codec.specs.Working.{last_change, overlaid, IsOver, KnowsLast}
+use Rattle.flow_codec.specs.Working.{last_change, last_place, overlaid, IsOver, KnowsLast}
 use Rattle.flow_codec.proofs.Steps.{by_bool}
 use Rattle.flow_codec.proofs.Entries.{found, without, with_entry, lookup-insert, lookup-remove, remove-absent}
 use Rattle.flow_codec.proofs.Entries.{found-insert-other, found-remove-other, once_insert, once_remove}
@@ -57,22 +60,78 @@ last_push id (c ∷ cs) change = elim (by_bool (nat_eq change.0 id)) [
   | inr w ↦ rw (last_push id cs change, w) refl
 ]
 
+front_take : (changes : List (ℕ × Option Layout)) (i : ℕ) (change : ℕ × Option Layout) → i < length changes
+    → change ≡ get_or changes i change → take (i + 1) changes ≡ take i changes ++ change ∷ []
+front_take changes i change lt is = ap (λ (n : ℕ). take n changes) (add-one i)
+    ∙ take-suc changes i change lt ∙ ap (λ (c : ℕ × Option Layout). take i changes ++ c ∷ []) (sym is)
+
 pub last_take : (id : ℕ) (changes : List (ℕ × Option Layout)) (i : ℕ) (change : ℕ × Option Layout)
     → i < length changes → change ≡ get_or changes i change
     → last_change id (take (i + 1) changes)
     ≡ cond (nat_eq change.0 id) (Some change.1) (last_change id (take i changes))
 last_take id changes i change lt is =
-    let front : take (i + 1) changes ≡ take i changes ++ change ∷ [] = ap (λ (n : ℕ). take n changes) (add-one i)
-    ∙ take-suc changes i change lt ∙ ap (λ (c : ℕ × Option Layout). take i changes ++ c ∷ []) (sym is) in
-    ap (last_change id) front ∙ last_push id (take i changes) change
+    ap (last_change id) (front_take changes i change lt is) ∙ last_push id (take i changes) change
 
--- what knows the last changes, and one more, knows the last ones still
-pub knows_more : (old new : ℕ → Option (Option Layout)) (changes : List (ℕ × Option Layout)) (id : ℕ)
-    (change : Option Layout) → ((q : ℕ) → old q ≡ last_change q changes)
-    → ((q : ℕ) → new q ≡ cond (nat_eq id q) (Some change) (old q)) → (q : ℕ)
-    → new q ≡ last_change q (changes ++ (id, change) ∷ [])
+-- ---- the place of the last change of an ID
+
+pub place_push : (id : ℕ) (changes : List (ℕ × Option Layout)) (change : ℕ × Option Layout)
+    → last_place id (changes ++ change ∷ [])
+    ≡ cond (nat_eq change.0 id) (Some (length changes)) (last_place id changes)
+place_push id [] change = refl
+place_push id (c ∷ cs) change = elim (by_bool (nat_eq change.0 id)) [
+  | inl w ↦ rw (place_push id cs change, w) refl
+  | inr w ↦ rw (place_push id cs change, w) refl
+]
+
+pub place_take : (id : ℕ) (changes : List (ℕ × Option Layout)) (i : ℕ) (change : ℕ × Option Layout)
+    → i < length changes → change ≡ get_or changes i change
+    → last_place id (take (i + 1) changes)
+    ≡ cond (nat_eq change.0 id) (Some i) (last_place id (take i changes))
+place_take id changes i change lt is =
+    let long : length (take i changes) ≡ i = length-take-le i changes (omega (arith, lt)) in
+    ap (last_place id) (front_take changes i change lt is) ∙ place_push id (take i changes) change
+    ∙ ap (λ (n : ℕ). cond (nat_eq change.0 id) (Some n) (last_place id (take i changes))) long
+
+-- what knows the places, and that of one more change, knows the last ones still
+pub knows_more : (old new : ℕ → Option ℕ) (changes : List (ℕ × Option Layout)) (id : ℕ) (change : Option Layout)
+    → ((q : ℕ) → old q ≡ last_place q changes)
+    → ((q : ℕ) → new q ≡ cond (nat_eq id q) (Some (length changes)) (old q)) → (q : ℕ)
+    → new q ≡ last_place q (changes ++ (id, change) ∷ [])
 knows_more old new changes id change was put q =
-    put q ∙ ap (cond (nat_eq id q) (Some change)) (was q) ∙ sym (last_push q changes (id, change))
+    put q ∙ ap (cond (nat_eq id q) (Some (length changes))) (was q) ∙ sym (place_push q changes (id, change))
+
+-- the change at a place, where there is one
+abbrev Stands : List (ℕ × Option Layout) → Option ℕ → Option (Option Layout) → Type 0
+Stands changes None last = last ≡ None
+Stands changes (Some place) last =
+    (change : ℕ × Option Layout) × (slice_get changes place ≡ Some change) × (last ≡ Some change.1)
+
+stands : (id : ℕ) (changes : List (ℕ × Option Layout)) → Stands changes (last_place id changes) (last_change id changes)
+stands id [] = refl
+stands id (c ∷ cs) = by (last_place id cs) (last_change id cs) (nat_eq c.0 id) (stands id cs)
+  where
+    by : (place : Option ℕ) (last : Option (Option Layout)) (b : Bool) → Stands cs place last
+        → Stands (c ∷ cs) (option_or (option_map suc place) (cond b (Some 0) None))
+        (option_or last (cond b (Some c.1) None))
+    by None last true h = (c, refl, rw h refl)
+    by None last false h = rw h refl
+    by (Some place) last b h = (h.0, h.1, rw h.2 refl)
+
+pub last_none : (id : ℕ) (changes : List (ℕ × Option Layout)) → last_place id changes ≡ None
+    → last_change id changes ≡ None
+last_none id changes none = subst (λ (place : Option ℕ). Stands changes place (last_change id changes)) none
+    (stands id changes)
+
+pub last_some : (id : ℕ) (changes : List (ℕ × Option Layout)) (place : ℕ) (d : ℕ × Option Layout)
+    → last_place id changes ≡ Some place
+    → (place < length changes) × (Some (get_or changes place d).1 ≡ last_change id changes)
+last_some id changes place d some =
+    let h : Stands changes (Some place) (last_change id changes) =
+    subst (λ (place : Option ℕ). Stands changes place (last_change id changes)) some (stands id changes) in
+    let within : place < length changes = slice_get_within changes place h.0 h.1 in (
+      within,
+      cc (slice_get-get_or changes place d within, h.1, h.2),
+    )
 
 -- where nothing is there, nothing is taken out
 pub nothing_taken : (entries : List (ℕ × Layout)) (id : ℕ) → found id entries ≡ None
@@ -149,17 +208,17 @@ none_sized (e ∷ es) = not_zero (entries_size (e ∷ es)) (omega (arith, positi
 -- ---- what is told of the changes
 
 module _ (base : List (ℕ × Layout)) (o new : Overlay) (h : IsOver base o) (id : ℕ) (change : Option Layout)
-    (cleared : new.cleared ≡ o.cleared) (log : new.log.items ≡ o.log.items ++ (id, change) ∷ []) where
+    (cleared : new.cleared ≡ o.cleared) (log : new.log ≡ o.log ++ (id, change) ∷ []) where
   pub over_entries : overlaid base new ≡ change_by (overlaid base o) id change
-  over_entries = rw (cleared, log) (made_push (started o.cleared base) o.log.items id change)
+  over_entries = rw (cleared, log) (made_push (started o.cleared base) o.log id change)
 
-  pub over_change : KnowsLast new.own (o.log.items ++ (id, change) ∷ [])
+  pub over_change : KnowsLast new.own (o.log ++ (id, change) ∷ [])
       → new.size + size_in (found id (overlaid base o)) ≡ o.size + size_in change → size_in change < 2 ^ 20
       → IsOver base new
   over_change knows size small =
       let is = over_entries in
-      let more : length new.log.items ≡ length o.log.items + 1 = ap length log
-      ∙ length-append o.log.items ((id, change) ∷ []) in
+      let more : length new.log ≡ length o.log + 1 = ap length log
+      ∙ length-append o.log ((id, change) ∷ []) in
       record {
         once = subst IsOnce (sym is) (once_change (overlaid base o) id change h.once);
         found = λ q. ap (found q) is ∙ found_change (overlaid base o) id q change h.once ∙ seen q;
@@ -168,9 +227,9 @@ module _ (base : List (ℕ × Layout)) (o new : Overlay) (h : IsOver base o) (id
         bound = omega (arith, size, small, h.bound, more);
       }
     where
-      seen : (q : ℕ) → cond (nat_eq id q) change (found q (overlaid base o)) ≡ unwrap_or (last_change q new.log.items)
+      seen : (q : ℕ) → cond (nat_eq id q) change (found q (overlaid base o)) ≡ unwrap_or (last_change q new.log)
           (found q (started new.cleared base))
       seen q = elim (by_bool (nat_eq id q)) [
-        | inl w ↦ rw (log, last_push q o.log.items (id, change), w) refl
-        | inr w ↦ rw (log, last_push q o.log.items (id, change), w, cleared) (h.found q)
+        | inl w ↦ rw (log, last_push q o.log (id, change), w) refl
+        | inr w ↦ rw (log, last_push q o.log (id, change), w, cleared) (h.found q)
       ]

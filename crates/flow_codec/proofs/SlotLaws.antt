@@ -11,6 +11,7 @@ use Rattle.std.specs.Map.{lookup}
 use Rattle.std.proofs.lemmas.List.{nil_from_length}
 use Rattle.std.proofs.lemmas.Map.Made.{nil_from_lookup}
 use Rattle.std.proofs.lemmas.Bool.{eqb-true}
+use Rattle.std.proofs.Math.Dec.{eqb-suc-zero}
 use Rattle.std.proofs.lemmas.Option.{get_or_from_slice_get}
 use Rattle.flow_codec.specs.Templates.{IsOnce}
 use Rattle.flow_codec.specs.declared.slot_table.SlotTable.{SlotTable}
@@ -388,3 +389,8 @@ empty-is ss es false h t = elim (by_bool (eqb (length (standing ss)) 0)) [
 -- room for one definition more is room
 pub less_room : (n : ℕ) (table : SlotTable) → HasRoom (suc n) table → HasRoom n table
 less_room n table h = record { slots = omega (arith, h.slots); places = omega (arith, h.places) }
+
+-- where nothing stands, nothing is found
+pub none_found : {V : Type 0} (id : ℕ) (es : List (ℕ × V)) → true ≡ eqb (length es) 0 → None ≡ lookup (nat_eq id) es
+none_found id [] e = refl
+none_found id (x ∷ xs) e = absurd (cc (e ∙ eqb-suc-zero (length xs)))

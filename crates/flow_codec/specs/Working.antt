@@ -1,11 +1,11 @@
 -- What is in force while a message is read: the templates from before it, with what it changed in its own domain.
-use Rattle.std.specs.Prelude.{◌≡◌, ℕ, ◌+◌, ◌*◌, ◌≤◌, ◌^◌, Bool, List, [], ◌∷◌, Option, Some, None, nat_eq, length, ⊤}
+use Rattle.std.specs.Prelude.{◌≡◌, ℕ, suc, ◌+◌, ◌*◌, ◌≤◌, ◌^◌, Bool, List, [], ◌∷◌, Option, Some, None, nat_eq, length, ⊤}
 use Rattle.std.specs.Prelude.{IfSome, unwrap_or, if◌then◌else◌}
 use Rattle.std.specs.Box.{box_value}
 use Rattle.std.specs.Global.{Box}
 use Rattle.std.specs.HashMap.{HashMap, get}
 use Rattle.std.specs.Map.{lookup}
-use Rattle.std.specs.Option.{option_or}
+use Rattle.std.specs.Option.{option_map, option_or}
 use Rattle.indexmap.specs.IndexMap.{shift_remove_entry}
 use Rattle.flow_codec.specs.declared.overlay.Overlay.{Overlay}
 use Rattle.flow_codec.specs.declared.templates.DomainTemplates.{DomainTemplates}
@@ -24,7 +24,7 @@ put_back domain left here all =
 
 -- the list with the changes of a message
 abbrev pub overlaid : List (ℕ × Layout) → Overlay → List (ℕ × Layout)
-overlaid base o = made (started o.cleared base) o.log.items
+overlaid base o = made (started o.cleared base) o.log
 
 -- the last change of an ID
 abbrev pub last_change : ℕ → List (ℕ × Option Layout) → Option (Option Layout)
@@ -32,19 +32,25 @@ last_change id [] = None
 last_change id (change ∷ changes) =
     option_or (last_change id changes) (if nat_eq change.0 id then Some change.1 else None)
 
--- a map, where there is one, has the last change of each ID
-abbrev pub KnowsLast : {S : Type 0} → Option (Box (HashMap ℕ (Option Layout) S)) → List (ℕ × Option Layout) → Type 0
+-- the place of the last change of an ID
+abbrev pub last_place : ℕ → List (ℕ × Option Layout) → Option ℕ
+last_place id [] = None
+last_place id (change ∷ changes) =
+    option_or (option_map suc (last_place id changes)) (if nat_eq change.0 id then Some 0 else None)
+
+-- a map, where there is one, has the place of the last change of each ID
+abbrev pub KnowsLast : {S : Type 0} → Option (Box (HashMap ℕ ℕ S)) → List (ℕ × Option Layout) → Type 0
 KnowsLast own changes =
-    IfSome own (λ map. (id : ℕ) → get nat_eq (box_value map) id ≡ last_change id changes)
+    IfSome own (λ map. (id : ℕ) → get nat_eq (box_value map) id ≡ last_place id changes)
 
 -- What is told of the changes is right: the last change of each ID, and the octets of all template records after them.
 pub record IsOver (base : List (ℕ × Layout)) (o : Overlay) : Type 0 where
   pub once : IsOnce (overlaid base o)
-  pub found : (id : ℕ) → lookup (nat_eq id) (overlaid base o) ≡ unwrap_or (last_change id o.log.items)
+  pub found : (id : ℕ) → lookup (nat_eq id) (overlaid base o) ≡ unwrap_or (last_change id o.log)
       (lookup (nat_eq id) (started o.cleared base))
-  pub own : KnowsLast o.own o.log.items
+  pub own : KnowsLast o.own o.log
   pub size : o.size ≡ entries_size (overlaid base o)
-  pub bound : o.size ≤ 2 ^ 64 + 2 ^ 20 * length o.log.items
+  pub bound : o.size ≤ 2 ^ 64 + 2 ^ 20 * length o.log
 
 -- ---- the message's own domain
 

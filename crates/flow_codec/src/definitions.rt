@@ -103,30 +103,30 @@ impl Definitions {
     }
 }
 
-/// Makes what a message changed in both lists of a domain. All memory is taken before anything changes, so an `Err`
-/// changes nothing.
+/// Makes what a message changed in both lists of a domain, and takes the changes out. All memory is taken before anything
+/// changes, so an `Err` changes nothing in the lists.
 pub(crate) fn make_changes(
     templates: &mut Definitions,
     options: &mut Definitions,
-    to_templates: Overlay,
-    to_options: Overlay,
+    to_templates: &mut Overlay,
+    to_options: &mut Overlay,
 ) -> Result<(), AllocError>
-    requires templates { IsOver templates.old to_templates }
-    requires options { IsOver options.old to_options }
-    requires sizes { (to_templates.size < 2 ^ 64) × (to_options.size < 2 ^ 64) }
-    ensures ok { OnOk result ((templates.new ≡ overlaid templates.old to_templates)
-        × (options.new ≡ overlaid options.old to_options)) }
+    requires templates { IsOver templates.old to_templates.old }
+    requires options { IsOver options.old to_options.old }
+    requires sizes { (to_templates.old.size < 2 ^ 64) × (to_options.old.size < 2 ^ 64) }
+    ensures ok { OnOk result ((templates.new ≡ overlaid templates.old to_templates.old)
+        × (options.new ≡ overlaid options.old to_options.old)) }
     ensures err { OnErr result ((templates.new ≡ templates.old) × (options.new ≡ options.old)) }
 {
     let first = templates
         .table
-        .prepare(to_templates.cleared, to_templates.log.len())?;
+        .prepare(to_templates.cleared, to_templates.log.as_slice().len())?;
     let second = options
         .table
-        .prepare(to_options.cleared, to_options.log.len())?;
-    templates.table.finish(first, to_templates.log);
+        .prepare(to_options.cleared, to_options.log.as_slice().len())?;
+    templates.table.finish(first, to_templates.log.take());
     templates.size = to_templates.size as u64;
-    options.table.finish(second, to_options.log);
+    options.table.finish(second, to_options.log.take());
     options.size = to_options.size as u64;
     Ok(())
 }

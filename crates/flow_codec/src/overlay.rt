@@ -1,15 +1,16 @@
 //! What a message changes in one list of definitions, beside the list, which stays as it was.
 
-ghost use Rattle.std.specs.Prelude.{◌≡◌, ℕ, List, None, ◌<◌, ◌^◌, [], ◌∷◌, ◌++◌, nat_eq, ◌==◌, length, OnOk, IfOk};
+ghost use Rattle.std.specs.Prelude.{◌≡◌, ℕ, List, Option, None, ◌<◌, ◌^◌, [], ◌∷◌, ◌++◌, nat_eq, ◌==◌, length, OnOk, IfOk};
 ghost use Rattle.std.specs.HashMap.{get};
 ghost use Rattle.std.specs.Map.{lookup};
 ghost use Rattle.std.specs.Option.{option_copied};
 ghost use Rattle.flow_codec.specs.Layout.{Layout};
 ghost use Rattle.flow_codec.specs.Slots.{change_by};
 ghost use Rattle.flow_codec.specs.Entries.{entries_size, size_in};
-ghost use Rattle.flow_codec.specs.Working.{last_change, overlaid, IsOver, KnowsLast};
+ghost use Rattle.flow_codec.specs.Working.{last_change, last_place, overlaid, IsOver, KnowsLast};
 
 use crate::definitions::Definitions;
+use crate::short_list::ShortList;
 use crate::templates::Definition;
 use std::alloc::{AllocError, Global};
 use std::collections::HashMap;
@@ -23,9 +24,9 @@ const FEW: usize = 8;
 pub(crate) struct Overlay {
     /// Whether all definitions were withdrawn, before these changes.
     pub(crate) cleared: bool,
-    pub(crate) log: Vec<(u16, Option<Definition>)>,
-    /// The last change of each ID, once there are more than a few.
-    own: Option<Box<HashMap<u16, Option<Definition>>>>,
+    pub(crate) log: ShortList<(u16, Option<Definition>)>,
+    /// The place of the last change of each ID, once there are more than a few.
+    own: Option<Box<HashMap<u16, usize>>>,
     /// The octets of all template records after the changes. Within a message no limit bounds them.
     pub(crate) size: u128,
 }
@@ -38,15 +39,6 @@ fn size_in(definition: Option<&Definition>) -> usize
     match definition {
         Some(definition) => definition.size(),
         None => 0,
-    }
-}
-
-fn copied(change: &Option<Definition>) -> Result<Option<Definition>, AllocError>
-    ensures { IfOk result (λ copy. copy ≡ change.now) }
-{
-    match change {
-        Some(definition) => Ok(Some(definition.clone()?)),
-        None => Ok(None),
     }
 }
 
@@ -63,38 +55,37 @@ fn last_in(log: &[(u16, Option<Definition>)], id: u16) -> Option<&Option<Definit
     last
 }
 
-/// The last change of each ID.
-fn map_of(
+/// The place of the last change of each ID.
+fn places_of(
     alloc: Global,
     log: &[(u16, Option<Definition>)],
-) -> Result<HashMap<u16, Option<Definition>>, AllocError>
-    ensures { IfOk result (λ own. (id : ℕ) → get nat_eq own id ≡ last_change id log.now) }
+) -> Result<HashMap<u16, usize>, AllocError>
+    ensures { IfOk result (λ own. (id : ℕ) → get nat_eq own id ≡ last_place id log.now) }
 {
     let mut own = HashMap::new(alloc);
-    for (id, change) in log {
-        own.insert(*id, copied(change)?)?;
+    for (place, (id, _)) in log.iter().enumerate() {
+        own.insert(*id, place)?;
     }
     Ok(own)
 }
 
-/// Takes note of a change that is to follow those of `log`. After an `Err` the map is of no use.
+/// Takes note of a change of an ID that is to follow those of `log`. After an `Err` the map is of no use.
 fn note(
-    own: &mut Option<Box<HashMap<u16, Option<Definition>>>>,
+    own: &mut Option<Box<HashMap<u16, usize>>>,
     alloc: Global,
     log: &[(u16, Option<Definition>)],
     id: u16,
-    change: &Option<Definition>,
 ) -> Result<(), AllocError>
     requires { KnowsLast own.old log.now }
-    ensures { OnOk result (KnowsLast own.new (log.now ++ (id, change.now) ∷ [])) }
+    ensures { (change : Option Layout) → OnOk result (KnowsLast own.new (log.now ++ (id, change) ∷ [])) }
 {
     match own {
         Some(own) => {
-            own.insert(id, copied(change)?)?;
+            own.insert(id, log.len())?;
         }
         None if log.len() >= FEW => {
-            let mut map = map_of(alloc, log)?;
-            map.insert(id, copied(change)?)?;
+            let mut map = places_of(alloc, log)?;
+            map.insert(id, log.len())?;
             *own = Some(Box::new(alloc, map)?);
         }
         None => {}
@@ -104,13 +95,13 @@ fn note(
 
 impl Overlay {
     /// No change.
-    pub(crate) fn new(alloc: Global, base: &Definitions) -> Self
+    pub(crate) fn new(base: &Definitions) -> Self
         ensures over { IsOver base.now result }
         ensures same { overlaid base.now result ≡ base.now }
     {
         Overlay {
             cleared: false,
-            log: Vec::new(alloc),
+            log: ShortList::new(),
             own: None,
             size: base.size() as u128,
         }
@@ -118,11 +109,15 @@ impl Overlay {
 
     /// The last change of an ID.
     fn last(&self, id: u16) -> Option<&Option<Definition>>
-        requires { KnowsLast self.now.own self.now.log.items }
-        ensures { option_copied result ≡ last_change id self.now.log.items }
+        requires { KnowsLast self.now.own self.now.log }
+        ensures { option_copied result ≡ last_change id self.now.log }
     {
         match &self.own {
-            Some(own) => own.get(&id),
+            Some(own) => {
+                let place = *own.get(&id)?;
+                let (_, change) = self.log.as_slice().get(place)?;
+                Some(change)
+            }
             None => last_in(self.log.as_slice(), id),
         }
     }
@@ -162,8 +157,8 @@ impl Overlay {
     {
         let before = size_in(self.get(base, id));
         let after = size_in(change.as_ref());
-        note(&mut self.own, alloc, self.log.as_slice(), id, &change)?;
-        self.log.push((id, change))?;
+        note(&mut self.own, alloc, self.log.as_slice(), id)?;
+        self.log.push(alloc, (id, change))?;
         self.size = self.size - before as u128 + after as u128;
         Ok(())
     }
@@ -187,12 +182,12 @@ impl Overlay {
     }
 
     /// Takes out all definitions.
-    pub(crate) fn clear(&mut self, alloc: Global)
+    pub(crate) fn clear(&mut self)
         ensures over { (base : List (ℕ × Layout)) → IsOver base self.new }
         ensures none { (base : List (ℕ × Layout)) → overlaid base self.new ≡ [] }
     {
         self.cleared = true;
-        self.log = Vec::new(alloc);
+        self.log = ShortList::new();
         self.own = None;
         self.size = 0;
     }

@@ -6,14 +6,12 @@ ghost use Rattle.flow_codec.specs.Layout.{least};
 ghost use Rattle.flow_codec.specs.Plan.{number_of, role_of, is_counted, counts_as, step_of, skip_of, steps_of};
 ghost use Rattle.flow_codec.specs.Plan.{place_of, places_of, plan_of};
 
-use flow_elements::{ElementId, Items};
+use crate::short_list::ShortList;
+use flow_elements::ElementId;
 use std::alloc::{AllocError, Global};
 
 /// The Field Length of a field of variable length (RFC 7011, section 7).
 pub const VARIABLE: u16 = 65535;
-
-/// Steps that get their memory at once.
-const FEW: usize = 4;
 
 /// What a field is counted as in a flow: IANA's elements 1, 2, 4, 150 and 152 (RFC 7012).
 #[derive(Clone, Copy, Debug, PartialEq, Eq)]
@@ -39,8 +37,8 @@ pub enum Step {
 /// The octets of a record that one field has: the first of them, counted from 0, and how many.
 #[derive(Clone, Copy, Debug, PartialEq, Eq)]
 pub struct Place {
-    pub at: usize,
-    pub len: usize,
+    pub at: u32,
+    pub len: u16,
 }
 
 /// Where the numbers of a record of fixed lengths stand: of each role the first field that counts.
@@ -55,10 +53,10 @@ pub struct Places {
 
 /// How each record of a definition is stepped over: no step but the skips is one of no octets, and no two skips are
 /// neighbours. Where no field is of variable length, the places of the numbers as well.
-#[derive(Clone, Debug, Drop)]
+#[derive(Debug, Drop)]
 pub struct Plan {
     pub smallest: usize,
-    pub steps: Items<Step>,
+    pub steps: ShortList<Step>,
     pub places: Option<Places>,
 }
 
@@ -128,32 +126,36 @@ fn step_of(id: &ElementId, len: u16) -> Step
 }
 
 /// Puts a skip of these octets behind the steps.
-fn push_skip(steps: &mut Vec<Step>, skipped: Option<usize>) -> Result<(), AllocError>
-    ensures { OnOk result (steps.new.items ≡ steps.old.items ++ skip_of skipped) }
+fn push_skip(
+    alloc: Global,
+    steps: &mut ShortList<Step>,
+    skipped: Option<usize>,
+) -> Result<(), AllocError>
+    ensures { OnOk result (steps.new ≡ steps.old ++ skip_of skipped) }
 {
     if let Some(count) = skipped {
-        steps.push(Step::Skip(count))?;
+        steps.push(alloc, Step::Skip(count))?;
     }
     Ok(())
 }
 
 /// The steps over a record of these fields.
-fn steps_of(alloc: Global, fields: &[(ElementId, u16)]) -> Result<Vec<Step>, AllocError>
+fn steps_of(alloc: Global, fields: &[(ElementId, u16)]) -> Result<ShortList<Step>, AllocError>
     requires { length fields.now < 2 ^ 16 }
-    ensures { IfOk result (λ steps. steps.items ≡ steps_of fields.now) }
+    ensures { IfOk result (λ steps. steps ≡ steps_of fields.now) }
 {
-    let mut steps: Vec<Step> = Vec::with_capacity(alloc, fields.len().min(FEW))?;
+    let mut steps: ShortList<Step> = ShortList::new();
     let mut skipped: Option<usize> = None;
     for (id, len) in fields {
         match step_of(id, *len) {
             Step::Skip(count) => skipped = Some(skipped.unwrap_or(0) + count),
             step => {
-                push_skip(&mut steps, skipped.take())?;
-                steps.push(step)?;
+                push_skip(alloc, &mut steps, skipped.take())?;
+                steps.push(alloc, step)?;
             }
         }
     }
-    push_skip(&mut steps, skipped)?;
+    push_skip(alloc, &mut steps, skipped)?;
     Ok(steps)
 }
 
@@ -183,11 +185,10 @@ fn place_of(role: Role, fields: &[(ElementId, u16)]) -> Option<Place>
 {
     let mut at = 0;
     for (id, len) in fields {
-        let count = *len as usize;
         if role.is_field(id, *len) {
-            return Some(Place { at, len: count });
+            return Some(Place { at, len: *len });
         }
-        at += count;
+        at += *len as u32;
     }
     None
 }
@@ -213,7 +214,7 @@ pub(crate) fn plan_of(alloc: Global, fields: &[(ElementId, u16)]) -> Result<Plan
 {
     Ok(Plan {
         smallest: smallest_of(fields),
-        steps: Items::from_vec(steps_of(alloc, fields)?),
+        steps: steps_of(alloc, fields)?,
         places: if are_fixed(fields) {
             Some(places_of(fields))
         } else {

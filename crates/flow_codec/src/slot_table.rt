@@ -12,6 +12,7 @@ ghost use Rattle.flow_codec.specs.Prefix.{records_of};
 
 use crate::kind::TemplateKind;
 use crate::prefix::put_definition;
+use crate::short_list::{Kept, ShortList};
 use crate::templates::Definition;
 use std::alloc::{AllocError, Global};
 use std::collections::HashMap;
@@ -56,6 +57,9 @@ impl SlotTable {
         requires { IsTable self.now }
         ensures { option_copied result ≡ lookup (nat_eq id) (entries_of self.now) }
     {
+        if self.is_empty() {
+            return None;
+        }
         let place = *self.places.get(&id)?;
         match &self.slots[place] {
             Some((_, definition)) => Some(definition),
@@ -196,7 +200,20 @@ impl SlotTable {
     }
 
     /// Makes changes one after the other, in memory that was taken for them.
-    fn make(&mut self, changes: Vec<(u16, Option<Definition>)>)
+    fn make(&mut self, changes: ShortList<(u16, Option<Definition>)>)
+        requires slots { IsTable self.old }
+        requires room { HasRoom (length changes) self.old }
+        ensures slots { IsTable self.new }
+        ensures entries { entries_of self.new ≡ made (entries_of self.old) changes }
+    {
+        match changes.into_kept() {
+            Kept::Nothing => {}
+            Kept::One([change]) => self.change(change.0, change.1),
+            Kept::Many(changes) => self.make_each(changes),
+        }
+    }
+
+    fn make_each(&mut self, changes: Vec<(u16, Option<Definition>)>)
         requires slots { IsTable self.old }
         requires room { HasRoom (length changes.items) self.old }
         ensures slots { IsTable self.new }
@@ -211,12 +228,12 @@ impl SlotTable {
     pub(crate) fn finish(
         &mut self,
         fresh: Option<Box<SlotTable>>,
-        changes: Vec<(u16, Option<Definition>)>,
+        changes: ShortList<(u16, Option<Definition>)>,
     )
         requires slots { IsTable (begun fresh self.old) }
-        requires room { HasRoom (length changes.items) (begun fresh self.old) }
+        requires room { HasRoom (length changes) (begun fresh self.old) }
         ensures slots { IsTable self.new }
-        ensures entries { entries_of self.new ≡ made (entries_of (begun fresh self.old)) changes.items }
+        ensures entries { entries_of self.new ≡ made (entries_of (begun fresh self.old)) changes }
     {
         self.begin(fresh);
         self.make(changes);

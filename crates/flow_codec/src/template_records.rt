@@ -7,8 +7,9 @@ ghost use Rattle.flow_codec.specs.Reading.{template_at};
 use crate::error::MessageError;
 use crate::kind::TemplateKind;
 use crate::numbers::{u16_at, u32_at};
+use crate::short_list::ShortList;
 use crate::templates::{Definition, TemplateRecord};
-use flow_elements::{ElementId, Items};
+use flow_elements::ElementId;
 use std::alloc::Global;
 
 /// The bit of an element's number that an enterprise number follows.
@@ -57,20 +58,20 @@ fn specifiers_of(
     at: usize,
     count: u16,
     octets: &[u8],
-) -> Result<(Items<(ElementId, u16)>, &[u8]), MessageError>
+) -> Result<(ShortList<(ElementId, u16)>, &[u8]), MessageError>
     ensures exact { Gives (λ x. (x.0, x.1.now)) result (specifiers_at at count octets.now) }
     ensures count { IfOk result (λ x. length x.0 ≡ count) }
     ensures len { IfOk result (λ x. length x.1.now ≤ length octets.now) }
 {
     let room = (octets.len() / SPECIFIER).min(count as usize);
-    let mut specifiers = Vec::with_capacity(alloc, room)?;
+    let mut specifiers = ShortList::with_capacity(alloc, room)?;
     let mut rest = octets;
     for _ in 0..count {
         let (specifier, after) = specifier_of(at, rest)?;
-        specifiers.push(specifier)?;
+        specifiers.push(alloc, specifier)?;
         rest = after;
     }
-    Ok((Items::from_vec(specifiers), rest))
+    Ok((specifiers, rest))
 }
 
 /// The Scope Field Count of an Options Template Record, and the octets behind it. A Template Record has none.

@@ -16,8 +16,9 @@ ghost use Rattle.flow_codec.specs.declared.templates.DomainTemplates.{DomainTemp
 use crate::definitions::{Definitions, make_changes};
 use crate::kind::TemplateKind;
 use crate::plan::{Plan, plan_of};
+use crate::short_list::ShortList;
 use crate::working::Changed;
-use flow_elements::{ElementId, Items};
+use flow_elements::ElementId;
 use indexmap::IndexMap;
 use std::alloc::{AllocError, Global};
 use std::marker::Model;
@@ -39,7 +40,7 @@ pub struct Definition {
 struct Parts {
     options: bool,
     scope: u16,
-    fields: Items<(ElementId, u16)>,
+    fields: ShortList<(ElementId, u16)>,
     plan: Plan,
     size: usize,
 }
@@ -91,7 +92,7 @@ impl Definition {
         alloc: Global,
         kind: TemplateKind,
         scope: u16,
-        fields: Items<(ElementId, u16)>,
+        fields: ShortList<(ElementId, u16)>,
     ) -> Result<Self, AllocError>
         requires { length fields < 2 ^ 16 }
         ensures { IfOk result (λ d. d ≡ record { options = is_options kind; scope = scope; fields = fields }) }
@@ -235,18 +236,18 @@ impl DomainTemplates {
         }
     }
 
-    /// Makes what a message changed. An `Err` changes nothing.
-    fn make(&mut self, changed: Changed) -> Result<(), AllocError>
-        requires over { AreOver self.old changed }
-        requires size { domain_size (changed_in self.old changed) ≤ 60000 }
-        ensures ok { OnOk result (self.new ≡ changed_in self.old changed) }
+    /// Makes what a message changed, and takes it out of `changed`. An `Err` changes nothing in the definitions.
+    fn make(&mut self, changed: &mut Changed) -> Result<(), AllocError>
+        requires over { AreOver self.old changed.old }
+        requires size { domain_size (changed_in self.old changed.old) ≤ 60000 }
+        ensures ok { OnOk result (self.new ≡ changed_in self.old changed.old) }
         ensures err { OnErr result (self.new ≡ self.old) }
     {
         make_changes(
             &mut self.templates,
             &mut self.options,
-            changed.templates,
-            changed.options,
+            &mut changed.templates,
+            &mut changed.options,
         )
     }
 }
@@ -338,16 +339,17 @@ impl Templates {
     }
 
     /// Makes what a message changed in its domain, which goes to the end of the list where it once was without
-    /// definitions. All memory is taken before anything changes, so an `Err` changes nothing.
+    /// definitions, and takes the changes out of `changed`. All memory is taken before anything changes, so an `Err`
+    /// changes nothing in the templates.
     pub(crate) fn take_in(
         &mut self,
         alloc: Global,
         domain: u32,
-        changed: Changed,
+        changed: &mut Changed,
     ) -> Result<(), AllocError>
-        requires over { AreOver (definitions_of domain self.old) changed }
-        requires in_force { AreTemplatesInForce (current domain self.old (Some changed)) }
-        ensures ok { OnOk result (self.new ≡ current domain self.old (Some changed)) }
+        requires over { AreOver (definitions_of domain self.old) changed.old }
+        requires in_force { AreTemplatesInForce (current domain self.old (Some changed.old)) }
+        ensures ok { OnOk result (self.new ≡ current domain self.old (Some changed.old)) }
         ensures err { OnErr result (self.new ≡ self.old) }
     {
         if changed.left || changed.is_empty() {
@@ -364,11 +366,11 @@ impl Templates {
         &mut self,
         alloc: Global,
         domain: u32,
-        changed: Changed,
+        changed: &mut Changed,
     ) -> Result<(), AllocError>
-        requires over { AreOver (definitions_of domain self.old) changed }
-        requires in_force { AreTemplatesInForce (current domain self.old (Some changed)) }
-        ensures ok { OnOk result (self.new ≡ current domain self.old (Some changed)) }
+        requires over { AreOver (definitions_of domain self.old) changed.old }
+        requires in_force { AreTemplatesInForce (current domain self.old (Some changed.old)) }
+        ensures ok { OnOk result (self.new ≡ current domain self.old (Some changed.old)) }
         ensures err { OnErr result (self.new ≡ self.old) }
     {
         self.domains.reserve(2)?;
@@ -387,6 +389,21 @@ impl Templates {
     }
 }
 
+/// Puts definitions under a domain: those that were there before. There is room for its entry.
+fn replaced(
+    domains: &mut IndexMap<u32, DomainTemplates>,
+    domain: u32,
+    here: DomainTemplates,
+) -> Option<DomainTemplates>
+    requires { 1 ≤ spare domains.old }
+    ensures before { result ≡ lookup (nat_eq domain) domains.old.entries }
+    ensures entries { domains.new.entries ≡ insert_entry nat_eq domains.old.entries domain here }
+    ensures room { spare domains.old ≤ spare domains.new + 1 }
+{
+    let replaced: Result<_, _> = domains.insert(domain, here);
+    replaced.unwrap()
+}
+
 /// Takes out what is in force in a domain, and leaves its place. There is room for its entry.
 fn taken_out(
     domains: &mut IndexMap<u32, DomainTemplates>,
@@ -398,8 +415,7 @@ fn taken_out(
     ensures place { domains.new.entries ≡ insert_entry nat_eq domains.old.entries domain no_definitions }
     ensures room { 1 ≤ spare domains.new }
 {
-    let replaced: Result<_, _> = domains.insert(domain, DomainTemplates::new(alloc));
-    match replaced.unwrap() {
+    match replaced(domains, domain, DomainTemplates::new(alloc)) {
         Some(here) => here,
         None => DomainTemplates::new(alloc),
     }
@@ -422,6 +438,5 @@ fn put_back(
     if last {
         domains.shift_remove(&domain);
     }
-    let stored: Result<_, _> = domains.insert(domain, here);
-    stored.unwrap();
+    replaced(domains, domain, here);
 }

@@ -1,6 +1,6 @@
 //! The walk over a message, from left to right: its data records go to a sink, its template records are applied.
 
-ghost use Rattle.std.specs.Prelude.{◌⊎◌, ◌≡◌, ◌+◌, ◌≤◌, ◌<◌, length, List, OnOk, OnErr, IfOk, IfErr};
+ghost use Rattle.std.specs.Prelude.{◌⊎◌, ◌≡◌, ◌+◌, ◌≤◌, ◌<◌, length, List, None, OnOk, OnErr, IfOk, IfErr};
 ghost use Rattle.flow_codec.specs.Layout.{smallest};
 ghost use Rattle.flow_codec.specs.Raw.{RawRecord, RawMessage, Took, IsWhole};
 ghost use Rattle.flow_codec.specs.Templates.{AllTemplates};
@@ -260,32 +260,25 @@ fn header_of(octets: &[u8]) -> Result<(Header, &[u8]), MessageError>
     Ok((header, rest))
 }
 
-/// Hands a message's data records to a sink. It gives the header, and what the message changes in the templates, which
-/// keep to their limits.
+/// Hands a message's data records to a sink. It gives the header, and leaves in `changed` what the message changes in
+/// the templates, which keep to their limits.
 fn divided<S: RecordSink>(
     templates: &Templates,
     alloc: Global,
     octets: &[u8],
+    changed: &mut Option<Changed>,
     sink: &mut S,
-) -> Result<(Header, Option<Changed>), WalkError<S::Error>>
-    ensures changes { IfOk result (λ x. AreChanges x.0.domain templates.now x.1) }
+) -> Result<Header, WalkError<S::Error>>
+    requires { changed.old ≡ None }
+    ensures changes { IfOk result (λ header. AreChanges header.domain templates.now changed.new) }
     ensures exact { IsWalked S.holds (λ header. IsRefused S.holds S.refuses header sink.old (length octets.now))
-        (λ x. (x.0, current x.0.domain templates.now x.1)) sink.old sink.new result
+        (λ header. (header, current header.domain templates.now changed.new)) sink.old sink.new result
         (message_at templates.now octets.now) }
 {
     let (header, rest) = header_of(octets)?;
-    let mut changed = None;
-    sets_of(
-        alloc,
-        octets.len(),
-        templates,
-        &header,
-        &mut changed,
-        rest,
-        sink,
-    )?;
-    keep_limits(templates, &header, &changed)?;
-    Ok((header, changed))
+    sets_of(alloc, octets.len(), templates, &header, changed, rest, sink)?;
+    keep_limits(templates, &header, changed)?;
+    Ok(header)
 }
 
 fn message_of<S: RecordSink>(
@@ -299,8 +292,9 @@ fn message_of<S: RecordSink>(
     ensures err { OnErr result (templates.new ≡ templates.old) }
 {
     templates.are_in_force();
-    let (header, changed) = divided(templates, alloc, octets, sink)?;
-    if put_in(alloc, templates, header.domain, changed).is_err() {
+    let mut changed = None;
+    let header = divided(templates, alloc, octets, &mut changed, sink)?;
+    if put_in(alloc, templates, header.domain, &mut changed).is_err() {
         return Err(WalkError::Message(MessageError::OutOfMemory));
     }
     Ok(header)
@@ -348,9 +342,10 @@ pub fn judge_message(
     // Other octets are refused by their first fault.
     ensures fault { IfErr result (λ e. (e ≡ MessageError.OutOfMemory) ⊎ IsFault octets.now templates.now e) }
 {
+    let mut changed = None;
     let mut count = Count { records: 0 };
-    match divided(templates, alloc, octets, &mut count) {
-        Ok((header, _)) => Ok(header),
+    match divided(templates, alloc, octets, &mut changed, &mut count) {
+        Ok(header) => Ok(header),
         Err(WalkError::Message(fault)) => Err(fault),
         Err(WalkError::Sink(never)) => match never {},
     }

@@ -29,14 +29,14 @@ pub(crate) struct Changed {
 
 impl Changed {
     /// No change.
-    fn new(alloc: Global, here: &DomainTemplates) -> Self
+    fn new(here: &DomainTemplates) -> Self
         ensures over { AreOver here.now result }
         ensures same { changed_in here.now result ≡ here.now }
         ensures left { result.left ≡ false }
     {
         Changed {
-            templates: Overlay::new(alloc, &here.templates),
-            options: Overlay::new(alloc, &here.options),
+            templates: Overlay::new(&here.templates),
+            options: Overlay::new(&here.options),
             left: false,
         }
     }
@@ -83,8 +83,8 @@ impl Changed {
             (TemplateKind::Options, TemplateRecord::Withdraw(id)) => {
                 self.options.take(alloc, &here.options, id)?;
             }
-            (TemplateKind::Plain, TemplateRecord::WithdrawAll) => self.templates.clear(alloc),
-            (TemplateKind::Options, TemplateRecord::WithdrawAll) => self.options.clear(alloc),
+            (TemplateKind::Plain, TemplateRecord::WithdrawAll) => self.templates.clear(),
+            (TemplateKind::Options, TemplateRecord::WithdrawAll) => self.options.clear(),
         }
         Ok(())
     }
@@ -141,30 +141,45 @@ pub(crate) fn find_in<'a>(
     }
 }
 
-/// Applies a template record. The first ones that define what is in force change nothing, and leave `changed` as it
-/// was. After an `Err`, `changed` is to be thrown away.
-pub(crate) fn apply_in(
+/// The changes that a message's first template record makes in a domain where `here` is in force.
+fn first_change(
+    alloc: Global,
+    here: &DomainTemplates,
+    kind: TemplateKind,
+    change: TemplateRecord,
+) -> Result<Changed, AllocError>
+    ensures over { IfOk result (λ now. AreOver here.now now) }
+    ensures changed { IfOk result (λ now. changed_in here.now now ≡ changed kind change here.now) }
+    ensures left { IfOk result (λ now. now.left ≡ is_empty here.now) }
+{
+    let mut now = Changed::new(here);
+    now.step(alloc, here, kind, change)?;
+    Ok(now)
+}
+
+/// Applies a template record in a domain where `here` is in force. The first ones that define what is in force change
+/// nothing, and leave `changed` as it was. After an `Err`, `changed` is to be thrown away.
+fn apply_in(
     alloc: Global,
     before: &Templates,
     domain: u32,
+    here: &DomainTemplates,
     changed: &mut Option<Changed>,
     kind: TemplateKind,
     change: TemplateRecord,
 ) -> Result<(), AllocError>
-    requires { AreChanges domain before.now changed.old }
+    requires here { here.now ≡ definitions_of domain before.now }
+    requires changes { AreChanges domain before.now changed.old }
     ensures changes { OnOk result (AreChanges domain before.now changed.new) }
     ensures applied { OnOk result
         (current domain before.now changed.new ≡ applied domain kind change (current domain before.now changed.old)) }
 {
     before.are_in_force();
-    let here = before.here(domain);
     match changed {
         Some(now) => now.step(alloc, here, kind, change),
         None if here.has(kind, &change) => Ok(()),
         None => {
-            let mut now = Changed::new(alloc, here);
-            now.step(alloc, here, kind, change)?;
-            *changed = Some(now);
+            *changed = Some(first_change(alloc, here, kind, change)?);
             Ok(())
         }
     }
@@ -187,9 +202,10 @@ pub(crate) fn templates_of(
         (templates_at (length octets.now) end domain kind (current domain before.now changed.old) octets.now) }
 {
     let mut rest = octets;
+    let here = before.here(domain);
     while !is_ended(rest) {
         let (change, after) = template_of(alloc, kind, end - rest.len(), rest)?;
-        apply_in(alloc, before, domain, changed, kind, change)?;
+        apply_in(alloc, before, domain, here, changed, kind, change)?;
         rest = after;
     }
     Ok(())
@@ -226,16 +242,16 @@ pub(crate) fn keep_limits(
     Ok(())
 }
 
-/// Makes the changes in the templates. An `Err` changes nothing.
+/// Makes the changes in the templates, and takes them out of `changed`. An `Err` changes nothing in the templates.
 pub(crate) fn put_in(
     alloc: Global,
     templates: &mut Templates,
     domain: u32,
-    changed: Option<Changed>,
+    changed: &mut Option<Changed>,
 ) -> Result<(), AllocError>
-    requires changes { AreChanges domain templates.old changed }
-    requires in_force { AreTemplatesInForce (current domain templates.old changed) }
-    ensures ok { OnOk result (templates.new ≡ current domain templates.old changed) }
+    requires changes { AreChanges domain templates.old changed.old }
+    requires in_force { AreTemplatesInForce (current domain templates.old changed.old) }
+    ensures ok { OnOk result (templates.new ≡ current domain templates.old changed.old) }
     ensures err { OnErr result (templates.new ≡ templates.old) }
 {
     match changed {

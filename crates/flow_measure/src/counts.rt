@@ -124,7 +124,8 @@ fn number_at(octets: &[u8], place: Option<Place>) -> Option<u64>
     ensures { result ≡ number_at octets.now place }
 {
     let place = place?;
-    Some(number_of(&octets[place.at..place.at + place.len]))
+    let at = place.at as usize;
+    Some(number_of(&octets[at..at + place.len as usize]))
 }
 
 /// The number in the one octet at a place of a record.
@@ -132,7 +133,7 @@ fn protocol_at(octets: &[u8], place: Option<Place>) -> Option<u8>
     requires { IsWide 1 octets.now place }
     ensures { result ≡ number_at octets.now place }
 {
-    let at = place?.at;
+    let at = place?.at as usize;
     Some(number_of(&octets[at..at + 1]) as u8)
 }
 
@@ -149,7 +150,7 @@ fn seconds_at(octets: &[u8], place: Option<Place>) -> Option<u32>
     requires { IsWide 4 octets.now place }
     ensures { result ≡ number_at octets.now place }
 {
-    let at = place?.at;
+    let at = place?.at as usize;
     Some(short_number_of(&octets[at..at + 4]))
 }
 
@@ -158,7 +159,7 @@ fn milliseconds_at(octets: &[u8], place: Option<Place>) -> Option<u64>
     requires { IsWide 8 octets.now place }
     ensures { result ≡ number_at octets.now place }
 {
-    let at = place?.at;
+    let at = place?.at as usize;
     Some(number_of(&octets[at..at + 8]))
 }
 

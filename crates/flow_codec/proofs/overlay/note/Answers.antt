@@ -5,14 +5,13 @@ use Rattle.flow_codec.proofs.OverlayLaws.{knows_more}
 use Rattle.flow_codec.proofs.overlay.note.Goals as goal
 
 pub returns-in_ok-insert-in-Some : goal.returns-in_ok-insert-in-Some
-returns-in_ok-insert-in-Some c =
+returns-in_ok-insert-in-Some c change =
     let was = rw c.in-Some.is at c.requires in
-    let updates = c.in_ok-insert-in-Some.ensures.updates.0 in
-    let put = rw (c.in_ok-copied-in-Some.ensures, c.deref_mut.ensures.value) at updates in
-    knows_more _ _ c.args.log.now c.args.id c.args.change.now was put
+    let put = rw c.deref_mut.ensures.value at c.in_ok-insert-in-Some.ensures.updates.0 in
+    knows_more _ _ c.args.log.now c.args.id change was put
 
 pub returns-in_ok-new-in-None : goal.returns-in_ok-new-in-None
-returns-in_ok-new-in-None c q =
-    let put = rw c.in_ok-copied-in-None.ensures at c.in_ok-insert-in-None.ensures.updates.0 in
+returns-in_ok-new-in-None c change q =
     ap (λ map. get nat_eq map q) c.in_ok-new-in-None.ensures.ok
-    ∙ knows_more _ _ c.args.log.now c.args.id c.args.change.now c.in_ok-map-in-None.ensures put q
+    ∙ knows_more _ _ c.args.log.now c.args.id change c.in_ok-map-in-None.ensures
+    c.in_ok-insert-in-None.ensures.updates.0 q

@@ -8,21 +8,21 @@ pub loop-id-preserved : goal.loop-id-preserved
 loop-id-preserved c =
     elim c.match-step_of.branch [
       | in-Skip w ↦
-          let h = skips c.args.fields.now c.loop-id.id-index _ c.loop-id.steps.items c.loop-id.skipped
+          let h = skips c.args.fields.now c.loop-id.id-index _ c.loop-id.steps c.loop-id.skipped
           (steps_of c.args.fields.now) c.loop-id.invariant.0 c.loop-id-test.true w.in-Skip.count
           (sym c.step_of.ensures ∙ w.in-Skip.is) in (
             rw (w.steps-is, w.skipped-is, w.unwrap_or.ensures) h.0,
             rw (w.skipped-is, w.unwrap_or.ensures) (omega (arith, h.1, c.loop-id.invariant.1)),
           )
       | in_default+in_ok-push_skip-in_default+in_ok-push-in_default w ↦
-          let h = goes_on c.args.fields.now c.loop-id.id-index _ c.loop-id.steps.items c.loop-id.skipped
+          let h = goes_on c.args.fields.now c.loop-id.id-index _ c.loop-id.steps c.loop-id.skipped
           (steps_of c.args.fields.now) c.loop-id.invariant.0 c.loop-id-test.true c.step_of.result
           (sym c.step_of.ensures) (is_other c.step_of.result w.in_default.not-Skip) in (
             rw (
               w.steps-is,
               w.skipped-is,
               w.take.ensures.after,
-              w.in_ok-push-in_default.ensures.items,
+              w.in_ok-push-in_default.ensures,
               w.in_ok-push_skip-in_default.ensures,
               w.take.ensures.value,
             ) h,
@@ -35,4 +35,4 @@ returns c = c.in_ok-push_skip.ensures
     ∙ is_done c.args.fields.now c.loop-id.id-index (
       record { enterprise = None; number = 0 },
       0,
-    ) c.loop-id.steps.items c.loop-id.skipped (steps_of c.args.fields.now) c.loop-id.invariant.0 c.loop-id-test.false
+    ) c.loop-id.steps c.loop-id.skipped (steps_of c.args.fields.now) c.loop-id.invariant.0 c.loop-id-test.false

@@ -14,13 +14,13 @@ returns-in_err-sets_of-clause-exact g c =
     let p = err_from_is_err_and c.from_residual-in_err-sets_of.result c.from_residual-in_err-sets_of.ensures.1 in
     rw (p.1, p.2) (sets_stop c.args.templates.now c.args.octets.now c.in_ok-header.header c.in_ok-header.rest.now
     c.in_ok-header.ensures.exact g.S.RecordSink.holds g.S.RecordSink.refuses c.args.sink.now c.sets_of.new.sink
-    c.in_ok-header.ensures.len c.in_err-sets_of.field-0.0 c.in_err-sets_of.ensures.exact)
+    c.in_ok-header.ensures.len c.in_err-sets_of.field-0.0 (rw c.requires at c.in_err-sets_of.ensures.exact))
 
 pub returns-in_err-keep_limits-clause-exact : goal.returns-in_err-keep_limits-clause-exact
 returns-in_err-keep_limits-clause-exact g c =
     let p = err_from_is_err_and c.from_residual-in_err-keep_limits.result c.from_residual-in_err-keep_limits.ensures.1
     in
-    let s = c.in_ok-sets_of.ensures.exact in
+    let s = rw c.requires at c.in_ok-sets_of.ensures.exact in
     rw (p.1, p.2) (limits_fail c.args.templates.now c.args.octets.now c.in_ok-header.header c.in_ok-header.rest.now
     c.in_ok-header.ensures.exact s.0
     (current c.in_ok-header.header.domain c.args.templates.now c.sets_of.new.changed) s.1
@@ -28,7 +28,7 @@ returns-in_err-keep_limits-clause-exact g c =
 
 pub returns-clause-exact : goal.returns-clause-exact
 returns-clause-exact g c =
-    let s = c.in_ok-sets_of.ensures.exact in (
+    let s = rw c.requires at c.in_ok-sets_of.ensures.exact in (
       s.0,
       message_is c.args.templates.now c.args.octets.now c.in_ok-header.header c.in_ok-header.rest.now
           c.in_ok-header.ensures.exact s.0

@@ -7,7 +7,7 @@ use Rattle.flow_codec.proofs.walk.message_of.Goals as goal
 pub put_in-requires-clause-in_force : goal.put_in-requires-clause-in_force
 put_in-requires-clause-in_force g c =
     let given = c.in_ok-header.ensures.exact in
-    let after = current c.in_ok-header.header.domain c.args.templates.now c.in_ok-header.changed in
+    let after = current c.in_ok-header.header.domain c.args.templates.now c.divided.new.changed in
     in_force c.args.templates.now c.args.octets.now (record {
       header = c.in_ok-header.header;
       records =

@@ -5,7 +5,7 @@ use Rattle.flow_codec.specs.declared.kind.TemplateKind.{TemplateKind}
 use Rattle.flow_codec.specs.declared.templates.DomainTemplates.{DomainTemplates}
 use Rattle.flow_codec.specs.declared.templates.TemplateRecord.{TemplateRecord}
 use Rattle.flow_codec.specs.Templates.{AllTemplates, applied, changed, definitions_of, is_empty, IsOnce}
-use Rattle.flow_codec.specs.Working.{current, changed_in, put_back}
+use Rattle.flow_codec.specs.Working.{changed_in, put_back}
 use Rattle.flow_codec.proofs.Alike.{again}
 use Rattle.flow_codec.proofs.PuttingBack.{applied_put_back, unchanged}
 use Rattle.flow_codec.proofs.working.apply_in.Goals as goal
@@ -28,28 +28,23 @@ returns-in-Some-clause-applied c =
     on_ok_weaker c.step.result (λ made. rw c.in-Some.is
     (step_put_back d before c.args.kind c.args.change (changed_in (definitions_of d before) now)
     (changed_in (definitions_of d before) c.step.new.self) now.left c.step.new.self.left
-    c.are_in_force.ensures.once (rw c.here-here.ensures at made) (rw c.here-here.ensures at c.step.ensures.left)))
+    c.are_in_force.ensures.once (rw c.requires.here at made) (rw c.requires.here at c.step.ensures.left)))
     c.step.ensures.changed
 
 pub returns-in-None-clause-applied : goal.returns-in-None-clause-applied
 returns-in-None-clause-applied c =
-    rw c.in-None.is (sym (again c.args.domain c.args.before.now c.args.kind c.args.change c.here-here.result.now
-    c.are_in_force.ensures c.here-here.ensures (c.if-has.ensures refl)))
+    rw c.in-None.is (sym (again c.args.domain c.args.before.now c.args.kind c.args.change c.args.here.now
+    c.are_in_force.ensures c.requires.here (c.if-has.ensures refl)))
 
-pub returns-in_ok-step-in-None-2-clause-applied : goal.returns-in_ok-step-in-None-2-clause-applied
-returns-in_ok-step-in-None-2-clause-applied c =
+pub returns-in_ok-first_change-in-None-2-clause-applied : goal.returns-in_ok-first_change-in-None-2-clause-applied
+returns-in_ok-first_change-in-None-2-clause-applied c =
     let d = c.args.domain in
     let before = c.args.before.now in
     let base = definitions_of d before in
-    let now = c.new-now.result in
-    let same : changed_in base now ≡ base = rw c.here-here.ensures at c.new-now.ensures.same in
-    let begun : put_back d now.left (changed_in base now) before ≡ before =
-    ap (λ (l : Bool). put_back d l (changed_in base now) before) c.new-now.ensures.left
-    ∙ ap (λ (g : DomainTemplates). put_back d false g before) same
-    ∙ unchanged d before c.are_in_force.ensures in
+    let now = c.in_ok-first_change-in-None-2.field-0 in
     rw c.in-None-2.is
-    (step_put_back d before c.args.kind c.args.change (changed_in base now)
-    (changed_in base c.step-in-None-2.new.self) now.left c.step-in-None-2.new.self.left c.are_in_force.ensures.once
-    (rw c.here-here.ensures at c.in_ok-step-in-None-2.ensures.changed)
-    (rw c.here-here.ensures at c.in_ok-step-in-None-2.ensures.left)
-    ∙ ap (applied d c.args.kind c.args.change) begun)
+    (step_put_back d before c.args.kind c.args.change base (changed_in base now) false now.left
+    c.are_in_force.ensures.once
+    (rw c.requires.here at c.in_ok-first_change-in-None-2.ensures.changed)
+    (rw c.requires.here at c.in_ok-first_change-in-None-2.ensures.left)
+    ∙ ap (applied d c.args.kind c.args.change) (unchanged d before c.are_in_force.ensures))

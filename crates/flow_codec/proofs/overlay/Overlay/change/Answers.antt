@@ -18,16 +18,16 @@ returns-clause-over c =
     c.size_in-before.ensures.exact ∙ ap size_in c.get.ensures in
     let after : c.size_in-after.result ≡ size_in c.args.change = c.size_in-after.ensures.exact
     ∙ ap size_in c.as_ref.ensures.value in
-    let log : c.push.new.self.items ≡ o.log.items ++ (c.args.id, c.args.change) ∷ [] = c.in_ok-push.ensures.items in
+    let log : c.push.new.self ≡ o.log ++ (c.args.id, c.args.change) ∷ [] = c.in_ok-push.ensures in
     over_change c.args.base.now o _ c.requires c.args.id c.args.change refl log
-    (rw c.as_slice.ensures.value at c.in_ok-note.ensures)
+    (rw c.as_slice.ensures at (c.in_ok-note.ensures c.args.change))
     (omega (arith, before, after, c.requires.size, size_found (overlaid c.args.base.now o) c.args.id))
     (omega (arith, after, c.size_in-after.ensures.bound))
 
 pub returns-clause-entries : goal.returns-clause-entries
 returns-clause-entries c =
     let o = c.args.self.now in
-    let log : c.push.new.self.items ≡ o.log.items ++ (c.args.id, c.args.change) ∷ [] = c.in_ok-push.ensures.items in
+    let log : c.push.new.self ≡ o.log ++ (c.args.id, c.args.change) ∷ [] = c.in_ok-push.ensures in
     over_entries c.args.base.now o (record {
       cleared = o.cleared;
       log = c.push.new.self;

@@ -1,8 +1,12 @@
-use Rattle.std.proofs.Common.{None, sym, arith}
+use Rattle.std.proofs.Common.{None, sym, ◌∙◌, arith}
 use Rattle.std.specs.Prelude.{nat_eq}
 use Rattle.std.specs.HashMap.{get}
-use Rattle.flow_codec.proofs.SlotLaws.{within, seen-value, seen-empty, missing}
+use Rattle.flow_codec.specs.Slots.{entries_of}
+use Rattle.flow_codec.proofs.SlotLaws.{within, seen-value, seen-empty, missing, none_found}
 use Rattle.flow_codec.proofs.slot_table.SlotTable.get.Goals as goal
+
+pub returns-then-is_empty : goal.returns-then-is_empty
+returns-then-is_empty c = none_found c.args.id (entries_of c.args.self.now) (sym c.if-is_empty.true ∙ c.is_empty.ensures)
 
 pub returns-in_err-place : goal.returns-in_err-place
 returns-in_err-place c =

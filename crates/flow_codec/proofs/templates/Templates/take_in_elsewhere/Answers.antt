@@ -12,8 +12,8 @@ make-requires-clause-size c =
     let all = c.args.self.now in
     let force : AreTemplatesInForce all = subst AreTemplatesInForce c.self.view_is c.self.invariant.0 in
     let is = c.taken_out-here.ensures.here ∙ ap (definitions_of d) (c.reserve.ensures.entries ∙ c.self.view_is) in
-    rw is (put-size d all force.once c.args.changed.left
-    (changed_in (definitions_of d all) c.args.changed) c.requires.in_force)
+    rw is (put-size d all force.once c.args.changed.now.left
+    (changed_in (definitions_of d all) c.args.changed.now) c.requires.in_force)
 
 pub returns-in-Ok-clause-ok : goal.returns-in-Ok-clause-ok
 returns-in-Ok-clause-ok c =
@@ -24,11 +24,11 @@ returns-in-Ok-clause-ok c =
     let is : c.taken_out-here.result ≡ definitions_of d all = c.taken_out-here.ensures.here
     ∙ ap (definitions_of d) same in
     changed_back d all force c.taken_out-here.new.domains.entries c.put_back.new.domains.entries
-    (rw same at c.taken_out-here.ensures.place) c.args.changed.left
-    (changed_in (definitions_of d all) c.args.changed)
+    (rw same at c.taken_out-here.ensures.place) c.args.changed.now.left
+    (changed_in (definitions_of d all) c.args.changed.now)
     (λ once. c.put_back.ensures once
-    ∙ ap (λ (g : DomainTemplates). put_back d c.args.changed.left g c.taken_out-here.new.domains.entries)
-    (c.in-Ok.ensures.ok ∙ ap (λ (g : DomainTemplates). changed_in g c.args.changed) is))
+    ∙ ap (λ (g : DomainTemplates). put_back d c.args.changed.now.left g c.taken_out-here.new.domains.entries)
+    (c.in-Ok.ensures.ok ∙ ap (λ (g : DomainTemplates). changed_in g c.args.changed.now) is))
 
 pub returns-in-Err-clause-err : goal.returns-in-Err-clause-err
 returns-in-Err-clause-err c =
@@ -50,11 +50,11 @@ invariant_of-self-in-Ok c =
     let is : c.taken_out-here.result ≡ definitions_of d all = c.taken_out-here.ensures.here
     ∙ ap (definitions_of d) same in
     let back = changed_back d all force c.taken_out-here.new.domains.entries c.put_back.new.domains.entries
-    (rw same at c.taken_out-here.ensures.place) c.args.changed.left
-    (changed_in (definitions_of d all) c.args.changed)
+    (rw same at c.taken_out-here.ensures.place) c.args.changed.now.left
+    (changed_in (definitions_of d all) c.args.changed.now)
     (λ once. c.put_back.ensures once
-    ∙ ap (λ (g : DomainTemplates). put_back d c.args.changed.left g c.taken_out-here.new.domains.entries)
-    (c.in-Ok.ensures.ok ∙ ap (λ (g : DomainTemplates). changed_in g c.args.changed) is)) in
+    ∙ ap (λ (g : DomainTemplates). put_back d c.args.changed.now.left g c.taken_out-here.new.domains.entries)
+    (c.in-Ok.ensures.ok ∙ ap (λ (g : DomainTemplates). changed_in g c.args.changed.now) is)) in
     (subst AreTemplatesInForce (sym back) c.requires.in_force, c.self.invariant.1)
 
 pub invariant_of-self-in-Err : goal.invariant_of-self-in-Err

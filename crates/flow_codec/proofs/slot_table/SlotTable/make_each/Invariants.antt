@@ -1,7 +1,7 @@
 use Rattle.std.proofs.Common.{◌≡◌, length}
 use Rattle.std.specs.Vec.Iter.{into_iter_items, into_iter_len}
 use Rattle.flow_codec.specs.Slots.{entries_of, made, IsTable, HasRoom}
-use Rattle.flow_codec.proofs.slot_table.SlotTable.make.Given as goal
+use Rattle.flow_codec.proofs.slot_table.SlotTable.make_each.Given as goal
 
 abbrev pub invariant-loop-id : goal.invariant-loop-id
 invariant-loop-id l =

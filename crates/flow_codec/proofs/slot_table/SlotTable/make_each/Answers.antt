@@ -1,7 +1,7 @@
 use Rattle.std.proofs.Common.{◌≡◌, ◌∷◌, suc, length, ap, subst, arith}
 use Rattle.std.specs.Vec.Iter.{into_iter_items}
 use Rattle.flow_codec.specs.Slots.{HasRoom}
-use Rattle.flow_codec.proofs.slot_table.SlotTable.make.Goals as goal
+use Rattle.flow_codec.proofs.slot_table.SlotTable.make_each.Goals as goal
 
 pub loop-id-preserved : goal.loop-id-preserved
 loop-id-preserved c =
