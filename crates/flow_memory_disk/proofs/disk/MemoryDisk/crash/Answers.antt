@@ -1,4 +1,5 @@
-use Rattle.std.proofs.Common.{arith, ℕ, ◌≡◌, List, ◌++◌, length, take, drop, sym, ◌∙◌, ap, subst}
+use Rattle.std.proofs.Common.{arith, ℕ, ◌≡◌, ◌≤◌, List, ◌++◌, length, take, drop, sym, ◌∙◌, ap, subst, refl}
+use Rattle.std.specs.List.{All}
 use Rattle.flow_disk.specs.Disk.{IsImage}
 use Rattle.flow_memory_disk.specs.declared.stored.StoredFile.{StoredFile}
 use Rattle.flow_memory_disk.specs.Calls.{Story, held_of}
@@ -10,9 +11,12 @@ use Rattle.flow_memory_disk.proofs.Stops.{stop_image}
 use Rattle.flow_memory_disk.proofs.StoppedFiles.{replays_after, story_after, fits_after, named_after, all_of}
 use Rattle.flow_memory_disk.specs.Stored.{looked, room_in, AreNamedAlike}
 use Rattle.flow_memory_disk.specs.Record.{calls_of}
-use Rattle.flow_memory_disk.specs.Stopping.{AllStopped}
+use Rattle.flow_memory_disk.specs.Stopping.{AllStopped, CanStop}
 use Rattle.flow_memory_disk.proofs.disk.MemoryDisk.crash.Goals as goal
 use Rattle.flow_memory_disk.proofs.disk.MemoryDisk.crash.Goals.{After-clear}
+
+at_least : {a b c : ℕ} → a ≤ b → b ≤ c → a ≤ c
+at_least first second = omega (arith, first, second)
 
 all_stopped : (c : After-clear) → AllStopped c.args.choice c.args.self.files.items c.stop_all.new.files
 all_stopped c = subst
@@ -80,3 +84,38 @@ returns-clause-image c n =
 pub returns-clause-thawed : goal.returns-clause-thawed
 returns-clause-thawed c n =
     ap (λ (s : Story). (s.marks n).frozen) (story_is (goal.at.returns-clause-thawed c).After-clear)
+
+pub invariant_of-result-clause-limit : goal.invariant_of-result-clause-limit
+invariant_of-result-clause-limit c = c.args.self.limit
+
+pub invariant_of-result-clause-spare_fit : goal.invariant_of-result-clause-spare_fit
+invariant_of-result-clause-spare_fit c = c.args.self.spare_fit
+
+pub returns-clause-faults : goal.returns-clause-faults
+returns-clause-faults c = refl
+
+pub returns-clause-spare : goal.returns-clause-spare
+returns-clause-spare c = refl
+
+pub returns-clause-room : goal.returns-clause-room
+returns-clause-room c = refl
+
+pub returns-clause-lent : goal.returns-clause-lent
+returns-clause-lent c = refl
+
+pub returns-clause-unused : goal.returns-clause-unused
+returns-clause-unused c = c.clear.ensures.none
+
+pub invariant_of-result-clause-calls_room : goal.invariant_of-result-clause-calls_room
+invariant_of-result-clause-calls_room c = at_least c.args.self.calls_room c.clear.ensures.deeds
+
+pub invariant_of-result-clause-written_room : goal.invariant_of-result-clause-written_room
+invariant_of-result-clause-written_room c = at_least c.args.self.written_room c.clear.ensures.octets
+
+pub stop_all-requires : goal.stop_all-requires
+stop_all-requires c =
+    subst (λ (l : List StoredFile). All (λ file. CanStop file c.args.choice) l) (sym c.deref_mut.ensures.value)
+    c.requires.each
+
+pub invariant_of-result-clause-files_room : goal.invariant_of-result-clause-files_room
+invariant_of-result-clause-files_room c = c.args.self.files_room
