@@ -11,3 +11,4 @@ pub mod StoppedFiles
 pub mod Turns
 pub mod Halves
 pub mod Lies
+pub mod Rooms

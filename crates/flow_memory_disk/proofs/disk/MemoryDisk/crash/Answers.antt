@@ -1,4 +1,4 @@
-use Rattle.std.proofs.Common.{arith, ℕ, ◌≡◌, ◌≤◌, List, ◌++◌, length, take, drop, sym, ◌∙◌, ap, subst, refl}
+use Rattle.std.proofs.Common.{arith, ℕ, ◌≡◌, List, ◌++◌, length, take, drop, sym, ◌∙◌, ap, subst, refl}
 use Rattle.std.specs.List.{All}
 use Rattle.flow_disk.specs.Disk.{IsImage}
 use Rattle.flow_memory_disk.specs.declared.stored.StoredFile.{StoredFile}
@@ -9,14 +9,12 @@ use Rattle.flow_memory_disk.specs.Stopped.{stopped}
 use Rattle.flow_memory_disk.proofs.Noted.{Replays}
 use Rattle.flow_memory_disk.proofs.Stops.{stop_image}
 use Rattle.flow_memory_disk.proofs.StoppedFiles.{replays_after, story_after, fits_after, named_after, all_of}
+use Rattle.flow_memory_disk.proofs.Rooms.{at_least}
 use Rattle.flow_memory_disk.specs.Stored.{looked, room_in, AreNamedAlike}
 use Rattle.flow_memory_disk.specs.Record.{calls_of}
 use Rattle.flow_memory_disk.specs.Stopping.{AllStopped, CanStop}
 use Rattle.flow_memory_disk.proofs.disk.MemoryDisk.crash.Goals as goal
 use Rattle.flow_memory_disk.proofs.disk.MemoryDisk.crash.Goals.{After-clear}
-
-at_least : {a b c : ℕ} → a ≤ b → b ≤ c → a ≤ c
-at_least first second = omega (arith, first, second)
 
 all_stopped : (c : After-clear) → AllStopped c.args.choice c.args.self.files.items c.stop_all.new.files
 all_stopped c = subst

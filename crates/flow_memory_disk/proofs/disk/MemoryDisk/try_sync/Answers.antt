@@ -2,6 +2,7 @@ use Rattle.std.proofs.Common.{arith, length-set, ap, sym, ◌∙◌, subst}
 use Rattle.flow_memory_disk.specs.Calls.{Call, Story, told, settled}
 use Rattle.flow_memory_disk.specs.Record.{calls_of}
 use Rattle.flow_memory_disk.proofs.Noted.{IsMadeBy, Replays, replays_on, fits_on, named_on, story_told}
+use Rattle.flow_memory_disk.proofs.Rooms.{at_least, as_large, failed, done}
 use Rattle.flow_memory_disk.proofs.disk.MemoryDisk.try_sync.Goals as goal
 use Rattle.flow_memory_disk.proofs.disk.MemoryDisk.try_sync.Goals.{After-push}
 
@@ -50,3 +51,42 @@ returns-clause-ok c =
     story_told _ _ _ _ call
     (is_made (goal.at.returns-clause-ok c).After-push) c.place_for-index.new.self.log c.push.new.self
     c.push.ensures.calls ∙ ap (λ (s : Story). told s call) c.place_for-index.ensures.story
+
+pub returns-then-lacks_room-clause-err : goal.returns-then-lacks_room-clause-err
+returns-then-lacks_room-clause-err c = c.fault.ensures.story
+
+pub returns-then-lacks_room-clause-refused : goal.returns-then-lacks_room-clause-refused
+returns-then-lacks_room-clause-refused c = c.fault.ensures.refused
+
+pub returns-then-lacks_room-clause-room : goal.returns-then-lacks_room-clause-room
+returns-then-lacks_room-clause-room c = c.fault.ensures.room
+
+pub returns-then-lacks_room-clause-lent : goal.returns-then-lacks_room-clause-lent
+returns-then-lacks_room-clause-lent c = c.fault.ensures.lent
+
+pub returns-then-lacks_room-clause-cause : goal.returns-then-lacks_room-clause-cause
+returns-then-lacks_room-clause-cause c = failed _ _ _ c.fault.ensures.is c.fault.ensures.later c.fault.ensures.risen
+
+pub invariant_of-self-clause-limit : goal.invariant_of-self-clause-limit
+invariant_of-self-clause-limit c = c.place_for-index.new.self.limit
+
+pub invariant_of-self-clause-files_room : goal.invariant_of-self-clause-files_room
+invariant_of-self-clause-files_room c = c.place_for-index.new.self.files_room
+
+pub invariant_of-self-clause-spare_fit : goal.invariant_of-self-clause-spare_fit
+invariant_of-self-clause-spare_fit c = c.place_for-index.new.self.spare_fit
+
+pub invariant_of-self-clause-calls_room : goal.invariant_of-self-clause-calls_room
+invariant_of-self-clause-calls_room c = as_large c.place_for-index.new.self.calls_room c.push.ensures.capacity
+
+pub invariant_of-self-clause-written_room : goal.invariant_of-self-clause-written_room
+invariant_of-self-clause-written_room c = at_least c.place_for-index.new.self.written_room c.push.ensures.octets
+
+pub returns-clause-room : goal.returns-clause-room
+returns-clause-room c = c.place_for-index.ensures.room
+
+pub returns-clause-lent : goal.returns-clause-lent
+returns-clause-lent c = c.place_for-index.ensures.lent
+
+pub returns-clause-cause : goal.returns-clause-cause
+returns-clause-cause c = done _ _ _ c.place_for-index.ensures.faults
