@@ -78,6 +78,7 @@ impl<T: Drop> ShortList<T> {
         ensures { OnOk result (self.new ≡ self.old ++ item ∷ []) }
     {
         match &mut self.kept {
+            Kept::Nothing => self.kept = Kept::One([item]),
             Kept::Many(items) => items.push(item)?,
             few => *few = with_item(alloc, replace(few, Kept::Nothing), item)?,
         }

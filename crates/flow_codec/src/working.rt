@@ -2,8 +2,8 @@
 //! templates and made in them as the last step, so that a refusal leaves them as they were and no message copies a
 //! domain.
 
-ghost use Rattle.std.specs.Prelude.{◌≡◌, ◌≤◌, ◌||◌, List, false, length, nat_lt, OnOk, OnErr, IfOk};
-ghost use Rattle.std.specs.Option.{option_copied};
+ghost use Rattle.std.specs.Prelude.{◌≡◌, ◌≤◌, ◌||◌, List, true, false, length, nat_lt, OnOk, OnErr, IfOk};
+ghost use Rattle.std.specs.Option.{is_some, option_copied};
 ghost use Rattle.flow_codec.specs.Reading.{Gives, templates_at, limited};
 ghost use Rattle.flow_codec.specs.Raw.{RawRecord};
 ghost use Rattle.flow_codec.specs.Templates.{AllTemplates, applied, changed, definition_of, definitions_of};
@@ -141,20 +141,43 @@ pub(crate) fn find_in<'a>(
     }
 }
 
-/// The changes that a message's first template record makes in a domain where `here` is in force.
-fn first_change(
+/// Begins with no change in a domain where `here` is in force, where nothing is changed yet.
+fn begin(before: &Templates, domain: u32, here: &DomainTemplates, changed: &mut Option<Changed>)
+    requires here { here.now ≡ definitions_of domain before.now }
+    requires changes { AreChanges domain before.now changed.old }
+    ensures changes { AreChanges domain before.now changed.new }
+    ensures same { current domain before.now changed.new ≡ current domain before.now changed.old }
+    ensures some { is_some changed.new ≡ true }
+{
+    before.are_in_force();
+    match changed {
+        Some(_) => {}
+        None => *changed = Some(Changed::new(here)),
+    }
+}
+
+/// Applies a template record behind the changes that are there.
+fn step_in(
     alloc: Global,
+    before: &Templates,
+    domain: u32,
     here: &DomainTemplates,
+    changed: &mut Option<Changed>,
     kind: TemplateKind,
     change: TemplateRecord,
-) -> Result<Changed, AllocError>
-    ensures over { IfOk result (λ now. AreOver here.now now) }
-    ensures changed { IfOk result (λ now. changed_in here.now now ≡ changed kind change here.now) }
-    ensures left { IfOk result (λ now. now.left ≡ is_empty here.now) }
+) -> Result<(), AllocError>
+    requires here { here.now ≡ definitions_of domain before.now }
+    requires some { is_some changed.old ≡ true }
+    requires changes { AreChanges domain before.now changed.old }
+    ensures changes { OnOk result (AreChanges domain before.now changed.new) }
+    ensures applied { OnOk result
+        (current domain before.now changed.new ≡ applied domain kind change (current domain before.now changed.old)) }
 {
-    let mut now = Changed::new(here);
-    now.step(alloc, here, kind, change)?;
-    Ok(now)
+    before.are_in_force();
+    match changed {
+        Some(now) => now.step(alloc, here, kind, change),
+        None => Ok(()),
+    }
 }
 
 /// Applies a template record in a domain where `here` is in force. The first ones that define what is in force change
@@ -174,15 +197,12 @@ fn apply_in(
     ensures applied { OnOk result
         (current domain before.now changed.new ≡ applied domain kind change (current domain before.now changed.old)) }
 {
-    before.are_in_force();
-    match changed {
-        Some(now) => now.step(alloc, here, kind, change),
-        None if here.has(kind, &change) => Ok(()),
-        None => {
-            *changed = Some(first_change(alloc, here, kind, change)?);
-            Ok(())
-        }
+    if changed.is_none() && here.has(kind, &change) {
+        before.are_in_force();
+        return Ok(());
     }
+    begin(before, domain, here, changed);
+    step_in(alloc, before, domain, here, changed, kind, change)
 }
 
 /// Applies the template records of a Set that ends at `end`. After an `Err`, `changed` is to be thrown away.

@@ -1,50 +1,20 @@
-use Rattle.std.proofs.Common.{◌≡◌, ℕ, Bool, false, refl, sym, ap, ◌∙◌}
-use Rattle.std.specs.Prelude.{◌||◌}
-use Rattle.std.proofs.lemmas.Result.{on_ok_weaker}
-use Rattle.flow_codec.specs.declared.kind.TemplateKind.{TemplateKind}
-use Rattle.flow_codec.specs.declared.templates.DomainTemplates.{DomainTemplates}
-use Rattle.flow_codec.specs.declared.templates.TemplateRecord.{TemplateRecord}
-use Rattle.flow_codec.specs.Templates.{AllTemplates, applied, changed, definitions_of, is_empty, IsOnce}
-use Rattle.flow_codec.specs.Working.{changed_in, put_back}
+use Rattle.std.proofs.Common.{◌≡◌, ℕ, false, Option, Some, None, refl, sym}
+use Rattle.std.specs.Option.{is_some}
+use Rattle.flow_codec.specs.declared.working.Changed.{Changed}
+use Rattle.flow_codec.specs.Templates.{AllTemplates}
+use Rattle.flow_codec.specs.Working.{current}
 use Rattle.flow_codec.proofs.Alike.{again}
-use Rattle.flow_codec.proofs.PuttingBack.{applied_put_back, unchanged}
 use Rattle.flow_codec.proofs.working.apply_in.Goals as goal
 
--- a step of the domain's definitions on their own is one in their place among all
-step_put_back : (d : ℕ) (all : AllTemplates) (kind : TemplateKind) (change : TemplateRecord)
-    (here new : DomainTemplates) (left after : Bool) → IsOnce all → new ≡ changed kind change here
-    → after ≡ (left || is_empty here)
-    → put_back d after new all ≡ applied d kind change (put_back d left here all)
-step_put_back d all kind change here new left after once made is =
-    ap (λ (l : Bool). put_back d l new all) is
-    ∙ ap (λ (g : DomainTemplates). put_back d (left || is_empty here) g all) made
-    ∙ sym (applied_put_back d all once kind change left here)
+-- nothing is changed yet
+as_before : (d : ℕ) (all : AllTemplates) (o : Option Changed) → is_some o ≡ false → current d all o ≡ all
+as_before d all None e = refl
+as_before d all (Some now) e = absurd (cc e)
 
-pub returns-in-Some-clause-applied : goal.returns-in-Some-clause-applied
-returns-in-Some-clause-applied c =
+pub returns-then-has-clause-applied : goal.returns-then-has-clause-applied
+returns-then-has-clause-applied c =
     let d = c.args.domain in
     let before = c.args.before.now in
-    let now = c.in-Some.now in
-    on_ok_weaker c.step.result (λ made. rw c.in-Some.is
-    (step_put_back d before c.args.kind c.args.change (changed_in (definitions_of d before) now)
-    (changed_in (definitions_of d before) c.step.new.self) now.left c.step.new.self.left
-    c.are_in_force.ensures.once (rw c.requires.here at made) (rw c.requires.here at c.step.ensures.left)))
-    c.step.ensures.changed
-
-pub returns-in-None-clause-applied : goal.returns-in-None-clause-applied
-returns-in-None-clause-applied c =
-    rw c.in-None.is (sym (again c.args.domain c.args.before.now c.args.kind c.args.change c.args.here.now
-    c.are_in_force.ensures c.requires.here (c.if-has.ensures refl)))
-
-pub returns-in_ok-first_change-in-None-2-clause-applied : goal.returns-in_ok-first_change-in-None-2-clause-applied
-returns-in_ok-first_change-in-None-2-clause-applied c =
-    let d = c.args.domain in
-    let before = c.args.before.now in
-    let base = definitions_of d before in
-    let now = c.in_ok-first_change-in-None-2.field-0 in
-    rw c.in-None-2.is
-    (step_put_back d before c.args.kind c.args.change base (changed_in base now) false now.left
-    c.are_in_force.ensures.once
-    (rw c.requires.here at c.in_ok-first_change-in-None-2.ensures.changed)
-    (rw c.requires.here at c.in_ok-first_change-in-None-2.ensures.left)
-    ∙ ap (applied d c.args.kind c.args.change) (unchanged d before c.are_in_force.ensures))
+    rw (as_before d before c.args.changed.now c.if-is_none.ensures)
+    (sym (again d before c.args.kind c.args.change c.args.here.now c.are_in_force.ensures c.requires.here
+    (c.if-has.ensures refl)))
