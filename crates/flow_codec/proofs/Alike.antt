@@ -1,5 +1,5 @@
 -- A definition that is in force, defined once more, changes nothing.
-use Rattle.std.proofs.Common.{◌≡◌, ℕ, Bool, true, false, List, Option, Some, None, refl, sym, ap, ◌∙◌}
+use Rattle.std.proofs.Common.{◌≡◌, ℕ, Bool, true, false, List, Option, Some, None, refl, ap, ◌∙◌}
 use Rattle.std.specs.Prelude.{◌&&◌, nat_eq, ◌↔◌, IsTrue}
 use Rattle.std.specs.Bool.{Decides}
 use Rattle.std.specs.Option.{option_eq}
@@ -7,15 +7,7 @@ use Rattle.std.specs.Cmp.Lexicographic.{pointwise}
 use Rattle.std.proofs.lemmas.Bool.Decides.{Decides-eqb}
 use Rattle.std.proofs.lemmas.Slice.Eq.{slice_eq-Decides}
 use Rattle.flow_elements.specs.declared.element.ElementId.{ElementId}
-use Rattle.flow_codec.specs.declared.kind.TemplateKind.{TemplateKind}
-use Rattle.flow_codec.specs.declared.kind.TemplateKind.TheVariants.{Plain, Options}
-use Rattle.flow_codec.specs.declared.templates.DomainTemplates.{DomainTemplates}
-use Rattle.flow_codec.specs.declared.templates.TemplateRecord.{TemplateRecord}
-use Rattle.flow_codec.specs.declared.templates.TemplateRecord.TheVariants.{Define}
 use Rattle.flow_codec.specs.Layout.{Layout}
-use Rattle.flow_codec.specs.Templates.{AllTemplates, definitions_of, changed, with_domain, applied, AreTemplatesInForce}
-use Rattle.flow_codec.proofs.Entries.{found, insert-present, remove-absent}
-use Rattle.flow_codec.proofs.PuttingBack.{unchanged}
 
 -- ---- equal definitions
 
@@ -64,22 +56,3 @@ same_layout one other r options scope is =
           (d.0 e)),
       λ e. d.1 (ap (λ (x : Layout). x.fields) e),
     )
-
--- ---- a definition that is in force
-
-pub again_plain : (id : ℕ) (layout : Layout) (here : DomainTemplates) → found id here.templates ≡ Some layout
-    → found id here.options ≡ None → changed Plain (Define id layout) here ≡ here
-again_plain id layout here own other =
-    rw (insert-present id here.templates layout own, remove-absent id here.options other) refl
-
-pub again_options : (id : ℕ) (layout : Layout) (here : DomainTemplates) → found id here.options ≡ Some layout
-    → found id here.templates ≡ None → changed Options (Define id layout) here ≡ here
-again_options id layout here own other =
-    rw (insert-present id here.options layout own, remove-absent id here.templates other) refl
-
-pub again : (domain : ℕ) (all : AllTemplates) (kind : TemplateKind) (change : TemplateRecord) (here : DomainTemplates)
-    → AreTemplatesInForce all → here ≡ definitions_of domain all → changed kind change here ≡ here
-    → applied domain kind change all ≡ all
-again domain all kind change here h there same =
-    ap (λ (g : DomainTemplates). with_domain domain (changed kind change g) all) (sym there)
-    ∙ ap (λ (g : DomainTemplates). with_domain domain g all) (same ∙ there) ∙ unchanged domain all h

@@ -19,7 +19,7 @@ use Rattle.flow_codec.specs.Entries.{IsOnce, entries_size, size_in}
 use Rattle.flow_codec.specs.Slots.{change_by, made, started}
 use Rattle.flow_codec.specs.Working.{last_change, last_place, overlaid, IsOver, KnowsLast}
 use Rattle.flow_codec.proofs.Steps.{by_bool}
-use Rattle.flow_codec.proofs.Entries.{found, without, with_entry, lookup-insert, lookup-remove, remove-absent}
+use Rattle.flow_codec.proofs.Entries.{found, without, with_entry, lookup-insert, lookup-remove, remove-absent, insert-present}
 use Rattle.flow_codec.proofs.Entries.{found-insert-other, found-remove-other, once_insert, once_remove}
 
 -- ---- one change more
@@ -133,10 +133,15 @@ last_some id changes place d some =
       cc (slice_get-get_or changes place d within, h.1, h.2),
     )
 
--- where nothing is there, nothing is taken out
+-- what is there already is not changed
+pub nothing_changed : (entries : List (ℕ × Layout)) (id : ℕ) (change : Option Layout) → found id entries ≡ change
+    → entries ≡ change_by entries id change
+nothing_changed entries id None none = sym (remove-absent id entries none)
+nothing_changed entries id (Some layout) there = sym (insert-present id entries layout there)
+
 pub nothing_taken : (entries : List (ℕ × Layout)) (id : ℕ) → found id entries ≡ None
     → entries ≡ change_by entries id None
-nothing_taken entries id none = sym (remove-absent id entries none)
+nothing_taken entries id none = nothing_changed entries id None none
 
 -- ---- sizes
 

@@ -70,16 +70,6 @@ impl Definitions {
         self.table.get(id)
     }
 
-    /// Whether this definition is there under this ID.
-    pub(crate) fn has(&self, id: u16, definition: &Definition) -> bool
-        ensures { IsTrue result → lookup (nat_eq id) self.now ≡ Some definition.now }
-    {
-        match self.get(id) {
-            Some(here) => here.is_same(definition),
-            None => false,
-        }
-    }
-
     /// Puts the template records that give these definitions behind octets, in order.
     pub(crate) fn put_records(
         &self,

@@ -1,6 +1,6 @@
 //! What a message changes in one list of definitions, beside the list, which stays as it was.
 
-ghost use Rattle.std.specs.Prelude.{◌≡◌, ℕ, List, Option, None, ◌<◌, ◌^◌, [], ◌∷◌, ◌++◌, nat_eq, ◌==◌, length, OnOk, IfOk};
+ghost use Rattle.std.specs.Prelude.{◌≡◌, IsTrue, ℕ, List, Option, None, ◌<◌, ◌^◌, [], ◌∷◌, ◌++◌, nat_eq, ◌==◌, length, OnOk, IfOk};
 ghost use Rattle.std.specs.HashMap.{get};
 ghost use Rattle.std.specs.Map.{lookup};
 ghost use Rattle.std.specs.Option.{option_copied};
@@ -39,6 +39,17 @@ fn size_in(definition: Option<&Definition>) -> usize
     match definition {
         Some(definition) => definition.size(),
         None => 0,
+    }
+}
+
+/// Whether what is there under an ID is what a change is to leave there.
+fn is_so(here: Option<&Definition>, change: Option<&Definition>) -> bool
+    ensures { IsTrue result → option_copied here.entry ≡ option_copied change.entry }
+{
+    match (here, change) {
+        (Some(here), Some(change)) => here.is_same(change),
+        (None, None) => true,
+        _ => false,
     }
 }
 
@@ -143,7 +154,8 @@ impl Overlay {
         self.size == 0
     }
 
-    /// Puts a definition under an ID, or takes out what is there. After an `Err` the changes are of no use.
+    /// Puts a definition under an ID, or takes out what is there. No change is noted where that is so already. After an
+    /// `Err` the changes are of no use.
     pub(crate) fn change(
         &mut self,
         alloc: Global,
@@ -155,7 +167,11 @@ impl Overlay {
         ensures over { OnOk result (IsOver base.now self.new) }
         ensures entries { OnOk result (overlaid base.now self.new ≡ change_by (overlaid base.now self.old) id change) }
     {
-        let before = size_in(self.get(base, id));
+        let here = self.get(base, id);
+        if is_so(here, change.as_ref()) {
+            return Ok(());
+        }
+        let before = size_in(here);
         let after = size_in(change.as_ref());
         note(&mut self.own, alloc, self.log.as_slice(), id)?;
         self.log.push(alloc, (id, change))?;

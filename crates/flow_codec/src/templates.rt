@@ -220,22 +220,6 @@ impl DomainTemplates {
         })
     }
 
-    /// Whether a template record defines what is in force, and so changes nothing. It may miss one.
-    #[tactic(auto, using(crate::proofs::Alike::again_plain, crate::proofs::Alike::again_options))]
-    pub(crate) fn has(&self, kind: TemplateKind, change: &TemplateRecord) -> bool
-        ensures { IsTrue result → changed kind change.now self.now ≡ self.now }
-    {
-        match (kind, change) {
-            (TemplateKind::Plain, TemplateRecord::Define(id, definition)) => {
-                self.templates.has(*id, definition) && self.options.get(*id).is_none()
-            }
-            (TemplateKind::Options, TemplateRecord::Define(id, definition)) => {
-                self.options.has(*id, definition) && self.templates.get(*id).is_none()
-            }
-            _ => false,
-        }
-    }
-
     /// Makes what a message changed, and takes it out of `changed`. An `Err` changes nothing in the definitions.
     fn make(&mut self, changed: &mut Changed) -> Result<(), AllocError>
         requires over { AreOver self.old changed.old }

@@ -180,8 +180,7 @@ fn step_in(
     }
 }
 
-/// Applies a template record in a domain where `here` is in force. The first ones that define what is in force change
-/// nothing, and leave `changed` as it was. After an `Err`, `changed` is to be thrown away.
+/// Applies a template record in a domain where `here` is in force. After an `Err`, `changed` is to be thrown away.
 fn apply_in(
     alloc: Global,
     before: &Templates,
@@ -197,10 +196,6 @@ fn apply_in(
     ensures applied { OnOk result
         (current domain before.now changed.new ≡ applied domain kind change (current domain before.now changed.old)) }
 {
-    if changed.is_none() && here.has(kind, &change) {
-        before.are_in_force();
-        return Ok(());
-    }
     begin(before, domain, here, changed);
     step_in(alloc, before, domain, here, changed, kind, change)
 }
