@@ -43,4 +43,5 @@ def main(kind, count):
             out.write(message(n % domains, templates(n // domains % 7500, 1, 2 + n // domains // 7500 % 2)))
 
 
-main(sys.argv[1], int(sys.argv[2]))
+if __name__ == "__main__":
+    main(sys.argv[1], int(sys.argv[2]))
