@@ -1,6 +1,7 @@
 /* feed_floor LIMIT FOLDER FILE: what an archive in a folder writes and syncs for a File, and no more: batches of 64
  * messages, each message by a write of its own, a sync, the batch's last octet, a sync; and where a segment has LIMIT
- * octets, its cut, the next file with its name, and a slot of 48 octets a segment, each synced. No message is judged. */
+ * octets, its cut, the next file with its name, and a slot of 48 octets a segment, each synced. No message is
+ * judged. */
 #include <fcntl.h>
 #include <stdio.h>
 #include <stdlib.h>

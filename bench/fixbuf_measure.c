@@ -1,5 +1,6 @@
-/* fixbuf_measure WIDTH FILE: the totals lines of `flowvault measure WIDTH < FILE`, by libfixbuf, for Files whose flows all have
- * elements 152, 4, 1 and 2. Build: cc -O2 fixbuf_measure.c -o fixbuf_measure $(pkg-config --cflags --libs libfixbuf) */
+/* fixbuf_measure WIDTH FILE: the totals lines of `flowvault measure WIDTH < FILE`, by libfixbuf, for Files whose flows
+ * all have elements 152, 4, 1 and 2. Build:
+ * cc -O2 fixbuf_measure.c -o fixbuf_measure $(pkg-config --cflags --libs libfixbuf) */
 #include <fixbuf/public.h>
 #include <inttypes.h>
 #include <stdio.h>
@@ -79,7 +80,7 @@ int main(int argc, char **argv) {
     }
     qsort(rows, room, sizeof(Row), compare);
     for (size_t i = 0; i < count; i++)
-        printf("%" PRIu64 " %" PRIu32 " %" PRId32 " %" PRIu64 " %" PRIu64 " %" PRIu64 "\n", rows[i].start, rows[i].domain,
-               rows[i].protocol, rows[i].flows, rows[i].octets, rows[i].packets);
+        printf("%" PRIu64 " %" PRIu32 " %" PRId32 " %" PRIu64 " %" PRIu64 " %" PRIu64 "\n", rows[i].start,
+               rows[i].domain, rows[i].protocol, rows[i].flows, rows[i].octets, rows[i].packets);
     return 0;
 }

@@ -1,13 +1,14 @@
 #!/usr/bin/env python3
 """generate.py OCTETS > FILE: an IPFIX File of at least so many octets, the same for the same number.
 
-Four Observation Domains send messages of some 1,400 octets, as over UDP: three Templates (IPv4 with 12 fields, IPv6 with 14,
-IPv4 with 16), sent again every 500 messages of a domain, and some 20 data records a message."""
+Four Observation Domains send messages of some 1,400 octets, as over UDP: three Templates (IPv4 with 12 fields, IPv6
+with 14, IPv4 with 16), sent again every 500 messages of a domain, and some 20 data records a message."""
 import struct
 import sys
 
 PLAIN4 = [(8, 4), (12, 4), (7, 2), (11, 2), (4, 1), (1, 8), (2, 8), (152, 8), (153, 8), (10, 4), (14, 4), (136, 1)]
-PLAIN6 = [(27, 16), (28, 16), (7, 2), (11, 2), (4, 1), (1, 8), (2, 8), (152, 8), (153, 8), (10, 4), (14, 4), (136, 1), (60, 1), (5, 1)]
+PLAIN6 = [(27, 16), (28, 16), (7, 2), (11, 2), (4, 1), (1, 8), (2, 8), (152, 8), (153, 8), (10, 4), (14, 4), (136, 1),
+          (60, 1), (5, 1)]
 WIDE4 = PLAIN4 + [(16, 4), (17, 4), (60, 1), (5, 1)]
 TEMPLATES = {256: PLAIN4, 257: PLAIN6, 258: WIDE4}
 ROOM = 1400
@@ -36,13 +37,14 @@ def flow(number, numbers, time):
     start = time * 1000 - a % 60000
     protocol = (6, 6, 6, 17, 17, 1)[b % 6]
     packets = 1 + c % 40
-    common = struct.pack(">HHBQQQQIIB", a % 65536, (443, 53, 80, 8080)[c % 4], protocol, packets * (40 + b % 1400), packets, start,
-                         start + c % 30000, a % 48, b % 48, 1 + c % 5)
+    common = struct.pack(">HHBQQQQIIB", a % 65536, (443, 53, 80, 8080)[c % 4], protocol, packets * (40 + b % 1400),
+                         packets, start, start + c % 30000, a % 48, b % 48, 1 + c % 5)
     if number == 257:
         address = struct.pack(">QQQQ", 0x20010DB8 << 32 | a, b, 0x20010DB8 << 32 | c, a ^ b)
         return address + common + struct.pack(">BB", 6, a % 4)
     address = struct.pack(">II", (10 << 24 | a & 0xFFFFFF), (192 << 24 | 168 << 16 | b & 0xFFFF))
-    return address + common + (struct.pack(">IIBB", 64500 + a % 500, 64500 + b % 500, 4, c % 4) if number == 258 else b"")
+    wide = struct.pack(">IIBB", 64500 + a % 500, 64500 + b % 500, 4, c % 4) if number == 258 else b""
+    return address + common + wide
 
 
 def main():

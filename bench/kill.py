@@ -1,7 +1,7 @@
 """kill.py FLOWVAULT [KILLS]: feeds an archive in a folder, kills the program at a random moment, and opens the archive
-again, until it was killed so many times (100). Each time it is compared with what was given to it: at least the messages
-of the Files that were told are there; they are the first ones, in their order, each once; and its totals are those of
-`measure` of exactly these messages. The archive is rolled as it is fed."""
+again, until it was killed so many times (100). Each time it is compared with what was given to it: at least the
+messages of the Files that were told are there; they are the first ones, in their order, each once; and its totals are
+those of `measure` of exactly these messages. The archive is rolled as it is fed."""
 import os
 import random
 import struct
@@ -67,4 +67,5 @@ with tempfile.TemporaryDirectory(dir=os.environ.get("TMPDIR", ".")) as place:
         history += given[:taken]
         if asked("totals", folder, "0", "4294967296") != asked("measure", "300", octets=b"".join(history)):
             sys.exit("round %d: the totals aren't those of the first %d messages" % (rounds, position))
-    print("%d rounds, %d of them killed; %d messages, %s" % (rounds, killed, len(history), asked("check", folder).strip()))
+    told = asked("check", folder).strip()
+    print("%d rounds, %d of them killed; %d messages, %s" % (rounds, killed, len(history), told))

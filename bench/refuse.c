@@ -1,6 +1,6 @@
 /* Refuses one request for memory: the one whose number, from 1 on, stands in REFUSE. Built with
- * `cc -shared -fPIC -o refuse.so refuse.c -ldl`, loaded by LD_PRELOAD. Where it comes to that request, it makes the file
- * REFUSED. */
+ * `cc -shared -fPIC -o refuse.so refuse.c -ldl`, loaded by LD_PRELOAD. Where it comes to that request, it makes the
+ * file REFUSED. */
 #define _GNU_SOURCE
 #include <dlfcn.h>
 #include <errno.h>

@@ -43,7 +43,8 @@ def fresh(place, before):
 
 
 def each_refused(place, before, words, history):
-    """How many requests a command makes, each of which was refused in a run of its own, and how many ended in a fault."""
+    """How many requests a command makes, each of which was refused in a run of its own, and how many ended in a
+    fault."""
     wanted, count, faults = None, 0, 0
     while True:
         folder = fresh(place, before)

@@ -12,7 +12,8 @@ REFUSAL = b"11 OutOfMemory\n"
 def ran(program, library, number, mark):
     """One run, whose request of this number is refused: how it ended, and whether it came to that request."""
     more = {"LD_PRELOAD": library, "REFUSE": str(number), "REFUSED": mark}
-    it = subprocess.run([program], stdin=subprocess.DEVNULL, capture_output=True, timeout=60, env={**os.environ, **more})
+    environment = {**os.environ, **more}
+    it = subprocess.run([program], stdin=subprocess.DEVNULL, capture_output=True, timeout=60, env=environment)
     if not os.path.exists(mark):
         return it, False
     os.remove(mark)

@@ -1,7 +1,7 @@
 #!/usr/bin/env python3
-"""steps_of_changes.py PROGRAM: whether `PROGRAM measure 300` takes as many steps (instructions, counted by valgrind) for
-a message that changes a template whatever templates are in force, and as many for each of N messages that announce one
-template each, whatever N. It tells what it counted, and answers 1 where they grow."""
+"""steps_of_changes.py PROGRAM: whether `PROGRAM measure 300` takes as many steps (instructions, counted by valgrind)
+for a message that changes a template whatever templates are in force, and as many for each of N messages that
+announce one template each, whatever N. It tells what it counted, and answers 1 where they grow."""
 import io
 import re
 import subprocess

@@ -14,7 +14,8 @@ use Rattle.flow_segment.specs.Carry.{Carry, carry_from, octets_of, prefix_of}
 use Rattle.flow_recover.specs.State.{Job, Part, StagedFile, State, appended, moved_on}
 use Rattle.flow_recover.specs.Chain.{IsSegment}
 use Rattle.flow_archive.specs.declared.event.Answer.{Answer}
-use Rattle.flow_archive.specs.declared.event.Answer.TheVariants.{Position, Sealed, Began, Left, Written, Dropped, Retired}
+use Rattle.flow_archive.specs.declared.event.Answer.TheVariants.{Position, Sealed, Began, Left, Written, Dropped}
+use Rattle.flow_archive.specs.declared.event.Answer.TheVariants.{Retired}
 use Rattle.flow_archive.specs.declared.event.Event.{Event}
 use Rattle.flow_archive.specs.declared.event.Event.TheVariants.{Append, AppendBatch, Seal, RollBegin, MergeBegin}
 use Rattle.flow_archive.specs.declared.event.Event.TheVariants.{RollStep, RollWrite, RollInstall, RollDrop, Retire}
@@ -23,7 +24,8 @@ use Rattle.flow_archive.specs.declared.refusal.ArchiveError.TheVariants.{Message
 use Rattle.flow_archive.specs.declared.refusal.ArchiveError.TheVariants.{Fault, NoRoom, ManifestFull, NothingToSeal}
 use Rattle.flow_archive.specs.declared.refusal.ArchiveError.TheVariants.{Closed}
 use Rattle.flow_archive.specs.declared.refusal.ArchiveError.TheVariants.{Damaged, SourceFault, RollBusy, NoRoll}
-use Rattle.flow_archive.specs.declared.refusal.ArchiveError.TheVariants.{RollCount, RollNotDone, Pinned, NothingToRetire}
+use Rattle.flow_archive.specs.declared.refusal.ArchiveError.TheVariants.{RollCount, RollNotDone, Pinned}
+use Rattle.flow_archive.specs.declared.refusal.ArchiveError.TheVariants.{NothingToRetire}
 use Rattle.flow_archive.specs.JobAnswers.{begun, dropped, AnswersBegin, AnswersDrop, AnswersInstall, AnswersRetire}
 use Rattle.flow_archive.specs.JobAnswers.{AnswersStep, AnswersWrite, IsInstalled, IsRetired, IsStepped, IsWritten}
 

@@ -16,7 +16,8 @@ use Rattle.flow_archive.specs.declared.refusal.ArchiveError.TheVariants.{Message
 use Rattle.flow_archive.specs.declared.refusal.ArchiveError.TheVariants.{Fault, NoRoom, ManifestFull, NothingToSeal}
 use Rattle.flow_archive.specs.declared.refusal.ArchiveError.TheVariants.{Closed}
 use Rattle.flow_archive.specs.declared.refusal.ArchiveError.TheVariants.{Damaged, SourceFault, RollBusy, NoRoll}
-use Rattle.flow_archive.specs.declared.refusal.ArchiveError.TheVariants.{RollCount, RollNotDone, Pinned, NothingToRetire}
+use Rattle.flow_archive.specs.declared.refusal.ArchiveError.TheVariants.{RollCount, RollNotDone, Pinned}
+use Rattle.flow_archive.specs.declared.refusal.ArchiveError.TheVariants.{NothingToRetire}
 use Rattle.flow_archive.specs.Sources.{IsJobTime}
 
 -- ---- a job begins
@@ -146,13 +147,14 @@ IsStagedIn honest s job None after =
 abbrev pub IsWritten : Bool → State → State → Type 0
 IsWritten honest s after = HasJob s (λ job. (left_of job ≡ 0) × IsStagedIn honest s job job.staged after)
 
--- The file is made, or was made before, which changes nothing; or the first of the refusals 49, 44, 46, 25 that holds. In
--- place of any but 49 it may be 11 where no file was made before, in place of an Ok 30.
+-- The file is made, or was made before, which changes nothing; or the first of the refusals 49, 44, 46, 25 that holds.
+-- In place of any but 49 it may be 11 where no file was made before, in place of an Ok 30.
 abbrev pub AnswersWrite : {X : Type 0} → Bool → Bool → State → Result X ArchiveError → State → Type 0
 AnswersWrite honest closed s (Ok x) after = (closed ≡ false) × IsWritten honest s after
 AnswersWrite honest closed s (Err Closed) after = (closed ≡ true) × (after ≡ s)
 AnswersWrite honest closed s (Err NoRoll) after = (closed ≡ false) × (s.job ≡ None) × (after ≡ s)
-AnswersWrite honest closed s (Err RollNotDone) after = (closed ≡ false) × HasJob s (λ job. 1 ≤ left_of job) × (after ≡ s)
+AnswersWrite honest closed s (Err RollNotDone) after =
+    (closed ≡ false) × HasJob s (λ job. 1 ≤ left_of job) × (after ≡ s)
 AnswersWrite honest closed s (Err NumbersSpent) after =
     (closed ≡ false) × HasJob s (λ job. (left_of job ≡ 0) × (job.staged ≡ None)) × (HasStagedNumbers s → ⊥)
     × (after ≡ s)
@@ -193,8 +195,10 @@ AnswersInstall honest closed s (Ok answer) after =
     (closed ≡ false) × IsInstalled honest s after × HasJob s (λ job. answer ≡ cut_moved job.kind after)
 AnswersInstall honest closed s (Err Closed) after = (closed ≡ true) × (after ≡ s)
 AnswersInstall honest closed s (Err NoRoll) after = (closed ≡ false) × (s.job ≡ None) × (after ≡ s)
-AnswersInstall honest closed s (Err RollNotDone) after = (closed ≡ false) × HasJob s (λ job. job.staged ≡ None) × (after ≡ s)
-AnswersInstall honest closed s (Err OutOfMemory) after = (closed ≡ false) × HasJob s (λ job. job.staged ≢ None) × (after ≡ s)
+AnswersInstall honest closed s (Err RollNotDone) after =
+    (closed ≡ false) × HasJob s (λ job. job.staged ≡ None) × (after ≡ s)
+AnswersInstall honest closed s (Err OutOfMemory) after =
+    (closed ≡ false) × HasJob s (λ job. job.staged ≢ None) × (after ≡ s)
 AnswersInstall honest closed s (Err Fault) after = (closed ≡ false) × HasJob s (λ job. job.staged ≢ None) × (after ≡ s)
 AnswersInstall honest closed s (Err (Message fault)) after = ⊥
 AnswersInstall honest closed s (Err NumbersSpent) after = ⊥
@@ -219,8 +223,8 @@ abbrev pub IsStagedGone : (ℕ → Marks) → State → Type 0
 IsStagedGone marks s = (job : Job) (staged : StagedFile) → s.job ≡ Some job → job.staged ≡ Some staged
     → (marks staged.file).listed ≡ false
 
--- No job, and a file that it made is removed; or the first of the refusals 49, 44 that holds. It takes no memory. In place
--- of an Ok it may be 30, with the job gone too.
+-- No job, and a file that it made is removed; or the first of the refusals 49, 44 that holds. It takes no memory. In
+-- place of an Ok it may be 30, with the job gone too.
 abbrev pub AnswersDrop : {X : Type 0} → Bool → State → Result X ArchiveError → State → Type 0
 AnswersDrop closed s (Ok x) after = (closed ≡ false) × (s.job ≢ None) × (after ≡ dropped s)
 AnswersDrop closed s (Err Closed) after = (closed ≡ true) × (after ≡ s)
@@ -248,8 +252,8 @@ abbrev pub IsRetired : State → ℕ → State → Type 0
 IsRetired s file after = (others : List ℕ) × (s.waiting ≡ file ∷ others) × (after ≡ record s { waiting = others })
 
 -- The number of the oldest file that waited for its removal, and is removed; or the first of the refusals 49, 48 that
--- holds; or 47, which comes only of an archive that is shared. It takes no memory. In place of an Ok it may be 30, with the
--- file gone from the list too.
+-- holds; or 47, which comes only of an archive that is shared. It takes no memory. In place of an Ok it may be 30, with
+-- the file gone from the list too.
 abbrev pub AnswersRetire : Bool → State → Result ℕ ArchiveError → State → Type 0
 AnswersRetire closed s (Ok file) after = (closed ≡ false) × IsRetired s file after
 AnswersRetire closed s (Err Closed) after = (closed ≡ true) × (after ≡ s)

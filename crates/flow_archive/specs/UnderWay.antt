@@ -150,7 +150,8 @@ abbrev pub AllDiffer : List ℕ → Type 0
 AllDiffer [] = Unit {0}
 AllDiffer (n ∷ others) = AllByRecursion (λ o. o ≢ n) others × AllDiffer others
 
--- While an archive isn't shared, it alone has its files; and the files that no manifest names have numbers of their own.
+-- While an archive isn't shared, it alone has its files; and the files that no manifest names have numbers of their
+-- own.
 pub record HasOwnFiles (shared : Bool) (files : List Frozen) (work : Work) : Type 0 where
   pub alone : shared ≡ false → AllByRecursion IsAlone files
   pub waiting : shared ≡ false → AllByRecursion IsAlone work.waiting

@@ -64,7 +64,8 @@ impl<D: Disk> Model for Archive<D> {
 
     ghost view = { λ a. record {
       disk = a.disk;
-      state = state_in (work_in a.next a.job a.waiting.items) a.shared a.slots.current a.files.items a.prefix a.messages.items;
+      state = state_in (work_in a.next a.job a.waiting.items) a.shared a.slots.current a.files.items a.prefix
+          a.messages.items;
       closed = a.closed;
     } };
 
@@ -131,9 +132,9 @@ impl<D: Disk> Archive<D> {
         status(&self.job)
     }
 
-    /// Its files, shared: what there is now, for readers, which learn of later steps one by one. From now on the archive
-    /// is shared, also where memory is refused, which changes nothing else. No octets are copied, and nothing is read. A
-    /// closed archive has one too.
+    /// Its files, shared: what there is now, for readers, which learn of later steps one by one. From now on the
+    /// archive is shared, also where memory is refused, which changes nothing else. No octets are copied, and nothing
+    /// is read. A closed archive has one too.
     pub fn directory(&mut self, alloc: Global) -> Result<Directory<D::Sealed>, AllocError>
         ensures disk { self.new.disk ≡ self.old.disk }
         ensures closed { self.new.closed ≡ self.old.closed }
@@ -160,8 +161,8 @@ impl<D: Disk> Archive<D> {
         self.disk
     }
 
-    /// Adds one message, and answers its number: a batch of one. It costs one walk of the message, one copy of it and two
-    /// syncs, whatever templates are in force.
+    /// Adds one message, and answers its number: a batch of one. It costs one walk of the message, one copy of it and
+    /// two syncs, whatever templates are in force.
     pub fn append(&mut self, alloc: Global, message: &[u8]) -> Result<u64, ArchiveError>
         ensures answers { AnswersAppend self.old.closed self.old.state (message.now ∷ []) result self.new.state }
         ensures step { IsStep D.honest D.moment D.left_since self.old self.new

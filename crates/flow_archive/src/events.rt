@@ -86,8 +86,8 @@ pub fn take_event<D: Disk>(
     }
 }
 
-/// Takes events in order, and answers each. The room for the answers is made first; where it is refused, nothing ran. Reads
-/// of a job's sources that fail raise `faults`.
+/// Takes events in order, and answers each. The room for the answers is made first; where it is refused, nothing ran.
+/// Reads of a job's sources that fail raise `faults`.
 pub fn run<D: Disk>(
     archive: &mut Archive<D>,
     alloc: Global,

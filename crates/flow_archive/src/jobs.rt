@@ -49,10 +49,11 @@ impl<D: Disk> Archive<D> {
         self.begin(alloc, JobKind::Merge, count)
     }
 
-    /// Reads one source of the job that is under way, a piece at a time, merges its sums into the job's, and answers how
-    /// many sources are left. Where none is left nothing is read. Refusals, the first that holds: 49 Closed; 44 NoRoll;
-    /// 20 Damaged, of the source's file, where it isn't what its entry says, or at octet 0 where sums would pass their
-    /// types; 30 where the device failed; and 11 OutOfMemory. None of them changes anything, and the archive stays open.
+    /// Reads one source of the job that is under way, a piece at a time, merges its sums into the job's, and answers
+    /// how many sources are left. Where none is left nothing is read. Refusals, the first that holds: 49 Closed; 44
+    /// NoRoll; 20 Damaged, of the source's file, where it isn't what its entry says, or at octet 0 where sums would
+    /// pass their types; 30 where the device failed; and 11 OutOfMemory. None of them changes anything, and the archive
+    /// stays open.
     pub fn roll_step(
         &mut self,
         alloc: Global,
@@ -86,8 +87,8 @@ impl<D: Disk> Archive<D> {
         Ok(job.sources - job.read)
     }
 
-    /// Gives the job up that is under way, and removes the file that it has made. It takes no memory. Refusals, the first
-    /// that holds: 49 Closed; 44 NoRoll. After 30 Fault the archive is closed, and has no job.
+    /// Gives the job up that is under way, and removes the file that it has made. It takes no memory. Refusals, the
+    /// first that holds: 49 Closed; 44 NoRoll. After 30 Fault the archive is closed, and has no job.
     pub fn roll_drop(&mut self) -> Result<(), ArchiveError>
         ensures answers { AnswersDrop self.old.closed self.old.state result self.new.state }
         ensures removed { OnOk result (IsStagedGone (D.marks self.new.disk) self.old.state) }
@@ -138,8 +139,8 @@ impl<D: Disk> Archive<D> {
     }
 }
 
-/// Reads the next source of a job, and merges its sums into those of the job. A refusal changes nothing. It takes memory
-/// for the sums of both, besides what the reading takes.
+/// Reads the next source of a job, and merges its sums into those of the job. A refusal changes nothing. It takes
+/// memory for the sums of both, besides what the reading takes.
 fn take_source<S: SealedFile>(
     alloc: Global,
     job: &mut Rolling<S>,

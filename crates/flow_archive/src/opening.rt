@@ -27,8 +27,8 @@ impl<D: Disk> Archive<D> {
     /// Opens the archive on a disk, of which nothing is frozen.
     ///
     /// Refusals, with the disk: 20 Damaged, 21 Format, 22 Entries, 23 Cut and 24 NoArchive where what is read stands
-    /// for no archive; 30 Fault and 11 OutOfMemory. Whatever is answered, a stop at any moment leaves what stands for the
-    /// archive that stood there. Files of a disk that is given back may be frozen.
+    /// for no archive; 30 Fault and 11 OutOfMemory. Whatever is answered, a stop at any moment leaves what stands for
+    /// the archive that stood there. Files of a disk that is given back may be frozen.
     pub fn open(alloc: Global, disk: D) -> Result<Archive<D>, Refused<D, RecoverError>>
         requires thawed { (n : ℕ) → (D.marks disk n).frozen ≡ false }
         ensures honest { D.honest (disk_of result) ≡ D.honest disk }
@@ -110,9 +110,9 @@ pub(crate) fn resumed<D: Disk>(
     ensures still_open { IfOk result (λ a. a.closed ≡ false) }
     ensures at_rest { IfOk result (λ a. a.state ≡ reopened a.state) }
     // Where what was read stood for the state that was found, it stands for this one.
-    ensures read { (reads : ℕ → List ℕ) → IsRecovered D.honest D.marks D.held D.Sealed.octets D.Sealed.number D.Sealed.size
-        D.Sealed.honest reads disk found.slots found.last found.end found.total (part_of found.active) found.carry
-        found.parts.items
+    ensures read { (reads : ℕ → List ℕ) → IsRecovered D.honest D.marks D.held D.Sealed.octets D.Sealed.number
+        D.Sealed.size D.Sealed.honest reads disk found.slots found.last found.end found.total (part_of found.active)
+        found.carry found.parts.items
         → IsTrue (D.honest disk) → IfOk result (λ a. StandsFor reads a.state) }
     ensures stands { IsTrue (D.honest disk)
         → IfOk result (λ a. AllImages (D.held a.disk) (λ image. StandsFor image a.state)) }

@@ -98,8 +98,8 @@ pub(crate) enum Held<S: SealedFile> {
     Wide(Owned<RolledPart<S>>),
 }
 
-/// A frozen file of an archive. It is seen as its entry, beside whether it is on an honest disk, its octets, and whether
-/// it may have further owners.
+/// A frozen file of an archive. It is seen as its entry, beside whether it is on an honest disk, its octets, and
+/// whether it may have further owners.
 #[derive(Drop)]
 pub(crate) struct FrozenFile<S: SealedFile> {
     held: Held<S>,

@@ -11,9 +11,9 @@ use crate::refusal::ArchiveError;
 use flow_disk::{Disk, SealedFile};
 
 impl<D: Disk> Archive<D> {
-    /// Removes the oldest of the files that wait for their removal, and answers its number. It takes no memory. Refusals,
-    /// the first that holds: 49 Closed; 48 NothingToRetire; and 47 Pinned, where a directory or a snapshot has the file
-    /// too. After 30 Fault the archive is closed.
+    /// Removes the oldest of the files that wait for their removal, and answers its number. It takes no memory.
+    /// Refusals, the first that holds: 49 Closed; 48 NothingToRetire; and 47 Pinned, where a directory or a snapshot
+    /// has the file too. After 30 Fault the archive is closed.
     pub fn retire(&mut self) -> Result<u64, ArchiveError>
         ensures answers { AnswersRetire self.old.closed self.old.state result self.new.state }
         // At Ok the disk lists it no more.

@@ -141,8 +141,8 @@ pub(crate) fn sum_segment<S: SealedFile>(
     Ok(Source { rows, time })
 }
 
-/// The sums of a rolled file, which was rolled by `width`, over intervals of `wide`, both in seconds. It is read once, a
-/// piece at a time.
+/// The sums of a rolled file, which was rolled by `width`, over intervals of `wide`, both in seconds. It is read once,
+/// a piece at a time.
 pub(crate) fn sum_file<S: SealedFile>(
     alloc: Global,
     part: &RolledPart<S>,

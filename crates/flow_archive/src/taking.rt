@@ -44,8 +44,9 @@ fn carried(alloc: Global, carry: &Carry, messages: &[&[u8]]) -> Result<Carry, Ar
     Ok(new)
 }
 
-/// Takes in the messages of a batch, all of them or none; else answers why the first of them that is refused is refused.
-/// One message alone is taken in where the carry stands, so it costs one walk; of more a copy of the carry is made.
+/// Takes in the messages of a batch, all of them or none; else answers why the first of them that is refused is
+/// refused. One message alone is taken in where the carry stands, so it costs one walk; of more a copy of the carry is
+/// made.
 fn take_in(carry: &mut Carry, alloc: Global, messages: &[&[u8]]) -> Result<(), ArchiveError>
     ensures taken { OnOk result (AreTaken (slices messages.now) carry.old carry.new) }
     ensures kept { OnErr result (carry.new ≡ carry.old) }
@@ -61,7 +62,8 @@ fn take_in(carry: &mut Carry, alloc: Global, messages: &[&[u8]]) -> Result<(), A
     Ok(())
 }
 
-/// Why a batch that passes a limit is refused: the first fault of the first message that isn't accepted, else the limit.
+/// Why a batch that passes a limit is refused: the first fault of the first message that isn't accepted, else the
+/// limit.
 fn judged(alloc: Global, carry: &Carry, messages: &[&[u8]], limit: ArchiveError) -> ArchiveError
     ensures { (result ≡ OutOfMemory)
         ⊎ ((fault : MessageError) × IsFirstFault (slices messages.now) carry.now.templates fault

@@ -31,9 +31,9 @@ use std::alloc::{AllocError, Global};
 use std::sync::Arc;
 
 impl<D: Disk> Archive<D> {
-    /// The step that a mark names, with its content, for directories: messages of the active segment, or the newest file
-    /// of a kind, shared. From now on the archive is shared, also where memory is refused, which changes nothing else. No
-    /// octets are copied, and nothing is read. A closed archive tells its steps too.
+    /// The step that a mark names, with its content, for directories: messages of the active segment, or the newest
+    /// file of a kind, shared. From now on the archive is shared, also where memory is refused, which changes nothing
+    /// else. No octets are copied, and nothing is read. A closed archive tells its steps too.
     pub fn step(&mut self, alloc: Global, mark: Mark) -> Result<Step<D::Sealed>, AllocError>
         requires { HasMark self.old.state mark }
         ensures disk { self.new.disk ≡ self.old.disk }
@@ -56,8 +56,8 @@ impl<D: Disk> Archive<D> {
 }
 
 /// Behind the call that makes a step its mark may be asked for: behind an append or a batch with the numbers of its
-/// messages, behind a seal with the sealed file, behind an install with the file that the job had made and the count of its
-/// sources.
+/// messages, behind a seal with the sealed file, behind an install with the file that the job had made and the count of
+/// its sources.
 pub fn marks_of_answers()
     ensures appended { (closed : Bool) (s after : State) (octets : List (List ℕ)) (position : ℕ) → 1 ≤ length octets
         → AnswersAppend closed s octets (Ok position) after

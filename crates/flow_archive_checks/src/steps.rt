@@ -15,7 +15,8 @@ use std::test::Fail;
 
 /// The mark of the file that a job has made.
 fn made(job: JobStatus) -> Option<Mark>
-    ensures { IfSome result (λ mark. (file : ℕ) × (job.staged ≡ Some file) × (mark ≡ made_mark job.kind file job.sources)) }
+    ensures { IfSome result
+        (λ mark. (file : ℕ) × (job.staged ≡ Some file) × (mark ≡ made_mark job.kind file job.sources)) }
 {
     let file = job.staged?;
     Some(match job.kind {

@@ -93,8 +93,8 @@ impl Definitions {
     }
 }
 
-/// Makes what a message changed in both lists of a domain, and takes the changes out. All memory is taken before anything
-/// changes, so an `Err` changes nothing in the lists.
+/// Makes what a message changed in both lists of a domain, and takes the changes out. All memory is taken before
+/// anything changes, so an `Err` changes nothing in the lists.
 pub(crate) fn make_changes(
     templates: &mut Definitions,
     options: &mut Definitions,

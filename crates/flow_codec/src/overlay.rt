@@ -1,6 +1,7 @@
 //! What a message changes in one list of definitions, beside the list, which stays as it was.
 
-ghost use Rattle.std.specs.Prelude.{◌≡◌, IsTrue, ℕ, List, Option, None, ◌<◌, ◌^◌, [], ◌∷◌, ◌++◌, nat_eq, ◌==◌, length, OnOk, IfOk};
+ghost use Rattle.std.specs.Prelude.{◌≡◌, IsTrue, ℕ, List, Option, None, ◌<◌, ◌^◌, [], ◌∷◌, ◌++◌, nat_eq, ◌==◌, length};
+ghost use Rattle.std.specs.Prelude.{OnOk, IfOk};
 ghost use Rattle.std.specs.HashMap.{get};
 ghost use Rattle.std.specs.Map.{lookup};
 ghost use Rattle.std.specs.Option.{option_copied};

@@ -14,7 +14,8 @@ use Rattle.flow_snapshot.specs.Told.{printed as query_text}
 use Rattle.flow_report.specs.declared.text_error.TextError.{TextError}
 use Rattle.flow_report.specs.declared.text_error.TextError.TheVariants as text
 use Rattle.flow_commands.specs.declared.archive_refusal.ArchiveRefusal.{ArchiveRefusal}
-use Rattle.flow_commands.specs.declared.archive_refusal.ArchiveRefusal.TheVariants.{Away, InUse, Opening, Archive, Query}
+use Rattle.flow_commands.specs.declared.archive_refusal.ArchiveRefusal.TheVariants.{Away, InUse, Opening, Archive}
+use Rattle.flow_commands.specs.declared.archive_refusal.ArchiveRefusal.TheVariants.{Query}
 use Rattle.flow_commands.specs.declared.archive_refusal.ArchiveRefusal.TheVariants.{OutOfMemory, Write}
 
 -- the number, the name and what the refusal carries; a second line tells that the folder is in use

@@ -10,7 +10,8 @@ use Rattle.flow_recover.specs.Standing.{StandsFor}
 use Rattle.flow_recover.specs.State.{State}
 use Rattle.flow_archive.specs.Answers.{position_of}
 use Rattle.flow_commands.specs.declared.archive_refusal.ArchiveRefusal.{ArchiveRefusal}
-use Rattle.flow_commands.specs.declared.archive_refusal.ArchiveRefusal.TheVariants.{Away, InUse, Opening, Archive, Query}
+use Rattle.flow_commands.specs.declared.archive_refusal.ArchiveRefusal.TheVariants.{Away, InUse, Opening, Archive}
+use Rattle.flow_commands.specs.declared.archive_refusal.ArchiveRefusal.TheVariants.{Query}
 use Rattle.flow_commands.specs.declared.archive_refusal.ArchiveRefusal.TheVariants.{OutOfMemory, Write}
 use Rattle.flow_commands.specs.declared.checking.Standing.{Standing}
 use Rattle.flow_report.specs.Writing.{AppendsFront}

@@ -1,7 +1,8 @@
 //! Why a command over an archive ended before its work was done.
 
 ghost use Rattle.std.specs.Prelude.{Some, ◌≡◌, ◌≢◌, ◌≤◌};
-ghost use Rattle.flow_commands.specs.Archives.{archive_printed, archive_status, of_archive, of_folder, of_opening, of_query};
+ghost use Rattle.flow_commands.specs.Archives.{archive_printed, archive_status, of_archive, of_folder, of_opening};
+ghost use Rattle.flow_commands.specs.Archives.{of_query};
 ghost use Rattle.flow_commands.specs.Archives.{of_text};
 ghost use Rattle.flow_commands.specs.declared.archive_refusal.ArchiveRefusal.TheVariants as refusal;
 
@@ -14,8 +15,8 @@ use std::alloc::{AllocError, AllocFailed};
 use std::error::Error;
 use std::fmt;
 
-/// Why a command over an archive ended before its work was done, printed as its number, its name and what it carries; of
-/// a folder in use a second line tells that.
+/// Why a command over an archive ended before its work was done, printed as its number, its name and what it carries;
+/// of a folder in use a second line tells that.
 #[derive(Debug, Drop)]
 pub enum ArchiveRefusal {
     /// The folder isn't there, or the system refused it.

@@ -156,9 +156,9 @@ fn feed_on<H: Files + AllocGlobal + Clone + Drop, D: Disk, W: Write, P: Write + 
     }
 }
 
-/// Takes Files into the archive of a folder, and writes a line for each. The archive is opened before a File is read. The
-/// newest `keep` sealed segments are left as they are; older ones are rolled between the batches. It answers the exit
-/// status: that of the first File that stopped.
+/// Takes Files into the archive of a folder, and writes a line for each. The archive is opened before a File is read.
+/// The newest `keep` sealed segments are left as they are; older ones are rolled between the batches. It answers the
+/// exit status: that of the first File that stopped.
 pub fn feed_in<H: Files + AllocGlobal + Clone + Drop, W: Write, P: Write + Drop>(
     rt: &H,
     folder: &str,

@@ -6,7 +6,8 @@ ghost use Rattle.flow_manifest.specs.Slots.{reads_of};
 ghost use Rattle.flow_archive.specs.Beginning.{answer_of, disk_of};
 ghost use Rattle.flow_recover.specs.Standing.{StandsFor};
 ghost use Rattle.flow_commands.specs.declared.archive_refusal.ArchiveRefusal.TheVariants as refusal;
-ghost use Rattle.flow_commands.specs.Asking.{Always, AreFlows, AreLinesOf, IsBeforeWriting, IsNotFound, TellsLines, TellsNoLines};
+ghost use Rattle.flow_commands.specs.Asking.{Always, AreFlows, AreLinesOf, IsBeforeWriting, IsNotFound, TellsLines};
+ghost use Rattle.flow_commands.specs.Asking.{TellsNoLines};
 ghost use Rattle.flow_commands.specs.Asking.{Writes, WritesOrNot, flows_lines};
 ghost use Rattle.flow_report.specs.ArchiveLines.{flows_text};
 
@@ -71,8 +72,8 @@ fn list<D: Disk, W: Write>(
 }
 
 /// Opens the archive on a disk, of which nothing is frozen, and writes the lines of the flows that aren't rolled and
-/// start in a span: START DOMAIN PROTOCOL OCTETS PACKETS, in the order in which they were taken in. It hands the archive
-/// on, or gives the disk back.
+/// start in a span: START DOMAIN PROTOCOL OCTETS PACKETS, in the order in which they were taken in. It hands the
+/// archive on, or gives the disk back.
 pub fn flows<D: Disk, W: Write>(
     alloc: Global,
     disk: D,

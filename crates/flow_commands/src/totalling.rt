@@ -7,7 +7,8 @@ ghost use Rattle.flow_archive.specs.Beginning.{answer_of, disk_of};
 ghost use Rattle.flow_recover.specs.Standing.{StandsFor};
 ghost use Rattle.flow_snapshot.specs.Totals.{SumsFit};
 ghost use Rattle.flow_commands.specs.declared.archive_refusal.ArchiveRefusal.TheVariants as refusal;
-ghost use Rattle.flow_commands.specs.Asking.{AreLinesOf, AreRows, IsBeforeWriting, IsNotFound, TellsLines, TellsNoLines};
+ghost use Rattle.flow_commands.specs.Asking.{AreLinesOf, AreRows, IsBeforeWriting, IsNotFound, TellsLines};
+ghost use Rattle.flow_commands.specs.Asking.{TellsNoLines};
 ghost use Rattle.flow_commands.specs.Asking.{Writes, WritesOrNot, totals_lines};
 ghost use Rattle.flow_report.specs.ArchiveLines.{rows_text};
 
@@ -84,9 +85,9 @@ fn total<D: Disk, W: Write>(
     Ok(())
 }
 
-/// Opens the archive on a disk, of which nothing is frozen, and writes the totals lines of the intervals that start in a
-/// span: START DOMAIN PROTOCOL FLOWS OCTETS PACKETS, and of a row over wide intervals their width behind. It hands the
-/// archive on, or gives the disk back.
+/// Opens the archive on a disk, of which nothing is frozen, and writes the totals lines of the intervals that start in
+/// a span: START DOMAIN PROTOCOL FLOWS OCTETS PACKETS, and of a row over wide intervals their width behind. It hands
+/// the archive on, or gives the disk back.
 pub fn totals<D: Disk, W: Write>(
     alloc: Global,
     disk: D,

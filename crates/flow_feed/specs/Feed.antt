@@ -33,8 +33,8 @@ refusal_in (Some Unopened) = None
 
 -- ---- messages that are read together
 
--- These messages were read, one behind the other; more stand behind them, or the File is read to its end, or up to where
--- it stops. `rest` are the octets behind the messages.
+-- These messages were read, one behind the other; more stand behind them, or the File is read to its end, or up to
+-- where it stops. `rest` are the octets behind the messages.
 pub record AreRead (old : Progress) (messages : List (List ℕ)) (is_last : Bool) (stop : Option FeedStop)
     (new : Progress) : Type 0 where
   pub all : All IsCutOff messages

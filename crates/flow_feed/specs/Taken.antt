@@ -89,8 +89,9 @@ first_rolling_refusal (event ∷ events) (answer ∷ answers) =
 
 -- ---- a run of events
 
--- From one to the other the archive took events, and acknowledged these messages, in this order, and no other. A refusal
--- that is told is one that it answered. `rolling` is the first refusal of an event of rolling among them, if any.
+-- From one to the other the archive took events, and acknowledged these messages, in this order, and no other. A
+-- refusal that is told is one that it answered. `rolling` is the first refusal of an event of rolling among them, if
+-- any.
 pub record HasTaken {D : Type 0} (honest : D → Bool) (moment : D → ℕ) (left_since : D → ℕ → (ℕ → List ℕ) → Type 0)
     (old new : Seen D) (messages : List (List ℕ)) (refused rolling : Option ArchiveError) : Type 0 where
   pub events : List Event

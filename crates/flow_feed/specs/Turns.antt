@@ -18,7 +18,8 @@ use Rattle.flow_archive.specs.declared.refusal.ArchiveError.TheVariants.{Message
 use Rattle.flow_archive.specs.declared.refusal.ArchiveError.TheVariants.{Fault, NoRoom, ManifestFull, NothingToSeal}
 use Rattle.flow_archive.specs.declared.refusal.ArchiveError.TheVariants.{Closed}
 use Rattle.flow_archive.specs.declared.refusal.ArchiveError.TheVariants.{Damaged, SourceFault, RollBusy, NoRoll}
-use Rattle.flow_archive.specs.declared.refusal.ArchiveError.TheVariants.{RollCount, RollNotDone, Pinned, NothingToRetire}
+use Rattle.flow_archive.specs.declared.refusal.ArchiveError.TheVariants.{RollCount, RollNotDone, Pinned}
+use Rattle.flow_archive.specs.declared.refusal.ArchiveError.TheVariants.{NothingToRetire}
 use Rattle.flow_archive.specs.declared.rolling.JobStatus.{JobStatus}
 use Rattle.flow_archive.specs.Answers.{Answers, Takes}
 use Rattle.flow_archive.specs.Runs.{IsRun}
@@ -93,7 +94,8 @@ turn_done event (told.Position n) = turn.Idle
 turn_done event (told.Sealed file) = turn.Idle
 turn_done event told.Dropped = turn.Idle
 
--- what an archive answered to the event of a turn; a file that can't be removed now, and none to remove, are no refusals
+-- what an archive answered to the event of a turn; a file that can't be removed now, and none to remove, are no
+-- refusals
 abbrev pub turn_told : Event → Result Answer ArchiveError → Result Turn ArchiveError
 turn_told event (Ok answer) = Ok (turn_done event answer)
 turn_told event (Err Pinned) = Ok turn.Idle
@@ -135,7 +137,8 @@ stopped_by roller rolling = record { keep = roller.keep; refused = option_or rol
 
 -- ---- whole jobs
 
--- The events of a job over so many files: it begins, reads each, makes its file, installs it, and its sources are removed.
+-- The events of a job over so many files: it begins, reads each, makes its file, installs it, and its sources are
+-- removed.
 abbrev pub job_events : JobKind → ℕ → List Event
 job_events kind count =
     if count == 0 then []
@@ -157,8 +160,8 @@ told_behind (Err refused) answer = Err refused
 told_behind (Ok count) (Ok answer) = Ok count
 told_behind (Ok count) (Err error) = told_or (refusal_but_removal error) (Ok count)
 
--- The archive took the events of a job over so many files, and told of them; or there was no memory for that, and all is
--- as it was.
+-- The archive took the events of a job over so many files, and told of them; or there was no memory for that, and all
+-- is as it was.
 abbrev pub IsJobRun : {D : Type 0} → (D → Bool) → (D → ℕ) → (D → ℕ → (ℕ → List ℕ) → Type 0) → Seen D → Seen D
     → JobKind → ℕ → Result ℕ ArchiveError → Type 0
 IsJobRun honest moment left_since old new kind count result =

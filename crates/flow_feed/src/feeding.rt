@@ -1,6 +1,7 @@
 //! A File into an archive.
 
-ghost use Rattle.std.specs.Prelude.{◌≡◌, ◌≢◌, false, true, ◌≤◌, ◌<◌, ◌+◌, ◌^◌, [], ◌∷◌, ◌++◌, ℕ, take, length, None, OnOk, IfOk, IfErr};
+ghost use Rattle.std.specs.Prelude.{◌≡◌, ◌≢◌, false, true, ◌≤◌, ◌<◌, ◌+◌, ◌^◌, [], ◌∷◌, ◌++◌, ℕ, take, length, None};
+ghost use Rattle.std.specs.Prelude.{OnOk, IfOk, IfErr};
 ghost use Rattle.std.specs.Prelude.{Option, IfSome, IfNone};
 ghost use Rattle.flow_codec.specs.Stream.{progress};
 ghost use Rattle.flow_gate.specs.Scan.{texts};
@@ -250,10 +251,10 @@ fn take_any<D: Disk>(
     take_batch(archive, alloc, messages, faults)
 }
 
-/// Takes the messages of the File that `input` reads into an archive, in batches of up to 64 as they are read: up to its
-/// end, its first fault, or the first message that the archive refuses. Where the active segment has no room for them, it
-/// is sealed before; a batch for which no segment has room is taken message by message. After each batch the roller
-/// makes a turn, and keeps the first refusal of one. Reads of a roll's source that fail raise `faults`.
+/// Takes the messages of the File that `input` reads into an archive, in batches of up to 64 as they are read: up to
+/// its end, its first fault, or the first message that the archive refuses. Where the active segment has no room for
+/// them, it is sealed before; a batch for which no segment has room is taken message by message. After each batch the
+/// roller makes a turn, and keeps the first refusal of one. Reads of a roll's source that fail raise `faults`.
 pub fn feed<D: Disk, R: Read>(
     archive: &mut Archive<D>,
     alloc: Global,

@@ -130,8 +130,8 @@ fn make_turn<D: Disk>(
 }
 
 /// The next step of the job that stands, of whatever kind; without one it begins to roll all sealed segments but the
-/// newest `keep`; where there are none, it removes the oldest file that waits for its removal, and is idle where there is
-/// none that can be removed. Reads of a source that fail raise `faults`.
+/// newest `keep`; where there are none, it removes the oldest file that waits for its removal, and is idle where there
+/// is none that can be removed. Reads of a source that fail raise `faults`.
 ///
 /// Errors: those of the call of the archive that is due.
 pub fn roll_turn<D: Disk>(
@@ -148,8 +148,8 @@ pub fn roll_turn<D: Disk>(
     make_turn(archive, alloc, JobKind::Roll, keep, faults)
 }
 
-/// The same, but without a job it begins to merge all rolled files but the newest `keep`, and where there are none it is
-/// idle.
+/// The same, but without a job it begins to merge all rolled files but the newest `keep`, and where there are none it
+/// is idle.
 pub fn merge_turn<D: Disk>(
     archive: &mut Archive<D>,
     alloc: Global,

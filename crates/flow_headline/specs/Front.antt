@@ -20,7 +20,8 @@ use Rattle.flow_archive.specs.declared.refusal.ArchiveError.TheVariants.{Message
 use Rattle.flow_archive.specs.declared.refusal.ArchiveError.TheVariants.{Fault, NoRoom, ManifestFull, NothingToSeal}
 use Rattle.flow_archive.specs.declared.refusal.ArchiveError.TheVariants.{Closed}
 use Rattle.flow_archive.specs.declared.refusal.ArchiveError.TheVariants.{Damaged, SourceFault, RollBusy, NoRoll}
-use Rattle.flow_archive.specs.declared.refusal.ArchiveError.TheVariants.{RollCount, RollNotDone, Pinned, NothingToRetire}
+use Rattle.flow_archive.specs.declared.refusal.ArchiveError.TheVariants.{RollCount, RollNotDone, Pinned}
+use Rattle.flow_archive.specs.declared.refusal.ArchiveError.TheVariants.{NothingToRetire}
 use Rattle.flow_archive.specs.Runs.{IsAfter}
 
 -- ---- messages
@@ -103,8 +104,8 @@ EndsAtFault [] = Unit {0}
 EndsAtFault (answer ∷ answers) =
     (answer ≡ Err Fault → AllByRecursion (λ later. later ≡ Err Closed) answers) × EndsAtFault answers
 
--- These rows are the totals over this span behind a stop: of all messages that were there, and of those of a front of the
--- events, each counted once.
+-- These rows are the totals over this span behind a stop: of all messages that were there, and of those of a front of
+-- the events, each counted once.
 pub record AreTotals (s : State) (events : List Event) (answers : List (Result Answer ArchiveError)) (from to : ℕ)
     (rows : List Row) : Type 0 where
   pub left : State

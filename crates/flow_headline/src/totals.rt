@@ -21,9 +21,9 @@ pub struct Told {
     pub rows: Vec<Row>,
 }
 
-/// Runs events on an archive over a disk that fails from some call on, stops the machine there, opens what the stop left,
-/// and asks a snapshot of it for the totals of a span, from `from` on and before `to`, both in seconds since 1970-01-01
-/// 00:00 UTC.
+/// Runs events on an archive over a disk that fails from some call on, stops the machine there, opens what the stop
+/// left, and asks a snapshot of it for the totals of a span, from `from` on and before `to`, both in seconds since
+/// 1970-01-01 00:00 UTC.
 ///
 /// Errors: those of `run_and_open`, and those of the query.
 pub fn totals_behind_a_stop(
@@ -36,7 +36,8 @@ pub fn totals_behind_a_stop(
 ) -> Result<Told, NotTold>
     requires events { All IsEvent events.now }
     requires still_open { archive.closed ≡ false }
-    // The rows are the totals of all messages of a front of the events, behind those that were there, each counted once.
+    // The rows are the totals of all messages of a front of the events, behind those that were there, each counted
+    // once.
     ensures totals { IfOk result (λ t. AreTotals archive.state events.now t.answers.items from to t.rows.items) }
 {
     let mut reopened = run_and_open(alloc, archive, events, choice)?;

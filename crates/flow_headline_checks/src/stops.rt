@@ -54,8 +54,8 @@ fn created(alloc: Global, calls: u64) -> Result<Archive<FusedDisk<MemoryDisk>>, 
     }
 }
 
-/// A message, a seal, a roll of the sealed segment with a message that is cut short in between, a flow under the template
-/// of the first message, and the removal of the segment.
+/// A message, a seal, a roll of the sealed segment with a message that is cut short in between, a flow under the
+/// template of the first message, and the removal of the segment.
 fn events(alloc: Global) -> Result<[Event; 9], AllocError>
     ensures { IfOk result (λ events. All IsEvent events) }
 {

@@ -1,5 +1,5 @@
-//! Tests of the message path on public calls: values of elements, messages, templates restated, Files in pieces, flows and
-//! their sums.
+//! Tests of the message path on public calls: values of elements, messages, templates restated, Files in pieces, flows
+//! and their sums.
 #![tactic(auto)]
 
 #[cfg(test)]

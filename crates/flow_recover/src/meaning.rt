@@ -39,10 +39,11 @@ pub fn events_and_history()
         → 1 ≤ length s.active.messages → HasHistory s h → HasHistory (moved_on s (prefix_of c)) h }
 {}
 
-/// What jobs mean. They add what they make of one source after the other. What their sources hold is what the history has there. A file of sums takes the place of its sources. Where a roll has summed the oldest segments'
-/// messages by the width, or a merge the oldest rolled files' messages by the wide width, the cut, or the second cut,
-/// rises by these messages, and every other one stays where it was. What the archive hands on stays; and what the disk
-/// holds for the state before is what it holds for the one behind the install, once the file of sums is there.
+/// What jobs mean. They add what they make of one source after the other. What their sources hold is what the history
+/// has there. A file of sums takes the place of its sources. Where a roll has summed the oldest segments' messages by
+/// the width, or a merge the oldest rolled files' messages by the wide width, the cut, or the second cut, rises by
+/// these messages, and every other one stays where it was. What the archive hands on stays; and what the disk holds for
+/// the state before is what it holds for the one behind the install, once the file of sums is there.
 pub fn jobs_and_history()
     ensures hands_on { (s : State) (c : Carry) (kind : JobKind) (count : ℕ) (file : StagedFile) (table : Table)
         → IsValidManifest s.manifest → HandsOn s c → count ≤ count_of (source_of kind) s.manifest.entries

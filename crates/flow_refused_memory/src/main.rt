@@ -1,5 +1,5 @@
-//! Gives an archive over a disk in memory a fixed run of events: messages, seals, a roll beside an append, a merge; then
-//! opens it again, and asks for its totals.
+//! Gives an archive over a disk in memory a fixed run of events: messages, seals, a roll beside an append, a merge;
+//! then opens it again, and asks for its totals.
 //!
 //! Answers and rows go to standard output. What is refused for want of memory is told on standard error, and asked once
 //! more. So whichever one request for memory is refused, standard output is the same.

@@ -9,7 +9,8 @@ use Rattle.flow_report.specs.Lines.{key_text, protocol_text, sums_text}
 -- The line of a row, as a totals line; where its intervals aren't of this width, theirs stands behind.
 unfoldable pub row_line : ℕ → Row → List ℕ
 row_line width row =
-    key_text row.key ++ 32 ∷ sums_text row.sums ++ (if row.width == width then [] else 32 ∷ decimal row.width) ++ 10 ∷ []
+    key_text row.key ++ 32 ∷ sums_text row.sums
+    ++ (if row.width == width then [] else 32 ∷ decimal row.width) ++ 10 ∷ []
 
 abbrev pub rows_text : ℕ → List Row → List ℕ
 rows_text width rows = flat_map (row_line width) rows

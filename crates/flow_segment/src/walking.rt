@@ -4,7 +4,8 @@ ghost use Rattle.std.specs.Prelude.{◌≡◌, ◌≤◌, List, IsTrue, IfOk, If
 ghost use Rattle.flow_disk.specs.Cause.{HasCause};
 ghost use Rattle.flow_codec.specs.Raw.{Placed, Took};
 ghost use Rattle.flow_measure.specs.History.{Accepted, templates_from};
-ghost use Rattle.flow_segment.specs.PartFlows.{greatest_time, records_in, ArePartMessages, IsDamage, IsWalkedInto, TookAll};
+ghost use Rattle.flow_segment.specs.PartFlows.{greatest_time, records_in, ArePartMessages, IsDamage, IsWalkedInto};
+ghost use Rattle.flow_segment.specs.PartFlows.{TookAll};
 ghost use Rattle.flow_segment.specs.Segment.{part_octets};
 
 use crate::part::{Cursor, advance};
@@ -15,7 +16,8 @@ use flow_gate::ScanError;
 use std::alloc::{AllocError, Global};
 use std::cmp::max;
 
-/// Hands the data records of a message, which stands at this place of this file, to a sink, and answers its Export Time.
+/// Hands the data records of a message, which stands at this place of this file, to a sink, and answers its Export
+/// Time.
 fn hand_over<R: RecordSink<Error = AllocError>>(
     alloc: Global,
     templates: &mut Templates,
@@ -24,8 +26,8 @@ fn hand_over<R: RecordSink<Error = AllocError>>(
     at: u64,
     sink: &mut R,
 ) -> Result<u32, ScanError>
-    ensures { IsWalkedInto (λ time m. Took R.holds m.header sink.old m.records sink.new × (time ≡ m.header.time)) file at
-        octets.now templates.old templates.new result }
+    ensures { IsWalkedInto (λ time m. Took R.holds m.header sink.old m.records sink.new × (time ≡ m.header.time))
+        file at octets.now templates.old templates.new result }
 {
     match walk_message(templates, alloc, octets, sink) {
         Ok(header) => Ok(header.time),
