@@ -8,8 +8,10 @@ pub mod Taking
 pub mod RecordLoop
 pub mod WholeRecords
 pub mod SetLoop
+pub mod RoleLaws
 pub mod PlaceLoop
 pub mod PlanLoop
+pub mod Ways
 pub mod Entries
 pub mod Limits
 pub mod PuttingBack

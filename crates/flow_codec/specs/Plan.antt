@@ -2,7 +2,7 @@
 use Rattle.std.specs.Prelude.{ℕ, ◌+◌, Bool, List, [], ◌∷◌, ◌++◌, length, take, drop, Option, Some, None, ◌&&◌, ◌==◌}
 use Rattle.std.specs.Prelude.{nat_le, nat_lt, sum_by, option_map, if◌then◌else◌}
 use Rattle.std.specs.List.{flat_map, list_all}
-use Rattle.std.specs.Option.{is_none}
+use Rattle.std.specs.Option.{is_none, option_or}
 use Rattle.flow_elements.specs.declared.element.ElementId.{ElementId}
 use Rattle.flow_codec.specs.declared.plan.Role.{Role}
 use Rattle.flow_codec.specs.declared.plan.Role.TheVariants.{Octets, Packets, Protocol, Seconds, Milliseconds}
@@ -11,6 +11,7 @@ use Rattle.flow_codec.specs.declared.plan.Step.TheVariants.{Skip, Fixed, Variabl
 use Rattle.flow_codec.specs.declared.plan.Place.{Place}
 use Rattle.flow_codec.specs.declared.plan.Places.{Places}
 use Rattle.flow_codec.specs.declared.plan.Plan.{Plan}
+use Rattle.flow_codec.specs.declared.plan.Way.TheVariants.{ByPlaces, BySteps}
 use Rattle.flow_codec.specs.declared.message.Field.{Field}
 use Rattle.flow_codec.specs.Layout.{least}
 use Rattle.flow_codec.specs.Fields.{value_of}
@@ -114,6 +115,22 @@ places_of fields = record {
   milliseconds = place_of Milliseconds fields;
 }
 
+abbrev pub no_places : Places
+no_places = record { octets = None; packets = None; protocol = None; seconds = None; milliseconds = None }
+
+-- with a place of this role, unless one of the role came before
+abbrev pub with_place : Role → Place → Places → Places
+with_place Octets place places = record places { octets = option_or places.octets (Some place) }
+with_place Packets place places = record places { packets = option_or places.packets (Some place) }
+with_place Protocol place places = record places { protocol = option_or places.protocol (Some place) }
+with_place Seconds place places = record places { seconds = option_or places.seconds (Some place) }
+with_place Milliseconds place places = record places { milliseconds = option_or places.milliseconds (Some place) }
+
+-- with the place of a field of an element of this role, if the field counts
+abbrev pub noted : Option Role → Place → Places → Places
+noted None place places = places
+noted (Some role) place places = if is_counted role place.len then with_place role place places else places
+
 -- ---- the plan
 
 abbrev pub are_fixed : List (ElementId × ℕ) → Bool
@@ -122,8 +139,7 @@ are_fixed fields = list_all (λ f. nat_lt f.1 65535) fields
 abbrev pub plan_of : List (ElementId × ℕ) → Plan
 plan_of fields = record {
   smallest = sum_by (λ f. least f.1) fields;
-  steps = steps_of fields;
-  places = if are_fixed fields then Some (places_of fields) else None;
+  way = if are_fixed fields then ByPlaces (places_of fields) else BySteps (steps_of fields);
 }
 
 -- ---- what the steps tell of a record

@@ -43,7 +43,7 @@ pub use laws::{
 };
 pub use message::{DataRecord, Field, Header, Message};
 pub use patient::ReadFailed;
-pub use plan::{Place, Places, Plan, Role, Step, VARIABLE};
+pub use plan::{Place, Places, Plan, Role, Step, VARIABLE, Way};
 pub use prefix::write_templates;
 pub use short_list::ShortList;
 pub use sink::{RecordSink, WalkError};

@@ -1,10 +1,9 @@
 //! What is known of every record of a definition before it is read.
 
-ghost use Rattle.std.specs.Prelude.{◌≡◌, ◌<◌, ◌^◌, ◌++◌, length, sum_by, nat_lt, IfOk, OnOk};
-ghost use Rattle.std.specs.List.{list_all};
+ghost use Rattle.std.specs.Prelude.{◌≡◌, ◌<◌, ◌^◌, ◌++◌, Some, None, if◌then◌else◌, length, sum_by, IfOk, OnOk};
 ghost use Rattle.flow_codec.specs.Layout.{least};
-ghost use Rattle.flow_codec.specs.Plan.{number_of, role_of, is_counted, counts_as, step_of, skip_of, steps_of};
-ghost use Rattle.flow_codec.specs.Plan.{place_of, places_of, plan_of};
+ghost use Rattle.flow_codec.specs.Plan.{role_of, is_counted, step_of, skip_of, steps_of};
+ghost use Rattle.flow_codec.specs.Plan.{no_places, noted, are_fixed, plan_of};
 
 use crate::short_list::ShortList;
 use flow_elements::ElementId;
@@ -51,36 +50,24 @@ pub struct Places {
     pub milliseconds: Option<Place>,
 }
 
-/// How each record of a definition is stepped over: no step but the skips is one of no octets, and no two skips are
-/// neighbours. Where no field is of variable length, the places of the numbers as well.
+/// What is known of every record of a definition.
 #[derive(Debug, Drop)]
 pub struct Plan {
+    /// The octets of the smallest record.
     pub smallest: usize,
-    pub steps: ShortList<Step>,
-    pub places: Option<Places>,
+    pub way: Way,
+}
+
+/// How each record of a definition is stepped over.
+#[derive(Debug, Drop)]
+pub enum Way {
+    /// No field is of variable length: where the numbers stand. Each record has the octets of the smallest.
+    ByPlaces(Places),
+    /// Step by step: no step but the skips is one of no octets, and no two skips are neighbours.
+    BySteps(ShortList<Step>),
 }
 
 impl Role {
-    /// The number of the element of this role.
-    fn number(self) -> u16
-        ensures { result ≡ number_of self }
-    {
-        match self {
-            Role::Octets => 1,
-            Role::Packets => 2,
-            Role::Protocol => 4,
-            Role::Seconds => 150,
-            Role::Milliseconds => 152,
-        }
-    }
-
-    /// Whether a field of this Field Length counts in this role.
-    fn is_field(self, id: &ElementId, len: u16) -> bool
-        ensures { result ≡ counts_as self (id.now, len) }
-    {
-        id.enterprise.is_none() && id.number == self.number() && self.is_counted(len as usize)
-    }
-
     /// The role of an element, by IANA's numbers alone.
     pub fn of(id: &ElementId) -> Option<Role>
         ensures { result ≡ role_of id.now }
@@ -107,6 +94,40 @@ impl Role {
             Role::Protocol => len == 1,
             Role::Seconds => len == 4,
             Role::Milliseconds => len == 8,
+        }
+    }
+}
+
+impl Places {
+    /// No places.
+    fn none() -> Self
+        ensures { result ≡ no_places }
+    {
+        Places {
+            octets: None,
+            packets: None,
+            protocol: None,
+            seconds: None,
+            milliseconds: None,
+        }
+    }
+
+    /// Takes the place of a field, if the field counts and is the first of its role.
+    fn note(&mut self, id: &ElementId, place: Place)
+        ensures { self.new ≡ noted (role_of id.now) place self.old }
+    {
+        let Some(role) = Role::of(id) else {
+            return;
+        };
+        if !role.is_counted(place.len as usize) {
+            return;
+        }
+        match role {
+            Role::Octets => self.octets = self.octets.or(Some(place)),
+            Role::Packets => self.packets = self.packets.or(Some(place)),
+            Role::Protocol => self.protocol = self.protocol.or(Some(place)),
+            Role::Seconds => self.seconds = self.seconds.or(Some(place)),
+            Role::Milliseconds => self.milliseconds = self.milliseconds.or(Some(place)),
         }
     }
 }
@@ -171,40 +192,24 @@ fn smallest_of(fields: &[(ElementId, u16)]) -> usize
     octets
 }
 
-/// Whether no field is of variable length.
-fn are_fixed(fields: &[(ElementId, u16)]) -> bool
-    ensures { result ≡ list_all (λ f. nat_lt f.1 65535) fields.now }
-{
-    fields.iter().all(|(_, len)| *len < VARIABLE)
-}
-
-/// The place of the first field that counts in a role, where no field before it is of variable length.
-fn place_of(role: Role, fields: &[(ElementId, u16)]) -> Option<Place>
+/// The plan of these fields where none is of variable length.
+fn fixed_plan_of(fields: &[(ElementId, u16)]) -> Option<Plan>
     requires { length fields.now < 2 ^ 16 }
-    ensures { result ≡ place_of role fields.now }
+    ensures { result ≡ if are_fixed fields.now then Some (plan_of fields.now) else None }
 {
     let mut at = 0;
+    let mut places = Places::none();
     for (id, len) in fields {
-        if role.is_field(id, *len) {
-            return Some(Place { at, len: *len });
+        if *len == VARIABLE {
+            return None;
         }
+        places.note(id, Place { at, len: *len });
         at += *len as u32;
     }
-    None
-}
-
-/// The places of the numbers in a record of these fields, none of variable length.
-fn places_of(fields: &[(ElementId, u16)]) -> Places
-    requires { length fields.now < 2 ^ 16 }
-    ensures { result ≡ places_of fields.now }
-{
-    Places {
-        octets: place_of(Role::Octets, fields),
-        packets: place_of(Role::Packets, fields),
-        protocol: place_of(Role::Protocol, fields),
-        seconds: place_of(Role::Seconds, fields),
-        milliseconds: place_of(Role::Milliseconds, fields),
-    }
+    Some(Plan {
+        smallest: at as usize,
+        way: Way::ByPlaces(places),
+    })
 }
 
 /// The plan of a definition's fields.
@@ -212,13 +217,11 @@ pub(crate) fn plan_of(alloc: Global, fields: &[(ElementId, u16)]) -> Result<Plan
     requires { length fields.now < 2 ^ 16 }
     ensures { IfOk result (λ plan. plan ≡ plan_of fields.now) }
 {
+    if let Some(plan) = fixed_plan_of(fields) {
+        return Ok(plan);
+    }
     Ok(Plan {
         smallest: smallest_of(fields),
-        steps: steps_of(alloc, fields)?,
-        places: if are_fixed(fields) {
-            Some(places_of(fields))
-        } else {
-            None
-        },
+        way: Way::BySteps(steps_of(alloc, fields)?),
     })
 }

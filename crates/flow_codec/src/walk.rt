@@ -18,7 +18,7 @@ use crate::error::MessageError;
 use crate::kind::TemplateKind;
 use crate::message::{HEADER, Header, VERSION};
 use crate::numbers::{u16_at, u32_at};
-use crate::plan::Step;
+use crate::plan::{Step, Way};
 use crate::sink::{RecordSink, WalkError};
 use crate::templates::{Definition, Templates};
 use crate::working::{Changed, find_in, keep_limits, put_in, templates_of};
@@ -96,10 +96,10 @@ fn extent_of<'a>(
         × (length x.0.now + length x.1.now ≡ length octets.now) × (smallest definition.now ≤ length x.0.now)) }
 {
     let plan = definition.plan();
-    if plan.places.is_some() {
-        return octets_at(at, plan.smallest, octets);
+    match &plan.way {
+        Way::ByPlaces(_) => octets_at(at, plan.smallest, octets),
+        Way::BySteps(steps) => stepped_over(at, steps.as_slice(), octets),
     }
-    stepped_over(at, plan.steps.as_slice(), octets)
 }
 
 /// Hands the records of a Set that ends at `end` to a sink; what is left of it is padding.

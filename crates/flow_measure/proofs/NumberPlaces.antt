@@ -2,7 +2,7 @@
 use Rattle.std.proofs.Common.{◌≡◌, ℕ, ◌<◌, ◌≤◌, Bool, true, false, cond, inl, inr, List, [], ◌∷◌, ◌++◌}
 use Rattle.std.proofs.Common.{length, take, drop, Option, Some, None, refl, sym, ap, subst, ◌∙◌, eqb, arith}
 use Rattle.std.specs.Prelude.{nat_le, nat_lt, ◌&&◌, option_map}
-use Rattle.std.proofs.lemmas.Bool.{ltb-true, leb-true, eqb-true}
+use Rattle.std.proofs.lemmas.Bool.{ltb-true, leb-true}
 use Rattle.std.proofs.lemmas.List.{length-append, take_at, drop_at, drop-drop}
 use Rattle.std.proofs.lemmas.List.Concat.{flat_map-cons}
 use Rattle.flow_elements.specs.declared.element.ElementId.{ElementId}
@@ -12,21 +12,14 @@ use Rattle.flow_codec.specs.declared.message.Field.{Field}
 use Rattle.flow_codec.specs.declared.plan.Role.{Role}
 use Rattle.flow_codec.specs.declared.plan.Role.TheVariants.{Octets, Packets, Protocol, Seconds, Milliseconds}
 use Rattle.flow_codec.specs.declared.plan.Place.{Place}
-use Rattle.flow_codec.specs.declared.plan.Places.{Places}
 use Rattle.flow_codec.specs.Fields.{IsField, AreFields, fields_in}
 use Rattle.flow_codec.specs.Plan.{number_of as element_of, role_of, is_counted, least_of, most_of, counting, values_of}
 use Rattle.flow_codec.specs.Plan.{counts_as, behind, place_of, places_of, are_fixed}
+use Rattle.flow_codec.proofs.RoleLaws.{counts_in, counts_is}
 use Rattle.flow_codec.proofs.Steps.{by_bool}
 use Rattle.flow_codec.proofs.FieldLaws.{fields_are}
 use Rattle.flow_measure.specs.Counting.{IsPlace, IsWide, ArePlaces, number_at, counts_at, flow_by}
 use Rattle.flow_measure.specs.Flows.{number_in, flow_from}
-
-every : (P : Role → Type 0) → P Octets → P Packets → P Protocol → P Seconds → P Milliseconds → (r : Role) → P r
-every P a b c d e Octets = a
-every P a b c d e Packets = b
-every P a b c d e Protocol = c
-every P a b c d e Seconds = d
-every P a b c d e Milliseconds = e
 
 -- ---- one value in front of others
 
@@ -46,60 +39,17 @@ with_role : (role r : Role) (b : Bool) (value : List ℕ) (vs : List (Role × Li
 with_role role r true value vs = in-front (eqb (element_of r) (element_of role)) (r, value) _
 with_role role r false value vs = no-front (eqb (element_of r) (element_of role)) _ _
 
-Agree : ℕ → Role → Role → Type 0
-Agree len role r = (eqb (element_of r) (element_of role) && is_counted r len)
-    ≡ (eqb (element_of r) (element_of role) && is_counted role len)
-
-agree : (len : ℕ) (role r : Role) → Agree len role r
-unfolding Agree
-agree len Octets r = every (Agree len Octets) refl refl refl refl refl r
-agree len Packets r = every (Agree len Packets) refl refl refl refl refl r
-agree len Protocol r = every (Agree len Protocol) refl refl refl refl refl r
-agree len Seconds r = every (Agree len Seconds) refl refl refl refl refl r
-agree len Milliseconds r = every (Agree len Milliseconds) refl refl refl refl refl r
-
 module _ (role : Role) (value : List ℕ) (vs : List (Role × List ℕ)) where
-  Counts-as : Bool → Option Role → Type 0
-  Counts-as test r = number_in role (counting r value ++ vs)
-      ≡ cond (test && is_counted role (length value)) (Some (number_of value)) (number_in role vs)
+  of_role : (r : Option Role) → number_in role (counting r value ++ vs)
+      ≡ cond (counts_in role r (length value)) (Some (number_of value)) (number_in role vs)
+  of_role None = refl
+  of_role (Some r) = with_role role r (is_counted r (length value)) value vs
 
-  known : (r : Role) → Counts-as (eqb (element_of r) (element_of role)) (Some r)
-  unfolding Counts-as Agree
-  known r = with_role role r (is_counted r (length value)) value vs
-      ∙ ap (λ (b : Bool). cond b (Some (number_of value)) (number_in role vs)) (agree (length value) role r)
-
-  IsAt : ℕ → Type 0
-  IsAt n = Counts-as (eqb n (element_of role)) (role_of (record { enterprise = None; number = n }))
-
-  numbered : (n : ℕ) → IsAt n
-  unfolding IsAt Counts-as
-  numbered n = elim (by_bool (eqb n 1)) [
-    | inl w ↦ subst IsAt (sym (eqb-true n 1 w)) (known Octets)
-    | inr a ↦ elim (by_bool (eqb n 2)) [
-      | inl w ↦ subst IsAt (sym (eqb-true n 2 w)) (known Packets)
-      | inr b ↦ elim (by_bool (eqb n 4)) [
-        | inl w ↦ subst IsAt (sym (eqb-true n 4 w)) (known Protocol)
-        | inr c ↦ elim (by_bool (eqb n 150)) [
-          | inl w ↦ subst IsAt (sym (eqb-true n 150 w)) (known Seconds)
-          | inr d ↦ elim (by_bool (eqb n 152)) [
-            | inl w ↦ subst IsAt (sym (eqb-true n 152 w)) (known Milliseconds)
-            | inr e ↦
-                let other : eqb n (element_of role) ≡ false =
-                every (λ r. eqb n (element_of r) ≡ false) a b c d e role in
-                rw (other, a, b, c, d, e) refl
-          ]
-        ]
-      ]
-    ]
-  ]
-
-  one : (enterprise : Option ℕ) (n : ℕ)
-      → number_in role (counting (role_of (record { enterprise = enterprise; number = n })) value ++ vs)
-      ≡ cond (counts_as role (record { enterprise = enterprise; number = n }, length value)) (Some (number_of value))
-      (number_in role vs)
-  unfolding IsAt Counts-as
-  one None n = numbered n
-  one (Some x) n = refl
+  one : (id : ElementId) → number_in role (counting (role_of id) value ++ vs)
+      ≡ cond (counts_as role (id, length value)) (Some (number_of value)) (number_in role vs)
+  one id = of_role (role_of id)
+      ∙ ap (λ (b : Bool). cond b (Some (number_of value)) (number_in role vs))
+      (sym (counts_is role (length value) id))
 
 -- ---- the fields of a record of fixed lengths
 
@@ -133,7 +83,7 @@ module _ (role : Role) (f : ElementId × ℕ) (fs : List (ElementId × ℕ)) (x 
     (rest : List ℕ) (id : x.id ≡ f.0) (is : length x.octets ≡ f.1) where
   value : number_in role (counting (role_of x.id) x.octets ++ vs)
       ≡ cond (counts_as role f) (Some (number_of x.octets)) (number_in role vs)
-  value = one role x.octets vs x.id.enterprise x.id.number
+  value = one role x.octets vs x.id
       ∙ ap (λ (g : ElementId × ℕ). cond (counts_as role g) (Some (number_of x.octets)) (number_in role vs))
       (rw (id, is) refl)
 
@@ -183,12 +133,6 @@ wide : (role : Role) (width : ℕ) (octets : List ℕ) (place : Option Place) �
 wide role width octets None least most h = tt
 wide role width octets (Some place) least most h =
     let is : place.len ≡ width = omega (arith, h.1, least, most) in (omega (arith, h.0, is), is)
-
--- a plan that has places is one of fixed lengths
-pub its_places : (fixed : Bool) (some places : Places) → cond fixed (Some some) None ≡ Some places
-    → (fixed ≡ true) × (some ≡ places)
-its_places true some places e = (refl, cc)
-its_places false some places e = absurd cc
 
 module _ (fs : List (ElementId × ℕ)) (octets : List ℕ) (xs : List Field) (h : AreFields fs octets xs)
     (fixed : are_fixed fs ≡ true) where

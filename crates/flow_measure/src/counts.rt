@@ -11,7 +11,7 @@ ghost use Rattle.flow_measure.specs.Counting.{IsStep, IsPlace, IsWide, ArePlaces
 ghost use Rattle.flow_measure.specs.Flows.{start_of, flow_from};
 
 use crate::flow::Flow;
-use flow_codec::{Definition, Header, Place, Places, Role, Step, VARIABLE, split_field};
+use flow_codec::{Definition, Header, Place, Places, Role, Step, VARIABLE, Way, split_field};
 use flow_elements::number_of;
 
 /// The numbers found in a record so far, of each role the first.
@@ -182,10 +182,9 @@ pub fn flow_of(header: &Header, definition: &Definition, octets: &[u8]) -> Flow
     requires { IsWhole definition.now octets.now }
     ensures { result ≡ flow_from header.now (values_of (fields_in definition.now.fields octets.now)) }
 {
-    let plan = definition.plan();
-    let counts = match &plan.places {
-        Some(places) => counts_at(octets, places),
-        None => counts_by(plan.steps.as_slice(), octets),
+    let counts = match &definition.plan().way {
+        Way::ByPlaces(places) => counts_at(octets, places),
+        Way::BySteps(steps) => counts_by(steps.as_slice(), octets),
     };
     counts.flow(header)
 }
