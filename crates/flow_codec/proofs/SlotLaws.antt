@@ -1,7 +1,7 @@
 -- Entries in slots: where each is, and what a change of one slot changes.
-use Rattle.std.proofs.Common.{◌≡◌, ℕ, suc, ◌+◌, ◌<◌, Bool, true, false, cond, eqb, append_assoc, List, [], ◌∷◌, ◌++◌}
+use Rattle.std.proofs.Common.{◌≡◌, ℕ, zero, suc, ◌+◌, ◌<◌, Bool, true, false, cond, eqb, append_assoc, List, [], ◌∷◌}
 use Rattle.std.proofs.Common.{length, set, get_or, drop, drop-cons, add-one, Option, Some, None, refl, sym, ap, subst}
-use Rattle.std.proofs.Common.{◌∙◌, arith, inl, inr}
+use Rattle.std.proofs.Common.{◌++◌, ◌∙◌, arith, inl, inr}
 use Rattle.std.specs.Prelude.{nat_eq, unwrap_or}
 use Rattle.std.specs.Option.{option_map}
 use Rattle.std.specs.List.{slice_get}
@@ -149,6 +149,24 @@ module _ {V : Type 0} (k : ℕ) where
     | inl w ↦ rw w (subst (λ (n : ℕ). place_of n (ss ++ Some (k, v) ∷ []) ≡ Some (length ss)) (eqb-true _ _ w)
         (place-push-same ss v e))
     | inr w ↦ rw w (place-push-other q ss v (apart_back k q w))
+  ]
+
+  -- what stands in a slot is found under its number
+  pub stands : (ss : List (Option (ℕ × V))) (i : ℕ) (v : V) → IsOnce (standing ss) → slice_get ss i ≡ Some (Some (k, v))
+      → found k (standing ss) ≡ Some v
+  stands [] i v once is = absurd cc
+  stands (None ∷ ss) zero v once is = absurd cc
+  stands (None ∷ ss) (suc i) v once is = stands ss i v once is
+  stands (Some x ∷ ss) zero v once is =
+      let e : x ≡ (k, v) = ap (λ (o : Option (Option (ℕ × V))). unwrap_or (unwrap_or o None) x) is in
+      rw (e, same k) refl
+  stands (Some x ∷ ss) (suc i) v once is = elim (by_bool (nat_eq k x.0)) [
+    | inl w ↦
+        let key : x.0 ≡ k = sym (eqb-true _ _ w) in
+        let none : found k (standing ss) ≡ None = subst (λ (n : ℕ). found n (standing ss) ≡ None) key once.0 in
+        let some = stands ss i v once.1 is in
+        absurd cc
+    | inr w ↦ rw w (stands ss i v once.1 is)
   ]
 
   -- ---- a slot that is left empty

@@ -1,7 +1,8 @@
 //! Definitions in slots: a map knows the slot of each ID, so each change takes constant time, wherever it is.
 
-ghost use Rattle.std.specs.Prelude.{◌≡◌, ℕ, suc, ◌+◌, ◌≤◌, [], ◌++◌, ◌==◌, nat_eq, length, OnOk, IfOk};
+ghost use Rattle.std.specs.Prelude.{◌≡◌, ℕ, suc, ◌+◌, ◌<◌, ◌≤◌, [], ◌++◌, ◌==◌, nat_eq, length, OnOk, IfOk};
 ghost use Rattle.std.specs.List.{AllByRecursion};
+ghost use Rattle.std.specs.Box.{box_value};
 ghost use Rattle.std.specs.Map.{lookup};
 ghost use Rattle.std.specs.Option.{option_copied};
 ghost use Rattle.indexmap.specs.IndexMap.{insert_entry, shift_remove_entry};
@@ -23,7 +24,12 @@ use std::collections::HashMap;
 pub(crate) struct SlotTable {
     slots: Vec<Option<(u16, Definition)>>,
     places: HashMap<u16, usize>,
+    /// The places of IDs that were put lately, each where its ID may be remembered. It is looked at before it is used.
+    recent: [usize; RECENT],
 }
+
+/// How many places of IDs are remembered.
+const RECENT: usize = 32;
 
 impl SlotTable {
     pub(crate) fn new(alloc: Global) -> Self
@@ -33,6 +39,7 @@ impl SlotTable {
         SlotTable {
             slots: Vec::new(alloc),
             places: HashMap::new(alloc),
+            recent: [0; RECENT],
         }
     }
 
@@ -43,6 +50,7 @@ impl SlotTable {
         Ok(SlotTable {
             slots: Vec::with_capacity(alloc, count)?,
             places: HashMap::with_capacity(alloc, count)?,
+            recent: [0; RECENT],
         })
     }
 
@@ -53,7 +61,22 @@ impl SlotTable {
         self.places.is_empty()
     }
 
+    /// The definition under an ID. It is first looked for at a place where it may be.
     pub(crate) fn get(&self, id: u16) -> Option<&Definition>
+        requires { IsTable self.now }
+        ensures { option_copied result ≡ lookup (nat_eq id) (entries_of self.now) }
+    {
+        if let Some(Some((here, definition))) = self.slots.get(self.recent[recent_slot(id)]) {
+            if *here == id {
+                return Some(definition);
+            }
+        }
+        self.search(id)
+    }
+
+    /// The definition under an ID, by a search for it.
+    #[inline(never)]
+    fn search(&self, id: u16) -> Option<&Definition>
         requires { IsTable self.now }
         ensures { option_copied result ≡ lookup (nat_eq id) (entries_of self.now) }
     {
@@ -76,10 +99,13 @@ impl SlotTable {
         ensures room { (n : ℕ) → HasRoom (suc n) self.old → HasRoom n self.new }
     {
         if let Some(place) = self.places.get(&id).copied() {
+            self.recent[recent_slot(id)] = place;
             self.slots[place] = Some((id, definition));
             return;
         }
-        let placed: Result<_, _> = self.places.insert(id, self.slots.len());
+        let place = self.slots.len();
+        self.recent[recent_slot(id)] = place;
+        let placed: Result<_, _> = self.places.insert(id, place);
         placed.unwrap();
         let pushed: Result<_, _> = self.slots.push(Some((id, definition)));
         pushed.unwrap();
@@ -161,10 +187,21 @@ impl SlotTable {
         ensures room { OnOk result (HasRoom count self.new) }
     {
         if self.slots.len() / 2 > self.places.len() {
-            *self = self.copy_with_room(count)?;
-            return Ok(());
+            return self.leave_out_empty(count);
         }
         self.grow(count)
+    }
+
+    /// Leaves out empty slots, with room for `count` more definitions.
+    #[inline(never)]
+    fn leave_out_empty(&mut self, count: usize) -> Result<(), AllocError>
+        requires { IsTable self.old }
+        ensures slots { IsTable self.new }
+        ensures entries { entries_of self.new ≡ entries_of self.old }
+        ensures room { OnOk result (HasRoom count self.new) }
+    {
+        *self = self.copy_with_room(count)?;
+        Ok(())
     }
 
     /// Takes the memory for `count` changes: it gives the table that they begin with where that isn't this one.
@@ -180,9 +217,7 @@ impl SlotTable {
             (λ fresh. IsReady (started cleared (entries_of self.old)) count (begun fresh self.new)) }
     {
         if cleared {
-            let alloc = *self.slots.allocator();
-            let fresh = SlotTable::with_room(alloc, count)?;
-            return Ok(Some(Box::new(alloc, fresh)?));
+            return Ok(Some(boxed(*self.slots.allocator(), count)?));
         }
         if count > 0 {
             self.reserve(count)?;
@@ -238,4 +273,19 @@ impl SlotTable {
         self.begin(fresh);
         self.make(changes);
     }
+}
+
+/// Where the place of an ID may be remembered.
+fn recent_slot(id: u16) -> usize
+    ensures { result < 32 }
+{
+    id as usize % RECENT
+}
+
+/// An empty table with room for `count` definitions.
+#[inline(never)]
+fn boxed(alloc: Global, count: usize) -> Result<Box<SlotTable>, AllocError>
+    ensures { IfOk result (λ fresh. IsReady [] count (box_value fresh)) }
+{
+    Ok(Box::new(alloc, SlotTable::with_room(alloc, count)?)?)
 }

@@ -3,7 +3,7 @@
 ghost use Rattle.std.specs.Prelude.{◌⊎◌, ◌≡◌, ◌+◌, ◌≤◌, ◌<◌, length, List, None, OnOk, OnErr, IfOk, IfErr};
 ghost use Rattle.flow_codec.specs.Layout.{smallest};
 ghost use Rattle.flow_codec.specs.Raw.{RawRecord, RawMessage, Took, IsWhole};
-ghost use Rattle.flow_codec.specs.Templates.{AllTemplates};
+ghost use Rattle.flow_codec.specs.Templates.{AllTemplates, definitions_of};
 ghost use Rattle.flow_codec.specs.Working.{current, AreChanges};
 ghost use Rattle.flow_codec.specs.Reading.{Gives, Feeds, FeedsAlone, IsRefused, IsWalked, octets_at, counted_at};
 ghost use Rattle.flow_codec.specs.Reading.{extent_at, records_of, content_at, kind_of, set_at, sets_at, header_at};
@@ -20,7 +20,7 @@ use crate::message::{HEADER, Header, VERSION};
 use crate::numbers::{u16_at, u32_at};
 use crate::plan::{Step, Way};
 use crate::sink::{RecordSink, WalkError};
-use crate::templates::{Definition, Templates};
+use crate::templates::{Definition, DomainTemplates, Templates};
 use crate::working::{Changed, find_in, keep_limits, put_in, templates_of};
 use std::alloc::Global;
 
@@ -143,12 +143,14 @@ fn kind_of(id: u16) -> Option<TemplateKind>
     }
 }
 
-/// Hands the records of a Set that ends at `end` to a sink, or applies its template records.
+/// Hands the records of a Set that ends at `end` to a sink, or applies its template records. `here` was in force in the
+/// message's domain before it.
 #[tactic(auto, unfolding(crate::specs::Reading::content_at, crate::specs::Reading::data_at))]
 fn content_of<S: RecordSink>(
     alloc: Global,
     end: usize,
     before: &Templates,
+    here: &DomainTemplates,
     header: &Header,
     id: u16,
     changed: &mut Option<Changed>,
@@ -156,6 +158,7 @@ fn content_of<S: RecordSink>(
     sink: &mut S,
 ) -> Result<(), WalkError<S::Error>>
     requires end { length octets.now ≤ end }
+    requires here { here.now ≡ definitions_of header.now.domain before.now }
     requires changes { AreChanges header.now.domain before.now changed.old }
     ensures changes { OnOk result (AreChanges header.now.domain before.now changed.new) }
     ensures exact { Feeds (λ records. Took S.holds header.now sink.old records sink.new
@@ -164,13 +167,22 @@ fn content_of<S: RecordSink>(
         (content_at end header.now.domain id (current header.now.domain before.now changed.old) octets.now) }
 {
     if let Some(kind) = kind_of(id) {
-        templates_of(alloc, end, before, header.domain, kind, changed, octets)?;
+        templates_of(
+            alloc,
+            end,
+            before,
+            header.domain,
+            here,
+            kind,
+            changed,
+            octets,
+        )?;
         return Ok(());
     }
     if id < FIRST_DATA_SET {
         return Ok(());
     }
-    match find_in(before, header.domain, changed, id) {
+    match find_in(before, header.domain, here, changed, id) {
         None => Ok(()),
         Some(definition) => records_of(end, header, id, definition, octets, sink),
     }
@@ -212,13 +224,15 @@ fn sets_of<S: RecordSink>(
         (sets_at (length octets.now) end header.now.domain
         (current header.now.domain before.now changed.old) octets.now) }
 {
+    let here = before.here(header.domain);
     let mut rest = octets;
-    while !rest.is_empty() {
+    'sets: while !rest.is_empty() {
         let (id, content, after) = set_of(end - rest.len(), rest)?;
         content_of(
             alloc,
             end - after.len(),
             before,
+            here,
             header,
             id,
             changed,

@@ -124,20 +124,22 @@ impl Changed {
     }
 }
 
-/// The definition in force under an ID.
+/// The definition in force under an ID, in a domain where `here` was in force before the message.
 pub(crate) fn find_in<'a>(
-    before: &'a Templates,
+    before: &Templates,
     domain: u32,
+    here: &'a DomainTemplates,
     changed: &'a Option<Changed>,
     id: u16,
 ) -> Option<&'a Definition>
-    requires { AreChanges domain before.now changed.now }
+    requires here { here.now ≡ definitions_of domain before.now }
+    requires changes { AreChanges domain before.now changed.now }
     ensures { option_copied result ≡ definition_of id (definitions_of domain (current domain before.now changed.now)) }
 {
     before.are_in_force();
     match changed {
-        Some(changed) => changed.find(before.here(domain), id),
-        None => before.find(domain, id),
+        Some(changed) => changed.find(here, id),
+        None => here.find(id),
     }
 }
 
@@ -200,24 +202,26 @@ fn apply_in(
     step_in(alloc, before, domain, here, changed, kind, change)
 }
 
-/// Applies the template records of a Set that ends at `end`. After an `Err`, `changed` is to be thrown away.
+/// Applies the template records of a Set that ends at `end`, in a domain where `here` is in force. After an `Err`,
+/// `changed` is to be thrown away.
 pub(crate) fn templates_of(
     alloc: Global,
     end: usize,
     before: &Templates,
     domain: u32,
+    here: &DomainTemplates,
     kind: TemplateKind,
     changed: &mut Option<Changed>,
     octets: &[u8],
 ) -> Result<(), MessageError>
     requires end { length octets.now ≤ end }
+    requires here { here.now ≡ definitions_of domain before.now }
     requires changes { AreChanges domain before.now changed.old }
     ensures changes { OnOk result (AreChanges domain before.now changed.new) }
     ensures exact { Gives (λ _. current domain before.now changed.new) result
         (templates_at (length octets.now) end domain kind (current domain before.now changed.old) octets.now) }
 {
     let mut rest = octets;
-    let here = before.here(domain);
     while !is_ended(rest) {
         let (change, after) = template_of(alloc, kind, end - rest.len(), rest)?;
         apply_in(alloc, before, domain, here, changed, kind, change)?;

@@ -106,6 +106,7 @@ fn start_of(time: u32, milliseconds: Option<u64>, seconds: Option<u32>) -> u32
 }
 
 /// The numbers that count under these steps.
+#[inline(never)]
 fn counts_by(steps: &[Step], octets: &[u8]) -> Counts
     requires { AllByRecursion IsStep steps.now }
     ensures { result ≡ counts_with no_counts (values_by steps.now octets.now) }
@@ -125,7 +126,21 @@ fn number_at(octets: &[u8], place: Option<Place>) -> Option<u64>
 {
     let place = place?;
     let at = place.at as usize;
-    Some(number_of(&octets[at..at + place.len as usize]))
+    let value = &octets[at..at + place.len as usize];
+    // The length that nearly all exporters use is looked for first.
+    if value.len() == 8 {
+        return Some(number_of(value));
+    }
+    Some(reduced_number_of(value))
+}
+
+/// A number in at most 8 octets, the highest first, as in reduced-size encoding (RFC 7011, section 6.2).
+#[inline(never)]
+fn reduced_number_of(octets: &[u8]) -> u64
+    requires { length octets.now ≤ 8 }
+    ensures { result ≡ number_of octets.now }
+{
+    number_of(octets)
 }
 
 /// The number in the one octet at a place of a record.
@@ -164,6 +179,7 @@ fn milliseconds_at(octets: &[u8], place: Option<Place>) -> Option<u64>
 }
 
 /// The numbers at these places of a record.
+#[inline(always)]
 fn counts_at(octets: &[u8], places: &Places) -> Counts
     requires { ArePlaces octets.now places.now }
     ensures { result ≡ counts_at octets.now places.now }
@@ -178,6 +194,7 @@ fn counts_at(octets: &[u8], places: &Places) -> Counts
 }
 
 /// The flow of a whole record of a Template. Where each field is of fixed length, its numbers are read at their places.
+#[inline(always)]
 pub fn flow_of(header: &Header, definition: &Definition, octets: &[u8]) -> Flow
     requires { IsWhole definition.now octets.now }
     ensures { result ≡ flow_from header.now (values_of (fields_in definition.now.fields octets.now)) }

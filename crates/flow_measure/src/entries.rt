@@ -76,6 +76,14 @@ impl Entries {
                 return Some(near);
             }
         }
+        self.search(Key { ..key })
+    }
+
+    /// The place of a key, by a search for it.
+    #[inline(never)]
+    fn search(&self, key: Key) -> Option<usize>
+        ensures { result ≡ place_of key self.now }
+    {
         self.places.get(&key).copied()
     }
 
@@ -93,6 +101,7 @@ impl Entries {
     }
 
     /// Sums under a new key, at the place behind all others.
+    #[inline(never)]
     fn push(&mut self, key: Key, sums: Sums) -> Result<(), AllocError>
         requires { place_of key self.old ≡ None }
         ensures ok { OnOk result (self.new ≡ self.old ++ (key, sums) ∷ []) }
@@ -104,7 +113,8 @@ impl Entries {
         Ok(())
     }
 
-    /// Adds sums under a key.
+    /// Adds sums under a key. What a new key takes works on copies, so that all else stays in registers.
+    #[inline(always)]
     pub(crate) fn put(&mut self, key: Key, sums: Sums) -> Result<(), SumError>
         ensures { Adds result key sums (map_of self.old) (map_of self.new) }
     {
@@ -114,7 +124,7 @@ impl Entries {
             return self.increase(place, key, sums);
         }
         self.recent[slot] = self.items.len();
-        self.push(key, sums)?;
+        self.push(Key { ..key }, Sums { ..sums })?;
         Ok(())
     }
 

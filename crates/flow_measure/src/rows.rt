@@ -112,6 +112,7 @@ impl Rows {
     }
 
     /// Adds a flow under its key.
+    #[inline(always)]
     pub fn add(&mut self, flow: &Flow) -> Result<(), SumError>
         ensures becomes { Becomes result (with_flow flow.now self.old) self.old self.new }
         ensures sums { OnOk result ((flows : List Flow) → AreSums self.old flows

@@ -4,11 +4,11 @@ use Rattle.flow_codec.specs.Reading.{sets_at}
 use Rattle.flow_codec.proofs.SetLoop.{GoesOn}
 use Rattle.flow_codec.proofs.walk.sets_of.Given as goal
 
-abbrev pub invariant-loop-rest : goal.invariant-loop-rest
-invariant-loop-rest g l = AreChanges l.header.domain l.before l.changed
+abbrev pub invariant-sets : goal.invariant-sets
+invariant-sets g l = AreChanges l.header.domain l.before l.changed
     × GoesOn g.S.RecordSink.holds g.S.RecordSink.refuses l.header l.initial.sink l.end l.header.domain l.octets
     (sets_at (length l.octets) l.end l.header.domain (current l.header.domain l.before l.initial.changed) l.octets)
     l.sink (current l.header.domain l.before l.changed) l.rest
 
-abbrev pub decreases-loop-rest : goal.decreases-loop-rest
-decreases-loop-rest g l = length l.rest
+abbrev pub decreases-sets : goal.decreases-sets
+decreases-sets g l = length l.rest

@@ -1,35 +1,14 @@
-use Rattle.std.proofs.Common.{None, sym, ◌∙◌, arith}
-use Rattle.std.specs.Prelude.{nat_eq}
-use Rattle.std.specs.HashMap.{get}
-use Rattle.flow_codec.specs.Slots.{entries_of}
-use Rattle.flow_codec.proofs.SlotLaws.{within, seen-value, seen-empty, missing, none_found}
+use Rattle.std.proofs.Common.{◌≡◌, Some, length, refl, sym, ap, ◌∙◌}
+use Rattle.std.proofs.lemmas.Option.{slice_get_read}
+use Rattle.flow_codec.proofs.SlotLaws.{stands}
 use Rattle.flow_codec.proofs.slot_table.SlotTable.get.Goals as goal
 
-pub returns-then-is_empty : goal.returns-then-is_empty
-returns-then-is_empty c = none_found c.args.id (entries_of c.args.self.now) (sym c.if-is_empty.true ∙ c.is_empty.ensures)
-
-pub returns-in_err-place : goal.returns-in_err-place
-returns-in_err-place c =
-    rw c.from_residual.ensures
-    (sym (missing c.args.id c.args.self.now.slots.items (get nat_eq c.args.self.now.places) (λ _. None) c.requires
-    (sym c.in_err-place.ensures.value)))
-
-pub index-requires : goal.index-requires
-index-requires c = omega (
-  arith,
-  within c.args.id c.args.self.now.slots.items (get nat_eq c.args.self.now.places)
-      (λ _. None) c.requires c.in_ok-place.field-0.now (sym c.in_ok-place.ensures.value),
-)
-
-pub returns-in-Some : goal.returns-in-Some
-returns-in-Some c =
-    sym (seen-value c.args.id c.args.self.now.slots.items (get nat_eq c.args.self.now.places)
-    (λ _. None) c.requires c.in_ok-place.field-0.now
-    (sym c.in_ok-place.ensures.value) c.index.result.now c.in-Some.field-0-0 c.in-Some.definition c.index.ensures
-    c.in-Some.is)
-
-pub returns-in-None : goal.returns-in-None
-returns-in-None c =
-    absurd (seen-empty c.args.id c.args.self.now.slots.items (get nat_eq c.args.self.now.places)
-    (λ _. None) c.requires c.in_ok-place.field-0.now
-    (sym c.in_ok-place.ensures.value) c.index.result.now c.index.ensures c.in-None.is)
+pub returns-then-here-id : goal.returns-then-here-id
+returns-then-here-id c =
+    let way = c.in-Some-Some in
+    let h = rw way.is at c.get.ensures.lookup in
+    let slots = c.deref.result.now in
+    let same : slots ≡ c.args.self.now.slots.items = c.deref.ensures.value in
+    let entry = way.field-0-is ∙ ap (λ n. Some (n, way.definition)) c.if-here-id.true in
+    let at = slice_get_read slots (length slots) _ way.field-0.now refl h.3.0 h.1 ∙ ap (λ e. Some e) entry in
+    sym (stands c.args.id c.args.self.now.slots.items _ way.definition c.requires.once (rw same at at))

@@ -32,7 +32,7 @@ returns-clause-slots c =
       c.args.id,
       c.args.definition,
     ) ∷ [] = rw (c.push-pushed.ensures.items, c.unwrap-2.ensures) refl in
-    let len : c.len.result ≡ length c.args.self.now.slots.items = omega (arith, c.len.ensures) in
+    let len : c.len-place.result ≡ length c.args.self.now.slots.items = omega (arith, c.len-place.ensures) in
     rw items (pushed c.args.id c.args.self.now.slots.items (get nat_eq c.args.self.now.places)
     (get nat_eq c.insert-placed.new.self) c.requires.slots c.args.definition none
     (λ q. (rw c.unwrap.ensures at c.insert-placed.ensures.updates).0 q
