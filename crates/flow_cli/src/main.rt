@@ -53,7 +53,3 @@ fn main(rt: HostRuntime) -> ExitCode {
 
 #[cfg(test)]
 mod tests;
-#[cfg(test)]
-mod tests_archive;
-#[cfg(test)]
-mod tests_feed;

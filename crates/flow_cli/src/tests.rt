@@ -1,25 +1,25 @@
+// What no clause says and no case of cases/ can: readers and writers that fail, and what is shown before a terminal.
 use flow_commands::Progress;
 use flow_words::run_line;
 use std::alloc::{AllocError, Global};
-use std::io;
 use std::io::{ErrorKind, Read, Write};
 use std::process::Abort;
 use std::test::*;
+use std::{fs, io};
 
 /// A template of elements 150, 4, 1 and 2, and a flow.
-pub(crate) const PLAIN: &str =
+const PLAIN: &str =
     "000A0039 6553F100 00000000 00000007 | 00020018 0100 0004 00960004 00040001 00010004 00020004 | 01000011 \
      6553F100 06 000005DC 0000000A";
 
-/// What is told of a word that isn't understood.
-const UNKNOWN: &str =
-    "a word isn't understood; a File is read from standard input: flowvault measure 300 < FILE";
+/// The head of a message of 65,535 octets, with one Set of ID 4, which is passed over.
+const LONGEST: &str = "000AFFFF 6553F100 00000000 00000007 | 0004FFEF";
 
 /// The line of the plain message.
 const PLAIN_LINE: &str = "1699999800 7 6 1 1500 10\n";
 
 /// The octets of words of hexadecimal digits, parted by spaces and bars.
-pub(crate) fn decoded(alloc: Global, text: &str) -> Result<Vec<u8>, Fail> {
+fn decoded(alloc: Global, text: &str) -> Result<Vec<u8>, Fail> {
     let mut octets = Vec::new(alloc);
     for word in text.split_whitespace() {
         if word != "|" {
@@ -32,13 +32,13 @@ pub(crate) fn decoded(alloc: Global, text: &str) -> Result<Vec<u8>, Fail> {
 /// What a run answered: its status, and what it told on standard error. A test sees nothing else of it, so that it is
 /// proved without all that a run promises.
 #[derive(Drop)]
-pub(crate) struct Answer {
-    pub(crate) status: u8,
-    pub(crate) told: Vec<u8>,
+struct Answer {
+    status: u8,
+    told: Vec<u8>,
 }
 
 /// Runs these words, behind the program's name, where standard error is no terminal.
-pub(crate) fn ran<R: Read, W: Write>(
+fn ran<R: Read, W: Write>(
     host: &HostRuntime,
     words: &[&str],
     input: &mut R,
@@ -49,7 +49,7 @@ pub(crate) fn ran<R: Read, W: Write>(
 }
 
 /// Runs these words, where progress is shown.
-pub(crate) fn ran_before<R: Read, W: Write, P: Write + Drop>(
+fn ran_before<R: Read, W: Write, P: Write + Drop>(
     host: &HostRuntime,
     words: &[&str],
     input: &mut R,
@@ -66,7 +66,7 @@ pub(crate) fn ran_before<R: Read, W: Write, P: Write + Drop>(
 }
 
 /// Runs these words on a File, and compares all that it answers.
-pub(crate) fn answers(
+fn answers(
     rt: &impl Abort,
     host: &HostRuntime,
     words: &[&str],
@@ -95,30 +95,6 @@ fn a_file_is_measured_or_refused(rt: HostRuntime) -> Result<(), Fail> {
     answers(&rt, &rt, words.as_slice(), &[0], 1, "", cut)
 }
 
-#[test]
-fn widths_on_the_command_line(rt: HostRuntime) -> Result<(), Fail> {
-    let alloc = rt.alloc();
-    let file = decoded(alloc, PLAIN)?;
-    for (word, status, lines) in [
-        ("300", 0, PLAIN_LINE),
-        ("00300", 0, PLAIN_LINE),
-        ("86400", 0, "1699920000 7 6 1 1500 10\n"),
-        ("0", 2, ""),
-        ("86401", 2, ""),
-        ("+300", 2, ""),
-        ("3 0", 2, ""),
-        ("", 2, ""),
-        ("99999999999999999999999999", 2, ""),
-    ] {
-        let mut output = Vec::new(alloc);
-        let got = ran(&rt, &["measure", word], &mut file.as_slice(), &mut output)?;
-        assert_eq!(rt; got.status, status);
-        assert_eq!(rt; output.as_slice(), lines.as_bytes());
-        assert_eq!(rt; got.told.is_empty(), status == 0);
-    }
-    Ok(())
-}
-
 /// A reader that is interrupted at every call.
 #[derive(Drop)]
 struct Interrupted;
@@ -140,62 +116,10 @@ fn a_reader_that_never_answers(rt: HostRuntime) -> Result<(), Fail> {
     Ok(())
 }
 
-/// Words that ask for nothing are told in one line, and those that ask for help get it in lines of at most 80 columns.
-#[test]
-fn wrong_words_and_help(rt: HostRuntime) -> Result<(), Fail> {
-    let alloc = rt.alloc();
-    for (words, told) in [
-        (
-            [].as_slice(),
-            "a command is needed: flowvault --help lists them",
-        ),
-        (
-            ["measure"].as_slice(),
-            "an argument is missing, as WIDTH in: flowvault measure 300 < FILE; flowvault help COMMAND tells them",
-        ),
-        (
-            ["measure", "FILE"].as_slice(),
-            "WIDTH is 1 to 86400, digits alone, as in: flowvault measure 300 < FILE",
-        ),
-        (["measure", "300", "FILE"].as_slice(), UNKNOWN),
-        (["dump", "FILE"].as_slice(), UNKNOWN),
-        (["FILE"].as_slice(), UNKNOWN),
-        (["--width"].as_slice(), UNKNOWN),
-        (["measure", "-3"].as_slice(), UNKNOWN),
-        (["--help"].as_slice(), ""),
-        (["-h"].as_slice(), ""),
-        (["--version"].as_slice(), ""),
-        (["help", "measure"].as_slice(), ""),
-        (["measure", "--help"].as_slice(), ""),
-        (["dump", "-h"].as_slice(), ""),
-        (["create", "--help"].as_slice(), ""),
-        (["help", "check"].as_slice(), ""),
-    ] {
-        let mut output = Vec::new(alloc);
-        let got = ran(&rt, words, &mut Interrupted, &mut output)?;
-        let is_help = told.is_empty();
-        assert_eq!(rt; got.status, if is_help { 0 } else { 2 });
-        assert_eq!(rt; output.is_empty(), !is_help);
-        let want = if is_help {
-            String::new(alloc)
-        } else {
-            format!(in alloc; "flowvault: {told}\n")?
-        };
-        assert_eq!(rt; got.told.as_slice(), want.as_bytes());
-        for shown in String::from_utf8_lossy(alloc, output.as_slice())?
-            .as_str()
-            .lines()
-        {
-            assert!(rt; shown.len() <= 80, "{shown}");
-        }
-    }
-    Ok(())
-}
-
 /// Takes octets while it has room, and then nothing.
 #[derive(Drop)]
-pub(crate) struct Narrow {
-    pub(crate) room: usize,
+struct Narrow {
+    room: usize,
 }
 
 impl Write for Narrow {
@@ -236,5 +160,78 @@ fn help_that_is_written_or_not(rt: HostRuntime) -> Result<(), Fail> {
     assert_eq!(rt; got.status, 3);
     assert_eq!(rt; output.room, 0);
     assert_eq!(rt; got.told.as_slice(), b"flowvault: 32 Write\n".as_slice());
+    Ok(())
+}
+
+/// An archive in a folder, and beside it a File of the plain message.
+fn with_file(rt: &HostRuntime, folder: &str) -> Result<(), Fail> {
+    let alloc = rt.alloc();
+    let _ = fs::remove_dir_all(rt, folder);
+    fs::create_dir(rt, folder)?;
+    let path = format!(in alloc; "{folder}.ipfix")?;
+    fs::write(rt, path.as_str(), decoded(alloc, PLAIN)?.as_slice())?;
+    let mut output = Vec::new(alloc);
+    let words = ["create", folder, "300"];
+    let got = ran(rt, words.as_slice(), &mut b"".as_slice(), &mut output)?;
+    if got.status == 0 {
+        Ok(())
+    } else {
+        Err(Fail::from("no archive was made"))
+    }
+}
+
+/// What was taken in stays where its line can't be written, and no other File is fed then.
+#[test]
+fn a_line_that_is_not_written(rt: HostRuntime) -> Result<(), Fail> {
+    with_file(&rt, "cli_mute")?;
+    let words = ["feed", "cli_mute", "cli_mute.ipfix", "cli_mute.ipfix"];
+    let mut output = Narrow { room: 4 };
+    let got = ran(&rt, words.as_slice(), &mut b"".as_slice(), &mut output)?;
+    assert_eq!(rt; got.status, 3);
+    assert_eq!(rt; got.told.as_slice(), b"flowvault: 32 Write\n".as_slice());
+    let check = ["check", "cli_mute"];
+    answers(&rt, &rt, check.as_slice(), &[], 0, "ok 1 0 0 0\n", "")?;
+    fs::remove_dir_all(&rt, "cli_mute")?;
+    Ok(())
+}
+
+/// The longest message and the plain one, 33 times: two mebibytes and more.
+fn large_file(rt: &HostRuntime, path: &str) -> Result<(), Fail> {
+    let alloc = rt.alloc();
+    let plain = decoded(alloc, PLAIN)?;
+    let head = decoded(alloc, LONGEST)?;
+    let mut octets = Vec::new(alloc);
+    for _ in 0..33 {
+        let end = octets.len() + 65_535;
+        octets.extend_from_slice(head.as_slice())?;
+        octets.resize(end, 0)?;
+        octets.extend_from_slice(plain.as_slice())?;
+    }
+    Ok(fs::write(rt, path, octets.as_slice())?)
+}
+
+/// Where standard error is a terminal, each mebibyte that is read is shown there, and cleared before the File's line.
+#[test]
+fn progress_before_a_terminal(rt: HostRuntime) -> Result<(), Fail> {
+    with_file(&rt, "cli_shown")?;
+    large_file(&rt, "cli_large.ipfix")?;
+    let words = ["feed", "cli_shown", "cli_shown.ipfix", "cli_large.ipfix"];
+    let mut seen = Vec::new(rt.alloc());
+    let mut output = Vec::new(rt.alloc());
+    let mut progress = Progress::new(Some(&mut seen));
+    let got = ran_before(
+        &rt,
+        words.as_slice(),
+        &mut b"".as_slice(),
+        &mut output,
+        &mut progress,
+    )?;
+    drop(progress);
+    assert_eq!(rt; got.status, 0);
+    assert!(rt; got.told.is_empty());
+    assert_eq!(rt; output.as_slice(), b"fed 1 1\nfed 2 66\n".as_slice());
+    let shown = b"\rFile 2: 1 MiB read\rFile 2: 2 MiB read\r\x1b[K".as_slice();
+    assert_eq!(rt; seen.as_slice(), shown);
+    fs::remove_dir_all(&rt, "cli_shown")?;
     Ok(())
 }

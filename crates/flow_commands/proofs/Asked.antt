@@ -76,8 +76,7 @@ not_found has_answer reads refusal.OutOfMemory told = tt
 not_found has_answer reads (refusal.Query e) told = absurd told
 not_found has_answer reads (refusal.Write failed) told = absurd told
 not_found has_answer reads (refusal.Archive e) told = absurd told
-not_found has_answer reads refusal.Away told = absurd told
-not_found has_answer reads refusal.InUse told = absurd told
+not_found has_answer reads (refusal.Folder why) told = absurd told
 
 pub sums_told : (fit : View → Type 0) (reads : ℕ → List ℕ) (first : ℕ) (v : View) → IsViewRead reads v
     → (e : QueryError) → IsSpent first (fit v) e → IsNotFound fit reads (of_query e)
@@ -104,8 +103,7 @@ none_told lines has_answer reads output refusal.OutOfMemory told = Keeps-refl ou
 none_told lines has_answer reads output (refusal.Query e) told = (told, Keeps-refl output)
 none_told lines has_answer reads output (refusal.Write failed) told = absurd told
 none_told lines has_answer reads output (refusal.Archive e) told = absurd told
-none_told lines has_answer reads output refusal.Away told = absurd told
-none_told lines has_answer reads output refusal.InUse told = absurd told
+none_told lines has_answer reads output (refusal.Folder why) told = absurd told
 
 pub none_written : (are : List ℕ → Type 0) (output : Option (List ℕ)) (e : ArchiveRefusal) → IsBeforeWriting e
     → WritesOrNot are e output output
@@ -114,8 +112,7 @@ none_written are output refusal.OutOfMemory before = Keeps-refl output
 none_written are output (refusal.Query e) before = Keeps-refl output
 none_written are output (refusal.Write failed) before = absurd before
 none_written are output (refusal.Archive e) before = Keeps-refl output
-none_written are output refusal.Away before = Keeps-refl output
-none_written are output refusal.InUse before = Keeps-refl output
+none_written are output (refusal.Folder why) before = Keeps-refl output
 
 -- a folder that can't be opened
 pub away_kept : {A : Type 0} (r : Result A ArchiveRefusal) (are : List ℕ → Type 0) (output : Option (List ℕ))
@@ -129,8 +126,7 @@ away_kept (Err e) are output none = by e
     by (refusal.Query e) = Keeps-refl output
     by (refusal.Write failed) = ([], none, (0, omega arith, Appends-nil output))
     by (refusal.Archive e) = Keeps-refl output
-    by refusal.Away = Keeps-refl output
-    by refusal.InUse = Keeps-refl output
+    by (refusal.Folder why) = Keeps-refl output
 
 -- ---- answers
 

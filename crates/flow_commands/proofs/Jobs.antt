@@ -21,8 +21,7 @@ kept_before are old new refusal.OutOfMemory before kept = kept
 kept_before are old new (refusal.Query e) before kept = kept
 kept_before are old new (refusal.Write failed) before kept = absurd before
 kept_before are old new (refusal.Archive e) before kept = kept
-kept_before are old new refusal.Away before kept = kept
-kept_before are old new refusal.InUse before kept = kept
+kept_before are old new (refusal.Folder why) before kept = kept
 
 event_unwritten : (e : ArchiveError) → IsBeforeWriting (of_archive e)
 event_unwritten (archive.Message fault) = tt
@@ -48,6 +47,8 @@ pub folder_unwritten : (are : List ℕ → Type 0) (output : Option (List ℕ)) 
     → WritesOrNot are (of_folder e) output output
 folder_unwritten are output folder.NotThere = Keeps-refl output
 folder_unwritten are output folder.InUse = Keeps-refl output
+folder_unwritten are output (folder.NotAFile file) = Keeps-refl output
+folder_unwritten are output folder.NoHandles = Keeps-refl output
 folder_unwritten are output folder.OutOfMemory = Keeps-refl output
 folder_unwritten are output (folder.Refused error) = Keeps-refl output
 
@@ -67,8 +68,7 @@ job_kept kind (Ok count) old new (Err refusal.OutOfMemory) tells = tells
 job_kept kind (Ok count) old new (Err (refusal.Opening e)) tells = absurd tells
 job_kept kind (Ok count) old new (Err (refusal.Archive e)) tells = absurd tells
 job_kept kind (Ok count) old new (Err (refusal.Query e)) tells = absurd tells
-job_kept kind (Ok count) old new (Err refusal.Away) tells = absurd tells
-job_kept kind (Ok count) old new (Err refusal.InUse) tells = absurd tells
+job_kept kind (Ok count) old new (Err (refusal.Folder why)) tells = absurd tells
 job_kept kind (Err error) old new (Err e) tells =
     let is = tells.0 in
     let same : e ≡ of_archive error = cc in

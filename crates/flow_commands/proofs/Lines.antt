@@ -163,8 +163,7 @@ module _ {D : Type 0} (honest : D → Bool) (moment : D → ℕ) (left_since : D
     unwritten (refusal.Opening e) told = absurd told
     unwritten (refusal.Archive e) told = absurd told
     unwritten (refusal.Query e) told = absurd told
-    unwritten refusal.Away told = absurd told
-    unwritten refusal.InUse told = absurd told
+    unwritten (refusal.Folder why) told = absurd told
 
     -- a File whose line isn't written, where that is passed on
     pub line_refused : (e : ArchiveRefusal) (paths : ℕ) (refused : Option ArchiveError)
@@ -268,8 +267,7 @@ fed_err count feds refused old new e (inr (un, front)) = by e un
     by (refusal.Opening e) un = absurd un
     by (refusal.Archive e) un = absurd un
     by (refusal.Query e) un = absurd un
-    by refusal.Away un = absurd un
-    by refusal.InUse un = absurd un
+    by (refusal.Folder why) un = absurd un
 
 -- why feeding is refused, once the archive is opened
 rolling_not_fed : (reads : ℕ → List ℕ) (e : ArchiveError) → IsNotFed reads (of_archive e)
@@ -309,8 +307,7 @@ not_fed reads count feds refused old new e (inr (un, front)) = by e un
     by (refusal.Opening e) un = absurd un
     by (refusal.Archive e) un = absurd un
     by (refusal.Query e) un = absurd un
-    by refusal.Away un = absurd un
-    by refusal.InUse un = absurd un
+    by (refusal.Folder why) un = absurd un
 
 module _ {D : Type 0} (honest : D → Bool) (moment : D → ℕ) (left_since : D → ℕ → (ℕ → List ℕ) → Type 0)
     (old now : Seen D) (start roller : Roller) (count : ℕ) (refused : Option ArchiveError)
@@ -360,5 +357,7 @@ pub folder_kept : (count : ℕ) (output : Option (List ℕ)) (e : FolderError)
     → KeepsOrFeeds count (of_folder e) output output
 folder_kept count output folder.NotThere = Keeps-refl output
 folder_kept count output folder.InUse = Keeps-refl output
+folder_kept count output (folder.NotAFile file) = Keeps-refl output
+folder_kept count output folder.NoHandles = Keeps-refl output
 folder_kept count output folder.OutOfMemory = ([], (0, omega arith, Appends-nil output))
 folder_kept count output (folder.Refused error) = Keeps-refl output

@@ -13,8 +13,7 @@ kept_anyway (refusal.Opening e) output = Keeps-refl output
 kept_anyway refusal.OutOfMemory output = Keeps-refl output
 kept_anyway (refusal.Archive e) output = Keeps-refl output
 kept_anyway (refusal.Query e) output = Keeps-refl output
-kept_anyway refusal.Away output = Keeps-refl output
-kept_anyway refusal.InUse output = Keeps-refl output
+kept_anyway (refusal.Folder why) output = Keeps-refl output
 
 pub on_any_refusal : {A : Type 0} (r : Result A ArchiveRefusal) (P : ArchiveRefusal → Type 0)
     → ((e : ArchiveRefusal) → P e) → IfErr r P

@@ -1,10 +1,11 @@
 -- The refusals of commands over an archive: how they are printed, and their statuses.
-use Rattle.std.specs.Prelude.{ℕ, List, codes}
+use Rattle.std.specs.Prelude.{ℕ, List, ◌++◌, codes}
 use Rattle.flow_archive.specs.declared.refusal.ArchiveError.{ArchiveError}
 use Rattle.flow_archive.specs.declared.refusal.ArchiveError.TheVariants as archive
 use Rattle.flow_archive.specs.Refusals.{archive_text}
 use Rattle.flow_folder.specs.declared.system.FolderError.{FolderError}
 use Rattle.flow_folder.specs.declared.system.FolderError.TheVariants as folder
+use Rattle.flow_folder.specs.Naming.{name_of}
 use Rattle.flow_recover.specs.declared.error.RecoverError.{RecoverError}
 use Rattle.flow_recover.specs.declared.error.RecoverError.TheVariants as opening
 use Rattle.flow_recover.specs.Printed.{printed as opening_text}
@@ -14,14 +15,24 @@ use Rattle.flow_snapshot.specs.Told.{printed as query_text}
 use Rattle.flow_report.specs.declared.text_error.TextError.{TextError}
 use Rattle.flow_report.specs.declared.text_error.TextError.TheVariants as text
 use Rattle.flow_commands.specs.declared.archive_refusal.ArchiveRefusal.{ArchiveRefusal}
-use Rattle.flow_commands.specs.declared.archive_refusal.ArchiveRefusal.TheVariants.{Away, InUse, Opening, Archive}
+use Rattle.flow_commands.specs.declared.archive_refusal.ArchiveRefusal.TheVariants.{Folder, Opening, Archive}
+use Rattle.flow_commands.specs.declared.folder_fault.FolderFault.{FolderFault}
+use Rattle.flow_commands.specs.declared.folder_fault.FolderFault.TheVariants.{Away, InUse, NotAFile, NoHandles}
 use Rattle.flow_commands.specs.declared.archive_refusal.ArchiveRefusal.TheVariants.{Query}
 use Rattle.flow_commands.specs.declared.archive_refusal.ArchiveRefusal.TheVariants.{OutOfMemory, Write}
 
--- the number, the name and what the refusal carries; a second line tells that the folder is in use
+-- Of a folder a second line says that it is in use, which name in it isn't a file's, or what the system lacks.
+abbrev pub fault_printed : FolderFault → List ℕ
+fault_printed Away = codes "30 Fault"
+fault_printed InUse = codes "30 Fault\nflowvault: the folder is in use, by a flowvault that still runs"
+fault_printed (NotAFile file) =
+    codes "30 Fault\nflowvault: " ++ name_of file
+    ++ codes " in the folder is a link, a folder, a pipe or a device, and not a file"
+fault_printed NoHandles = codes "30 Fault\nflowvault: the system's list of open files, /proc/self/fd, isn't there"
+
+-- the number, the name and what the refusal carries
 abbrev pub archive_printed : ArchiveRefusal → List ℕ
-archive_printed Away = codes "30 Fault"
-archive_printed InUse = codes "30 Fault\nflowvault: the folder is in use, by a flowvault that still runs"
+archive_printed (Folder fault) = fault_printed fault
 archive_printed (Opening e) = opening_text e
 archive_printed (Archive e) = archive_text e
 archive_printed (Query e) = query_text e
@@ -49,8 +60,7 @@ query_status query.Fault = 3
 query_status query.OutOfMemory = 4
 
 abbrev pub archive_status : ArchiveRefusal → ℕ
-archive_status Away = 3
-archive_status InUse = 3
+archive_status (Folder fault) = 3
 archive_status (Opening e) = opening_status e
 archive_status (Archive e) = event_status e
 archive_status (Query e) = query_status e
@@ -76,7 +86,9 @@ of_text text.OutOfMemory = OutOfMemory
 of_text (text.Write failed) = Write failed
 
 abbrev pub of_folder : FolderError → ArchiveRefusal
-of_folder folder.NotThere = Away
-of_folder folder.InUse = InUse
+of_folder folder.NotThere = Folder Away
+of_folder folder.InUse = Folder InUse
+of_folder (folder.NotAFile file) = Folder (NotAFile file)
+of_folder folder.NoHandles = Folder NoHandles
 of_folder folder.OutOfMemory = OutOfMemory
-of_folder (folder.Refused error) = Away
+of_folder (folder.Refused error) = Folder Away

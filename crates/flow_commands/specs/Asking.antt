@@ -16,7 +16,7 @@ use Rattle.flow_recover.specs.Shelved.{shelf_of}
 use Rattle.flow_recover.specs.Standing.{StandsFor}
 use Rattle.flow_recover.specs.State.{State}
 use Rattle.flow_commands.specs.declared.archive_refusal.ArchiveRefusal.{ArchiveRefusal}
-use Rattle.flow_commands.specs.declared.archive_refusal.ArchiveRefusal.TheVariants.{Away, InUse, Opening, Archive}
+use Rattle.flow_commands.specs.declared.archive_refusal.ArchiveRefusal.TheVariants.{Folder, Opening, Archive}
 use Rattle.flow_commands.specs.declared.archive_refusal.ArchiveRefusal.TheVariants.{Query}
 use Rattle.flow_commands.specs.declared.archive_refusal.ArchiveRefusal.TheVariants.{OutOfMemory, Write}
 use Rattle.flow_report.specs.ArchiveLines.{flows_text, rows_text}
@@ -62,8 +62,7 @@ IsNotAsked reads OutOfMemory = ⊤
 IsNotAsked reads (Query e) = ⊥
 IsNotAsked reads (Write failed) = ⊥
 IsNotAsked reads (Archive e) = ⊥
-IsNotAsked reads Away = ⊥
-IsNotAsked reads InUse = ⊥
+IsNotAsked reads (Folder why) = ⊥
 
 -- Why a query isn't answered: a read failed, or memory ran out; damage is told only where the view has no answer.
 abbrev pub IsQueryFault : (View → Type 0) → (ℕ → List ℕ) → QueryError → Type 0
@@ -78,8 +77,7 @@ IsNotFound has_answer reads OutOfMemory = ⊤
 IsNotFound has_answer reads (Query e) = IsQueryFault has_answer reads e
 IsNotFound has_answer reads (Write failed) = ⊥
 IsNotFound has_answer reads (Archive e) = ⊥
-IsNotFound has_answer reads Away = ⊥
-IsNotFound has_answer reads InUse = ⊥
+IsNotFound has_answer reads (Folder why) = ⊥
 
 -- the lines of what was read were written
 abbrev pub TellsLines : (View → List ℕ) → (ℕ → List ℕ) → Option (List ℕ) → Option (List ℕ) → Type 0
@@ -94,8 +92,7 @@ TellsNoLines lines has_answer reads old new (Opening e) = IsNotFound has_answer 
 TellsNoLines lines has_answer reads old new (Query e) = IsNotFound has_answer reads (Query e) × Keeps old new
 TellsNoLines lines has_answer reads old new OutOfMemory = Keeps old new
 TellsNoLines lines has_answer reads old new (Archive e) = ⊥
-TellsNoLines lines has_answer reads old new Away = ⊥
-TellsNoLines lines has_answer reads old new InUse = ⊥
+TellsNoLines lines has_answer reads old new (Folder why) = ⊥
 
 -- a view whose flows are asked for always has an answer
 abbrev pub Always : View → Type 0
@@ -121,8 +118,7 @@ WritesOrNot are (Opening e) old new = Keeps old new
 WritesOrNot are (Query e) old new = Keeps old new
 WritesOrNot are OutOfMemory old new = Keeps old new
 WritesOrNot are (Archive e) old new = Keeps old new
-WritesOrNot are Away old new = Keeps old new
-WritesOrNot are InUse old new = Keeps old new
+WritesOrNot are (Folder why) old new = Keeps old new
 
 -- a refusal before anything is written
 abbrev pub IsBeforeWriting : ArchiveRefusal → Type 0
@@ -131,5 +127,4 @@ IsBeforeWriting (Opening e) = ⊤
 IsBeforeWriting (Query e) = ⊤
 IsBeforeWriting OutOfMemory = ⊤
 IsBeforeWriting (Archive e) = ⊤
-IsBeforeWriting Away = ⊤
-IsBeforeWriting InUse = ⊤
+IsBeforeWriting (Folder why) = ⊤

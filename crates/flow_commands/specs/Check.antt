@@ -10,7 +10,7 @@ use Rattle.flow_recover.specs.Standing.{StandsFor}
 use Rattle.flow_recover.specs.State.{State}
 use Rattle.flow_archive.specs.Answers.{position_of}
 use Rattle.flow_commands.specs.declared.archive_refusal.ArchiveRefusal.{ArchiveRefusal}
-use Rattle.flow_commands.specs.declared.archive_refusal.ArchiveRefusal.TheVariants.{Away, InUse, Opening, Archive}
+use Rattle.flow_commands.specs.declared.archive_refusal.ArchiveRefusal.TheVariants.{Folder, Opening, Archive}
 use Rattle.flow_commands.specs.declared.archive_refusal.ArchiveRefusal.TheVariants.{Query}
 use Rattle.flow_commands.specs.declared.archive_refusal.ArchiveRefusal.TheVariants.{OutOfMemory, Write}
 use Rattle.flow_commands.specs.declared.checking.Standing.{Standing}
@@ -48,8 +48,7 @@ IsCheckRefused reads old new (Opening e) = (IsDeviceOrMemory e ⊎ StandsForNone
 IsCheckRefused reads old new OutOfMemory = Keeps old new
 IsCheckRefused reads old new (Archive e) = ⊥
 IsCheckRefused reads old new (Query e) = ⊥
-IsCheckRefused reads old new Away = ⊥
-IsCheckRefused reads old new InUse = ⊥
+IsCheckRefused reads old new (Folder why) = ⊥
 
 -- ---- on every disk
 
@@ -64,5 +63,4 @@ KeepsOrChecks (Opening e) old new = Keeps old new
 KeepsOrChecks OutOfMemory old new = Keeps old new
 KeepsOrChecks (Archive e) old new = Keeps old new
 KeepsOrChecks (Query e) old new = Keeps old new
-KeepsOrChecks Away old new = Keeps old new
-KeepsOrChecks InUse old new = Keeps old new
+KeepsOrChecks (Folder why) old new = Keeps old new

@@ -18,7 +18,7 @@ use Rattle.flow_feed.specs.declared.batch.FeedStop.TheVariants as stop
 use Rattle.flow_feed.specs.Feed.{IsFed}
 use Rattle.flow_report.specs.Writing.{AppendsFront}
 use Rattle.flow_commands.specs.declared.archive_refusal.ArchiveRefusal.{ArchiveRefusal}
-use Rattle.flow_commands.specs.declared.archive_refusal.ArchiveRefusal.TheVariants.{Away, InUse, Opening, Archive}
+use Rattle.flow_commands.specs.declared.archive_refusal.ArchiveRefusal.TheVariants.{Folder, Opening, Archive}
 use Rattle.flow_commands.specs.declared.archive_refusal.ArchiveRefusal.TheVariants.{Query}
 use Rattle.flow_commands.specs.declared.archive_refusal.ArchiveRefusal.TheVariants.{OutOfMemory, Write}
 use Rattle.flow_commands.specs.Archives.{event_status, of_archive}
@@ -151,8 +151,7 @@ TellsFile number fed old new (Err OutOfMemory) = Keeps old new
 TellsFile number fed old new (Err (Opening e)) = ⊥
 TellsFile number fed old new (Err (Archive e)) = ⊥
 TellsFile number fed old new (Err (Query e)) = ⊥
-TellsFile number fed old new (Err Away) = ⊥
-TellsFile number fed old new (Err InUse) = ⊥
+TellsFile number fed old new (Err (Folder why)) = ⊥
 
 -- a line couldn't be made, or written
 abbrev pub IsUnwritten : Result ℕ ArchiveRefusal → Type 0
@@ -162,8 +161,7 @@ IsUnwritten (Err OutOfMemory) = ⊤
 IsUnwritten (Err (Opening e)) = ⊥
 IsUnwritten (Err (Archive e)) = ⊥
 IsUnwritten (Err (Query e)) = ⊥
-IsUnwritten (Err Away) = ⊥
-IsUnwritten (Err InUse) = ⊥
+IsUnwritten (Err (Folder why)) = ⊥
 
 -- A line was written for each of so many Files, in their order, and then feeding ended; or a line couldn't be written,
 -- and up to it all were.
@@ -182,8 +180,7 @@ IsNotFed reads (Archive e) = ⊤
 IsNotFed reads (Write failed) = ⊤
 IsNotFed reads OutOfMemory = ⊤
 IsNotFed reads (Query e) = ⊥
-IsNotFed reads Away = ⊥
-IsNotFed reads InUse = ⊥
+IsNotFed reads (Folder why) = ⊥
 
 -- ---- of an archive in a folder
 
@@ -207,5 +204,4 @@ KeepsOrFeeds count (Write failed) old new = (feds : List Fed) × AppendsFront ol
 KeepsOrFeeds count OutOfMemory old new = (feds : List Fed) × AppendsFront old new (fed_lines 0 feds)
 KeepsOrFeeds count (Opening e) old new = Keeps old new
 KeepsOrFeeds count (Query e) old new = Keeps old new
-KeepsOrFeeds count Away old new = Keeps old new
-KeepsOrFeeds count InUse old new = Keeps old new
+KeepsOrFeeds count (Folder why) old new = Keeps old new

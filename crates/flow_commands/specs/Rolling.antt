@@ -7,7 +7,7 @@ use Rattle.flow_manifest.specs.declared.following.JobKind.TheVariants.{Roll, Mer
 use Rattle.flow_archive.specs.declared.refusal.ArchiveError.{ArchiveError}
 use Rattle.flow_report.specs.Writing.{AppendsFront}
 use Rattle.flow_commands.specs.declared.archive_refusal.ArchiveRefusal.{ArchiveRefusal}
-use Rattle.flow_commands.specs.declared.archive_refusal.ArchiveRefusal.TheVariants.{Away, InUse, Opening, Archive}
+use Rattle.flow_commands.specs.declared.archive_refusal.ArchiveRefusal.TheVariants.{Folder, Opening, Archive}
 use Rattle.flow_commands.specs.declared.archive_refusal.ArchiveRefusal.TheVariants.{Query}
 use Rattle.flow_commands.specs.declared.archive_refusal.ArchiveRefusal.TheVariants.{OutOfMemory, Write}
 use Rattle.flow_commands.specs.Archives.{of_archive}
@@ -34,5 +34,4 @@ TellsJob kind (Ok count) old new (Err OutOfMemory) = Keeps old new
 TellsJob kind (Ok count) old new (Err (Opening e)) = ⊥
 TellsJob kind (Ok count) old new (Err (Archive e)) = ⊥
 TellsJob kind (Ok count) old new (Err (Query e)) = ⊥
-TellsJob kind (Ok count) old new (Err Away) = ⊥
-TellsJob kind (Ok count) old new (Err InUse) = ⊥
+TellsJob kind (Ok count) old new (Err (Folder why)) = ⊥

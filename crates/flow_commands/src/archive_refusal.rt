@@ -6,6 +6,7 @@ ghost use Rattle.flow_commands.specs.Archives.{of_query};
 ghost use Rattle.flow_commands.specs.Archives.{of_text};
 ghost use Rattle.flow_commands.specs.declared.archive_refusal.ArchiveRefusal.TheVariants as refusal;
 
+use crate::folder_fault::FolderFault;
 use flow_archive::ArchiveError;
 use flow_folder::FolderError;
 use flow_recover::RecoverError;
@@ -15,14 +16,11 @@ use std::alloc::{AllocError, AllocFailed};
 use std::error::Error;
 use std::fmt;
 
-/// Why a command over an archive ended before its work was done, printed as its number, its name and what it carries;
-/// of a folder in use a second line tells that.
+/// Why a command over an archive ended before its work was done, printed as its number, its name and what it carries.
 #[derive(Debug, Drop)]
 pub enum ArchiveRefusal {
-    /// The folder isn't there, or the system refused it.
-    Away,
-    /// The folder is in use.
-    InUse,
+    /// The folder can't be opened: 30.
+    Folder(FolderFault),
     /// The archive can't be opened: 20 to 24, or 30.
     Opening(RecoverError),
     /// The archive refuses an event, or isn't made.
@@ -39,11 +37,7 @@ impl fmt::Display for ArchiveRefusal {
 
     fn fmt<W: fmt::Write>(&self, f: &mut fmt::Formatter<W>) -> fmt::Result {
         match self {
-            ArchiveRefusal::Away => write!(f, "30 Fault"),
-            ArchiveRefusal::InUse => write!(
-                f,
-                "30 Fault\nflowvault: the folder is in use, by a flowvault that still runs"
-            ),
+            ArchiveRefusal::Folder(fault) => write!(f, "{fault}"),
             ArchiveRefusal::Opening(error) => write!(f, "{error}"),
             ArchiveRefusal::Archive(error) => write!(f, "{error}"),
             ArchiveRefusal::Query(error) => write!(f, "{error}"),
@@ -64,8 +58,7 @@ impl ArchiveRefusal {
         ensures most { result ≤ 5 }
     {
         match self {
-            ArchiveRefusal::Away
-            | ArchiveRefusal::InUse
+            ArchiveRefusal::Folder(_)
             | ArchiveRefusal::Write(_)
             | ArchiveRefusal::Opening(RecoverError::Fault)
             | ArchiveRefusal::Archive(ArchiveError::Fault)
@@ -122,8 +115,12 @@ impl From<FolderError> for ArchiveRefusal {
 
     fn from(error: FolderError) -> ArchiveRefusal {
         match error {
-            FolderError::NotThere | FolderError::Refused(_) => ArchiveRefusal::Away,
-            FolderError::InUse => ArchiveRefusal::InUse,
+            FolderError::NotThere | FolderError::Refused(_) => {
+                ArchiveRefusal::Folder(FolderFault::Away)
+            }
+            FolderError::InUse => ArchiveRefusal::Folder(FolderFault::InUse),
+            FolderError::NotAFile(file) => ArchiveRefusal::Folder(FolderFault::NotAFile(file)),
+            FolderError::NoHandles => ArchiveRefusal::Folder(FolderFault::NoHandles),
             FolderError::OutOfMemory => ArchiveRefusal::OutOfMemory,
         }
     }

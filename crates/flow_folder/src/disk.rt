@@ -188,7 +188,7 @@ where
                 listed: told.listed,
             },
         )?;
-        if self.folder.write(file, at, octets).is_err() {
+        if self.folder.write(file, at, octets, told.settled).is_err() {
             return Err(self.fault());
         }
         self.tell(
@@ -213,7 +213,7 @@ where
                 listed: told.listed,
             },
         )?;
-        if self.folder.cut(file, count).is_err() {
+        if self.folder.cut(file, count, told.settled).is_err() {
             return Err(self.fault());
         }
         self.tell(
@@ -238,7 +238,7 @@ where
                 listed: told.listed,
             },
         )?;
-        if self.folder.sync(file).is_err() {
+        if self.folder.sync(file, told.settled).is_err() {
             return Err(self.fault());
         }
         self.tell(
@@ -270,10 +270,6 @@ where
 
     fn freeze(&mut self, file: u64) -> Result<FolderSealed<'a, R>, DiskError> {
         let told = self.table.of(file);
-        match self.folder.length(file) {
-            Ok(size) if size == told.size => {}
-            _ => return Err(self.fault()),
-        }
         let Ok(sealed) = self.folder.seal(file, told.size) else {
             return Err(self.fault());
         };

@@ -4,45 +4,51 @@ ghost use Rattle.std.specs.Prelude.{is_some, IsSome, IfSome, length, IfOk, OnOk,
 ghost use Rattle.std.specs.Ordering.{nat_cmp};
 ghost use Rattle.std.specs.BTreeMap.{get};
 
+use crate::found::{Access, Found, is_read_only, look_up};
 use crate::naming::{file_named, path_of};
 use crate::pending::{Pending, Stage};
 use crate::sealed::FolderSealed;
 use crate::system::{FolderError, Lockable};
-use std::alloc::{AllocGlobal, Global};
+use std::alloc::{AllocError, AllocGlobal, Global};
 use std::collections::BTreeMap;
-use std::fs::{self, File, Files, OpenFile, OpenOptions};
+use std::fs::{self, File, Files, OpenFile, OpenOptions, Permissions};
 use std::io::{self, ErrorKind};
-use std::os::unix::fs::FileExt;
+use std::os::unix::fs::{FileExt, MetadataExt, OpenOptionsExt, PermissionsExt};
 use std::sync::Arc;
+
+/// Who may read and write a new file, where the process's mask allows it: its owner both, its group the first.
+const MODE: u32 = 0o640;
 
 /// A folder of the system, locked as long as a handle of it is open, and its files that are not settled.
 #[derive(Drop)]
 pub(crate) struct Folder<'a, R: Files> {
     rt: &'a R,
-    path: &'a str,
-    locked: Arc<R::File>,
+    place: Arc<Place<R::File>>,
     pub(crate) names_pending: bool,
     pub(crate) pending: BTreeMap<u64, Pending<R::File>>,
+}
+
+/// A folder's handle, and the path by which this process comes to what the handle is of, whatever its name is now.
+#[derive(Drop)]
+pub(crate) struct Place<F> {
+    handle: F,
+    pub(crate) path: String,
 }
 
 impl<'a, R: Files + AllocGlobal + Clone + Drop> Folder<'a, R>
 where
     R::File: FileExt + Lockable,
 {
-    /// Opens and locks a folder that exists.
-    pub(crate) fn open(rt: &'a R, path: &'a str) -> Result<Self, FolderError>
+    /// Opens and locks a folder that exists, whose names of files are all of files.
+    pub(crate) fn open(rt: &'a R, path: &str) -> Result<Self, FolderError>
         ensures names { IfOk result (λ folder. folder.names_pending ≡ true) }
         ensures files { IfOk result (λ folder. (n : ℕ) → get nat_cmp folder.pending n ≡ None) }
     {
-        let folder = File::open(rt, path)?;
-        if !folder.metadata()?.is_dir() {
-            return Err(FolderError::NotThere);
-        }
-        folder.try_lock()?;
+        let place = Place::lock(rt, path)?;
+        look_at_names(rt, place.path.as_str())?;
         Ok(Folder {
             rt,
-            path,
-            locked: Arc::new(rt.alloc(), folder)?,
+            place: Arc::new(rt.alloc(), place)?,
             names_pending: true,
             pending: BTreeMap::new(rt.alloc()),
         })
@@ -53,11 +59,9 @@ where
         if let Some(pending) = self.pending.get(&file) {
             return pending.length();
         }
-        let path = path_of(self.rt.alloc(), self.path, file)?;
-        match fs::metadata(self.rt, path.as_str()) {
-            Ok(metadata) => Ok(metadata.len()),
-            Err(e) if e.kind() == ErrorKind::NotFound => Ok(0),
-            Err(e) => Err(e),
+        match look_up(self.rt, self.path_of(file)?.as_str())? {
+            Some(named) => Ok(named.len()),
+            None => Ok(0),
         }
     }
 
@@ -65,24 +69,27 @@ where
     pub(crate) fn read(&self, file: u64, at: u64, octets: &mut [u8]) -> io::Result<()> {
         match self.pending.get(&file) {
             Some(pending) => pending.read(at, octets),
-            None => read_file(self.rt, self.path, file, at, octets),
+            None => read_file(self.rt, self.place.path.as_str(), file, at, octets),
         }
     }
 
-    /// Writes octets of a file at a place. Where it fails, some of them may be written.
-    pub(crate) fn write(&mut self, file: u64, at: u64, octets: &[u8]) -> io::Result<()>
+    /// Writes octets of a file at a place. Where it fails, some of them may be written. `settled` says that this value
+    /// has settled what the file holds.
+    pub(crate) fn write(
+        &mut self,
+        file: u64,
+        at: u64,
+        octets: &[u8],
+        settled: bool,
+    ) -> io::Result<()>
         requires { at + length octets.now < 2 ^ 64 }
         ensures file { OnOk result (IsSome (get nat_cmp self.new.pending file)) }
         ensures others { (n : ℕ) → n ≢ file → is_some (get nat_cmp self.new.pending n)
             ≡ is_some (get nat_cmp self.old.pending n) }
     {
         if !self.pending.contains_key(&file) {
-            let handle = match self.existing(file)? {
-                Some(handle) => handle,
-                None => self.create(file)?,
-            };
-            self.pending
-                .insert(file, Pending::unchanged(self.rt.alloc(), handle)?)?;
+            let begun = self.begin(file, settled)?;
+            self.pending.insert(file, begun)?;
         }
         match self.pending.get_mut(&file) {
             Some(pending) => pending.write(at, octets),
@@ -90,16 +97,34 @@ where
         }
     }
 
-    /// Cuts a file to so many octets, of those that it has.
-    pub(crate) fn cut(&mut self, file: u64, count: u64) -> io::Result<()>
+    /// A file that is to be written: the one that is there, or a new one. One without octets is made anew, since its
+    /// name may not be durable; so no octet is written to a file before its name is.
+    fn begin(&mut self, file: u64, settled: bool) -> io::Result<Pending<R::File>>
+        ensures others { self.new.pending ≡ self.old.pending }
+    {
+        let path = self.path_of(file)?;
+        match Found::open(self.rt, path.as_str(), Access::Change)? {
+            Some(found) if found.length > 0 => found.into_pending(self.rt.alloc(), settled),
+            _ => {
+                let handle = self.make(path.as_str())?;
+                Pending::unchanged(self.rt.alloc(), handle)
+            }
+        }
+    }
+
+    /// Cuts a file to so many octets, of those that it has. A read-only file that has just as many stays as it is.
+    pub(crate) fn cut(&mut self, file: u64, count: u64, settled: bool) -> io::Result<()>
         ensures { (n : ℕ) → n ≢ file → is_some (get nat_cmp self.new.pending n)
             ≡ is_some (get nat_cmp self.old.pending n) }
     {
         if !self.pending.contains_key(&file) {
-            match self.existing(file)? {
-                Some(handle) => {
-                    self.pending
-                        .insert(file, Pending::unchanged(self.rt.alloc(), handle)?)?;
+            if self.is_read_only(file, count)? {
+                return Ok(());
+            }
+            match self.find(file, Access::Change)? {
+                Some(found) => {
+                    let begun = found.into_pending(self.rt.alloc(), settled)?;
+                    self.pending.insert(file, begun)?;
                 }
                 None if count == 0 => return Ok(()),
                 None => return Err(ErrorKind::NotFound.into()),
@@ -112,18 +137,24 @@ where
     }
 
     /// Syncs a file, and the folder where a name may not be durable. Then it lets go of the file's handle.
-    pub(crate) fn sync(&mut self, file: u64) -> io::Result<()>
+    pub(crate) fn sync(&mut self, file: u64, settled: bool) -> io::Result<()>
         ensures file { OnOk result (is_some (get nat_cmp self.new.pending file) ≡ false) }
         ensures names { OnOk result (self.new.names_pending ≡ false) }
         ensures others { (n : ℕ) → n ≢ file → is_some (get nat_cmp self.new.pending n)
             ≡ is_some (get nat_cmp self.old.pending n) }
     {
         if !self.pending.contains_key(&file) {
-            let Some(handle) = self.existing(file)? else {
-                return self.sync_names();
-            };
-            self.pending
-                .insert(file, Pending::unknown(self.rt.alloc(), handle)?)?;
+            match self.find(file, Access::Sync)? {
+                None => return self.sync_names(),
+                Some(found) if found.read_only => {
+                    found.sync_read_only()?;
+                    return self.sync_names();
+                }
+                Some(found) => {
+                    let begun = found.into_pending(self.rt.alloc(), settled)?;
+                    self.pending.insert(file, begun)?;
+                }
+            }
         }
         if let Some(pending) = self.pending.get_mut(&file) {
             pending.sync()?;
@@ -144,27 +175,48 @@ where
         let _ = self.pending.remove(&file);
     }
 
-    /// Removes a file, and syncs the folder.
+    /// Removes a file, and syncs the folder. Where that fails, it is done once more at once; the answer stays.
     pub(crate) fn remove(&mut self, file: u64) -> io::Result<()>
         ensures file { OnOk result (is_some (get nat_cmp self.new.pending file) ≡ false) }
         ensures names { OnOk result (self.new.names_pending ≡ false) }
         ensures others { (n : ℕ) → n ≢ file → is_some (get nat_cmp self.new.pending n)
             ≡ is_some (get nat_cmp self.old.pending n) }
     {
-        let path = path_of(self.rt.alloc(), self.path, file)?;
-        match fs::remove_file(self.rt, path.as_str()) {
-            Ok(()) => self.names_pending = true,
-            Err(e) if e.kind() == ErrorKind::NotFound => {}
-            Err(e) => return Err(e),
-        }
+        let path = self.path_of(file)?;
         let _ = self.pending.remove(&file);
+        let removed = self.take_name(path.as_str());
+        if removed.is_err() {
+            let _ = self.take_name(path.as_str());
+        }
+        removed
+    }
+
+    /// Takes a name away for good. Where it isn't there, but may be on the device, it is made and taken away.
+    fn take_name(&mut self, path: &str) -> io::Result<()>
+        ensures names { OnOk result (self.new.names_pending ≡ false) }
+        ensures others { self.new.pending ≡ self.old.pending }
+    {
+        let pending = self.names_pending;
+        self.doubt_names();
+        if !unlink(self.rt, path)? && pending {
+            let _ = create_new(self.rt, path)?;
+            let _ = unlink(self.rt, path)?;
+        }
         self.sync_names()
+    }
+
+    /// A name is made or taken away from here on: it may not be durable until the folder's next good sync.
+    fn doubt_names(&mut self)
+        ensures names { self.new.names_pending ≡ true }
+        ensures others { self.new.pending ≡ self.old.pending }
+    {
+        self.names_pending = true;
     }
 
     /// The files, in the system's order.
     pub(crate) fn files(&self, alloc: Global) -> io::Result<Vec<u64>> {
         let mut files = Vec::new(alloc);
-        for entry in fs::read_dir(self.rt, self.path)? {
+        for entry in fs::read_dir(self.rt, self.place.path.as_str())? {
             match entry {
                 Ok(entry) => {
                     if let Some(file) = file_named(entry.file_name()) {
@@ -178,46 +230,68 @@ where
         Ok(files)
     }
 
-    /// A value that reads a file of so many octets.
+    /// A value that reads a file of so many octets, which nobody may write from now on. Where the system doesn't take
+    /// the permission away the file counts as doubtful when it is opened next, and nothing else differs.
     pub(crate) fn seal(&self, file: u64, size: u64) -> io::Result<FolderSealed<'a, R>>
         ensures file { IfOk result (λ sealed. sealed.file ≡ file) }
         ensures size { IfOk result (λ sealed. sealed.size ≡ size) }
     {
+        match self.find(file, Access::Read)? {
+            Some(found) if found.length == size => {
+                let _ = found.make_read_only();
+            }
+            None if size == 0 => {}
+            _ => return Err(ErrorKind::UnexpectedEof.into()),
+        }
         Ok(FolderSealed {
             rt: self.rt,
-            path: self.path,
-            _locked: Arc::try_clone(&self.locked)?,
+            place: Arc::try_clone(&self.place)?,
             file,
             size,
         })
     }
 
-    /// Opens a file that exists.
-    fn existing(&self, file: u64) -> io::Result<Option<R::File>> {
-        let path = path_of(self.rt.alloc(), self.path, file)?;
-        match OpenOptions::new()
-            .read(true)
-            .write(true)
-            .open(self.rt, path.as_str())
-        {
-            Ok(handle) => Ok(Some(handle)),
-            Err(e) if e.kind() == ErrorKind::NotFound => Ok(None),
-            Err(e) => Err(e),
+    /// Whether a file is read-only and has so many octets.
+    fn is_read_only(&self, file: u64, count: u64) -> io::Result<bool> {
+        match look_up(self.rt, self.path_of(file)?.as_str())? {
+            Some(named) => Ok(is_read_only(&named) && named.len() == count),
+            None => Ok(false),
         }
     }
 
-    /// Makes a file that doesn't exist.
-    fn create(&mut self, file: u64) -> io::Result<R::File>
-        ensures names { OnOk result (self.new.names_pending ≡ true) }
+    /// Opens a file that is there.
+    fn find(&self, file: u64, access: Access) -> io::Result<Option<Found<R::File>>> {
+        Found::open(self.rt, self.path_of(file)?.as_str(), access)
+    }
+
+    /// The path of a file by the folder's handle.
+    fn path_of(&self, file: u64) -> Result<String, AllocError> {
+        path_of(self.rt.alloc(), self.place.path.as_str(), file)
+    }
+
+    /// Makes a file without octets and its name, for good. Where that fails, it is done once more at once; the answer
+    /// stays.
+    fn make(&mut self, path: &str) -> io::Result<R::File>
+        ensures names { OnOk result (self.new.names_pending ≡ false) }
         ensures others { self.new.pending ≡ self.old.pending }
     {
-        let path = path_of(self.rt.alloc(), self.path, file)?;
-        self.names_pending = true;
-        OpenOptions::new()
-            .read(true)
-            .write(true)
-            .create(true)
-            .open(self.rt, path.as_str())
+        let made = self.make_name(path);
+        if made.is_err() {
+            let _ = self.make_name(path);
+        }
+        made
+    }
+
+    /// Makes a file without octets and its name anew.
+    fn make_name(&mut self, path: &str) -> io::Result<R::File>
+        ensures names { OnOk result (self.new.names_pending ≡ false) }
+        ensures others { self.new.pending ≡ self.old.pending }
+    {
+        self.doubt_names();
+        let _ = unlink(self.rt, path)?;
+        let handle = create_new(self.rt, path)?;
+        self.sync_names()?;
+        Ok(handle)
     }
 
     /// Syncs the folder where a name was made or removed since its last good sync, or may have been by others.
@@ -227,10 +301,85 @@ where
         ensures others { self.new.pending ≡ self.old.pending }
     {
         if self.names_pending {
-            self.locked.sync_all()?;
+            self.place.handle.sync_all()?;
             self.names_pending = false;
         }
         Ok(())
+    }
+}
+
+impl<F: OpenFile + Lockable + Drop> Place<F> {
+    /// Opens and locks a folder that exists.
+    fn lock<R: Files<File = F> + AllocGlobal>(rt: &R, path: &str) -> Result<Self, FolderError> {
+        let handle = File::open(rt, path)?;
+        let opened = handle.metadata()?;
+        if !opened.is_dir() {
+            return Err(FolderError::NotThere);
+        }
+        handle.try_lock()?;
+        let path = format!(in rt.alloc(); "/proc/self/fd/{}", handle.descriptor())?;
+        match fs::metadata(rt, path.as_str()) {
+            Ok(again) if again.dev() == opened.dev() && again.ino() == opened.ino() => {
+                Ok(Place { handle, path })
+            }
+            _ => Err(FolderError::NoHandles),
+        }
+    }
+}
+
+/// Whether each name of a file is that of a file.
+fn look_at_names<R: Files + AllocGlobal + Clone + Drop>(
+    rt: &R,
+    folder: &str,
+) -> Result<(), FolderError> {
+    for entry in fs::read_dir(rt, folder)? {
+        match entry {
+            Ok(entry) => {
+                if let Some(file) = file_named(entry.file_name()) {
+                    look_at_name(rt, folder, file)?;
+                }
+            }
+            Err(e) if e.kind() == ErrorKind::InvalidFilename => {}
+            Err(e) => return Err(e.into()),
+        }
+    }
+    Ok(())
+}
+
+/// Whether the name of a file is that of a file.
+fn look_at_name<R: Files + AllocGlobal>(
+    rt: &R,
+    folder: &str,
+    file: u64,
+) -> Result<(), FolderError> {
+    match look_up(rt, path_of(rt.alloc(), folder, file)?.as_str()) {
+        Ok(_) => Ok(()),
+        Err(e) if e.kind() == ErrorKind::InvalidInput => Err(FolderError::NotAFile(file)),
+        Err(e) => Err(e.into()),
+    }
+}
+
+/// Makes a file that isn't there, which its owner may write whatever the process's mask is.
+fn create_new<R: Files>(rt: &R, path: &str) -> io::Result<R::File> {
+    let made = OpenOptions::new()
+        .read(true)
+        .write(true)
+        .create_new(true)
+        .mode(MODE)
+        .open(rt, path)?;
+    let metadata = made.metadata()?;
+    if is_read_only(&metadata) {
+        made.set_permissions(Permissions::from_mode(metadata.mode() & MODE | 0o200))?;
+    }
+    Ok(made)
+}
+
+/// Takes a name away. Answers whether it was there.
+fn unlink<R: Files>(rt: &R, path: &str) -> io::Result<bool> {
+    match fs::remove_file(rt, path) {
+        Ok(()) => Ok(true),
+        Err(e) if e.kind() == ErrorKind::NotFound => Ok(false),
+        Err(e) => Err(e),
     }
 }
 
@@ -249,5 +398,8 @@ where
         return Ok(());
     }
     let path = path_of(rt.alloc(), folder, file)?;
-    File::open(rt, path.as_str())?.read_exact_at(octets, at)
+    match Found::open(rt, path.as_str(), Access::Read)? {
+        Some(found) => found.read(at, octets),
+        None => Err(ErrorKind::NotFound.into()),
+    }
 }

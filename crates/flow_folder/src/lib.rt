@@ -5,14 +5,23 @@
 //! a name is read as file n exactly where it is n's, and other names are neither seen nor touched. That the folder is
 //! an honest disk is a premise: no contract can say what a real file holds, so `honest` is false here.
 //!
-//! A write keeps its handle open until a sync answers Ok, since the system tells a lost write to such handles alone. A
-//! sync makes octets and name durable. After one that failed, what was written since the last good one is written again
-//! before the next, since the system may have dropped it and answer Ok all the same. The folder is locked as long as
-//! its disk or a frozen file of it is there. Each call but `read` and `files` that finds no memory answers `Fault`.
+//! Nothing is trusted that the device may not hold. A write keeps its handle open until a sync answers Ok, since the
+//! system tells a lost write to such handles alone. A sync makes octets and name durable. Where it fails, what was
+//! written since the last good one is written again and synced at once, since the system takes the octets of its memory
+//! for those of the device then; the answer stays `Fault`. A file that another value may have changed without a good
+//! sync is written again whole, with the octets that it has, before its first sync here. A frozen file is made
+//! read-only, which says to later values that it is settled: so an opening writes few files again, however many there
+//! are. A new file's name is made durable before its first octet is written. docs/DISK.md has what the system is taken
+//! to do.
+//!
+//! Files are opened by the folder's handle, so the folder may be renamed; a name of a file that a symbolic link, a
+//! folder, a pipe or a device has is refused. The folder is locked as long as its disk or a frozen file of it is there.
+//! Each call but `read` and `files` that finds no memory answers `Fault`.
 #![tactic(auto)]
 
 mod disk;
 mod folder;
+mod found;
 mod naming;
 mod pending;
 mod ranges;
@@ -23,6 +32,3 @@ mod told;
 pub use disk::FolderDisk;
 pub use sealed::{FolderSealed, ReadFailed};
 pub use system::{FolderError, Lockable};
-
-#[cfg(test)]
-mod tests;

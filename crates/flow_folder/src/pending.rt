@@ -16,33 +16,34 @@ const PIECE: usize = 4096;
 pub(crate) enum Stage {
     /// It may have been changed since its last good sync.
     Changed,
-    /// Its last sync failed, so what was changed may be lost.
-    Failed,
+    /// What it reads as may not be what the device holds: its last sync failed, or others have changed it.
+    Doubtful,
     /// Its last sync was good, and it wasn't changed since.
     Synced,
 }
 
 impl Stage {
-    /// After a change, which doesn't make good what may be lost.
+    /// After a change, which makes nothing sure that was doubtful.
     fn changed(self) -> Stage
         ensures unsynced { result ≢ Stage.Synced }
-        ensures failed { result ≡ Stage.Failed ↔ self ≡ Stage.Failed }
+        ensures doubtful { result ≡ Stage.Doubtful ↔ self ≡ Stage.Doubtful }
     {
         match self {
-            Stage::Failed => Stage::Failed,
+            Stage::Doubtful => Stage::Doubtful,
             Stage::Changed | Stage::Synced => Stage::Changed,
         }
     }
 }
 
 /// A file that was changed, or whose last sync failed, with the handle that its changes went through: Linux tells a
-/// write that was lost on its way to the device only to handles that were open then. After a failed sync it may
-/// also take the octets of memory for those of the device, and answer Ok to the next sync: so what was written since
-/// the last good sync is kept in mind, and written again before a sync that follows a failed one.
+/// write that was lost on its way to the device only to handles that were open then. After a failed sync it takes the
+/// octets of memory for those of the device, though the device may not have them, and answers Ok to the next sync, of
+/// this process or of a later one. So what was written since the last good sync is kept in mind, and written again
+/// after a sync that failed; and of a file that others may have changed all of it is written again before the first.
 #[derive(Drop)]
 pub(crate) struct Pending<F> {
     file: F,
-    written: Ranges,
+    pub(crate) written: Ranges,
     was_cut: bool,
     pub(crate) stage: Stage,
 }
@@ -60,13 +61,23 @@ impl<F: FileExt + OpenFile + Drop> Pending<F> {
         })
     }
 
-    /// A file that was opened to be synced, after changes that nobody here has seen.
-    pub(crate) fn unknown(alloc: Global, file: F) -> io::Result<Self> {
-        let mut pending = Pending::unchanged(alloc, file)?;
-        let to = pending.length()?;
-        pending.written.add(Range { from: 0, to });
-        pending.was_cut = true;
-        Ok(pending)
+    /// A file of so many octets that others may have changed, without a good sync behind it.
+    pub(crate) fn doubtful(alloc: Global, file: F, length: u64) -> io::Result<Self>
+        ensures stage { IfOk result (λ pending. pending.stage ≡ Stage.Doubtful) }
+        ensures whole { IfOk result
+            (λ pending. (place : ℕ) → place < length → IsWritten pending.written.ranges.items place) }
+    {
+        let mut written = Ranges::none(alloc)?;
+        written.add(Range {
+            from: 0,
+            to: length,
+        });
+        Ok(Pending {
+            file,
+            written,
+            was_cut: true,
+            stage: Stage::Doubtful,
+        })
     }
 
     /// How many octets the file has.
@@ -88,7 +99,7 @@ impl<F: FileExt + OpenFile + Drop> Pending<F> {
             → IsWritten self.new.written.ranges.items place }
         ensures cut { self.new.was_cut ≡ self.old.was_cut }
         ensures unsynced { self.new.stage ≢ Stage.Synced }
-        ensures failed { self.new.stage ≡ Stage.Failed ↔ self.old.stage ≡ Stage.Failed }
+        ensures doubtful { self.new.stage ≡ Stage.Doubtful ↔ self.old.stage ≡ Stage.Doubtful }
     {
         self.written.add(Range {
             from: at,
@@ -103,7 +114,7 @@ impl<F: FileExt + OpenFile + Drop> Pending<F> {
         ensures cut { OnOk result (self.new.was_cut ≡ true) }
         ensures written { self.new.written ≡ self.old.written }
         ensures unsynced { self.new.stage ≢ Stage.Synced }
-        ensures failed { self.new.stage ≡ Stage.Failed ↔ self.old.stage ≡ Stage.Failed }
+        ensures doubtful { self.new.stage ≡ Stage.Doubtful ↔ self.old.stage ≡ Stage.Doubtful }
     {
         self.stage = self.stage.changed();
         if self.length()? < count {
@@ -113,19 +124,40 @@ impl<F: FileExt + OpenFile + Drop> Pending<F> {
         self.file.set_len(count)
     }
 
-    /// Syncs the file: writes again what a failed sync may have lost, and asks the device for all of it.
+    /// Syncs the file: writes again what the device may not hold, and asks the device for all of it. Where that fails,
+    /// both are done once more at once, so that the device holds what is read here, if it can; the answer stays.
     pub(crate) fn sync(&mut self) -> io::Result<()>
         ensures done { OnOk result (self.new.stage ≡ Stage.Synced) }
-        ensures failed { OnErr result (self.new.stage ≡ Stage.Failed) }
+        ensures failed { OnErr result (self.new.stage ≢ Stage.Synced) }
         ensures written { self.new.written ≡ self.old.written }
         ensures cut { self.new.was_cut ≡ self.old.was_cut }
     {
-        if self.stage == Stage::Failed {
+        match self.settle() {
+            Ok(()) => {
+                self.stage = Stage::Synced;
+                Ok(())
+            }
+            Err(e) => {
+                let _ = self.settle();
+                Err(e)
+            }
+        }
+    }
+
+    /// Writes again what the device may not hold, and syncs.
+    fn settle(&mut self) -> io::Result<()>
+        ensures done { OnOk result (self.new.stage ≡ Stage.Changed) }
+        ensures failed { OnErr result (self.new.stage ≡ Stage.Doubtful) }
+        ensures written { self.new.written ≡ self.old.written }
+        ensures cut { self.new.was_cut ≡ self.old.was_cut }
+    {
+        let doubtful = self.stage == Stage::Doubtful;
+        self.stage = Stage::Doubtful;
+        if doubtful {
             self.write_again()?;
         }
-        self.stage = Stage::Failed;
         self.file.sync_all()?;
-        self.stage = Stage::Synced;
+        self.stage = Stage::Changed;
         Ok(())
     }
 

@@ -1,7 +1,7 @@
 // A frozen file of a folder.
 ghost use Rattle.std.specs.Prelude.{◌≡◌};
 
-use crate::folder::read_file;
+use crate::folder::{Place, read_file};
 use crate::system::Lockable;
 use flow_disk::{DiskError, Faults, MayFail, SealedFile};
 use std::alloc::{AllocGlobal, Global};
@@ -21,8 +21,7 @@ pub struct ReadFailed {
 #[derive(Drop)]
 pub struct FolderSealed<'a, R: Files> {
     pub(crate) rt: &'a R,
-    pub(crate) path: &'a str,
-    pub(crate) _locked: Arc<R::File>,
+    pub(crate) place: Arc<Place<R::File>>,
     pub(crate) file: u64,
     pub(crate) size: u64,
 }
@@ -66,7 +65,8 @@ where
         count: usize,
     ) -> Result<Vec<u8>, DiskError> {
         let mut octets = vec![in alloc; 0u8; count]?;
-        match read_file(self.rt, self.path, self.file, at, &mut octets) {
+        let folder = self.place.path.as_str();
+        match read_file(self.rt, folder, self.file, at, &mut octets) {
             Ok(()) => Ok(octets),
             Err(e) if e.kind() == ErrorKind::OutOfMemory => Err(DiskError::OutOfMemory),
             Err(_) => {

@@ -1,17 +1,26 @@
 // What a disk asks of the system's files besides what std has traits for.
-use std::alloc::AllocFailed;
+use std::alloc::{AllocError, AllocFailed};
 use std::fs::{File, TryLockError};
 use std::io::{self, ErrorKind};
+use std::os::fd::AsRawFd;
 
-/// A file or folder that can be locked against other handles, of this process and of others.
+/// A file or folder that can be locked against other handles, of this process and of others, and that this process
+/// names by a number.
 pub trait Lockable {
     /// Locks it, where nobody else has. The lock ends with the last handle of this opening.
     fn try_lock(&self) -> Result<(), TryLockError>;
+
+    /// Its number among the open files of this process.
+    fn descriptor(&self) -> i32;
 }
 
 impl Lockable for File {
     fn try_lock(&self) -> Result<(), TryLockError> {
         self.try_lock()
+    }
+
+    fn descriptor(&self) -> i32 {
+        self.as_raw_fd()
     }
 }
 
@@ -22,6 +31,10 @@ pub enum FolderError {
     NotThere,
     /// Another value has it, of this process or another.
     InUse,
+    /// The name of this file is that of a symbolic link, a folder, a pipe or a device.
+    NotAFile(u64),
+    /// The system's list of open files, `/proc/self/fd`, isn't there.
+    NoHandles,
     /// No memory was found.
     OutOfMemory,
     /// The system refused it otherwise.
@@ -44,6 +57,12 @@ impl From<TryLockError> for FolderError {
             TryLockError::WouldBlock => FolderError::InUse,
             TryLockError::Error(error) => FolderError::from(error),
         }
+    }
+}
+
+impl From<AllocError> for FolderError {
+    fn from(_: AllocError) -> Self {
+        FolderError::OutOfMemory
     }
 }
 

@@ -259,10 +259,12 @@ What to do: 'flowvault check DIR' tells how it stands; else make a new folder.\n
 
 const FAULT: &str = "30 Fault: the system refused or failed a call on the archive's folder.\n\
 Usual cause: the folder isn't there, or isn't a folder; its owner or its rights\n\
-don't allow it; another flowvault uses it, which is told on a second line; the disk\n\
-is full or failing.\n\
+don't allow it; another flowvault uses it, or the name of one of its files is that\n\
+of a link or a folder, which a second line says; the disk is full or failing.\n\
 What to do: look at the folder with 'ls -ld DIR' and 'df DIR', and at the system's\n\
-log; then run it again. What was answered before is on the disk.\n";
+log, and mend that. Then 'flowvault check DIR' says how many messages the archive\n\
+has: each that was acknowledged, and perhaps the message or batch under way. While\n\
+it answers 30 the disk still fails; no restart is needed. Feed the others alone.\n";
 
 const READ: &str = "31 Read: the input couldn't be read.\n\
 Usual cause: by what the system said: no such file; no right to read it; it is a\n\
@@ -318,7 +320,8 @@ Usual cause: all of them are removed.\n\
 What to do: nothing.\n";
 
 const CLOSED: &str =
-    "49 Closed: an earlier call met 30 Fault, and the archive takes no more changes.\n\
+    "49 Closed: an earlier call of this run met 30 Fault, and the archive takes no more\n\
+changes in it.\n\
 Usual cause: see 'flowvault explain 30'.\n\
-What to do: mend that, and open the archive again. What was answered before is on\n\
-the disk.\n";
+What to do: as there: mend the cause; then 'flowvault check DIR' says how many\n\
+messages the archive has. What was acknowledged is on the disk.\n";

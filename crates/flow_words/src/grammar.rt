@@ -108,10 +108,9 @@ const FEED_HELP: &str =
 const ROLL_ABOUT: &str = "Sums the sealed segments of the archive in a folder, but the newest";
 
 /// What is told below the arguments of `roll`.
-const ROLL_HELP: &str =
-    "All sealed segments but the newest KEEP become one file of sums, and are removed:\n\
-     their flows stay in totals, and are no longer told by flows. Writes rolled K: how\n\
-     many they were, 0 where there are none.\n\
+const ROLL_HELP: &str = "All sealed segments but the newest KEEP become one file of sums, and are\n\
+     removed: their flows stay in totals, and are no longer told by flows. Writes\n\
+     rolled K: how many they were, 0 where there are none.\n\
      \n\
      Example: flowvault roll flows 8";
 
@@ -120,9 +119,9 @@ const MERGE_ABOUT: &str =
     "Sums the rolled files of the archive in a folder over wide intervals,\nbut the newest";
 
 /// What is told below the arguments of `merge`.
-const MERGE_HELP: &str =
-    "All rolled files but the newest KEEP become one file of sums over wide intervals,\n\
-     and are removed. Writes merged K: how many they were, 0 where there are none.\n\
+const MERGE_HELP: &str = "All rolled files but the newest KEEP become one file of sums over wide\n\
+     intervals, and are removed. Writes merged K: how many they were, 0 where there\n\
+     are none.\n\
      \n\
      Example: flowvault merge flows 8";
 

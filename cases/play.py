@@ -1,0 +1,263 @@
+#!/usr/bin/env python3
+"""play.py PROGRAM FILE..: plays cases of the command line, as docs/CASES.md has them, each in a new folder. It prints
+each difference, and ends with `N cases, M runs: D differ`, where D counts cases. Its status is 0 where D is 0, 1 where
+it isn't, and 2 where a file of cases can't be read."""
+import fcntl
+import os
+import re
+import shlex
+import shutil
+import subprocess
+import sys
+import tempfile
+
+SECONDS = 60
+
+
+class Bad(Exception):
+    """A line that no case can have."""
+
+
+class Run:
+    """A run of the program: its words, its input, and what it must answer."""
+
+    def __init__(self, place, words, given):
+        self.place, self.words, self.given = place, words, given
+        self.out, self.err, self.status = [], [], 0
+        self.begins, self.columns = None, None
+
+    def differs(self, got):
+        """Yields each difference of what came, as (what, wanted, came)."""
+        if got.returncode != self.status:
+            yield "status", self.status, got.returncode
+        if self.begins is None:
+            wanted = "".join(line + "\n" for line in self.out).encode()
+            if got.stdout != wanted:
+                yield "out", wanted, got.stdout
+        elif not got.stdout.startswith(self.begins.encode()) or not got.stdout:
+            yield "out, from its start", self.begins.encode(), got.stdout
+        wanted = "".join(line + "\n" for line in self.err).encode()
+        if self.err == ["*"]:
+            if not re.fullmatch(rb"flowvault: [^\n]+\n", got.stderr):
+                yield "err", b"one line", got.stderr
+        elif got.stderr != wanted:
+            yield "err", wanted, got.stderr
+        for line in got.stdout.decode(errors="replace").split("\n"):
+            if self.columns is not None and len(line) > self.columns:
+                yield "columns", self.columns, line
+
+
+class Case:
+    """A case: its name, its steps, each a place, a function and its words, and how many runs it has."""
+
+    def __init__(self, place, name):
+        self.place, self.name, self.steps, self.runs = place, name, [], 0
+
+
+def octets_of(words, named):
+    """The octets of words: hexadecimal digits, `XX*N`, a text in double quotes, or a name."""
+    octets = b""
+    for word in words:
+        if word == "|":
+            continue
+        if word in named:
+            octets += named[word]
+        elif word.startswith('"') and word.endswith('"') and len(word) > 1:
+            octets += word[1:-1].encode()
+        elif re.fullmatch(r"(?:[0-9A-Fa-f]{2})+\*[0-9]+", word):
+            digits, count = word.split("*")
+            octets += bytes.fromhex(digits) * int(count)
+        elif re.fullmatch(r"(?:[0-9A-Fa-f]{2})+", word):
+            octets += bytes.fromhex(word)
+        else:
+            raise Bad("'%s' is neither a name nor pairs of hexadecimal digits" % word)
+    return octets
+
+
+# ---- What a step does; each answers its differences ----
+
+def make_file(held, name, octets):
+    with open(name, "wb") as file:
+        file.write(octets)
+    return []
+
+
+def make_folder(held, name):
+    os.mkdir(name)
+    return []
+
+
+def make_link(held, name, target):
+    os.symlink(target, name)
+    return []
+
+
+def make_pipe(held, name):
+    os.mkfifo(name)
+    return []
+
+
+def remove(held, name):
+    if os.path.isdir(name):
+        shutil.rmtree(name)
+    else:
+        os.remove(name)
+    return []
+
+
+def cut(held, name):
+    """The last octet is cut off. The file is made anew, since a frozen one is read-only."""
+    with open(name, "rb") as file:
+        octets = file.read()
+    os.remove(name)
+    return make_file(held, name, octets[:-1])
+
+
+def hold(held, name):
+    handle = os.open(name, os.O_RDONLY)
+    fcntl.flock(handle, fcntl.LOCK_EX | fcntl.LOCK_NB)
+    held.append(handle)
+    return []
+
+
+def let_go(held):
+    while held:
+        os.close(held.pop())
+    return []
+
+
+def look_at_names(held, name, wanted):
+    came = sorted(os.listdir(name))
+    return [] if came == sorted(wanted) else [("listed", sorted(wanted), came)]
+
+
+def look_at_octets(held, name, at, wanted):
+    with open(name, "rb") as file:
+        file.seek(at)
+        came = file.read(len(wanted))
+    return [] if came == wanted else [("holds", wanted.hex(), came.hex())]
+
+
+def run(held, program, wanted):
+    try:
+        got = subprocess.run([program, *wanted.words], input=wanted.given, capture_output=True, timeout=SECONDS)
+    except subprocess.TimeoutExpired:
+        return [("end", "within %d seconds" % SECONDS, "none")]
+    return list(wanted.differs(got))
+
+
+# The steps that a name alone follows.
+STEPS = {"folder": make_folder, "pipe": make_pipe, "remove": remove, "cut": cut, "hold": hold}
+
+
+# ---- Reading ----
+
+class Reader:
+    """Reads a file of cases."""
+
+    def __init__(self, path, program):
+        self.path, self.program, self.cases, self.named, self.run = path, program, [], {}, None
+
+    def read(self):
+        with open(self.path, encoding="utf-8") as file:
+            for number, line in enumerate(file, 1):
+                try:
+                    self.take("%s:%d" % (self.path, number), line.rstrip("\n"))
+                except (Bad, ValueError, IndexError) as error:
+                    raise Bad("%s:%d: %s" % (self.path, number, error or line)) from None
+        return self.cases
+
+    def take(self, place, line):
+        word, _, rest = line.strip().partition(" ")
+        if not word or word.startswith("#"):
+            return
+        if word == "octets":
+            name, _, text = rest.partition(" = ")
+            self.named[name] = octets_of(text.split(), self.named)
+        elif word == "case":
+            self.cases.append(Case(place, rest))
+            self.run = None
+        elif not self.cases:
+            raise Bad("'%s' stands before the first case" % word)
+        elif word in ("out", "out*", "err", "status", "columns"):
+            self.expect(word, rest)
+        else:
+            self.step(place, word, rest)
+
+    def expect(self, word, rest):
+        """Takes what the run before must answer."""
+        if self.run is None:
+            raise Bad("'%s' stands after no run" % word)
+        if word == "out":
+            self.run.out.append(rest)
+        elif word == "out*":
+            self.run.begins = rest
+        elif word == "err":
+            self.run.err.append(rest)
+        elif word == "status":
+            self.run.status = int(rest)
+        else:
+            self.run.columns = int(rest)
+
+    def step(self, place, word, rest):
+        """Takes a step of the case."""
+        self.run = None
+        words = shlex.split(rest)
+        steps = self.cases[-1].steps
+        if word == "run":
+            words, _, given = rest.partition(" < ")
+            self.run = Run(place, shlex.split(words), octets_of(given.split(), self.named))
+            self.cases[-1].runs += 1
+            steps.append((place, run, [self.program, self.run]))
+        elif word == "file":
+            name, _, text = rest.partition("=")
+            steps.append((place, make_file, [name.strip(), octets_of(text.split(), self.named)]))
+        elif word == "holds":
+            name, at, *text = rest.split()
+            steps.append((place, look_at_octets, [name, int(at), octets_of(text, self.named)]))
+        elif word == "listed":
+            steps.append((place, look_at_names, [words[0], words[2:]]))
+        elif word == "link":
+            steps.append((place, make_link, [words[0], words[1]]))
+        elif rest == "go" and word == "let":
+            steps.append((place, let_go, []))
+        elif word in STEPS:
+            steps.append((place, STEPS[word], [words[0]]))
+        else:
+            raise Bad("the word '%s' isn't known" % word)
+
+
+def play(case):
+    """Plays a case in a new folder. Answers whether nothing differed."""
+    held, good = [], True
+    with tempfile.TemporaryDirectory() as folder:
+        before = os.getcwd()
+        os.chdir(folder)
+        try:
+            for place, does, given in case.steps:
+                for what, wanted, came in does(held, *given):
+                    good = False
+                    print("%s: case %s: %s: wanted %s, came %s" % (place, case.name, what, wanted, came))
+        finally:
+            let_go(held)
+            os.chdir(before)
+    return good
+
+
+def main():
+    if len(sys.argv) < 3:
+        print(__doc__)
+        return 2
+    program = os.path.abspath(sys.argv[1])
+    try:
+        cases = [case for path in sys.argv[2:] for case in Reader(path, program).read()]
+    except (Bad, OSError) as error:
+        print("cases: %s" % error)
+        return 2
+    differ = [case for case in cases if not play(case)]
+    print("%d cases, %d runs: %d differ" % (len(cases), sum(case.runs for case in cases), len(differ)))
+    return int(bool(differ))
+
+
+if __name__ == "__main__":
+    sys.exit(main())

@@ -1,0 +1,59 @@
+//! Why a folder can't be opened as an archive's disk.
+
+ghost use Rattle.std.specs.Prelude.{Some, ◌≡◌};
+ghost use Rattle.flow_folder.specs.Naming.{name_of};
+ghost use Rattle.flow_commands.specs.Archives.{fault_printed};
+
+use std::fmt;
+
+/// The name of a file in a folder.
+#[derive(Debug, Drop)]
+struct FileName(u64);
+
+impl fmt::Display for FileName {
+    ghost output = { λ name. Some (name_of name.0) };
+
+    fn fmt<W: fmt::Write>(&self, f: &mut fmt::Formatter<W>) -> fmt::Result {
+        match self.0 {
+            1 => write!(f, "1.slot"),
+            2 => write!(f, "2.slot"),
+            file => write!(f, "{file}.ipfix"),
+        }
+    }
+}
+
+/// Why a folder can't be opened, printed as 30 Fault; a second line says what the system itself doesn't.
+#[derive(Debug, Drop)]
+pub enum FolderFault {
+    /// It isn't there, or the system refused it.
+    Away,
+    /// It is in use.
+    InUse,
+    /// The name of this file is that of something else.
+    NotAFile(u64),
+    /// The system's list of open files isn't there.
+    NoHandles,
+}
+
+impl fmt::Display for FolderFault {
+    ghost output = { λ e. Some (fault_printed e) };
+
+    fn fmt<W: fmt::Write>(&self, f: &mut fmt::Formatter<W>) -> fmt::Result {
+        match self {
+            FolderFault::Away => write!(f, "30 Fault"),
+            FolderFault::InUse => write!(
+                f,
+                "30 Fault\nflowvault: the folder is in use, by a flowvault that still runs"
+            ),
+            FolderFault::NotAFile(file) => write!(
+                f,
+                "30 Fault\nflowvault: {} in the folder is a link, a folder, a pipe or a device, and not a file",
+                FileName(*file)
+            ),
+            FolderFault::NoHandles => write!(
+                f,
+                "30 Fault\nflowvault: the system's list of open files, /proc/self/fd, isn't there"
+            ),
+        }
+    }
+}

@@ -1,0 +1,114 @@
+//! Calls of a disk, as rows of a table.
+
+ghost use Rattle.std.specs.Prelude.{◌≡◌, ℕ, false};
+
+use flow_disk::{Disk, DiskError};
+use std::alloc::Global;
+use std::test::Fail;
+
+/// A call, and what it gives.
+#[derive(Clone, Copy)]
+pub(crate) enum Call<'a> {
+    /// Writes octets to a file from a place on.
+    Write(u64, u64, &'a [u8]),
+    /// Cuts a file to so many octets.
+    Cut(u64, u64),
+    /// Syncs a file.
+    Sync(u64),
+    /// Removes a file.
+    Remove(u64),
+    /// A file has so many octets.
+    Length(u64, u64),
+    /// A file has these octets from a place on.
+    Read(u64, u64, &'a [u8]),
+    /// There are these files.
+    Files(&'a [u64]),
+}
+
+/// A disk on which nothing is frozen: its calls look first whether they may be made.
+#[derive(Drop)]
+pub(crate) struct Thawed<D: Disk> {
+    pub(crate) disk: D,
+    ghost thawed: { (n : ℕ) → (D.marks disk n).frozen ≡ false },
+}
+
+impl<D: Disk> Thawed<D> {
+    /// Writes octets at a place.
+    fn write(&mut self, file: u64, at: u64, octets: &[u8]) -> Result<bool, DiskError> {
+        if self.disk.length(file)? < at {
+            return Ok(false);
+        }
+        self.disk.write_at(file, at, octets)?;
+        Ok(true)
+    }
+
+    /// Cuts a file to so many octets.
+    fn cut(&mut self, file: u64, count: u64) -> Result<bool, DiskError> {
+        if self.disk.length(file)? < count {
+            return Ok(false);
+        }
+        self.disk.cut(file, count)?;
+        Ok(true)
+    }
+
+    /// Settles a file.
+    fn sync(&mut self, file: u64) -> Result<bool, DiskError> {
+        self.disk.sync(file)?;
+        Ok(true)
+    }
+
+    /// Removes a file.
+    fn remove(&mut self, file: u64) -> Result<bool, DiskError> {
+        self.disk.remove(file)?;
+        Ok(true)
+    }
+
+    /// Whether a file has these octets from a place on.
+    fn has(&mut self, alloc: Global, file: u64, at: u64, wanted: &[u8]) -> Result<bool, DiskError> {
+        let count = self.disk.length(file)?;
+        if count < at || count - at < wanted.len() as u64 {
+            return Ok(false);
+        }
+        let octets = self.disk.read(alloc, file, at, wanted.len())?;
+        Ok(octets.as_slice() == wanted)
+    }
+
+    /// Makes a call: whether it gives what it says.
+    pub(crate) fn gives(&mut self, alloc: Global, call: Call<'_>) -> Result<bool, DiskError> {
+        match call {
+            Call::Write(file, at, octets) => self.write(file, at, octets),
+            Call::Cut(file, count) => self.cut(file, count),
+            Call::Sync(file) => self.sync(file),
+            Call::Remove(file) => self.remove(file),
+            Call::Length(file, count) => Ok(self.disk.length(file)? == count),
+            Call::Read(file, at, octets) => self.has(alloc, file, at, octets),
+            Call::Files(files) => Ok(self.disk.files(alloc)?.as_slice() == files),
+        }
+    }
+
+    /// Makes calls, each of which gives what it says.
+    pub(crate) fn give(&mut self, alloc: Global, calls: &[Call<'_>]) -> Result<(), Fail> {
+        for (index, call) in calls.iter().enumerate() {
+            if !self.gives(alloc, *call)? {
+                return Err(Fail::new(format_args!("call {index} gives something else")));
+            }
+        }
+        Ok(())
+    }
+
+    /// Makes a call that is refused as a fault.
+    pub(crate) fn refuse(&mut self, alloc: Global, call: Call<'_>) -> Result<(), Fail> {
+        match self.gives(alloc, call) {
+            Err(DiskError::Fault) => Ok(()),
+            _ => Err(Fail::new("it isn't a fault")),
+        }
+    }
+
+    /// Settles a file and freezes it. Then the disk is given up.
+    pub(crate) fn freeze(self, file: u64) -> Result<D::Sealed, Fail> {
+        let mut disk = self.disk;
+        disk.length(file)?;
+        disk.sync(file)?;
+        Ok(disk.freeze(file)?)
+    }
+}

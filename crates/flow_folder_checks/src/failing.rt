@@ -1,0 +1,379 @@
+//! A folder whose syncs and writes fail.
+
+use crate::calls::{Call, Thawed};
+use crate::folders::fresh;
+use flow_disk::DiskError;
+use flow_folder::{FolderDisk, Lockable};
+use std::alloc::{Alloc, Allocator, Global};
+use std::cell::Cell;
+use std::fs::{self, File, Files, Metadata, OpenFile, OpenOptions, Permissions, TryLockError};
+use std::io::{self, ErrorKind, Read, Seek, SeekFrom, Write};
+use std::os::fd::AsRawFd;
+use std::os::unix::fs::FileExt;
+use std::test::Fail;
+
+/// How many of the next syncs fail, how many octets can still be written, and how many writes, cuts and new files were
+/// made.
+#[derive(Drop)]
+struct Plan {
+    failing: Cell<u32>,
+    room: Cell<u64>,
+    writes: Cell<u32>,
+    cuts: Cell<u32>,
+    made: Cell<u32>,
+}
+
+impl Plan {
+    fn new() -> Plan {
+        Plan {
+            failing: Cell::new(0),
+            room: Cell::new(1000),
+            writes: Cell::new(0),
+            cuts: Cell::new(0),
+            made: Cell::new(0),
+        }
+    }
+}
+
+/// The system, but for what a plan lets fail.
+#[derive(Clone, Copy)]
+struct Failing<'a> {
+    rt: &'a HostRuntime,
+    plan: &'a Plan,
+}
+
+/// A file of it.
+#[derive(Drop)]
+struct FailingFile<'a> {
+    file: File,
+    plan: &'a Plan,
+}
+
+impl Alloc for Failing<'_> {
+    type A = Global;
+
+    fn alloc(&self) -> Global {
+        self.rt.alloc()
+    }
+}
+
+impl<'a> Files for Failing<'a> {
+    type File = FailingFile<'a>;
+
+    type Dir = <HostRuntime as Files>::Dir;
+
+    fn open_file(&self, how: &OpenOptions, path: &str) -> io::Result<FailingFile<'a>> {
+        if how.asks_create_new() {
+            self.plan.made.set(self.plan.made.get().saturating_add(1));
+        }
+        Ok(FailingFile {
+            file: self.rt.open_file(how, path)?,
+            plan: self.plan,
+        })
+    }
+
+    fn open_dir(&self, path: &str) -> io::Result<<HostRuntime as Files>::Dir> {
+        self.rt.open_dir(path)
+    }
+
+    fn metadata(&self, path: &str) -> io::Result<Metadata> {
+        self.rt.metadata(path)
+    }
+
+    fn symlink_metadata(&self, path: &str) -> io::Result<Metadata> {
+        self.rt.symlink_metadata(path)
+    }
+
+    fn copy(&self, from: &str, to: &str) -> io::Result<u64> {
+        self.rt.copy(from, to)
+    }
+
+    fn rename(&self, from: &str, to: &str) -> io::Result<()> {
+        self.rt.rename(from, to)
+    }
+
+    fn remove_file(&self, path: &str) -> io::Result<()> {
+        self.rt.remove_file(path)
+    }
+
+    fn create_dir(&self, path: &str) -> io::Result<()> {
+        self.rt.create_dir(path)
+    }
+
+    fn remove_dir(&self, path: &str) -> io::Result<()> {
+        self.rt.remove_dir(path)
+    }
+
+    fn remove_dir_all<B: Allocator>(&self, alloc: B, path: &str) -> io::Result<()> {
+        self.rt.remove_dir_all(alloc, path)
+    }
+}
+
+impl Read for FailingFile<'_> {
+    fn read(&mut self, buf: &mut [u8]) -> io::Result<usize> {
+        self.file.read(buf)
+    }
+}
+
+impl Write for FailingFile<'_> {
+    fn write(&mut self, buf: &[u8]) -> io::Result<usize> {
+        self.file.write(buf)
+    }
+
+    fn flush(&mut self) -> io::Result<()> {
+        self.file.flush()
+    }
+}
+
+impl Seek for FailingFile<'_> {
+    fn seek(&mut self, to: SeekFrom) -> io::Result<u64> {
+        self.file.seek(to)
+    }
+}
+
+impl Lockable for FailingFile<'_> {
+    fn try_lock(&self) -> Result<(), TryLockError> {
+        self.file.try_lock()
+    }
+
+    fn descriptor(&self) -> i32 {
+        self.file.as_raw_fd()
+    }
+}
+
+impl OpenFile for FailingFile<'_> {
+    fn metadata(&self) -> io::Result<Metadata> {
+        self.file.metadata()
+    }
+
+    fn set_len(&self, size: u64) -> io::Result<()> {
+        self.plan.cuts.set(self.plan.cuts.get().saturating_add(1));
+        self.file.set_len(size)
+    }
+
+    fn set_permissions(&self, perm: Permissions) -> io::Result<()> {
+        self.file.set_permissions(perm)
+    }
+
+    fn sync_all(&self) -> io::Result<()> {
+        let failing = self.plan.failing.get();
+        if failing > 0 {
+            self.plan.failing.set(failing - 1);
+            return Err(ErrorKind::Other.into());
+        }
+        self.file.sync_all()
+    }
+
+    fn sync_data(&self) -> io::Result<()> {
+        self.sync_all()
+    }
+}
+
+impl FileExt for FailingFile<'_> {
+    fn read_at(&self, buf: &mut [u8], offset: u64) -> io::Result<usize> {
+        self.file.read_at(buf, offset)
+    }
+
+    fn write_at(&self, buf: &[u8], offset: u64) -> io::Result<usize> {
+        let room = self.plan.room.get();
+        let count = room.min(buf.len() as u64) as usize;
+        if count == 0 && !buf.is_empty() {
+            return Err(ErrorKind::StorageFull.into());
+        }
+        let written = self.file.write_at(&buf[..count], offset)?;
+        self.plan.room.set(room.saturating_sub(written as u64));
+        self.plan
+            .writes
+            .set(self.plan.writes.get().saturating_add(1));
+        Ok(written)
+    }
+}
+
+/// A call, how many of its syncs fail, whether it is good, and the writes, cuts and new files made by its end.
+#[derive(Clone, Copy)]
+struct Row<'a>(Call<'a>, u32, bool, [u32; 3]);
+
+/// Opens a folder and makes these calls.
+fn make(failing: &Failing<'_>, folder: &str, rows: &[Row<'_>]) -> Result<(), Fail> {
+    let mut disk = Thawed {
+        disk: FolderDisk::new(failing, folder)?,
+    };
+    let plan = failing.plan;
+    for (index, Row(call, syncs, good, counts)) in rows.iter().enumerate() {
+        plan.failing.set(*syncs);
+        let answer = disk.gives(failing.alloc(), *call);
+        let as_wanted = match answer {
+            Ok(given) => given && *good,
+            Err(DiskError::Fault) => !*good,
+            Err(_) => false,
+        };
+        if !as_wanted {
+            return Err(Fail::new(format_args!("row {index}: another answer")));
+        }
+        let made = [plan.writes.get(), plan.cuts.get(), plan.made.get()];
+        if made != *counts {
+            return Err(Fail::new(format_args!("row {index}: {made:?}")));
+        }
+    }
+    Ok(())
+}
+
+/// Opens a folder, freezes a file of it, and gives it up.
+fn freeze(failing: &Failing<'_>, folder: &str) -> Result<(), Fail> {
+    let disk = Thawed {
+        disk: FolderDisk::new(failing, folder)?,
+    };
+    let _ = disk.freeze(3)?;
+    Ok(())
+}
+
+const FAILED_SYNCS: [Row<'static>; 8] = [
+    Row(Call::Write(3, 0, b"abcdef"), 0, true, [1, 0, 1]),
+    Row(Call::Cut(3, 4), 0, true, [1, 1, 1]),
+    // written and cut again at once
+    Row(Call::Sync(3), 1, false, [2, 2, 1]),
+    // and synced, so not once more
+    Row(Call::Sync(3), 0, true, [2, 2, 1]),
+    Row(Call::Write(3, 4, b"Z"), 0, true, [3, 2, 1]),
+    // what was written since
+    Row(Call::Sync(3), 2, false, [4, 2, 1]),
+    // once more, since that sync failed too
+    Row(Call::Sync(3), 0, true, [5, 2, 1]),
+    // not after a good one
+    Row(Call::Sync(3), 0, true, [5, 2, 1]),
+];
+
+#[test]
+fn failed_syncs_are_made_good(rt: HostRuntime) -> Result<(), Fail> {
+    fresh(&rt, "folder_syncs")?;
+    let plan = Plan::new();
+    let failing = Failing {
+        rt: &rt,
+        plan: &plan,
+    };
+    make(&failing, "folder_syncs", &FAILED_SYNCS)?;
+    let octets = fs::read(&rt, "folder_syncs/3.ipfix")?;
+    assert_eq!(rt; octets.as_slice(), b"abcdZ".as_slice());
+    fs::remove_dir_all(&rt, "folder_syncs")?;
+    Ok(())
+}
+
+const CHANGED: [Row<'static>; 5] = [
+    Row(Call::Write(3, 5, b"F"), 0, true, [1, 0, 0]),
+    // all of it, with the length
+    Row(Call::Sync(3), 0, true, [2, 1, 0]),
+    // settled by this value
+    Row(Call::Sync(3), 0, true, [2, 1, 0]),
+    Row(Call::Write(3, 5, b"f"), 0, true, [3, 1, 0]),
+    Row(Call::Sync(3), 0, true, [3, 1, 0]),
+];
+
+const FROZEN: [Row<'static>; 4] = [
+    // frozen, so settled
+    Row(Call::Cut(3, 6), 0, true, [5, 3, 0]),
+    Row(Call::Sync(3), 0, true, [5, 3, 0]),
+    // and written all the same
+    Row(Call::Write(3, 6, b"g"), 0, true, [6, 3, 0]),
+    Row(Call::Sync(3), 0, true, [6, 3, 0]),
+];
+
+#[test]
+fn others_files_are_written_again(rt: HostRuntime) -> Result<(), Fail> {
+    fresh(&rt, "folder_again")?;
+    fs::write(&rt, "folder_again/3.ipfix", b"abcdef".as_slice())?;
+    let plan = Plan::new();
+    let failing = Failing {
+        rt: &rt,
+        plan: &plan,
+    };
+    make(&failing, "folder_again", &CHANGED)?;
+    // a later value doesn't know it
+    make(
+        &failing,
+        "folder_again",
+        &[Row(Call::Sync(3), 0, true, [4, 2, 0])],
+    )?;
+    freeze(&failing, "folder_again")?;
+    make(&failing, "folder_again", &FROZEN)?;
+    // doubtful again
+    make(
+        &failing,
+        "folder_again",
+        &[Row(Call::Sync(3), 0, true, [7, 4, 0])],
+    )?;
+    let octets = fs::read(&rt, "folder_again/3.ipfix")?;
+    assert_eq!(rt; octets.as_slice(), b"abcdefg".as_slice());
+    fs::remove_dir_all(&rt, "folder_again")?;
+    Ok(())
+}
+
+const WRITTEN: [Row<'static>; 1] = [Row(Call::Write(3, 0, b"abc"), 0, true, [1, 0, 1])];
+
+const DOUBTFUL: [Row<'static>; 2] = [
+    Row(Call::Sync(3), 1, false, [2, 1, 1]),
+    // no longer taken for settled
+    Row(Call::Sync(3), 0, true, [3, 2, 1]),
+];
+
+#[test]
+fn failed_syncs_of_frozen_files_are_doubtful(rt: HostRuntime) -> Result<(), Fail> {
+    fresh(&rt, "folder_doubtful")?;
+    let plan = Plan::new();
+    let failing = Failing {
+        rt: &rt,
+        plan: &plan,
+    };
+    make(&failing, "folder_doubtful", &WRITTEN)?;
+    freeze(&failing, "folder_doubtful")?;
+    make(&failing, "folder_doubtful", &DOUBTFUL)?;
+    fs::remove_dir_all(&rt, "folder_doubtful")?;
+    Ok(())
+}
+
+const NAMES: [Row<'static>; 6] = [
+    // nothing is written to a name that may be lost: it was made once more
+    Row(Call::Write(3, 0, b"abc"), 2, false, [0, 0, 2]),
+    // and a third time, being without octets
+    Row(Call::Write(3, 0, b"abc"), 0, true, [1, 0, 3]),
+    Row(Call::Sync(3), 0, true, [1, 0, 3]),
+    // made and taken away once more
+    Row(Call::Remove(3), 2, false, [1, 0, 4]),
+    // and once more
+    Row(Call::Remove(3), 0, true, [1, 0, 5]),
+    Row(Call::Files(&[]), 0, true, [1, 0, 5]),
+];
+
+#[test]
+fn names_are_durable_first(rt: HostRuntime) -> Result<(), Fail> {
+    fresh(&rt, "folder_entries")?;
+    let plan = Plan::new();
+    let failing = Failing {
+        rt: &rt,
+        plan: &plan,
+    };
+    make(&failing, "folder_entries", &NAMES)?;
+    fs::remove_dir_all(&rt, "folder_entries")?;
+    Ok(())
+}
+
+const FULL: [Row<'static>; 4] = [
+    Row(Call::Write(3, 0, b"abc"), 0, true, [1, 0, 1]),
+    Row(Call::Write(3, 0, b"ABCDEF"), 0, false, [2, 0, 1]),
+    Row(Call::Length(3, 3), 0, true, [2, 0, 1]),
+    // some of it is written
+    Row(Call::Read(3, 0, b"ABc"), 0, true, [2, 0, 1]),
+];
+
+#[test]
+fn a_full_device_is_a_fault(rt: HostRuntime) -> Result<(), Fail> {
+    fresh(&rt, "folder_full")?;
+    let plan = Plan::new();
+    plan.room.set(5);
+    let failing = Failing {
+        rt: &rt,
+        plan: &plan,
+    };
+    make(&failing, "folder_full", &FULL)?;
+    fs::remove_dir_all(&rt, "folder_full")?;
+    Ok(())
+}
