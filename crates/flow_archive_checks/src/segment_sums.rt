@@ -309,14 +309,23 @@ fn wide_template(alloc: Global, domain: u8) -> Result<Vec<u8>, AllocError> {
     Ok(octets)
 }
 
-/// The prefix of 64 domains with such a Template each, and behind it a message of one record in the last.
-fn wide_segment(alloc: Global) -> Result<(Vec<u8>, usize), DiskError> {
-    let mut carry = Carry::new(alloc);
+/// Takes such a Template in each of 64 domains.
+fn take_wide(alloc: Global, carry: &mut Carry) -> Result<(), DiskError> {
     for domain in 1..=64 {
-        take(alloc, &mut carry, wide_template(alloc, domain)?.as_slice())?;
+        take(alloc, carry, wide_template(alloc, domain)?.as_slice())?;
     }
-    let mut octets = prefix_of(alloc, &carry)?;
-    let prefix = octets.len();
+    Ok(())
+}
+
+/// The prefix of 64 domains with such a Template each.
+fn wide_prefix(alloc: Global) -> Result<Vec<u8>, DiskError> {
+    let mut carry = Carry::new(alloc);
+    take_wide(alloc, &mut carry)?;
+    Ok(prefix_of(alloc, &carry)?)
+}
+
+/// Adds a message of one record in the last domain.
+fn add_wide_record(octets: &mut Vec<u8>) -> Result<(), DiskError> {
     let head = [
         0, 10, 0x3a, 0xab, 0x65, 0x53, 0xf1, 0, 0, 0, 0, 0, 0, 0, 0, 64, //
         1, 0, 0x3a, 0x9b,
@@ -325,6 +334,14 @@ fn wide_segment(alloc: Global) -> Result<(Vec<u8>, usize), DiskError> {
     for _ in 0..14_999 {
         octets.push(5)?;
     }
+    Ok(())
+}
+
+/// That prefix, and behind it that message.
+fn wide_segment(alloc: Global) -> Result<(Vec<u8>, usize), DiskError> {
+    let mut octets = wide_prefix(alloc)?;
+    let prefix = octets.len();
+    add_wide_record(&mut octets)?;
     Ok((octets, prefix))
 }
 

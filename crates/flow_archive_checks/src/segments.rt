@@ -87,11 +87,15 @@ fn prefix_behind(alloc: Global) -> Result<Vec<u8>, DiskError> {
     Ok(prefix_of(alloc, &carry)?)
 }
 
+/// The file of the segment behind a copy of what is handed on.
+fn segment_of_copy(alloc: Global, carry: &Carry) -> Result<Vec<u8>, DiskError> {
+    segment_of(alloc, &carry.try_copy()?)
+}
+
 /// The file of the segment behind the prefix alone.
 fn segment_again(alloc: Global) -> Result<Vec<u8>, DiskError> {
     let prefix = prefix_behind(alloc)?;
-    let copy = carry_of(alloc, &[prefix.as_slice()])?.try_copy()?;
-    segment_of(alloc, &copy)
+    segment_of_copy(alloc, &carry_of(alloc, &[prefix.as_slice()])?)
 }
 
 /// The file of the segment behind the flow.
@@ -120,10 +124,14 @@ fn a_segment_behind_a_flow(rt: HostRuntime) -> Result<(), Fail> {
 
 /// The file of the segment behind the flow, a message that is refused, and the withdrawal.
 fn segment_behind_none(alloc: Global) -> Result<(Vec<u8>, bool), DiskError> {
-    let mut carry = carry_of(alloc, &[FLOW.as_slice()])?;
-    let refused = take(alloc, &mut carry, &FLOW[..56]).is_err();
-    take(alloc, &mut carry, WITHDRAWAL.as_slice())?;
-    Ok((segment_of(alloc, &carry)?, refused))
+    segment_withdrawn(alloc, &mut carry_of(alloc, &[FLOW.as_slice()])?)
+}
+
+/// The file of the segment behind a message that is refused, and the withdrawal.
+fn segment_withdrawn(alloc: Global, carry: &mut Carry) -> Result<(Vec<u8>, bool), DiskError> {
+    let refused = take(alloc, carry, &FLOW[..56]).is_err();
+    take(alloc, carry, WITHDRAWAL.as_slice())?;
+    Ok((segment_of(alloc, carry)?, refused))
 }
 
 #[test]

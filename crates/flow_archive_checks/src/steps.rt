@@ -79,6 +79,17 @@ impl<D: Disk> Followed<D> {
         self.work(alloc)
     }
 
+    /// Takes two messages, a seal, one more message, a roll and a merge of what was sealed, and one more message.
+    fn lead(&mut self, alloc: Global, plain: &[u8], record: &[u8]) -> Result<(), ArchiveError> {
+        self.append(alloc, plain)?;
+        self.append(alloc, record)?;
+        self.seal(alloc)?;
+        self.append(alloc, record)?;
+        self.roll(alloc)?;
+        self.merge(alloc)?;
+        self.append(alloc, record)
+    }
+
     /// How many messages the directory has, how many stand in sums alone, and how many of them by wide intervals.
     fn counts(self) -> [u64; 3] {
         let snapshot = self.directory.into_snapshot();
@@ -99,25 +110,24 @@ fn started<D: Disk>(alloc: Global, disk: Thawed<D>) -> Result<Followed<D>, Archi
     }
 }
 
-/// What the directory has behind two messages, a seal, one more message, a roll and a merge of what was sealed, and one
-/// more message.
-fn counts_at_the_end<D: Disk>(alloc: Global, disk: Thawed<D>) -> Result<[u64; 3], Fail> {
-    let plain = octets_of(alloc, &["plain"])?;
-    let record = octets_of(alloc, &["record"])?;
+/// What the directory has at the end.
+fn counts_at_the_end<D: Disk>(
+    alloc: Global,
+    disk: Thawed<D>,
+    plain: &[u8],
+    record: &[u8],
+) -> Result<[u64; 3], ArchiveError> {
     let mut followed = started(alloc, disk)?;
-    followed.append(alloc, &plain)?;
-    followed.append(alloc, &record)?;
-    followed.seal(alloc)?;
-    followed.append(alloc, &record)?;
-    followed.roll(alloc)?;
-    followed.merge(alloc)?;
-    followed.append(alloc, &record)?;
+    followed.lead(alloc, plain, record)?;
     Ok(followed.counts())
 }
 
 #[test]
 fn a_directory_follows(rt: HostRuntime) -> Result<(), Fail> {
-    let disk = memory(rt.alloc(), ROOM)?;
-    assert_eq!(rt; counts_at_the_end(rt.alloc(), disk)?, [4, 2, 2]);
+    let alloc = rt.alloc();
+    let plain = octets_of(alloc, &["plain"])?;
+    let record = octets_of(alloc, &["record"])?;
+    let disk = memory(alloc, ROOM)?;
+    assert_eq!(rt; counts_at_the_end(alloc, disk, &plain, &record)?, [4, 2, 2]);
     Ok(())
 }
