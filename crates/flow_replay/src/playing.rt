@@ -1,0 +1,183 @@
+//! Scripts, played.
+
+use crate::report::Report;
+use crate::stage::Stage;
+use crate::thawed::{Thawed, fused, with_bad_reads};
+use flow_disk::Disk;
+use flow_memory_disk::{FusedDisk, MemoryDisk, Room};
+use flow_scripts::{Command, Failing, Line, Part, Script, Widths};
+use std::alloc::{AllocError, Global};
+
+/// Room for scripts that don't tell a size.
+const ROOM: Room = Room {
+    files: 96,
+    octets: 300_000,
+    calls: 20_000,
+    written: 4_000_000,
+};
+
+/// The room for a script.
+pub(crate) fn room_of(script: &Script<'_>) -> Room {
+    match script.size {
+        Some(size) => Room {
+            files: size.files as usize,
+            octets: size.octets as usize,
+            calls: size.calls as usize,
+            written: size.written as usize,
+        },
+        None => ROOM,
+    }
+}
+
+/// What a line answers that begins with an archive.
+#[derive(Drop)]
+pub(crate) enum Beginning<D: Disk> {
+    /// There is one.
+    Archive(Stage<D>),
+    /// There is none, for this reason.
+    Refused(D, String),
+}
+
+/// Makes an archive.
+fn create<D: Disk>(
+    alloc: Global,
+    disk: Thawed<D>,
+    widths: Widths,
+) -> Result<Beginning<D>, AllocError> {
+    let (narrow, wide, limit) = (widths.narrow, widths.wide, widths.limit);
+    if narrow < 1
+        || wide < narrow
+        || wide > 86_400
+        || wide % narrow != 0
+        || limit < 65_535
+        || limit > 16_777_216
+    {
+        let why = "no archive has these widths, or this limit".to_string(alloc)?;
+        let Thawed { disk } = disk;
+        return Ok(Beginning::Refused(disk, why));
+    }
+    match Stage::create(alloc, disk, narrow, wide, limit) {
+        Ok(stage) => Ok(Beginning::Archive(stage)),
+        Err(refused) => {
+            let text = format!(in alloc; "{}", refused.error)?;
+            Ok(Beginning::Refused(refused.disk, text))
+        }
+    }
+}
+
+/// Makes or opens an archive.
+pub(crate) fn begin<D: Disk>(
+    alloc: Global,
+    disk: Thawed<D>,
+    command: &Command,
+) -> Result<Beginning<D>, AllocError> {
+    if let Command::Create(widths) = command {
+        return create(alloc, disk, *widths);
+    }
+    match Stage::open(alloc, disk) {
+        Ok(stage) => Ok(Beginning::Archive(stage)),
+        Err(refused) => {
+            let text = format!(in alloc; "{}", refused.error)?;
+            Ok(Beginning::Refused(refused.disk, text))
+        }
+    }
+}
+
+/// An archive answers lines.
+fn answer_all<D: Disk>(
+    alloc: Global,
+    stage: &mut Stage<D>,
+    name: &str,
+    lines: &[Line<'_>],
+    report: &mut Report,
+) -> Result<(), AllocError> {
+    for line in lines {
+        let told = stage.answer(alloc, &line.command)?;
+        report.compare(alloc, name, line, told.as_str())?;
+    }
+    Ok(())
+}
+
+/// A part with an archive.
+fn with_archive<D: Disk>(
+    alloc: Global,
+    disk: Thawed<D>,
+    name: &str,
+    first: &Line<'_>,
+    lines: &[Line<'_>],
+    report: &mut Report,
+) -> Result<D, AllocError> {
+    match begin(alloc, disk, &first.command)? {
+        Beginning::Archive(mut stage) => {
+            report.compare(alloc, name, first, "")?;
+            answer_all(alloc, &mut stage, name, lines, report)?;
+            Ok(stage.into_disk())
+        }
+        Beginning::Refused(disk, why) => {
+            report.compare(alloc, name, first, why.as_str())?;
+            for line in lines {
+                report.compare(alloc, name, line, "there is no archive")?;
+            }
+            Ok(disk)
+        }
+    }
+}
+
+/// A part without an archive.
+fn without_archive<D: Disk>(
+    alloc: Global,
+    disk: Thawed<D>,
+    name: &str,
+    lines: &[Line<'_>],
+    report: &mut Report,
+) -> Result<D, AllocError> {
+    let mut disk = disk;
+    for line in lines {
+        if let Command::Disk(asked) = &line.command {
+            let told = disk.answer(alloc, asked)?;
+            report.compare(alloc, name, line, told.as_str())?;
+        }
+    }
+    let Thawed { disk } = disk;
+    Ok(disk)
+}
+
+/// The disk of a part.
+fn disk_of(disk: MemoryDisk, failing: Failing) -> Thawed<FusedDisk<MemoryDisk>> {
+    match failing {
+        Failing::Never => fused(disk, u64::MAX),
+        Failing::From(call) => fused(disk, call),
+        Failing::Reads(file, from) => with_bad_reads(disk, file, from),
+    }
+}
+
+/// A part, on a disk: the disk afterwards.
+pub(crate) fn play_part(
+    alloc: Global,
+    disk: MemoryDisk,
+    name: &str,
+    part: &Part<'_>,
+    report: &mut Report,
+) -> Result<MemoryDisk, AllocError> {
+    let disk = disk_of(disk, part.failing);
+    let disk = match part.lines.split_first() {
+        Some((first, rest)) if first.command.begins() => with_archive(
+            alloc, disk, name, first, rest, report,
+        )?,
+        _ => without_archive(alloc, disk, name, &part.lines, report)?,
+    };
+    Ok(disk.restart())
+}
+
+/// A script, on a disk without files.
+pub(crate) fn play(
+    alloc: Global,
+    script: &Script<'_>,
+    report: &mut Report,
+) -> Result<(), AllocError> {
+    let mut disk = MemoryDisk::new(alloc, room_of(script))?;
+    for part in &script.parts {
+        disk = play_part(alloc, disk, script.name, part, report)?;
+    }
+    Ok(())
+}

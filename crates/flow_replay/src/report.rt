@@ -1,0 +1,69 @@
+//! What a run has found.
+
+use flow_scripts::Line;
+use std::alloc::{AllocError, Global};
+
+/// How many characters of a line are told.
+const TOLD: usize = 100;
+
+/// What a run has found: how much it has compared, and what differs.
+#[derive(Drop)]
+pub(crate) struct Report {
+    /// The differences that aren't printed yet, in lines.
+    pub(crate) text: String,
+    /// How many answers were compared.
+    pub(crate) answers: u64,
+    /// How many of them differ from what is wanted.
+    pub(crate) differ: u64,
+}
+
+impl Report {
+    /// Nothing.
+    pub(crate) fn new(alloc: Global) -> Report {
+        Report {
+            text: String::new(alloc),
+            answers: 0,
+            differ: 0,
+        }
+    }
+
+    /// Whether nothing differs.
+    pub(crate) fn agrees(&self) -> bool {
+        self.differ == 0
+    }
+
+    /// Tells a difference.
+    fn tell(
+        &mut self,
+        alloc: Global,
+        place: &str,
+        wanted: &str,
+        came: &str,
+    ) -> Result<(), AllocError> {
+        self.differ = self.differ.saturating_add(1);
+        self.text.push_str(&format!(in alloc; "{place}\n  wanted {wanted}\n  came   {came}\n")?)
+    }
+
+    /// Compares the answer to a line.
+    pub(crate) fn compare(
+        &mut self,
+        alloc: Global,
+        script: &str,
+        line: &Line<'_>,
+        came: &str,
+    ) -> Result<(), AllocError> {
+        self.answers = self.answers.saturating_add(1);
+        if came == line.wanted {
+            return Ok(());
+        }
+        let place = place_of(alloc, script, line)?;
+        self.tell(alloc, place.as_str(), line.wanted, came)
+    }
+}
+
+/// The place of a line.
+pub(crate) fn place_of(alloc: Global, script: &str, line: &Line<'_>) -> Result<String, AllocError> {
+    let number = line.number;
+    let text: String = line.text.chars().take(TOLD).collect(alloc)?;
+    format!(in alloc; "script {script}, line {number}: {text}")
+}

@@ -1,0 +1,211 @@
+//! Texts of scripts, line by line.
+
+use crate::asked::command_of;
+use crate::error::{BadScript, Why};
+use crate::script::{Failing, Line, Part, Script, Size};
+use crate::words::{number, small_number};
+use std::alloc::Global;
+
+/// More octets than a line has.
+const TOO_LONG: usize = 500_000;
+
+/// What has been read.
+#[derive(Drop)]
+struct Reading<'a> {
+    scripts: Vec<Script<'a>>,
+    /// Whether the next line begins a part.
+    is_between: bool,
+    /// The words of a line that goes on in the next one.
+    words: Vec<&'a str>,
+}
+
+impl<'a> Reading<'a> {
+    /// Nothing.
+    fn new(alloc: Global) -> Self {
+        Reading {
+            scripts: Vec::new(alloc),
+            is_between: true,
+            words: Vec::new(alloc),
+        }
+    }
+
+    /// The script that is read.
+    fn script(&mut self) -> Result<&mut Script<'a>, Why> {
+        match self.scripts.last_mut() {
+            Some(script) => Ok(script),
+            None => Err(Why::NoScript),
+        }
+    }
+
+    /// A script begins.
+    fn begin(&mut self, alloc: Global, name: &'a str) -> Result<(), Why> {
+        self.is_between = true;
+        self.scripts.push(Script {
+            name,
+            size: None,
+            parts: Vec::new(alloc),
+        })?;
+        Ok(())
+    }
+
+    /// A part begins, on a disk that fails so.
+    fn begin_part(&mut self, alloc: Global, failing: Failing) -> Result<(), Why> {
+        if !self.is_between {
+            return Err(Why::Misplaced);
+        }
+        self.is_between = false;
+        let lines = Vec::new(alloc);
+        self.script()?.parts.push(Part { failing, lines })?;
+        Ok(())
+    }
+
+    /// The size of the disk is told, before the first part.
+    fn set_size(&mut self, size: Size) -> Result<(), Why> {
+        let script = self.script()?;
+        if !script.parts.is_empty() || script.size.is_some() {
+            return Err(Why::Misplaced);
+        }
+        script.size = Some(size);
+        Ok(())
+    }
+
+    /// A line of a part.
+    fn add_line(&mut self, alloc: Global, line: Line<'a>) -> Result<(), Why> {
+        if self.is_between {
+            self.begin_part(alloc, Failing::Never)?;
+        }
+        match self.script()?.parts.last_mut() {
+            Some(part) => add_to(part, line),
+            None => Err(Why::Misplaced),
+        }
+    }
+}
+
+/// A line after the others of a part.
+fn add_to<'a>(part: &mut Part<'a>, line: Line<'a>) -> Result<(), Why> {
+    if !part.may_take(&line.command) {
+        return Err(Why::Misplaced);
+    }
+    part.lines.push(line)?;
+    Ok(())
+}
+
+/// The size that words tell.
+fn size_of(words: &[&str]) -> Result<Size, Why> {
+    match words {
+        [files, octets, calls, written] => Ok(Size {
+            files: small_number(files)?,
+            octets: small_number(octets)?,
+            calls: small_number(calls)?,
+            written: small_number(written)?,
+        }),
+        _ => Err(Why::NoCommand),
+    }
+}
+
+/// Takes the words of a whole line, and its answer where it has an arrow.
+fn take_words<'a>(
+    alloc: Global,
+    reading: &mut Reading<'a>,
+    (number_of_line, text): (u64, &'a str),
+    words: &[&'a str],
+    answer: Option<&'a str>,
+) -> Result<(), Why> {
+    match words {
+        ["disk", size @ ..] => return reading.set_size(size_of(size)?),
+        ["failing", "from", call] => return reading.begin_part(alloc, Failing::From(number(call)?)),
+        ["failing", "reads", file, from] => {
+            return reading.begin_part(alloc, Failing::Reads(number(file)?, number(from)?));
+        }
+        _ => {}
+    }
+    let command = command_of(alloc, words)?;
+    if answer.is_none() && command.answers() {
+        return Err(Why::NoAnswer);
+    }
+    let line = Line {
+        number: number_of_line,
+        text,
+        command,
+        wanted: answer.unwrap_or(""),
+    };
+    reading.add_line(alloc, line)
+}
+
+/// Takes a line that isn't empty, no comment, and begins no script.
+fn take_line<'a>(
+    alloc: Global,
+    reading: &mut Reading<'a>,
+    number_of_line: u64,
+    text: &'a str,
+) -> Result<(), Why> {
+    let (asked, answer) = match text.split_once("->") {
+        Some((asked, answer)) => (asked.trim(), Some(answer.trim())),
+        None => (text, None),
+    };
+    let (asked, goes_on) = match asked.strip_suffix("\\") {
+        Some(front) => (front, answer.is_none()),
+        None => (asked, false),
+    };
+    for word in asked.split_whitespace() {
+        reading.words.push(word)?;
+    }
+    if goes_on {
+        return Ok(());
+    }
+    let words = std::mem::replace(&mut reading.words, Vec::new(alloc));
+    take_words(
+        alloc,
+        reading,
+        (number_of_line, asked),
+        words.as_slice(),
+        answer,
+    )
+}
+
+/// Takes a line.
+fn take<'a>(
+    alloc: Global,
+    reading: &mut Reading<'a>,
+    number_of_line: u64,
+    text: &'a str,
+) -> Result<(), Why> {
+    if text.len() >= TOO_LONG {
+        return Err(Why::TooLong);
+    }
+    let text = text.trim();
+    if !reading.words.is_empty() {
+        return take_line(alloc, reading, number_of_line, text);
+    }
+    if text.is_empty() {
+        reading.is_between = true;
+        return Ok(());
+    }
+    if text.starts_with("#") {
+        return Ok(());
+    }
+    match text.strip_prefix("script ") {
+        Some(name) => reading.begin(alloc, name.trim()),
+        None => take_line(alloc, reading, number_of_line, text),
+    }
+}
+
+/// Reads scripts. A script begins with `script NAME`; empty lines part it into parts; a line that begins with `#` is a
+/// comment, and one that ends with a backslash goes on in the next.
+///
+/// Errors: the first line that can't be read, and why.
+pub fn read_scripts(alloc: Global, text: &str) -> Result<Vec<Script<'_>>, BadScript> {
+    let mut reading = Reading::new(alloc);
+    let mut line = 0u64;
+    for text in text.lines() {
+        line = line.saturating_add(1);
+        if let Err(why) = take(alloc, &mut reading, line, text) {
+            return Err(BadScript { line, why });
+        }
+    }
+    if !reading.words.is_empty() {
+        let why = Why::NoEnd;
+        return Err(BadScript { line, why });
+    }
+    Ok(reading.scripts)
+}

@@ -1,0 +1,80 @@
+//! Scripts.
+
+use crate::command::Command;
+
+/// A script: parts, each on the disk that the one before it left, given up without a stop.
+#[derive(Drop)]
+pub struct Script<'a> {
+    /// What it is called.
+    pub name: &'a str,
+    /// The size of its disk, where it asks for one.
+    pub size: Option<Size>,
+    /// Its parts.
+    pub parts: Vec<Part<'a>>,
+}
+
+/// The size of a disk: how many files it has room for, how many octets each, how many calls that change a file, and how
+/// many octets are written in all.
+#[derive(Clone, Copy, Debug, PartialEq, Eq)]
+pub struct Size {
+    /// How many files.
+    pub files: u32,
+    /// How many octets each.
+    pub octets: u32,
+    /// How many calls that change a file.
+    pub calls: u32,
+    /// How many octets in all.
+    pub written: u32,
+}
+
+/// How the disk of a part fails.
+#[derive(Clone, Copy, Debug, PartialEq, Eq)]
+pub enum Failing {
+    /// It doesn't.
+    Never,
+    /// All its calls fail from this one on, counted from 0.
+    From(u64),
+    /// Each read of this frozen file fails that reaches this octet.
+    Reads(u64, u64),
+}
+
+/// A part: it begins with `create` or `open` and goes on with events and questions; or it has questions and changes of
+/// the disk alone.
+#[derive(Drop)]
+pub struct Part<'a> {
+    /// How its disk fails.
+    pub failing: Failing,
+    /// Its lines.
+    pub lines: Vec<Line<'a>>,
+}
+
+/// A line: what is asked, and what is to be answered.
+#[derive(Drop)]
+pub struct Line<'a> {
+    /// Its number in the input, from 1 on.
+    pub number: u64,
+    /// The text before the arrow.
+    pub text: &'a str,
+    /// What is asked.
+    pub command: Command,
+    /// What is to be answered: nothing where it has no arrow.
+    pub wanted: &'a str,
+}
+
+impl Part<'_> {
+    /// Whether it begins with an archive.
+    pub fn has_archive(&self) -> bool {
+        match self.lines.first() {
+            Some(line) => line.command.begins(),
+            None => false,
+        }
+    }
+
+    /// Whether a command may follow its lines.
+    pub(crate) fn may_take(&self, command: &Command) -> bool {
+        if self.lines.is_empty() {
+            return command.begins() || command.is_of_disk();
+        }
+        !command.begins() && command.is_of_disk() != self.has_archive()
+    }
+}
