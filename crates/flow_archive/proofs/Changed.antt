@@ -1,7 +1,7 @@
 -- A step is the change of its mark.
-use Rattle.std.proofs.Common.{◌≡◌, ◌≢◌, ℕ, suc, ◌+◌, ◌-◌, ◌<◌, List, [], ◌∷◌, ◌++◌}
+use Rattle.std.proofs.Common.{◌≡◌, ◌≢◌, ℕ, zero, suc, ◌+◌, ◌-◌, ◌<◌, List, [], ◌∷◌, ◌++◌}
 use Rattle.std.proofs.Common.{length, take, drop, get_or, append_assoc, refl, sym, ap, ◌∙◌, subst, arith}
-use Rattle.std.specs.List.{flat_map}
+use Rattle.std.specs.List.{flat_map, AllByRecursion}
 use Rattle.std.proofs.lemmas.Grind.{flat_map-append}
 use Rattle.std.proofs.lemmas.List.{append-nil, drop_at, drop_more, get_or-drop, length-append, length-drop}
 use Rattle.std.proofs.lemmas.List.{same_from_push, take-append-drop, take_at}
@@ -10,19 +10,22 @@ use Rattle.flow_manifest.specs.declared.manifest.Entry.{Entry}
 use Rattle.flow_manifest.specs.declared.manifest.Kind.{Kind}
 use Rattle.flow_manifest.specs.declared.manifest.Kind.TheVariants as kinds
 use Rattle.flow_manifest.specs.Following.{front_of, messages_of}
-use Rattle.flow_manifest.specs.Manifest.{IsValidManifest}
-use Rattle.flow_manifest.proofs.Followers.{all_sum}
+use Rattle.flow_codec.specs.Cutting.{length_of}
+use Rattle.flow_manifest.specs.Manifest.{IsValidManifest, rank}
+use Rattle.flow_manifest.proofs.EntryLists.{all_by}
+use Rattle.flow_manifest.proofs.Followers.{all_sum, are_entries, IsOther}
+use Rattle.flow_segment.specs.Segment.{part_octets}
 use Rattle.flow_snapshot.specs.declared.step.Mark.{Mark}
 use Rattle.flow_snapshot.specs.Changes.{applied, Change}
 use Rattle.flow_snapshot.specs.Changes.Change.{added, closed, installed, joined}
 use Rattle.flow_snapshot.specs.Shelf.{cut_of, messages_in, position_of, Rollup, Segment, Shelf}
-use Rattle.flow_recover.specs.Opening.{FrozenStand}
+use Rattle.flow_snapshot.specs.Files.{cut_into}
 use Rattle.flow_recover.specs.Shelved as shelved
-use Rattle.flow_recover.specs.Standing.{StandsAs}
 use Rattle.flow_recover.specs.State.{Part, State}
 use Rattle.flow_archive.specs.Marks.{mark_of, numbered, IsMarkedAmong, IsNewestOf}
 use Rattle.flow_archive.specs.Owned.{octets_in, rolled_in, rollup_of, segment_in, segment_of, shelf_with, wide_in}
 use Rattle.flow_archive.specs.Owned.{Frozen}
+use Rattle.flow_archive.specs.Parts.{part_at, parts_at}
 
 -- ---- the last one of a kind
 
@@ -95,39 +98,77 @@ newest_wide files f rs r newest is =
 abbrev pub before_active : Shelf → ℕ
 before_active s = cut_of s + length (messages_in s.sealed)
 
-more_in_front : (kind : Kind) (e : Entry) (p : Part) (f : Frozen) (s : Shelf) → StandsAs kind f.octets e p
-    → before_active (shelved.shelved_first kind e p s) ≡ e.messages + before_active s
-more_in_front kinds.Wide e p f s stands =
-    omega (arith, sum_by-cons (λ (r : Rollup). r.messages) (shelved.rollup_of e p) s.merged)
-more_in_front kinds.Rolled e p f s stands =
-    omega (arith, sum_by-cons (λ (r : Rollup). r.messages) (shelved.rollup_of e p) s.rolled)
-more_in_front kinds.Sealed e p f s stands =
-    omega (arith, length-append p.messages (messages_in s.sealed), stands.messages)
-more_in_front kinds.Active e p f s stands = absurd stands
+cut_long : (n : ℕ) (octets : List ℕ) → length (cut_into n octets) ≡ n
+cut_long zero octets = refl
+cut_long (suc zero) octets = refl
+cut_long (suc (suc n)) octets = omega (arith, cut_long (suc n) (drop (length_of octets) octets))
 
-all_in_front : (es : List Entry) (ps : List Part) (fs : List Frozen) (s : Shelf) → FrozenStand octets_in es ps fs
-    → before_active (shelved.shelved es ps s) ≡ messages_of es + before_active s
-all_in_front [] [] [] s stand = omega arith
-all_in_front [] [] (f ∷ fs) s stand = absurd stand
-all_in_front [] (p ∷ ps) fs s stand = absurd stand
-all_in_front (e ∷ es) [] fs s stand = absurd stand
-all_in_front (e ∷ es) (p ∷ ps) [] s stand = absurd stand
-all_in_front (e ∷ es) (p ∷ ps) (f ∷ fs) s stand =
+more_in_front : (kind : Kind) (e : Entry) (octets : List ℕ) (s : Shelf) → rank kind < 3
+    → before_active (shelved.shelved_first kind e (part_at kind e octets) s) ≡ e.messages + before_active s
+more_in_front kinds.Wide e octets s low =
+    omega (arith, sum_by-cons (λ (r : Rollup). r.messages) (shelved.rollup_of e (part_at kinds.Wide e octets)) s.merged)
+more_in_front kinds.Rolled e octets s low =
+    omega (arith, sum_by-cons (λ (r : Rollup). r.messages) (shelved.rollup_of e (part_at kinds.Rolled e octets)) s.rolled)
+more_in_front kinds.Sealed e octets s low =
     omega (
       arith,
-      more_in_front e.kind e p f (shelved.shelved es ps s) stand.0,
-      all_in_front es ps fs s stand.1,
+      length-append (cut_into e.messages (part_octets e.prefix e.length octets)) (messages_in s.sealed),
+      cut_long e.messages (part_octets e.prefix e.length octets),
+    )
+more_in_front kinds.Active e octets s low = absurd (omega (arith, low))
+
+all_in_front : (es : List Entry) (fs : List Frozen) (s : Shelf) → AllByRecursion (λ e. rank e.kind < 3) es
+    → length fs ≡ length es
+    → before_active (shelved.shelved es (parts_at octets_in es fs) s) ≡ messages_of es + before_active s
+all_in_front [] [] s low long = omega arith
+all_in_front [] (f ∷ fs) s low long = absurd (omega (arith, long))
+all_in_front (e ∷ es) [] s low long = absurd (omega (arith, long))
+all_in_front (e ∷ es) (f ∷ fs) s low long =
+    omega (
+      arith,
+      more_in_front e.kind e f.octets (shelved.shelved es (parts_at octets_in es fs) s) low.0,
+      all_in_front es fs s low.1 (omega (arith, long)),
       sum_by-cons (λ (x : Entry). x.messages) e es,
     )
 
 pub counted_in_front : (s : State) (files : List Frozen) → IsValidManifest s.manifest
-    → FrozenStand octets_in (front_of s.manifest) s.parts files
+    → length files ≡ length (front_of s.manifest) → s.parts ≡ parts_at octets_in (front_of s.manifest) files
     → messages_of s.manifest.entries ≡ before_active (shelved.shelf_of s)
-counted_in_front s files valid stand =
+counted_in_front s files valid long is =
+    let low : AllByRecursion (λ e. rank e.kind < 3) (front_of s.manifest) =
+    all_by (IsOther s.manifest) (λ e. rank e.kind < 3) (λ e other. other.kind) (front_of s.manifest)
+    (are_entries s.manifest valid).front in
     omega (
       arith,
       all_sum s.manifest valid,
-      all_in_front (front_of s.manifest) s.parts files (shelved.active_shelf s) stand,
+      ap (λ (ps : List Part). before_active (shelved.shelved (front_of s.manifest) ps (shelved.active_shelf s))) is,
+      all_in_front (front_of s.manifest) files (shelved.active_shelf s) low long,
+    )
+
+-- ---- the number of the last message
+
+active_first : (kind : Kind) (e : Entry) (p : Part) (s : Shelf)
+    → (shelved.shelved_first kind e p s).active ≡ s.active
+active_first kinds.Wide e p s = refl
+active_first kinds.Rolled e p s = refl
+active_first kinds.Sealed e p s = refl
+active_first kinds.Active e p s = refl
+
+active_behind : (es : List Entry) (ps : List Part) (s : Shelf) → (shelved.shelved es ps s).active ≡ s.active
+active_behind [] ps s = refl
+active_behind (e ∷ es) [] s = refl
+active_behind (e ∷ es) (p ∷ ps) s =
+    active_first e.kind e p (shelved.shelved es ps s) ∙ active_behind es ps s
+
+pub position_is : (s : State) (files : List Frozen) → IsValidManifest s.manifest
+    → length files ≡ length (front_of s.manifest) → s.parts ≡ parts_at octets_in (front_of s.manifest) files
+    → position_of (shelved.shelf_of s) ≡ messages_of s.manifest.entries + length s.active.messages
+position_is s files valid long is =
+    omega (
+      arith,
+      length-append (messages_in (shelved.shelf_of s).sealed) (shelved.shelf_of s).active,
+      counted_in_front s files valid long is,
+      ap (λ (l : List (List ℕ)). length l) (active_behind (front_of s.manifest) s.parts (shelved.active_shelf s)),
     )
 
 -- ---- the change of a mark

@@ -31,3 +31,4 @@ pub mod Changed
 pub mod Fitting
 pub mod Inside
 pub mod Marked
+pub mod Shelves

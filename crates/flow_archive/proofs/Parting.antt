@@ -1,14 +1,17 @@
 -- What frozen files are taken for.
-use Rattle.std.proofs.Common.{◌≡◌, ℕ, ◌+◌, ◌*◌, ◌<◌, List, [], ◌∷◌, ◌++◌, length, take, drop, get_or, refl, sym, ◌∙◌}
+use Rattle.std.proofs.Common.{◌≡◌, ℕ, zero, suc, ◌+◌, ◌-◌, ◌≤◌, List, [], ◌∷◌, ◌++◌, length, take, drop, refl, sym, ◌∙◌}
 use Rattle.std.proofs.Common.{ap, arith}
-use Rattle.std.proofs.lemmas.List.{drop-drop, get_or-take}
-use Rattle.flow_gate.specs.Gate.{IsWhole, StandInRow, length_field}
+use Rattle.std.proofs.lemmas.List.{drop-drop, drop-take, take-take}
+use Rattle.flow_codec.specs.Cutting.{length_of}
+use Rattle.flow_gate.specs.Gate.{IsWhole, StandInRow, octet_sum}
 use Rattle.flow_manifest.specs.declared.manifest.Kind.TheVariants.{Sealed}
 use Rattle.flow_manifest.specs.declared.manifest.Entry.{Entry}
+use Rattle.flow_segment.specs.Segment.{part_octets}
+use Rattle.flow_snapshot.specs.Files.{cut_into}
 use Rattle.flow_recover.specs.State.{Part}
 use Rattle.flow_recover.specs.Opening.{FrozenStand}
 use Rattle.flow_recover.specs.Standing.{IsSealedAt, StandsAs}
-use Rattle.flow_archive.specs.Parts.{messages_in, part_at, parts_at}
+use Rattle.flow_archive.specs.Parts.{part_at, parts_at}
 
 pub parts_at_push : {S : Type 0} (octets : S → List ℕ) (e : Entry) (x : S) (entries : List Entry) (files : List S)
     → length files ≡ length entries → parts_at octets (entries ++ e ∷ []) (files ++ x ∷ [])
@@ -40,28 +43,62 @@ frozen_push octets e p x at (f ∷ entries) (q ∷ parts) [] is = absurd is
 frozen_push octets e p x at (f ∷ entries) (q ∷ parts) (y ∷ files) is =
     (is.0, frozen_push octets e p x at entries parts files is.1)
 
-field_at : (octets message : List ℕ) (place : ℕ) → take (length message) (drop place octets) ≡ message → IsWhole message
-    → length_field (drop place octets) 0 ≡ length message
-field_at octets message place at whole =
-    ap (λ (n : ℕ). 256 * n + get_or (drop place octets) 3 0) (here 2 (omega (arith, whole.long)))
-    ∙ ap (λ (n : ℕ). 256 * get_or message 2 0 + n) (here 3 (omega (arith, whole.long))) ∙ whole.counted
-  where
-    here : (i : ℕ) → i < length message → get_or (drop place octets) i 0 ≡ get_or message i 0
-    here i lt = sym (get_or-take (length message) (drop place octets) i 0 lt) ∙ ap (λ (l : List ℕ). get_or l i 0) at
+-- ---- the messages of a sealed segment
 
-row_read : (octets : List ℕ) (place : ℕ) (list : List (List ℕ)) → StandInRow octets place list
-    → messages_in (length list) (drop place octets) ≡ list
-row_read octets place [] row = refl
-row_read octets place (message ∷ list) row =
-    let field = field_at octets message place row.1 row.0 in
-    ap (λ (n : ℕ). take n (drop place octets) ∷ messages_in (length list) (drop n (drop place octets))) field
-    ∙ ap (λ (l : List ℕ). l ∷ messages_in (length list) (drop (length message) (drop place octets))) row.1
-    ∙ ap (λ (l : List ℕ). message ∷ messages_in (length list) l) (drop-drop (length message) place octets)
-    ∙ ap (λ (l : List (List ℕ)). message ∷ l) (row_read octets (place + length message) list row.2)
+field_front : (n : ℕ) (octets : List ℕ) → length_of (take (suc (suc (suc (suc n)))) octets) ≡ length_of octets
+field_front n [] = refl
+field_front n (a ∷ []) = refl
+field_front n (a ∷ b ∷ []) = refl
+field_front n (a ∷ b ∷ c ∷ []) = refl
+field_front n (a ∷ b ∷ c ∷ d ∷ octets) = refl
+
+whole_field : (message : List ℕ) → IsWhole message → length_of message ≡ length message
+whole_field [] whole = absurd (omega (arith, whole.long))
+whole_field (a ∷ []) whole = absurd (omega (arith, whole.long))
+whole_field (a ∷ b ∷ []) whole = absurd (omega (arith, whole.long))
+whole_field (a ∷ b ∷ c ∷ []) whole = absurd (omega (arith, whole.long))
+whole_field (a ∷ b ∷ c ∷ d ∷ rest) whole = omega (arith, whole.counted)
+
+field_of : (n : ℕ) (octets message : List ℕ) → 4 ≤ n → take n octets ≡ message → IsWhole message
+    → length_of octets ≡ length message
+field_of zero octets message four is whole = absurd (omega (arith, four))
+field_of (suc zero) octets message four is whole = absurd (omega (arith, four))
+field_of (suc (suc zero)) octets message four is whole = absurd (omega (arith, four))
+field_of (suc (suc (suc zero))) octets message four is whole = absurd (omega (arith, four))
+field_of (suc (suc (suc (suc n)))) octets message four is whole =
+    sym (field_front n octets) ∙ ap length_of is ∙ whole_field message whole
+
+cut_row : (octets : List ℕ) (place : ℕ) (list : List (List ℕ)) → StandInRow octets place list
+    → cut_into (length list) (take (octet_sum list) (drop place octets)) ≡ list
+cut_row octets place [] row = refl
+cut_row octets place (message ∷ []) row =
+    ap (λ (o : List ℕ). o ∷ []) (ap (λ (n : ℕ). take n (drop place octets)) (omega arith) ∙ row.1)
+cut_row octets place (message ∷ next ∷ list) row =
+    let rest = drop place octets in
+    let more = octet_sum (next ∷ list) in
+    let here = take (length message + more) rest in
+    let front : take (length message) here ≡ message =
+    take-take (length message) (length message + more) rest (omega arith) ∙ row.1 in
+    let field : length_of here ≡ length message =
+    field_of (length message) here message (omega (arith, row.0.long)) front row.0 in
+    ap (λ (n : ℕ). take n here ∷ cut_into (length (next ∷ list)) (drop n here)) field
+    ∙ ap (λ (o : List ℕ). o ∷ cut_into (length (next ∷ list)) (drop (length message) here)) front
+    ∙ ap (λ (o : List ℕ). message ∷ cut_into (length (next ∷ list)) o)
+    (drop-take (length message) more rest
+    ∙ ap (take more) (drop-drop (length message) place octets))
+    ∙ ap (λ (l : List (List ℕ)). message ∷ l) (cut_row octets (place + length message) (next ∷ list) row.2)
 
 -- a sealed file is taken for the segment that it holds
 pub one_sealed : (octets : List ℕ) (e : Entry) (p : Part) → IsSealedAt octets e p → part_at Sealed e octets ≡ p
 one_sealed octets e p is =
-    ap (λ (l : List ℕ). record { front = l; messages = messages_in e.messages (drop e.prefix octets) }) is.front
-    ∙ ap (λ (n : ℕ). record { front = p.front; messages = messages_in n (drop e.prefix octets) }) (sym is.messages)
-    ∙ ap (λ (l : List (List ℕ)). record { front = p.front; messages = l }) (row_read octets e.prefix p.messages is.row)
+    let whole : part_octets 0 e.prefix octets ≡ p.front = ap (λ (n : ℕ). take n octets) (omega arith) ∙ is.front in
+    let size : octet_sum p.messages ≡ e.length - e.prefix = omega (arith, is.count) in
+    let cut : cut_into e.messages (part_octets e.prefix e.length octets) ≡ p.messages =
+    ap (λ (n : ℕ). cut_into e.messages (take n (drop e.prefix octets))) (sym size)
+    ∙ ap (λ (n : ℕ). cut_into n (take (octet_sum p.messages) (drop e.prefix octets))) (sym is.messages)
+    ∙ cut_row octets e.prefix p.messages is.row in
+    ap (λ (l : List ℕ). let x : Part = record {
+      front = l;
+      messages = cut_into e.messages (part_octets e.prefix e.length octets);
+    } in x) whole
+    ∙ ap (λ (l : List (List ℕ)). let x : Part = record { front = p.front; messages = l } in x) cut

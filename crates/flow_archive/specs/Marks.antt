@@ -27,6 +27,11 @@ abbrev pub made_mark : JobKind → ℕ → ℕ → Mark
 made_mark Roll file count = Installed file count
 made_mark Merge file count = Merged file count
 
+-- the change that it makes in place of its sources
+abbrev pub made_change : JobKind → Rollup → ℕ → Change
+made_change Roll file count = installed file count
+made_change Merge file count = joined file count
+
 -- ---- where it may be asked for
 
 -- The newest file of a kind: no entry behind its own is of that kind.

@@ -1,24 +1,21 @@
 -- What the frozen files of an archive hold, by the entries that name them.
-use Rattle.std.specs.Prelude.{ℕ, List, [], ◌∷◌, take, drop, zero, suc}
-use Rattle.flow_gate.specs.Gate.{length_field}
+use Rattle.std.specs.Prelude.{ℕ, List, [], ◌∷◌, take}
 use Rattle.flow_manifest.specs.declared.manifest.Kind.{Kind}
 use Rattle.flow_manifest.specs.declared.manifest.Kind.TheVariants.{Wide, Rolled, Sealed, Active}
 use Rattle.flow_manifest.specs.declared.manifest.Entry.{Entry}
+use Rattle.flow_segment.specs.Segment.{part_octets}
+use Rattle.flow_snapshot.specs.Files.{cut_into}
 use Rattle.flow_recover.specs.State.{Part}
 
--- So many messages, as their Length fields tell. On a disk that isn't honest a file may hold anything, and this is what
--- it is taken for.
-abbrev pub messages_in : ℕ → List ℕ → List (List ℕ)
-messages_in zero octets = []
-messages_in (suc count) octets =
-    take (length_field octets 0) octets ∷ messages_in count (drop (length_field octets 0) octets)
-
--- a segment is its prefix and its messages; in a rolled or wide file all counts as its front
+-- A segment is its prefix and its messages, cut off as a directory cuts them; in a rolled or wide file all counts as its
+-- front. On a disk that isn't honest a file may hold anything, and this is what it is taken for.
 abbrev pub part_at : Kind → Entry → List ℕ → Part
 part_at Wide entry octets = record { front = take entry.length octets; messages = [] }
 part_at Rolled entry octets = record { front = take entry.length octets; messages = [] }
-part_at Sealed entry octets =
-    record { front = take entry.prefix octets; messages = messages_in entry.messages (drop entry.prefix octets) }
+part_at Sealed entry octets = record {
+  front = part_octets 0 entry.prefix octets;
+  messages = cut_into entry.messages (part_octets entry.prefix entry.length octets);
+}
 part_at Active entry octets = record { front = []; messages = [] }
 
 -- each of these files, by the entry that names it

@@ -5,16 +5,17 @@ ghost use Rattle.flow_disk.specs.Disk.{AllImages};
 ghost use Rattle.flow_disk.specs.Cause.{HasCause};
 ghost use Rattle.flow_gate.specs.Steps.{slices};
 ghost use Rattle.flow_manifest.specs.declared.manifest.Kind.TheVariants.{Rolled, Sealed};
-ghost use Rattle.flow_manifest.specs.Following.{count_of};
+ghost use Rattle.flow_manifest.specs.Following.{count_of, front_of};
 ghost use Rattle.flow_manifest.specs.Manifest.{IsValidManifest};
 ghost use Rattle.flow_measure.specs.History.{History};
 ghost use Rattle.flow_measure.specs.View.{view_of};
 ghost use Rattle.flow_snapshot.specs.Changes.{counts_of};
+ghost use Rattle.flow_snapshot.specs.Shelf as shelf;
 ghost use Rattle.flow_snapshot.specs.Views.{IsViewOf};
 ghost use Rattle.flow_recover.specs.Shelved.{HasHistory, shelf_of};
 ghost use Rattle.flow_recover.specs.State.{appended, reopened};
 ghost use Rattle.flow_recover.specs.Standing.{StandsFor};
-ghost use Rattle.flow_archive.specs.Answers.{AnswersAppend, AnswersSeal, HasRoom, IsMovedOn};
+ghost use Rattle.flow_archive.specs.Answers.{AnswersAppend, AnswersSeal, HasRoom, IsMovedOn, position_of};
 ghost use Rattle.flow_archive.specs.Seen.{HasActive, Seen, IsStep};
 ghost use Rattle.flow_archive.specs.UnderWay.{status_of};
 
@@ -86,6 +87,9 @@ impl<D: Disk> Archive<D> {
             → AllImages (D.held self.now.disk) (λ image. StandsFor image (reopened self.now.state)) }
         // On every disk, open or not, its manifest is a valid one.
         ensures valid { IsValidManifest self.now.state.manifest }
+        // Each file but the active one has its part, and its files have as many messages as its numbers say.
+        ensures parts { length self.now.state.parts ≡ length (front_of self.now.state.manifest) }
+        ensures counted { shelf.position_of (shelf_of self.now.state) ≡ position_of self.now.state }
     {
         self.closed
     }
@@ -141,7 +145,9 @@ impl<D: Disk> Archive<D> {
         ensures state { self.new.state ≡ record self.old.state { shared = true } }
         // On every disk it has the widths, and the active segment.
         ensures active { IfOk result (λ d. HasActive self.old.state d.shelf) }
-        // On an honest disk it has the files of the archive's state, which read as they are.
+        // On every disk it has the files of the archive's state.
+        ensures every { IfOk result (λ d. d.shelf ≡ shelf_of self.old.state) }
+        // On an honest disk they read as they are.
         ensures shown { IsTrue (D.honest self.old.disk)
             → IfOk result (λ d. (d.shelf ≡ shelf_of self.old.state) × (d.honest ≡ true)) }
         // Then its files have the view of each history that the archive has.

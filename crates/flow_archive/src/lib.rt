@@ -50,4 +50,4 @@ pub use events::{run, take_event};
 pub use plain::PlainArchive;
 pub use refusal::{ArchiveError, Refused};
 pub use rolling::JobStatus;
-pub use telling::marks_of_answers;
+pub use telling::{marks_of_answers, shelves_of_answers};

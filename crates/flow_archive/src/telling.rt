@@ -4,18 +4,19 @@ ghost use Rattle.std.specs.Prelude.{◌≡◌, ◌≢◌, ◌+◌, ◌-◌, ◌<
 ghost use Rattle.std.specs.Prelude.{get_or, vec_len};
 ghost use Rattle.std.specs.Arc.{arc_value};
 ghost use Rattle.std.specs.List.{list_all};
+ghost use Rattle.flow_manifest.specs.Following.{front_of, messages_of, sources_of};
 ghost use Rattle.flow_manifest.specs.Manifest.{IsValidManifest};
 ghost use Rattle.flow_snapshot.specs.Changes.{applied, Change};
 ghost use Rattle.flow_snapshot.specs.Changes.Change.{added};
 ghost use Rattle.flow_snapshot.specs.Files as shown;
-ghost use Rattle.flow_snapshot.specs.Shelf.{Shelf};
+ghost use Rattle.flow_snapshot.specs.Shelf.{Rollup, Segment, Shelf};
 ghost use Rattle.flow_snapshot.specs.Steps.{change_of, has_honest};
 ghost use Rattle.flow_recover.specs.Shelved.{shelf_of};
 ghost use Rattle.flow_recover.specs.State.{Job, StagedFile, State};
 ghost use Rattle.flow_archive.specs.declared.event.Answer.{Answer};
 ghost use Rattle.flow_archive.specs.Answers.{AnswersAppend, AnswersSeal};
 ghost use Rattle.flow_archive.specs.JobAnswers.{AnswersInstall};
-ghost use Rattle.flow_archive.specs.Marks.{made_mark, mark_of, HasKind, HasMark, HasMarkAmong};
+ghost use Rattle.flow_archive.specs.Marks.{made_change, made_mark, mark_of, HasKind, HasMark, HasMarkAmong};
 ghost use Rattle.flow_archive.specs.Marks.{IsMarked, IsMarkedAmong, IsNewestOf};
 ghost use Rattle.flow_archive.specs.Owned.{rollup_of, segment_of, unshared, Frozen};
 
@@ -41,9 +42,9 @@ impl<D: Disk> Archive<D> {
         ensures state { self.new.state ≡ record self.old.state { shared = true } }
         // On every disk it has what its mark says.
         ensures marked { IfOk result (λ step. IsMarked self.old.state mark (change_of step)) }
-        // On an honest disk it is the change of this mark that made the archive's files what they are, but for messages
-        // that were added behind it.
-        ensures told { IsTrue (D.honest self.old.disk) → (before : Shelf) (change : Change) (later : List (List ℕ))
+        // It is the change of this mark that made the archive's files what they are, but for messages that were added
+        // behind it.
+        ensures told { (before : Shelf) (change : Change) (later : List (List ℕ))
             → mark ≡ mark_of before change → shelf_of self.old.state ≡ applied (applied before change) (added later)
             → IfOk result (λ step. change_of step ≡ change) }
         ensures honest { IsTrue (D.honest self.old.disk) → IfOk result (λ step. has_honest step ≡ true) }
@@ -68,6 +69,26 @@ pub fn marks_of_answers()
         → IsValidManifest s.manifest → s.job ≡ Some job → job.staged ≡ Some staged
         → AnswersInstall honest closed s (Ok answer) after
         → HasMark after (made_mark job.kind staged.file job.sources) }
+{}
+
+/// What an event makes of the files that readers are shown, on every disk: an append adds its messages; a seal closes a
+/// segment of the sealed file's number, and the new one has its prefix; an install puts a file of the number that the
+/// job had made in place of so many sources. On an honest disk they hold what the archive wrote; on any other a sealed
+/// file, and an installed one, may hold anything.
+pub fn shelves_of_answers()
+    ensures appended { (closed : Bool) (s after : State) (octets : List (List ℕ)) (position : ℕ)
+        → AnswersAppend closed s octets (Ok position) after → shelf_of after ≡ applied (shelf_of s) (added octets) }
+    ensures sealed { (honest closed : Bool) (s after : State) (file : ℕ) → IsValidManifest s.manifest
+        → length s.parts ≡ length (front_of s.manifest) → AnswersSeal honest closed s (Ok file) after
+        → (segment : Segment) × (segment.file ≡ file)
+        × (IsTrue honest → (segment.prefix ≡ s.active.front) × (segment.messages ≡ s.active.messages))
+        × (shelf_of after ≡ applied (shelf_of s) (Change.closed segment after.active.front)) }
+    ensures installed { (honest closed : Bool) (s after : State) (job : Job) (staged : StagedFile) (answer : Answer)
+        → IsValidManifest s.manifest → length s.parts ≡ length (front_of s.manifest)
+        → s.job ≡ Some job → job.staged ≡ Some staged → AnswersInstall honest closed s (Ok answer) after
+        → (rollup : Rollup) × (rollup.file ≡ staged.file) × (IsTrue honest → rollup.octets ≡ staged.octets)
+        × (rollup.messages ≡ messages_of (sources_of job.kind job.sources s.manifest.entries))
+        × (shelf_of after ≡ applied (shelf_of s) (made_change job.kind rollup job.sources)) }
 {}
 
 /// The step that a mark names, of these files and an active segment with this prefix and these messages, which stand

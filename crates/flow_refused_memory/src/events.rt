@@ -14,9 +14,9 @@ const FIRST: [u8; 57] = [
 #[derive(Clone, Copy)]
 pub(crate) struct Flow {
     /// In seconds since 1970.
-    start: u32,
+    pub(crate) start: u32,
     /// The message's sequence number.
-    sequence: u32,
+    pub(crate) sequence: u32,
 }
 
 /// 60 seconds later.
@@ -104,7 +104,7 @@ pub(crate) const MERGE: [Asked; 12] = [
 
 impl Flow {
     /// The octets of its message.
-    fn message(self, alloc: Global) -> Result<Vec<u8>, AllocError> {
+    pub(crate) fn message(self, alloc: Global) -> Result<Vec<u8>, AllocError> {
         let start = self.start.to_be_bytes();
         let mut octets = Vec::with_capacity(alloc, 33)?;
         octets.extend_from_slice(&[0, 10, 0, 33])?;

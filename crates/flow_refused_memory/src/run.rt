@@ -1,6 +1,7 @@
 //! The run: each thing that is refused for want of memory is told, and asked once more.
 
 use crate::events::{Asked, MERGE, ROLL};
+use crate::sharing::share;
 use flow_archive::{Answer, Archive, ArchiveError, Event, take_event};
 use flow_disk::{Disk, Faults};
 use flow_measure::Row;
@@ -9,6 +10,7 @@ use flow_snapshot::QueryError;
 use std::alloc::Global;
 use std::fmt::Display;
 use std::io::Write;
+use std::sync::Wait;
 
 /// Room for a few small files.
 const ROOM: Room = Room {
@@ -19,10 +21,10 @@ const ROOM: Room = Room {
 };
 
 /// How often a thing is asked: once, and once more where it was refused.
-const TRIES: usize = 2;
+pub(crate) const TRIES: usize = 2;
 
-/// Behind each start.
-const NEVER: u64 = 1 << 32;
+/// After each start.
+pub(crate) const NEVER: u64 = 1 << 32;
 
 /// Why the run ended before its end: a thing was refused twice, for want of memory or for another reason, or a line was
 /// not written.
@@ -30,7 +32,7 @@ const NEVER: u64 = 1 << 32;
 pub(crate) struct Ended;
 
 /// Tells of a refusal.
-fn refused<W: Write>(errors: &mut W, why: impl Display + Drop) {
+pub(crate) fn refused<W: Write>(errors: &mut W, why: impl Display + Drop) {
     let _ = writeln!(errors, "{why}");
 }
 
@@ -156,7 +158,7 @@ fn rows_twice<D: Disk, W: Write>(
 }
 
 /// Writes a row: its start, domain, protocol, flows, octets, packets and width.
-fn write_row<O: Write>(row: &Row, output: &mut O) -> Result<(), Ended> {
+pub(crate) fn write_row<O: Write>(row: &Row, output: &mut O) -> Result<(), Ended> {
     let (key, sums) = (row.key, row.sums);
     let protocol = key.protocol.unwrap_or(0);
     writeln!(
@@ -206,23 +208,26 @@ fn left<O: Write, W: Write>(
     Ok(disk)
 }
 
-/// The archive that a disk holds is opened, and asked for its rows.
-fn reopened<O: Write, W: Write>(
+/// The archive that a disk holds is opened, asked for its rows, and shared.
+fn reopened<R: Wait, O: Write, W: Write>(
+    rt: &R,
     alloc: Global,
     disk: MemoryDisk,
     output: &mut O,
     errors: &mut W,
 ) -> Result<(), Ended> {
     let mut archive = opened(alloc, disk, errors)?;
-    write_rows(&mut archive, alloc, output, errors)
+    write_rows(&mut archive, alloc, output, errors)?;
+    share(rt, alloc, archive, output, errors)
 }
 
 /// The whole run.
-pub(crate) fn run<O: Write, W: Write>(
+pub(crate) fn run<R: Wait, O: Write, W: Write>(
+    rt: &R,
     alloc: Global,
     output: &mut O,
     errors: &mut W,
 ) -> Result<(), Ended> {
     let disk = left(alloc, output, errors)?;
-    reopened(alloc, disk, output, errors)
+    reopened(rt, alloc, disk, output, errors)
 }

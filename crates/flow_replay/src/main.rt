@@ -1,22 +1,37 @@
-//! The program flow_replay: plays scripts of archives on disks in memory, and tells each answer that isn't the one that
-//! is wanted.
+//! The program flow_replay: plays scripts of archives on disks in memory, with stops and faults where that is asked, and
+//! tells each answer that isn't the one that is wanted.
 #![tactic(auto)]
 
 mod asked;
 mod playing;
 mod report;
+mod sharing;
 mod stage;
+mod stopping;
 mod thawed;
+mod way;
+mod ways;
 
-use crate::playing::play;
 use crate::report::Report;
+use crate::way::{Plan, USAGE, Way, plan_of};
+use crate::ways::play;
 use flow_scripts::read_scripts;
-use std::alloc::AllocError;
+use std::env;
 use std::io::Read;
 use std::process::ExitCode;
 
+/// The plan that the words of the command line give, if they are right.
+fn plan(rt: &HostRuntime) -> Option<Plan> {
+    let words: Vec<String> = env::args(rt).ok()?.skip(1).collect(rt.alloc()).ok()?;
+    plan_of(words.as_slice())
+}
+
 fn main(rt: HostRuntime) -> ExitCode {
     let alloc = rt.alloc();
+    let Some(plan) = plan(&rt) else {
+        let _ = println!(rt; "{USAGE}");
+        return ExitCode::from(1);
+    };
     let mut text = String::new(alloc);
     if rt.stdin().read_to_string(&mut text).is_err() {
         let _ = println!(rt; "standard input can't be read as text");
@@ -37,14 +52,17 @@ fn main(rt: HostRuntime) -> ExitCode {
     let mut count = 0u64;
     for script in &scripts {
         count = count.saturating_add(1);
-        if play(alloc, script, &mut report).is_err() {
+        if let Err(why) = play(&rt, alloc, script, plan, &mut report) {
             let _ = print!(rt; "{}", report.text);
-            let _ = println!(rt; "script {}: out of memory", script.name);
+            let _ = println!(rt; "script {}: {why}", script.name);
             return ExitCode::from(1);
         }
     }
     let (text, answers, differ) = (report.text.as_str(), report.answers, report.differ);
     let _ = print!(rt; "{text}");
+    if plan.way != Way::Plainly {
+        let _ = println!(rt; "{} of {} stops played", report.played, report.stops);
+    }
     let _ = println!(rt; "{count} scripts, {answers} answers: {differ} differ");
     if report.agrees() {
         ExitCode::from(0)

@@ -1,12 +1,14 @@
 //! Scripts, played.
 
 use crate::report::Report;
+use crate::sharing::share;
 use crate::stage::Stage;
-use crate::thawed::{Thawed, fused, with_bad_reads};
+use crate::thawed::{Thawed, fused, given_up, with_bad_reads};
 use flow_disk::Disk;
 use flow_memory_disk::{FusedDisk, MemoryDisk, Room};
 use flow_scripts::{Command, Failing, Line, Part, Script, Widths};
 use std::alloc::{AllocError, Global};
+use std::sync::Wait;
 
 /// Room for scripts that don't tell a size.
 const ROOM: Room = Room {
@@ -123,6 +125,31 @@ fn with_archive<D: Disk>(
     }
 }
 
+/// A part with an archive that threads share.
+fn with_shared<W: Wait>(
+    rt: &W,
+    alloc: Global,
+    disk: Thawed<MemoryDisk>,
+    script: &Script<'_>,
+    part: &Part<'_>,
+    report: &mut Report,
+) -> Result<MemoryDisk, AllocError> {
+    let Some((first, lines)) = part.lines.split_first() else {
+        let Thawed { disk } = disk;
+        return Ok(disk);
+    };
+    match begin(alloc, disk, &first.command)? {
+        Beginning::Archive(stage) => {
+            report.compare(alloc, script.name, first, "")?;
+            share(rt, alloc, stage.into_archive(), script, lines, report)
+        }
+        Beginning::Refused(disk, why) => {
+            report.compare(alloc, script.name, first, why.as_str())?;
+            Ok(disk)
+        }
+    }
+}
+
 /// A part without an archive.
 fn without_archive<D: Disk>(
     alloc: Global,
@@ -152,32 +179,29 @@ fn disk_of(disk: MemoryDisk, failing: Failing) -> Thawed<FusedDisk<MemoryDisk>> 
 }
 
 /// A part, on a disk: the disk afterwards.
-pub(crate) fn play_part(
+pub(crate) fn play_part<W: Wait>(
+    rt: &W,
     alloc: Global,
     disk: MemoryDisk,
-    name: &str,
+    script: &Script<'_>,
     part: &Part<'_>,
     report: &mut Report,
 ) -> Result<MemoryDisk, AllocError> {
+    if part.is_shared {
+        let disk = with_shared(rt, alloc, given_up(disk), script, part, report)?;
+        return Ok(disk.restart());
+    }
     let disk = disk_of(disk, part.failing);
     let disk = match part.lines.split_first() {
         Some((first, rest)) if first.command.begins() => with_archive(
-            alloc, disk, name, first, rest, report,
+            alloc,
+            disk,
+            script.name,
+            first,
+            rest,
+            report,
         )?,
-        _ => without_archive(alloc, disk, name, &part.lines, report)?,
+        _ => without_archive(alloc, disk, script.name, &part.lines, report)?,
     };
     Ok(disk.restart())
-}
-
-/// A script, on a disk without files.
-pub(crate) fn play(
-    alloc: Global,
-    script: &Script<'_>,
-    report: &mut Report,
-) -> Result<(), AllocError> {
-    let mut disk = MemoryDisk::new(alloc, room_of(script))?;
-    for part in &script.parts {
-        disk = play_part(alloc, disk, script.name, part, report)?;
-    }
-    Ok(())
 }

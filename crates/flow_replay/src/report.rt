@@ -15,6 +15,9 @@ pub(crate) struct Report {
     pub(crate) answers: u64,
     /// How many of them differ from what is wanted.
     pub(crate) differ: u64,
+    /// How many stops or faults there are, and how many of them are played.
+    pub(crate) stops: u64,
+    pub(crate) played: u64,
 }
 
 impl Report {
@@ -24,6 +27,8 @@ impl Report {
             text: String::new(alloc),
             answers: 0,
             differ: 0,
+            stops: 0,
+            played: 0,
         }
     }
 
@@ -32,14 +37,28 @@ impl Report {
         self.differ == 0
     }
 
-    /// Tells a difference.
-    fn tell(
+    /// Counts a stop: whether it is played, where one of so many is.
+    pub(crate) fn takes(&mut self, every: u64) -> bool {
+        self.stops = self.stops.saturating_add(1);
+        let is_taken = self.stops.checked_rem(every) == Some(0);
+        self.played = self.played.saturating_add(u64::from(is_taken));
+        is_taken
+    }
+
+    /// Counts an answer that is the one that is wanted.
+    pub(crate) fn agree(&mut self) {
+        self.answers = self.answers.saturating_add(1);
+    }
+
+    /// Counts an answer that differs, and tells it.
+    pub(crate) fn tell(
         &mut self,
         alloc: Global,
         place: &str,
         wanted: &str,
         came: &str,
     ) -> Result<(), AllocError> {
+        self.answers = self.answers.saturating_add(1);
         self.differ = self.differ.saturating_add(1);
         self.text.push_str(&format!(in alloc; "{place}\n  wanted {wanted}\n  came   {came}\n")?)
     }
@@ -52,8 +71,8 @@ impl Report {
         line: &Line<'_>,
         came: &str,
     ) -> Result<(), AllocError> {
-        self.answers = self.answers.saturating_add(1);
         if came == line.wanted {
+            self.agree();
             return Ok(());
         }
         let place = place_of(alloc, script, line)?;

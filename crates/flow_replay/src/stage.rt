@@ -152,9 +152,19 @@ impl<D: Disk> Stage<D> {
             Command::State => self.state(alloc),
             Command::Room(octets) => self.room(alloc, *octets),
             Command::Status => self.status(alloc),
-            Command::Create(_) | Command::Open | Command::Disk(_) =>
-                "there is an archive".to_string(alloc),
+            Command::Create(_)
+            | Command::Open
+            | Command::Disk(_)
+            | Command::RollTurn(_)
+            | Command::MergeTurn(_)
+            | Command::Refresh => "there is an archive".to_string(alloc),
         }
+    }
+
+    /// The archive.
+    pub(crate) fn into_archive(self) -> Archive<D> {
+        let Stage { archive, held: _ } = self;
+        archive
     }
 
     /// Gives the archive up, and its disk back.

@@ -4,7 +4,7 @@ ghost use Rattle.std.specs.Prelude.{◌≡◌, ℕ, false};
 
 use crate::asked::difference;
 use flow_disk::{Disk, DiskError};
-use flow_memory_disk::{FusedDisk, MemoryDisk, OneFaultDisk, Room};
+use flow_memory_disk::{FusedDisk, LyingDisk, MemoryDisk, OneFaultDisk, Room};
 use flow_scripts::OfDisk;
 use std::alloc::{AllocError, Global};
 
@@ -127,6 +127,13 @@ pub(crate) fn empty(alloc: Global, room: Room) -> Result<MemoryDisk, AllocError>
     MemoryDisk::new(alloc, room)
 }
 
+/// A disk in memory, given up without a stop.
+pub(crate) fn given_up(disk: MemoryDisk) -> Thawed<MemoryDisk> {
+    Thawed {
+        disk: disk.restart(),
+    }
+}
+
 /// A disk in memory, given up without a stop, which fails from its call of this number on, counted from 0.
 pub(crate) fn fused(disk: MemoryDisk, call: u64) -> Thawed<FusedDisk<MemoryDisk>> {
     Thawed {
@@ -142,6 +149,13 @@ pub(crate) fn with_bad_reads(
 ) -> Thawed<FusedDisk<MemoryDisk>> {
     Thawed {
         disk: FusedDisk::with_bad_reads(disk.restart(), u64::MAX, file, from),
+    }
+}
+
+/// The same, which lies as this seed chooses.
+pub(crate) fn lying(disk: MemoryDisk, seed: u64) -> Thawed<LyingDisk<MemoryDisk>> {
+    Thawed {
+        disk: LyingDisk::new(disk.restart(), seed),
     }
 }
 

@@ -114,6 +114,9 @@ pub(crate) fn command_of(alloc: Global, words: &[&str]) -> Result<Command, Why> 
         ["state"] => Ok(Command::State),
         ["room", octets] => Ok(Command::Room(number(octets)?)),
         ["status"] => Ok(Command::Status),
+        ["roll", "turn", keep] => Ok(Command::RollTurn(small_number(keep)?)),
+        ["merge", "turn", keep] => Ok(Command::MergeTurn(small_number(keep)?)),
+        ["refresh"] => Ok(Command::Refresh),
         _ => Ok(Command::Event(event_of(alloc, words)?)),
     }
 }

@@ -102,6 +102,12 @@ pub enum Command {
     Room(u64),
     /// Its widths, and its job.
     Status,
+    /// Make a turn of rolling, which leaves so many of the newest segments as they are.
+    RollTurn(u32),
+    /// Make a turn of merging, which leaves so many of the newest rolled files as they are.
+    MergeTurn(u32),
+    /// Show readers what they don't see yet.
+    Refresh,
     /// Something of the disk alone.
     Disk(OfDisk),
 }
@@ -117,10 +123,54 @@ impl Command {
         matches!(self, Command::Disk(_))
     }
 
+    /// Whether a shared archive takes it.
+    pub(crate) fn is_of_shared(&self) -> bool {
+        matches!(
+            self,
+            Command::Event(Event::Append(_) | Event::Batch(_) | Event::Seal)
+                | Command::See(_)
+                | Command::Held(_)
+                | Command::Hold
+                | Command::LetGo
+                | Command::RollTurn(_)
+                | Command::MergeTurn(_)
+                | Command::Refresh
+        )
+    }
+
+    /// Whether a shared archive alone takes it.
+    pub(crate) fn is_of_shared_alone(&self) -> bool {
+        matches!(
+            self,
+            Command::RollTurn(_) | Command::MergeTurn(_) | Command::Refresh
+        )
+    }
+
+    /// Whether it is an event.
+    pub fn is_event(&self) -> bool {
+        matches!(self, Command::Event(_))
+    }
+
+    /// Whether it changes an archive, or what readers hold of it.
+    pub fn acts(&self) -> bool {
+        matches!(self, Command::Event(_) | Command::Hold | Command::LetGo)
+    }
+
+    /// Whether it asks for the state of an archive.
+    pub fn is_state(&self) -> bool {
+        matches!(self, Command::State)
+    }
+
     /// Whether its line needs an answer: the other ones answer nothing where all is well.
     pub(crate) fn answers(&self) -> bool {
         match self {
-            Command::Event(_) | Command::State | Command::Room(_) | Command::Status => true,
+            Command::Event(_)
+            | Command::State
+            | Command::Room(_)
+            | Command::Status
+            | Command::RollTurn(_)
+            | Command::MergeTurn(_)
+            | Command::Refresh => true,
             Command::See(question) | Command::Held(question) => question.answers(),
             Command::Disk(asked) => matches!(asked, OfDisk::Length(_) | OfDisk::Files),
             _ => false,

@@ -48,14 +48,18 @@ impl<'a> Reading<'a> {
         Ok(())
     }
 
-    /// A part begins, on a disk that fails so.
-    fn begin_part(&mut self, alloc: Global, failing: Failing) -> Result<(), Why> {
+    /// A part begins, on a disk that fails so, with a shared archive or not.
+    fn begin_part(&mut self, alloc: Global, failing: Failing, is_shared: bool) -> Result<(), Why> {
         if !self.is_between {
             return Err(Why::Misplaced);
         }
         self.is_between = false;
-        let lines = Vec::new(alloc);
-        self.script()?.parts.push(Part { failing, lines })?;
+        let part = Part {
+            failing,
+            is_shared,
+            lines: Vec::new(alloc),
+        };
+        self.script()?.parts.push(part)?;
         Ok(())
     }
 
@@ -72,7 +76,7 @@ impl<'a> Reading<'a> {
     /// A line of a part.
     fn add_line(&mut self, alloc: Global, line: Line<'a>) -> Result<(), Why> {
         if self.is_between {
-            self.begin_part(alloc, Failing::Never)?;
+            self.begin_part(alloc, Failing::Never, false)?;
         }
         match self.script()?.parts.last_mut() {
             Some(part) => add_to(part, line),
@@ -113,9 +117,12 @@ fn take_words<'a>(
 ) -> Result<(), Why> {
     match words {
         ["disk", size @ ..] => return reading.set_size(size_of(size)?),
-        ["failing", "from", call] => return reading.begin_part(alloc, Failing::From(number(call)?)),
+        ["shared"] => return reading.begin_part(alloc, Failing::Never, true),
+        ["failing", "from", call] => {
+            return reading.begin_part(alloc, Failing::From(number(call)?), false);
+        }
         ["failing", "reads", file, from] => {
-            return reading.begin_part(alloc, Failing::Reads(number(file)?, number(from)?));
+            return reading.begin_part(alloc, Failing::Reads(number(file)?, number(from)?), false);
         }
         _ => {}
     }

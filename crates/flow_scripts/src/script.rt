@@ -44,6 +44,8 @@ pub enum Failing {
 pub struct Part<'a> {
     /// How its disk fails.
     pub failing: Failing,
+    /// Whether its archive is one that threads share.
+    pub is_shared: bool,
     /// Its lines.
     pub lines: Vec<Line<'a>>,
 }
@@ -73,8 +75,13 @@ impl Part<'_> {
     /// Whether a command may follow its lines.
     pub(crate) fn may_take(&self, command: &Command) -> bool {
         if self.lines.is_empty() {
-            return command.begins() || command.is_of_disk();
+            return command.begins() || command.is_of_disk() && !self.is_shared;
         }
-        !command.begins() && command.is_of_disk() != self.has_archive()
+        if self.is_shared {
+            return command.is_of_shared();
+        }
+        !command.begins()
+            && !command.is_of_shared_alone()
+            && command.is_of_disk() != self.has_archive()
     }
 }

@@ -1,4 +1,4 @@
-use Rattle.std.proofs.Common.{◌≡◌, true, Bool, refl, sym, ◌∙◌, ap, subst}
+use Rattle.std.proofs.Common.{◌≡◌, true, Bool, IsTrue, refl, sym, ◌∙◌, ap, subst}
 use Rattle.flow_manifest.specs.Following.{front_of}
 use Rattle.flow_measure.specs.View.{view_of}
 use Rattle.flow_snapshot.specs.Changes.{counts_of}
@@ -7,7 +7,7 @@ use Rattle.flow_snapshot.specs.Sight.{Sight}
 use Rattle.flow_snapshot.specs.Views.{IsViewOf}
 use Rattle.flow_recover.specs.State.{State}
 use Rattle.flow_archive.specs.Owned.{shelf_with, AreHeldAs}
-use Rattle.flow_archive.specs.Seen.{state_in, IsArchive}
+use Rattle.flow_archive.specs.Seen.{state_in, IsArchive, Seen}
 use Rattle.flow_archive.specs.UnderWay.{work_in, HasOwnFiles, IsUnderWay}
 use Rattle.flow_archive.proofs.Directing.{once_shared, same_archive, same_state, shared_archive}
 use Rattle.flow_archive.proofs.Owning.{honest_all}
@@ -86,22 +86,29 @@ returns-clause-active g c =
       active = ap (λ (x : Shelf). x.active) shelf;
     })
 
-pub returns-clause-shown : goal.returns-clause-shown
-returns-clause-shown g c =
+pub returns-clause-every : goal.returns-clause-every
+returns-clause-every g c =
     let D = g.D.Disk in
     let inside = c.self.inside in
     let m = inside.slots.current in
-    let s = state_of inside in
-    let held = (c.self.invariant.0).files_are in
     let shelf : c.new.result.shelf ≡ shelf_with m.width m.wide inside.files.items inside.prefix inside.messages.items =
     ap (λ (x : Sight). x.shelf) c.new.ensures ∙ c.in_ok-files.ensures.shelf m.width m.wide in
-    rw (← c.self.view_is) (λ h. (
-      shelf ∙ shelf_is (D.honest inside.disk) s inside.files.items held ((c.self.invariant.0).stand h),
+    rw (← c.self.view_is) (shelf
+    ∙ shelf_is (D.honest inside.disk) (state_of inside) inside.files.items (c.self.invariant.0).files_are refl)
+
+pub returns-clause-shown : goal.returns-clause-shown
+returns-clause-shown g c h =
+    let D = g.D.Disk in
+    let inside = c.self.inside in
+    let m = inside.slots.current in
+    let held = (c.self.invariant.0).files_are in
+    let honest : IsTrue (D.honest inside.disk) = subst (λ (x : Seen g.row.D.Denot). IsTrue (D.honest x.disk)) (sym c.self.view_is) h in (
+      returns-clause-every g c,
       ap (λ (x : Sight). x.honest) c.new.ensures
           ∙ c.in_ok-files.ensures.honest (honest_all (front_of m) inside.files.items
-          (subst (λ (b : Bool). AreHeldAs b (front_of m) inside.files.items) h held)) m.width m.wide,
-    ))
+          (subst (λ (b : Bool). AreHeldAs b (front_of m) inside.files.items) honest held)) m.width m.wide,
+    )
 
 pub returns-clause-history : goal.returns-clause-history
 returns-clause-history g c h history has =
-    subst (λ (x : Shelf). IsViewOf x (view_of history (counts_of x))) (sym ((returns-clause-shown g c h).0)) has.view
+    subst (λ (x : Shelf). IsViewOf x (view_of history (counts_of x))) (sym (returns-clause-every g c)) has.view

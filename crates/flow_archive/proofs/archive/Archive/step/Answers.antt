@@ -9,7 +9,7 @@ use Rattle.flow_archive.specs.UnderWay.{work_in, HasOwnFiles, IsUnderWay}
 use Rattle.flow_archive.proofs.Changed.{before_active, counted_in_front, told_is}
 use Rattle.flow_archive.proofs.Directing.{once_shared, same_archive, same_state, shared_archive}
 use Rattle.flow_archive.proofs.Marking.{among, as_marked, if_ok}
-use Rattle.flow_archive.proofs.Owning.{honest_all}
+use Rattle.flow_archive.proofs.Owning.{as_many, honest_all}
 use Rattle.flow_archive.proofs.Sharing.{own_shared}
 use Rattle.flow_archive.proofs.Shelving.{shelf_is}
 use Rattle.flow_archive.proofs.Working.{goes_on}
@@ -87,15 +87,15 @@ returns-clause-told g c =
     let n = inside.total - c.len.result in
     let len : vec_len inside.messages ≡ length inside.messages.items = search rules in
     let before : n ≡ messages_of s.manifest.entries = omega (arith, counted.total_is, c.len.ensures, len) in
-    rw (← c.self.view_is) (λ h shelf change later mark_is is.
-    let stand = (c.self.invariant.0).stand h in
-    let shelf_of = shelf_is (D.honest inside.disk) s inside.files.items held stand in
+    rw (← c.self.view_is) (λ shelf change later mark_is is.
+    let shelf_of = shelf_is (D.honest inside.disk) s inside.files.items held refl in
     if_ok c.named.result _ _ (λ step told.
     told_is inside.files.items inside.prefix n inside.messages.items m.width m.wide c.args.mark (change_of step) shelf
     change later
     (subst (λ (l : List (List ℕ)). IsMarkedAmong inside.files.items inside.prefix n l c.args.mark (change_of step))
     c.as_slice-messages.ensures.value told) mark_is (shelf_of ∙ is)
-    (before ∙ counted_in_front s inside.files.items counted.valid stand ∙ ap before_active (sym shelf_of)))
+    (before ∙ counted_in_front s inside.files.items counted.valid
+    (as_many (D.honest inside.disk) (front_of m) inside.files.items held) refl ∙ ap before_active (sym shelf_of)))
     c.named.ensures.step)
 
 pub returns-clause-honest : goal.returns-clause-honest

@@ -1,0 +1,207 @@
+//! Parts with an archive that threads share, and one reader, which learns each receipt.
+
+ghost use Rattle.std.specs.Prelude.{◌≡◌};
+ghost use Rattle.flow_recover.specs.Shelved.{shelf_of};
+
+use crate::asked::asked;
+use crate::report::Report;
+use flow_archive::{Archive, ArchiveError};
+use flow_disk::{Disk, Faults};
+use flow_feed::Turn;
+use flow_memory_disk::MemoryDisk;
+use flow_scripts::{Command, Event, Line, Question, Script};
+use flow_shared::{ArchiveReader, Naming, Opened, Receipt, SharedArchive, start};
+use flow_snapshot::Snapshot;
+use std::alloc::{AllocError, Global};
+use std::marker::Brand;
+use std::sync::Wait;
+
+/// The most messages of a batch.
+const MOST_MESSAGES: usize = 64;
+
+/// A reader, the snapshot that it holds, and the width of narrow intervals.
+#[derive(Drop)]
+struct Reading<D: Disk, J: Naming> {
+    reader: ArchiveReader<D::Sealed, J>,
+    held: Option<Snapshot<D::Sealed>>,
+    narrow: u32,
+}
+
+impl<D: Disk, J: Naming> Reading<D, J> {
+    /// What is answered to an append, whose receipt the reader learns.
+    fn receipt(
+        &mut self,
+        alloc: Global,
+        answer: Result<Receipt<J>, ArchiveError>,
+    ) -> Result<String, AllocError> {
+        match answer {
+            Ok(receipt) => {
+                let (position, is_shown) = (receipt.position, receipt.shown);
+                self.reader.learn(receipt.told);
+                if is_shown {
+                    format!(in alloc; "Position({position})")
+                } else {
+                    format!(in alloc; "Position({position}) unseen")
+                }
+            }
+            Err(refused) => format!(in alloc; "{refused}"),
+        }
+    }
+
+    /// What a new snapshot answers.
+    fn see(&mut self, alloc: Global, question: &Question) -> Result<String, AllocError> {
+        match self.reader.snapshot() {
+            Ok(snapshot) => asked(alloc, &snapshot, self.narrow, question),
+            Err(refused) => format!(in alloc; "{refused}"),
+        }
+    }
+
+    /// What the snapshot answers that is held.
+    fn held(&self, alloc: Global, question: &Question) -> Result<String, AllocError> {
+        match &self.held {
+            Some(snapshot) => asked(alloc, snapshot, self.narrow, question),
+            None => "nothing is held".to_string(alloc),
+        }
+    }
+
+    /// Takes a snapshot and holds it.
+    fn hold(&mut self, alloc: Global) -> Result<String, AllocError> {
+        match self.reader.snapshot() {
+            Ok(snapshot) => {
+                self.held = Some(snapshot);
+                Ok(String::new(alloc))
+            }
+            Err(refused) => format!(in alloc; "{refused}"),
+        }
+    }
+
+    /// What is answered to a question; none where it is none.
+    fn asked(&mut self, alloc: Global, command: &Command) -> Result<Option<String>, AllocError> {
+        Ok(Some(match command {
+            Command::See(question) => self.see(alloc, question)?,
+            Command::Held(question) => self.held(alloc, question)?,
+            Command::Hold => self.hold(alloc)?,
+            Command::LetGo => {
+                self.held = None;
+                String::new(alloc)
+            }
+            _ => return Ok(None),
+        }))
+    }
+}
+
+/// What is answered to a turn.
+fn turn_text(alloc: Global, answer: Result<Turn, ArchiveError>) -> Result<String, AllocError> {
+    match answer {
+        Ok(turn) => format!(in alloc; "{turn:?}"),
+        Err(refused) => format!(in alloc; "{refused}"),
+    }
+}
+
+/// What is answered to a batch.
+fn batch<D: Disk, J: Naming, W: Wait>(
+    rt: &W,
+    alloc: Global,
+    shared: &SharedArchive<D, J, W>,
+    reading: &mut Reading<D, J>,
+    messages: &[Vec<u8>],
+) -> Result<String, AllocError> {
+    let mut slices: Vec<&[u8]> = Vec::new(alloc);
+    for message in messages {
+        slices.push(message.as_slice())?;
+    }
+    if slices.is_empty() || slices.len() > MOST_MESSAGES {
+        return "a batch has from 1 to 64 messages".to_string(alloc);
+    }
+    let answer = shared.append_batch(rt, alloc, slices.as_slice());
+    reading.receipt(alloc, answer)
+}
+
+/// What is answered to a line that isn't a reader's question.
+fn done<D: Disk, J: Naming, W: Wait>(
+    rt: &W,
+    alloc: Global,
+    shared: &SharedArchive<D, J, W>,
+    reading: &mut Reading<D, J>,
+    command: &Command,
+) -> Result<String, AllocError> {
+    match command {
+        Command::Event(Event::Append(message)) => {
+            let answer = shared.append(rt, alloc, message.as_slice());
+            reading.receipt(alloc, answer)
+        }
+        Command::Event(Event::Batch(messages)) => {
+            batch(rt, alloc, shared, reading, messages.as_slice())
+        }
+        Command::Event(Event::Seal) => match shared.seal(rt, alloc) {
+            Ok(file) => format!(in alloc; "Sealed({file})"),
+            Err(refused) => format!(in alloc; "{refused}"),
+        },
+        Command::RollTurn(keep) => {
+            turn_text(
+                alloc,
+                shared.roll_turn(rt, alloc, *keep, &mut Faults::new()),
+            )
+        }
+        Command::MergeTurn(keep) => {
+            turn_text(
+                alloc,
+                shared.merge_turn(rt, alloc, *keep, &mut Faults::new()),
+            )
+        }
+        Command::Refresh => {
+            let is_shown = shared.refresh(rt, alloc);
+            format!(in alloc; "{is_shown}")
+        }
+        _ => "the archive is shared".to_string(alloc),
+    }
+}
+
+/// A shared archive answers lines: its disk afterwards.
+fn answer_all<D: Disk, J: Naming, W: Wait>(
+    rt: &W,
+    alloc: Global,
+    archive: Archive<D>,
+    opened: Opened,
+    script: &Script<'_>,
+    lines: &[Line<'_>],
+    report: &mut Report,
+) -> Result<D, AllocError>
+    requires book { opened.seen.book ≡ J.book }
+    requires opening { shelf_of archive.state ≡ J.opening }
+    requires honest { D.honest archive.disk ≡ J.honest }
+{
+    let narrow = archive.width();
+    let Ok((shared, mut readers)) = start::<D, J, W>(alloc, archive, opened, 1) else {
+        return Err(AllocError);
+    };
+    let Some(reader) = readers.pop() else {
+        return Err(AllocError);
+    };
+    let mut reading: Reading<D, J> = Reading {
+        reader,
+        held: None,
+        narrow,
+    };
+    for line in lines {
+        let told = match reading.asked(alloc, &line.command)? {
+            Some(told) => told,
+            None => done(rt, alloc, &shared, &mut reading, &line.command)?,
+        };
+        report.compare(alloc, script.name, line, told.as_str())?;
+    }
+    drop(reading);
+    Ok(shared.end(rt).into_disk())
+}
+
+/// An archive is shared, and answers lines: its disk afterwards.
+pub(crate) fn share<W: Wait>(
+    rt: &W,
+    alloc: Global,
+    archive: Archive<MemoryDisk>,
+    script: &Script<'_>,
+    lines: &[Line<'_>],
+    report: &mut Report,
+) -> Result<MemoryDisk, AllocError> {
+    answer_all::<MemoryDisk, Brand, W>(rt, alloc, archive, Opened::new(), script, lines, report)
+}

@@ -1,0 +1,7 @@
+use Rattle.std.proofs.Common.{◌≡◌, ◌+◌, take}
+use Rattle.flow_gate.specs.Gate.{octet_sum}
+use Rattle.flow_gate.specs.Steps.{slices}
+use Rattle.flow_shared.proofs.locked.fit_together.Given as goal
+
+abbrev pub invariant-loop-message : goal.invariant-loop-message
+invariant-loop-message l = record { count : octet_sum (slices (take l.message-index l.messages)) + l.left ≡ l.limit }

@@ -1,0 +1,195 @@
+//! An archive that threads share.
+
+ghost use Rattle.std.specs.Prelude.{◌≡◌, ◌<◌, ◌≤◌, ◌∷◌, [], true, length, All, IsTrue, IfErr, IfOk};
+ghost use Rattle.left_right.specs.Handles.{published, pending};
+ghost use Rattle.flow_disk.specs.Cause.{HasCause};
+ghost use Rattle.flow_gate.specs.Steps.{slices};
+ghost use Rattle.flow_recover.specs.Shelved.{shelf_of};
+ghost use Rattle.flow_shared.specs.Told.{after, HasOwn};
+
+use crate::history::{Entry, Naming, Opened, Told};
+use crate::locked::Locked;
+use crate::reader::ArchiveReader;
+use crate::receipt::Receipt;
+use crate::shown::{Shown, Telling};
+use crate::writing::Waits;
+use flow_archive::{Archive, ArchiveError};
+use flow_disk::{Disk, Faults, SealedFile};
+use flow_feed::Turn;
+use left_right::{Absorb, WriteHandle};
+use std::alloc::{AllocError, Global};
+use std::marker::PhantomData;
+use std::sync::{Mutex, Wait};
+
+/// An archive that threads share.
+#[derive(Drop)]
+pub struct SharedArchive<D: Disk, J: Naming, W: Wait>
+where
+    Shown<D::Sealed, J>: Absorb<Telling<D::Sealed, J>, State = [Entry; 0]>,
+{
+    lock: Mutex<Locked<D, J, W>>,
+}
+
+impl<D: Disk, J: Naming, W: Wait> SharedArchive<D, J, W>
+where
+    Shown<D::Sealed, J>: Absorb<Telling<D::Sealed, J>, State = [Entry; 0]>,
+{
+    /// Adds a message, and answers its number with what readers then see. Where the active segment has no room for it,
+    /// it is sealed before. What else it does stands on the call of `Locked`.
+    pub fn append(&self, rt: &W, alloc: Global, message: &[u8]) -> Result<Receipt<J>, ArchiveError>
+        ensures { IfOk result (λ r. IsTrue r.shown → HasOwn J.opening r.told (message.now ∷ []) r.position) }
+    {
+        self.lock.lock(rt).append(alloc, message)
+    }
+
+    /// Adds messages, from 1 to 64, all of them or none, and answers the number of the last one with what readers then
+    /// see. Where the active segment has no room for them, it is sealed before; 40 is answered where no segment has.
+    pub fn append_batch(
+        &self,
+        rt: &W,
+        alloc: Global,
+        messages: &[&[u8]],
+    ) -> Result<Receipt<J>, ArchiveError>
+        requires some { 1 ≤ length messages.now }
+        requires few { length messages.now ≤ 64 }
+        ensures { IfOk result (λ r. IsTrue r.shown → HasOwn J.opening r.told (slices messages.now) r.position) }
+    {
+        self.lock.lock(rt).append_batch(alloc, messages)
+    }
+
+    /// Seals the active segment, and answers the number of the sealed file.
+    pub fn seal(&self, rt: &W, alloc: Global) -> Result<u64, ArchiveError> {
+        self.lock.lock(rt).seal(alloc)
+    }
+
+    /// A turn of rolling: the next step of the job that stands, else a job over all sealed segments but the newest
+    /// `keep`, else a removal.
+    pub fn roll_turn(
+        &self,
+        rt: &W,
+        alloc: Global,
+        keep: u32,
+        faults: &mut Faults<D::Sealed>,
+    ) -> Result<Turn, ArchiveError>
+        ensures unread { HasCause ArchiveError.SourceFault faults.old faults.new result }
+    {
+        self.lock.lock(rt).roll_turn(alloc, keep, faults)
+    }
+
+    /// The same of merging, of rolled files.
+    pub fn merge_turn(
+        &self,
+        rt: &W,
+        alloc: Global,
+        keep: u32,
+        faults: &mut Faults<D::Sealed>,
+    ) -> Result<Turn, ArchiveError>
+        ensures unread { HasCause ArchiveError.SourceFault faults.old faults.new result }
+    {
+        self.lock.lock(rt).merge_turn(alloc, keep, faults)
+    }
+
+    /// Shows readers what they don't see yet, and says whether they see all steps.
+    pub fn refresh(&self, rt: &W, alloc: Global) -> bool {
+        self.lock.lock(rt).refresh(alloc)
+    }
+}
+
+impl<D: Disk, J: Naming, W: Wait> SharedArchive<D, J, W> {
+    /// Ends the writer, drops what readers weren't shown, and hands the archive back.
+    pub fn end(self, _rt: &W) -> Archive<D> {
+        let Locked {
+            archive,
+            writer,
+            told: _,
+            tip: _,
+            late: _,
+            backlog: _,
+        } = self.lock.into_inner();
+        drop(writer.take());
+        archive
+    }
+}
+
+/// A writer of two directories of an archive, and places for so many readers.
+fn places_of<D: Disk, J: Naming, W: Wait>(
+    alloc: Global,
+    archive: &mut Archive<D>,
+    told: &Told<J>,
+    places: usize,
+) -> Result<
+    (
+        WriteHandle<Shown<D::Sealed, J>, Telling<D::Sealed, J>, Waits<W>>,
+        Vec<ArchiveReader<D::Sealed, J>>,
+    ),
+    AllocError,
+>
+    requires opening { shelf_of archive.old.state ≡ J.opening }
+    requires honest { D.honest archive.old.disk ≡ J.honest }
+    requires empty { told.now ≡ [] }
+    requires places { (0 < places) × (places ≤ 16) }
+    ensures disk { archive.new.disk ≡ archive.old.disk }
+    ensures closed { archive.new.closed ≡ archive.old.closed }
+    ensures state { archive.new.state ≡ record archive.old.state { shared = true } }
+    ensures writer { IfOk result (λ r. (published r.0 ≡ []) × (pending r.0 ≡ [])) }
+    ensures count { IfOk result (λ r. length r.1.items ≡ places) }
+    ensures unread { IfOk result (λ r. All (λ steps. steps ≡ []) r.1.items) }
+{
+    let first = archive.directory(alloc);
+    let second = archive.directory(alloc);
+    let first = Shown::new(first?, told.again());
+    let second = Shown::new(second?, told.again());
+    let waits = Waits { of: PhantomData };
+    let writer = WriteHandle::new(alloc, waits, first, second, places)?;
+    let readers = readers_of(alloc, &writer, told, places)?;
+    Ok((writer, readers))
+}
+
+/// Places for so many readers, which know of no step.
+fn readers_of<S: SealedFile, J: Naming, W: Wait>(
+    alloc: Global,
+    writer: &WriteHandle<Shown<S, J>, Telling<S, J>, Waits<W>>,
+    told: &Told<J>,
+    places: usize,
+) -> Result<Vec<ArchiveReader<S, J>>, AllocError>
+    requires { told.now ≡ [] }
+    ensures count { IfOk result (λ readers. length readers.items ≡ places) }
+    ensures unread { IfOk result (λ readers. All (λ steps. steps ≡ []) readers.items) }
+{
+    let mut readers = Vec::new(alloc);
+    for _ in 0..places {
+        let place = writer.handle()?;
+        readers.push(ArchiveReader::new(place, told.again()))?;
+    }
+    Ok(readers)
+}
+
+/// Makes the shared object over an archive, and one reader for each of so many places, from 1 to 16. The files that
+/// readers begin with are the archive's. Where memory is refused the archive is given back, perhaps shared.
+pub fn start<D: Disk, J: Naming, W: Wait>(
+    alloc: Global,
+    archive: Archive<D>,
+    opened: Opened,
+    places: usize,
+) -> Result<(SharedArchive<D, J, W>, Vec<ArchiveReader<D::Sealed, J>>), Archive<D>>
+    requires book { opened.seen.book ≡ J.book }
+    requires opening { shelf_of archive.state ≡ J.opening }
+    requires honest { D.honest archive.disk ≡ J.honest }
+    requires places { (0 < places) × (places ≤ 16) }
+    // There are so many readers, which know of no step.
+    ensures count { IfOk result (λ r. length r.1.items ≡ places) }
+    ensures unread { IfOk result (λ r. All (λ steps. steps ≡ []) r.1.items) }
+    ensures refused { IfErr result (λ a. (a.disk ≡ archive.disk) × (a.closed ≡ archive.closed)
+        × (a.state ≡ record archive.state { shared = true })) }
+{
+    let (tip, told) = opened.named::<J>();
+    let mut archive = archive;
+    match places_of(alloc, &mut archive, &told, places) {
+        Ok((writer, readers)) => {
+            let locked: Locked<D, J, W> = Locked::new(archive, writer, tip, told);
+            let lock = Mutex::new(locked);
+            Ok((SharedArchive { lock }, readers))
+        }
+        Err(_) => Err(archive),
+    }
+}

@@ -1,0 +1,9 @@
+//! Tests of archives that threads share, on public calls.
+#![tactic(auto)]
+
+#[cfg(test)]
+mod places;
+#[cfg(test)]
+mod started;
+#[cfg(test)]
+mod threads;
