@@ -1,4 +1,4 @@
-//! The lines that `dump` writes of messages and records, up to a fault, and writers and readers that fail.
+//! The lines that `dump` writes through writers and readers that fail or are interrupted.
 
 use crate::stage::{PLAIN, decoded, told};
 use flow_report::dump;
@@ -11,108 +11,6 @@ use std::test::Fail;
 const PLAIN_LINES: &str =
     "message 57 1700000000 0 7\nrecord 256 flowStartSeconds=1700000000 protocolIdentifier=6 \
      octetDeltaCount=1500 packetDeltaCount=10\n";
-
-/// What `dump` writes of a File in hexadecimal, and behind it what it answers.
-fn dumped(alloc: Global, text: &str) -> Result<String, Fail> {
-    let file = decoded(alloc, text)?;
-    let mut output = Vec::new(alloc);
-    let answer = dump(alloc, &mut file.as_slice(), &mut output);
-    told(alloc, output.as_slice(), answer)
-}
-
-#[test]
-fn writes_messages_and_records(rt: HostRuntime) -> Result<(), Fail> {
-    let alloc = rt.alloc();
-    assert_eq!(rt; dumped(alloc, "")?.as_str(), "");
-    assert_eq!(rt; dumped(alloc, PLAIN)?.as_str(), PLAIN_LINES);
-    Ok(())
-}
-
-#[test]
-fn reads_both_spellings_of_a_length(rt: HostRuntime) -> Result<(), Fail> {
-    let text = dumped(
-        rt.alloc(),
-        "000A 0036 6553F100 00000000 00000007 | 0002 0010 012C 0002 0001 0004 00D2 FFFF | 012C 0016 00000064 03 \
-         AABBCC 00000064 FF 0003 AABBCC",
-    )?;
-    assert_eq!(rt;
-        text.as_str(),
-        "message 54 1700000000 0 7\nrecord 300 octetDeltaCount=100 paddingOctets=aabbcc\nrecord 300 \
-         octetDeltaCount=100 paddingOctets=aabbcc\n"
-    );
-    Ok(())
-}
-
-#[test]
-fn tells_options_apart(rt: HostRuntime) -> Result<(), Fail> {
-    let text = dumped(
-        rt.alloc(),
-        "000A 0064 6553F100 00000000 00000007 | 0002 0038 | 0100 0006 0098 0008 0099 0008 0004 0001 0178 0008 \
-         0001 0008 0002 0008 | 0101 0005 0098 0008 0099 0008 0178 0008 0001 0008 0002 0008 | 0003 0012 0102 \
-         0002 0001 0091 0002 0180 0001 | 0102 000A 0100 01 0101 01",
-    )?;
-    assert_eq!(rt;
-        text.as_str(),
-        "message 100 1700000000 0 7\noptions 258 templateId=256 valueDistributionMethod=1\noptions 258 \
-         templateId=257 valueDistributionMethod=1\n"
-    );
-    Ok(())
-}
-
-/// Addresses, octets of length 0, elements of an enterprise (0 is one too), a listed one of another length, and one
-/// that isn't listed.
-#[test]
-fn writes_each_kind_of_value(rt: HostRuntime) -> Result<(), Fail> {
-    let text = dumped(
-        rt.alloc(),
-        "000A 0064 6553F100 00000000 00000007 | 0002 0030 0100 0008 0038 0006 0008 0004 001B 0010 00D2 FFFF \
-         8001 0001 00000000 8001 0001 00007279 0004 0002 270F 0001 | 0100 0024 001B2C3D4E5F C0000201 \
-         20010DB8000000000000000000000001 00 07 FF 0006 2A",
-    )?;
-    assert_eq!(rt;
-        text.as_str(),
-        "message 100 1700000000 0 7\nrecord 256 sourceMacAddress=00:1b:2c:3d:4e:5f sourceIPv4Address=192.0.2.1 \
-         sourceIPv6Address=2001:0db8:0000:0000:0000:0000:0000:0001 paddingOctets= e0.1=07 e29305.1=ff \
-         protocolIdentifier=0006 e9999=2a\n"
-    );
-    Ok(())
-}
-
-/// The lines of the messages before a refused one stay.
-#[test]
-fn keeps_the_lines_before_a_fault(rt: HostRuntime) -> Result<(), Fail> {
-    let alloc = rt.alloc();
-    for (behind, want) in [
-        (
-            "000A 0014 6553F100 00000001 00000007 | 0100 0005",
-            "4 SetLength 16 message 2",
-        ),
-        ("00", "15 Cut 57"),
-        ("0009 0010 6553F100 00000001 00000007", "16 Version 57"),
-    ] {
-        let text = dumped(alloc, format!(in alloc; "{PLAIN}{behind}")?.as_str())?;
-        assert_eq!(rt;
-            text.as_str(),
-            format!(in alloc; "{PLAIN_LINES}{want}")?.as_str()
-        );
-    }
-    Ok(())
-}
-
-/// A definition counts from its place on, in the middle of a message too.
-#[test]
-fn follows_a_redefinition(rt: HostRuntime) -> Result<(), Fail> {
-    let text = dumped(
-        rt.alloc(),
-        "000A 0032 6553F100 00000000 00000007 | 0002 000C 0100 0001 0004 0001 | 0100 0005 06 | 0002 000C 0100 \
-         0001 0005 0001 | 0100 0005 06",
-    )?;
-    assert_eq!(rt;
-        text.as_str(),
-        "message 50 1700000000 0 7\nrecord 256 protocolIdentifier=6\nrecord 256 ipClassOfService=6\n"
-    );
-    Ok(())
-}
 
 /// A message of 4,000 records.
 fn records(alloc: Global) -> Result<Vec<u8>, Fail> {

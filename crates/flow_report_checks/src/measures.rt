@@ -1,4 +1,4 @@
-//! The totals that `measure` writes, its refusals by place, and readers and writers that fail.
+//! The totals that `measure` writes, and readers and writers that fail.
 
 use crate::stage::{PLAIN, decoded, told};
 use flow_report::{Width, measure};
@@ -13,17 +13,6 @@ const PLAIN_LINE: &str = "1699999800 7 6 1 1500 10\n";
 
 /// A message without Sets.
 const NO_SET: &str = "000A0010 6553F100 00000000 00000007";
-
-/// The plain message, and one of version 9.
-const OTHER_VERSION: &str =
-    "000A0039 6553F100 00000000 00000007 | 00020018 0100 0004 00960004 00040001 00010004 00020004 | 01000011 \
-     6553F100 06 000005DC 0000000A | 00090010 6553F100 00000000 00000007 00";
-
-/// The plain message twice, with a Set Length of 3 in the second, and an octet more.
-const SHORT_SET: &str =
-    "000A0039 6553F100 00000000 00000007 | 00020018 0100 0004 00960004 00040001 00010004 00020004 | 01000011 \
-     6553F100 06 000005DC 0000000A | 000A0039 6553F100 00000000 00000007 | 00020003 0100 0004 00960004 00040001 \
-     00010004 00020004 | 01000011 6553F100 06 000005DC 0000000A 00";
 
 /// Runs `measure` over intervals of 300 seconds, and answers its refusal.
 fn refused<R: Read, W: Write>(
@@ -106,53 +95,6 @@ fn totals_of_files(rt: HostRuntime) -> Result<(), Fail> {
     ] {
         let file = decoded(alloc, text)?;
         measures(&rt, alloc, file.as_slice(), lines)?;
-    }
-    Ok(())
-}
-
-#[test]
-fn a_redefinition_counts_from_its_place_on(rt: HostRuntime) -> Result<(), Fail> {
-    let mut file = decoded(rt.alloc(), PLAIN)?;
-    file.extend_from_slice(&decoded(
-        rt.alloc(),
-        "000A003D 6553F13C 00000001 00000007 | 00020018 0100 0004 00960004 00040001 00010008 00020004 | \
-         01000015 6553F13C 06 00000000000005DC 0000000A",
-    )?)?;
-    measures(
-        &rt,
-        rt.alloc(),
-        file.as_slice(),
-        "1699999800 7 6 2 3000 20\n",
-    )
-}
-
-#[test]
-fn refusals_by_place(rt: HostRuntime) -> Result<(), Fail> {
-    let alloc = rt.alloc();
-    for (text, told) in [
-        // another version behind the first message
-        (OTHER_VERSION, "16 Version 57"),
-        // a Set Length of 3 in the second message
-        (SHORT_SET, "4 SetLength 16 message 2"),
-        // no scope fields
-        (
-            "000A001E 6553F100 00000000 00000007 | 0003000E 0102 0001 0000 0091 0002",
-            "7 ScopeCount 20 message 1",
-        ),
-    ] {
-        let file = decoded(alloc, text)?;
-        measures(&rt, alloc, file.as_slice(), told)?;
-    }
-    Ok(())
-}
-
-/// A File that is cut at each place.
-#[test]
-fn cut_files(rt: HostRuntime) -> Result<(), Fail> {
-    let alloc = rt.alloc();
-    let file = decoded(alloc, PLAIN)?;
-    for count in 1..file.len() {
-        measures(&rt, alloc, &file[..count], "15 Cut 0")?;
     }
     Ok(())
 }
