@@ -2,8 +2,8 @@
 
 use crate::holds::{holds, told};
 use flow_codec::{
-    Count, Definition, Header, Message, MessageError, Templates, WalkError, judge_message,
-    read_message, split_field, walk_message,
+    Count, Definition, Header, Message, MessageError, Templates, WalkError, read_message,
+    split_field, walk_message,
 };
 use std::alloc::{AllocError, Global};
 use std::fmt::Write;
@@ -139,49 +139,6 @@ fn read_in_turn(
 #[test]
 fn messages(rt: HostRuntime) -> Result<(), Fail> {
     read_in_turn(rt, &mut Templates::new(rt.alloc()), IN_TURN.as_slice())
-}
-
-/// What judging a message is refused by.
-fn judge(
-    alloc: Global,
-    templates: &Templates,
-    octets: &[u8],
-) -> Result<Option<MessageError>, AllocError> {
-    Ok(answered(judge_message(templates, alloc, octets))?.err())
-}
-
-/// What judging a message is refused by where no template is in force.
-fn judged(rt: HostRuntime, octets: &[u8]) -> Result<Option<MessageError>, AllocError> {
-    judge(rt.alloc(), &Templates::new(rt.alloc()), octets)
-}
-
-/// What the front of a message of this length, with its own Length, is refused by.
-fn front_fault(length: u8) -> Option<MessageError> {
-    match length {
-        16 | 40 => None,
-        17..=39 => Some(MessageError::SetLength(16)),
-        _ => Some(MessageError::SetLength(40)),
-    }
-}
-
-/// The front of a message, of each length, with the Length of the whole and with its own.
-#[test]
-fn cuts(rt: HostRuntime) -> Result<(), Fail> {
-    let mut front = decoded(rt, PLAIN)?;
-    for cut in 1..42u8 {
-        let n = 57 - cut;
-        front.truncate(n as usize);
-        assert!(rt; judged(rt, &front)? == Some(MessageError::Length));
-        assert!(rt; front.len() > 3);
-        front[3] = n;
-        assert!(rt; judged(rt, &front)? == front_fault(n), "at {n}");
-        front[3] = 57;
-    }
-    for n in 0..16 {
-        front.truncate(15 - n);
-        assert!(rt; judged(rt, &front)? == Some(MessageError::Short));
-    }
-    Ok(())
 }
 
 /// A definition, or that there is none.

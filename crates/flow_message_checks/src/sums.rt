@@ -1,11 +1,9 @@
 //! Flows and their sums, worked out by hand.
 
 use crate::holds::{holds, told};
-use flow_codec::{
-    DataRecord, Field, Header, Message, MessageError, Templates, WalkError, walk_message,
-};
+use flow_codec::{DataRecord, Field, Header, Message, MessageError, Templates, walk_message};
 use flow_elements::{ElementId, Items};
-use flow_measure::{Flow, Flows, Key, Row, Rows, SumError, Sums, Totals, flows_of_message};
+use flow_measure::{Flow, Flows, Key, Row, Rows, SumError, Sums, flows_of_message};
 use std::alloc::{AllocError, Global};
 use std::test::*;
 
@@ -233,116 +231,6 @@ const PLAIN: [u8; 57] = [
     0x00, 0x02, 0x00, 0x04, 0x01, 0x00, 0x00, 0x11, 0x65, 0x53, 0xF1, 0x00, 0x06, 0x00, 0x00, 0x05,
     0xDC, 0x00, 0x00, 0x00, 0x0A,
 ];
-
-/// The same template with octets in 8 octets, and one record of it, a minute later.
-const REDEFINED: [u8; 61] = [
-    0x00, 0x0A, 0x00, 0x3D, 0x65, 0x53, 0xF1, 0x3C, 0, 0, 0, 1, 0, 0, 0, 7, 0x00, 0x02, 0x00, 0x18,
-    0x01, 0x00, 0x00, 0x04, 0x00, 0x96, 0x00, 0x04, 0x00, 0x04, 0x00, 0x01, 0x00, 0x01, 0x00, 0x08,
-    0x00, 0x02, 0x00, 0x04, 0x01, 0x00, 0x00, 0x15, 0x65, 0x53, 0xF1, 0x3C, 0x06, 0, 0, 0, 0, 0, 0,
-    0x05, 0xDC, 0x00, 0x00, 0x00, 0x0A,
-];
-
-/// Two records with a field of variable length, its length in one octet and in three.
-const SPELLINGS: [u8; 54] = [
-    0x00, 0x0A, 0x00, 0x36, 0x65, 0x53, 0xF1, 0x00, 0, 0, 0, 0, 0, 0, 0, 7, 0x00, 0x02, 0x00, 0x10,
-    0x01, 0x2C, 0x00, 0x02, 0x00, 0x01, 0x00, 0x04, 0x00, 0xD2, 0xFF, 0xFF, 0x01, 0x2C, 0x00, 0x16,
-    0x00, 0x00, 0x00, 0x64, 0x03, 0xAA, 0xBB, 0xCC, 0x00, 0x00, 0x00, 0x64, 0xFF, 0x00, 0x03, 0xAA,
-    0xBB, 0xCC,
-];
-
-/// Two records of the greatest count of octets.
-const GREATEST: [u8; 48] = [
-    0x00, 0x0A, 0x00, 0x30, 0x65, 0x53, 0xF1, 0x00, 0, 0, 0, 0, 0, 0, 0, 7, 0x00, 0x02, 0x00, 0x0C,
-    0x01, 0x00, 0x00, 0x01, 0x00, 0x01, 0x00, 0x08, 0x01, 0x00, 0x00, 0x14, 0xFF, 0xFF, 0xFF, 0xFF,
-    0xFF, 0xFF, 0xFF, 0xFF, 0xFF, 0xFF, 0xFF, 0xFF, 0xFF, 0xFF, 0xFF, 0xFF,
-];
-
-/// A record whose start in milliseconds is a second too late for 32 bits.
-const LATE: [u8; 48] = [
-    0x00, 0x0A, 0x00, 0x30, 0x65, 0x53, 0xF1, 0x00, 0, 0, 0, 0, 0, 0, 0, 7, 0x00, 0x02, 0x00, 0x10,
-    0x01, 0x00, 0x00, 0x02, 0x00, 0x98, 0x00, 0x08, 0x00, 0x01, 0x00, 0x04, 0x01, 0x00, 0x00, 0x10,
-    0x00, 0x00, 0x03, 0xE8, 0x00, 0x00, 0x00, 0x00, 0x00, 0x00, 0x00, 0x01,
-];
-
-/// The last start in milliseconds that 32 bits of seconds have.
-const LAST: [u8; 48] = [
-    0x00, 0x0A, 0x00, 0x30, 0x65, 0x53, 0xF1, 0x00, 0, 0, 0, 0, 0, 0, 0, 7, 0x00, 0x02, 0x00, 0x10,
-    0x01, 0x00, 0x00, 0x02, 0x00, 0x98, 0x00, 0x08, 0x00, 0x01, 0x00, 0x04, 0x01, 0x00, 0x00, 0x10,
-    0x00, 0x00, 0x03, 0xE7, 0xFF, 0xFF, 0xFF, 0xFF, 0x00, 0x00, 0x00, 0x01,
-];
-
-/// Takes in a message.
-fn take(
-    alloc: Global,
-    templates: &mut Templates,
-    totals: &mut Totals,
-    octets: &[u8],
-) -> Result<(), Fail> {
-    match walk_message(templates, alloc, octets, totals) {
-        Ok(_) => Ok(()),
-        Err(WalkError::Message(fault)) => Err(Fail::from(fault)),
-        Err(WalkError::Sink(error)) => Err(Fail::from(error)),
-    }
-}
-
-/// Takes in messages one after the other, and lists the rows.
-fn take_all(
-    alloc: Global,
-    templates: &mut Templates,
-    totals: &mut Totals,
-    messages: &[&[u8]],
-) -> Result<Vec<Row>, Fail> {
-    for octets in messages {
-        take(alloc, templates, totals, octets)?;
-    }
-    Ok(totals.rows.in_span(alloc, 0, 1 << 32)?)
-}
-
-/// The rows of messages, by intervals of 300 seconds.
-fn rows_of(alloc: Global, messages: &[&[u8]]) -> Result<Vec<Row>, Fail> {
-    let mut totals = Totals {
-        rows: Rows::new(alloc, 300),
-    };
-    take_all(alloc, &mut Templates::new(alloc), &mut totals, messages)
-}
-
-/// Takes in messages, and looks for their only row.
-fn sums_to(alloc: Global, messages: &[&[u8]], wanted: Row) -> Result<(), Fail> {
-    let rows = rows_of(alloc, messages)?;
-    holds(rows.as_slice() == [wanted].as_slice(), "this row alone")
-}
-
-#[test]
-fn one_record(rt: HostRuntime) -> Result<(), Fail> {
-    let wanted = row(1699999800, Some(6), 1, 1500, 10);
-    sums_to(rt.alloc(), &[&PLAIN], wanted)
-}
-
-#[test]
-fn redefined(rt: HostRuntime) -> Result<(), Fail> {
-    let wanted = row(1699999800, Some(6), 2, 3000, 20);
-    sums_to(rt.alloc(), &[&PLAIN, &REDEFINED], wanted)
-}
-
-#[test]
-fn both_spellings(rt: HostRuntime) -> Result<(), Fail> {
-    let wanted = row(1699999800, None, 2, 200, 0);
-    sums_to(rt.alloc(), &[&SPELLINGS], wanted)
-}
-
-#[test]
-fn greatest_sums(rt: HostRuntime) -> Result<(), Fail> {
-    let wanted = row(1699999800, None, 2, 36893488147419103230, 0);
-    sums_to(rt.alloc(), &[&GREATEST], wanted)
-}
-
-#[test]
-fn starts_in_milliseconds(rt: HostRuntime) -> Result<(), Fail> {
-    let late = row(1699999800, None, 1, 1, 0);
-    sums_to(rt.alloc(), &[&LATE], late)?;
-    let last = row(4294967100, None, 1, 1, 0);
-    sums_to(rt.alloc(), &[&LAST], last)
-}
 
 /// Takes the flows of `PLAIN`.
 fn take_flows(alloc: Global, templates: &mut Templates, flows: &mut Flows) -> Result<(), Fail> {
