@@ -37,4 +37,14 @@ impl<S: MayFail> Faults<S> {
     {
         self.count = self.count.saturating_add(1);
     }
+
+    /// Adds the failures of another count of this kind, as that of another thread. The other count is consumed, so
+    /// that no failure is counted twice.
+    pub fn add(&mut self, other: Faults<S>)
+        ensures none { other ≡ 0 → self.new ≡ self.old }
+        ensures risen { HasRisen 0 other → HasRisen self.old self.new }
+        ensures later { self.old ≤ self.new }
+    {
+        self.count = self.count.saturating_add(other.count);
+    }
 }
