@@ -96,6 +96,12 @@ IsWholeFront at octets (Ok (Some n)) = (n ≤ length octets) × IsCutOff (take n
 IsWholeFront at octets (Ok None) = IsUnfinished at octets
 IsWholeFront at octets (Err fault) = (16 ≤ length octets) × IsHeaderRefused at octets fault
 
+-- what octets begin with is known without others: a whole message, or a header that is refused
+abbrev pub IsReadNext : ℕ → List ℕ → Type 0
+IsReadNext at octets =
+    ((n : ℕ) × (n ≤ length octets) × IsCutOff (take n octets))
+    ⊎ ((fault : FileError) × (16 ≤ length octets) × IsHeaderRefused at octets fault)
+
 -- Whether a message stands whole in what is held, behind reads where more was wanted. `old` and `new` are the octets
 -- that stand next, where they are known.
 abbrev pub IsFound : ℕ → Option (List ℕ) → Result (Option ℕ) StreamError → List ℕ → Option (List ℕ) → Type 0

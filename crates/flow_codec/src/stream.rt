@@ -1,9 +1,10 @@
 //! A File from a reader, one message after the other.
 
-ghost use Rattle.std.specs.Prelude.{Some, ◌≡◌, ◌≤◌, ◌<◌, ◌^◌, ◌*◌, length, take, [], None, IfOk, IfErr, IfSome, IfNone};
+ghost use Rattle.std.specs.Prelude.{MatchBool, Some, ◌≡◌, ◌≤◌, ◌<◌, ◌^◌, ◌*◌, length, take, [], None, IfOk, IfErr, IfSome, IfNone};
 ghost use Rattle.std.specs.Io.KnownBytes.{prepend_known};
 ghost use Rattle.flow_codec.specs.declared.stream.StreamError.TheVariants.{File, Read as ReadStopped};
-ghost use Rattle.flow_codec.specs.Stream.{held, progress, IsStep, StopsWithin, IsWholeFront, IsFound};
+ghost use Rattle.flow_codec.specs.Stream.{held, progress, IsFound, IsReadNext, IsStep, IsUnfinished, IsWholeFront};
+ghost use Rattle.flow_codec.specs.Stream.{StopsWithin};
 ghost use Rattle.flow_codec.specs.Printed.{stream_text};
 
 use crate::file::{FileError, length_in};
@@ -141,6 +142,17 @@ impl MessageReader {
                 Err(error)
             }
         }
+    }
+
+    /// Whether what follows the message that is held is read already: a whole message, or a header that is refused. The
+    /// next step then reads nothing from its input, unless an error was answered before.
+    pub fn has_read_next(&self) -> bool
+        ensures { MatchBool result (IsReadNext self.now.at self.now.ahead) (IsUnfinished self.now.at self.now.ahead) }
+    {
+        !matches!(
+            whole_front(self.at, &self.window.octets()[self.size..]),
+            Ok(None)
+        )
     }
 
     /// The octets of the message that is held; none before the first step, at the end, and after an error.
