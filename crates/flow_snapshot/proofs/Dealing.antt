@@ -1,21 +1,19 @@
 -- Parts, dealt out to workers in turn.
-use Rattle.std.proofs.Common.{◌≡◌, ℕ, zero, suc, Bool, true, false, cond, ◌+◌, ◌%◌, ◌<◌, ◌≤◌, List, [], ◌∷◌, ◌++◌}
+use Rattle.std.proofs.Common.{◌≡◌, ℕ, zero, suc, Bool, true, false, cond, ◌+◌, ◌<◌, ◌≤◌, List, [], ◌∷◌, ◌++◌}
 use Rattle.std.proofs.Common.{length, map, take, drop, Option, Some, None, refl, sym, ap, subst, ◌∙◌, append-nil}
 use Rattle.std.proofs.Common.{append_assoc, arith, get_or}
-use Rattle.std.specs.Prelude.{◌==◌, nat_lt, ◌≢◌, IfErr, IsErr, IsTrue, OnOk, Result, Ok, Err, IsErrAnd}
-use Rattle.flow_disk.specs.Cause.{HasCause, HasRisen}
-use Rattle.flow_snapshot.specs.declared.error.QueryError.TheVariants.{Fault}
+use Rattle.std.specs.Prelude.{◌==◌, nat_lt, IsTrue, Result, Ok, Err, IsErrAnd}
 use Rattle.std.specs.List.{flat_map, list_all, AllZip}
 use Rattle.std.specs.FinMap.{FinMap, entries}
 use Rattle.std.specs.Arc.{arc_value}
 use Rattle.std.specs.declared.sync.Arc.{Arc}
-use Rattle.std.proofs.lemmas.Bool.{not-true, ltb-true, ltb-false, eqb-true, eqb-false, lt-ltb, le-ltb, eq-eqb, ne_eqb}
+use Rattle.std.proofs.lemmas.Bool.{ltb-true, ltb-false, eqb-true, eqb-false, lt-ltb, le-ltb, ne_eqb}
 use Rattle.std.proofs.lemmas.List.{drop-map, take-append-drop}
 use Rattle.std.proofs.lemmas.List.Concat.{flat_map-append}
 use Rattle.flow_codec.specs.Templates.{AllTemplates}
 use Rattle.flow_measure.specs.declared.rows.Key.{Key}
 use Rattle.flow_measure.specs.declared.rows.Sums.{Sums}
-use Rattle.flow_measure.specs.History.{Accepted, AreAcceptedFrom, flows_in, read_from, templates_from}
+use Rattle.flow_measure.specs.History.{Accepted, AreAcceptedFrom, flows_in, templates_from}
 use Rattle.flow_measure.specs.Query.{narrow_table_in}
 use Rattle.flow_measure.specs.Sums.{key_cmp, empty_table, gathered, merged, sums_by, AllFit, Table}
 use Rattle.flow_measure.specs.View.{gathered_all, View}
@@ -29,16 +27,11 @@ use Rattle.flow_disk.specs.declared.sealed.SealedFile.{Ghosts}
 use Rattle.flow_segment.specs.declared.sealed.SealedPart.{SealedPart}
 use Rattle.flow_segment.specs.Segment.{part_octets}
 use Rattle.flow_segment.specs.PartFlows.{with_flows, ArePartMessages}
-use Rattle.flow_segment.specs.Prefix.{IsRestated}
 use Rattle.flow_snapshot.specs.declared.error.QueryError.{QueryError}
 use Rattle.flow_snapshot.specs.Files.{cut_into, segment_of, shared}
 use Rattle.flow_snapshot.specs.Shares.{added_if, chosen, next_turn, own, summed, turn_after, AllPartsFit, AreNarrow}
-use Rattle.flow_snapshot.specs.Shares.{narrow_turn, AreShares, AreWide, IsJoined, IsShare}
-use Rattle.flow_snapshot.specs.Sight.{Sight}
-use Rattle.flow_snapshot.specs.declared.shares.Share.{Share}
-use Rattle.flow_snapshot.specs.declared.shares.PartSums.{PartSums}
-use Rattle.flow_snapshot.specs.Shares.{IsFileSum, IsOwnSum, IsSegmentSum}
-use Rattle.flow_snapshot.specs.Shelf.{Rollup, Segment, Shelf, kept_of, messages_in}
+use Rattle.flow_snapshot.specs.Shares.{AreWide, IsFileSum, IsOwnSum, IsSegmentSum}
+use Rattle.flow_snapshot.specs.Shelf.{Rollup, Segment, Shelf, messages_in}
 use Rattle.flow_snapshot.specs.Totals.{wide_table_in, with_maps, IsMade, IsSpent, SumsFit}
 use Rattle.flow_snapshot.specs.Views.{AreRestated, AreRolled, IsViewOf}
 use Rattle.flow_snapshot.proofs.Accepting.{accepted_first, accepted_rest, behind_own, own_first}
@@ -200,7 +193,10 @@ pub none_summed_yet : (workers turn width : ℕ) (maps : List (FinMap key_cmp Su
     → t ≡ summed width (chosen (λ t. nat_lt t 0) workers turn maps)
 none_summed_yet workers turn width maps t is =
     is
-    ∙ (λ i. record { width = width; sums = (sym (gathered-entries (empty_table width).sums) ∙ ap gathered entries_of_none) i })
+    ∙ (λ i. record {
+      width = width;
+      sums = (sym (gathered-entries (empty_table width).sums) ∙ ap gathered entries_of_none) i;
+    })
     ∙ ap (summed width) (sym (none_chosen workers turn maps))
 
 pub all_shares : (workers n turn width : ℕ) (maps : List (FinMap key_cmp Sums)) → turn < workers → workers ≤ n
@@ -391,7 +387,8 @@ module _ {A : Type 0} (P : ℕ → A → FinMap key_cmp Sums → Type 0) (worker
 
 pub none_left : {A : Type 0} (P : A → FinMap key_cmp Sums → Type 0) (workers worker : ℕ) (left : List A)
     (turn : ℕ) (now goal : Table) → left ≡ [] → Left P workers worker left turn now goal → now ≡ goal
-none_left {A} P workers worker left turn now goal none l = by l.rest (subst (λ (xs : List A). AllZip P xs l.rest) none l.each) l.is
+none_left {A} P workers worker left turn now goal none l =
+    by l.rest (subst (λ (xs : List A). AllZip P xs l.rest) none l.each) l.is
   where
     by : (rest : List (FinMap key_cmp Sums)) → AllZip P [] rest → with_maps (own workers worker turn rest) now ≡ goal
         → now ≡ goal
@@ -552,8 +549,8 @@ nothing_of_none prefix sums t (before, list, restated, accepted, octets, is) =
     no_list (m ∷ ms) h = absurd cc
 
 -- a segment adds its flows
-pub flows_added : (sums : FinMap key_cmp Sums) (t : Table) (list : List Accepted) → sums ≡ sums_by t.width (flows_in list)
-    → with_flows (flows_in list) t ≡ added_if true sums t
+pub flows_added : (sums : FinMap key_cmp Sums) (t : Table) (list : List Accepted)
+    → sums ≡ sums_by t.width (flows_in list) → with_flows (flows_in list) t ≡ added_if true sums t
 flows_added sums t list is =
     ap (λ (m : FinMap key_cmp Sums). merged t (record { width = t.width; sums = m })) (sym is)
 

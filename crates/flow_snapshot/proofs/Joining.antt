@@ -1,5 +1,6 @@
 -- The shares of workers, joined.
-use Rattle.std.proofs.Common.{◌≡◌, ℕ, zero, suc, ◌+◌, ◌<◌, ◌≤◌, List, [], ◌++◌, length, refl, sym, ap, subst, ◌∙◌, arith, get_or}
+use Rattle.std.proofs.Common.{◌≡◌, ℕ, suc, ◌+◌, ◌<◌, ◌≤◌, List, [], ◌++◌, length, refl, sym, ap, subst, ◌∙◌}
+use Rattle.std.proofs.Common.{arith, get_or}
 use Rattle.std.specs.Prelude.{nat_lt, ◌≢◌, IfErr, IsErr, IsTrue, OnOk, Result, Ok, Err}
 use Rattle.std.specs.FinMap.{FinMap, entries}
 use Rattle.flow_disk.specs.Cause.{HasCause, HasRisen}

@@ -1,7 +1,8 @@
 //! The sums of an archive's parts, shared among workers: each part falls to one of them, in turn, and is read with
 //! nothing but its own file.
 
-ghost use Rattle.std.specs.Prelude.{◌≡◌, ◌≢◌, ◌<◌, IsTrue, IfErr, IfOk, IfSome, List, [], MatchResult, length, map, true};
+ghost use Rattle.std.specs.Prelude.{◌≡◌, ◌≢◌, ◌<◌, IsTrue, IfErr, IfOk, IfSome, List, [], MatchResult, length, map};
+ghost use Rattle.std.specs.Prelude.{true};
 ghost use Rattle.std.specs.FinMap.{FinMap, entries};
 ghost use Rattle.std.specs.List.{list_all, AllZip};
 ghost use Rattle.flow_disk.specs.Cause.{HasCause};

@@ -23,7 +23,8 @@ loop-part-preserved g c = record {
       c.part-item.result _ (next_item c.args.parts.now c.loop-part.part-index c.part-item.result c.part-item.result
       c.loop-part-test.true c.part-item.is refl) c.next_turn-next.ensures.next c.loop-part.invariant.turn;
   left = λ honest maps each.
-      own_next IsFileSum rollup_of is_honest_sum c.args.parts.now c.loop-part.part-index c.part-item.result c.deref.result.now
+      own_next IsFileSum rollup_of is_honest_sum c.args.parts.now c.loop-part.part-index c.part-item.result
+      c.deref.result.now
       c.loop-part-test.true c.part-item.is c.deref.ensures honest c.args.workers c.args.worker c.loop-part.next
       c.loop-part.rows (with_maps (own c.args.workers c.args.worker c.args.turn maps) c.args.rows.now)
       (c.loop-part.invariant.left honest maps each)
@@ -32,7 +33,8 @@ loop-part-preserved g c = record {
 
 pub returns-in_err-add_own_file-clause-given : goal.returns-in_err-add_own_file-clause-given
 returns-in_err-add_own_file-clause-given g c = λ honest maps each.
-    own_refused IsFileSum rollup_of is_honest_sum c.args.parts.now c.loop-part.part-index c.part-item.result c.deref.result.now
+    own_refused IsFileSum rollup_of is_honest_sum c.args.parts.now c.loop-part.part-index c.part-item.result
+    c.deref.result.now
     c.loop-part-test.true c.part-item.is c.deref.ensures honest c.args.workers c.args.worker c.loop-part.next
     c.loop-part.rows (with_maps (own c.args.workers c.args.worker c.args.turn maps) c.args.rows.now)
     (c.loop-part.invariant.left honest maps each)

@@ -19,6 +19,7 @@ invariant-loop-part g l = record {
       ≡ turn_after l.workers (length l.parts) l.turn;
   left : IsTrue (list_all is_honest_sum (shared l.parts)) → (maps : List (FinMap key_cmp Sums))
       → AllZip (IsFileSum l.fn.rows.width) (map rollup_of (shared l.parts)) maps
-      → Left (IsFileSum l.fn.rows.width) l.workers l.worker (map rollup_of (shared (drop l.part-index l.parts))) l.next l.rows
+      → Left (IsFileSum l.fn.rows.width) l.workers l.worker (map rollup_of (shared (drop l.part-index l.parts)))
+      l.next l.rows
       (with_maps (own l.workers l.worker l.turn maps) l.fn.rows);
 }

@@ -1,4 +1,4 @@
-use Rattle.std.proofs.Common.{◌≡◌, Bool, true, subst, sym, ◌∙◌, ap}
+use Rattle.std.proofs.Common.{◌≡◌, Bool, subst, sym, ◌∙◌, ap}
 use Rattle.flow_measure.specs.Sums.{AllFit}
 use Rattle.flow_snapshot.specs.Shares.{added_if}
 use Rattle.flow_snapshot.specs.Totals.{IsMade}

@@ -23,16 +23,19 @@ loop-part-preserved g c = record {
       c.part-item.result _ (next_item c.args.parts.now c.loop-part.part-index c.part-item.result c.part-item.result
       c.loop-part-test.true c.part-item.is refl) c.next_turn-next.ensures.next c.loop-part.invariant.turn;
   left = λ honest maps each.
-      own_next IsSegmentSum (segment_of {files = g.S.SealedFile}) (is_honest {files = g.S.SealedFile}) c.args.parts.now c.loop-part.part-index c.part-item.result c.deref.result.now
+      own_next IsSegmentSum (segment_of {files = g.S.SealedFile}) (is_honest {files = g.S.SealedFile})
+      c.args.parts.now c.loop-part.part-index c.part-item.result c.deref.result.now
       c.loop-part-test.true c.part-item.is c.deref.ensures honest c.args.workers c.args.worker c.loop-part.next
       c.loop-part.rows (with_maps (own c.args.workers c.args.worker c.args.turn maps) c.args.rows.now)
       (c.loop-part.invariant.left honest maps each)
-      c.next_turn-next.result c.add_own_segment.new.rows c.next_turn-next.ensures.next c.in_ok-add_own_segment.ensures.given;
+      c.next_turn-next.result c.add_own_segment.new.rows c.next_turn-next.ensures.next
+      c.in_ok-add_own_segment.ensures.given;
 }
 
 pub returns-in_err-add_own_segment-clause-given : goal.returns-in_err-add_own_segment-clause-given
 returns-in_err-add_own_segment-clause-given g c = λ honest maps each.
-    own_refused IsSegmentSum (segment_of {files = g.S.SealedFile}) (is_honest {files = g.S.SealedFile}) c.args.parts.now c.loop-part.part-index c.part-item.result c.deref.result.now
+    own_refused IsSegmentSum (segment_of {files = g.S.SealedFile}) (is_honest {files = g.S.SealedFile})
+    c.args.parts.now c.loop-part.part-index c.part-item.result c.deref.result.now
     c.loop-part-test.true c.part-item.is c.deref.ensures honest c.args.workers c.args.worker c.loop-part.next
     c.loop-part.rows (with_maps (own c.args.workers c.args.worker c.args.turn maps) c.args.rows.now)
     (c.loop-part.invariant.left honest maps each)
@@ -49,5 +52,6 @@ returns-clause-turn g c = (
 pub returns-clause-given : goal.returns-clause-given
 returns-clause-given g c = λ honest maps each.
     none_left (IsSegmentSum c.args.rows.now.width) c.args.workers c.args.worker _ c.loop-part.next c.loop-part.rows _
-    (ap (λ ps. map (segment_of {files = g.S.SealedFile}) (shared ps)) (drop_all c.loop-part.part-index c.args.parts.now c.loop-part-test.false))
+    (ap (λ ps. map (segment_of {files = g.S.SealedFile}) (shared ps))
+    (drop_all c.loop-part.part-index c.args.parts.now c.loop-part-test.false))
     (c.loop-part.invariant.left honest maps each)

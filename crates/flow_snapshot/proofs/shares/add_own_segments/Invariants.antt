@@ -19,6 +19,7 @@ invariant-loop-part g l = record {
       ≡ turn_after l.workers (length l.parts) l.turn;
   left : IsTrue (list_all (is_honest {files = g.S.SealedFile}) (shared l.parts)) → (maps : List (FinMap key_cmp Sums))
       → AllZip (IsSegmentSum l.fn.rows.width) (map (segment_of {files = g.S.SealedFile}) (shared l.parts)) maps
-      → Left (IsSegmentSum l.fn.rows.width) l.workers l.worker (map (segment_of {files = g.S.SealedFile}) (shared (drop l.part-index l.parts))) l.next l.rows
+      → Left (IsSegmentSum l.fn.rows.width) l.workers l.worker
+      (map (segment_of {files = g.S.SealedFile}) (shared (drop l.part-index l.parts))) l.next l.rows
       (with_maps (own l.workers l.worker l.turn maps) l.fn.rows);
 }

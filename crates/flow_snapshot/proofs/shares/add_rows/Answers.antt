@@ -1,7 +1,7 @@
-use Rattle.std.proofs.Common.{◌≡◌, ◌<◌, ◌++◌, refl, sym, ap, subst, ◌∙◌}
+use Rattle.std.proofs.Common.{◌<◌, ◌++◌, refl, sym, ap, subst, ◌∙◌}
 use Rattle.std.specs.FinMap.{entries}
 use Rattle.std.specs.List.{AllByRecursion}
-use Rattle.flow_measure.specs.Sums.{gathered, merged, widened_entries, widened_key, with_entries, AllFit, Table}
+use Rattle.flow_measure.specs.Sums.{gathered, merged, widened_entries, widened_key, AllFit, Table}
 use Rattle.flow_measure.specs.Sums.{IsRefused}
 use Rattle.flow_measure.proofs.Intervals.{aligned}
 use Rattle.flow_measure.proofs.Merging.{done, refused_by, refused_on, sound_entries, step_same, with_own}

@@ -1,6 +1,5 @@
-use Rattle.std.proofs.Common.{[], ap, length, refl, subst, sym, ◌∙◌, List, ℕ}
+use Rattle.std.proofs.Common.{ap, length, refl, subst, sym, ◌∙◌, ℕ}
 use Rattle.std.specs.Prelude.{IsTrue, ◌&&◌, ◌==◌}
-use Rattle.std.specs.FinMap.{FinMap}
 use Rattle.std.specs.List.{list_all, AllZip}
 use Rattle.flow_measure.specs.Sums.{AllFit, Table}
 use Rattle.flow_snapshot.specs.Directories.{sight_of}
@@ -59,7 +58,8 @@ returns-in_err-turn-2-clause-given g c = λ honest narrow are.
     let of_sealed = second_of_two (merged && rolled) sealed seen in
     let each2 = subst (λ (w : ℕ). AllZip (IsSegmentSum w) s.sealed here.sealed) (sym w1) here.of_sealed in
     let given = rw c.as_slice-sealed.ensures.value at c.in_err-turn-2.ensures.given in
-    made_err _ c.args.first (AllFit (with_maps (own c.args.workers c.args.worker t1 here.sealed) c.add_own_files.new.rows))
+    made_err _ c.args.first
+    (AllFit (with_maps (own c.args.workers c.args.worker t1 here.sealed) c.add_own_files.new.rows))
     (AllFit (summed s.width narrow)) c.from_residual-in_err-turn-2.result c.in_err-turn-2.field-0.0
     (more_fit s c.args.workers c.args.worker c.args.turn narrow here start none t1 _ first_is refl
     c.add_own_files.new.rows _ start r1 refl)
@@ -97,7 +97,8 @@ returns-in_err-add_own_active-clause-given g c = λ honest narrow are.
     ∙ sym (shared_length (segment_of {files = g.S.SealedFile}) files.sealed.items)) in
     let last = subst (λ (w : ℕ). IsOwnSum w s.prefix s.active here.active) (sym w2) here.of_active in
     let t2 = c.in_ok-turn-2.turn in
-    let given = rw (c.as_slice-prefix.ensures, c.as_slice-active.ensures.value) at c.in_err-add_own_active.ensures.given in
+    let given = rw (c.as_slice-prefix.ensures, c.as_slice-active.ensures.value)
+    at c.in_err-add_own_active.ensures.given in
     made_err _ c.args.first (AllFit (added_if (t2 == c.args.worker) here.active c.add_own_segments.new.rows))
     (AllFit (summed s.width narrow)) c.from_residual-in_err-add_own_active.result c.in_err-add_own_active.field-0.0
     (all_of_them_fit s c.args.workers c.args.worker c.args.turn narrow here start none t1 t2 first_is second_is
@@ -136,7 +137,8 @@ returns-clause-given g c = λ honest narrow are.
     ∙ sym (shared_length (segment_of {files = g.S.SealedFile}) files.sealed.items)) in
     let last = subst (λ (w : ℕ). IsOwnSum w s.prefix s.active here.active) (sym w2) here.of_active in
     let t2 = c.in_ok-turn-2.turn in
-    let given = rw (c.as_slice-prefix.ensures, c.as_slice-active.ensures.value) at c.in_ok-add_own_active.ensures.given in
+    let given = rw (c.as_slice-prefix.ensures, c.as_slice-active.ensures.value)
+    at c.in_ok-add_own_active.ensures.given in
     narrow_done s c.args.workers c.args.worker c.args.turn narrow here start none t1 t2 first_is second_is
     c.add_own_files.new.rows c.add_own_segments.new.rows c.add_own_active.new.rows r1 r2 (given here.active last)
     ∙ ap (λ (x : Sight). summed x.shelf.width (own c.args.workers c.args.worker c.args.turn narrow)) c.self.view_is

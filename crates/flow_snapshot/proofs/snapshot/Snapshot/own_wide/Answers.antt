@@ -1,16 +1,14 @@
-use Rattle.std.proofs.Common.{[], ap, length, refl, subst, sym, ◌∙◌, List, ℕ}
+use Rattle.std.proofs.Common.{ap, subst, sym, ◌∙◌, ℕ}
 use Rattle.std.specs.Prelude.{IsTrue, ◌&&◌}
-use Rattle.std.specs.FinMap.{FinMap}
 use Rattle.std.specs.List.{list_all, AllZip}
-use Rattle.flow_measure.specs.declared.rows.Sums.{Sums}
-use Rattle.flow_measure.specs.Sums.{key_cmp, AllFit, Table}
+use Rattle.flow_measure.specs.Sums.{AllFit, Table}
 use Rattle.flow_snapshot.specs.Directories.{sight_of}
 use Rattle.flow_snapshot.specs.Files.{is_honest, is_honest_sum, shared}
-use Rattle.flow_snapshot.specs.Shares.{own, summed, turn_after, AllPartsFit, AreNarrow, AreWide, IsFileSum, IsSegmentSum}
+use Rattle.flow_snapshot.specs.Shares.{own, summed, AreWide, IsFileSum}
 use Rattle.flow_snapshot.specs.Sight.{Sight}
-use Rattle.flow_snapshot.specs.Totals.{with_maps, IsMade}
+use Rattle.flow_snapshot.specs.Totals.{with_maps}
 use Rattle.flow_snapshot.proofs.Adding.{made_err}
-use Rattle.flow_snapshot.proofs.Sharing.{first_of_two, second_of_two}
+use Rattle.flow_snapshot.proofs.Sharing.{first_of_two}
 use Rattle.flow_snapshot.proofs.Dealing.{wide_fit, wide_whole}
 use Rattle.flow_snapshot.proofs.snapshot.Snapshot.own_wide.Goals as goal
 
