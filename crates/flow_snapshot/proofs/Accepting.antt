@@ -66,7 +66,7 @@ first_restated [] active s t h k = one_restated active s t h k
 first_restated (g ∷ gs) active s t h k = one_restated g.prefix s t h.0 k.0
 
 -- the messages of the first segment
-own_first : (g : Segment) (gs : List Segment) (tail : List (List ℕ)) (kept : List Accepted)
+pub own_first : (g : Segment) (gs : List Segment) (tail : List (List ℕ)) (kept : List Accepted)
     → octets_of kept ≡ messages_in (g ∷ gs) ++ tail
     → (octets_of (take (length g.messages) kept) ≡ g.messages)
     × (octets_of (drop (length g.messages) kept) ≡ messages_in gs ++ tail)
@@ -80,7 +80,7 @@ own_first g gs tail kept is =
     )
 
 -- the templates behind the messages of a segment
-behind_own : (before : AllTemplates) (g : Segment) (gs : List Segment) (tail : List (List ℕ)) (kept : List Accepted)
+pub behind_own : (before : AllTemplates) (g : Segment) (gs : List Segment) (tail : List (List ℕ)) (kept : List Accepted)
     → AreAcceptedFrom before kept → octets_of kept ≡ messages_in (g ∷ gs) ++ tail
     → templates_from before (read_from before g.messages)
     ≡ templates_from before (take (length g.messages) kept)

@@ -59,7 +59,7 @@ with_nothing t = λ i. record {
       ∙ gathered-entries t.sums) i;
 }
 
-gathered-behind : (m : FinMap key_cmp Sums) (fs : List (Key × Sums))
+pub gathered-behind : (m : FinMap key_cmp Sums) (fs : List (Key × Sums))
     → gathered (entries m ++ fs) ≡ gathered (entries m ++ entries (gathered fs))
 gathered-behind m fs =
     sym (gathered-both (entries m) fs)

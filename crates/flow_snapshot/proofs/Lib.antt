@@ -10,3 +10,5 @@ pub mod Places
 pub mod Adding
 pub mod BothRows
 pub mod Totalling
+pub mod Dealing
+pub mod Joining

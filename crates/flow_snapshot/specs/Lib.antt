@@ -7,3 +7,4 @@ pub mod Steps
 pub mod Directories
 pub mod Told
 pub mod Totals
+pub mod Shares

@@ -31,7 +31,7 @@ fn interleaved(alloc: Global, rows: &[Row], others: &[Row]) -> Result<Vec<Row>, 
 }
 
 /// A refusal of sums, told of a query.
-fn told_of_sums(error: SumError, first: u64) -> QueryError
+pub(crate) fn told_of_sums(error: SumError, first: u64) -> QueryError
     ensures { result ≡ told_of_sums first error }
 {
     match error {

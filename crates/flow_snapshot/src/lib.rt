@@ -6,6 +6,9 @@
 //! the messages, the flows and the totals that it answers are, on honest disks, those of each view of its files. So
 //! damage is told only where there is none, or where a sum of the view would pass its type, which no sum of a history
 //! within the limits does; and 30 only where a read failed in that call.
+//!
+//! Workers can share the files of one query of totals: each answers the sums of its own, and what comes of all their
+//! answers is what one call answers.
 #![tactic(auto)]
 
 mod counting;
@@ -16,6 +19,7 @@ mod interleaving;
 mod kept;
 mod laws;
 mod numbered;
+mod shares;
 mod snapshot;
 mod step;
 mod summing;
@@ -24,5 +28,6 @@ pub use directory::Directory;
 pub use error::QueryError;
 pub use files::Files;
 pub use laws::{one_view, parts_are, views_follow};
+pub use shares::{PartSums, Share};
 pub use snapshot::Snapshot;
 pub use step::{Mark, Step};

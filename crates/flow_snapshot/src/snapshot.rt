@@ -1,15 +1,19 @@
 //! A snapshot, and what is asked of it.
 
-ghost use Rattle.std.specs.Prelude.{◌≡◌, ◌<◌, ℕ, min, IsTrue, List};
+ghost use Rattle.std.specs.Prelude.{◌≡◌, ◌<◌, ℕ, length, min, IfOk, IsTrue, List};
+ghost use Rattle.std.specs.FinMap.{FinMap};
 ghost use Rattle.flow_codec.specs.Templates.{AllTemplates};
 ghost use Rattle.flow_disk.specs.Cause.{HasCause};
 ghost use Rattle.flow_measure.specs.History.{flows_in, History, IsHistory};
 ghost use Rattle.flow_measure.specs.Query.{flows_in_view, message_in_view, narrow_table_in, totals_between};
 ghost use Rattle.flow_measure.specs.Query.{totals_in_view};
-ghost use Rattle.flow_measure.specs.Sums.{AllFit};
+ghost use Rattle.flow_measure.specs.declared.rows.Sums.{Sums};
+ghost use Rattle.flow_measure.specs.Sums.{key_cmp, AllFit};
 ghost use Rattle.flow_measure.specs.View.{view_of, AreCountsOf, View};
 ghost use Rattle.flow_segment.specs.PartFlows.{with_flows};
 ghost use Rattle.flow_snapshot.specs.Directories.{sight_of};
+ghost use Rattle.flow_snapshot.specs.Shares.{narrow_turn, own, summed, AllPartsFit, AreNarrow, AreShares, AreWide};
+ghost use Rattle.flow_snapshot.specs.Shares.{IsShare};
 ghost use Rattle.flow_snapshot.specs.Shelf.{cut_of, position_of, second_of};
 ghost use Rattle.flow_snapshot.specs.Told.{octets_in, IsAnswered};
 ghost use Rattle.flow_snapshot.specs.Totals.{first_file, wide_table_in, IsMade, IsWithinLimits, SumsFit};
@@ -21,6 +25,10 @@ use crate::files::Files;
 use crate::interleaving::rows_of_both;
 use crate::kept::{collect_active, collect_sealed, restated};
 use crate::numbered::sealed_message;
+use crate::shares::{
+    PartSums, Share, add_own_active, add_own_files, add_own_segments, add_share, answer_of,
+    first_refused,
+};
 use crate::summing::{add_active, add_rolled, add_sealed};
 use flow_codec::Templates;
 use flow_disk::{Faults, SealedFile};
@@ -275,5 +283,160 @@ impl<S: SealedFile> Snapshot<S> {
             → IsAnswered (λ rows. rows.items ≡ totals_between from to h) result }
     {
         self.rows_between(alloc, from, to, faults)
+    }
+
+    /// The sums over wide intervals of those parts that fall to a worker, and whose turn it is after the wide parts.
+    fn own_wide(
+        &self,
+        alloc: Global,
+        workers: u32,
+        worker: u32,
+        first: u64,
+        faults: &mut Faults<S>,
+    ) -> Result<(Rows, u32), QueryError>
+        requires { 0 < workers }
+        ensures cause { HasCause QueryError.Fault faults.old faults.new result }
+        ensures turn { IfOk result (λ r. (r.1 ≡ narrow_turn self.now.shelf workers) × (r.1 < workers)) }
+        ensures given { IsTrue self.now.honest → (wide : List (FinMap key_cmp Sums)) → AreWide self.now.shelf wide
+            → IsMade first (AllFit (summed self.now.shelf.wide wide))
+            (λ r. r.0 ≡ summed self.now.shelf.wide (own workers worker 0 wide)) result }
+    {
+        let mut wide = Rows::new(alloc, self.wide);
+        let merged = self.files.merged.as_slice();
+        let turn = add_own_files(alloc, merged, workers, worker, 0, &mut wide, first, faults)?;
+        Ok((wide, turn))
+    }
+
+    /// The sums by the width of those parts that fall to a worker, where the first of them that isn't wide is for the
+    /// worker whose turn it is.
+    fn own_narrow(
+        &self,
+        alloc: Global,
+        workers: u32,
+        worker: u32,
+        turn: u32,
+        first: u64,
+        faults: &mut Faults<S>,
+    ) -> Result<Rows, QueryError>
+        requires { turn < workers }
+        ensures cause { HasCause QueryError.Fault faults.old faults.new result }
+        ensures given { IsTrue self.now.honest → (narrow : List (FinMap key_cmp Sums))
+            → AreNarrow self.now.shelf narrow → IsMade first (AllFit (summed self.now.shelf.width narrow))
+            (λ rows. rows ≡ summed self.now.shelf.width (own workers worker turn narrow)) result }
+    {
+        let mut rows = Rows::new(alloc, self.width);
+        let rolled = self.files.rolled.as_slice();
+        let turn = add_own_files(
+            alloc, rolled, workers, worker, turn, &mut rows, first, faults,
+        )?;
+        let sealed = self.files.sealed.as_slice();
+        let turn = add_own_segments(
+            alloc, sealed, workers, worker, turn, &mut rows, first, faults,
+        )?;
+        let prefix = self.files.prefix.as_slice();
+        let active = self.files.active.as_slice();
+        add_own_active(alloc, prefix, active, turn == worker, &mut rows, first)?;
+        Ok(rows)
+    }
+
+    /// The sums of the parts that fall to one of so many workers, which have numbers from 0 on. The parts are the wide
+    /// files, the rolled files, the sealed segments and the active one, each list the oldest first: the first part is
+    /// for worker 0, the next one for worker 1, and so on in turn. Each part is read with nothing but its own file.
+    ///
+    /// It refuses as `totals` does.
+    pub fn share(
+        &self,
+        alloc: Global,
+        workers: u32,
+        worker: u32,
+        faults: &mut Faults<S>,
+    ) -> Result<PartSums, QueryError>
+        requires { worker < workers }
+        ensures cause { HasCause QueryError.Fault faults.old faults.new result }
+        ensures share { IsShare self.now workers worker result }
+    {
+        let first = self.first_file();
+        let (wide, turn) = self.own_wide(alloc, workers, worker, first, faults)?;
+        let narrow = self.own_narrow(alloc, workers, worker, turn, first, faults)?;
+        Ok(PartSums { narrow, wide })
+    }
+
+    /// The sums of all workers' shares, added.
+    fn joined(
+        &self,
+        alloc: Global,
+        shares: Vec<Share<S>>,
+        first: u64,
+        faults: &mut Faults<S>,
+    ) -> Result<PartSums, QueryError>
+        requires some { 0 < length shares.items }
+        requires shares { AreShares self.now shares.items }
+        requires first { first ≡ first_file self.now.shelf }
+        ensures cause { HasCause QueryError.Fault faults.old faults.new result }
+        ensures given { IsTrue self.now.honest → (wide narrow : List (FinMap key_cmp Sums))
+            → AreWide self.now.shelf wide → AreNarrow self.now.shelf narrow
+            → IsMade first (AllPartsFit self.now.shelf wide narrow)
+            (λ sums. (sums.wide ≡ summed self.now.shelf.wide wide)
+            × (sums.narrow ≡ summed self.now.shelf.width narrow)) result }
+    {
+        let mut sums = PartSums {
+            narrow: Rows::new(alloc, self.width),
+            wide: Rows::new(alloc, self.wide),
+        };
+        for share in shares {
+            add_share(&mut sums, share, first, faults)?;
+        }
+        Ok(sums)
+    }
+
+    /// The same; where some workers were refused, nothing is added, and it answers as the first of these.
+    fn first_or_all(
+        &self,
+        alloc: Global,
+        mut shares: Vec<Share<S>>,
+        first: u64,
+        faults: &mut Faults<S>,
+    ) -> Result<PartSums, QueryError>
+        requires some { 0 < length shares.items }
+        requires shares { AreShares self.now shares.items }
+        requires first { first ≡ first_file self.now.shelf }
+        ensures cause { HasCause QueryError.Fault faults.old faults.new result }
+        ensures given { IsTrue self.now.honest → (wide narrow : List (FinMap key_cmp Sums))
+            → AreWide self.now.shelf wide → AreNarrow self.now.shelf narrow
+            → IsMade first (AllPartsFit self.now.shelf wide narrow)
+            (λ sums. (sums.wide ≡ summed self.now.shelf.wide wide)
+            × (sums.narrow ≡ summed self.now.shelf.width narrow)) result }
+    {
+        if let Some(n) = first_refused(shares.as_slice()) {
+            return answer_of(shares.swap_remove(n), faults);
+        }
+        self.joined(alloc, shares, first, faults)
+    }
+
+    /// What `totals` answers, of the shares of all workers, in the order of their numbers. Where some were refused, it
+    /// answers as the first of these, before anything is added: `faults` is raised by what that worker's reads have
+    /// raised, since those before it have raised nothing, and the answers of those after it are dropped with their
+    /// counts. The first share's rows are kept, and those of the others added to them: no table is copied.
+    pub fn totals_of_shares(
+        &self,
+        alloc: Global,
+        from: u64,
+        to: u64,
+        shares: Vec<Share<S>>,
+        faults: &mut Faults<S>,
+    ) -> Result<Vec<Row>, QueryError>
+        requires some { 0 < length shares.items }
+        requires shares { AreShares self.now shares.items }
+        ensures cause { HasCause QueryError.Fault faults.old faults.new result }
+        ensures given { IsTrue self.now.honest → (v : View) → IsViewOf self.now.shelf v
+            → IsMade (first_file self.now.shelf) (SumsFit v) (λ rows. rows.items ≡ totals_in_view from to v) result }
+        ensures answered { IsTrue self.now.honest → (h : History) (counts : List ℕ) → IsHistory h → AreCountsOf h counts
+            → IsWithinLimits h → IsViewOf self.now.shelf (view_of h counts)
+            → IsAnswered (λ rows. rows.items ≡ totals_between from to h) result }
+    {
+        let first = self.first_file();
+        let sums = self.first_or_all(alloc, shares, first, faults)?;
+        let PartSums { narrow, wide } = sums;
+        rows_of_both(alloc, from, to, narrow, &wide, first)
     }
 }

@@ -54,7 +54,7 @@ fn told_of_part(error: PartSumError, first: u64) -> QueryError
 }
 
 /// Adds the sums of a rolled file by the width of the rows.
-fn add_file<S: SealedFile>(
+pub(crate) fn add_file<S: SealedFile>(
     alloc: Global,
     part: &RolledPart<S>,
     rows: &mut Rows,
@@ -96,7 +96,7 @@ pub(crate) fn add_rolled<S: SealedFile>(
 }
 
 /// Adds the flows of a sealed segment's messages.
-fn add_part<S: SealedFile>(
+pub(crate) fn add_part<S: SealedFile>(
     alloc: Global,
     part: &SealedPart<S>,
     templates: &mut Templates,

@@ -1,0 +1,73 @@
+//! A query by several threads.
+
+ghost use Rattle.std.specs.Prelude.{◌≡◌, ◌<◌, ◌≤◌, ℕ, IsTrue, List};
+ghost use Rattle.flow_disk.specs.Cause.{HasCause};
+ghost use Rattle.flow_measure.specs.History.{History, IsHistory};
+ghost use Rattle.flow_measure.specs.Query.{totals_between, totals_in_view};
+ghost use Rattle.flow_measure.specs.View.{view_of, AreCountsOf, View};
+ghost use Rattle.flow_snapshot.specs.Shares.{IsShare};
+ghost use Rattle.flow_snapshot.specs.Told.{IsAnswered};
+ghost use Rattle.flow_snapshot.specs.Totals.{first_file, IsMade, IsWithinLimits, SumsFit};
+ghost use Rattle.flow_snapshot.specs.Views.{IsViewOf};
+
+use crate::gate::{Gate, Point};
+use flow_disk::{Faults, SealedFile};
+use flow_measure::Row;
+use flow_snapshot::{QueryError, Share, Snapshot};
+use std::alloc::Global;
+use std::thread;
+use std::thread::Threads;
+
+/// The share of a worker, whose numbers are from 0 on.
+fn share_of<S: SealedFile, G: Gate>(
+    snapshot: &Snapshot<S>,
+    alloc: Global,
+    gate: &G,
+    workers: u32,
+    worker: u32,
+) -> Share<S>
+    requires { worker < workers }
+    ensures cause { HasCause QueryError.Fault 0 result.faults result.sums }
+    ensures share { IsShare snapshot.now workers worker result.sums }
+{
+    gate.pass(Point::Worker(worker + 1));
+    let mut faults = Faults::new();
+    let sums = snapshot.share(alloc, workers, worker, &mut faults);
+    Share { sums, faults }
+}
+
+/// What `totals` of the snapshot answers, by so many workers, each a thread of its own where one can be made. The parts
+/// of the archive go to them in turn: its files over wide intervals, its rolled files, its sealed segments and the
+/// active one, in each list the oldest first. Each worker passes the gate before its first part, also where it has
+/// none.
+///
+/// It refuses as `totals` does; where several workers are refused, it answers as the first of them.
+pub fn scan_by_parts<S: SealedFile + Send + Sync, R: Threads + Sync, G: Gate + Sync>(
+    snapshot: &Snapshot<S>,
+    rt: &R,
+    alloc: Global,
+    gate: &G,
+    workers: u32,
+    from: u64,
+    to: u64,
+    faults: &mut Faults<S>,
+) -> Result<Vec<Row>, QueryError>
+    requires workers { (0 < workers) × (workers ≤ 64) }
+    ensures cause { HasCause QueryError.Fault faults.old faults.new result }
+    // On honest disks: what is answered by each view of the files; where its sums fit their types no damage is
+    // reported.
+    ensures given { IsTrue snapshot.now.honest → (v : View) → IsViewOf snapshot.now.shelf v
+        → IsMade (first_file snapshot.now.shelf) (SumsFit v) (λ rows. rows.items ≡ totals_in_view from to v) result }
+    // Where the view is that of a history within the limits: its totals, and never damage.
+    ensures answered { IsTrue snapshot.now.honest → (h : History) (counts : List ℕ) → IsHistory h
+        → AreCountsOf h counts → IsWithinLimits h → IsViewOf snapshot.now.shelf (view_of h counts)
+        → IsAnswered (λ rows. rows.items ≡ totals_between from to h) result }
+{
+    let work = |i: usize| -> Share<S>
+        requires { i < workers }
+        ensures { HasCause QueryError.Fault 0 result.faults result.sums
+            × IsShare snapshot.entry.now workers i result.sums }
+    { share_of(snapshot, alloc, gate, workers, i as u32) };
+    let shares = thread::map_indices(rt, alloc, workers as usize, &work)?;
+    snapshot.totals_of_shares(alloc, from, to, shares, faults)
+}

@@ -1,0 +1,26 @@
+use Rattle.std.proofs.Common.{true, ◌∙◌, subst, sym}
+use Rattle.flow_measure.specs.History.{flows_in}
+use Rattle.flow_measure.specs.Sums.{AllFit}
+use Rattle.flow_segment.specs.PartFlows.{with_flows}
+use Rattle.flow_snapshot.specs.Shares.{added_if}
+use Rattle.flow_snapshot.proofs.Adding.{made_blameless}
+use Rattle.flow_snapshot.proofs.Asking.{templates_blameless}
+use Rattle.flow_snapshot.proofs.Dealing.{flows_added, made_as, part_list}
+use Rattle.flow_snapshot.proofs.shares.add_whole.Goals as goal
+
+pub returns-in_err-templates-clause-given : goal.returns-in_err-templates-clause-given
+returns-in_err-templates-clause-given g c = λ honest sums is.
+    made_blameless _ c.args.first (AllFit (added_if true sums c.args.rows.now)) c.from_residual.result _
+    c.from_residual.ensures.1 (templates_blameless c.in_err-templates.field-0.0 is.0
+    (c.in_err-templates.ensures.given honest is.0 is.2))
+
+pub returns-clause-given : goal.returns-clause-given
+returns-clause-given g c = λ honest sums is.
+    let old = c.args.rows.now in
+    let start = c.in_ok-templates.ensures.given honest is.0 is.2 in
+    let list = is.1 in
+    let same = flows_added sums old list is.5 in
+    made_as c.args.first (AllFit (with_flows (flows_in list) old)) (AllFit (added_if true sums old)) _ _
+    c.add_part.result (subst AllFit (sym same)) (λ _ h. h.1 ∙ same)
+    (c.add_part.ensures.given honest list
+    (part_list c.args.part.now c.in_ok-templates.templates is.0 list c.requires start is.3 is.4))
