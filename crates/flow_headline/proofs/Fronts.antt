@@ -23,7 +23,7 @@ use Rattle.flow_headline.specs.Front.{IsFront, all_added}
 use Rattle.flow_headline.proofs.Closing.{all_refused, closed_answers}
 use Rattle.flow_headline.proofs.Growing.{IsGrown, event_adds, has_more, more_then, same_history, sound_of}
 
-abbrev IsNoFault : Result Answer ArchiveError → Type 0
+abbrev pub IsNoFault : Result Answer ArchiveError → Type 0
 IsNoFault a = a ≢ Err Fault
 
 -- a front of the events, and an image that stands for what is left of the archive behind it
@@ -53,7 +53,7 @@ front_of s events answers image found = record {
       (sound_of image found.after found.stands).valid (found.history h has);
 }
 
-fault_or : (a : Result Answer ArchiveError) → (a ≡ Err Fault) ⊎ (a ≢ Err Fault)
+pub fault_or : (a : Result Answer ArchiveError) → (a ≡ Err Fault) ⊎ (a ≢ Err Fault)
 fault_or (Ok done) = inr (λ is. cc)
 fault_or (Err Fault) = inl refl
 fault_or (Err (Message fault)) = inr (λ is. cc)
@@ -73,12 +73,12 @@ fault_or (Err ManifestFull) = inr (λ is. cc)
 fault_or (Err NothingToSeal) = inr (λ is. cc)
 fault_or (Err Closed) = inr (λ is. cc)
 
-one_first : (a : Result Answer ArchiveError) (answers : List (Result Answer ArchiveError)) (k : ℕ) → k < 1
+pub one_first : (a : Result Answer ArchiveError) (answers : List (Result Answer ArchiveError)) (k : ℕ) → k < 1
     → AllByRecursion IsNoFault (take k (a ∷ answers))
 one_first a answers zero lt = tt
 one_first a answers (suc k) lt = absurd (omega (arith, lt))
 
-one_more : (a : Result Answer ArchiveError) (answers : List (Result Answer ArchiveError)) (taken : ℕ) → a ≢ Err Fault
+pub one_more : (a : Result Answer ArchiveError) (answers : List (Result Answer ArchiveError)) (taken : ℕ) → a ≢ Err Fault
     → ((k : ℕ) → k < taken → AllByRecursion IsNoFault (take k answers)) → (k : ℕ) → k < suc taken
     → AllByRecursion IsNoFault (take k (a ∷ answers))
 one_more a answers taken other rest zero lt = tt
@@ -97,7 +97,7 @@ module _ {D : Type 0} (honest : D → Bool) (moment : D → ℕ) (left_since : D
   stays : (old mid : Seen D) → mid ≡ old → old.closed ≡ false → (mid.closed ≡ false) × (mid.state ≡ old.state)
   stays old mid same still = (ap (λ (s : Seen D). s.closed) same ∙ still, ap (λ (s : Seen D). s.state) same)
 
-  goes_on : (old mid : Seen D) (e : Event) (a : Result Answer ArchiveError)
+  pub goes_on : (old mid : Seen D) (e : Event) (a : Result Answer ArchiveError)
       → IsStep honest moment left_since old mid (Takes true old.state e) a → IsTrue (honest old.disk)
       → old.closed ≡ false → a ≢ Err Fault → (mid.closed ≡ false) × Leads old.state e a mid.state
   goes_on old mid e (Ok done) step h still other = (step.done.1, step.done.0 h)

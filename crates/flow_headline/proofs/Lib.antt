@@ -1,5 +1,6 @@
 mod Growing
 mod Closing
 mod Fronts
+mod Between
 mod Stopping
 mod Telling

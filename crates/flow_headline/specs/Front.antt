@@ -1,9 +1,10 @@
 -- What a stop leaves of a list of events.
-use Rattle.std.specs.Prelude.{◌≡◌, ◌≢◌, ℕ, ◌<◌, ◌≤◌, List, [], ◌∷◌, ◌++◌, length, take, drop, Result, Ok, Err, IsErr}
+use Rattle.std.specs.Prelude.{◌≡◌, ◌≢◌, ℕ, ◌<◌, ◌≤◌, Bool, List, [], ◌∷◌, ◌++◌, length, take, drop, Result, Ok, Err}
+use Rattle.std.specs.Prelude.{IsErr}
 use Rattle.std.specs.List.{AllByRecursion}
+use Rattle.flow_disk.specs.Moments.{LeavesOnly}
 use Rattle.flow_gate.specs.Scan.{texts}
 use Rattle.flow_measure.specs.History.{Accepted, History}
-use Rattle.flow_measure.specs.declared.rows.Row.{Row}
 use Rattle.flow_measure.specs.Query.{totals_between, totals_in_view}
 use Rattle.flow_measure.specs.View.{View}
 use Rattle.flow_segment.specs.Carry.{octets_of}
@@ -11,6 +12,7 @@ use Rattle.flow_snapshot.specs.Shelf.{cut_of, second_of}
 use Rattle.flow_snapshot.specs.Views.{IsViewOf}
 use Rattle.flow_recover.specs.State.{State, reopened}
 use Rattle.flow_recover.specs.Shelved.{HasHistory, shelf_of}
+use Rattle.flow_recover.specs.Standing.{StandsFor}
 use Rattle.flow_archive.specs.declared.event.Answer.{Answer}
 use Rattle.flow_archive.specs.declared.event.Event.{Event}
 use Rattle.flow_archive.specs.declared.event.Event.TheVariants.{Append, AppendBatch, Seal, RollBegin, MergeBegin}
@@ -22,7 +24,8 @@ use Rattle.flow_archive.specs.declared.refusal.ArchiveError.TheVariants.{Closed}
 use Rattle.flow_archive.specs.declared.refusal.ArchiveError.TheVariants.{Damaged, SourceFault, RollBusy, NoRoll}
 use Rattle.flow_archive.specs.declared.refusal.ArchiveError.TheVariants.{RollCount, RollNotDone, Pinned}
 use Rattle.flow_archive.specs.declared.refusal.ArchiveError.TheVariants.{NothingToRetire}
-use Rattle.flow_archive.specs.Runs.{IsAfter}
+use Rattle.flow_archive.specs.Runs.{IsAfter, IsRun}
+use Rattle.flow_archive.specs.Seen.{Seen}
 
 -- ---- messages
 
@@ -104,12 +107,31 @@ EndsAtFault [] = Unit {0}
 EndsAtFault (answer ∷ answers) =
     (answer ≡ Err Fault → AllByRecursion (λ later. later ≡ Err Closed) answers) × EndsAtFault answers
 
--- These rows are the totals over this span behind a stop: of all messages that were there, and of those of a front of
--- the events, each counted once.
-pub record AreTotals (s : State) (events : List Event) (answers : List (Result Answer ArchiveError)) (from to : ℕ)
-    (rows : List Row) : Type 0 where
-  pub left : State
-  pub front : IsFront s events answers left
-  pub totals : (h : History) → HasHistory s h
-      → (more : List Accepted) × (octets_of more ≡ all_added (take front.taken events) (take front.taken answers))
-      × (rows ≡ totals_between from to (grown h more left))
+-- ---- stops within a run
+
+-- This is left of the archive by a stop within these events, after the first `begun` of them: the archive after a prefix
+-- of the events. Each of those `begun` events that was acknowledged is in it; a fault closed the archive under the last
+-- event of the prefix at most; and its history is the one before with the prefix's messages.
+pub record IsPrefix (s : State) (events : List Event) (answers : List (Result Answer ArchiveError)) (begun : ℕ)
+    (left : State) : Type 0 where
+  pub taken : ℕ
+  pub within : taken ≤ length events
+  pub after : State
+  pub prefix : IsAfter s (take taken events) (take taken answers) after
+  pub left_is : left ≡ reopened after
+  pub acknowledged : AllByRecursion IsErr (drop taken (take begun answers))
+  pub one : (k : ℕ) → k < taken → AllByRecursion (λ answer. answer ≢ Err Fault) (take k answers)
+  pub history : (h : History) → HasHistory s h
+      → HasMore h (all_added (take taken events) (take taken answers)) left
+
+-- Of a run of events, each counted from 0: a stop at any moment from the one on at which event i begins, and before
+-- event j begins, leaves a prefix of the first j events, with all that were acknowledged of the first i.
+pub record StopsBetween {D : Type 0} (honest : D → Bool) (moment : D → ℕ) (left_since : D → ℕ → (ℕ → List ℕ) → Type 0)
+    (old new : Seen D) (events : List Event) (answers : List (Result Answer ArchiveError)) (i j : ℕ) : Type 0 where
+  pub early : Seen D
+  pub late : Seen D
+  pub run_before : IsRun honest moment left_since old (take i events) (take i answers) early
+  pub run_between : IsRun honest moment left_since early (drop i (take j events)) (drop i (take j answers)) late
+  pub run_after : IsRun honest moment left_since late (drop j events) (drop j answers) new
+  pub leaves : LeavesOnly moment left_since early.disk late.disk (λ image. (left : State)
+      × IsPrefix old.state (take j events) (take j answers) i left × StandsFor image left)

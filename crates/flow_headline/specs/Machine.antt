@@ -1,5 +1,5 @@
 -- A machine that is stopped: a run of events on a disk in memory, and what the stop leaves of the disk.
-use Rattle.std.specs.Prelude.{true, List, Result}
+use Rattle.std.specs.Prelude.{◌≡◌, ⊤, ℕ, true, List, Result}
 use Rattle.std.specs.declared.convert.Infallible.{Infallible}
 use Rattle.flow_memory_disk.specs.declared.choice.Choice.{Choice}
 use Rattle.flow_memory_disk.specs.declared.disk.MemoryDisk.{MemoryDisk}
@@ -9,13 +9,25 @@ use Rattle.flow_memory_disk.specs.declared.when.Fuse.{Fuse}
 use Rattle.flow_memory_disk.specs.Memory.{story_of, moment_of, left_of}
 use Rattle.flow_memory_disk.specs.Stopped.{stopped}
 use Rattle.flow_memory_disk.specs.Stopping.{CanCrash}
+use Rattle.flow_measure.specs.declared.rows.Row.{Row}
+use Rattle.flow_measure.specs.History.{History}
+use Rattle.flow_measure.specs.Query.{totals_between}
+use Rattle.flow_measure.specs.View.{View}
+use Rattle.flow_snapshot.specs.declared.error.QueryError.TheVariants as query
+use Rattle.flow_snapshot.specs.Totals.{first_file, IsSpent, IsWithinLimits, SumsFit}
+use Rattle.flow_snapshot.specs.Views.{IsViewOf}
 use Rattle.flow_recover.specs.State.{State}
+use Rattle.flow_recover.specs.Shelved.{HasHistory, shelf_of}
 use Rattle.flow_recover.specs.Standing.{StandsFor}
 use Rattle.flow_archive.specs.declared.event.Answer.{Answer}
 use Rattle.flow_archive.specs.declared.event.Event.{Event}
 use Rattle.flow_archive.specs.declared.refusal.ArchiveError.{ArchiveError}
 use Rattle.flow_archive.specs.Runs.{IsRun}
 use Rattle.flow_archive.specs.Seen.{Seen}
+use Rattle.flow_headline.specs.declared.error.NotOpened.TheVariants.{OutOfMemory, NoSuchStop}
+use Rattle.flow_headline.specs.declared.error.NotTold.{NotTold}
+use Rattle.flow_headline.specs.declared.error.NotTold.TheVariants.{NotOpened, NotAnswered}
+use Rattle.flow_headline.specs.Front.{IsFront, grown}
 
 -- a disk in memory that fails from some call on
 abbrev pub Fused : Type 0
@@ -40,3 +52,47 @@ pub record IsNoStop (archive : Seen Fused) (events : List Event) (choice : Choic
   pub last : Seen Fused
   pub run : IsFusedRun archive events answers last
   pub unfit : CanCrash last.disk.disk.files.items choice → ⊥
+
+-- ---- totals
+
+-- These rows are the totals over this span of what the stop left of these events, with these answers: of all messages
+-- that were there, and of those of the events in it, each counted once.
+pub record AreTotals (archive : Seen Fused) (events : List Event) (answers : List (Result Answer ArchiveError))
+    (choice : Choice) (from to : ℕ) (rows : List Row) : Type 0 where
+  pub left : State
+  pub stopped : IsStoppedRun archive events answers choice left
+  pub front : IsFront archive.state events answers left
+  pub totals : (h : History) (has : HasHistory archive.state h)
+      → rows ≡ totals_between from to (grown h (front.history h has).more left)
+
+-- A query of what the stop left reports damage. It is in the first file, at its start, and only since sums don't fit
+-- their types, which those of a history within the limits do.
+pub record IsOverflow (archive : Seen Fused) (events : List Event) (choice : Choice) (file at : ℕ) : Type 0 where
+  pub answers : List (Result Answer ArchiveError)
+  pub left : State
+  pub stopped : IsStoppedRun archive events answers choice left
+  pub front : IsFront archive.state events answers left
+  pub spent : (v : View) → IsViewOf (shelf_of left) v
+      → IsSpent (first_file (shelf_of left)) (SumsFit v) (query.Damaged file at)
+  pub beyond : (h : History) (has : HasHistory archive.state h)
+      → IsWithinLimits (grown h (front.history h has).more left) → ⊥
+
+-- why there are no totals after these events and this stop
+abbrev pub IsRefusal : Seen Fused → List Event → Choice → NotTold → Type 0
+IsRefusal archive events choice (NotOpened OutOfMemory) = ⊤
+IsRefusal archive events choice (NotOpened NoSuchStop) = IsNoStop archive events choice
+IsRefusal archive events choice (NotAnswered (query.Damaged file at)) = IsOverflow archive events choice file at
+IsRefusal archive events choice (NotAnswered query.Fault) = ⊥
+IsRefusal archive events choice (NotAnswered query.OutOfMemory) = ⊤
+
+-- ---- one query
+
+-- what an open archive in memory with this shelf refuses a query by
+abbrev pub IsUnanswered : State → NotTold → Type 0
+IsUnanswered s (NotOpened OutOfMemory) = ⊤
+IsUnanswered s (NotOpened NoSuchStop) = ⊥
+IsUnanswered s (NotAnswered (query.Damaged file at)) =
+    ((v : View) → IsViewOf (shelf_of s) v → IsSpent (first_file (shelf_of s)) (SumsFit v) (query.Damaged file at))
+    × ((h : History) → HasHistory s h → IsWithinLimits h → ⊥)
+IsUnanswered s (NotAnswered query.Fault) = ⊥
+IsUnanswered s (NotAnswered query.OutOfMemory) = ⊤

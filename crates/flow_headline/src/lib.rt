@@ -6,12 +6,17 @@
 //! before with the messages of that front behind it, each once, in their order, and no other, however many of them are
 //! rolled or merged by then. So its totals over any span are those of all these messages. Opening is refused for want
 //! of memory, in the machine or in its disk, and for nothing else.
+//!
+//! And on every honest disk: a stop at any moment of a run of events leaves a prefix of them, with every event that was
+//! acknowledged by then, and at most the one under way besides.
 #![tactic(auto)]
 
 mod error;
 mod reopening;
+mod running;
 mod totals;
 
 pub use error::{NotOpened, NotTold};
 pub use reopening::{Reopened, run_and_open};
+pub use running::run_on_disk;
 pub use totals::{Told, totals_behind_a_stop};

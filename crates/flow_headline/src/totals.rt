@@ -1,8 +1,13 @@
 //! Totals behind a stop.
 
-ghost use Rattle.std.specs.Prelude.{◌≡◌, false, All, IfOk};
+ghost use Rattle.std.specs.Prelude.{◌≡◌, false, All, IfErr, IfOk};
+ghost use Rattle.flow_measure.specs.Query.{totals_in_view};
+ghost use Rattle.flow_measure.specs.View.{View};
+ghost use Rattle.flow_snapshot.specs.Views.{IsViewOf};
+ghost use Rattle.flow_recover.specs.Shelved.{shelf_of};
 ghost use Rattle.flow_archive.specs.Runs.{IsEvent};
-ghost use Rattle.flow_headline.specs.Front.{AreTotals};
+ghost use Rattle.flow_headline.specs.Front.{EndsAtFault};
+ghost use Rattle.flow_headline.specs.Machine.{AreTotals, IsRefusal, IsUnanswered};
 
 use crate::error::NotTold;
 use crate::reopening::run_and_open;
@@ -10,6 +15,7 @@ use flow_archive::{Answer, Archive, ArchiveError, Event};
 use flow_disk::Faults;
 use flow_measure::Row;
 use flow_memory_disk::{Choice, FusedDisk, MemoryDisk};
+use flow_snapshot::QueryError;
 use std::alloc::Global;
 
 /// The answers of events, and totals that were asked behind a stop.
@@ -25,7 +31,8 @@ pub struct Told {
 /// left, and asks a snapshot of it for the totals of a span, from `from` on and before `to`, both in seconds since
 /// 1970-01-01 00:00 UTC.
 ///
-/// Errors: those of `run_and_open`, and those of the query.
+/// Errors: those of `run_and_open`; and of the query `OutOfMemory`, or `Damaged` where sums don't fit their types. Reads
+/// of files in memory never fail: if one did, that would be answered as `OutOfMemory` too.
 pub fn totals_behind_a_stop(
     alloc: Global,
     archive: Archive<FusedDisk<MemoryDisk>>,
@@ -36,15 +43,44 @@ pub fn totals_behind_a_stop(
 ) -> Result<Told, NotTold>
     requires events { All IsEvent events.now }
     requires still_open { archive.closed ≡ false }
-    // The rows are the totals of all messages of a front of the events, behind those that were there, each counted
-    // once.
-    ensures totals { IfOk result (λ t. AreTotals archive.state events.now t.answers.items from to t.rows.items) }
+    // The events were run, with these answers, and the machine was stopped by this choice. The rows are the totals of
+    // all messages of what was left, which is the archive after a prefix of the events: of those that were there before,
+    // and of those of the prefix, each counted once.
+    ensures totals { IfOk result
+        (λ t. AreTotals archive events.now t.answers.items choice.entry from to t.rows.items) }
+    ensures behind { IfOk result (λ t. EndsAtFault t.answers.items) }
+    // No other refusal than want of memory, but for a stop that there isn't, and sums that don't fit their types.
+    ensures refused { IfErr result (λ e. IsRefusal archive events.now choice.entry e) }
 {
     let mut reopened = run_and_open(alloc, archive, events, choice)?;
-    let snapshot = reopened.archive.directory(alloc)?.into_snapshot();
-    let rows = snapshot.totals(alloc, from, to, &mut Faults::new())?;
-    Ok(Told {
-        answers: reopened.answers,
-        rows,
-    })
+    match rows_of(alloc, &mut reopened.archive, from, to) {
+        Ok(rows) => Ok(Told {
+            answers: reopened.answers,
+            rows,
+        }),
+        Err(refused) => Err(refused),
+    }
+}
+
+/// The totals of an archive in memory.
+fn rows_of(
+    alloc: Global,
+    archive: &mut Archive<MemoryDisk>,
+    from: u64,
+    to: u64,
+) -> Result<Vec<Row>, NotTold>
+    ensures rows { IfOk result (λ rows. (v : View) → IsViewOf (shelf_of archive.old.state) v
+        → rows.items ≡ totals_in_view from to v) }
+    ensures refused { IfErr result (λ e. IsUnanswered archive.old.state e) }
+{
+    let snapshot = archive.directory(alloc)?.into_snapshot();
+    match snapshot.totals(alloc, from, to, &mut Faults::new()) {
+        Ok(rows) => Ok(rows),
+        Err(QueryError::Damaged(file, at)) => {
+            Err(NotTold::NotAnswered(QueryError::Damaged(file, at)))
+        }
+        Err(QueryError::Fault | QueryError::OutOfMemory) => {
+            Err(NotTold::NotAnswered(QueryError::OutOfMemory))
+        }
+    }
 }

@@ -1,16 +1,15 @@
-use Rattle.std.proofs.Common.{refl, ap, ◌∙◌}
-use Rattle.flow_snapshot.specs.Sight.{Sight}
-use Rattle.flow_headline.proofs.Telling.{told}
+use Rattle.flow_headline.proofs.Telling.{refusal, told}
 use Rattle.flow_headline.proofs.totals.totals_behind_a_stop.Goals as goal
 
-pub returns : goal.returns
-returns c =
-    let shown = c.in_ok-directory.ensures.shown refl in
-    let same = c.into_snapshot-snapshot.ensures in
-    record {
-      totals = told c.args.archive.state c.in_ok-reopened.reopened.archive.state c.args.events.now
-          c.in_ok-reopened.reopened.answers.items c.args.from c.args.to c.in_ok-rows.rows.items
-          c.into_snapshot-snapshot.result.shelf c.in_ok-reopened.ensures.prefix
-          (ap (λ (x : Sight). x.shelf) same ∙ shown.0)
-          (λ v is. c.in_ok-rows.ensures.given (ap (λ (x : Sight). x.honest) same ∙ shown.1) v is);
-    }
+pub returns-in-Ok-clause-totals : goal.returns-in-Ok-clause-totals
+returns-in-Ok-clause-totals c =
+    let opened = c.in_ok-reopened.ensures in
+    told c.args.archive c.args.events.now c.in_ok-reopened.reopened.answers.items c.args.choice
+    c.in_ok-reopened.reopened.archive.state opened.stopped opened.prefix c.args.from c.args.to
+    c.in-Ok.rows.items c.in-Ok.ensures.rows
+
+pub returns-in-Err-clause-refused : goal.returns-in-Err-clause-refused
+returns-in-Err-clause-refused c =
+    let opened = c.in_ok-reopened.ensures in
+    refusal c.args.archive c.args.events.now c.in_ok-reopened.reopened.answers.items c.args.choice
+    c.in_ok-reopened.reopened.archive.state opened.stopped opened.prefix c.in-Err.refused c.in-Err.ensures.refused
