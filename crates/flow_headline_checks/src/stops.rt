@@ -4,7 +4,8 @@ ghost use Rattle.std.specs.Prelude.{◌≡◌, false, All, IfOk};
 ghost use Rattle.flow_archive.specs.Runs.{IsEvent};
 
 use flow_archive::{Answer, Archive, ArchiveError, Event};
-use flow_headline::{NotOpened, Reopened, run_and_open, totals_behind_a_stop};
+use flow_disk::Faults;
+use flow_headline::{NotOpened, Reopened, run_and_open, run_on_disk, totals_behind_a_stop};
 use flow_measure::Row;
 use flow_memory_disk::{Choice, FusedDisk, MemoryDisk, Room};
 use std::alloc::{AllocError, Global};
@@ -139,6 +140,16 @@ fn no_such_stop(rt: HostRuntime) -> Result<(), Fail> {
     let archive = created(alloc, ALL_CALLS)?;
     let refused = run_and_open(alloc, archive, &[], Choice::Filled(&[])).err();
     assert_eq!(rt; refused, Some(NotOpened::NoSuchStop));
+    Ok(())
+}
+
+#[test]
+fn events_on_a_disk(rt: HostRuntime) -> Result<(), Fail> {
+    let alloc = rt.alloc();
+    let mut archive = created(alloc, ALL_CALLS)?;
+    let events = events(alloc)?;
+    let answers = run_on_disk(alloc, &mut archive, events.as_slice(), &mut Faults::new())?;
+    assert_eq!(rt; acknowledged(answers.as_slice()), 2);
     Ok(())
 }
 
