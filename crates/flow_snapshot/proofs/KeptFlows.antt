@@ -28,7 +28,7 @@ use Rattle.flow_segment.specs.Carry.{octets_of}
 use Rattle.flow_segment.specs.PartFlows.{flows_within, AreCollected, ArePartMessages, HasChosen}
 use Rattle.flow_segment.specs.declared.sealed.SealedPart.{SealedPart}
 use Rattle.flow_segment.specs.declared.sinks.Chosen.{Chosen}
-use Rattle.flow_segment.specs.Prefix.{IsRestated}
+use Rattle.flow_segment.specs.Prefix.{HaveNoRecords, IsRestated}
 use Rattle.flow_segment.specs.Segment.{part_octets}
 use Rattle.flow_snapshot.specs.declared.error.QueryError.{QueryError}
 use Rattle.flow_snapshot.specs.Files.{cut_into, is_honest, segment_of, shared}
@@ -158,7 +158,7 @@ HasChosenFlows from to old sink messages =
 -- accepted messages that fill what is left and lead to all templates
 abbrev pub IsStillRestated : List ℕ → AllTemplates → AllTemplates → Type 0
 IsStillRestated rest templates all = (left : List Accepted) × (rest ≡ joined (octets_of left))
-    × AreAcceptedFrom templates left × (all ≡ templates_from templates left)
+    × AreAcceptedFrom templates left × HaveNoRecords left × (all ≡ templates_from templates left)
 
 -- ---- one message more
 
@@ -342,16 +342,20 @@ sealed_err {Y = Y} Has from to old flows more last before templates after final 
 
 pub still_restated : (prefix : List ℕ) (all : AllTemplates) → IsRestated prefix all → IsStillRestated prefix [] all
 still_restated prefix all (ms, read, none, is) =
-    (ms, (read.divided).whole ∙ append-nil (joined (octets_of ms)), read.accepted, is)
+    (ms, (read.divided).whole ∙ append-nil (joined (octets_of ms)), read.accepted, none, is)
 
 -- the message that stands first, where something is left
-pub first_left : (rest : List ℕ) (templates all : AllTemplates) → 0 < length rest → IsStillRestated rest templates all
-    → (a : Accepted) × (more : List Accepted) × (rest ≡ a.octets ++ joined (octets_of more)) × IsCutOff a.octets
-    × IsAccepted a.octets templates a.message a.after × AreAcceptedFrom a.after more
+abbrev pub IsFirstLeft : List ℕ → AllTemplates → AllTemplates → Type 0
+IsFirstLeft rest templates all = (a : Accepted) × (more : List Accepted)
+    × (rest ≡ a.octets ++ joined (octets_of more)) × IsCutOff a.octets × IsAccepted a.octets templates a.message a.after
+    × (a.message.records ≡ []) × AreAcceptedFrom a.after more × HaveNoRecords more
     × (all ≡ templates_from a.after more)
-first_left rest templates all some ([], is, accepted, last) = absurd (omega (arith, some, ap length is))
-first_left rest templates all some (a ∷ more, is, accepted, last) =
-    (a, more, is, (all_cut templates (a ∷ more) accepted).0, accepted.0, accepted.1, last)
+
+pub first_left : (rest : List ℕ) (templates all : AllTemplates) → 0 < length rest → IsStillRestated rest templates all
+    → IsFirstLeft rest templates all
+first_left rest templates all some ([], is, accepted, bare, last) = absurd (omega (arith, some, ap length is))
+first_left rest templates all some (a ∷ more, is, accepted, bare, last) =
+    (a, more, is, (all_cut templates (a ∷ more) accepted).0, accepted.0, bare.0, accepted.1, bare.1, last)
 
 pub restated_step : (rest message left : List ℕ) (n : ℕ) (templates after all : AllTemplates) → 0 < length rest
     → IsCutOff (take n rest) → message ≡ take n rest → left ≡ drop n rest → IsStillRestated rest templates all
@@ -360,10 +364,8 @@ pub restated_step : (rest message left : List ℕ) (n : ℕ) (templates after al
 restated_step rest message left n templates after all some cut front back still told =
     by (first_left rest templates all some still)
   where
-    by : ((a : Accepted) × (more : List Accepted) × (rest ≡ a.octets ++ joined (octets_of more)) × IsCutOff a.octets
-        × IsAccepted a.octets templates a.message a.after × AreAcceptedFrom a.after more
-        × (all ≡ templates_from a.after more)) → IsStillRestated left after all
-    by (a, more, is, own, accepted, others, last) =
+    by : IsFirstLeft rest templates all → IsStillRestated left after all
+    by (a, more, is, own, accepted, bare, others, none, last) =
         let same = one_message a.octets (take n rest) (joined (octets_of more)) (drop n rest) own cut
         (sym is ∙ sym (take-append-drop n rest)) in
         let here : a.octets ≡ message = same.0 ∙ sym front in
@@ -371,6 +373,7 @@ restated_step rest message left n templates after all some cut front back still 
           more,
           back ∙ sym same.1,
           subst (λ (t : AllTemplates). AreAcceptedFrom t more) (sym moved) others,
+          none,
           last ∙ ap (λ (t : AllTemplates). templates_from t more) (sym moved),
         )
 
@@ -382,30 +385,41 @@ pub restated_err : {X : Type 0} (P : X → Type 0) (rest message : List ℕ) (n 
 restated_err P rest message n templates all r e some cut front still is told =
     by (first_left rest templates all some still)
   where
-    by : ((a : Accepted) × (more : List Accepted) × (rest ≡ a.octets ++ joined (octets_of more)) × IsCutOff a.octets
-        × IsAccepted a.octets templates a.message a.after × AreAcceptedFrom a.after more
-        × (all ≡ templates_from a.after more)) → IsAnswered P r
-    by (a, more, whole, own, accepted, others, last) =
+    by : IsFirstLeft rest templates all → IsAnswered P r
+    by (a, more, whole, own, accepted, bare, others, none, last) =
         let same = one_message a.octets (take n rest) (joined (octets_of more)) (drop n rest) own cut
         (sym whole ∙ sym (take-append-drop n rest)) in
         let here : a.octets ≡ message = same.0 ∙ sym front in
         answered_err P r e is
         (told a here (subst (λ (o : List ℕ). IsAccepted o templates a.message a.after) here accepted))
 
+-- it has no data records
+pub none_seen_left : (rest message : List ℕ) (n : ℕ) (templates all : AllTemplates) (any : Bool) → 0 < length rest
+    → IsCutOff (take n rest) → message ≡ take n rest → IsStillRestated rest templates all
+    → ((a : Accepted) → a.octets ≡ message → IsAccepted message templates a.message a.after
+    → a.message.records ≡ [] → any ≡ false) → any ≡ false
+none_seen_left rest message n templates all any some cut front still told =
+    by (first_left rest templates all some still)
+  where
+    by : IsFirstLeft rest templates all → any ≡ false
+    by (a, more, whole, own, accepted, bare, others, none, last) =
+        let same = one_message a.octets (take n rest) (joined (octets_of more)) (drop n rest) own cut
+        (sym whole ∙ sym (take-append-drop n rest)) in
+        let here : a.octets ≡ message = same.0 ∙ sym front in
+        told a here (subst (λ (o : List ℕ). IsAccepted o templates a.message a.after) here accepted) bare
+
 pub no_fault_left : (rest : List ℕ) (fault : FileError) (templates all : AllTemplates) → 0 < length rest
     → IsStillRestated rest templates all → IsFileFault 0 rest fault → ⊥
 no_fault_left rest fault templates all some still bad = by (first_left rest templates all some still)
   where
-    by : ((a : Accepted) × (more : List Accepted) × (rest ≡ a.octets ++ joined (octets_of more)) × IsCutOff a.octets
-        × IsAccepted a.octets templates a.message a.after × AreAcceptedFrom a.after more
-        × (all ≡ templates_from a.after more)) → ⊥
-    by (a, more, is, own, accepted, others, last) =
+    by : IsFirstLeft rest templates all → ⊥
+    by (a, more, is, own, accepted, bare, others, none, last) =
         no_more 0 rest a.octets (joined (octets_of more)) (inr (fault, bad)) own is
 
 pub none_left : (rest : List ℕ) (templates all : AllTemplates) → length rest ≡ 0 → IsStillRestated rest templates all
     → templates ≡ all
-none_left rest templates all none ([], is, accepted, last) = sym last
-none_left rest templates all none (a ∷ more, is, accepted, last) =
+none_left rest templates all none ([], is, accepted, bare, last) = sym last
+none_left rest templates all none (a ∷ more, is, accepted, bare, last) =
     let cut = (all_cut templates (a ∷ more) accepted).0 in
     let long : 16 ≤ length a.octets = cut.long in
     absurd (omega (arith, none, ap length is, long, length-append a.octets (joined (octets_of more))))

@@ -12,3 +12,4 @@ pub mod BothRows
 pub mod Totalling
 pub mod Dealing
 pub mod Joining
+pub mod Finding

@@ -1,5 +1,6 @@
 pub mod Shelf
 pub mod Views
+pub mod Found
 pub mod Changes
 pub mod Sight
 pub mod Files

@@ -1,6 +1,6 @@
 //! The flows of kept messages.
 
-ghost use Rattle.std.specs.Prelude.{◌≡◌, ◌≢◌, ◌++◌, IsTrue, IfErr, List, map};
+ghost use Rattle.std.specs.Prelude.{◌≡◌, ◌≢◌, ◌++◌, false, IsTrue, IfErr, IfOk, List, [], OnOk, map};
 ghost use Rattle.std.specs.List.{list_all};
 ghost use Rattle.flow_codec.specs.Message.{IsAccepted};
 ghost use Rattle.flow_codec.specs.Raw.{Took};
@@ -11,32 +11,69 @@ ghost use Rattle.flow_segment.specs.Carry.{octets_of};
 ghost use Rattle.flow_segment.specs.PartFlows.{flows_within, AreCollected};
 ghost use Rattle.flow_segment.specs.Prefix.{IsRestated};
 ghost use Rattle.flow_snapshot.specs.Files.{is_honest, segment_of, shared};
+ghost use Rattle.flow_snapshot.specs.Found.{AreAccepted};
 ghost use Rattle.flow_snapshot.specs.Shelf.{messages_in};
 ghost use Rattle.flow_snapshot.specs.Told.{IsAnswered};
 
 use crate::error::QueryError;
 use bytes::Bytes;
-use flow_codec::{Count, MessageError, RecordSink, Templates, WalkError, front_of, walk_message};
+use flow_codec::{
+    Definition, Header, MessageError, RecordSink, Templates, WalkError, front_of, walk_message,
+};
 use flow_disk::{Faults, SealedFile};
 use flow_gate::ScanError;
 use flow_measure::Flow;
 use flow_segment::{Chosen, SealedPart, collect_flows};
 use std::alloc::{AllocError, Global};
+use std::convert::Infallible;
 use std::mem::replace;
 use std::sync::Arc;
 
 /// What is told of a message in memory that is none: of no file, since it stands in none.
 const NO_MESSAGE: QueryError = QueryError::Damaged(0, 0);
 
-/// Takes in the templates of a message in memory.
-fn take_in(alloc: Global, templates: &mut Templates, octets: &[u8]) -> Result<(), QueryError>
+/// Whether there were data records.
+#[derive(Drop)]
+struct Seen {
+    any: bool,
+}
+
+impl RecordSink for Seen {
+    ghost use Rattle.flow_segment.specs.Prefix.{AreSeen};
+
+    type Error = Infallible;
+
+    ghost holds = { λ start taken now. AreSeen start.any taken now.any };
+
+    ghost refuses = { λ _ _ _ _. ⊥ };
+
+    fn record(
+        &mut self,
+        _header: &Header,
+        _id: u16,
+        _definition: &Definition,
+        _octets: &[u8],
+    ) -> Result<(), Infallible> {
+        self.any = true;
+        Ok(())
+    }
+}
+
+/// Takes in the templates of a message in memory, and answers whether it has data records.
+fn take_in(alloc: Global, templates: &mut Templates, octets: &[u8]) -> Result<bool, QueryError>
+    // It is an accepted message.
+    ensures found { IfOk result (λ any. (a : Accepted) × (a.octets ≡ octets.now)
+        × IsAccepted octets.now templates.old a.message a.after × (templates.new ≡ a.after)
+        × (any ≡ false → a.message.records ≡ [])) }
+    ensures none { (a : Accepted) → a.octets ≡ octets.now → IsAccepted octets.now templates.old a.message a.after
+        → a.message.records ≡ [] → IfOk result (λ any. any ≡ false) }
     ensures given { (a : Accepted) → a.octets ≡ octets.now → IsAccepted octets.now templates.old a.message a.after
         → IsAnswered (λ _. templates.new ≡ a.after) result }
     ensures quiet { IfErr result (λ e. e ≢ QueryError.Fault) }
 {
-    let mut records = Count { records: 0 };
+    let mut records = Seen { any: false };
     match walk_message(templates, alloc, octets, &mut records) {
-        Ok(_) => Ok(()),
+        Ok(_) => Ok(records.any),
         Err(WalkError::Message(MessageError::OutOfMemory)) => Err(QueryError::OutOfMemory),
         Err(WalkError::Message(_)) => Err(NO_MESSAGE),
         Err(WalkError::Sink(never)) => match never {},
@@ -50,6 +87,9 @@ pub(crate) fn hand_over<R: RecordSink<Error = AllocError>>(
     octets: &[u8],
     sink: &mut R,
 ) -> Result<(), QueryError>
+    // It is an accepted message.
+    ensures found { OnOk result ((a : Accepted) × (a.octets ≡ octets.now)
+        × IsAccepted octets.now templates.old a.message a.after) }
     ensures given { (a : Accepted) → a.octets ≡ octets.now → IsAccepted octets.now templates.old a.message a.after
         → IsAnswered (λ _. (templates.new ≡ a.after)
         × Took R.holds a.message.header sink.old a.message.records sink.new) result }
@@ -63,8 +103,9 @@ pub(crate) fn hand_over<R: RecordSink<Error = AllocError>>(
     }
 }
 
-/// The templates that a prefix in memory restates.
+/// The templates that a prefix in memory restates. One with data records is refused.
 pub(crate) fn restated(alloc: Global, prefix: &[u8]) -> Result<Templates, QueryError>
+    ensures found { IfOk result (λ templates. IsRestated prefix.now templates) }
     ensures given { (all : AllTemplates) → IsRestated prefix.now all
         → IsAnswered (λ templates. templates ≡ all) result }
     ensures quiet { IfErr result (λ e. e ≢ QueryError.Fault) }
@@ -76,7 +117,9 @@ pub(crate) fn restated(alloc: Global, prefix: &[u8]) -> Result<Templates, QueryE
             return Err(NO_MESSAGE);
         };
         let (message, more) = rest.split_at(length);
-        take_in(alloc, &mut templates, message)?;
+        if take_in(alloc, &mut templates, message)? {
+            return Err(NO_MESSAGE);
+        }
         rest = more;
     }
     Ok(templates)
@@ -93,7 +136,10 @@ pub(crate) fn collect_sealed<S: SealedFile>(
     faults: &mut Faults<S>,
 ) -> Result<(), ScanError>
     ensures cause { HasCause ScanError.Fault faults.old faults.new result }
-    // On honest disks: those of accepted messages behind the templates given.
+    // On honest disks: all messages are accepted behind the templates given.
+    ensures found { IsTrue (list_all is_honest (shared parts.now)) → OnOk result
+        (AreAccepted templates.old (messages_in (map segment_of (shared parts.now)))) }
+    // And the flows are theirs.
     ensures given { IsTrue (list_all is_honest (shared parts.now)) → (messages : List Accepted)
         → AreAcceptedFrom templates.old messages
         → octets_of messages ≡ messages_in (map segment_of (shared parts.now))
@@ -116,6 +162,7 @@ pub(crate) fn collect_active(
     to: u64,
     flows: &mut Vec<Flow>,
 ) -> Result<(), QueryError>
+    ensures found { OnOk result (AreAccepted templates.old messages.now) }
     ensures given { (list : List Accepted) → AreAcceptedFrom templates.old list → octets_of list ≡ messages.now
         → IsAnswered (λ _. (templates.new ≡ templates_from templates.old list)
         × (flows.new.items ≡ flows.old.items ++ flows_within from to (flows_in list))) result }

@@ -1,7 +1,7 @@
 //! Sums of rolled files and of kept messages. Where a sum would pass its type, which honest files never give, the first
 //! part is told as damaged; its file is passed as `first`.
 
-ghost use Rattle.std.specs.Prelude.{◌≡◌, ◌≢◌, IsTrue, IfErr, List, map};
+ghost use Rattle.std.specs.Prelude.{◌≡◌, ◌≢◌, IsTrue, IfErr, List, OnOk, map};
 ghost use Rattle.std.specs.FinMap.{FinMap};
 ghost use Rattle.std.specs.List.{list_all};
 ghost use Rattle.flow_disk.specs.Cause.{HasCause};
@@ -10,9 +10,10 @@ ghost use Rattle.flow_measure.specs.History.{Accepted, AreAcceptedFrom, flows_in
 ghost use Rattle.flow_measure.specs.Sums.{key_cmp, merged, AllFit};
 ghost use Rattle.flow_rolled.specs.Rollup.{IsRollup};
 ghost use Rattle.flow_segment.specs.Carry.{octets_of};
-ghost use Rattle.flow_segment.specs.PartFlows.{with_flows, ArePartMessages};
+ghost use Rattle.flow_segment.specs.PartFlows.{with_flows, ArePartMessages, HasMessages};
 ghost use Rattle.flow_segment.specs.Segment.{part_octets};
 ghost use Rattle.flow_snapshot.specs.Files.{is_honest, is_honest_sum, rollup_of, segment_of, shared};
+ghost use Rattle.flow_snapshot.specs.Found.{AreAccepted};
 ghost use Rattle.flow_snapshot.specs.Shelf.{messages_in};
 ghost use Rattle.flow_snapshot.specs.Totals.{told_of_part, told_of_rows, with_maps, IsMade};
 ghost use Rattle.flow_snapshot.specs.Views.{AreRolled};
@@ -62,7 +63,10 @@ pub(crate) fn add_file<S: SealedFile>(
     faults: &mut Faults<S>,
 ) -> Result<(), QueryError>
     ensures cause { HasCause QueryError.Fault faults.old faults.new result }
-    // On an honest disk: where it is the rolled file of these sums.
+    // On an honest disk: it is the rolled file of some sums.
+    ensures found { IsTrue part.now.honest → OnOk result ((sums : FinMap key_cmp Sums)
+        × IsRollup rows.old.width part.now.octets (record { width = rows.old.width; sums = sums })) }
+    // Where it is that of these sums, they are added.
     ensures given { IsTrue part.now.honest → (sums : FinMap key_cmp Sums)
         → IsRollup rows.old.width part.now.octets (record { width = rows.old.width; sums = sums })
         → IsMade first (AllFit (merged rows.old (record { width = rows.old.width; sums = sums })))
@@ -84,7 +88,10 @@ pub(crate) fn add_rolled<S: SealedFile>(
     faults: &mut Faults<S>,
 ) -> Result<(), QueryError>
     ensures cause { HasCause QueryError.Fault faults.old faults.new result }
-    // On honest disks: where they are the rolled files of these sums.
+    // On honest disks: all are rolled files.
+    ensures found { IsTrue (list_all is_honest_sum (shared parts.now)) → OnOk result
+        ((maps : List (FinMap key_cmp Sums)) × AreRolled rows.old.width (map rollup_of (shared parts.now)) maps) }
+    // Where they are those of these sums, they are added.
     ensures given { IsTrue (list_all is_honest_sum (shared parts.now)) → (maps : List (FinMap key_cmp Sums))
         → AreRolled rows.old.width (map rollup_of (shared parts.now)) maps
         → IsMade first (AllFit (with_maps maps rows.old)) (λ _. rows.new ≡ with_maps maps rows.old) result }
@@ -105,7 +112,11 @@ pub(crate) fn add_part<S: SealedFile>(
     faults: &mut Faults<S>,
 ) -> Result<(), QueryError>
     ensures cause { HasCause QueryError.Fault faults.old faults.new result }
-    // On an honest disk: where these messages fill it.
+    // On an honest disk: accepted messages fill it.
+    ensures found { IsTrue (S.honest part.now.reader) → OnOk result
+        (HasMessages (part_octets part.now.prefix part.now.length (S.octets part.now.reader)) templates.old
+        part.now.messages) }
+    // Where these messages fill it, their flows are added.
     ensures given { IsTrue (S.honest part.now.reader) → (messages : List Accepted)
         → ArePartMessages (part_octets part.now.prefix part.now.length (S.octets part.now.reader)) templates.old
         part.now.messages messages
@@ -129,7 +140,10 @@ pub(crate) fn add_sealed<S: SealedFile>(
     faults: &mut Faults<S>,
 ) -> Result<(), QueryError>
     ensures cause { HasCause QueryError.Fault faults.old faults.new result }
-    // On honest disks: those of accepted messages behind the templates given.
+    // On honest disks: all messages are accepted behind the templates given.
+    ensures found { IsTrue (list_all is_honest (shared parts.now)) → OnOk result
+        (AreAccepted templates.old (messages_in (map segment_of (shared parts.now)))) }
+    // And their flows are added.
     ensures given { IsTrue (list_all is_honest (shared parts.now)) → (messages : List Accepted)
         → AreAcceptedFrom templates.old messages
         → octets_of messages ≡ messages_in (map segment_of (shared parts.now))
@@ -153,6 +167,7 @@ pub(crate) fn add_active(
     rows: &mut Rows,
     first: u64,
 ) -> Result<(), QueryError>
+    ensures found { OnOk result (AreAccepted templates.old messages.now) }
     ensures given { (list : List Accepted) → AreAcceptedFrom templates.old list → octets_of list ≡ messages.now
         → IsMade first (AllFit (with_flows (flows_in list) rows.old))
         (λ _. (templates.new ≡ templates_from templates.old list)

@@ -1,10 +1,11 @@
-use Rattle.std.proofs.Common.{◌≡◌, List, drop, map}
+use Rattle.std.proofs.Common.{◌≡◌, List, drop, map, take}
 use Rattle.std.specs.Prelude.{IsTrue}
 use Rattle.std.specs.List.{list_all}
 use Rattle.flow_measure.specs.History.{Accepted, AreAcceptedFrom}
 use Rattle.flow_segment.specs.Carry.{octets_of}
 use Rattle.flow_snapshot.specs.Files.{is_honest, segment_of, shared}
 use Rattle.flow_snapshot.specs.Shelf.{messages_in}
+use Rattle.flow_snapshot.proofs.Finding.{AreBehind}
 use Rattle.flow_snapshot.proofs.KeptFlows.{HasFlows, Taken}
 use Rattle.flow_snapshot.proofs.kept.collect_sealed.Given as goal
 
@@ -12,6 +13,8 @@ use Rattle.flow_snapshot.proofs.kept.collect_sealed.Given as goal
 abbrev pub invariant-loop-part : goal.invariant-loop-part
 invariant-loop-part g l = record {
   faults : l.faults ≡ l.fn.faults;
+  found : IsTrue (list_all (is_honest {files = g.S.SealedFile}) (shared l.parts)) → AreBehind l.fn.templates
+      (messages_in (map (segment_of {files = g.S.SealedFile}) (shared (take l.part-index l.parts)))) l.templates;
   taken : IsTrue (list_all (is_honest {files = g.S.SealedFile}) (shared l.parts)) → (messages : List Accepted)
       → AreAcceptedFrom l.fn.templates messages
       → octets_of messages ≡ messages_in (map (segment_of {files = g.S.SealedFile}) (shared l.parts))

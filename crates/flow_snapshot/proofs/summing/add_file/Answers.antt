@@ -2,7 +2,13 @@ use Rattle.std.proofs.Common.{◌<◌, ◌^◌, refl, subst, sym, arith}
 use Rattle.flow_measure.specs.Sums.{merged, AllFit}
 use Rattle.flow_snapshot.specs.Totals.{IsSpent}
 use Rattle.flow_snapshot.proofs.Adding.{file_added, file_not_added}
+use Rattle.flow_snapshot.proofs.Finding.{own_sums}
 use Rattle.flow_snapshot.proofs.summing.add_file.Goals as goal
+
+pub returns-in-Ok-clause-found : goal.returns-in-Ok-clause-found
+returns-in-Ok-clause-found g c = λ honest.
+    let added = (rw c.width-width.ensures.width at c.in-Ok.ensures.added) honest in
+    (added.table.sums, own_sums c.args.rows.now.width c.args.part.now.octets added.table added.rollup)
 
 pub returns-in-Ok-clause-given : goal.returns-in-Ok-clause-given
 returns-in-Ok-clause-given g c = λ honest sums is.

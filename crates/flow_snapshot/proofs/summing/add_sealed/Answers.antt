@@ -1,7 +1,8 @@
 use Rattle.std.proofs.Common.{◌<◌, [], ap, refl, subst, sym, ◌∙◌, map, arith}
-use Rattle.std.proofs.lemmas.List.{drop_all}
+use Rattle.std.proofs.lemmas.List.{drop_all, take_all}
 use Rattle.flow_snapshot.specs.Files.{segment_of, shared}
 use Rattle.flow_snapshot.specs.Shelf.{messages_in}
+use Rattle.flow_snapshot.proofs.Finding.{all_accepted, none_behind, none_in_part, part_behind, AreBehind}
 use Rattle.flow_snapshot.proofs.KeptFlows.{next_part, skipped_part, taken_all}
 use Rattle.flow_snapshot.proofs.Adding.{sums_err, sums_step, with_nothing, HasSums}
 use Rattle.flow_snapshot.proofs.summing.add_sealed.Goals.{then-deref-gt0+in_ok-add_part, else-deref-gt0}
@@ -20,6 +21,10 @@ loop-part-preserved g c =
           (c.deref.ensures ∙ sym w.deref-then-deref-gt0.ensures) w.if-deref-gt0.true in
           record {
             faults = w.faults-is ∙ w.in_ok-add_part.ensures.cause.done ∙ c.loop-part.invariant.faults;
+            found = λ honest. rw (w.templates-is) (part_behind parts i c.part-item.result part c.loop-part-test.true
+                c.part-item.is w.deref-then-deref-gt0.ensures before c.loop-part.templates w.add_part.new.templates
+                (c.loop-part.invariant.found honest) honest w.in_ok-add_part.ensures.found
+                (λ here own are. (w.in_ok-add_part.ensures.given here own are).0));
             taken = λ honest messages accepted octets.
                 let next = next_part so_far before messages c.loop-part.templates parts i c.part-item.result part
                 c.loop-part-test.true c.part-item.is w.deref-then-deref-gt0.ensures honest accepted
@@ -32,6 +37,9 @@ loop-part-preserved g c =
           let part = c.deref.result.now in
           record {
             faults = w.faults-is ∙ c.loop-part.invariant.faults;
+            found = λ honest. none_in_part parts i c.part-item.result part c.loop-part-test.true c.part-item.is
+                c.deref.ensures before c.loop-part.templates _ (c.loop-part.invariant.found honest)
+                (omega (arith, w.if-deref-gt0.false)) w.templates-is;
             taken = λ honest messages accepted octets.
                 let next = next_part so_far before messages c.loop-part.templates parts i c.part-item.result part
                 c.loop-part-test.true c.part-item.is c.deref.ensures honest accepted
@@ -55,6 +63,13 @@ returns-in_err-add_part-clause-given g c = λ honest messages accepted octets.
     c.from_residual.result c.in_err-add_part.field-0.0 next some c.from_residual.ensures.1
     c.in_err-add_part.ensures.given
 
+pub returns-clause-found : goal.returns-clause-found
+returns-clause-found g c = λ honest.
+    all_accepted c.args.templates.now c.loop-part.templates _
+    (subst (λ ps. AreBehind c.args.templates.now (messages_in (map (segment_of {files = g.S.SealedFile}) (shared ps)))
+    c.loop-part.templates) (take_all c.loop-part.part-index c.args.parts.now c.loop-part-test.false)
+    (c.loop-part.invariant.found honest))
+
 pub returns-clause-given : goal.returns-clause-given
 returns-clause-given g c = λ honest messages accepted octets.
     let parts = c.args.parts.now in
@@ -66,6 +81,7 @@ returns-clause-given g c = λ honest messages accepted octets.
 pub loop-part-init : goal.loop-part-init
 loop-part-init g c = record {
   faults = refl;
+  found = λ honest. none_behind c.args.templates.now;
   taken = λ honest messages accepted octets. record {
     front = [];
     rest = messages;

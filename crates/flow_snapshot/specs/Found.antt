@@ -1,0 +1,71 @@
+-- What has been read where a query is answered, also of files that are damaged.
+use Rattle.std.specs.Prelude.{◌≡◌, ◌⊎◌, ℕ, zero, suc, ◌+◌, ◌≤◌, ◌<◌, List, [], ◌∷◌, ◌++◌, length, Option, Some, None}
+use Rattle.std.specs.Prelude.{slice_get}
+use Rattle.flow_codec.specs.Cutting.{IsCutOff}
+use Rattle.flow_codec.specs.Templates.{AllTemplates}
+use Rattle.flow_measure.specs.History.{Accepted, AreAcceptedFrom}
+use Rattle.flow_measure.specs.View.{View}
+use Rattle.flow_segment.specs.Carry.{octets_of}
+use Rattle.flow_segment.specs.Prefix.{IsRestated}
+use Rattle.flow_snapshot.specs.Shelf.{Segment, Shelf, second_of, cut_of, kept_of, messages_in, position_of}
+use Rattle.flow_snapshot.specs.Views.{AreRolled, AreRolledInto}
+
+-- ---- all files
+
+-- These octets are messages, each accepted behind those before it, the first one behind these templates.
+abbrev pub AreAccepted : AllTemplates → List (List ℕ) → Type 0
+AreAccepted before octets =
+    (messages : List Accepted) × AreAcceptedFrom before messages × (octets_of messages ≡ octets)
+
+-- the prefix of the first segment: of the active one, where there is no sealed one
+abbrev pub first_prefix : List Segment → List ℕ → List ℕ
+first_prefix [] active = active
+first_prefix (g ∷ gs) active = g.prefix
+
+-- The kept messages are accepted, each behind those before it, the first one behind the templates that the first prefix
+-- restates.
+pub record AreKept (s : Shelf) (before : AllTemplates) (kept : List Accepted) : Type 0 where
+  pub prefix : IsRestated (first_prefix s.sealed s.prefix) before
+  pub accepted : AreAcceptedFrom before kept
+  pub octets : octets_of kept ≡ kept_of s
+
+-- The view of a shelf, as it is read from all its files: from each rolled file, each kept message, and the first
+-- prefix. Those of later segments, which restate the same templates unless they are damaged, are not read.
+pub record IsReadIn (s : Shelf) (v : View) : Type 0 where
+  pub merged : AreRolledInto s.wide s.merged v.merged
+  pub rolled : AreRolled s.width s.rolled v.rolled
+  pub kept : AreKept s v.templates v.kept
+  pub second : v.second ≡ second_of s
+  pub cut : v.cut ≡ cut_of s
+  pub position : v.position ≡ position_of s
+  pub width : v.width ≡ s.width
+  pub wide : v.wide ≡ s.wide
+
+-- ---- one message
+
+-- In a segment's messages this one stands behind so many others, each cut off by its own header. Octets that are left
+-- behind the last one are not looked at.
+abbrev pub StandsBehind : List (List ℕ) → ℕ → List ℕ → Type 0
+StandsBehind [] skipped message = ⊥
+StandsBehind (o ∷ os) zero message = IsCutOff message × ((rest : List ℕ) × (o ≡ message ++ rest))
+StandsBehind (o ∷ os) (suc n) message = IsCutOff o × StandsBehind os n message
+
+-- It stands so in its own segment, at this place, from 0, among the messages of all.
+abbrev pub StandsAt : List Segment → ℕ → List ℕ → Type 0
+StandsAt segments place message =
+    (front : List Segment) × (own : Segment) × (more : List Segment) × (skipped : ℕ)
+    × (segments ≡ front ++ own ∷ more) × (place ≡ length (messages_in front) + skipped)
+    × StandsBehind own.messages skipped message
+
+-- what is answered of a place: none where the segments have fewer messages
+abbrev pub IsSealedAt : List Segment → ℕ → Option (List ℕ) → Type 0
+IsSealedAt segments place None = length (messages_in segments) ≤ place
+IsSealedAt segments place (Some message) = StandsAt segments place message
+
+-- What is answered of a number: a message of a sealed segment, or of the active one; and none of those that aren't kept.
+abbrev pub IsMessageAt : Shelf → ℕ → Option (List ℕ) → Type 0
+IsMessageAt s n None = (n ≤ cut_of s) ⊎ (position_of s < n)
+IsMessageAt s n (Some message) =
+    ((place : ℕ) × (n ≡ suc (cut_of s + place)) × StandsAt s.sealed place message)
+    ⊎ ((place : ℕ) × (n ≡ suc (cut_of s + length (messages_in s.sealed) + place))
+    × (slice_get s.active place ≡ Some message))
