@@ -329,7 +329,7 @@ file_err Q old now maps octets left n first r e is given =
 abbrev pub HasSums : Table → Table → List Accepted → Type 0
 HasSums old now messages = now ≡ with_flows (flows_in messages) old
 
-more_sums : (old rows : Table) (front own : List Accepted) → rows ≡ with_flows (flows_in front) old
+pub more_sums : (old rows : Table) (front own : List Accepted) → rows ≡ with_flows (flows_in front) old
     → with_flows (flows_in own) rows ≡ with_flows (flows_in (front ++ own)) old
 more_sums old rows front own was =
     ap (with_flows (flows_in own)) was ∙ flows_both old (flows_in front) (flows_in own)

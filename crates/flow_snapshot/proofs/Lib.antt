@@ -13,3 +13,4 @@ pub mod Totalling
 pub mod Dealing
 pub mod Joining
 pub mod Finding
+pub mod Whole

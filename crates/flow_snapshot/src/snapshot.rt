@@ -1,23 +1,25 @@
 //! A snapshot, and what is asked of it.
 
-ghost use Rattle.std.specs.Prelude.{◌≡◌, ◌<◌, ℕ, length, min, IfOk, IsTrue, List};
+ghost use Rattle.std.specs.Prelude.{◌≡◌, ◌<◌, ℕ, length, min, IfOk, IsTrue, List, OnOk};
 ghost use Rattle.std.specs.FinMap.{FinMap};
 ghost use Rattle.flow_codec.specs.Templates.{AllTemplates};
 ghost use Rattle.flow_disk.specs.Cause.{HasCause};
-ghost use Rattle.flow_measure.specs.History.{flows_in, History, IsHistory};
+ghost use Rattle.flow_measure.specs.History.{flows_in, Accepted, History, IsHistory};
 ghost use Rattle.flow_measure.specs.Query.{flows_in_view, message_in_view, narrow_table_in, totals_between};
 ghost use Rattle.flow_measure.specs.Query.{totals_in_view};
 ghost use Rattle.flow_measure.specs.declared.rows.Sums.{Sums};
 ghost use Rattle.flow_measure.specs.Sums.{key_cmp, AllFit};
 ghost use Rattle.flow_measure.specs.View.{view_of, AreCountsOf, View};
-ghost use Rattle.flow_segment.specs.PartFlows.{with_flows};
+ghost use Rattle.flow_segment.specs.PartFlows.{flows_within, with_flows};
+ghost use Rattle.flow_segment.specs.Prefix.{IsRestated};
 ghost use Rattle.flow_snapshot.specs.Directories.{sight_of};
+ghost use Rattle.flow_snapshot.specs.Found.{first_prefix, AreKept, IsReadIn};
 ghost use Rattle.flow_snapshot.specs.Shares.{narrow_turn, own, summed, AllPartsFit, AreNarrow, AreShares, AreWide};
 ghost use Rattle.flow_snapshot.specs.Shares.{IsShare};
 ghost use Rattle.flow_snapshot.specs.Shelf.{cut_of, position_of, second_of};
 ghost use Rattle.flow_snapshot.specs.Told.{octets_in, IsAnswered};
 ghost use Rattle.flow_snapshot.specs.Totals.{first_file, wide_table_in, IsMade, IsWithinLimits, SumsFit};
-ghost use Rattle.flow_snapshot.specs.Views.{AreRestated, IsViewOf};
+ghost use Rattle.flow_snapshot.specs.Views.{AreRestated, AreRolledInto, IsViewOf};
 
 use crate::counting::{rolled_count, sealed_count};
 use crate::error::QueryError;
@@ -97,6 +99,8 @@ impl<S: SealedFile> Snapshot<S> {
     /// The templates in force in front of the first kept message.
     fn templates(&self, alloc: Global, faults: &mut Faults<S>) -> Result<Templates, QueryError>
         ensures cause { HasCause QueryError.Fault faults.old faults.new result }
+        ensures found { IsTrue self.now.honest → IfOk result
+            (λ templates. IsRestated (first_prefix self.now.shelf.sealed self.now.shelf.prefix) templates) }
         ensures given { IsTrue self.now.honest → (before : AllTemplates)
             → AreRestated before self.now.shelf.sealed self.now.shelf.prefix
             → IsAnswered (λ templates. templates ≡ before) result }
@@ -120,7 +124,10 @@ impl<S: SealedFile> Snapshot<S> {
         faults: &mut Faults<S>,
     ) -> Result<Vec<Flow>, QueryError>
         ensures cause { HasCause QueryError.Fault faults.old faults.new result }
-        // On honest disks: what is answered by each view of the files; damage is told where there is none alone.
+        // On honest disks, also where files are damaged: the flows of all kept messages, each of them accepted.
+        ensures found { IsTrue self.now.honest → IfOk result (λ flows. (before : AllTemplates) × (kept : List Accepted)
+            × AreKept self.now.shelf before kept × (flows.items ≡ flows_within from to (flows_in kept))) }
+        // What is answered by each view of the files; damage is told where there is none alone.
         ensures given { IsTrue self.now.honest → (v : View) → IsViewOf self.now.shelf v
             → IsAnswered (λ flows. flows.items ≡ flows_in_view from to v) result }
     {
@@ -191,6 +198,8 @@ impl<S: SealedFile> Snapshot<S> {
         faults: &mut Faults<S>,
     ) -> Result<(), QueryError>
         ensures cause { HasCause QueryError.Fault faults.old faults.new result }
+        ensures found { IsTrue self.now.honest → OnOk result ((before : AllTemplates) × (kept : List Accepted)
+            × AreKept self.now.shelf before kept × (rows.new ≡ with_flows (flows_in kept) rows.old)) }
         ensures given { IsTrue self.now.honest → (v : View) → IsViewOf self.now.shelf v
             → IsMade first (AllFit (with_flows (flows_in v.kept) rows.old))
             (λ _. rows.new ≡ with_flows (flows_in v.kept) rows.old) result }
@@ -211,6 +220,11 @@ impl<S: SealedFile> Snapshot<S> {
         faults: &mut Faults<S>,
     ) -> Result<Rows, QueryError>
         ensures cause { HasCause QueryError.Fault faults.old faults.new result }
+        // Whatever the sums over wide intervals are.
+        ensures found { IsTrue self.now.honest → (sums : FinMap key_cmp Sums)
+            → AreRolledInto self.now.shelf.wide self.now.shelf.merged sums
+            → IfOk result (λ rows. (v : View) × IsReadIn self.now.shelf v × (v.merged ≡ sums)
+            × (rows ≡ narrow_table_in v)) }
         ensures given { IsTrue self.now.honest → (v : View) → IsViewOf self.now.shelf v
             → IsMade first (AllFit (narrow_table_in v)) (λ rows. rows ≡ narrow_table_in v) result }
     {
@@ -229,6 +243,9 @@ impl<S: SealedFile> Snapshot<S> {
         faults: &mut Faults<S>,
     ) -> Result<Rows, QueryError>
         ensures cause { HasCause QueryError.Fault faults.old faults.new result }
+        ensures found { IsTrue self.now.honest → IfOk result (λ rows. (sums : FinMap key_cmp Sums)
+            × AreRolledInto self.now.shelf.wide self.now.shelf.merged sums
+            × (rows ≡ record { width = self.now.shelf.wide; sums = sums })) }
         ensures given { IsTrue self.now.honest → (v : View) → IsViewOf self.now.shelf v
             → IsMade first (AllFit (wide_table_in v)) (λ rows. rows ≡ wide_table_in v) result }
     {
@@ -247,6 +264,8 @@ impl<S: SealedFile> Snapshot<S> {
         faults: &mut Faults<S>,
     ) -> Result<Vec<Row>, QueryError>
         ensures cause { HasCause QueryError.Fault faults.old faults.new result }
+        ensures found { IsTrue self.now.honest → IfOk result (λ rows. (v : View) × IsReadIn self.now.shelf v
+            × (rows.items ≡ totals_in_view from to v)) }
         ensures given { IsTrue self.now.honest → (v : View) → IsViewOf self.now.shelf v
             → IsMade (first_file self.now.shelf) (SumsFit v) (λ rows. rows.items ≡ totals_in_view from to v) result }
     {
@@ -273,8 +292,10 @@ impl<S: SealedFile> Snapshot<S> {
         faults: &mut Faults<S>,
     ) -> Result<Vec<Row>, QueryError>
         ensures cause { HasCause QueryError.Fault faults.old faults.new result }
-        // On honest disks: what is answered by each view of the files; where its sums fit their types no damage is
-        // told.
+        // On honest disks, also where files are damaged: the totals of all files, each of which was read whole.
+        ensures found { IsTrue self.now.honest → IfOk result (λ rows. (v : View) × IsReadIn self.now.shelf v
+            × (rows.items ≡ totals_in_view from to v)) }
+        // What is answered by each view of the files; where its sums fit their types no damage is told.
         ensures given { IsTrue self.now.honest → (v : View) → IsViewOf self.now.shelf v
             → IsMade (first_file self.now.shelf) (SumsFit v) (λ rows. rows.items ≡ totals_in_view from to v) result }
         // Where the view is that of a history within the limits: its totals, and never damage.
