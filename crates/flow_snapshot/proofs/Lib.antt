@@ -14,3 +14,4 @@ pub mod Dealing
 pub mod Joining
 pub mod Finding
 pub mod Whole
+pub mod Standing

@@ -1,7 +1,7 @@
 -- What has been read where a query is answered, also of files that are damaged.
 use Rattle.std.specs.Prelude.{◌≡◌, ◌⊎◌, ℕ, zero, suc, ◌+◌, ◌≤◌, ◌<◌, List, [], ◌∷◌, ◌++◌, length, Option, Some, None}
 use Rattle.std.specs.Prelude.{slice_get}
-use Rattle.flow_codec.specs.Cutting.{IsCutOff}
+use Rattle.flow_codec.specs.Cutting.{IsCutOff, IsDivided}
 use Rattle.flow_codec.specs.Templates.{AllTemplates}
 use Rattle.flow_measure.specs.History.{Accepted, AreAcceptedFrom}
 use Rattle.flow_measure.specs.View.{View}
@@ -42,6 +42,11 @@ pub record IsReadIn (s : Shelf) (v : View) : Type 0 where
   pub wide : v.wide ≡ s.wide
 
 -- ---- one message
+
+-- Of these octets, the message stands behind so many others, each cut off by its own header.
+abbrev pub IsCutBehind : List ℕ → ℕ → List ℕ → Type 0
+IsCutBehind octets skipped message = (front : List (List ℕ)) × (rest : List ℕ)
+    × IsDivided octets (front ++ message ∷ []) rest × (length front ≡ skipped)
 
 -- In a segment's messages this one stands behind so many others, each cut off by its own header. Octets that are left
 -- behind the last one are not looked at.

@@ -1,11 +1,12 @@
 //! Kept messages by their places.
 
-ghost use Rattle.std.specs.Prelude.{◌≡◌, ◌<◌, ℕ, IsTrue, List, Some, map, slice_get};
+ghost use Rattle.std.specs.Prelude.{◌≡◌, ◌<◌, ℕ, IfOk, IsTrue, List, Some, map, slice_get};
 ghost use Rattle.std.specs.List.{list_all, AllByRecursion};
 ghost use Rattle.flow_codec.specs.Cutting.{IsCutOff};
 ghost use Rattle.flow_disk.specs.Cause.{HasCause};
 ghost use Rattle.flow_segment.specs.Segment.{part_octets, AreMessagesOf};
 ghost use Rattle.flow_snapshot.specs.Files.{is_honest, segment_of, shared};
+ghost use Rattle.flow_snapshot.specs.Found.{IsCutBehind, IsSealedAt};
 ghost use Rattle.flow_snapshot.specs.Shelf.{messages_in};
 ghost use Rattle.flow_snapshot.specs.Told.{octets_in, IsFound};
 
@@ -24,7 +25,10 @@ fn message_behind<S: SealedFile>(
     faults: &mut Faults<S>,
 ) -> Result<Vec<u8>, ScanError>
     ensures cause { HasCause ScanError.Fault faults.old faults.new result }
-    // On an honest disk: of messages that fill the part, as many as there are to be.
+    // On an honest disk: it stands behind so many others.
+    ensures found { IsTrue (S.honest part.now.reader) → IfOk result (λ message.
+        IsCutBehind (part_octets part.now.prefix part.now.length (S.octets part.now.reader)) skipped message.items) }
+    // Of messages that fill the part, as many as there are to be, it is that one.
     ensures given { IsTrue (S.honest part.now.reader) → (list : List (List ℕ))
         → AreMessagesOf (part_octets part.now.prefix part.now.length (S.octets part.now.reader)) part.now.messages list
         → skipped < part.now.messages
@@ -52,7 +56,10 @@ pub(crate) fn sealed_message<S: SealedFile>(
     faults: &mut Faults<S>,
 ) -> Result<Option<Vec<u8>>, ScanError>
     ensures cause { HasCause ScanError.Fault faults.old faults.new result }
-    // On honest disks: of messages that are each cut off by their own header.
+    // On honest disks: it stands in its own segment behind others that are each cut off by their own header.
+    ensures found { IsTrue (list_all is_honest (shared parts.now)) → IfOk result (λ message.
+        IsSealedAt (map segment_of (shared parts.now)) place (octets_in message)) }
+    // Of messages that are all cut off so, it is the one at this place.
     ensures given { IsTrue (list_all is_honest (shared parts.now))
         → AllByRecursion IsCutOff (messages_in (map segment_of (shared parts.now)))
         → IsFound (λ message. octets_in message ≡ slice_get (messages_in (map segment_of (shared parts.now))) place)

@@ -13,7 +13,7 @@ ghost use Rattle.flow_measure.specs.View.{view_of, AreCountsOf, View};
 ghost use Rattle.flow_segment.specs.PartFlows.{flows_within, with_flows};
 ghost use Rattle.flow_segment.specs.Prefix.{IsRestated};
 ghost use Rattle.flow_snapshot.specs.Directories.{sight_of};
-ghost use Rattle.flow_snapshot.specs.Found.{first_prefix, AreKept, IsReadIn};
+ghost use Rattle.flow_snapshot.specs.Found.{first_prefix, AreKept, IsMessageAt, IsReadIn};
 ghost use Rattle.flow_snapshot.specs.Shares.{narrow_turn, own, summed, AllPartsFit, AreNarrow, AreShares, AreWide};
 ghost use Rattle.flow_snapshot.specs.Shares.{IsShare};
 ghost use Rattle.flow_snapshot.specs.Shelf.{cut_of, position_of, second_of};
@@ -152,7 +152,11 @@ impl<S: SealedFile> Snapshot<S> {
         faults: &mut Faults<S>,
     ) -> Result<Option<Vec<u8>>, QueryError>
         ensures cause { HasCause QueryError.Fault faults.old faults.new result }
-        // On honest disks: what is answered by each view of the files; damage is told where there is none alone.
+        // On honest disks, also where files are damaged: the message that stands at this number, or none where none is
+        // kept.
+        ensures found { IsTrue self.now.honest → IfOk result (λ message.
+            IsMessageAt self.now.shelf n (octets_in message)) }
+        // What is answered by each view of the files; damage is told where there is none alone.
         ensures given { IsTrue self.now.honest → (v : View) → IsViewOf self.now.shelf v
             → IsAnswered (λ message. octets_in message ≡ message_in_view n v) result }
     {

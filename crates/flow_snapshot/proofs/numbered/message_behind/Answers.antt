@@ -1,7 +1,10 @@
-use Rattle.std.proofs.Common.{◌-◌, Some, refl, ap, ◌∙◌, arith}
+use Rattle.std.proofs.Common.{◌-◌, Some, refl, sym, ap, subst, ◌∙◌, arith}
 use Rattle.std.specs.Prelude.{slice_get}
 use Rattle.flow_segment.specs.Part.{Cursor}
+use Rattle.flow_segment.specs.Segment.{part_octets}
+use Rattle.flow_snapshot.specs.Found.{IsCutBehind}
 use Rattle.flow_snapshot.proofs.Places.{found_err, from_start, held_here, held_other, not_ended, not_stuck}
+use Rattle.flow_snapshot.proofs.Standing.{none_passed, one_passed, stands_here}
 use Rattle.flow_snapshot.proofs.numbered.message_behind.Goals as goal
 
 pub messages-init : goal.messages-init
@@ -10,6 +13,8 @@ messages-init g c =
     record {
       room = ap (λ (x : Cursor). x.end) c.new-cursor.ensures;
       faults = refl;
+      found = λ honest. none_passed (g.S.SealedFile.octets part.reader) c.new-cursor.result part.prefix part.length
+          c.args.skipped c.new-cursor.ensures;
       ahead = λ honest list are within. from_start (g.S.SealedFile.octets part.reader) c.new-cursor.result part.prefix
           part.length part.messages c.args.skipped list c.new-cursor.ensures are within;
     }
@@ -21,6 +26,13 @@ messages-preserved g c =
     record {
       room = c.in_ok-advance.ensures.end ∙ c.messages.invariant.room;
       faults = c.in_ok-advance.ensures.cause.done ∙ c.messages.invariant.faults;
+      found = λ honest.
+          let p = c.messages.invariant.found honest in
+          let s = c.in_ok-advance.ensures.step honest p.on in
+          one_passed (part_octets part.prefix part.length (S.octets part.reader)) (S.octets part.reader)
+          (S.number part.reader) c.messages.cursor c.advance.new.cursor c.args.skipped c.messages.left
+          (c.messages.left - 1) c.in_ok-advance.field-0 c.if-not-branch.false (omega (arith, c.if-left-eq0.false)) p
+          s.0 s.1;
       ahead = λ honest list are within.
           let a = c.messages.invariant.ahead honest list are within in
           let s = c.in_ok-advance.ensures.step honest a.on in
@@ -61,3 +73,14 @@ returns-then-left-eq0-clause-given g c = λ honest list are within.
     ∙ held_here (S.octets part.reader) (S.number part.reader) c.messages.cursor c.advance.new.cursor
     (slice_get list c.args.skipped) c.messages.left c.in_ok-advance.field-0 c.if-not-branch.false c.if-left-eq0.true
     a s.1
+
+pub returns-then-left-eq0-clause-found : goal.returns-then-left-eq0-clause-found
+returns-then-left-eq0-clause-found g c = λ honest.
+    let part = c.args.part.now in
+    let S = g.S.SealedFile in
+    let whole = part_octets part.prefix part.length (S.octets part.reader) in
+    let p = c.messages.invariant.found honest in
+    let s = c.in_ok-advance.ensures.step honest p.on in
+    subst (IsCutBehind whole c.args.skipped) (sym (c.in_ok-from_slice.ensures.items ∙ c.message.ensures))
+    (stands_here whole (S.octets part.reader) (S.number part.reader) c.messages.cursor c.advance.new.cursor
+    c.args.skipped c.messages.left c.in_ok-advance.field-0 c.if-not-branch.false c.if-left-eq0.true p s.1)

@@ -1,5 +1,10 @@
-use Rattle.std.proofs.Common.{◌<◌, ◌≤◌, subst, sym, ◌∙◌, arith}
+use Rattle.std.proofs.Common.{◌≡◌, ◌+◌, ◌<◌, ◌≤◌, length, map, subst, sym, ◌∙◌, arith}
+use Rattle.std.proofs.lemmas.List.{take_all}
+use Rattle.flow_snapshot.specs.Files.{segment_of, shared}
+use Rattle.flow_snapshot.specs.Shelf.{messages_in}
+use Rattle.flow_snapshot.proofs.Asking.{sealed_more}
 use Rattle.flow_snapshot.proofs.Places.{found_err, is_own_honest, own_fill, own_place, passed_by}
+use Rattle.flow_snapshot.proofs.Standing.{stands_in}
 use Rattle.flow_snapshot.proofs.numbered.sealed_message.Goals as goal
 
 pub returns-in_err-message_behind-clause-given : goal.returns-in_err-message_behind-clause-given
@@ -39,6 +44,34 @@ loop-part-preserved g c =
     (c.deref.ensures ∙ sym same) c.if-left-deref.false in
     record {
       faults = c.loop-part.invariant.faults;
+      before = omega (
+        arith,
+        past,
+        c.loop-part.invariant.before,
+        sealed_more c.args.parts.now c.loop-part.part-index
+            c.part-item.result part c.loop-part-test.true c.part-item.is same,
+      );
       there = passed_by c.args.parts.now c.loop-part.part-index c.part-item.result part c.loop-part-test.true
           c.part-item.is same c.loop-part.left past ∙ c.loop-part.invariant.there;
     }
+
+pub returns-then-left-deref-clause-found : goal.returns-then-left-deref-clause-found
+returns-then-left-deref-clause-found g c = λ honest.
+    let parts = c.args.parts.now in
+    let i = c.loop-part.part-index in
+    let item = c.part-item.result in
+    let part = c.deref-then-left-deref.result.now in
+    let same = c.deref-then-left-deref.ensures in
+    let own : c.loop-part.left < part.messages = subst (λ p. c.loop-part.left < p.messages)
+    (c.deref.ensures ∙ sym same) c.if-left-deref.true in
+    stands_in parts i item part c.loop-part-test.true c.part-item.is same c.args.place c.loop-part.left _
+    c.loop-part.invariant.before own (c.in_ok-message_behind.ensures.found
+    (is_own_honest parts i item part c.loop-part-test.true c.part-item.is same honest))
+
+pub returns-clause-found : goal.returns-clause-found
+returns-clause-found g c = λ honest.
+    let parts = c.args.parts.now in
+    let all = take_all c.loop-part.part-index parts c.loop-part-test.false in
+    let before = subst (λ ps. length (messages_in (map (segment_of {files = g.S.SealedFile}) (shared ps)))
+    + c.loop-part.left ≡ c.args.place) all c.loop-part.invariant.before in
+    omega (arith, before)

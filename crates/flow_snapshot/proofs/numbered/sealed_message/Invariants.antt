@@ -1,4 +1,4 @@
-use Rattle.std.proofs.Common.{◌≡◌, drop, map}
+use Rattle.std.proofs.Common.{◌≡◌, ◌+◌, drop, length, map, take}
 use Rattle.std.specs.Prelude.{slice_get}
 use Rattle.flow_snapshot.specs.Files.{segment_of, shared}
 use Rattle.flow_snapshot.specs.Shelf.{messages_in}
@@ -8,6 +8,8 @@ use Rattle.flow_snapshot.proofs.numbered.sealed_message.Given as goal
 abbrev pub invariant-loop-part : goal.invariant-loop-part
 invariant-loop-part g l = record {
   faults : l.faults ≡ l.fn.faults;
+  before : length (messages_in (map (segment_of {files = g.S.SealedFile}) (shared (take l.part-index l.parts))))
+      + l.left ≡ l.place;
   there : slice_get (messages_in (map (segment_of {files = g.S.SealedFile}) (shared (drop l.part-index l.parts))))
       l.left
       ≡ slice_get (messages_in (map (segment_of {files = g.S.SealedFile}) (shared l.parts))) l.place;
