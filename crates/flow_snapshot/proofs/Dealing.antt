@@ -55,7 +55,7 @@ joined-assoc (Some a) (Some b) (Some c) =
 
 -- ---- turns
 
-turn_then : (workers n turn : ℕ)
+pub turn_then : (workers n turn : ℕ)
     → turn_after workers n (next_turn workers turn) ≡ next_turn workers (turn_after workers n turn)
 turn_then workers zero turn = refl
 turn_then workers (suc n) turn = turn_then workers n (next_turn workers turn)
@@ -410,7 +410,7 @@ next_shared {P} {Z} {V} f test parts i item part within is same honest =
 
 -- ---- one list after another
 
-chosen_then : {A : Type 0} (test : ℕ → Bool) (workers turn : ℕ) (xs ys : List A)
+pub chosen_then : {A : Type 0} (test : ℕ → Bool) (workers turn : ℕ) (xs ys : List A)
     → chosen test workers turn (xs ++ ys)
     ≡ chosen test workers turn xs ++ chosen test workers (turn_after workers (length xs) turn) ys
 chosen_then test workers turn [] ys = refl

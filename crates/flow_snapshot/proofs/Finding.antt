@@ -1,5 +1,5 @@
 -- What has been read, part by part, and message by message.
-use Rattle.std.proofs.Common.{◌≡◌, ℕ, zero, suc, Bool, false, ◌+◌, ◌<◌, List, [], ◌∷◌, ◌++◌, length, map, take, drop}
+use Rattle.std.proofs.Common.{◌≡◌, ℕ, Bool, false, ◌+◌, ◌<◌, List, [], ◌∷◌, ◌++◌, length, map, take, drop}
 use Rattle.std.proofs.Common.{refl, sym, ap, subst, ◌∙◌, append-nil, get_or}
 use Rattle.std.specs.Prelude.{IsTrue, true}
 use Rattle.std.specs.List.{list_all}
@@ -75,6 +75,14 @@ more_behind before now after front here (ms, accepted, octets, moved) own also i
   next ∙ ap (λ (t : AllTemplates). templates_from t own) moved ∙ sym (templates_then before ms own),
 )
 
+-- a part's messages are those that its octets are cut into
+pub own_cut : (octets : List ℕ) (before : AllTemplates) (count : ℕ) (own : List Accepted)
+    → ArePartMessages octets before count own → octets_of own ≡ cut_into count octets
+own_cut octets before count own are = sym (messages_are octets count (octets_of own) (record {
+  divided = are.read.divided;
+  all = length-map own (λ (a : Accepted). a.octets) ∙ are.all;
+}))
+
 -- one message in memory more
 pub message_behind : (before now after : AllTemplates) (list : List (List ℕ)) (i : ℕ) (item here : List ℕ)
     → i < length list → item ≡ get_or list i item → here ≡ item → AreBehind before (take i list) now
@@ -114,13 +122,10 @@ module _ {F X Z : Type 0} {files : Ghosts F X} (parts : List (Arc (SealedPart F 
     part_behind all found moved =
         let here = honest_one parts i item part within is same is_honest all in
         let own = found here in
-        let cut = messages_are own_octets part.messages (octets_of own.0) (record {
-          divided = own.1.read.divided;
-          all = length-map own.0 (λ (a : Accepted). a.octets) ∙ own.1.all;
-        }) in
         subst (λ (os : List (List ℕ)). AreBehind before os after) (sym messages_more)
         (more_behind before now after (messages_in (map segment_of (shared (take i parts))))
-        (cut_into part.messages own_octets) behind own.0 own.1.read.accepted (sym cut) (moved here own.0 own.1))
+        (cut_into part.messages own_octets) behind own.0 own.1.read.accepted
+        (own_cut own_octets now part.messages own.0 own.1) (moved here own.0 own.1))
 
     -- a part that is said to have no messages
     pub none_in_part : part.messages ≡ 0 → after ≡ now

@@ -150,6 +150,13 @@ cause_added raised before after (Err e) h none some later = record {
   other = λ different. none (h.other different);
 }
 
+pub refused_answer : {F X : Type 0} (shares : List (Share F X)) (n : ℕ) (item : Share F X)
+    (result : Result PartSums QueryError) → IsRefusedAt shares n → item ≡ get_or shares n item → result ≡ item.sums
+    → IsErr result
+refused_answer {F} {X} shares n item result refused is same =
+    subst (λ (r : Result PartSums QueryError). IsErr r) (sym same)
+    (subst (λ (x : Share F X). IsErr x.sums) (sym is) (refused.1 item))
+
 -- so the answer of one is that of all
 pub refused_worker : {F X : Type 0} (sight : Sight) (shares : List (Share F X)) (n first : ℕ) (item : Share F X)
     (result : Result PartSums QueryError) → IsRefusedAt shares n → item ≡ get_or shares n item → AreShares sight shares
@@ -168,7 +175,7 @@ refused_worker {F} {X} sight shares n first item result refused is are first_is 
     subst (λ (r : Result PartSums QueryError). IsMade first fit all r) (sym same)
     (refused_made first fit mine all item.sums
     (subst (λ (x : Share F X). IsErr x.sums) (sym is) (refused.1 item))
-    (subst (λ (f : ℕ). IsMade f fit mine item.sums) (sym first_is) (answered.1 honest wide narrow w m)))
+    (subst (λ (f : ℕ). IsMade f fit mine item.sums) (sym first_is) (answered.1.given honest wide narrow w m)))
 
 -- ---- rows, added to none
 

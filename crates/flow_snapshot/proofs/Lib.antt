@@ -15,3 +15,4 @@ pub mod Joining
 pub mod Finding
 pub mod Whole
 pub mod Standing
+pub mod Dealt

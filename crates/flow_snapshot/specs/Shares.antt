@@ -1,6 +1,6 @@
 -- The sums of an archive's parts, shared among workers.
 use Rattle.std.specs.Prelude.{◌≡◌, ℕ, zero, suc, ◌+◌, ◌%◌, ◌==◌, Bool, List, [], ◌∷◌, ◌++◌, length, Result, IsTrue}
-use Rattle.std.specs.Prelude.{if◌then◌else◌, ◌<◌, ◌≢◌, Ok, Err, IfErr, IsErr, IsErrOf, slice_index_or}
+use Rattle.std.specs.Prelude.{if◌then◌else◌, ◌<◌, ◌≢◌, Ok, Err, IfErr, IsErr, IsErrOf, OnOk, slice_index_or}
 use Rattle.std.specs.List.{AllZip}
 use Rattle.std.specs.FinMap.{FinMap}
 use Rattle.flow_codec.specs.Templates.{AllTemplates}
@@ -84,21 +84,42 @@ AllPartsFit s wide narrow = AllFit (summed s.wide wide) × AllFit (summed s.widt
 abbrev pub added_if : Bool → FinMap key_cmp Sums → Table → Table
 added_if mine sums t = if mine then merged t (record { width = t.width; sums = sums }) else t
 
+-- ---- what was read
+
+-- each of these parts has sums
+abbrev pub HaveSums : {A : Type 0} → (A → FinMap key_cmp Sums → Type 0) → List A → Type 0
+HaveSums P parts = (maps : List (FinMap key_cmp Sums)) × AllZip P parts maps
+
+-- Of the parts that aren't wide, those that fall to a worker were read whole. The first part is for the worker whose
+-- turn it is.
+pub record IsNarrowRead (s : Shelf) (workers worker turn : ℕ) : Type 0 where
+  pub rolled : HaveSums (IsFileSum s.width) (own workers worker turn s.rolled)
+  pub sealed : HaveSums (IsSegmentSum s.width) (own workers worker (turn_after workers (length s.rolled) turn) s.sealed)
+  pub active : HaveSums (IsOwnSum s.width s.prefix)
+      (own workers worker (turn_after workers (length s.sealed) (turn_after workers (length s.rolled) turn))
+      (s.active ∷ []))
+
 -- ---- a worker's share
 
 -- The first part is for the worker whose number is 0: the wide ones come first, then the others.
 abbrev pub narrow_turn : Shelf → ℕ → ℕ
 narrow_turn s workers = turn_after workers (length s.merged) 0
 
--- What a worker answers: on honest disks the sums of the parts that fall to it, unless a read fails, memory runs out or
--- the sums of all parts don't fit their types.
-abbrev pub IsShare : Sight → ℕ → ℕ → Result PartSums QueryError → Type 0
-IsShare sight workers worker result =
-    IsTrue sight.honest → (wide narrow : List (FinMap key_cmp Sums)) → AreWide sight.shelf wide
-    → AreNarrow sight.shelf narrow
-    → IsMade (first_file sight.shelf) (AllPartsFit sight.shelf wide narrow)
-    (λ sums. (sums.wide ≡ summed sight.shelf.wide (own workers worker 0 wide))
-    × (sums.narrow ≡ summed sight.shelf.width (own workers worker (narrow_turn sight.shelf workers) narrow))) result
+-- The parts that fall to a worker were read whole.
+pub record IsOwnRead (s : Shelf) (workers worker : ℕ) : Type 0 where
+  pub wide : HaveSums (IsFileSum s.wide) (own workers worker 0 s.merged)
+  pub narrow : IsNarrowRead s workers worker (narrow_turn s workers)
+
+-- What a worker answers on honest disks: where it isn't refused, each part that falls to it was read whole, whatever
+-- damage others have. Where all parts have sums it is those of its own, unless a read fails, memory runs out or the
+-- sums of all parts don't fit their types.
+pub record IsShare (sight : Sight) (workers worker : ℕ) (result : Result PartSums QueryError) : Type 0 where
+  pub found : IsTrue sight.honest → OnOk result (IsOwnRead sight.shelf workers worker)
+  pub given : IsTrue sight.honest → (wide narrow : List (FinMap key_cmp Sums)) → AreWide sight.shelf wide
+      → AreNarrow sight.shelf narrow
+      → IsMade (first_file sight.shelf) (AllPartsFit sight.shelf wide narrow)
+      (λ sums. (sums.wide ≡ summed sight.shelf.wide (own workers worker 0 wide))
+      × (sums.narrow ≡ summed sight.shelf.width (own workers worker (narrow_turn sight.shelf workers) narrow))) result
 
 -- ---- shares, joined
 

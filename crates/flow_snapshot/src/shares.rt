@@ -2,14 +2,14 @@
 //! nothing but its own file.
 
 ghost use Rattle.std.specs.Prelude.{◌≡◌, ◌≢◌, ◌<◌, IsTrue, IfErr, IfOk, IfSome, List, [], MatchResult, length, map};
-ghost use Rattle.std.specs.Prelude.{true};
+ghost use Rattle.std.specs.Prelude.{true, OnOk};
 ghost use Rattle.std.specs.FinMap.{FinMap, entries};
 ghost use Rattle.std.specs.List.{list_all, AllZip};
 ghost use Rattle.flow_disk.specs.Cause.{HasCause};
 ghost use Rattle.flow_measure.specs.declared.rows.Sums.{Sums};
 ghost use Rattle.flow_measure.specs.Sums.{key_cmp, merged, AllFit, IsRefused};
 ghost use Rattle.flow_snapshot.specs.Files.{is_honest, is_honest_sum, rollup_of, segment_of, shared};
-ghost use Rattle.flow_snapshot.specs.Shares.{added_if, next_turn, own, turn_after, IsFileSum, IsJoined};
+ghost use Rattle.flow_snapshot.specs.Shares.{added_if, next_turn, own, turn_after, HaveSums, IsFileSum, IsJoined};
 ghost use Rattle.flow_snapshot.specs.Shares.{IsOwnSum, IsRefusedAt, IsSegmentSum};
 ghost use Rattle.flow_snapshot.specs.Totals.{with_maps, IsMade};
 
@@ -169,7 +169,10 @@ fn add_own_file<S: SealedFile>(
     first: u64,
     faults: &mut Faults<S>,
 ) -> Result<(), QueryError>
+    ensures width { rows.new.width ≡ rows.old.width }
     ensures cause { HasCause QueryError.Fault faults.old faults.new result }
+    ensures found { IsTrue part.now.honest → OnOk result (mine ≡ true → (sums : FinMap key_cmp Sums)
+        × IsFileSum rows.old.width (rollup_of part.now) sums) }
     ensures given { IsTrue part.now.honest → (sums : FinMap key_cmp Sums)
         → IsFileSum rows.old.width (rollup_of part.now) sums
         → IsMade first (AllFit (added_if mine sums rows.old)) (λ _. rows.new ≡ added_if mine sums rows.old) result }
@@ -193,8 +196,12 @@ pub(crate) fn add_own_files<S: SealedFile>(
 ) -> Result<u32, QueryError>
     requires { turn < workers }
     ensures turn { IfOk result (λ next. (next ≡ turn_after workers (length parts.now) turn) × (next < workers)) }
+    ensures width { OnOk result (rows.new.width ≡ rows.old.width) }
     ensures cause { HasCause QueryError.Fault faults.old faults.new result }
-    // On honest disks: where they are the rolled files of these sums.
+    // On honest disks: those that fall to the worker are rolled files.
+    ensures found { IsTrue (list_all is_honest_sum (shared parts.now)) → OnOk result
+        (HaveSums (IsFileSum rows.old.width) (own workers worker turn (map rollup_of (shared parts.now)))) }
+    // Where all are those of these sums, the worker's own are added.
     ensures given { IsTrue (list_all is_honest_sum (shared parts.now)) → (maps : List (FinMap key_cmp Sums))
         → AllZip (IsFileSum rows.old.width) (map rollup_of (shared parts.now)) maps
         → IsMade first (AllFit (with_maps (own workers worker turn maps) rows.old))
@@ -208,7 +215,8 @@ pub(crate) fn add_own_files<S: SealedFile>(
     Ok(next)
 }
 
-/// Adds the flows of a sealed segment's messages, after the templates that its own prefix restates.
+/// Adds the flows of a sealed segment's messages, after the templates that its own prefix restates; where it has none,
+/// its prefix is read all the same.
 fn add_whole<S: SealedFile>(
     alloc: Global,
     part: &SealedPart<S>,
@@ -216,17 +224,22 @@ fn add_whole<S: SealedFile>(
     first: u64,
     faults: &mut Faults<S>,
 ) -> Result<(), QueryError>
-    requires { 0 < part.now.messages }
+    ensures width { rows.new.width ≡ rows.old.width }
     ensures cause { HasCause QueryError.Fault faults.old faults.new result }
+    ensures found { IsTrue (is_honest part.now) → OnOk result ((sums : FinMap key_cmp Sums)
+        × IsSegmentSum rows.old.width (segment_of part.now) sums) }
     ensures given { IsTrue (is_honest part.now) → (sums : FinMap key_cmp Sums)
         → IsSegmentSum rows.old.width (segment_of part.now) sums
         → IsMade first (AllFit (added_if true sums rows.old)) (λ _. rows.new ≡ added_if true sums rows.old) result }
 {
     let mut templates = templates_of(alloc, part, faults)?;
+    if part.messages == 0 {
+        return Ok(());
+    }
     add_part(alloc, part, &mut templates, rows, first, faults)
 }
 
-/// The same of a segment that may have no messages, where it is the worker's own.
+/// The same, where it is the worker's own.
 fn add_own_segment<S: SealedFile>(
     alloc: Global,
     part: &SealedPart<S>,
@@ -235,15 +248,15 @@ fn add_own_segment<S: SealedFile>(
     first: u64,
     faults: &mut Faults<S>,
 ) -> Result<(), QueryError>
+    ensures width { rows.new.width ≡ rows.old.width }
     ensures cause { HasCause QueryError.Fault faults.old faults.new result }
+    ensures found { IsTrue (is_honest part.now) → OnOk result (mine ≡ true → (sums : FinMap key_cmp Sums)
+        × IsSegmentSum rows.old.width (segment_of part.now) sums) }
     ensures given { IsTrue (is_honest part.now) → (sums : FinMap key_cmp Sums)
         → IsSegmentSum rows.old.width (segment_of part.now) sums
         → IsMade first (AllFit (added_if mine sums rows.old)) (λ _. rows.new ≡ added_if mine sums rows.old) result }
 {
     if !mine {
-        return Ok(());
-    }
-    if part.messages == 0 {
         return Ok(());
     }
     add_whole(alloc, part, rows, first, faults)
@@ -262,8 +275,12 @@ pub(crate) fn add_own_segments<S: SealedFile>(
 ) -> Result<u32, QueryError>
     requires { turn < workers }
     ensures turn { IfOk result (λ next. (next ≡ turn_after workers (length parts.now) turn) × (next < workers)) }
+    ensures width { OnOk result (rows.new.width ≡ rows.old.width) }
     ensures cause { HasCause QueryError.Fault faults.old faults.new result }
-    // On honest disks: where these are the sums of their flows.
+    // On honest disks: those that fall to the worker are read whole.
+    ensures found { IsTrue (list_all is_honest (shared parts.now)) → OnOk result
+        (HaveSums (IsSegmentSum rows.old.width) (own workers worker turn (map segment_of (shared parts.now)))) }
+    // Where these are the sums of the flows of all, the worker's own are added.
     ensures given { IsTrue (list_all is_honest (shared parts.now)) → (maps : List (FinMap key_cmp Sums))
         → AllZip (IsSegmentSum rows.old.width) (map segment_of (shared parts.now)) maps
         → IsMade first (AllFit (with_maps (own workers worker turn maps) rows.old))
@@ -287,6 +304,8 @@ pub(crate) fn add_own_active(
     rows: &mut Rows,
     first: u64,
 ) -> Result<(), QueryError>
+    ensures found { OnOk result (mine ≡ true → (sums : FinMap key_cmp Sums)
+        × IsOwnSum rows.old.width prefix.now messages.now sums) }
     ensures given { (sums : FinMap key_cmp Sums) → IsOwnSum rows.old.width prefix.now messages.now sums
         → IsMade first (AllFit (added_if mine sums rows.old)) (λ _. rows.new ≡ added_if mine sums rows.old) result }
     ensures quiet { IfErr result (λ e. e ≢ QueryError.Fault) }

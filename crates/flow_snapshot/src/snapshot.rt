@@ -6,7 +6,7 @@ ghost use Rattle.flow_codec.specs.Templates.{AllTemplates};
 ghost use Rattle.flow_disk.specs.Cause.{HasCause};
 ghost use Rattle.flow_measure.specs.History.{flows_in, Accepted, History, IsHistory};
 ghost use Rattle.flow_measure.specs.Query.{flows_in_view, message_in_view, narrow_table_in, totals_between};
-ghost use Rattle.flow_measure.specs.Query.{totals_in_view};
+ghost use Rattle.flow_measure.specs.Query.{rows_of_both, totals_in_view};
 ghost use Rattle.flow_measure.specs.declared.rows.Sums.{Sums};
 ghost use Rattle.flow_measure.specs.Sums.{key_cmp, AllFit};
 ghost use Rattle.flow_measure.specs.View.{view_of, AreCountsOf, View};
@@ -15,7 +15,7 @@ ghost use Rattle.flow_segment.specs.Prefix.{IsRestated};
 ghost use Rattle.flow_snapshot.specs.Directories.{sight_of};
 ghost use Rattle.flow_snapshot.specs.Found.{first_prefix, AreKept, IsMessageAt, IsReadIn};
 ghost use Rattle.flow_snapshot.specs.Shares.{narrow_turn, own, summed, AllPartsFit, AreNarrow, AreShares, AreWide};
-ghost use Rattle.flow_snapshot.specs.Shares.{IsShare};
+ghost use Rattle.flow_snapshot.specs.Shares.{HaveSums, IsFileSum, IsNarrowRead, IsShare};
 ghost use Rattle.flow_snapshot.specs.Shelf.{cut_of, position_of, second_of};
 ghost use Rattle.flow_snapshot.specs.Told.{octets_in, IsAnswered};
 ghost use Rattle.flow_snapshot.specs.Totals.{first_file, wide_table_in, IsMade, IsWithinLimits, SumsFit};
@@ -322,6 +322,8 @@ impl<S: SealedFile> Snapshot<S> {
         requires { 0 < workers }
         ensures cause { HasCause QueryError.Fault faults.old faults.new result }
         ensures turn { IfOk result (λ r. (r.1 ≡ narrow_turn self.now.shelf workers) × (r.1 < workers)) }
+        ensures found { IsTrue self.now.honest → OnOk result
+            (HaveSums (IsFileSum self.now.shelf.wide) (own workers worker 0 self.now.shelf.merged)) }
         ensures given { IsTrue self.now.honest → (wide : List (FinMap key_cmp Sums)) → AreWide self.now.shelf wide
             → IsMade first (AllFit (summed self.now.shelf.wide wide))
             (λ r. r.0 ≡ summed self.now.shelf.wide (own workers worker 0 wide)) result }
@@ -345,6 +347,7 @@ impl<S: SealedFile> Snapshot<S> {
     ) -> Result<Rows, QueryError>
         requires { turn < workers }
         ensures cause { HasCause QueryError.Fault faults.old faults.new result }
+        ensures found { IsTrue self.now.honest → OnOk result (IsNarrowRead self.now.shelf workers worker turn) }
         ensures given { IsTrue self.now.honest → (narrow : List (FinMap key_cmp Sums))
             → AreNarrow self.now.shelf narrow → IsMade first (AllFit (summed self.now.shelf.width narrow))
             (λ rows. rows ≡ summed self.now.shelf.width (own workers worker turn narrow)) result }
@@ -398,6 +401,9 @@ impl<S: SealedFile> Snapshot<S> {
         requires shares { AreShares self.now shares.items }
         requires first { first ≡ first_file self.now.shelf }
         ensures cause { HasCause QueryError.Fault faults.old faults.new result }
+        // On honest disks: all parts were read whole.
+        ensures found { IsTrue self.now.honest → OnOk result ((wide : List (FinMap key_cmp Sums))
+            × (narrow : List (FinMap key_cmp Sums)) × AreWide self.now.shelf wide × AreNarrow self.now.shelf narrow) }
         ensures given { IsTrue self.now.honest → (wide narrow : List (FinMap key_cmp Sums))
             → AreWide self.now.shelf wide → AreNarrow self.now.shelf narrow
             → IsMade first (AllPartsFit self.now.shelf wide narrow)
@@ -426,6 +432,9 @@ impl<S: SealedFile> Snapshot<S> {
         requires shares { AreShares self.now shares.items }
         requires first { first ≡ first_file self.now.shelf }
         ensures cause { HasCause QueryError.Fault faults.old faults.new result }
+        // On honest disks: all parts were read whole.
+        ensures found { IsTrue self.now.honest → OnOk result ((wide : List (FinMap key_cmp Sums))
+            × (narrow : List (FinMap key_cmp Sums)) × AreWide self.now.shelf wide × AreNarrow self.now.shelf narrow) }
         ensures given { IsTrue self.now.honest → (wide narrow : List (FinMap key_cmp Sums))
             → AreWide self.now.shelf wide → AreNarrow self.now.shelf narrow
             → IsMade first (AllPartsFit self.now.shelf wide narrow)
@@ -453,6 +462,12 @@ impl<S: SealedFile> Snapshot<S> {
         requires some { 0 < length shares.items }
         requires shares { AreShares self.now shares.items }
         ensures cause { HasCause QueryError.Fault faults.old faults.new result }
+        // On honest disks, also where files are damaged: the totals of all parts, each of which was read whole, with
+        // its own prefix.
+        ensures found { IsTrue self.now.honest → IfOk result (λ rows. (wide : List (FinMap key_cmp Sums))
+            × (narrow : List (FinMap key_cmp Sums)) × AreWide self.now.shelf wide × AreNarrow self.now.shelf narrow
+            × (rows.items ≡ rows_of_both from to (summed self.now.shelf.width narrow)
+            (summed self.now.shelf.wide wide))) }
         ensures given { IsTrue self.now.honest → (v : View) → IsViewOf self.now.shelf v
             → IsMade (first_file self.now.shelf) (SumsFit v) (λ rows. rows.items ≡ totals_in_view from to v) result }
         ensures answered { IsTrue self.now.honest → (h : History) (counts : List ℕ) → IsHistory h → AreCountsOf h counts

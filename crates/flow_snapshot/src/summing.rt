@@ -62,6 +62,7 @@ pub(crate) fn add_file<S: SealedFile>(
     first: u64,
     faults: &mut Faults<S>,
 ) -> Result<(), QueryError>
+    ensures width { rows.new.width ≡ rows.old.width }
     ensures cause { HasCause QueryError.Fault faults.old faults.new result }
     // On an honest disk: it is the rolled file of some sums.
     ensures found { IsTrue part.now.honest → OnOk result ((sums : FinMap key_cmp Sums)
@@ -111,6 +112,7 @@ pub(crate) fn add_part<S: SealedFile>(
     first: u64,
     faults: &mut Faults<S>,
 ) -> Result<(), QueryError>
+    ensures width { rows.new.width ≡ rows.old.width }
     ensures cause { HasCause QueryError.Fault faults.old faults.new result }
     // On an honest disk: accepted messages fill it.
     ensures found { IsTrue (S.honest part.now.reader) → OnOk result

@@ -7,6 +7,7 @@ use Rattle.flow_snapshot.specs.Shares.{added_if}
 use Rattle.flow_snapshot.specs.Totals.{IsMade}
 use Rattle.flow_snapshot.proofs.Adding.{made_blameless}
 use Rattle.flow_snapshot.proofs.Dealing.{flows_added, made_as}
+use Rattle.flow_snapshot.proofs.Dealt.{own_sum, then_ok}
 use Rattle.flow_snapshot.proofs.shares.add_own_active.Goals as goal
 
 pub returns-in_err-templates-clause-given : goal.returns-in_err-templates-clause-given
@@ -26,3 +27,7 @@ returns-clause-given c = λ sums is.
     (λ _. c.add_active.new.rows ≡ added_if true sums old) c.add_active.result (subst AllFit (sym same))
     (λ _ h. h.1 ∙ same) (c.add_active.ensures.given list
     (subst (λ (t : AllTemplates). AreAcceptedFrom t list) (sym start) is.3) is.4))
+
+pub returns-clause-found : goal.returns-clause-found
+returns-clause-found c = then_ok _ _ c.add_active.result (λ found _. own_sum c.args.rows.now.width c.args.prefix.now
+    c.args.messages.now c.in_ok-templates.templates c.in_ok-templates.ensures.found found) c.add_active.ensures.found

@@ -1,9 +1,10 @@
-use Rattle.std.proofs.Common.{ap, length, map, refl, sym, ◌∙◌}
-use Rattle.std.proofs.lemmas.List.{drop_all}
+use Rattle.std.proofs.Common.{ap, length, map, refl, subst, sym, ◌∙◌}
+use Rattle.std.proofs.lemmas.List.{drop_all, take_all}
 use Rattle.flow_snapshot.specs.Files.{is_honest, segment_of, shared}
-use Rattle.flow_snapshot.specs.Shares.{own, turn_after, IsSegmentSum}
+use Rattle.flow_snapshot.specs.Shares.{own, turn_after, HaveSums, IsSegmentSum}
 use Rattle.flow_snapshot.specs.Totals.{with_maps}
 use Rattle.flow_snapshot.proofs.KeptFlows.{next_item}
+use Rattle.flow_snapshot.proofs.Dealt.{none_so_far, part_read}
 use Rattle.flow_snapshot.proofs.Dealing.{none_left, own_next, own_refused, turn_step}
 use Rattle.flow_snapshot.proofs.shares.add_own_segments.Goals as goal
 
@@ -12,6 +13,8 @@ loop-part-init g c = record {
   faults = refl;
   within = c.requires;
   turn = refl;
+  width = refl;
+  found = λ honest. none_so_far (IsSegmentSum c.args.rows.now.width) c.args.workers c.args.worker c.args.turn;
   left = λ honest maps each. record { rest = maps; each = each; is = refl };
 }
 
@@ -22,6 +25,12 @@ loop-part-preserved g c = record {
   turn = turn_step c.args.workers c.loop-part.next c.next_turn-next.result c.args.parts.now c.loop-part.part-index
       c.part-item.result _ (next_item c.args.parts.now c.loop-part.part-index c.part-item.result c.part-item.result
       c.loop-part-test.true c.part-item.is refl) c.next_turn-next.ensures.next c.loop-part.invariant.turn;
+  width = c.in_ok-add_own_segment.ensures.width ∙ c.loop-part.invariant.width;
+  found = λ honest. part_read IsSegmentSum (segment_of {files = g.S.SealedFile}) (is_honest {files = g.S.SealedFile}) c.args.parts.now c.loop-part.part-index c.part-item.result
+      c.deref.result.now c.loop-part-test.true c.part-item.is c.deref.ensures honest c.args.workers c.args.worker
+      c.args.turn c.args.rows.now.width c.loop-part.rows.width c.loop-part.next c.next_turn-next.result
+      c.loop-part.invariant.width (c.loop-part.invariant.found honest) c.next_turn-next.ensures.next
+      c.in_ok-add_own_segment.ensures.found;
   left = λ honest maps each.
       own_next IsSegmentSum (segment_of {files = g.S.SealedFile}) (is_honest {files = g.S.SealedFile})
       c.args.parts.now c.loop-part.part-index c.part-item.result c.deref.result.now
@@ -48,6 +57,12 @@ returns-clause-turn g c = (
       (drop_all c.loop-part.part-index c.args.parts.now c.loop-part-test.false)) ∙ c.loop-part.invariant.turn,
   c.loop-part.invariant.within,
 )
+
+pub returns-clause-found : goal.returns-clause-found
+returns-clause-found g c = λ honest.
+    let P = IsSegmentSum c.args.rows.now.width in
+    subst (λ ps. HaveSums P (own c.args.workers c.args.worker c.args.turn (map (segment_of {files = g.S.SealedFile}) (shared ps))))
+    (take_all c.loop-part.part-index c.args.parts.now c.loop-part-test.false) (c.loop-part.invariant.found honest).have
 
 pub returns-clause-given : goal.returns-clause-given
 returns-clause-given g c = λ honest maps each.

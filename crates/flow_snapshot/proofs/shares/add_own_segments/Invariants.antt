@@ -1,4 +1,4 @@
-use Rattle.std.proofs.Common.{◌≡◌, ◌<◌, List, drop, length, map}
+use Rattle.std.proofs.Common.{◌≡◌, ◌<◌, List, drop, length, map, take}
 use Rattle.std.specs.Prelude.{IsTrue}
 use Rattle.std.specs.FinMap.{FinMap}
 use Rattle.std.specs.List.{list_all, AllZip}
@@ -8,6 +8,7 @@ use Rattle.flow_snapshot.specs.Files.{is_honest, segment_of, shared}
 use Rattle.flow_snapshot.specs.Shares.{own, turn_after, IsSegmentSum}
 use Rattle.flow_snapshot.specs.Totals.{with_maps}
 use Rattle.flow_snapshot.proofs.Dealing.{Left}
+use Rattle.flow_snapshot.proofs.Dealt.{ReadSoFar}
 use Rattle.flow_snapshot.proofs.shares.add_own_segments.Given as goal
 
 -- what falls to the worker of the parts so far was added
@@ -17,6 +18,9 @@ invariant-loop-part g l = record {
   within : l.next < l.workers;
   turn : turn_after l.workers (length (drop l.part-index l.parts)) l.next
       ≡ turn_after l.workers (length l.parts) l.turn;
+  width : l.rows.width ≡ l.fn.rows.width;
+  found : IsTrue (list_all (is_honest {files = g.S.SealedFile}) (shared l.parts)) → ReadSoFar (IsSegmentSum l.fn.rows.width) l.workers l.worker l.turn
+      (map (segment_of {files = g.S.SealedFile}) (shared (take l.part-index l.parts))) l.next;
   left : IsTrue (list_all (is_honest {files = g.S.SealedFile}) (shared l.parts)) → (maps : List (FinMap key_cmp Sums))
       → AllZip (IsSegmentSum l.fn.rows.width) (map (segment_of {files = g.S.SealedFile}) (shared l.parts)) maps
       → Left (IsSegmentSum l.fn.rows.width) l.workers l.worker

@@ -4,7 +4,7 @@ use Rattle.std.specs.List.{list_all, AllZip}
 use Rattle.flow_measure.specs.Sums.{AllFit, Table}
 use Rattle.flow_snapshot.specs.Directories.{sight_of}
 use Rattle.flow_snapshot.specs.Files.{is_honest, is_honest_sum, shared}
-use Rattle.flow_snapshot.specs.Shares.{own, summed, AreWide, IsFileSum}
+use Rattle.flow_snapshot.specs.Shares.{own, summed, AreWide, HaveSums, IsFileSum}
 use Rattle.flow_snapshot.specs.Sight.{Sight}
 use Rattle.flow_snapshot.specs.Totals.{with_maps}
 use Rattle.flow_snapshot.proofs.Adding.{made_err}
@@ -30,6 +30,22 @@ returns-in_err-turn-clause-given g c = λ honest wide are.
     made_err _ c.args.first (AllFit (with_maps (own c.args.workers c.args.worker 0 wide) start))
     (AllFit (summed s.wide wide)) c.from_residual.result c.in_err-turn.field-0.0
     (wide_fit s c.args.workers c.args.worker wide start none) c.from_residual.ensures.1 (given sums wide each)
+
+pub returns-clause-found : goal.returns-clause-found
+returns-clause-found g c = λ honest.
+    let inside = c.self.inside in
+    let files = inside.files in
+    let s = (sight_of inside.width inside.wide files).shelf in
+    let seen = subst (λ (x : Sight). IsTrue x.honest) (sym c.self.view_is) honest in
+    let merged = list_all is_honest_sum (shared files.merged.items) in
+    let rolled = list_all is_honest_sum (shared files.rolled.items) in
+    let sealed = list_all (is_honest {files = g.S.SealedFile}) (shared files.sealed.items) in
+    let sums = first_of_two merged rolled (first_of_two (merged && rolled) sealed seen) in
+    let found = (rw c.as_slice-merged.ensures.value at c.in_ok-turn.ensures.found) sums in
+    let own_parts = own c.args.workers c.args.worker 0 s.merged in
+    subst (λ (x : Sight). HaveSums (IsFileSum x.shelf.wide) (own c.args.workers c.args.worker 0 x.shelf.merged))
+    c.self.view_is (subst (λ (w : ℕ). HaveSums (IsFileSum w) own_parts)
+    (ap (λ (t : Table). t.width) c.new-wide.ensures) found)
 
 pub returns-clause-given : goal.returns-clause-given
 returns-clause-given g c = λ honest wide are.
