@@ -7,9 +7,11 @@ use Rattle.flow_measure.specs.Sums.{Table, key_cmp}
 use Rattle.flow_measure.specs.History.{read_from}
 use Rattle.flow_measure.specs.View.{View, gathered_all}
 use Rattle.flow_rolled.proofs.Breaking.{one_table}
-use Rattle.flow_snapshot.specs.Shelf.{Rollup, Shelf, kept_of}
-use Rattle.flow_snapshot.specs.Views.{AreRolled, AreRolledInto, IsViewOf}
-use Rattle.flow_snapshot.proofs.Accepting.{first_restated, read_as}
+use Rattle.flow_segment.specs.Prefix.{IsRestated}
+use Rattle.flow_snapshot.specs.Found.{first_prefix, IsReadIn}
+use Rattle.flow_snapshot.specs.Shelf.{Rollup, Segment, Shelf, kept_of}
+use Rattle.flow_snapshot.specs.Views.{AreRestated, AreRolled, AreRolledInto, IsViewOf}
+use Rattle.flow_snapshot.proofs.Accepting.{one_restated, read_as}
 
 pub one_rolled : (width : ℕ) (rs : List Rollup) (ms ns : List (FinMap key_cmp Sums)) → width < 2 ^ 32
     → AreRolled width rs ms → AreRolled width rs ns → ms ≡ ns
@@ -43,14 +45,38 @@ same_view v w merged rolled kept templates second cut position width wide = λ i
   wide = wide i;
 }
 
-pub one_view : (s : Shelf) (v w : View) → s.width < 2 ^ 32 → s.wide < 2 ^ 32 → IsViewOf s v → IsViewOf s w → v ≡ w
-one_view s v w narrow wide h k =
+first_of_all : (before : AllTemplates) (gs : List Segment) (active : List ℕ) → AreRestated before gs active
+    → IsRestated (first_prefix gs active) before
+first_of_all before [] active r = r
+first_of_all before (g ∷ gs) active r = r.0
+
+pub view_read : (s : Shelf) (v : View) → IsViewOf s v → IsReadIn s v
+view_read s v is = record {
+  merged = is.merged;
+  rolled = is.rolled;
+  kept = record {
+    prefix = first_of_all v.templates s.sealed s.prefix is.prefixes;
+    accepted = is.accepted;
+    octets = is.kept;
+  };
+  second = is.second;
+  cut = is.cut;
+  position = is.position;
+  width = is.width;
+  wide = is.wide;
+}
+
+pub one_read : (s : Shelf) (v w : View) → s.width < 2 ^ 32 → s.wide < 2 ^ 32 → IsReadIn s v → IsReadIn s w → v ≡ w
+one_read s v w narrow wide h k =
     let templates : v.templates ≡ w.templates =
-    first_restated s.sealed s.prefix v.templates w.templates h.prefixes k.prefixes in
+    one_restated (first_prefix s.sealed s.prefix) v.templates w.templates h.kept.prefix k.kept.prefix in
     let kept : v.kept ≡ w.kept =
-    sym (read_as v.templates v.kept (kept_of s) h.accepted h.kept)
+    sym (read_as v.templates v.kept (kept_of s) h.kept.accepted h.kept.octets)
     ∙ ap (λ (t : AllTemplates). read_from t (kept_of s)) templates
-    ∙ read_as w.templates w.kept (kept_of s) k.accepted k.kept in
+    ∙ read_as w.templates w.kept (kept_of s) k.kept.accepted k.kept.octets in
     same_view v w (one_merged s.wide s.merged v.merged w.merged wide h.merged k.merged)
     (one_rolled s.width s.rolled v.rolled w.rolled narrow h.rolled k.rolled) kept templates (h.second ∙ sym k.second)
     (h.cut ∙ sym k.cut) (h.position ∙ sym k.position) (h.width ∙ sym k.width) (h.wide ∙ sym k.wide)
+
+pub one_view : (s : Shelf) (v w : View) → s.width < 2 ^ 32 → s.wide < 2 ^ 32 → IsViewOf s v → IsViewOf s w → v ≡ w
+one_view s v w narrow wide h k = one_read s v w narrow wide (view_read s v h) (view_read s w k)

@@ -30,7 +30,7 @@ pub record AreKept (s : Shelf) (before : AllTemplates) (kept : List Accepted) : 
   pub octets : octets_of kept ≡ kept_of s
 
 -- The view of a shelf, as it is read from all its files: from each rolled file, each kept message, and the first
--- prefix. Those of later segments, which restate the same templates unless they are damaged, are not read.
+-- prefix. Later prefixes are not read, since they restate templates that are known by then.
 pub record IsReadIn (s : Shelf) (v : View) : Type 0 where
   pub merged : AreRolledInto s.wide s.merged v.merged
   pub rolled : AreRolled s.width s.rolled v.rolled

@@ -9,6 +9,7 @@ ghost use Rattle.flow_measure.specs.Sums.{table_of};
 ghost use Rattle.flow_measure.specs.View.{view_of, AreCountsOf, View};
 ghost use Rattle.flow_snapshot.specs.Shelf.{messages_of, new_shelf, Shelf};
 ghost use Rattle.flow_snapshot.specs.Files.{cut_into};
+ghost use Rattle.flow_snapshot.specs.Found.{IsReadIn};
 ghost use Rattle.flow_snapshot.specs.Views.{IsViewOf};
 ghost use Rattle.flow_snapshot.specs.Changes.{applied, counts_of, history_after, merged_table, new_history};
 ghost use Rattle.flow_snapshot.specs.Changes.{Allows, Change};
@@ -16,6 +17,13 @@ ghost use Rattle.flow_snapshot.specs.Changes.{Allows, Change};
 /// A shelf has one view at most.
 pub fn one_view()
     ensures { (s : Shelf) (v w : View) → s.width < 2 ^ 32 → s.wide < 2 ^ 32 → IsViewOf s v → IsViewOf s w → v ≡ w }
+{}
+
+/// Each view of a shelf is read in its files, and no two views are. So where a shelf has a view, what is read in its files
+/// is that one.
+pub fn views_are_read()
+    ensures read { (s : Shelf) (v : View) → IsViewOf s v → IsReadIn s v }
+    ensures one { (s : Shelf) (v w : View) → s.width < 2 ^ 32 → s.wide < 2 ^ 32 → IsReadIn s v → IsReadIn s w → v ≡ w }
 {}
 
 /// A shelf that has the view of a history has, after each change that may be made there, the view of the history after

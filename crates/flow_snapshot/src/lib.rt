@@ -5,7 +5,8 @@
 //! with it; a `Snapshot` never changes, and takes no memory to be made. Its position and cuts are those of its shelf;
 //! the messages, the flows and the totals that it answers are, on honest disks, those of each view of its files. So
 //! damage is told only where there is none, or where a sum of the view would pass its type, which no sum of a history
-//! within the limits does; and 30 only where a read failed in that call.
+//! within the limits does; and 30 only where a read failed in that call. Whatever is damaged, what it answers was read
+//! whole: flows of all kept messages, totals of all files. No file is passed over.
 //!
 //! Workers can share the files of one query of totals: each answers the sums of its own, and what comes of all their
 //! answers is what one call answers.
@@ -27,7 +28,7 @@ mod summing;
 pub use directory::Directory;
 pub use error::QueryError;
 pub use files::Files;
-pub use laws::{one_view, parts_are, views_follow};
+pub use laws::{one_view, parts_are, views_are_read, views_follow};
 pub use shares::{PartSums, Share};
 pub use snapshot::Snapshot;
 pub use step::{Mark, Step};
