@@ -1,11 +1,14 @@
 //! A query by several threads.
 
-ghost use Rattle.std.specs.Prelude.{◌≡◌, ◌<◌, ◌≤◌, ℕ, IsTrue, List};
+ghost use Rattle.std.specs.Prelude.{◌≡◌, ◌<◌, ◌≤◌, ℕ, IfOk, IsTrue, List};
+ghost use Rattle.std.specs.FinMap.{FinMap};
 ghost use Rattle.flow_disk.specs.Cause.{HasCause};
 ghost use Rattle.flow_measure.specs.History.{History, IsHistory};
-ghost use Rattle.flow_measure.specs.Query.{totals_between, totals_in_view};
+ghost use Rattle.flow_measure.specs.declared.rows.Sums.{Sums};
+ghost use Rattle.flow_measure.specs.Query.{rows_of_both, totals_between, totals_in_view};
+ghost use Rattle.flow_measure.specs.Sums.{key_cmp};
 ghost use Rattle.flow_measure.specs.View.{view_of, AreCountsOf, View};
-ghost use Rattle.flow_snapshot.specs.Shares.{IsShare};
+ghost use Rattle.flow_snapshot.specs.Shares.{summed, AreNarrow, AreWide, IsShare};
 ghost use Rattle.flow_snapshot.specs.Told.{IsAnswered};
 ghost use Rattle.flow_snapshot.specs.Totals.{first_file, IsMade, IsWithinLimits, SumsFit};
 ghost use Rattle.flow_snapshot.specs.Views.{IsViewOf};
@@ -54,8 +57,13 @@ pub fn scan_by_parts<S: SealedFile + Send + Sync, R: Threads + Sync, G: Gate + S
 ) -> Result<Vec<Row>, QueryError>
     requires workers { (0 < workers) × (workers ≤ 64) }
     ensures cause { HasCause QueryError.Fault faults.old faults.new result }
-    // On honest disks: what is answered by each view of the files; where its sums fit their types no damage is
-    // reported.
+    // On honest disks, also where files are damaged: the totals of all parts, each of which was read whole, with its own
+    // prefix.
+    ensures found { IsTrue snapshot.now.honest → IfOk result (λ rows. (wide : List (FinMap key_cmp Sums))
+        × (narrow : List (FinMap key_cmp Sums)) × AreWide snapshot.now.shelf wide × AreNarrow snapshot.now.shelf narrow
+        × (rows.items ≡ rows_of_both from to (summed snapshot.now.shelf.width narrow)
+        (summed snapshot.now.shelf.wide wide))) }
+    // What is answered by each view of the files; where its sums fit their types no damage is reported.
     ensures given { IsTrue snapshot.now.honest → (v : View) → IsViewOf snapshot.now.shelf v
         → IsMade (first_file snapshot.now.shelf) (SumsFit v) (λ rows. rows.items ≡ totals_in_view from to v) result }
     // Where the view is that of a history within the limits: its totals, and never damage.
