@@ -1,7 +1,8 @@
-"""kill.py FLOWVAULT [KILLS]: feeds an archive in a folder, kills the program at a random moment, and opens the archive
-again, until it was killed so many times (100). Each time it is compared with what was given to it: at least the
-messages of the Files that were told are there; they are the first ones, in their order, each once; and its totals are
-those of `measure` of exactly these messages. The archive is rolled as it is fed."""
+"""kill.py FLOWVAULT [KILLS]: feeds eight Files at once to an archive in a folder, kills the program at a random moment,
+and opens the archive again, until it was killed so many times (100). Each time it is compared with what was given to
+it: all messages of a File whose line came are there; of each other File, which has a domain of its own, as many as its
+domain's flows say; and the totals are those of `measure` of exactly the first so many of each. The archive is rolled
+as it is fed."""
 import os
 import random
 import struct
@@ -47,7 +48,7 @@ with tempfile.TemporaryDirectory(dir=os.environ.get("TMPDIR", ".")) as place:
     folder = os.path.join(place, "archive")
     os.mkdir(folder)
     asked("create", folder, "300", "--limit", "65535")
-    history, rounds, killed, longest = [], 0, 0, 0.2
+    history, counts, rounds, killed, longest = [], [0] * 8, 0, 0, 0.2
     while killed < kills:
         rounds += 1
         files = [file_of(n, 150) for n in range(8)]
@@ -56,16 +57,23 @@ with tempfile.TemporaryDirectory(dir=os.environ.get("TMPDIR", ".")) as place:
             paths.append(os.path.join(place, "%d.ipfix" % n))
             with open(paths[-1], "wb") as it:
                 it.write(b"".join(messages))
-        given = [message for messages in files for message in messages]
         told, status = fed_until(folder, paths, random.uniform(0, longest))
         killed += status != 0
         longest = longest * 1.2 if status else longest / 1.2
         position = int(asked("check", folder).split()[1])
-        taken = position - len(history)
-        if not sum(told) <= taken <= len(given):
-            sys.exit("round %d: %d messages were told, %d are there of %d" % (rounds, sum(told), taken, len(given)))
-        history += given[:taken]
-        if asked("totals", folder, "0", "4294967296") != asked("measure", "300", octets=b"".join(history)):
-            sys.exit("round %d: the totals aren't those of the first %d messages" % (rounds, position))
+        totals = asked("totals", folder, "0", "4294967296")
+        flows = [0] * 8
+        for line in totals.splitlines():
+            flows[int(line.split()[1]) - 1] += int(line.split()[3])
+        for n, messages in enumerate(files):
+            taken, rest = divmod(flows[n] - counts[n], 20)
+            if rest or not (told[n] if n < len(told) else 0) <= taken <= len(messages):
+                sys.exit("round %d: File %d has %d flows of %d messages more" % (rounds, n, flows[n] - counts[n], taken))
+            history += messages[:taken]
+        counts = flows
+        if position != len(history):
+            sys.exit("round %d: %d messages are there, and flows of %d" % (rounds, position, len(history)))
+        if totals != asked("measure", "300", octets=b"".join(history)):
+            sys.exit("round %d: the totals aren't those of the first messages of each File" % rounds)
     told = asked("check", folder).strip()
     print("%d rounds, %d of them killed; %d messages, %s" % (rounds, killed, len(history), told))

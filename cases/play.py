@@ -10,6 +10,8 @@ import shutil
 import subprocess
 import sys
 import tempfile
+import threading
+import time
 
 SECONDS = 60
 
@@ -24,7 +26,13 @@ class Run:
     def __init__(self, place, words, given):
         self.place, self.words, self.given = place, words, given
         self.out, self.err, self.status = [], [], 0
-        self.begins, self.columns = None, None
+        self.begins, self.columns, self.by = None, None, None
+
+    def sorted(self, octets):
+        """Lines in the order of the word that they are sorted by, if any; those with one such word stay in order."""
+        if self.by is None:
+            return octets
+        return b"".join(sorted(octets.splitlines(True), key=lambda line: line.split()[self.by - 1]))
 
     def differs(self, got):
         """Yields each difference of what came, as (what, wanted, came)."""
@@ -32,8 +40,8 @@ class Run:
             yield "status", self.status, got.returncode
         if self.begins is None:
             wanted = "".join(line + "\n" for line in self.out).encode()
-            if got.stdout != wanted:
-                yield "out", wanted, got.stdout
+            if self.sorted(got.stdout) != wanted:
+                yield "out", wanted, self.sorted(got.stdout)
         elif not got.stdout.startswith(self.begins.encode()) or not got.stdout:
             yield "out, from its start", self.begins.encode(), got.stdout
         wanted = "".join(line + "\n" for line in self.err).encode()
@@ -55,13 +63,16 @@ class Case:
 
 
 def octets_of(words, named):
-    """The octets of words: hexadecimal digits, `XX*N`, a text in double quotes, or a name."""
+    """The octets of words: hexadecimal digits, `XX*N`, a text in double quotes, a name, or `NAME*N`."""
     octets = b""
     for word in words:
         if word == "|":
             continue
         if word in named:
             octets += named[word]
+        elif re.fullmatch(r"[^*]+\*[0-9]+", word) and word.split("*")[0] in named:
+            name, count = word.split("*")
+            octets += named[name] * int(count)
         elif word.startswith('"') and word.endswith('"') and len(word) > 1:
             octets += word[1:-1].encode()
         elif re.fullmatch(r"(?:[0-9A-Fa-f]{2})+\*[0-9]+", word):
@@ -121,8 +132,9 @@ def hold(held, name):
 
 
 def let_go(held):
-    while held:
-        os.close(held.pop())
+    for handle in [each for each in held if isinstance(each, int)]:
+        held.remove(handle)
+        os.close(handle)
     return []
 
 
@@ -138,16 +150,69 @@ def look_at_octets(held, name, at, wanted):
     return [] if came == wanted else [("holds", wanted.hex(), came.hex())]
 
 
+def remember_names(held, name):
+    """The names of a folder, in a file beside it."""
+    return make_file(held, name + ".names", "\n".join(sorted(os.listdir(name))).encode())
+
+
+def look_at_kept_names(held, name):
+    with open(name + ".names", "rb") as file:
+        wanted = file.read().decode().split("\n")
+    return look_at_names(held, name, wanted)
+
+
+class Pour(threading.Thread):
+    """Writes octets to a pipe, and closes it when a file has so many octets, or after ten seconds."""
+
+    def __init__(self, pipe, path, count, octets):
+        super().__init__()
+        self.pipe, self.path, self.count, self.octets, self.seen = pipe, path, count, octets, False
+        self.start()
+
+    def run(self):
+        with open(self.pipe, "wb", buffering=0) as pipe:
+            pipe.write(self.octets)
+            for _ in range(1000):
+                if os.path.exists(self.path) and os.path.getsize(self.path) >= self.count:
+                    self.seen = True
+                    return
+                time.sleep(0.01)
+
+
+def pour(held, *words):
+    held.append(Pour(*words))
+    return []
+
+
+def poured(held):
+    """Whether each file had its octets while its pipe was open."""
+    came = []
+    for each in [each for each in held if isinstance(each, Pour)]:
+        held.remove(each)
+        each.join()
+        if not each.seen:
+            came.append(("pour", "%s of %d octets before the pipe is closed" % (each.path, each.count), "none"))
+    return came
+
+
 def run(held, program, wanted):
     try:
         got = subprocess.run([program, *wanted.words], input=wanted.given, capture_output=True, timeout=SECONDS)
     except subprocess.TimeoutExpired:
         return [("end", "within %d seconds" % SECONDS, "none")]
-    return list(wanted.differs(got))
+    return list(wanted.differs(got)) + poured(held)
 
 
 # The steps that a name alone follows.
-STEPS = {"folder": make_folder, "pipe": make_pipe, "remove": remove, "cut": cut, "hold": hold}
+STEPS = {
+    "folder": make_folder,
+    "pipe": make_pipe,
+    "remove": remove,
+    "cut": cut,
+    "hold": hold,
+    "names": remember_names,
+    "kept": look_at_kept_names,
+}
 
 
 # ---- Reading ----
@@ -179,7 +244,7 @@ class Reader:
             self.run = None
         elif not self.cases:
             raise Bad("'%s' stands before the first case" % word)
-        elif word in ("out", "out*", "err", "status", "columns"):
+        elif word in ("out", "out*", "err", "status", "columns", "by"):
             self.expect(word, rest)
         else:
             self.step(place, word, rest)
@@ -196,6 +261,8 @@ class Reader:
             self.run.err.append(rest)
         elif word == "status":
             self.run.status = int(rest)
+        elif word == "by":
+            self.run.by = int(rest)
         else:
             self.run.columns = int(rest)
 
@@ -215,6 +282,9 @@ class Reader:
         elif word == "holds":
             name, at, *text = rest.split()
             steps.append((place, look_at_octets, [name, int(at), octets_of(text, self.named)]))
+        elif word == "pour":
+            pipe, path, count, *text = rest.split()
+            steps.append((place, pour, [pipe, path, int(count), octets_of(text, self.named)]))
         elif word == "listed":
             steps.append((place, look_at_names, [words[0], words[2:]]))
         elif word == "link":

@@ -39,14 +39,14 @@ fn main(rt: HostRuntime) -> ExitCode {
     let mut output = rt.stdout();
     let mut errors = rt.stderr();
     let terminal = errors.is_terminal().then_some(rt.stderr());
-    let mut progress = Progress::new(terminal);
+    let progress = Progress::new(terminal);
     let status = run_line(
         &rt,
         words.as_slice(),
         &mut input,
         &mut output,
         &mut errors,
-        &mut progress,
+        &progress,
     );
     ExitCode::from(status)
 }

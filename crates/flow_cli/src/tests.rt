@@ -1,10 +1,15 @@
 // What no clause says and no case of cases/ can: readers and writers that fail, and what is shown before a terminal.
 use flow_commands::Progress;
+use flow_folder::Lockable;
 use flow_words::run_line;
-use std::alloc::{AllocError, Global};
+use std::alloc::{AllocError, AllocGlobal, Global};
+use std::fs::Files;
 use std::io::{ErrorKind, Read, Write};
+use std::os::unix::fs::FileExt;
 use std::process::Abort;
+use std::sync::Wait;
 use std::test::*;
+use std::thread::Threads;
 use std::{fs, io};
 
 /// A template of elements 150, 4, 1 and 2, and a flow.
@@ -38,24 +43,37 @@ struct Answer {
 }
 
 /// Runs these words, behind the program's name, where standard error is no terminal.
-fn ran<R: Read, W: Write>(
-    host: &HostRuntime,
+fn ran<H: Files + AllocGlobal + Clone + Drop + Threads + Wait + Send + Sync, R: Read, W: Write>(
+    host: &H,
     words: &[&str],
     input: &mut R,
     output: &mut W,
-) -> Result<Answer, AllocError> {
-    let mut progress: Progress<Vec<u8>> = Progress::new(None);
-    ran_before(host, words, input, output, &mut progress)
+) -> Result<Answer, AllocError>
+where
+    H::File: FileExt + Lockable + Send + Sync,
+    H::Dir: Send + Sync,
+{
+    let progress: Progress<Vec<u8>> = Progress::new(None);
+    ran_before(host, words, input, output, &progress)
 }
 
 /// Runs these words, where progress is shown.
-fn ran_before<R: Read, W: Write, P: Write + Drop>(
-    host: &HostRuntime,
+fn ran_before<
+    H: Files + AllocGlobal + Clone + Drop + Threads + Wait + Send + Sync,
+    R: Read,
+    W: Write,
+    P: Write + Drop + Send,
+>(
+    host: &H,
     words: &[&str],
     input: &mut R,
     output: &mut W,
-    progress: &mut Progress<P>,
-) -> Result<Answer, AllocError> {
+    progress: &Progress<P>,
+) -> Result<Answer, AllocError>
+where
+    H::File: FileExt + Lockable + Send + Sync,
+    H::Dir: Send + Sync,
+{
     let alloc = host.alloc();
     let mut line = Vec::new(alloc);
     line.push("flowvault")?;
@@ -66,15 +84,19 @@ fn ran_before<R: Read, W: Write, P: Write + Drop>(
 }
 
 /// Runs these words on a File, and compares all that it answers.
-fn answers(
-    rt: &impl Abort,
-    host: &HostRuntime,
+fn answers<A: Abort, H: Files + AllocGlobal + Clone + Drop + Threads + Wait + Send + Sync>(
+    rt: &A,
+    host: &H,
     words: &[&str],
     file: &[u8],
     status: u8,
     lines: &str,
     told: &str,
-) -> Result<(), Fail> {
+) -> Result<(), Fail>
+where
+    H::File: FileExt + Lockable + Send + Sync,
+    H::Dir: Send + Sync,
+{
     let mut input = file;
     let mut output = Vec::new(host.alloc());
     let got = ran(host, words, &mut input, &mut output)?;
@@ -164,7 +186,14 @@ fn help_that_is_written_or_not(rt: HostRuntime) -> Result<(), Fail> {
 }
 
 /// An archive in a folder, and beside it a File of the plain message.
-fn with_file(rt: &HostRuntime, folder: &str) -> Result<(), Fail> {
+fn with_file<H: Files + AllocGlobal + Clone + Drop + Threads + Wait + Send + Sync>(
+    rt: &H,
+    folder: &str,
+) -> Result<(), Fail>
+where
+    H::File: FileExt + Lockable + Send + Sync,
+    H::Dir: Send + Sync,
+{
     let alloc = rt.alloc();
     let _ = fs::remove_dir_all(rt, folder);
     fs::create_dir(rt, folder)?;
@@ -180,7 +209,7 @@ fn with_file(rt: &HostRuntime, folder: &str) -> Result<(), Fail> {
     }
 }
 
-/// What was taken in stays where its line can't be written, and no other File is fed then.
+/// What was taken in stays where its line can't be written.
 #[test]
 fn a_line_that_is_not_written(rt: HostRuntime) -> Result<(), Fail> {
     with_file(&rt, "cli_mute")?;
@@ -190,13 +219,13 @@ fn a_line_that_is_not_written(rt: HostRuntime) -> Result<(), Fail> {
     assert_eq!(rt; got.status, 3);
     assert_eq!(rt; got.told.as_slice(), b"flowvault: 32 Write\n".as_slice());
     let check = ["check", "cli_mute"];
-    answers(&rt, &rt, check.as_slice(), &[], 0, "ok 1 0 0 0\n", "")?;
+    answers(&rt, &rt, check.as_slice(), &[], 0, "ok 2 0 0 0\n", "")?;
     fs::remove_dir_all(&rt, "cli_mute")?;
     Ok(())
 }
 
 /// The longest message and the plain one, 33 times: two mebibytes and more.
-fn large_file(rt: &HostRuntime, path: &str) -> Result<(), Fail> {
+fn large_file<H: Files + AllocGlobal>(rt: &H, path: &str) -> Result<(), Fail> {
     let alloc = rt.alloc();
     let plain = decoded(alloc, PLAIN)?;
     let head = decoded(alloc, LONGEST)?;
@@ -210,28 +239,45 @@ fn large_file(rt: &HostRuntime, path: &str) -> Result<(), Fail> {
     Ok(fs::write(rt, path, octets.as_slice())?)
 }
 
-/// Where standard error is a terminal, each mebibyte that is read is shown there, and cleared before the File's line.
+/// The lines of eight Files, three of them large.
+const EIGHT_FED: &str =
+    "fed 1 1\nfed 2 66\nfed 3 1\nfed 4 66\nfed 5 1\nfed 6 1\nfed 7 66\nfed 8 1\n";
+
+/// Where standard error is a terminal, each mebibyte that is read by all threads is shown there, and cleared before the
+/// lines of Files.
 #[test]
 fn progress_before_a_terminal(rt: HostRuntime) -> Result<(), Fail> {
     with_file(&rt, "cli_shown")?;
     large_file(&rt, "cli_large.ipfix")?;
-    let words = ["feed", "cli_shown", "cli_shown.ipfix", "cli_large.ipfix"];
+    let (small, large) = ("cli_shown.ipfix", "cli_large.ipfix");
+    let words = [
+        "feed",
+        "cli_shown",
+        small,
+        large,
+        small,
+        large,
+        small,
+        small,
+        large,
+        small,
+    ];
     let mut seen = Vec::new(rt.alloc());
     let mut output = Vec::new(rt.alloc());
-    let mut progress = Progress::new(Some(&mut seen));
+    let progress = Progress::new(Some(&mut seen));
     let got = ran_before(
         &rt,
         words.as_slice(),
         &mut b"".as_slice(),
         &mut output,
-        &mut progress,
+        &progress,
     )?;
     drop(progress);
     assert_eq!(rt; got.status, 0);
     assert!(rt; got.told.is_empty());
-    assert_eq!(rt; output.as_slice(), b"fed 1 1\nfed 2 66\n".as_slice());
-    let shown = b"\rFile 2: 1 MiB read\rFile 2: 2 MiB read\r\x1b[K".as_slice();
-    assert_eq!(rt; seen.as_slice(), shown);
+    assert_eq!(rt; output.as_slice(), EIGHT_FED.as_bytes());
+    let shown = "\r1 MiB read\r2 MiB read\r3 MiB read\r4 MiB read\r5 MiB read\r6 MiB read\r\x1b[K";
+    assert_eq!(rt; seen.as_slice(), shown.as_bytes());
     fs::remove_dir_all(&rt, "cli_shown")?;
     Ok(())
 }

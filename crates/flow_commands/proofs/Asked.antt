@@ -1,7 +1,6 @@
 -- What an archive that is opened answers.
-use Rattle.std.proofs.Common.{◌≡◌, ◌∙◌, ℕ, List, [], Option, ◌⊎◌, inl, inr, ⊎_elim, refl, sym, ap, ap₂, subst, arith}
+use Rattle.std.proofs.Common.{◌≡◌, ◌∙◌, ℕ, List, [], Option, sym, ap, ap₂, subst, arith}
 use Rattle.std.specs.Prelude.{true, IsTrue, Result, Ok, Err, IfErr}
-use Rattle.std.specs.Io.KnownBytes.{Keeps}
 use Rattle.std.proofs.KnownBytes.{Appends-nil, Keeps-refl}
 use Rattle.flow_manifest.specs.Following.{front_of}
 use Rattle.flow_measure.specs.declared.flow.Flow.{Flow}

@@ -1,5 +1,5 @@
 -- Which refusals are faults of the device, and where they come from.
-use Rattle.std.proofs.Common.{◌≡◌, ◌≢◌, ◌∙◌, ℕ, Result, Ok, Err, IsErrAnd, refl, sym, ap, subst, arith}
+use Rattle.std.proofs.Common.{◌≡◌, ◌≢◌, ◌∙◌, ℕ, Result, Ok, Err, IsErrAnd, refl, sym, ap, arith}
 use Rattle.flow_disk.specs.Cause.{HasCause}
 use Rattle.flow_recover.specs.declared.error.RecoverError.{RecoverError}
 use Rattle.flow_recover.specs.declared.error.RecoverError.TheVariants as opening
@@ -7,7 +7,6 @@ use Rattle.flow_snapshot.specs.declared.error.QueryError.{QueryError}
 use Rattle.flow_snapshot.specs.declared.error.QueryError.TheVariants as query
 use Rattle.flow_report.specs.declared.text_error.TextError.{TextError}
 use Rattle.flow_report.specs.declared.text_error.TextError.TheVariants as text
-use Rattle.flow_commands.specs.declared.archive_refusal.ArchiveRefusal.{ArchiveRefusal}
 use Rattle.flow_commands.specs.declared.archive_refusal.ArchiveRefusal.TheVariants as refusal
 use Rattle.flow_commands.specs.Archives.{of_opening, of_query, of_text}
 

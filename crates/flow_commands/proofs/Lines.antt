@@ -1,5 +1,5 @@
 -- Files, one after the other, and their lines.
-use Rattle.std.proofs.Common.{◌≡◌, ◌∙◌, inl, inr, ℕ, zero, suc, ◌+◌, Bool, List, [], ◌∷◌, ◌++◌, Option, Some, None}
+use Rattle.std.proofs.Common.{◌≡◌, ◌≤◌, ◌∙◌, inl, inr, ℕ, zero, suc, ◌+◌, List, [], ◌∷◌, ◌++◌, Option, Some, None}
 use Rattle.std.proofs.Common.{refl, sym, ap, subst, append-nil, append_assoc, arith, length, length-append, take}
 use Rattle.std.specs.Prelude.{Result, Ok, Err, IfOk, IfErr, IsErrAnd}
 use Rattle.std.specs.Io.KnownBytes.{Appends, Keeps}
@@ -7,22 +7,17 @@ use Rattle.std.specs.Option.{option_or}
 use Rattle.std.proofs.KnownBytes.{Appends-nil, Appends-trans, Keeps-refl}
 use Rattle.flow_archive.specs.declared.refusal.ArchiveError.{ArchiveError}
 use Rattle.flow_archive.specs.declared.refusal.ArchiveError.TheVariants as archive
-use Rattle.flow_archive.specs.Seen.{Seen}
 use Rattle.flow_folder.specs.declared.system.FolderError.{FolderError}
 use Rattle.flow_folder.specs.declared.system.FolderError.TheVariants as folder
 use Rattle.flow_recover.specs.declared.error.RecoverError.{RecoverError}
 use Rattle.flow_recover.specs.declared.error.RecoverError.TheVariants as opening
 use Rattle.flow_feed.specs.declared.batch.Fed.{Fed}
 use Rattle.flow_feed.specs.declared.batch.FeedStop.{FeedStop}
-use Rattle.flow_feed.specs.declared.turn.Roller.{Roller}
-use Rattle.flow_feed.specs.Turns.{stopped_by}
-use Rattle.flow_feed.proofs.Taking.{or_none, or_then}
-use Rattle.flow_feed.proofs.Turning.{stopped_none, stopped_then}
 use Rattle.flow_report.specs.Writing.{AppendsFront}
 use Rattle.flow_commands.specs.declared.archive_refusal.ArchiveRefusal.{ArchiveRefusal}
 use Rattle.flow_commands.specs.declared.archive_refusal.ArchiveRefusal.TheVariants as refusal
 use Rattle.flow_commands.specs.Archives.{of_archive, of_folder, of_opening}
-use Rattle.flow_commands.specs.Feeding.{AreFed, FeedsLines, IsFileFed, IsUnwritten, KeepsOrFeeds, TellsFile, TellsFiles}
+use Rattle.flow_commands.specs.Feeding.{FeedsLines, IsUnwritten, KeepsOrFeeds, TellsFed, TellsFile, TellsFiles}
 use Rattle.flow_commands.specs.Feeding.{IsNotFed, fed_line, fed_lines, feed_ended, first_status, first_stop}
 use Rattle.flow_commands.specs.Asking.{IsUnopened}
 
@@ -56,6 +51,11 @@ take_behind [] b n k is =
 take_behind (x ∷ xs) b zero k is = absurd (omega (arith, is))
 take_behind (x ∷ xs) b (suc n) k is = ap (λ (l : List ℕ). x ∷ l) (take_behind xs b n k (omega (arith, is)))
 
+take_within : (a b : List ℕ) (n : ℕ) → n ≤ length a → take n (a ++ b) ≡ take n a
+take_within a b zero most = refl
+take_within [] b (suc n) most = absurd (omega (arith, most))
+take_within (x ∷ xs) b (suc n) most = ap (λ (l : List ℕ). x ∷ l) (take_within xs b n (omega (arith, most)))
+
 -- a front of what comes behind what was written
 front_behind : (a b c : Option (List ℕ)) (text more : List ℕ) → Appends a b text → AppendsFront b c more
     → AppendsFront a c (text ++ more)
@@ -71,139 +71,104 @@ kept_front None b text kept = (0, omega arith, tt)
 kept_front (Some xs) None text kept = absurd kept
 kept_front (Some xs) (Some ys) text kept = (0, omega arith, kept ∙ sym (append-nil xs))
 
+-- a front of a text is one of what goes on from it
+front_on : (a b : Option (List ℕ)) (text more : List ℕ) → AppendsFront a b text → AppendsFront a b (text ++ more)
+front_on a b text more (n, most, front) =
+    let long = length-append text more in (
+      n,
+      omega (arith, most, long),
+      subst (Appends a b) (sym (take_within text more n most)) front,
+    )
+
 -- ---- Files
 
--- Files that were fed so far, with their lines, by a roller that has made its turns between them
-pub record IsUnderWay {D : Type 0} (honest : D → Bool) (moment : D → ℕ) (left_since : D → ℕ → (ℕ → List ℕ) → Type 0)
-    (old now : Seen D) (before after : Option (List ℕ)) (count : ℕ) (first : Option FeedStop) (start roller : Roller)
-    : Type 0 where
-  pub feds : List Fed
-  pub rolling : Option ArchiveError
-  pub fed : AreFed honest moment left_since old now feds rolling
-  pub roller_is : roller ≡ stopped_by start rolling
-  pub lines : Appends before after (fed_lines 0 feds)
-  pub count_is : count ≡ length feds
-  pub first_is : first ≡ first_stop feds
+-- a File of which nothing is taken in
+abbrev pub no_fed : Fed
+no_fed = record { messages = 0; stop = None }
 
-module _ {D : Type 0} (honest : D → Bool) (moment : D → ℕ) (left_since : D → ℕ → (ℕ → List ℕ) → Type 0) where
-  fed_then : (old mid new : Seen D) (feds : List Fed) (fed : Fed) (r s : Option ArchiveError)
-      → AreFed honest moment left_since old mid feds r → IsFileFed honest moment left_since mid new fed s
-      → AreFed honest moment left_since old new (feds ++ fed ∷ []) (option_or r s)
-  fed_then old mid new [] fed r s before next = (
-    new,
-    s,
-    None,
-    subst (λ (m : Seen D). IsFileFed honest moment left_since m new fed s) before.0 next,
-    (refl, refl),
-    ap (λ (o : Option ArchiveError). option_or o s) before.1 ∙ sym (or_none s),
-  )
-  fed_then old mid new (x ∷ xs) fed r s (here, first, others, one, more, is) next = (
-    here,
-    first,
-    option_or others s,
-    one,
-    fed_then here mid new xs fed others s more next,
-    ap (λ (o : Option ArchiveError). option_or o s) is ∙ sym (or_then first others s),
-  )
+-- the lines of these Files are written
+pub record IsUnderWay (before after : Option (List ℕ)) (feds : List Fed) (count : ℕ) (first : Option FeedStop) : Type 0
+  where
+    pub lines : Appends before after (fed_lines 0 feds)
+    pub count_is : count ≡ length feds
+    pub first_is : first ≡ first_stop feds
 
-  pub none_fed : (old : Seen D) (output : Option (List ℕ)) (roller : Roller)
-      → IsUnderWay honest moment left_since old old output output 0 None roller roller
-  none_fed old output roller = record {
-    feds = [];
-    rolling = None;
-    fed = (refl, refl);
-    roller_is = sym (stopped_none roller);
-    lines = Appends-nil output;
-    count_is = refl;
-    first_is = refl;
+pub none_told : (output : Option (List ℕ)) → IsUnderWay output output [] 0 None
+none_told output = record {
+  lines = Appends-nil output;
+  count_is = refl;
+  first_is = refl;
+}
+
+lines_both : (before : ℕ) (feds more : List Fed)
+    → fed_lines before (feds ++ more) ≡ fed_lines before feds ++ fed_lines (before + length feds) more
+lines_both before [] more = ap (λ (k : ℕ). fed_lines k more) (let same : before ≡ before + 0 = omega arith in same)
+lines_both before (x ∷ xs) more =
+    let same : suc before + length xs ≡ before + suc (length xs) = omega arith in
+    ap (λ (l : List ℕ). fed_line (suc before) x ++ l)
+    (lines_both (suc before) xs more
+    ∙ ap (λ (k : ℕ). fed_lines (suc before) xs ++ fed_lines k more) same)
+    ∙ sym (append_assoc (fed_line (suc before) x) (fed_lines (suc before) xs)
+    (fed_lines (before + suc (length xs)) more))
+
+module _ (before mid after : Option (List ℕ)) (feds : List Fed) (count : ℕ) (first : Option FeedStop)
+    (so_far : IsUnderWay before mid feds count first) (fed : Fed) where
+  lines_are : fed_lines 0 (feds ++ fed ∷ []) ≡ fed_lines 0 feds ++ fed_line (count + 1) fed
+  lines_are = let counted = so_far.count_is in lines_then 0 (count + 1) feds fed (omega (arith, counted))
+
+  -- one File more
+  pub one_more : TellsFile (count + 1) fed mid after (Ok tt)
+      → IsUnderWay before after (feds ++ fed ∷ []) (count + 1) (option_or first fed.stop)
+  one_more written = record {
+    lines = subst (Appends before after) (sym lines_are)
+        (Appends-trans before mid after (fed_lines 0 feds) (fed_line (count + 1) fed) so_far.lines written);
+    count_is = let counted = so_far.count_is in let long = length-append feds (fed ∷ []) in
+        omega (arith, counted, long);
+    first_is = ap (λ (s : Option FeedStop). option_or s fed.stop) so_far.first_is ∙ sym (stop_then feds fed);
   }
 
-  module _ (old now new : Seen D) (before mid after : Option (List ℕ)) (count : ℕ) (first : Option FeedStop)
-      (start roller : Roller) (so_far : IsUnderWay honest moment left_since old now before mid count first start roller)
-      (fed : Fed) (rolling : Option ArchiveError) (next : IsFileFed honest moment left_since now new fed rolling)
-      (turned : Roller) (turned_is : turned ≡ stopped_by roller rolling) where
-    abbrev all_feds : List Fed
-    all_feds = so_far.feds ++ fed ∷ []
+  unwritten : (e : ArchiveRefusal) → TellsFile (count + 1) fed mid after (Err e)
+      → IsUnwritten (Err e) × AppendsFront mid after (fed_line (count + 1) fed)
+  unwritten (refusal.Write failed) front = (tt, front)
+  unwritten refusal.OutOfMemory kept = (tt, kept_front mid after (fed_line (count + 1) fed) kept)
+  unwritten (refusal.Opening e) told = absurd told
+  unwritten (refusal.Archive e) told = absurd told
+  unwritten (refusal.Query e) told = absurd told
+  unwritten (refusal.Folder why) told = absurd told
 
-    abbrev all_rolling : Option ArchiveError
-    all_rolling = option_or so_far.rolling rolling
+  -- a File whose line isn't written, where that is passed on
+  pub line_refused : (e : ArchiveRefusal) (more all : List Fed) (refused : Option ArchiveError)
+      (r : Result ℕ ArchiveRefusal) → IsErrAnd r (λ x. x ≡ e) → all ≡ (feds ++ fed ∷ []) ++ more
+      → TellsFile (count + 1) fed mid after (Err e) → TellsFiles all refused before after r
+  line_refused e more all refused (Ok status) is whole told = absurd is
+  line_refused e more all refused (Err x) is whole told =
+      let why = unwritten x (subst (λ (y : ArchiveRefusal). TellsFile (count + 1) fed mid after (Err y)) (sym is) told)
+      in
+      let here : AppendsFront before after (fed_lines 0 (feds ++ fed ∷ [])) =
+      subst (AppendsFront before after) (sym lines_are)
+      (front_behind before mid after (fed_lines 0 feds) (fed_line (count + 1) fed) so_far.lines why.1) in
+      inr (
+        why.0,
+        subst (AppendsFront before after)
+            (sym (ap (fed_lines 0) whole ∙ lines_both 0 (feds ++ fed ∷ []) more))
+            (front_on before after (fed_lines 0 (feds ++ fed ∷ []))
+            (fed_lines (0 + length (feds ++ fed ∷ [])) more) here),
+      )
 
-    all_fed : AreFed honest moment left_since old new all_feds all_rolling
-    all_fed = fed_then old now new so_far.feds fed so_far.rolling rolling so_far.fed next
+-- all Files
+pub all_told : (before after : Option (List ℕ)) (feds all : List Fed) (count : ℕ) (first : Option FeedStop)
+    (refused : Option ArchiveError) (result : Result ℕ ArchiveRefusal) → feds ≡ all
+    → IsUnderWay before after feds count first → result ≡ feed_ended first refused
+    → TellsFiles all refused before after result
+all_told before after feds all count first refused result whole so_far is =
+    subst (λ (l : List Fed). TellsFiles l refused before after result) whole
+    (inl (so_far.lines, is ∙ ap (λ (s : Option FeedStop). feed_ended s refused) so_far.first_is))
 
-    all_turned : turned ≡ stopped_by start all_rolling
-    all_turned =
-        turned_is ∙ ap (λ (r : Roller). stopped_by r rolling) so_far.roller_is
-        ∙ stopped_then start so_far.rolling rolling
-
-    lines_are : fed_lines 0 all_feds ≡ fed_lines 0 so_far.feds ++ fed_line (count + 1) fed
-    lines_are = let counted = so_far.count_is in
-        lines_then 0 (count + 1) so_far.feds fed (omega (arith, counted))
-
-    -- one File more
-    pub one_more : (told : Fed) → TellsFile (count + 1) fed mid after (Ok told)
-        → IsUnderWay honest moment left_since old new before after (count + 1) (option_or first told.stop) start turned
-    one_more told (same, written) = record {
-      feds = all_feds;
-      rolling = all_rolling;
-      fed = all_fed;
-      roller_is = all_turned;
-      lines = subst (Appends before after) (sym lines_are)
-          (Appends-trans before mid after (fed_lines 0 so_far.feds) (fed_line (count + 1) fed) so_far.lines written);
-      count_is = let counted = so_far.count_is in let long = length-append so_far.feds (fed ∷ []) in
-          omega (arith, counted, long);
-      first_is = ap (λ (s : Option FeedStop). option_or s told.stop) so_far.first_is
-          ∙ ap (λ (f : Fed). option_or (first_stop so_far.feds) f.stop) same ∙ sym (stop_then so_far.feds fed);
-    }
-
-    unwritten : (e : ArchiveRefusal) → TellsFile (count + 1) fed mid after (Err e)
-        → IsUnwritten (Err e) × AppendsFront mid after (fed_line (count + 1) fed)
-    unwritten (refusal.Write failed) front = (tt, front)
-    unwritten refusal.OutOfMemory kept = (tt, kept_front mid after (fed_line (count + 1) fed) kept)
-    unwritten (refusal.Opening e) told = absurd told
-    unwritten (refusal.Archive e) told = absurd told
-    unwritten (refusal.Query e) told = absurd told
-    unwritten (refusal.Folder why) told = absurd told
-
-    -- a File whose line isn't written, where that is passed on
-    pub line_refused : (e : ArchiveRefusal) (paths : ℕ) (refused : Option ArchiveError)
-        (r : Result ℕ ArchiveRefusal) → IsErrAnd r (λ x. x ≡ e) → TellsFile (count + 1) fed mid after (Err e)
-        → (feds : List Fed) × (rolling : Option ArchiveError) × AreFed honest moment left_since old new feds rolling
-        × (turned ≡ stopped_by start rolling) × TellsFiles paths feds refused before after r
-    line_refused e paths refused (Ok status) is told = absurd is
-    line_refused e paths refused (Err x) is told =
-        let why = unwritten x (subst (λ (y : ArchiveRefusal). TellsFile (count + 1) fed mid after (Err y)) (sym is) told)
-        in (
-          all_feds,
-          all_rolling,
-          all_fed,
-          all_turned,
-          inr (
-            why.0,
-            subst (AppendsFront before after) (sym lines_are)
-                (front_behind before mid after (fed_lines 0 so_far.feds) (fed_line (count + 1) fed) so_far.lines
-                why.1),
-          ),
-        )
-
-  -- all Files
-  pub all_told : (old new : Seen D) (before after : Option (List ℕ)) (count paths : ℕ) (first : Option FeedStop)
-      (start roller : Roller) (refused : Option ArchiveError) (result : Result ℕ ArchiveRefusal)
-      → IsUnderWay honest moment left_since old new before after count first start roller → count ≡ paths
-      → result ≡ feed_ended first refused
-      → (feds : List Fed) × (rolling : Option ArchiveError) × AreFed honest moment left_since old new feds rolling
-      × (roller ≡ stopped_by start rolling) × TellsFiles paths feds refused before after result
-  all_told old new before after count paths first start roller refused result so_far all is = (
-    so_far.feds,
-    so_far.rolling,
-    so_far.fed,
-    so_far.roller_is,
-    inl (
-      sym so_far.count_is ∙ all,
-      so_far.lines,
-      is ∙ ap (λ (s : Option FeedStop). feed_ended s refused) so_far.first_is,
-    ),
-  )
+-- a start that finds no memory
+pub start_refused : (output : Option (List ℕ)) (feds : List Fed) (count : ℕ) → length feds ≡ count
+    → TellsFed count output output (Err refusal.OutOfMemory)
+start_refused output feds count all =
+    (feds, None, all, inr (tt, kept_front output output (fed_lines 0 feds) (Keeps-refl output)))
 
 -- ---- of an archive that is opened, and of a folder
 
@@ -214,10 +179,10 @@ ended_ok None (Some e) status is = absurd cc
 ended_ok None None status is = cc
 
 fed_ok : (count : ℕ) (feds : List Fed) (refused : Option ArchiveError) (old new : Option (List ℕ)) (status : ℕ)
-    → TellsFiles count feds refused old new (Ok status) → FeedsLines count status old new
-fed_ok count feds refused old new status (inl (all, lines, is)) =
+    → length feds ≡ count → TellsFiles feds refused old new (Ok status) → FeedsLines count status old new
+fed_ok count feds refused old new status all (inl (lines, is)) =
     (feds, all, lines, ended_ok (first_stop feds) refused status is)
-fed_ok count feds refused old new status (inr (un, front)) = absurd un
+fed_ok count feds refused old new status all (inr (un, front)) = absurd un
 
 whole_text : (l : List ℕ) → take (length l) l ≡ l
 whole_text [] = refl
@@ -248,8 +213,8 @@ rolling_told count feds old new all lines none archive.NothingToRetire = (feds, 
 rolling_told count feds old new all lines none archive.Closed = (feds, all, lines, none)
 
 fed_err : (count : ℕ) (feds : List Fed) (refused : Option ArchiveError) (old new : Option (List ℕ)) (e : ArchiveRefusal)
-    → TellsFiles count feds refused old new (Err e) → KeepsOrFeeds count e old new
-fed_err count feds refused old new e (inl (all, lines, is)) = by (first_stop feds) refl refused is
+    → length feds ≡ count → TellsFiles feds refused old new (Err e) → KeepsOrFeeds count e old new
+fed_err count feds refused old new e all (inl (lines, is)) = by (first_stop feds) refl refused is
   where
     by : (first : Option FeedStop) → first_stop feds ≡ first → (r : Option ArchiveError)
         → Err e ≡ feed_ended first r → KeepsOrFeeds count e old new
@@ -259,7 +224,7 @@ fed_err count feds refused old new e (inl (all, lines, is)) = by (first_stop fed
         subst (λ (x : ArchiveRefusal). KeepsOrFeeds count x old new) (sym same)
         (rolling_told count feds old new all lines f error)
     by None f None ends = absurd cc
-fed_err count feds refused old new e (inr (un, front)) = by e un
+fed_err count feds refused old new e all (inr (un, front)) = by e un
   where
     by : (e : ArchiveRefusal) → IsUnwritten (Err e) → KeepsOrFeeds count e old new
     by (refusal.Write failed) un = (feds, front)
@@ -289,9 +254,9 @@ rolling_not_fed reads archive.Pinned = tt
 rolling_not_fed reads archive.NothingToRetire = tt
 rolling_not_fed reads archive.Closed = tt
 
-not_fed : (reads : ℕ → List ℕ) (count : ℕ) (feds : List Fed) (refused : Option ArchiveError) (old new : Option (List ℕ))
-    (e : ArchiveRefusal) → TellsFiles count feds refused old new (Err e) → IsNotFed reads e
-not_fed reads count feds refused old new e (inl (all, lines, is)) = by (first_stop feds) refused is
+not_fed : (reads : ℕ → List ℕ) (feds : List Fed) (refused : Option ArchiveError) (old new : Option (List ℕ))
+    (e : ArchiveRefusal) → TellsFiles feds refused old new (Err e) → IsNotFed reads e
+not_fed reads feds refused old new e (inl (lines, is)) = by (first_stop feds) refused is
   where
     by : (first : Option FeedStop) (r : Option ArchiveError) → Err e ≡ feed_ended first r → IsNotFed reads e
     by (Some s) r ends = absurd cc
@@ -299,7 +264,7 @@ not_fed reads count feds refused old new e (inl (all, lines, is)) = by (first_st
         let same : e ≡ of_archive error = cc in
         subst (λ (x : ArchiveRefusal). IsNotFed reads x) (sym same) (rolling_not_fed reads error)
     by None None ends = absurd cc
-not_fed reads count feds refused old new e (inr (un, front)) = by e un
+not_fed reads feds refused old new e (inr (un, front)) = by e un
   where
     by : (e : ArchiveRefusal) → IsUnwritten (Err e) → IsNotFed reads e
     by (refusal.Write failed) un = tt
@@ -309,28 +274,21 @@ not_fed reads count feds refused old new e (inr (un, front)) = by e un
     by (refusal.Query e) un = absurd un
     by (refusal.Folder why) un = absurd un
 
-module _ {D : Type 0} (honest : D → Bool) (moment : D → ℕ) (left_since : D → ℕ → (ℕ → List ℕ) → Type 0)
-    (old now : Seen D) (start roller : Roller) (count : ℕ) (refused : Option ArchiveError)
-    (before after : Option (List ℕ)) where
-  abbrev FeedsFiles : Result ℕ ArchiveRefusal → Type 0
-  FeedsFiles r =
-      (feds : List Fed) × (rolling : Option ArchiveError) × AreFed honest moment left_since old now feds rolling
-      × (roller ≡ stopped_by start rolling) × TellsFiles count feds refused before after r
-
-  pub result_ok : (r : Result ℕ ArchiveRefusal) → FeedsFiles r
+module _ (count : ℕ) (before after : Option (List ℕ)) where
+  pub result_ok : (r : Result ℕ ArchiveRefusal) → TellsFed count before after r
       → IfOk r (λ status. FeedsLines count status before after)
-  result_ok (Ok status) (feds, rolling, fed, is, told) = fed_ok count feds refused before after status told
+  result_ok (Ok status) (feds, refused, all, told) = fed_ok count feds refused before after status all told
   result_ok (Err e) told = tt
 
-  pub result_err : (r : Result ℕ ArchiveRefusal) → FeedsFiles r
+  pub result_err : (r : Result ℕ ArchiveRefusal) → TellsFed count before after r
       → IfErr r (λ e. KeepsOrFeeds count e before after)
   result_err (Ok status) told = tt
-  result_err (Err e) (feds, rolling, fed, is, told) = fed_err count feds refused before after e told
+  result_err (Err e) (feds, refused, all, told) = fed_err count feds refused before after e all told
 
-  pub result_not_fed : (reads : ℕ → List ℕ) (r : Result ℕ ArchiveRefusal) → FeedsFiles r
+  pub result_not_fed : (reads : ℕ → List ℕ) (r : Result ℕ ArchiveRefusal) → TellsFed count before after r
       → IfErr r (λ e. IsNotFed reads e)
   result_not_fed reads (Ok status) told = tt
-  result_not_fed reads (Err e) (feds, rolling, fed, is, told) = not_fed reads count feds refused before after e told
+  result_not_fed reads (Err e) (feds, refused, all, told) = not_fed reads feds refused before after e told
 
 -- an archive that isn't opened
 pub opening_kept : (count : ℕ) (output : Option (List ℕ)) (e : RecoverError)

@@ -8,7 +8,6 @@ use Rattle.flow_measure.specs.View.{View}
 use Rattle.flow_snapshot.specs.declared.error.QueryError.{QueryError}
 use Rattle.flow_snapshot.specs.declared.error.QueryError.TheVariants as query
 use Rattle.flow_snapshot.specs.Sight.{Sight}
-use Rattle.flow_snapshot.specs.Totals.{SumsFit}
 use Rattle.flow_snapshot.specs.Views.{IsViewOf}
 use Rattle.flow_recover.specs.declared.error.RecoverError.{RecoverError}
 use Rattle.flow_recover.specs.Opening.{IsDeviceOrMemory, StandsForNone}

@@ -1,5 +1,5 @@
 -- What `feed` does to an archive, what it writes, and its status.
-use Rattle.std.specs.Prelude.{◌≡◌, ◌⊎◌, ⊤, ℕ, suc, Bool, List, [], ◌∷◌, ◌++◌, length, Option, Some, None, Result, Ok}
+use Rattle.std.specs.Prelude.{◌≡◌, ◌⊎◌, ⊤, ℕ, suc, List, [], ◌∷◌, ◌++◌, length, Option, Some, None, Result, Ok}
 use Rattle.std.specs.Prelude.{Err, codes}
 use Rattle.std.specs.Fmt.{decimal}
 use Rattle.std.specs.Option.{option_or}
@@ -11,11 +11,9 @@ use Rattle.flow_codec.specs.declared.stream.StreamError.{StreamError}
 use Rattle.flow_codec.specs.declared.stream.StreamError.TheVariants as stream
 use Rattle.flow_archive.specs.declared.refusal.ArchiveError.{ArchiveError}
 use Rattle.flow_archive.specs.declared.refusal.ArchiveError.TheVariants as archive
-use Rattle.flow_archive.specs.Seen.{Seen}
 use Rattle.flow_feed.specs.declared.batch.Fed.{Fed}
 use Rattle.flow_feed.specs.declared.batch.FeedStop.{FeedStop}
 use Rattle.flow_feed.specs.declared.batch.FeedStop.TheVariants as stop
-use Rattle.flow_feed.specs.Feed.{IsFed}
 use Rattle.flow_report.specs.Writing.{AppendsFront}
 use Rattle.flow_commands.specs.declared.archive_refusal.ArchiveRefusal.{ArchiveRefusal}
 use Rattle.flow_commands.specs.declared.archive_refusal.ArchiveRefusal.TheVariants.{Folder, Opening, Archive}
@@ -114,38 +112,11 @@ feed_ended (Some stopped) refused = Ok (stop_status stopped)
 feed_ended None (Some error) = Err (of_archive error)
 feed_ended None None = Ok 0
 
--- ---- on an archive
-
--- why a File isn't opened
-abbrev pub IsUnopened : Option FeedStop → Type 0
-IsUnopened (Some stop.Unopened) = ⊤
-IsUnopened (Some stop.OutOfMemory) = ⊤
-IsUnopened (Some (stop.File error)) = ⊥
-IsUnopened (Some (stop.Archive error)) = ⊥
-IsUnopened None = ⊥
-
--- A File of some octets was fed; or it couldn't be opened, and the archive is as it was. The last argument is the first
--- refusal of an event of rolling on the way, if any.
-abbrev pub IsFileFed : {D : Type 0} → (D → Bool) → (D → ℕ) → (D → ℕ → (ℕ → List ℕ) → Type 0) → Seen D → Seen D → Fed
-    → Option ArchiveError → Type 0
-IsFileFed honest moment left_since old new fed rolling =
-    ((octets : Option (List ℕ)) × IsFed honest moment left_since old new octets fed rolling)
-    ⊎ ((fed.messages ≡ 0) × IsUnopened fed.stop × (new ≡ old) × (rolling ≡ None))
-
--- Files, one after the other, with the first refusal of an event of rolling on the way of all of them
-abbrev pub AreFed : {D : Type 0} → (D → Bool) → (D → ℕ) → (D → ℕ → (ℕ → List ℕ) → Type 0) → Seen D → Seen D
-    → List Fed → Option ArchiveError → Type 0
-AreFed honest moment left_since old new [] rolling = (new ≡ old) × (rolling ≡ None)
-AreFed {D} honest moment left_since old new (fed ∷ feds) rolling =
-    (mid : Seen D) × (first : Option ArchiveError) × (others : Option ArchiveError)
-    × IsFileFed honest moment left_since old mid fed first × AreFed honest moment left_since mid new feds others
-    × (rolling ≡ option_or first others)
-
 -- ---- what is written
 
 -- the line of a File was written; or a front of it, where writing failed, and nothing where memory ran out
-abbrev pub TellsFile : ℕ → Fed → Option (List ℕ) → Option (List ℕ) → Result Fed ArchiveRefusal → Type 0
-TellsFile number fed old new (Ok told) = (told ≡ fed) × Appends old new (fed_line number fed)
+abbrev pub TellsFile : ℕ → Fed → Option (List ℕ) → Option (List ℕ) → Result (Unit {0}) ArchiveRefusal → Type 0
+TellsFile number fed old new (Ok done) = Appends old new (fed_line number fed)
 TellsFile number fed old new (Err (Write failed)) = AppendsFront old new (fed_line number fed)
 TellsFile number fed old new (Err OutOfMemory) = Keeps old new
 TellsFile number fed old new (Err (Opening e)) = ⊥
@@ -163,13 +134,19 @@ IsUnwritten (Err (Archive e)) = ⊥
 IsUnwritten (Err (Query e)) = ⊥
 IsUnwritten (Err (Folder why)) = ⊥
 
--- A line was written for each of so many Files, in their order, and then feeding ended; or a line couldn't be written,
--- and up to it all were.
-abbrev pub TellsFiles : ℕ → List Fed → Option ArchiveError → Option (List ℕ) → Option (List ℕ)
-    → Result ℕ ArchiveRefusal → Type 0
-TellsFiles count feds refused old new result =
-    ((length feds ≡ count) × Appends old new (fed_lines 0 feds) × (result ≡ feed_ended (first_stop feds) refused))
+-- A line was written for each File, in their order, and then feeding ended; or a line couldn't be made or written, and
+-- up to it all were.
+abbrev pub TellsFiles : List Fed → Option ArchiveError → Option (List ℕ) → Option (List ℕ) → Result ℕ ArchiveRefusal
+    → Type 0
+TellsFiles feds refused old new result =
+    (Appends old new (fed_lines 0 feds) × (result ≡ feed_ended (first_stop feds) refused))
     ⊎ (IsUnwritten result × AppendsFront old new (fed_lines 0 feds))
+
+-- so many Files were fed, while others were rolled, and this was told of them
+abbrev pub TellsFed : ℕ → Option (List ℕ) → Option (List ℕ) → Result ℕ ArchiveRefusal → Type 0
+TellsFed count old new result =
+    (feds : List Fed) × (refused : Option ArchiveError) × (length feds ≡ count)
+    × TellsFiles feds refused old new result
 
 -- ---- of an archive on a disk
 

@@ -1,16 +1,28 @@
 -- What `roll` and `merge` write.
-use Rattle.std.specs.Prelude.{◌≡◌, ℕ, List, [], ◌∷◌, ◌++◌, Option, Result, Ok, Err, codes}
+use Rattle.std.specs.Prelude.{◌≡◌, ◌⊎◌, ℕ, Bool, IsTrue, List, [], ◌∷◌, ◌++◌, Option, Result, Ok, Err, IsErrAnd, codes}
 use Rattle.std.specs.Fmt.{decimal}
 use Rattle.std.specs.Io.KnownBytes.{Appends, Keeps}
 use Rattle.flow_manifest.specs.declared.following.JobKind.{JobKind}
 use Rattle.flow_manifest.specs.declared.following.JobKind.TheVariants.{Roll, Merge}
+use Rattle.flow_disk.specs.Cause.{HasCause}
+use Rattle.flow_disk.specs.Disk.{Held}
+use Rattle.flow_manifest.specs.Slots.{reads_of}
+use Rattle.flow_recover.specs.declared.error.RecoverError.{RecoverError}
+use Rattle.flow_recover.specs.declared.error.RecoverError.TheVariants as opening
+use Rattle.flow_recover.specs.Standing.{StandsFor}
 use Rattle.flow_archive.specs.declared.refusal.ArchiveError.{ArchiveError}
+use Rattle.flow_archive.specs.declared.refusal.ArchiveError.TheVariants as event
+use Rattle.flow_archive.specs.declared.refusal.Refused.{Refused}
+use Rattle.flow_archive.specs.Beginning.{disk_of}
+use Rattle.flow_archive.specs.Seen.{Seen}
+use Rattle.flow_turns.specs.Turns.{files_over, IsCaused, IsJobRun}
 use Rattle.flow_report.specs.Writing.{AppendsFront}
 use Rattle.flow_commands.specs.declared.archive_refusal.ArchiveRefusal.{ArchiveRefusal}
 use Rattle.flow_commands.specs.declared.archive_refusal.ArchiveRefusal.TheVariants.{Folder, Opening, Archive}
 use Rattle.flow_commands.specs.declared.archive_refusal.ArchiveRefusal.TheVariants.{Query}
 use Rattle.flow_commands.specs.declared.archive_refusal.ArchiveRefusal.TheVariants.{OutOfMemory, Write}
-use Rattle.flow_commands.specs.Archives.{of_archive}
+use Rattle.flow_commands.specs.Archives.{of_archive, of_opening}
+use Rattle.flow_commands.specs.Asking.{IsUnopened}
 
 abbrev pub job_name : JobKind → List ℕ
 job_name Roll = codes "rolled"
@@ -35,3 +47,48 @@ TellsJob kind (Ok count) old new (Err (Opening e)) = ⊥
 TellsJob kind (Ok count) old new (Err (Archive e)) = ⊥
 TellsJob kind (Ok count) old new (Err (Query e)) = ⊥
 TellsJob kind (Ok count) old new (Err (Folder why)) = ⊥
+
+-- The files of an archive but the newest were summed as one job, and this was written of it. Fault is told exactly where
+-- a call of the disk failed.
+pub record IsRolled {D : Type 0} (honest : D → Bool) (moment : D → ℕ) (left_since : D → ℕ → (ℕ → List ℕ) → Type 0)
+    (faults : D → ℕ) (kind : JobKind) (keep : ℕ) (before after : Seen D) (old new : Option (List ℕ))
+    (result : Result (Unit {0}) ArchiveRefusal) : Type 0 where
+  pub told : Result ℕ ArchiveError
+  pub job : IsJobRun honest moment left_since before after kind (files_over kind keep before.state) told
+  pub cause : IsCaused event.Fault (faults before.disk) (faults after.disk) told
+  pub tells : TellsJob kind told old new result
+
+-- ---- of the archive on a disk
+
+-- what is answered, without the archive that is handed on, or the disk that is given back
+abbrev pub done_of : {D E : Type 0} → Result (Seen D) (Refused D E) → Result (Unit {0}) E
+done_of (Ok archive) = Ok tt
+done_of (Err refused) = Err refused.error
+
+-- The archive that was read was rolled or merged, and this was written of it: as it was opened, and as it was then.
+pub record IsRolledOn {D : Type 0} (honest : D → Bool) (moment : D → ℕ)
+    (left_since : D → ℕ → (ℕ → List ℕ) → Type 0) (faults : D → ℕ) (held : D → ℕ → Held) (kind : JobKind) (keep : ℕ)
+    (disk : D) (old new : Option (List ℕ)) (result : Result (Seen D) (Refused D ArchiveRefusal)) : Type 0 where
+  pub opened : Seen D
+  pub read : IsTrue (honest disk) → StandsFor (reads_of (held disk)) opened.state
+  pub still : faults opened.disk ≡ faults disk
+  pub rolled : Seen D
+  pub disk_is : rolled.disk ≡ disk_of result
+  pub done : IsRolled honest moment left_since faults kind keep opened rolled old new (done_of result)
+
+-- No archive was opened, for this reason, and nothing was written.
+pub record IsNotRolled {D : Type 0} (honest : D → Bool) (faults : D → ℕ) (held : D → ℕ → Held) (disk : D)
+    (old new : Option (List ℕ)) (refused : Refused D ArchiveRefusal) : Type 0 where
+  pub reason : RecoverError
+  pub error_is : refused.error ≡ of_opening reason
+  pub told : IsTrue (honest disk) → IsUnopened (reads_of (held disk)) reason
+  pub cause : HasCause {T = Unit {0}} opening.Fault (faults disk) (faults refused.disk) (Err reason)
+  pub kept : Keeps old new
+
+-- either of both
+abbrev pub RollsOn : {D : Type 0} → (D → Bool) → (D → ℕ) → (D → ℕ → (ℕ → List ℕ) → Type 0) → (D → ℕ)
+    → (D → ℕ → Held) → JobKind → ℕ → D → Option (List ℕ) → Option (List ℕ)
+    → Result (Seen D) (Refused D ArchiveRefusal) → Type 0
+RollsOn honest moment left_since faults held kind keep disk old new result =
+    IsRolledOn honest moment left_since faults held kind keep disk old new result
+    ⊎ IsErrAnd result (IsNotRolled honest faults held disk old new)

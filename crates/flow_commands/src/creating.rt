@@ -39,16 +39,6 @@ pub fn create<D: Disk>(
     }
 }
 
-/// Makes an archive without messages on a disk, and gives the disk up.
-fn make_on<D: Disk>(alloc: Global, disk: D, plan: &NewArchive) -> Result<(), ArchiveRefusal>
-    requires { (n : ℕ) → (D.marks disk n).frozen ≡ false }
-{
-    match create(alloc, disk, plan) {
-        Ok(_) => Ok(()),
-        Err(refused) => Err(ArchiveRefusal::from(refused.error)),
-    }
-}
-
 /// Makes an archive in a folder, and leaves the folder to others again.
 pub fn create_in<H: Files + AllocGlobal + Clone + Drop>(
     rt: &H,
@@ -59,5 +49,8 @@ where
     H::File: FileExt + Lockable,
 {
     let disk = FolderDisk::new(rt, folder)?;
-    make_on(rt.alloc(), disk, plan)
+    match create(rt.alloc(), disk, plan) {
+        Ok(_) => Ok(()),
+        Err(refused) => Err(ArchiveRefusal::from(refused.error)),
+    }
 }

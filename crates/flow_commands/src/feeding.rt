@@ -1,11 +1,12 @@
 //! The command `feed`.
 
-ghost use Rattle.std.specs.Prelude.{◌≡◌, ◌≢◌, ◌≤◌, ℕ, List, Option, false, length, IsTrue, IfOk, IfErr};
+ghost use Rattle.std.specs.Prelude.{◌≡◌, ◌≢◌, ◌≤◌, ◌<◌, ◌⊎◌, ℕ, Err, List, Option, Some, None, false, length, IsTrue, IfOk, IfErr};
+ghost use Rattle.std.specs.Io.KnownBytes.{Keeps};
 ghost use Rattle.flow_manifest.specs.Slots.{reads_of};
+ghost use Rattle.flow_recover.specs.Shelved.{shelf_of};
 ghost use Rattle.flow_archive.specs.declared.refusal.ArchiveError.{ArchiveError as Refusal};
 ghost use Rattle.flow_feed.specs.declared.batch.Fed.{Fed as FedFile};
-ghost use Rattle.flow_feed.specs.Turns.{stopped_by};
-ghost use Rattle.flow_commands.specs.Feeding.{AreFed, FeedsLines, IsFileFed, KeepsOrFeeds, TellsFile, TellsFiles};
+ghost use Rattle.flow_commands.specs.Feeding.{FeedsLines, KeepsOrFeeds, TellsFed, TellsFile, TellsFiles};
 ghost use Rattle.flow_commands.specs.Feeding.{feed_ended, IsNotFed};
 
 use crate::archive_refusal::ArchiveRefusal;
@@ -13,35 +14,49 @@ use crate::feed_line::{line, stop_status};
 use crate::progress::{Progress, Watched};
 use flow_archive::{Archive, ArchiveError};
 use flow_disk::{Disk, Faults};
-use flow_feed::{Fed, FeedStop, Roller, feed};
+use flow_feed::{Fed, FeedStop, SharedAppender, feed};
 use flow_folder::{FolderDisk, Lockable};
 use flow_report::{Patience, write_patiently};
-use std::alloc::AllocGlobal;
+use flow_roller::{Bell, roll_beside};
+use flow_shared::{Naming, Opened, SharedArchive, start};
+use std::alloc::{AllocGlobal, Global};
+use std::convert::AsStr;
 use std::fs::{File, Files};
 use std::io::{ErrorKind, Write};
+use std::marker::Brand;
 use std::os::unix::fs::FileExt;
+use std::sync::Wait;
+use std::thread;
+use std::thread::Threads;
 
 /// The status where each File was taken in whole.
 const DONE: u8 = 0;
 
-/// Takes the File at a path into an archive, with a turn of rolling behind each batch, and shows its progress as that
-/// of the File of this number.
-fn feed_path<H: Files + AllocGlobal + Clone + Drop, D: Disk, P: Write + Drop>(
+/// The most Files that are fed at once.
+const MOST_FILES: usize = 8;
+
+/// A File of which nothing was taken in.
+const UNFED: Fed = Fed {
+    messages: 0,
+    stop: None,
+};
+
+/// Takes the File at a path into an archive that threads share, shows its progress, and rings the bell for each `span`
+/// octets that are read.
+fn feed_path<H: Files + AllocGlobal + Clone + Drop + Wait, D: Disk, J: Naming, P: Write + Drop>(
     rt: &H,
-    archive: &mut Archive<D>,
-    roller: &mut Roller,
-    number: u64,
+    shared: &SharedArchive<D, J, H>,
+    bell: &Bell,
+    span: u32,
     path: &str,
-    progress: &mut Progress<P>,
-) -> Fed
-    ensures { (rolling : Option Refusal) × IsFileFed D.honest D.moment D.left_since archive.old archive.new result
-        rolling × (roller.new ≡ stopped_by roller.old rolling) }
-{
+    progress: &Progress<P>,
+) -> Fed {
     match File::open(rt, path) {
         Ok(file) => {
             let mut file = file;
-            let mut input = Watched::new(&mut file, number, progress);
-            feed(archive, rt.alloc(), &mut input, roller, &mut Faults::new())
+            let mut input = Watched::new(rt, &mut file, progress, bell, span);
+            let mut appender = SharedAppender::new(rt, shared);
+            feed(&mut appender, rt.alloc(), &mut input)
         }
         Err(error) => {
             let stop = if error.kind() == ErrorKind::OutOfMemory {
@@ -57,26 +72,127 @@ fn feed_path<H: Files + AllocGlobal + Clone + Drop, D: Disk, P: Write + Drop>(
     }
 }
 
-/// Takes the File at a path into an archive, and writes its line as that of the File of this number.
-fn feed_next<H: Files + AllocGlobal + Clone + Drop, D: Disk, W: Write, P: Write + Drop>(
+/// Rolls beside Files that are fed, and answers the first refusal of that, if any.
+fn roll_files<D: Disk, J: Naming, H: Wait>(
     rt: &H,
-    archive: &mut Archive<D>,
-    roller: &mut Roller,
-    number: u64,
-    path: &str,
-    output: &mut W,
-    progress: &mut Progress<P>,
-) -> Result<Fed, ArchiveRefusal>
-    ensures { (fed : FedFile) × (rolling : Option Refusal)
-        × IsFileFed D.honest D.moment D.left_since archive.old archive.new fed rolling
-        × (roller.new ≡ stopped_by roller.old rolling)
-        × TellsFile number fed (W.contents output.old) (W.contents output.new) result }
+    alloc: Global,
+    shared: &SharedArchive<D, J, H>,
+    bell: &Bell,
+    keep: u32,
+) -> Option<ArchiveError> {
+    roll_beside(shared, rt, alloc, bell, keep, &mut Faults::new()).err()
+}
+
+/// Takes the Files at these paths into an archive that threads share, each by a thread of its own where one can be made,
+/// and puts what came of each in its place.
+fn feed_each<
+    H: Files + AllocGlobal + Clone + Drop + Threads + Wait + Send + Sync,
+    D: Disk + Send,
+    J: Naming + Send + Sync,
+    S: AsStr + Sync,
+    P: Write + Drop + Send,
+>(
+    rt: &H,
+    shared: &SharedArchive<D, J, H>,
+    bell: &Bell,
+    span: u32,
+    paths: &[S],
+    progress: &Progress<P>,
+    feds: Vec<Fed>,
+) -> Vec<Fed>
+where
+    H::File: Send + Sync,
+    H::Dir: Send + Sync,
+    D::Sealed: Send + Sync,
+    requires { length feds.items ≡ length paths.now }
+    ensures { length result.items ≡ length paths.now }
 {
-    let fed = feed_path(rt, archive, roller, number, path, progress);
-    progress.clear();
-    let text = line(rt.alloc(), number, fed)?;
+    let mut feds = feds;
+    let one = |i: usize, fed: &mut Fed|
+        requires { i < length paths.now }
+    { *fed = feed_path(rt, shared, bell, span, paths[i].as_str(), progress) };
+    thread::for_each_mut(rt, feds.as_mut_slice(), MOST_FILES, &one);
+    feds
+}
+
+/// The same, while another thread rolls, where one can be made. It answers the first refusal of the rolling besides, if
+/// any.
+fn feed_beside<
+    H: Files + AllocGlobal + Clone + Drop + Threads + Wait + Send + Sync,
+    D: Disk + Send,
+    J: Naming + Send + Sync,
+    S: AsStr + Sync,
+    P: Write + Drop + Send,
+>(
+    rt: &H,
+    shared: &SharedArchive<D, J, H>,
+    span: u32,
+    keep: u32,
+    paths: &[S],
+    progress: &Progress<P>,
+    feds: Vec<Fed>,
+) -> (Vec<Fed>, Option<ArchiveError>)
+where
+    H::File: Send + Sync,
+    H::Dir: Send + Sync,
+    D::Sealed: Send + Sync,
+    requires { length feds.items ≡ length paths.now }
+    ensures { length result.0.items ≡ length paths.now }
+{
+    let bell = Bell::new();
+    let rung = &bell;
+    let alloc = rt.alloc();
+    thread::scope(
+        thread::scope_env(),
+        rt,
+        move |scope| -> (Vec<Fed>, Option<ArchiveError>)
+            requires { length feds.items ≡ length paths.now }
+            ensures { length result.0.items ≡ length paths.entry.now }
+        {
+            let roller = scope.spawn(move || roll_files(rt, alloc, shared, rung, keep));
+            let feds = feed_each(rt, shared, rung, span, paths, progress, feds);
+            rung.end(rt);
+            match roller {
+                Ok(roller) => (feds, roller.join(rt)),
+                Err(_) => (feds, None),
+            }
+        },
+    )
+}
+
+/// Writes the lines of Files, and answers the status of the first that stopped.
+fn tell_files<W: Write>(
+    alloc: Global,
+    feds: &[Fed],
+    refused: Option<ArchiveError>,
+    output: &mut W,
+) -> Result<u8, ArchiveRefusal>
+    ensures told { TellsFiles feds.now refused (W.contents output.old) (W.contents output.new) result }
+    ensures most { IfOk result (λ status. status ≤ 5) }
+    ensures other { IfOk result (λ status. status ≢ 2) }
+{
+    let mut first = None;
+    let mut count: u64 = 0;
+    for fed in feds {
+        count += 1;
+        tell_file(alloc, count, *fed, output)?;
+        first = first.or(fed.stop);
+    }
+    ended(first, refused)
+}
+
+/// Writes the line of the File of this number.
+fn tell_file<W: Write>(
+    alloc: Global,
+    number: u64,
+    fed: Fed,
+    output: &mut W,
+) -> Result<(), ArchiveRefusal>
+    ensures { TellsFile number fed (W.contents output.old) (W.contents output.new) result }
+{
+    let text = line(alloc, number, fed)?;
     write_patiently(output, text.as_slice(), &mut Patience::new())?;
-    Ok(fed)
+    Ok(())
 }
 
 /// How feeding ends.
@@ -92,48 +208,73 @@ fn ended(first: Option<FeedStop>, refused: Option<ArchiveError>) -> Result<u8, A
     }
 }
 
-/// Takes the Files at these paths into an archive, one after the other, with a turn of rolling behind each batch, and
-/// writes a line for each: `fed N MESSAGES`, or `stopped N MESSAGES NUMBER NAME` where message MESSAGES + 1 isn't
-/// taken.
-/// N counts from 1. It answers the status of the first File that stopped, 0 where none did.
+/// Takes the Files at these paths into an archive, each by a thread of its own where one can be made, while another one
+/// rolls all sealed segments but the newest `keep`; then writes a line for each: `fed N MESSAGES`, or `stopped N MESSAGES
+/// NUMBER NAME` where message MESSAGES + 1 isn't taken. N counts from 1. It answers the status of the first File that
+/// stopped, 0 where none did.
 ///
-/// Errors: the first refusal of the rolling, where no File stopped; 11 and 32 where a line couldn't be made or written,
-/// and then no other File is fed.
-pub fn feed_files<H: Files + AllocGlobal + Clone + Drop, D: Disk, W: Write, P: Write + Drop>(
+/// Errors: the first refusal of the rolling, where no File stopped; 11 before a File is read, where memory for the
+/// threads is refused; 11 and 32 where a line couldn't be made or written.
+fn feed_files<
+    H: Files + AllocGlobal + Clone + Drop + Threads + Wait + Send + Sync,
+    D: Disk + Send,
+    J: Naming + Send + Sync,
+    S: AsStr + Sync,
+    W: Write,
+    P: Write + Drop + Send,
+>(
     rt: &H,
-    archive: &mut Archive<D>,
-    roller: &mut Roller,
-    paths: &[&str],
+    archive: Archive<D>,
+    opened: Opened,
+    keep: u32,
+    paths: &[S],
+    feds: Vec<Fed>,
     output: &mut W,
-    progress: &mut Progress<P>,
+    progress: &Progress<P>,
 ) -> Result<u8, ArchiveRefusal>
-    ensures fed { (feds : List FedFile) × (rolling : Option Refusal)
-        × AreFed D.honest D.moment D.left_since archive.old archive.new feds rolling
-        × (roller.new ≡ stopped_by roller.old rolling)
-        × TellsFiles (length paths.now) feds roller.new.refused (W.contents output.old) (W.contents output.new) result }
+where
+    H::File: Send + Sync,
+    H::Dir: Send + Sync,
+    D::Sealed: Send + Sync,
+    requires room { length feds.items ≡ length paths.now }
+    requires book { opened.seen.book ≡ J.book }
+    requires opening { shelf_of archive.state ≡ J.opening }
+    requires honest { D.honest archive.disk ≡ J.honest }
+    ensures fed { TellsFed (length paths.now) (W.contents output.old) (W.contents output.new) result }
     ensures most { IfOk result (λ status. status ≤ 5) }
     ensures other { IfOk result (λ status. status ≢ 2) }
 {
-    let _most = paths.len();
-    let mut first = None;
-    let mut count: u64 = 0;
-    for path in paths {
-        count += 1;
-        let fed = feed_next(rt, archive, roller, count, path, output, progress)?;
-        first = first.or(fed.stop);
-    }
-    ended(first, roller.refused)
+    let alloc = rt.alloc();
+    let span = archive.limit();
+    let Ok((shared, places)) = start::<D, J, H>(alloc, archive, opened, 1) else {
+        return Err(ArchiveRefusal::OutOfMemory);
+    };
+    drop(places);
+    let (feds, refused) = feed_beside(rt, &shared, span, keep, paths, progress, feds);
+    let _archive = shared.end(rt);
+    progress.clear(rt);
+    tell_files(alloc, feds.as_slice(), refused, output)
 }
 
 /// Opens the archive on a disk, of which nothing is frozen, and takes Files into it.
-fn feed_on<H: Files + AllocGlobal + Clone + Drop, D: Disk, W: Write, P: Write + Drop>(
+fn feed_on<
+    H: Files + AllocGlobal + Clone + Drop + Threads + Wait + Send + Sync,
+    D: Disk + Send,
+    S: AsStr + Sync,
+    W: Write,
+    P: Write + Drop + Send,
+>(
     rt: &H,
     disk: D,
     keep: u32,
-    paths: &[&str],
+    paths: &[S],
     output: &mut W,
-    progress: &mut Progress<P>,
+    progress: &Progress<P>,
 ) -> Result<u8, ArchiveRefusal>
+where
+    H::File: Send + Sync,
+    H::Dir: Send + Sync,
+    D::Sealed: Send + Sync,
     requires { (n : ℕ) → (D.marks disk n).frozen ≡ false }
     ensures refused { IsTrue (D.honest disk) → IfErr result (λ e. IsNotFed (reads_of (D.held disk)) e) }
     ensures written { IfOk result (λ status. FeedsLines (length paths.now) status (W.contents output.old)
@@ -145,30 +286,41 @@ fn feed_on<H: Files + AllocGlobal + Clone + Drop, D: Disk, W: Write, P: Write + 
 {
     match Archive::open(rt.alloc(), disk) {
         Ok(archive) => {
-            let mut archive = archive;
-            let mut roller = Roller {
+            let feds = Vec::from_elem(rt.alloc(), UNFED, paths.len())?;
+            feed_files::<H, D, Brand, S, W, P>(
+                rt,
+                archive,
+                Opened::new(),
                 keep,
-                refused: None,
-            };
-            feed_files(rt, &mut archive, &mut roller, paths, output, progress)
+                paths,
+                feds,
+                output,
+                progress,
+            )
         }
         Err(refused) => Err(ArchiveRefusal::from(refused.error)),
     }
 }
 
-/// Takes Files into the archive of a folder, and writes a line for each. The archive is opened before a File is read.
-/// The newest `keep` sealed segments are left as they are; older ones are rolled between the batches. It answers the
-/// exit status: that of the first File that stopped.
-pub fn feed_in<H: Files + AllocGlobal + Clone + Drop, W: Write, P: Write + Drop>(
+/// Takes Files into the archive of a folder, at most 8, side by side, and writes a line for each. The archive is opened
+/// before a File is read. The newest `keep` sealed segments are left as they are; older ones are rolled meanwhile. It
+/// answers the exit status: that of the first File that stopped.
+pub fn feed_in<
+    H: Files + AllocGlobal + Clone + Drop + Threads + Wait + Send + Sync,
+    S: AsStr + Sync,
+    W: Write,
+    P: Write + Drop + Send,
+>(
     rt: &H,
     folder: &str,
     keep: u32,
-    paths: &[&str],
+    paths: &[S],
     output: &mut W,
-    progress: &mut Progress<P>,
+    progress: &Progress<P>,
 ) -> Result<u8, ArchiveRefusal>
 where
-    H::File: FileExt + Lockable,
+    H::File: FileExt + Lockable + Send + Sync,
+    H::Dir: Send + Sync,
     ensures written { IfOk result (λ status. FeedsLines (length paths.now) status (W.contents output.old)
         (W.contents output.new)) }
     ensures kept { IfErr result (λ e. KeepsOrFeeds (length paths.now) e (W.contents output.old)

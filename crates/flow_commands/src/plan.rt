@@ -4,6 +4,8 @@ ghost use Rattle.std.specs.Prelude.{◌≡◌, ◌≤◌, ◌%◌, IfSome};
 ghost use Rattle.flow_commands.specs.Plans.{IsPlan};
 
 use std::marker::Model;
+use std::thread;
+use std::thread::Threads;
 
 /// The numbers of a new archive.
 #[derive(Drop)]
@@ -101,5 +103,49 @@ impl StartSpan {
         ensures { result ≡ self.now.to }
     {
         self.to
+    }
+}
+
+/// How many workers scan an archive, from 1 to 64.
+#[derive(Drop)]
+pub struct Workers {
+    count: u32,
+}
+
+impl Model for Workers {
+    ghost use Rattle.std.specs.Prelude.{ℕ, ◌≤◌};
+
+    ghost Value = { ℕ };
+
+    ghost view = { λ w. w.count };
+
+    ghost invariant = { λ w. (1 ≤ w.count) × (w.count ≤ 64) };
+}
+
+impl Workers {
+    /// So many.
+    pub fn new(count: u32) -> Workers
+        requires from { 1 ≤ count }
+        requires to { count ≤ 64 }
+        ensures { result ≡ count }
+    {
+        Workers { count }
+    }
+
+    /// As many as there are processors that the program may use, up to 64.
+    pub fn of_processors<H: Threads>(rt: &H) -> Workers {
+        match thread::available_parallelism(rt) {
+            Ok(count) => Workers::new(count.get().min(64) as u32),
+            Err(_) => Workers::new(1),
+        }
+    }
+
+    /// How many.
+    pub fn count(&self) -> u32
+        ensures value { result ≡ self.now }
+        ensures from { 1 ≤ result }
+        ensures to { result ≤ 64 }
+    {
+        self.count
     }
 }

@@ -1,18 +1,16 @@
 //! The commands `roll` and `merge`.
 
-ghost use Rattle.std.specs.Prelude.{◌≡◌, ℕ, Result, false, Ok, OnOk, IfOk, IfErr};
-ghost use Rattle.flow_archive.specs.declared.refusal.ArchiveError.{ArchiveError as Refusal};
-ghost use Rattle.flow_feed.specs.Turns.{files_over, IsJobRun};
+ghost use Rattle.std.specs.Prelude.{◌≡◌, ℕ, false, Ok, OnOk, IfOk, IfErr};
 ghost use Rattle.flow_commands.specs.Asking.{Writes, WritesOrNot};
-ghost use Rattle.flow_commands.specs.Rolling.{IsJobLine, TellsJob, job_line, job_name};
+ghost use Rattle.flow_commands.specs.Rolling.{IsJobLine, IsRolled, RollsOn, TellsJob, job_line, job_name};
 
 use crate::archive_refusal::ArchiveRefusal;
-use flow_archive::Archive;
+use flow_archive::{Archive, Refused};
 use flow_disk::{Disk, Faults};
-use flow_feed::run_job;
 use flow_folder::{FolderDisk, Lockable};
 use flow_manifest::JobKind;
 use flow_report::{Patience, push_count, write_patiently};
+use flow_turns::run_job;
 use std::alloc::{AllocError, AllocGlobal, Global};
 use std::fs::Files;
 use std::io::Write;
@@ -66,9 +64,8 @@ pub fn roll<D: Disk, W: Write>(
     keep: u32,
     output: &mut W,
 ) -> Result<(), ArchiveRefusal>
-    ensures { (told : Result ℕ Refusal) × IsJobRun D.honest D.moment D.left_since archive.old archive.new kind
-        (files_over kind keep archive.old.state) told
-        × TellsJob kind told (W.contents output.old) (W.contents output.new) result }
+    ensures { IsRolled D.honest D.moment D.left_since D.faults kind keep archive.old archive.new
+        (W.contents output.old) (W.contents output.new) result }
 {
     match run_job(archive, alloc, kind, keep, &mut Faults::new()) {
         Ok(count) => tell_job(alloc, kind, count, output),
@@ -76,24 +73,37 @@ pub fn roll<D: Disk, W: Write>(
     }
 }
 
-/// Opens the archive on a disk, of which nothing is frozen, and rolls or merges its files.
-fn roll_on<D: Disk, W: Write>(
+/// Opens the archive on a disk, of which nothing is frozen, and rolls or merges its files, as `roll` does. It hands the
+/// archive on, or gives the disk back.
+pub fn roll_on<D: Disk, W: Write>(
     alloc: Global,
     disk: D,
     kind: JobKind,
     keep: u32,
     output: &mut W,
-) -> Result<(), ArchiveRefusal>
+) -> Result<Archive<D>, Refused<D, ArchiveRefusal>>
     requires { (n : ℕ) → (D.marks disk n).frozen ≡ false }
+    ensures told { RollsOn D.honest D.moment D.left_since D.faults D.held kind keep disk (W.contents output.old)
+        (W.contents output.new) result }
     ensures written { OnOk result (Writes (IsJobLine kind) (W.contents output.old) (W.contents output.new)) }
-    ensures kept { IfErr result (λ e. WritesOrNot (IsJobLine kind) e (W.contents output.old) (W.contents output.new)) }
+    ensures kept { IfErr result
+        (λ r. WritesOrNot (IsJobLine kind) r.error (W.contents output.old) (W.contents output.new)) }
 {
     match Archive::open(alloc, disk) {
         Ok(archive) => {
             let mut archive = archive;
-            roll(alloc, &mut archive, kind, keep, output)
+            match roll(alloc, &mut archive, kind, keep, output) {
+                Ok(()) => Ok(archive),
+                Err(error) => Err(Refused {
+                    disk: archive.into_disk(),
+                    error,
+                }),
+            }
         }
-        Err(refused) => Err(ArchiveRefusal::from(refused.error)),
+        Err(refused) => Err(Refused {
+            disk: refused.disk,
+            error: ArchiveRefusal::from(refused.error),
+        }),
     }
 }
 
@@ -111,5 +121,8 @@ where
     ensures kept { IfErr result (λ e. WritesOrNot (IsJobLine kind) e (W.contents output.old) (W.contents output.new)) }
 {
     let disk = FolderDisk::new(rt, folder)?;
-    roll_on(rt.alloc(), disk, kind, keep, output)
+    match roll_on(rt.alloc(), disk, kind, keep, output) {
+        Ok(_) => Ok(()),
+        Err(refused) => Err(refused.error),
+    }
 }

@@ -5,7 +5,12 @@ ghost use Rattle.flow_disk.specs.Cause.{HasCause};
 ghost use Rattle.flow_manifest.specs.Slots.{reads_of};
 ghost use Rattle.flow_archive.specs.Beginning.{answer_of, disk_of};
 ghost use Rattle.flow_recover.specs.Standing.{StandsFor};
-ghost use Rattle.flow_snapshot.specs.Totals.{SumsFit};
+ghost use Rattle.flow_measure.specs.History.{History, IsHistory};
+ghost use Rattle.flow_measure.specs.Query.{totals_between, totals_in_view};
+ghost use Rattle.flow_measure.specs.View.{view_of, AreCountsOf, View};
+ghost use Rattle.flow_snapshot.specs.Told.{IsAnswered};
+ghost use Rattle.flow_snapshot.specs.Totals.{first_file, IsMade, IsWithinLimits, SumsFit};
+ghost use Rattle.flow_snapshot.specs.Views.{IsViewOf};
 ghost use Rattle.flow_commands.specs.declared.archive_refusal.ArchiveRefusal.TheVariants as refusal;
 ghost use Rattle.flow_commands.specs.Asking.{AreLinesOf, AreRows, IsBeforeWriting, IsNotFound, TellsLines};
 ghost use Rattle.flow_commands.specs.Asking.{TellsNoLines};
@@ -14,18 +19,20 @@ ghost use Rattle.flow_report.specs.ArchiveLines.{rows_text};
 
 use crate::archive_refusal::ArchiveRefusal;
 use crate::asking::to_ask;
-use crate::plan::StartSpan;
+use crate::plan::{StartSpan, Workers};
 use flow_archive::{Archive, Refused};
-use flow_disk::{Disk, Faults};
+use flow_disk::{Disk, Faults, SealedFile};
 use flow_folder::{FolderDisk, Lockable};
 use flow_measure::Row;
 use flow_recover::RecoverError;
 use flow_report::write_rows;
-use flow_snapshot::QueryError;
+use flow_roller::{Open, scan_by_parts};
+use flow_snapshot::{QueryError, Snapshot};
 use std::alloc::{AllocGlobal, Global};
 use std::fs::Files;
 use std::io::Write;
 use std::os::unix::fs::FileExt;
+use std::thread::Threads;
 
 /// The rows that an archive answers, and the width of its intervals.
 #[derive(Drop)]
@@ -35,13 +42,46 @@ struct FoundRows {
     width: u32,
 }
 
-/// Asks an archive for its sums.
-fn find_rows<D: Disk>(
+/// What a snapshot answers to `totals`, by so many workers. Where one of them is refused, it is asked once more by one
+/// thread, so that what is answered doesn't depend on how many there are.
+fn ask_rows<S: SealedFile + Send + Sync, H: Threads + Sync>(
+    rt: &H,
+    alloc: Global,
+    snapshot: &Snapshot<S>,
+    span: &StartSpan,
+    workers: &Workers,
+    faults: &mut Faults<S>,
+) -> Result<Vec<Row>, QueryError>
+    ensures cause { HasCause QueryError.Fault faults.old faults.new result }
+    // On honest disks: what is answered by each view of the files; where its sums fit their types no damage is told.
+    ensures given { IsTrue snapshot.now.honest → (v : View) → IsViewOf snapshot.now.shelf v
+        → IsMade (first_file snapshot.now.shelf) (SumsFit v)
+        (λ rows. rows.items ≡ totals_in_view span.now.from span.now.to v) result }
+    // Where the view is that of a history within the limits: its totals, and never damage.
+    ensures answered { IsTrue snapshot.now.honest → (h : History) (counts : List ℕ) → IsHistory h
+        → AreCountsOf h counts → IsWithinLimits h → IsViewOf snapshot.now.shelf (view_of h counts)
+        → IsAnswered (λ rows. rows.items ≡ totals_between span.now.from span.now.to h) result }
+{
+    let (from, to) = (span.from(), span.to());
+    let count = workers.count();
+    let mut own = Faults::new();
+    if let Ok(rows) = scan_by_parts(snapshot, rt, alloc, &Open, count, from, to, &mut own) {
+        return Ok(rows);
+    }
+    snapshot.totals(alloc, from, to, faults)
+}
+
+/// Asks an archive for its sums, by so many workers.
+fn find_rows<D: Disk, H: Threads + Sync>(
+    rt: &H,
     alloc: Global,
     archive: &mut Archive<D>,
     span: &StartSpan,
+    workers: &Workers,
     faults: &mut Faults<D::Sealed>,
 ) -> Result<FoundRows, ArchiveRefusal>
+where
+    D::Sealed: Send + Sync,
     ensures disk { archive.new.disk ≡ archive.old.disk }
     ensures lines { IsTrue (D.honest archive.old.disk) → (reads : ℕ → List ℕ) → StandsFor reads archive.old.state
         → IfOk result (λ found. AreLinesOf (totals_lines span.now) reads (rows_text found.width found.rows.items)) }
@@ -52,9 +92,7 @@ fn find_rows<D: Disk>(
     ensures cause { HasCause (refusal.Query QueryError.Fault) faults.old faults.new result }
 {
     let asked = to_ask(alloc, archive)?;
-    let rows = asked
-        .snapshot
-        .totals(alloc, span.from(), span.to(), faults)?;
+    let rows = ask_rows(rt, alloc, &asked.snapshot, span, workers, faults)?;
     Ok(FoundRows {
         rows,
         width: asked.width,
@@ -62,13 +100,17 @@ fn find_rows<D: Disk>(
 }
 
 /// Writes the lines of an archive's sums.
-fn total<D: Disk, W: Write>(
+fn total<D: Disk, H: Threads + Sync, W: Write>(
+    rt: &H,
     alloc: Global,
     archive: &mut Archive<D>,
     span: &StartSpan,
+    workers: &Workers,
     output: &mut W,
     faults: &mut Faults<D::Sealed>,
 ) -> Result<(), ArchiveRefusal>
+where
+    D::Sealed: Send + Sync,
     ensures disk { archive.new.disk ≡ archive.old.disk }
     ensures told { IsTrue (D.honest archive.old.disk) → (reads : ℕ → List ℕ) → StandsFor reads archive.old.state
         → OnOk result (TellsLines (totals_lines span.now) reads (W.contents output.old) (W.contents output.new)) }
@@ -80,21 +122,25 @@ fn total<D: Disk, W: Write>(
     ensures opened { IfErr result (λ e. e ≢ refusal.Opening RecoverError.Fault) }
     ensures cause { HasCause (refusal.Query QueryError.Fault) faults.old faults.new result }
 {
-    let found = find_rows(alloc, archive, span, faults)?;
+    let found = find_rows(rt, alloc, archive, span, workers, faults)?;
     write_rows(alloc, found.rows.as_slice(), found.width, output)?;
     Ok(())
 }
 
 /// Opens the archive on a disk, of which nothing is frozen, and writes the totals lines of the intervals that start in
-/// a span: START DOMAIN PROTOCOL FLOWS OCTETS PACKETS, and of a row over wide intervals their width behind. It hands
-/// the archive on, or gives the disk back.
-pub fn totals<D: Disk, W: Write>(
+/// a span: START DOMAIN PROTOCOL FLOWS OCTETS PACKETS, and of a row over wide intervals their width after them. So many
+/// workers scan it, each a thread where one can be made. It hands the archive on, or gives the disk back.
+pub fn totals<D: Disk, H: Threads + Sync, W: Write>(
+    rt: &H,
     alloc: Global,
     disk: D,
     span: &StartSpan,
+    workers: &Workers,
     output: &mut W,
     faults: &mut Faults<D::Sealed>,
 ) -> Result<Archive<D>, Refused<D, ArchiveRefusal>>
+where
+    D::Sealed: Send + Sync,
     requires { (n : ℕ) → (D.marks disk n).frozen ≡ false }
     // On an honest disk the lines are those of the one view of what was read.
     ensures told { IsTrue (D.honest disk) → OnOk result
@@ -112,7 +158,7 @@ pub fn totals<D: Disk, W: Write>(
     match Archive::open(alloc, disk) {
         Ok(archive) => {
             let mut archive = archive;
-            match total(alloc, &mut archive, span, output, faults) {
+            match total(rt, alloc, &mut archive, span, workers, output, faults) {
                 Ok(()) => Ok(archive),
                 Err(error) => Err(Refused {
                     disk: archive.into_disk(),
@@ -127,20 +173,35 @@ pub fn totals<D: Disk, W: Write>(
     }
 }
 
-/// Asks the archive of a folder for its sums, and leaves the folder to others again.
-pub fn totals_in<H: Files + AllocGlobal + Clone + Drop, W: Write>(
+/// Asks the archive of a folder for its sums, by so many workers, or as many as there are processors, and leaves the
+/// folder to others again.
+pub fn totals_in<H: Files + AllocGlobal + Clone + Drop + Threads + Send + Sync, W: Write>(
     rt: &H,
     folder: &str,
     span: &StartSpan,
+    workers: Option<Workers>,
     output: &mut W,
 ) -> Result<(), ArchiveRefusal>
 where
-    H::File: FileExt + Lockable,
+    H::File: FileExt + Lockable + Send + Sync,
+    H::Dir: Send + Sync,
     ensures written { OnOk result (Writes AreRows (W.contents output.old) (W.contents output.new)) }
     ensures kept { IfErr result (λ e. WritesOrNot AreRows e (W.contents output.old) (W.contents output.new)) }
 {
+    let workers = match workers {
+        Some(workers) => workers,
+        None => Workers::of_processors(rt),
+    };
     let disk = FolderDisk::new(rt, folder)?;
-    match totals(rt.alloc(), disk, span, output, &mut Faults::new()) {
+    match totals(
+        rt,
+        rt.alloc(),
+        disk,
+        span,
+        &workers,
+        output,
+        &mut Faults::new(),
+    ) {
         Ok(_) => Ok(()),
         Err(refused) => Err(refused.error),
     }

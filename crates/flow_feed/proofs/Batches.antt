@@ -1,10 +1,9 @@
 -- A File, batch by batch.
-use Rattle.std.proofs.Common.{◌≡◌, ℕ, zero, suc, ◌+◌, ◌<◌, Bool, true, false, List, [], ◌∷◌, ◌++◌, length, take, drop}
-use Rattle.std.proofs.Common.{Option, Some, None, refl, sym, ◌∙◌, ap, subst, append-nil, append_assoc, length-append}
-use Rattle.std.proofs.Common.{add-one, arith, length-drop, take-append-drop}
-use Rattle.std.proofs.lemmas.List.{length-take-le, take_all}
+use Rattle.std.proofs.Common.{◌≡◌, ℕ, ◌+◌, ◌<◌, Bool, true, false, Bor, List, [], ◌∷◌, ◌++◌, length, take, drop, get_or}
+use Rattle.std.proofs.Common.{◌≤◌, Option, Some, None, Result, refl, sym, ◌∙◌, ap, ap₂, subst, append-nil, append_assoc}
+use Rattle.std.proofs.Common.{arith, length-append, length-drop, take-append-drop}
+use Rattle.std.proofs.lemmas.List.{length-map, length-take-le, map_more, take_all, take-map}
 use Rattle.std.specs.Prelude.{All, Vec}
-use Rattle.std.specs.Option.{option_or}
 use Rattle.std.specs.declared.alloc.Global.{Global}
 use Rattle.std.specs.Io.KnownBytes.{Consumes, prepend_known}
 use Rattle.std.proofs.lemmas.List.Elements.{All-append, All-cons, All-head, All-nil, All-tail}
@@ -13,32 +12,48 @@ use Rattle.flow_codec.specs.Message.{joined}
 use Rattle.flow_codec.specs.Stream.{Held, Progress, progress, IsMessageNext}
 use Rattle.flow_codec.proofs.Streaming.{message_next}
 use Rattle.flow_gate.specs.Scan.{texts}
+use Rattle.flow_gate.specs.Steps.{slices}
 use Rattle.flow_archive.specs.declared.refusal.ArchiveError.{ArchiveError}
-use Rattle.flow_archive.specs.Seen.{Seen}
-use Rattle.flow_feed.specs.declared.batch.Fed.{Fed}
 use Rattle.flow_feed.specs.declared.batch.FeedStop.{FeedStop}
 use Rattle.flow_feed.specs.declared.batch.FeedStop.TheVariants.{Archive, OutOfMemory}
-use Rattle.flow_feed.specs.declared.turn.Roller.{Roller}
-use Rattle.flow_feed.specs.Feed.{refusal_in, AreRead, IsEnd, IsFed}
-use Rattle.flow_feed.specs.Taken.{HasTaken}
-use Rattle.flow_feed.specs.Turns.{stopped_by}
-use Rattle.flow_feed.proofs.Reading.{consumes_none, consumes_then, joined_then, read_none, IsReading}
-use Rattle.flow_feed.proofs.Taking.{or_none, taken_none, taken_then}
-use Rattle.flow_feed.proofs.Turning.{stopped_none, stopped_then}
-
-next_suc : (n : ℕ) (xs : List (List ℕ)) (x : List ℕ) (rest : List (List ℕ)) → drop n xs ≡ x ∷ rest
-    → (take (suc n) xs ≡ take n xs ++ x ∷ []) × (drop (suc n) xs ≡ rest)
-next_suc zero [] x rest is = absurd (cc)
-next_suc zero (y ∷ ys) x rest is =
-    (ap (λ (l : List (List ℕ)). take 1 l) is, ap (λ (l : List (List ℕ)). drop 1 l) is)
-next_suc (suc n) [] x rest is = absurd (cc)
-next_suc (suc n) (y ∷ ys) x rest is =
-    let more = next_suc n ys x rest is in (ap (λ (l : List (List ℕ)). y ∷ l) more.0, more.1)
+use Rattle.flow_feed.specs.Feed.{batch_of, in_order, AreRead, IsEnd, IsFed}
+use Rattle.flow_feed.specs.Given.{AreGivenInTurn, HasTaken, IsGivenTogether}
+use Rattle.flow_feed.proofs.Readings.{consumes_none, consumes_then, joined_then, read_none, IsReading}
+use Rattle.flow_feed.proofs.Taking.{in_order_one, in_order_then, turns_none, turns_one, turns_then}
 
 -- the next of some messages
-pub next_taken : (n : ℕ) (xs : List (List ℕ)) (x : List ℕ) (rest : List (List ℕ)) → drop n xs ≡ x ∷ rest
-    → (take (n + 1) xs ≡ take n xs ++ x ∷ []) × (drop (n + 1) xs ≡ rest)
-next_taken n xs x rest is = rw add-one (next_suc n xs x rest is)
+pub slices_more : (messages : List (Bor (List ℕ))) (i : ℕ) (none : Bor (List ℕ)) → i < length messages
+    → take (i + 1) (slices messages) ≡ take i (slices messages) ++ (get_or messages i none).now ∷ []
+slices_more messages i none lt =
+    let octets = λ (message : Bor (List ℕ)). message.now in
+    take-map octets (i + 1) messages ∙ map_more octets messages i none lt
+    ∙ ap (λ (l : List (List ℕ)). l ++ (get_or messages i none).now ∷ []) (sym (take-map octets i messages))
+
+-- how many messages there are
+pub texts_long : (messages : List (Vec ℕ Global)) → length (texts messages) ≡ length messages
+texts_long messages = length-map messages (λ (message : Vec ℕ Global). message.items)
+
+pub few_texts : (messages : List (Vec ℕ Global)) → length messages ≤ 64 → length (texts messages) ≤ 64
+few_texts messages few = let long = texts_long messages in omega (arith, long, few)
+
+pub slices_long : (messages : List (Bor (List ℕ))) → length (slices messages) ≡ length messages
+slices_long messages = length-map messages (λ (message : Bor (List ℕ)). message.now)
+
+-- messages that are given as one batch, which may be none
+module _ {S : Type 0} (appends : S → S → List (List ℕ) → Result ℕ ArchiveError → Type 0) (old new : S) where
+  pub gives_none : (messages : List (Vec ℕ Global)) → length messages ≡ 0
+      → HasTaken appends (AreGivenInTurn (batch_of (texts messages))) old old (take 0 (texts messages)) None
+  gives_none [] none = turns_none appends old
+  gives_none (m ∷ ms) none = absurd (omega (arith, none))
+
+  pub gives_some : (messages : List (Vec ℕ Global)) (octets : List (List ℕ)) (n : ℕ) (stop : Option ArchiveError)
+      → 1 ≤ length messages → octets ≡ texts messages
+      → HasTaken appends (IsGivenTogether octets) old new (take n octets) stop
+      → HasTaken appends (AreGivenInTurn (batch_of (texts messages))) old new (take n (texts messages)) stop
+  gives_some messages octets n stop some are p =
+      turns_one appends old new (texts messages) (take n (texts messages)) stop
+      (let long = texts_long messages in omega (arith, long, some))
+      (subst (λ (l : List (List ℕ)). HasTaken appends (IsGivenTogether l) old new (take n l) stop) are p)
 
 All-left : (xs ys : List (List ℕ)) → All IsCutOff (xs ++ ys) → All IsCutOff xs
 All-left [] ys all = All-nil IsCutOff
@@ -49,14 +64,22 @@ All-right : (xs ys : List (List ℕ)) → All IsCutOff (xs ++ ys) → All IsCutO
 All-right [] ys all = all
 All-right (x ∷ xs) ys all = All-right xs ys (All-tail IsCutOff x (xs ++ ys) all)
 
--- all of the File that was taken in so far, by a roller that has made its turns behind it
-pub record IsFeeding {D : Type 0} (honest : D → Bool) (moment : D → ℕ)
-    (left_since : D → ℕ → (ℕ → List ℕ) → Type 0) (old now : Seen D) (start reader : Progress) (count : ℕ)
-    (first roller : Roller) : Type 0 where
+-- a batch that may be given
+abbrev pub IsFew : List (List ℕ) → Type 0
+IsFew batch = (1 ≤ length batch) × (length batch ≤ 64)
+
+few_of : (messages : List (List ℕ)) → length messages ≤ 64 → All IsFew (batch_of messages)
+few_of [] most = All-nil IsFew
+few_of (m ∷ ms) most = All-cons IsFew (m ∷ ms) [] (omega arith, most) (All-nil IsFew)
+
+-- all of the File that was taken in so far
+pub record IsFeeding {S : Type 0} (appends : S → S → List (List ℕ) → Result ℕ ArchiveError → Type 0) (old now : S)
+    (start reader : Progress) (count : ℕ) : Type 0 where
+  pub batches : List (List (List ℕ))
+  pub few : All IsFew batches
   pub messages : List (List ℕ)
-  pub rolling : Option ArchiveError
-  pub taken : HasTaken honest moment left_since old now messages None rolling
-  pub roller_is : roller ≡ stopped_by first rolling
+  pub taken : HasTaken appends (AreGivenInTurn batches) old now messages None
+  pub batches_are : in_order batches ≡ messages
   pub reading : IsReading start messages reader
   pub count_is : count ≡ length messages
 
@@ -71,33 +94,33 @@ pub opened : (reader : Held) (input : Option (List ℕ))
 opened reader None is = ap (λ (r : Held). progress r None) is
 opened reader (Some octets) is = ap (λ (r : Held). progress r (Some octets)) is
 
-module _ {D : Type 0} (honest : D → Bool) (moment : D → ℕ) (left_since : D → ℕ → (ℕ → List ℕ) → Type 0)
-    (old : Seen D) (octets : Option (List ℕ)) (roller : Roller) where
+module _ {S : Type 0} (appends : S → S → List (List ℕ) → Result ℕ ArchiveError → Type 0) (old : S)
+    (octets : Option (List ℕ)) where
   -- nothing is read
-  pub fed_nothing : (rolling : Option ArchiveError)
-      × IsFed honest moment left_since old old octets (record { messages = 0; stop = Some OutOfMemory }) rolling
-      × (roller ≡ stopped_by roller rolling)
-  fed_nothing = (
-    None,
-    record {
-      messages = [];
-      taken = taken_none honest moment left_since old;
-      count = refl;
-      all = All-nil IsCutOff;
-      rest = octets;
-      front = consumes_none octets;
-      ended = tt;
-    },
-    sym (stopped_none roller),
-  )
+  pub fed_nothing : IsFed appends old old octets (record { messages = 0; stop = Some OutOfMemory })
+  fed_nothing = record {
+    batches = [];
+    few = All-nil IsFew;
+    messages = [];
+    taken = turns_none appends old;
+    left = [];
+    batches_are = refl;
+    count = refl;
+    all = All-nil IsCutOff;
+    rest = octets;
+    front = consumes_none octets;
+    read = (octets, consumes_none octets);
+    ended = tt;
+  }
 
   pub started : (reader : Progress) → reader ≡ start_of octets
-      → IsFeeding honest moment left_since old old (start_of octets) reader reader.count roller roller
+      → IsFeeding appends old old (start_of octets) reader reader.count
   started reader is = record {
+    batches = [];
+    few = All-nil IsFew;
     messages = [];
-    rolling = None;
-    taken = taken_none honest moment left_since old;
-    roller_is = sym (stopped_none roller);
+    taken = turns_none appends old;
+    batches_are = refl;
     reading = subst (λ (p : Progress). IsReading (start_of octets) [] p) (sym is)
         (read_none (start_of octets) refl);
     count_is = ap (λ (p : Progress). p.count) is;
@@ -149,137 +172,128 @@ reads_on start mid reader messages more stop so_far read =
       count = let before = so_far.count in let after = on.3 in omega (arith, counted);
     }
 
-module _ {D : Type 0} (honest : D → Bool) (moment : D → ℕ) (left_since : D → ℕ → (ℕ → List ℕ) → Type 0)
-    (old now : Seen D) (start mid reader : Progress) (messages more : List (List ℕ)) (begins_at : start.at ≡ 0)
-    (so_far : IsReading start messages mid) (rolling : Option ArchiveError) where
-  -- the last batch
-  pub fed_last : (stop : Option FeedStop) (fed : Fed) → AreRead mid more true stop reader
-      → HasTaken honest moment left_since old now (messages ++ more) None rolling
-      → fed.messages ≡ length messages + length more → fed.stop ≡ stop
-      → IsFed honest moment left_since old now start.rest fed rolling
-  fed_last stop fed read taken count is =
-      let long = all_long messages more in
-      let counted : length (messages ++ more) ≡ length messages + length more = length-append messages more in
-      let place : mid.at + length (joined more) ≡ length (joined (messages ++ more)) =
-      let before = so_far.at in omega (arith, long, begins_at) in
-      record {
-        messages = messages ++ more;
-        taken = subst (λ (o : Option ArchiveError). HasTaken honest moment left_since old now (messages ++ more) o
-            rolling) (sym (ap refusal_in is ∙ read.refused)) taken;
-        count = count ∙ sym counted;
-        all = All-append IsCutOff messages more so_far.all read.all;
-        rest = read.rest;
-        front = all_read start mid messages more read.rest so_far read.front;
-        ended = subst (λ (o : Option FeedStop). IsEnd (length (joined (messages ++ more))) o read.rest) (sym is)
-            (subst (λ (n : ℕ). IsEnd n stop read.rest) place (read.ended refl));
-      }
+-- what is known of octets that come back before others, after these
+given_next : (rest : Option (List ℕ)) (a : List ℕ) → Consumes (prepend_known a rest) rest a
+given_next None a = tt
+given_next (Some xs) a = refl
 
-  -- a message that the archive refuses
-  pub fed_refused : (n : ℕ) (is_last : Bool) (stop : Option FeedStop) (error : ArchiveError) (fed : Fed)
-      → AreRead mid more is_last stop reader
-      → HasTaken honest moment left_since old now (messages ++ take n more) (Some error) rolling
-      → n < length more → fed.messages ≡ length messages + n → fed.stop ≡ Some (Archive error)
-      → IsFed honest moment left_since old now start.rest fed rolling
-  fed_refused n is_last stop error fed read taken fewer count is =
-      let left = drop n more in
-      let whole : take n more ++ left ≡ more = take-append-drop n more in
-      let short : length (take n more) ≡ n = length-take-le n more (omega (arith, fewer)) in
-      let counted : length (messages ++ take n more) ≡ length messages + n =
-      length-append messages (take n more) ∙ ap (λ (k : ℕ). length messages + k) short in
-      let rest = prepend_known (joined left) read.rest in
-      let all : All IsCutOff (take n more ++ left) = subst (λ (l : List (List ℕ)). All IsCutOff l) (sym whole) read.all in
-      record {
-        messages = messages ++ take n more;
-        taken = subst (λ (o : Option ArchiveError). HasTaken honest moment left_since old now
-            (messages ++ take n more) o rolling) (sym (ap refusal_in is)) taken;
-        count = count ∙ sym counted;
-        all = All-append IsCutOff messages (take n more) so_far.all (All-left (take n more) left all);
-        rest = rest;
-        front = all_read start mid messages (take n more) rest so_far
-            (given_back mid.rest read.rest (joined (take n more)) (joined left)
-            (subst (λ (l : List ℕ). Consumes mid.rest read.rest l)
-            (ap joined (sym whole) ∙ joined_then (take n more) left) read.front));
-        ended = subst (λ (o : Option FeedStop). IsEnd (length (joined (messages ++ take n more))) o rest) (sym is)
-            (next_message read.rest left (All-right (take n more) left all)
-            (let gone = length-drop n more in omega (arith, fewer, gone)));
-      }
+module _ {S : Type 0} (appends : S → S → List (List ℕ) → Result ℕ ArchiveError → Type 0) (old now new : S)
+    (octets : Option (List ℕ)) (mid reader : Progress) (count : ℕ)
+    (so_far : IsFeeding appends old now (start_of octets) mid count) where
+  -- no memory to give what was read
+  pub ends_early : new ≡ now → IsFed appends old new octets (record { messages = count; stop = Some OutOfMemory })
+  ends_early same = record {
+    batches = so_far.batches;
+    few = so_far.few;
+    messages = so_far.messages;
+    taken = subst (λ (s : S). HasTaken appends (AreGivenInTurn so_far.batches) old s so_far.messages None) (sym same)
+        so_far.taken;
+    left = [];
+    batches_are = so_far.batches_are ∙ sym (append-nil so_far.messages);
+    count = so_far.count_is;
+    all = subst (λ (l : List (List ℕ)). All IsCutOff l) (sym (append-nil so_far.messages)) so_far.reading.all;
+    rest = mid.rest;
+    front = so_far.reading.front;
+    read = (mid.rest, consumes_none mid.rest);
+    ended = tt;
+  }
 
--- how many messages there are
-pub texts_long : (messages : List (Vec ℕ Global)) → length (texts messages) ≡ length messages
-texts_long [] = refl
-texts_long (m ∷ messages) = ap suc (texts_long messages)
+  module _ (more : List (List ℕ)) (n : ℕ) (most : length more ≤ 64) where
+    abbrev batches : List (List (List ℕ))
+    batches = so_far.batches ++ batch_of more
 
-module _ {D : Type 0} (honest : D → Bool) (moment : D → ℕ) (left_since : D → ℕ → (ℕ → List ℕ) → Type 0)
-    (old now new : Seen D) (octets : Option (List ℕ)) (mid reader : Progress) (count : ℕ) (first roller : Roller)
-    (so_far : IsFeeding honest moment left_since old now (start_of octets) mid count first roller)
-    (more : List (List ℕ)) (n : ℕ) where
-  -- a batch of which so many are taken
-  taken_batch : (stop : Option ArchiveError) → HasTaken honest moment left_since now new (take n more) stop None
-      → HasTaken honest moment left_since old new (so_far.messages ++ take n more) stop so_far.rolling
-  taken_batch stop taken =
-      subst (λ (o : Option ArchiveError).
-      HasTaken honest moment left_since old new (so_far.messages ++ take n more) stop o) (or_none so_far.rolling)
-      (taken_then honest moment left_since old now new so_far.messages (take n more) None stop so_far.rolling None
-      so_far.taken taken)
+    all_few : All IsFew batches
+    all_few = All-append IsFew so_far.batches (batch_of more) so_far.few (few_of more most)
 
-  module _ (all : n ≡ length more) (after : Seen D)
-      (taken : HasTaken honest moment left_since now new (take n more) None None) (rolling : Option ArchiveError)
-      (turn : HasTaken honest moment left_since new after [] None rolling) (turned : Roller)
-      (turned_is : turned ≡ stopped_by roller rolling) where
-    taken_all : HasTaken honest moment left_since old after (so_far.messages ++ more) None
-        (option_or so_far.rolling rolling)
-    taken_all =
-        let whole : take n more ≡ more = take_all n more (omega (arith, all)) in
-        subst (λ (l : List (List ℕ)). HasTaken honest moment left_since old after l None
-        (option_or so_far.rolling rolling))
-        (append-nil (so_far.messages ++ take n more) ∙ ap (λ (l : List (List ℕ)). so_far.messages ++ l) whole)
-        (taken_then honest moment left_since old new after (so_far.messages ++ take n more) [] None None so_far.rolling
-        rolling (taken_batch None taken) turn)
+    in_order_are : in_order batches ≡ so_far.messages ++ more
+    in_order_are =
+        in_order_then so_far.batches (batch_of more)
+        ∙ ap₂ (λ (x : List (List ℕ)) (y : List (List ℕ)). x ++ y) so_far.batches_are (in_order_one more)
 
-    stopped_all : turned ≡ stopped_by first (option_or so_far.rolling rolling)
-    stopped_all =
-        turned_is ∙ ap (λ (r : Roller). stopped_by r rolling) so_far.roller_is
-        ∙ stopped_then first so_far.rolling rolling
+    -- a message that the archive refuses
+    pub ends_refused : (is_last : Bool) (stop : Option FeedStop) (error : ArchiveError)
+        → AreRead mid more is_last stop reader → n < length more
+        → HasTaken appends (AreGivenInTurn (batch_of more)) now new (take n more) (Some error)
+        → IsFed appends old new octets (record { messages = count + n; stop = Some (Archive error) })
+    ends_refused is_last stop error read fewer taken =
+        let messages = so_far.messages in
+        let left = drop n more in
+        let whole : take n more ++ left ≡ more = take-append-drop n more in
+        let short : length (take n more) ≡ n = length-take-le n more (omega (arith, fewer)) in
+        let counted : length (messages ++ take n more) ≡ length messages + n =
+        length-append messages (take n more) ∙ ap (λ (k : ℕ). length messages + k) short in
+        let rest = prepend_known (joined left) read.rest in
+        let all : All IsCutOff (take n more ++ left) =
+        subst (λ (l : List (List ℕ)). All IsCutOff l) (sym whole) read.all in
+        let both : (messages ++ take n more) ++ left ≡ messages ++ more =
+        append_assoc messages (take n more) left ∙ ap (λ (l : List (List ℕ)). messages ++ l) whole in
+        record {
+          batches = batches;
+          few = all_few;
+          messages = messages ++ take n more;
+          taken = turns_then appends so_far.batches (batch_of more) old now new messages (take n more) (Some error)
+              so_far.taken taken;
+          left = left;
+          batches_are = in_order_are ∙ sym both;
+          count = let were = so_far.count_is in omega (arith, counted);
+          all = subst (λ (l : List (List ℕ)). All IsCutOff l) (sym both)
+              (All-append IsCutOff messages more so_far.reading.all read.all);
+          rest = rest;
+          front = all_read (start_of octets) mid messages (take n more) rest so_far.reading
+              (given_back mid.rest read.rest (joined (take n more)) (joined left)
+              (subst (λ (l : List ℕ). Consumes mid.rest read.rest l)
+              (ap joined (sym whole) ∙ joined_then (take n more) left) read.front));
+          read = (read.rest, given_next read.rest (joined left));
+          ended = next_message read.rest left (All-right (take n more) left all)
+              (let gone = length-drop n more in omega (arith, fewer, gone));
+        }
 
-    -- a batch more, and a turn behind it
-    pub feeds_on : (stop : Option FeedStop) → AreRead mid more false stop reader
-        → IsFeeding honest moment left_since old after (start_of octets) reader reader.count first turned
-    feeds_on stop read = record {
-      messages = so_far.messages ++ more;
-      rolling = option_or so_far.rolling rolling;
-      taken = taken_all;
-      roller_is = stopped_all;
-      reading = reads_on (start_of octets) mid reader so_far.messages more stop so_far.reading read;
-      count_is = let counted =
-          (reads_on (start_of octets) mid reader so_far.messages more stop so_far.reading read).count in
-          omega (arith, counted);
-    }
+    module _ (all : n ≡ length more)
+        (taken : HasTaken appends (AreGivenInTurn (batch_of more)) now new (take n more) None) where
+      taken_all : HasTaken appends (AreGivenInTurn batches) old new (so_far.messages ++ more) None
+      taken_all =
+          turns_then appends so_far.batches (batch_of more) old now new so_far.messages more None so_far.taken
+          (subst (λ (l : List (List ℕ)). HasTaken appends (AreGivenInTurn (batch_of more)) now new l None)
+          (take_all n more (omega (arith, all))) taken)
 
-    pub ends_last : (stop : Option FeedStop) → AreRead mid more true stop reader
-        → (rolling : Option ArchiveError)
-        × IsFed honest moment left_since old after octets (record { messages = count + n; stop = stop }) rolling
-        × (turned ≡ stopped_by first rolling)
-    ends_last stop read = (
-      option_or so_far.rolling rolling,
-      fed_last honest moment left_since old after (start_of octets) mid reader so_far.messages more refl so_far.reading
-          (option_or so_far.rolling rolling) stop (record { messages = count + n; stop = stop }) read taken_all
-          (let were = so_far.count_is in omega (arith, all)) refl,
-      stopped_all,
-    )
+      -- a batch more
+      pub feeds_on : (stop : Option FeedStop) → AreRead mid more false stop reader
+          → IsFeeding appends old new (start_of octets) reader reader.count
+      feeds_on stop read =
+          let reads = reads_on (start_of octets) mid reader so_far.messages more stop so_far.reading read in
+          record {
+            batches = batches;
+            few = all_few;
+            messages = so_far.messages ++ more;
+            taken = taken_all;
+            batches_are = in_order_are;
+            reading = reads;
+            count_is = let counted = reads.count in omega (arith, counted);
+          }
 
-  pub ends_refused : (is_last : Bool) (stop : Option FeedStop) (error : ArchiveError) (told : Option ArchiveError)
-      → told ≡ Some error → AreRead mid more is_last stop reader → n < length more
-      → HasTaken honest moment left_since now new (take n more) told None
-      → (rolling : Option ArchiveError)
-      × IsFed honest moment left_since old new octets
-      (record { messages = count + n; stop = Some (Archive error) }) rolling
-      × (roller ≡ stopped_by first rolling)
-  ends_refused is_last stop error told is read fewer taken = (
-    so_far.rolling,
-    fed_refused honest moment left_since old new (start_of octets) mid reader so_far.messages more refl so_far.reading
-        so_far.rolling n is_last stop error (record { messages = count + n; stop = Some (Archive error) }) read
-        (taken_batch (Some error)
-        (subst (λ (o : Option ArchiveError). HasTaken honest moment left_since now new (take n more) o None) is taken))
-        fewer (let were = so_far.count_is in omega (arith)) refl,
-    so_far.roller_is,
-  )
+      -- the last batch
+      pub ends_last : (stop : Option FeedStop) → AreRead mid more true stop reader
+          → IsFed appends old new octets (record { messages = count + n; stop = stop })
+      ends_last stop read =
+          let messages = so_far.messages in
+          let long = all_long messages more in
+          let counted : length (messages ++ more) ≡ length messages + length more = length-append messages more in
+          let place : mid.at + length (joined more) ≡ length (joined (messages ++ more)) =
+          let before = so_far.reading.at in omega (arith, long) in
+          let same = sym (append-nil (messages ++ more)) in
+          record {
+            batches = batches;
+            few = all_few;
+            messages = messages ++ more;
+            taken = subst (λ (o : Option ArchiveError). HasTaken appends (AreGivenInTurn batches) old new
+                (messages ++ more) o) (sym read.refused) taken_all;
+            left = [];
+            batches_are = in_order_are ∙ same;
+            count = let were = so_far.count_is in omega (arith, counted, all);
+            all = subst (λ (l : List (List ℕ)). All IsCutOff l) same
+                (All-append IsCutOff messages more so_far.reading.all read.all);
+            rest = read.rest;
+            front = all_read (start_of octets) mid messages more read.rest so_far.reading read.front;
+            read = (read.rest, consumes_none read.rest);
+            ended = subst (λ (k : ℕ). IsEnd k stop read.rest) place (read.ended refl);
+          }

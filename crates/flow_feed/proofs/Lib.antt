@@ -1,5 +1,3 @@
-pub mod Taking
-pub mod Turning
-mod Reading
+mod Taking
+mod Readings
 mod Batches
-mod Telling

@@ -1,16 +1,16 @@
 -- A File into an archive.
-use Rattle.std.specs.Prelude.{◌≡◌, ℕ, ◌+◌, Bool, true, false, List, All, length, Option, Some, None, ⊤}
+use Rattle.std.specs.Prelude.{◌≡◌, ◌≤◌, ℕ, ◌+◌, Bool, true, false, List, [], ◌∷◌, ◌++◌, flat_map, All, length, Option}
+use Rattle.std.specs.Prelude.{Some, None, Result, ⊤}
 use Rattle.std.specs.Io.KnownBytes.{Consumes, IsAtEnd}
 use Rattle.flow_codec.specs.declared.stream.StreamError.TheVariants as stream
 use Rattle.flow_codec.specs.Cutting.{IsCutOff}
 use Rattle.flow_codec.specs.Message.{joined}
 use Rattle.flow_codec.specs.Stream.{Progress, IsFaultNext, IsMessageNext}
 use Rattle.flow_archive.specs.declared.refusal.ArchiveError.{ArchiveError}
-use Rattle.flow_archive.specs.Seen.{Seen}
 use Rattle.flow_feed.specs.declared.batch.Fed.{Fed}
 use Rattle.flow_feed.specs.declared.batch.FeedStop.{FeedStop}
 use Rattle.flow_feed.specs.declared.batch.FeedStop.TheVariants.{File, Archive, OutOfMemory, Unopened}
-use Rattle.flow_feed.specs.Taken.{HasTaken}
+use Rattle.flow_feed.specs.Given.{AreGivenInTurn, HasTaken}
 
 -- What stands behind the messages that are taken in, up to this place of the File: nothing, where the File is taken in
 -- whole; a fault of the File; or a message that isn't taken.
@@ -47,15 +47,29 @@ pub record AreRead (old : Progress) (messages : List (List ℕ)) (is_last : Bool
 
 -- ---- a whole File
 
--- The archive has acknowledged the first messages of the File, in their order, each once, and no other; as many as are
--- told; and what stands behind them is why there aren't more. `rolling` is the first refusal of an event of rolling on
--- the way, if any.
-pub record IsFed {D : Type 0} (honest : D → Bool) (moment : D → ℕ) (left_since : D → ℕ → (ℕ → List ℕ) → Type 0)
-    (old new : Seen D) (octets : Option (List ℕ)) (fed : Fed) (rolling : Option ArchiveError) : Type 0 where
+-- messages that were read together, as a batch to give: none where there are none
+abbrev pub batch_of : List (List ℕ) → List (List (List ℕ))
+batch_of [] = []
+batch_of (message ∷ messages) = (message ∷ messages) ∷ []
+
+-- the messages of batches, in their order
+abbrev pub in_order : List (List (List ℕ)) → List (List ℕ)
+in_order batches = flat_map (λ (batch : List (List ℕ)). batch) batches
+
+-- The first messages of the File are acknowledged, in their order, each once, and no other; as many as are told; and
+-- what follows them is why there aren't more. They were given in batches of 1 to 64, which are the File's next messages
+-- each time; some of the last batch may be left. `appends` says what each batch made of the appender.
+pub record IsFed {S : Type 0} (appends : S → S → List (List ℕ) → Result ℕ ArchiveError → Type 0) (old new : S)
+    (octets : Option (List ℕ)) (fed : Fed) : Type 0 where
+  pub batches : List (List (List ℕ))
+  pub few : All (λ (batch : List (List ℕ)). (1 ≤ length batch) × (length batch ≤ 64)) batches
   pub messages : List (List ℕ)
-  pub taken : HasTaken honest moment left_since old new messages (refusal_in fed.stop) rolling
+  pub taken : HasTaken appends (AreGivenInTurn batches) old new messages (refusal_in fed.stop)
+  pub left : List (List ℕ)
+  pub batches_are : in_order batches ≡ messages ++ left
   pub count : fed.messages ≡ length messages
-  pub all : All IsCutOff messages
+  pub all : All IsCutOff (messages ++ left)
   pub rest : Option (List ℕ)
   pub front : Consumes octets rest (joined messages)
+  pub read : (after : Option (List ℕ)) × Consumes rest after (joined left)
   pub ended : IsEnd (length (joined messages)) fed.stop rest

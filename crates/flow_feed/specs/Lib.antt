@@ -1,3 +1,2 @@
 pub mod Feed
-pub mod Taken
-pub mod Turns
+pub mod Given

@@ -7,7 +7,7 @@ use crate::asked::asked;
 use crate::report::Report;
 use flow_archive::{Archive, ArchiveError};
 use flow_disk::{Disk, Faults};
-use flow_feed::Turn;
+use flow_turns::Turn;
 use flow_memory_disk::MemoryDisk;
 use flow_scripts::{Command, Event, Line, Question, Script};
 use flow_shared::{ArchiveReader, Naming, Opened, Receipt, SharedArchive, start};

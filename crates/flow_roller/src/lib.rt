@@ -5,10 +5,14 @@
 //! refused. No clause says that two threads run, or that a turn comes: tests show it.
 #![tactic(auto)]
 
+mod bell;
+mod beside;
 mod gate;
 mod rolling;
 mod scan;
 
+pub use bell::Bell;
+pub use beside::roll_beside;
 pub use gate::{Gate, Open, Point};
 pub use rolling::roll_worker;
 pub use scan::scan_by_parts;

@@ -5,8 +5,8 @@ ghost use Rattle.flow_memory_disk.specs.Memory.{story_of};
 
 use flow_archive::{Archive, ArchiveError};
 use flow_disk::{Disk, Faults};
-use flow_feed::{merge_turn, roll_turn};
 use flow_memory_disk::{MemoryDisk, Room};
+use flow_turns::{merge_turn, roll_turn};
 use std::alloc::{AllocError, Global};
 
 /// Room for some small files.

@@ -18,8 +18,8 @@ use Rattle.flow_recover.specs.State.{Part, StagedFile, State, appended}
 use Rattle.flow_archive.specs.Answers.{IsMovedOn}
 use Rattle.flow_archive.specs.Answers as answers
 use Rattle.flow_archive.specs.Marks.{made_mark, numbered, HasMark}
-use Rattle.flow_feed.specs.declared.turn.Turn.{Turn}
-use Rattle.flow_feed.specs.declared.turn.Turn.TheVariants as turn
+use Rattle.flow_turns.specs.declared.turn.Turn.{Turn}
+use Rattle.flow_turns.specs.declared.turn.Turn.TheVariants as turn
 use Rattle.flow_shared.specs.Calls.{IsClosing, IsTurnedBy}
 use Rattle.flow_shared.specs.Held.{IsMarkedBy, IsMarkOf}
 use Rattle.flow_shared.specs.Told.{change_at, no_rollup, no_segment}

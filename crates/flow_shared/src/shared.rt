@@ -15,7 +15,7 @@ use crate::shown::{Shown, Telling};
 use crate::writing::Waits;
 use flow_archive::{Archive, ArchiveError};
 use flow_disk::{Disk, Faults, SealedFile};
-use flow_feed::Turn;
+use flow_turns::Turn;
 use left_right::{Absorb, WriteHandle};
 use std::alloc::{AllocError, Global};
 use std::marker::PhantomData;

@@ -7,7 +7,7 @@ use crate::started::{FLOW, created};
 use flow_archive::Archive;
 use flow_disk::{Disk, Faults};
 use flow_memory_disk::MemoryDisk;
-use flow_shared::{Naming, Opened, start};
+use flow_shared::{Naming, Opened, ReaderError, start};
 use std::alloc::Global;
 use std::marker::Brand;
 use std::process::Abort;
@@ -46,6 +46,9 @@ fn written<D: Disk, J: Naming, W: Wait + Abort>(
     assert_eq!(rt; message.as_slice(), FLOW.as_slice());
     let archive = shared.end(rt);
     assert!(rt; !archive.is_closed());
+    // Nobody shows anything now: a place that enters is away, and what was taken before is still answered.
+    assert!(rt; matches!(reader.snapshot(), Err(ReaderError::Away)));
+    assert_eq!(rt; snapshot.position(), position);
     Ok(())
 }
 

@@ -32,12 +32,12 @@ use Rattle.clap.proofs.OnLiterals.{clap_on_literals}
 use Rattle.clap.proofs.WalkLemmas.{both, first_value-rows, raw_values-rows, walk_stopped}
 use Rattle.clap.proofs.FaultLemmas.{stopped_fault}
 use Rattle.flow_words.specs.declared.request.Request.{Request}
-use Rattle.flow_words.specs.declared.request.Request.TheVariants.{Check, Measure, Dump, Explain, Flows, Totals}
+use Rattle.flow_words.specs.declared.request.Request.TheVariants.{Check, Measure, Dump, Explain}
 use Rattle.flow_words.specs.declared.request.LineError.{LineError}
 use Rattle.flow_words.specs.declared.request.LineError.TheVariants as line
 use Rattle.flow_report.specs.Numbers.{number_of}
-use Rattle.flow_words.specs.Arguments.{asked_in, changing, create_in, explained_in, fed_in, few_of, files_in}
-use Rattle.flow_words.specs.Arguments.{folder_in, queried}
+use Rattle.flow_words.specs.Arguments.{changing, create_in, explained_in, fed_in, few_of, files_in, listed_in}
+use Rattle.flow_words.specs.Arguments.{folder_in, queried, totalled_in}
 use Rattle.flow_words.specs.Arguments.{requested, request_in, unfed, width_in}
 use Rattle.flow_words.specs.CommandLine.{parsed_names, asked, dump_of, dump_shape, flowvault, is_parsed, measure_of}
 use Rattle.flow_words.specs.CommandLine.{measure_shape, parsed, unless, width_rule, without_dashes}
@@ -734,6 +734,7 @@ wrong_words : (asking : List Text) (e : LineError) → IsWrongValue e → asked 
 wrong_words asking line.Width wrong none = none
 wrong_words asking line.Plan wrong none = none
 wrong_words asking line.Span wrong none = none
+wrong_words asking line.Totals wrong none = none
 wrong_words asking line.Keep wrong none = none
 wrong_words asking line.Files wrong none = none
 wrong_words asking line.Number wrong none = none
@@ -788,12 +789,12 @@ pub changing_name : (name : Text) (rows : List Row) → (name ≡ codes "totals"
 changing_name name rows no_totals no_flows no_explain =
     let explained : Option Request = if bytes_eq (codes "explain") name then option_map Explain (explained_in rows)
     else changing name rows in
-    let shown : Option Request = if bytes_eq (codes "flows") name then asked_in Flows rows else explained in
+    let shown : Option Request = if bytes_eq (codes "flows") name then listed_in rows else explained in
     passed_over (bytes_eq (codes "explain") name) (option_map Explain (explained_in rows)) (changing name rows)
     (differs (codes "explain") name no_explain)
-    ∙ passed_over (bytes_eq (codes "flows") name) (asked_in Flows rows) explained
+    ∙ passed_over (bytes_eq (codes "flows") name) (listed_in rows) explained
     (differs (codes "flows") name no_flows)
-    ∙ passed_over (bytes_eq (codes "totals") name) (asked_in Totals rows) shown
+    ∙ passed_over (bytes_eq (codes "totals") name) (totalled_in rows) shown
     (differs (codes "totals") name no_totals)
 
 -- the Files that are given

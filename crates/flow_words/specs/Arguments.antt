@@ -51,9 +51,19 @@ folder_in rows = first_of (codes "DIR") rows
 abbrev pub create_in : List Row → Option Request
 create_in rows = option_and_then (λ folder. option_map (Create folder) (plan_in rows)) (folder_in rows)
 
--- what `totals` and `flows` ask for
-abbrev pub asked_in : (Text → Span → Request) → List Row → Option Request
-asked_in request rows = option_and_then (λ folder. option_map (request folder) (span_in rows)) (folder_in rows)
+-- how many workers scan, where that is said: 1 to 64
+abbrev pub workers_in : List Row → Option (Option ℕ)
+workers_in rows =
+    option_map_or (λ word. option_map Some (number_between 1 64 word)) (first_of (codes "WORKERS") rows) (Some None)
+
+-- what `totals` asks for
+abbrev pub totalled_in : List Row → Option Request
+totalled_in rows = option_and_then (λ folder. option_and_then (λ span. option_map (Totals folder span) (workers_in rows))
+    (span_in rows)) (folder_in rows)
+
+-- what `flows` asks for
+abbrev pub listed_in : List Row → Option Request
+listed_in rows = option_and_then (λ folder. option_map (Flows folder) (span_in rows)) (folder_in rows)
 
 -- how many of the newest files are left
 abbrev pub keep_in : List Row → Option ℕ
@@ -95,8 +105,8 @@ changing name rows =
 -- what a query's name and the values of its arguments ask for
 abbrev pub queried : Text → List Row → Option Request
 queried name rows =
-    if bytes_eq (codes "totals") name then asked_in Totals rows
-    else if bytes_eq (codes "flows") name then asked_in Flows rows
+    if bytes_eq (codes "totals") name then totalled_in rows
+    else if bytes_eq (codes "flows") name then listed_in rows
     else if bytes_eq (codes "explain") name then option_map Explain (explained_in rows)
     else changing name rows
 

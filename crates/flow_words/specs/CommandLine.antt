@@ -57,6 +57,12 @@ span_shape name = record (new_shape name) {
   rules = folder_rule ∷ needed (codes "FROM") ∷ needed (codes "TO") ∷ [];
 }
 
+-- `totals` also takes how many workers scan
+abbrev pub totals_shape : Shape
+totals_shape = record (span_shape (codes "totals")) {
+  rules = (span_shape (codes "totals")).rules ++ option (codes "WORKERS") (codes "workers") ∷ [];
+}
+
 -- `roll` and `merge`
 abbrev pub keep_shape : Text → Shape
 keep_shape name = record (new_shape name) { rules = folder_rule ∷ needed (codes "KEEP") ∷ [] }
@@ -91,7 +97,7 @@ with_archives = with_subcommand (with_subcommand with_streams create_shape) chec
 -- and with those that ask it
 abbrev pub with_queries : App
 with_queries =
-    with_subcommand (with_subcommand with_archives (span_shape (codes "totals"))) (span_shape (codes "flows"))
+    with_subcommand (with_subcommand with_archives totals_shape) (span_shape (codes "flows"))
 
 -- and with the one that takes Files into it
 abbrev pub with_feeding : App

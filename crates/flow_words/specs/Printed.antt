@@ -20,6 +20,8 @@ words_text line.Plan =
     codes "WIDTH is 1 to 86400, --limit 65535 to 16777216, --wide a multiple of WIDTH up to 86400, all digits alone"
 words_text line.Span =
     codes "FROM and TO are seconds since 1970-01-01 00:00 UTC, digits alone, 0 to 4294967296"
+words_text line.Totals = codes
+    "FROM and TO are seconds since 1970-01-01 00:00 UTC, digits alone, 0 to 4294967296, --workers 1 to 64"
 words_text line.Keep = codes "KEEP is how many of the newest files are left, digits alone, 0 to 4294967295"
 words_text line.Files =
     codes "FILE is given 1 to 8 times, --keep is how many of the newest segments are left, 0 to 4294967295"

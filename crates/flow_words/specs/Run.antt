@@ -7,7 +7,7 @@ use Rattle.clap.specs.Values.{kind_of}
 use Rattle.flow_report.specs.declared.refusal.Refusal.{Refusal}
 use Rattle.flow_words.specs.declared.request.LineError.{LineError}
 use Rattle.flow_words.specs.declared.request.LineError.TheVariants.{Parser, Width, Plan, Span, Keep, Files}
-use Rattle.flow_words.specs.declared.request.LineError.TheVariants.{Number, OutOfMemory}
+use Rattle.flow_words.specs.declared.request.LineError.TheVariants.{Number, OutOfMemory, Totals as TotalsWrong}
 use Rattle.flow_words.specs.declared.request.Request.{Request}
 use Rattle.flow_words.specs.declared.request.Request.TheVariants.{Measure, Dump, Create, Check, Totals, Flows}
 use Rattle.flow_words.specs.declared.request.Request.TheVariants.{Feed, Roll as RollAsked, Merge as MergeAsked}
@@ -89,7 +89,7 @@ Runs (Create folder plan) input left old new before after status =
     Keeps input left × Keeps old new × CreateEnds before after status
 Runs (Check folder) input left old new before after status =
     Keeps input left × CheckEnds old new before after status
-Runs (Totals folder span) input left old new before after status =
+Runs (Totals folder span workers) input left old new before after status =
     Keeps input left × AskEnds AreRows old new before after status
 Runs (Flows folder span) input left old new before after status =
     Keeps input left × AskEnds AreFlows old new before after status
@@ -117,6 +117,7 @@ IsTold (Parser error) old new before after status =
 IsTold Width old new before after status = IsWrong Width 2 old new before after status
 IsTold Plan old new before after status = IsWrong Plan 2 old new before after status
 IsTold Span old new before after status = IsWrong Span 2 old new before after status
+IsTold TotalsWrong old new before after status = IsWrong TotalsWrong 2 old new before after status
 IsTold Keep old new before after status = IsWrong Keep 2 old new before after status
 IsTold Files old new before after status = IsWrong Files 2 old new before after status
 IsTold Number old new before after status = IsWrong Number 2 old new before after status

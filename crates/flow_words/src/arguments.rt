@@ -4,12 +4,12 @@ ghost use Rattle.std.specs.Prelude.{◌≡◌, ◌≤◌, IfOk, IfSome};
 ghost use Rattle.clap.specs.Matches.{found_of};
 ghost use Rattle.clap.specs.Walk.{rows_of};
 ghost use Rattle.flow_words.specs.Arguments.{explained_in, folder_in, limit_in, plan_in, second_in, span_in, wide_in};
-ghost use Rattle.flow_words.specs.Arguments.{files_in, keep_in, kept_in, width_in};
+ghost use Rattle.flow_words.specs.Arguments.{files_in, keep_in, kept_in, width_in, workers_in};
 ghost use Rattle.flow_commands.specs.Plans.{IsWide};
 
 use crate::explaining::Explanation;
 use clap::ArgMatches;
-use flow_commands::{NewArchive, StartSpan};
+use flow_commands::{NewArchive, StartSpan, Workers};
 use flow_report::{Width, number_between};
 use std::alloc::{AllocError, Global};
 use std::marker::Model;
@@ -28,6 +28,9 @@ const USUAL_KEEP: u32 = 8;
 
 /// The most Files that are fed in one run.
 const MOST_FILES: usize = 8;
+
+/// The most workers that scan.
+const MOST_WORKERS: u64 = 64;
 
 /// No refusal has a number above it.
 const MOST_NUMBER: u64 = 99;
@@ -136,6 +139,18 @@ pub(crate) fn span_in(arguments: &ArgMatches<'_>) -> Option<StartSpan>
     let from = second_in(arguments, "FROM")?;
     let to = second_in(arguments, "TO")?;
     Some(StartSpan::new(from, to))
+}
+
+/// How many workers scan, among the arguments of `totals`, where that is said.
+#[tactic(auto, using(crate::proofs::Reading::first_value_is))]
+pub(crate) fn workers_in(arguments: &ArgMatches<'_>) -> Option<Option<Workers>>
+    ensures { result ≡ workers_in (rows_of (found_of arguments.now)) }
+{
+    let Some(word) = arguments.get_str("WORKERS") else {
+        return Some(None);
+    };
+    let count = number_between(1, MOST_WORKERS, word.as_bytes())?;
+    Some(Some(Workers::new(count as u32)))
 }
 
 /// How many of the newest files are left, among the arguments of `roll` and `merge`.

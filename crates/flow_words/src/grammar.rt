@@ -6,8 +6,8 @@ ghost use Rattle.clap.specs.Simple.{app_of, shape_of};
 ghost use Rattle.clap.specs.declared.builder.command.Command.TheViews.{out-Command as fields_of};
 ghost use Rattle.flow_words.specs.CommandLine.{check_shape, create_shape, dump_shape, explain_shape, feed_shape};
 ghost use Rattle.flow_words.specs.CommandLine.{flowvault, folder_rule, keep_shape, measure_shape, needed, option};
-ghost use Rattle.flow_words.specs.CommandLine.{program, several, sized_shape, span_shape, width_rule, with_archives};
-ghost use Rattle.flow_words.specs.CommandLine.{with_feeding, with_queries, with_rolling, with_streams};
+ghost use Rattle.flow_words.specs.CommandLine.{program, several, sized_shape, span_shape, totals_shape, width_rule};
+ghost use Rattle.flow_words.specs.CommandLine.{with_archives, with_feeding, with_queries, with_rolling, with_streams};
 
 use clap::{Arg, ArgAction, Command};
 use std::alloc::{AllocError, Global};
@@ -70,8 +70,8 @@ const TOTALS_ABOUT: &str =
 const TOTALS_HELP: &str =
     "Each line: START DOMAIN PROTOCOL FLOWS OCTETS PACKETS, as of measure, for the\n\
      intervals that start from FROM on and before TO. Sums over wide intervals have\n\
-     the interval's width in seconds as a seventh number. A damaged archive is told\n\
-     as of check: status 5.\n\
+     the interval's width in seconds as a seventh number. The lines don't depend on\n\
+     --workers. A damaged archive is told as of check: status 5.\n\
      \n\
      Example: flowvault totals flows 0 4294967296";
 
@@ -92,13 +92,15 @@ const FEED_ABOUT: &str = "Takes IPFIX Files into the archive of a folder";
 
 /// What is told below the arguments of `feed`.
 const FEED_HELP: &str =
-    "The Files are taken in one after the other. Of each a line is written: fed N\n\
-     MESSAGES, or stopped N MESSAGES NUMBER NAME, where the message behind the first\n\
-     MESSAGES isn't taken in, or the File ends within it; N counts the Files from 1.\n\
-     Messages that were taken in stay, whatever comes later, a stop of the machine\n\
-     too: feed the rest of a File, not all of it again. Where there are more than\n\
-     --keep sealed segments, older ones are rolled meanwhile, as of roll. A terminal\n\
-     on standard error is shown how much of a File is read.\n\
+    "The Files are taken in side by side, each as it is read: the messages of one\n\
+     keep their order, those of several are interleaved. In the end a line is\n\
+     written for each: fed N MESSAGES, or stopped N MESSAGES NUMBER NAME, where the\n\
+     message after the first MESSAGES isn't taken in, or the File ends within it; N\n\
+     counts the Files from 1. Messages that were taken in stay, whatever comes\n\
+     later, a stop of the machine too: feed the rest of a File, not all of it again.\n\
+     Meanwhile sealed segments but the newest --keep are rolled, as of roll; no more\n\
+     than these are left in the end. A terminal on standard error is shown how much\n\
+     is read.\n\
      The exit status is that of the first File that stopped. An archive that can't be\n\
      opened is told on standard error before a File is read.\n\
      \n\
@@ -281,6 +283,19 @@ fn span_command<'a>(
         .arg(needed(alloc, "TO", "Starts before it: up to 4294967296"))
 }
 
+/// The command `totals`, with its help.
+fn totals_command<'a>(alloc: Global) -> Result<Command<'a>, AllocError>
+    ensures shape { IfOk result (λ command. shape_of command ≡ totals_shape) }
+    ensures own { IfOk result (λ command. (fields_of command).has_globals ≡ false) }
+{
+    span_command(alloc, "totals", TOTALS_ABOUT, TOTALS_HELP)?.arg(option(
+        alloc,
+        "WORKERS",
+        "workers",
+        "Threads that scan: 1 to 64 [as many as processors]",
+    ))
+}
+
 /// The command `feed`, with its help.
 fn feed_command<'a>(alloc: Global) -> Result<Command<'a>, AllocError>
     ensures shape { IfOk result (λ command. shape_of command ≡ feed_shape) }
@@ -365,7 +380,7 @@ fn with_queries<'a>(alloc: Global) -> Result<Command<'a>, AllocError>
     ensures { IfOk result (λ command. app_of command ≡ with_queries) }
 {
     with_archives(alloc)?
-        .subcommand(span_command(alloc, "totals", TOTALS_ABOUT, TOTALS_HELP)?)?
+        .subcommand(totals_command(alloc)?)?
         .subcommand(span_command(alloc, "flows", FLOWS_ABOUT, FLOWS_HELP)?)
 }
 

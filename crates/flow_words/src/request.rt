@@ -13,13 +13,13 @@ ghost use Rattle.flow_words.specs.declared.request.LineError.TheVariants as Line
 
 use crate::arguments::{
     FileNames, FolderName, explained_in, files_in, folder_in, keep_in, kept_in, plan_in, span_in,
-    width_in,
+    width_in, workers_in,
 };
 use crate::explaining::Explanation;
 use crate::grammar::command_line;
 use clap::error::ErrorKind;
 use clap::{ArgMatches, Error};
-use flow_commands::{NewArchive, StartSpan};
+use flow_commands::{NewArchive, StartSpan, Workers};
 use flow_report::Width;
 use std::alloc::{AllocError, Global};
 use std::convert::AsStr;
@@ -46,6 +46,8 @@ pub enum Request<'a> {
     Totals {
         folder: FolderName<'a>,
         span: StartSpan,
+        /// How many workers scan it; as many as there are processors where nothing is said.
+        workers: Option<Workers>,
     },
     /// Lines of the flows in the archive of a folder that aren't rolled.
     Flows {
@@ -83,8 +85,11 @@ pub enum LineError {
     Width,
     /// A number of a new archive isn't digits alone, or out of its range.
     Plan,
-    /// A second of a span isn't digits alone, or is past 2^32.
+    /// A second of the span of `flows` isn't digits alone, or is past 2^32.
     Span,
+    /// A second of the span of `totals` isn't digits alone, or is past 2^32, or how many workers scan isn't digits alone,
+    /// from 1 to 64.
+    Totals,
     /// How many files are left isn't digits alone, or is past 2^32 - 1.
     Keep,
     /// There are more than 8 Files, or how many segments are left isn't digits alone, or is past 2^32 - 1.
@@ -140,6 +145,7 @@ fn queried<'a>(name: &str, arguments: &ArgMatches<'a>) -> Option<Request<'a>>
         "totals" => Some(Request::Totals {
             folder: folder_in(arguments)?,
             span: span_in(arguments)?,
+            workers: workers_in(arguments)?,
         }),
         "flows" => Some(Request::Flows {
             folder: folder_in(arguments)?,
@@ -214,7 +220,8 @@ fn wrong_value(matches: &ArgMatches<'_>) -> LineError
 {
     match matches.subcommand() {
         Some(("create", _)) => LineError::Plan,
-        Some(("totals" | "flows", _)) => LineError::Span,
+        Some(("totals", _)) => LineError::Totals,
+        Some(("flows", _)) => LineError::Span,
         Some(("feed", _)) => LineError::Files,
         Some(("roll" | "merge", _)) => LineError::Keep,
         Some(("explain", _)) => LineError::Number,

@@ -20,8 +20,8 @@ use crate::request::{LineError, Request, parse};
 use clap::Error;
 use clap::error::ErrorKind;
 use flow_commands::{
-    ArchiveRefusal, NewArchive, Progress, StartSpan, check_in, create_in, feed_in, flows_in,
-    roll_in, totals_in,
+    ArchiveRefusal, NewArchive, Progress, StartSpan, Workers, check_in, create_in, feed_in,
+    flows_in, roll_in, totals_in,
 };
 use flow_folder::Lockable;
 use flow_manifest::JobKind;
@@ -32,6 +32,8 @@ use std::fmt::Display;
 use std::fs::Files;
 use std::io::{Read, Write};
 use std::os::unix::fs::FileExt;
+use std::sync::Wait;
+use std::thread::Threads;
 
 /// The status of a run that did its work, or showed its help.
 const DONE: u8 = 0;
@@ -54,6 +56,10 @@ const WRONG_PLAN: &str =
 /// What is told of seconds that no span has.
 const WRONG_SPAN: &str =
     "flowvault: FROM and TO are seconds since 1970-01-01 00:00 UTC, digits alone, 0 to 4294967296\n";
+
+/// What is told of seconds that no span has, or of a number of workers that no scan has.
+const WRONG_TOTALS: &str =
+    "flowvault: FROM and TO are seconds since 1970-01-01 00:00 UTC, digits alone, 0 to 4294967296, --workers 1 to 64\n";
 
 /// What is told of a number of files that can't be left.
 const WRONG_KEEP: &str =
@@ -244,22 +250,24 @@ where
 }
 
 /// Runs `totals`.
-fn run_totals<H: Files + AllocGlobal + Clone + Drop, W: Write, E: Write>(
+fn run_totals<H: Files + AllocGlobal + Clone + Drop + Threads + Send + Sync, W: Write, E: Write>(
     rt: &H,
     folder: &FolderName<'_>,
     span: &StartSpan,
+    workers: Option<Workers>,
     output: &mut W,
     errors: &mut E,
 ) -> u8
 where
-    H::File: FileExt + Lockable,
+    H::File: FileExt + Lockable + Send + Sync,
+    H::Dir: Send + Sync,
     ensures runs { AskEnds AreRows (W.contents output.old) (W.contents output.new) (E.contents errors.old)
         (E.contents errors.new) result }
     ensures quiet { result ≡ 0 → Keeps (E.contents errors.old) (E.contents errors.new) }
     ensures status { result ≤ 5 }
     ensures other { result ≢ 2 }
 {
-    match totals_in(rt, folder.path, span, output) {
+    match totals_in(rt, folder.path, span, workers, output) {
         Ok(()) => DONE,
         Err(refusal) => tell_of_archive(rt.alloc(), errors, &refusal),
     }
@@ -288,17 +296,23 @@ where
 }
 
 /// Runs `feed`.
-fn run_feed<H: Files + AllocGlobal + Clone + Drop, W: Write, E: Write, P: Write + Drop>(
+fn run_feed<
+    H: Files + AllocGlobal + Clone + Drop + Threads + Wait + Send + Sync,
+    W: Write,
+    E: Write,
+    P: Write + Drop + Send,
+>(
     rt: &H,
     folder: &FolderName<'_>,
     keep: u32,
     files: &FileNames<'_>,
     output: &mut W,
     errors: &mut E,
-    progress: &mut Progress<P>,
+    progress: &Progress<P>,
 ) -> u8
 where
-    H::File: FileExt + Lockable,
+    H::File: FileExt + Lockable + Send + Sync,
+    H::Dir: Send + Sync,
     ensures runs { FeedEnds (length files.now) (W.contents output.old) (W.contents output.new) (E.contents errors.old)
         (E.contents errors.new) result }
     ensures quiet { result ≡ 0 → Keeps (E.contents errors.old) (E.contents errors.new) }
@@ -360,16 +374,23 @@ fn run_explain<W: Write, E: Write>(
 }
 
 /// Runs a command, and tells a refusal on `errors` as `flowvault: NUMBER NAME ..`. It answers the exit status.
-fn run<H: Files + AllocGlobal + Clone + Drop, R: Read, W: Write, E: Write, P: Write + Drop>(
+fn run<
+    H: Files + AllocGlobal + Clone + Drop + Threads + Wait + Send + Sync,
+    R: Read,
+    W: Write,
+    E: Write,
+    P: Write + Drop + Send,
+>(
     rt: &H,
     request: Request<'_>,
     input: &mut R,
     output: &mut W,
     errors: &mut E,
-    progress: &mut Progress<P>,
+    progress: &Progress<P>,
 ) -> u8
 where
-    H::File: FileExt + Lockable,
+    H::File: FileExt + Lockable + Send + Sync,
+    H::Dir: Send + Sync,
     ensures runs { Runs request.entry (R.remaining input.old) (R.remaining input.new) (W.contents output.old)
         (W.contents output.new) (E.contents errors.old) (E.contents errors.new) result }
     ensures quiet { result ≡ 0 → Keeps (E.contents errors.old) (E.contents errors.new) }
@@ -381,7 +402,11 @@ where
         Request::Dump => run_dump(rt.alloc(), input, output, errors),
         Request::Create { folder, plan } => run_create(rt, &folder, &plan, errors),
         Request::Check { folder } => run_check(rt, &folder, output, errors),
-        Request::Totals { folder, span } => run_totals(rt, &folder, &span, output, errors),
+        Request::Totals {
+            folder,
+            span,
+            workers,
+        } => run_totals(rt, &folder, &span, workers, output, errors),
         Request::Flows { folder, span } => run_flows(rt, &folder, &span, output, errors),
         Request::Feed {
             folder,
@@ -399,22 +424,16 @@ where
 /// Runs one command line, whose first word is the program's name, and answers the exit status. Feeding shows its
 /// `progress`, which no clause tells of.
 pub fn run_line<
-    H: Files + AllocGlobal + Clone + Drop,
+    H: Files + AllocGlobal + Clone + Drop + Threads + Wait + Send + Sync,
     S: AsStr,
     R: Read,
     W: Write,
     E: Write,
-    P: Write + Drop,
->(
-    rt: &H,
-    words: &[S],
-    input: &mut R,
-    output: &mut W,
-    errors: &mut E,
-    progress: &mut Progress<P>,
-) -> u8
+    P: Write + Drop + Send,
+>(rt: &H, words: &[S], input: &mut R, output: &mut W, errors: &mut E, progress: &Progress<P>) -> u8
 where
-    H::File: FileExt + Lockable,
+    H::File: FileExt + Lockable + Send + Sync,
+    H::Dir: Send + Sync,
     // The words decide which command runs, on what width, or why none does.
     ensures answered { IsAnswered (map S.text words.now) (R.remaining input.old) (R.remaining input.new)
         (W.contents output.old) (W.contents output.new) (E.contents errors.old) (E.contents errors.new) result }
@@ -458,6 +477,10 @@ fn refuse<W: Write, E: Write>(
         }
         LineError::Span => {
             tell_line(errors, WRONG_SPAN.as_bytes());
+            WRONG_LINE
+        }
+        LineError::Totals => {
+            tell_line(errors, WRONG_TOTALS.as_bytes());
             WRONG_LINE
         }
         LineError::Keep => {

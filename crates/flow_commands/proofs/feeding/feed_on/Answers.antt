@@ -1,38 +1,35 @@
 use Rattle.std.proofs.Common.{subst}
-use Rattle.std.specs.Prelude.{length, None, IfErr}
+use Rattle.std.specs.Prelude.{length, IfErr}
+use Rattle.flow_disk.proofs.Results.{passed_on}
+use Rattle.flow_folder.specs.declared.system.FolderError.TheVariants as folder
 use Rattle.flow_manifest.specs.Slots.{reads_of}
+use Rattle.flow_commands.specs.declared.archive_refusal.ArchiveRefusal.TheVariants as refusal
 use Rattle.flow_commands.specs.Asking.{IsUnopened}
-use Rattle.flow_commands.proofs.Lines.{opening_kept, opening_not_fed, result_err, result_not_fed, result_ok}
+use Rattle.flow_commands.specs.Feeding.{IsNotFed, KeepsOrFeeds}
+use Rattle.flow_commands.proofs.Lines.{folder_kept, opening_kept, opening_not_fed, result_err, result_not_fed, result_ok}
 use Rattle.flow_commands.proofs.feeding.feed_on.Goals as goal
 
-pub returns-in-Ok-clause-written : goal.returns-in-Ok-clause-written
-returns-in-Ok-clause-written g c =
-    let D = g.D.Disk in
-    result_ok D.honest D.moment D.left_since c.in-Ok.archive c.feed_files.new.archive
-    (record { keep = c.args.keep; refused = None }) c.feed_files.new.roller (length c.args.paths.now)
-    c.feed_files.new.roller.refused (g.W.Write.contents c.args.output.now) (g.W.Write.contents c.feed_files.new.output)
-    c.feed_files.result c.feed_files.ensures.fed
+pub returns-in_ok-feds-in-Ok-clause-written : goal.returns-in_ok-feds-in-Ok-clause-written
+returns-in_ok-feds-in-Ok-clause-written g c =
+    result_ok (length c.args.paths.now) (g.W.Write.contents c.args.output.now)
+    (g.W.Write.contents c.feed_files.new.output) c.feed_files.result c.feed_files.ensures.fed
 
-pub returns-in-Ok-clause-kept : goal.returns-in-Ok-clause-kept
-returns-in-Ok-clause-kept g c =
-    let D = g.D.Disk in
-    result_err D.honest D.moment D.left_since c.in-Ok.archive c.feed_files.new.archive
-    (record { keep = c.args.keep; refused = None }) c.feed_files.new.roller (length c.args.paths.now)
-    c.feed_files.new.roller.refused (g.W.Write.contents c.args.output.now) (g.W.Write.contents c.feed_files.new.output)
-    c.feed_files.result c.feed_files.ensures.fed
+pub returns-in_ok-feds-in-Ok-clause-kept : goal.returns-in_ok-feds-in-Ok-clause-kept
+returns-in_ok-feds-in-Ok-clause-kept g c =
+    result_err (length c.args.paths.now) (g.W.Write.contents c.args.output.now)
+    (g.W.Write.contents c.feed_files.new.output) c.feed_files.result c.feed_files.ensures.fed
 
 pub returns-in-Err-clause-kept : goal.returns-in-Err-clause-kept
 returns-in-Err-clause-kept g c =
     rw c.from.ensures
     (opening_kept (length c.args.paths.now) (g.W.Write.contents c.args.output.now) c.in-Err.refused.error)
 
-pub returns-in-Ok-clause-refused : goal.returns-in-Ok-clause-refused
-returns-in-Ok-clause-refused g c h =
+pub returns-in_ok-feds-in-Ok-clause-refused : goal.returns-in_ok-feds-in-Ok-clause-refused
+returns-in_ok-feds-in-Ok-clause-refused g c h =
     let D = g.D.Disk in
-    result_not_fed D.honest D.moment D.left_since c.in-Ok.archive c.feed_files.new.archive
-    (record { keep = c.args.keep; refused = None }) c.feed_files.new.roller (length c.args.paths.now)
-    c.feed_files.new.roller.refused (g.W.Write.contents c.args.output.now) (g.W.Write.contents c.feed_files.new.output)
-    (reads_of (D.held c.args.disk)) c.feed_files.result c.feed_files.ensures.fed
+    result_not_fed (length c.args.paths.now) (g.W.Write.contents c.args.output.now)
+    (g.W.Write.contents c.feed_files.new.output) (reads_of (D.held c.args.disk)) c.feed_files.result
+    c.feed_files.ensures.fed
 
 pub returns-in-Err-clause-refused : goal.returns-in-Err-clause-refused
 returns-in-Err-clause-refused g c h =
@@ -40,3 +37,15 @@ returns-in-Err-clause-refused g c h =
     rw c.from.ensures
     (opening_not_fed (reads_of (D.held c.args.disk)) c.in-Err.refused.error
     (subst (λ r. IfErr r (λ x. IsUnopened (reads_of (D.held c.args.disk)) x.error)) c.in-Err.is (c.open.ensures.told h)))
+
+pub returns-in_err-feds-in-Ok-clause-kept : goal.returns-in_err-feds-in-Ok-clause-kept
+returns-in_err-feds-in-Ok-clause-kept g c =
+    let output = g.W.Write.contents c.args.output.now in
+    passed_on c.from_residual.result refusal.OutOfMemory
+    (λ e. KeepsOrFeeds (length c.args.paths.now) e output output) c.from_residual.ensures.1
+    (folder_kept (length c.args.paths.now) output folder.OutOfMemory)
+
+pub returns-in_err-feds-in-Ok-clause-refused : goal.returns-in_err-feds-in-Ok-clause-refused
+returns-in_err-feds-in-Ok-clause-refused g c h =
+    passed_on c.from_residual.result refusal.OutOfMemory (λ e. IsNotFed (reads_of (g.D.Disk.held c.args.disk)) e)
+    c.from_residual.ensures.1 tt

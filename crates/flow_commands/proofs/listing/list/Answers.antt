@@ -1,4 +1,4 @@
-use Rattle.std.proofs.Common.{◌≢◌, ◌∙◌, refl}
+use Rattle.std.proofs.Common.{◌≢◌, refl}
 use Rattle.flow_archive.proofs.SourceSums.{passed_on as fault_passed_on}
 use Rattle.flow_disk.proofs.Results.{passed_on}
 use Rattle.flow_recover.specs.declared.error.RecoverError.TheVariants as opening

@@ -1,12 +1,24 @@
-use Rattle.flow_commands.proofs.Jobs.{job_kept, job_written}
+use Rattle.std.proofs.Common.{inl, refl, sym}
 use Rattle.flow_commands.proofs.rolling.roll_on.Goals as goal
 
-pub returns-in-Ok-clause-written : goal.returns-in-Ok-clause-written
-returns-in-Ok-clause-written g c =
-    job_written c.args.kind c.roll.ensures.0 (g.W.Write.contents c.args.output.now)
-    (g.W.Write.contents c.roll.new.output) c.roll.result c.roll.ensures.2
+pub returns-in-Ok-roll-clause-told : goal.returns-in-Ok-roll-clause-told
+returns-in-Ok-roll-clause-told g c =
+    inl (record {
+      opened = c.in-Ok.archive;
+      read = c.in-Ok.ensures.read;
+      still = c.in-Ok.ensures.cause.done;
+      rolled = c.roll.new.archive;
+      disk_is = refl;
+      done = c.in-Ok-roll.ensures;
+    })
 
-pub returns-in-Ok-clause-kept : goal.returns-in-Ok-clause-kept
-returns-in-Ok-clause-kept g c =
-    job_kept c.args.kind c.roll.ensures.0 (g.W.Write.contents c.args.output.now) (g.W.Write.contents c.roll.new.output)
-    c.roll.result c.roll.ensures.2
+pub returns-in-Err-roll-clause-told : goal.returns-in-Err-roll-clause-told
+returns-in-Err-roll-clause-told g c =
+    inl (record {
+      opened = c.in-Ok.archive;
+      read = c.in-Ok.ensures.read;
+      still = c.in-Ok.ensures.cause.done;
+      rolled = c.roll.new.archive;
+      disk_is = sym c.into_disk.ensures;
+      done = c.in-Err-roll.ensures;
+    })

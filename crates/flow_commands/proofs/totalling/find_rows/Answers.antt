@@ -55,5 +55,5 @@ returns-in_err-rows-clause-cause g c =
 
 pub returns-clause-lines : goal.returns-clause-lines
 returns-clause-lines g c h reads stands =
-    rows_read reads _ c.in_ok-asked.asked.width c.args.span.now c.from.result c.to.result _
-    (c.in_ok-asked.ensures.read h reads stands) c.from.ensures c.to.ensures c.in_ok-rows.ensures.given
+    rows_read reads _ c.in_ok-asked.asked.width c.args.span.now c.args.span.now.from c.args.span.now.to _
+    (c.in_ok-asked.ensures.read h reads stands) refl refl c.in_ok-rows.ensures.given

@@ -1,0 +1,6 @@
+use Rattle.std.proofs.Common.{◌≡◌}
+use Rattle.flow_roller.proofs.beside.roll_beside.Given as goal
+
+-- no read has failed so far
+abbrev pub invariant-loop : goal.invariant-loop
+invariant-loop g l = l.faults ≡ l.fn.faults

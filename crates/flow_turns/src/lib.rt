@@ -1,0 +1,12 @@
+//! Turns of rolling and merging, and whole jobs.
+//!
+//! Promised to the layer above: a turn (`roll_turn`, `merge_turn`) is the next step of the job that stands, or begins
+//! one, or removes a file that waits for its removal, and answers which. `run_job` rolls or merges all files but the
+//! newest ones as one job.
+#![tactic(auto)]
+
+mod job;
+mod turn;
+
+pub use job::run_job;
+pub use turn::{Turn, merge_turn, roll_turn};

@@ -1,0 +1,163 @@
+//! Turns of rolling.
+
+ghost use Rattle.std.specs.Prelude.{◌≡◌};
+ghost use Rattle.flow_disk.specs.Cause.{HasCause};
+ghost use Rattle.flow_archive.specs.declared.event.Answer.{Answer as Told};
+ghost use Rattle.flow_manifest.specs.Following.{source_of, count_of};
+ghost use Rattle.flow_manifest.specs.declared.following.JobKind.TheVariants.{Merge, Roll};
+ghost use Rattle.flow_turns.specs.Turns.{begun_by, due, files_over, next_step, turn_told, IsTurn};
+
+use flow_archive::{Answer, Archive, ArchiveError, Event, JobStatus, take_event};
+use flow_disk::{Disk, Faults};
+use flow_manifest::JobKind;
+use std::alloc::Global;
+
+/// The most files that a job is begun over: no manifest names more.
+const MOST_FILES: usize = 4_096;
+
+/// What a turn of rolling did.
+#[derive(Clone, Copy, Debug, PartialEq, Eq)]
+pub enum Turn {
+    /// A job over so many files has begun.
+    Began(u32),
+    /// One file more was summed, and so many are left.
+    Left(u32),
+    /// The file of the job is made.
+    Written,
+    /// It stands in the place of its segments: how many messages are rolled.
+    Installed(u64),
+    /// It stands in the place of its rolled files: how many messages are summed over wide intervals.
+    Merged(u64),
+    /// The file of this number was removed.
+    Retired(u64),
+    /// There was nothing to do.
+    Idle,
+}
+
+/// How many files a job of this kind may be begun over, where the newest `keep` are left as they are.
+pub(crate) fn files_over<D: Disk>(archive: &Archive<D>, kind: JobKind, keep: u32) -> u32
+    ensures { result ≡ files_over kind keep archive.now.state }
+{
+    let count = match kind {
+        JobKind::Roll => archive.sealed_count(),
+        JobKind::Merge => archive.rolled_count(),
+    };
+    count.saturating_sub(keep as usize).min(MOST_FILES) as u32
+}
+
+/// The event that begins a job of this kind.
+pub(crate) fn begun_by(kind: JobKind, count: u32) -> Event
+    ensures { result ≡ begun_by kind count }
+{
+    match kind {
+        JobKind::Roll => Event::RollBegin(count),
+        JobKind::Merge => Event::MergeBegin(count),
+    }
+}
+
+/// The next step of a job.
+fn next_step(job: JobStatus) -> Event
+    ensures { result ≡ next_step job }
+{
+    if job.left > 0 {
+        return Event::RollStep;
+    }
+    match job.staged {
+        None => Event::RollWrite,
+        Some(_) => Event::RollInstall,
+    }
+}
+
+/// The event of a turn.
+fn due<D: Disk>(archive: &Archive<D>, kind: JobKind, keep: u32) -> Option<Event>
+    ensures { result ≡ due kind keep archive.now.state }
+{
+    if let Some(job) = archive.job() {
+        return Some(next_step(job));
+    }
+    let count = files_over(archive, kind, keep);
+    if count > 0 {
+        return Some(begun_by(kind, count));
+    }
+    match kind {
+        JobKind::Roll => Some(Event::Retire),
+        JobKind::Merge => None,
+    }
+}
+
+/// What an archive answered to the event of a turn.
+fn turn_told(event: &Event, answer: Result<Answer, ArchiveError>) -> Result<Turn, ArchiveError>
+    ensures { result ≡ turn_told event.now answer }
+{
+    match (event, answer) {
+        (Event::RollBegin(count) | Event::MergeBegin(count), Ok(Answer::Began)) => {
+            Ok(Turn::Began(*count))
+        }
+        (_, Ok(Answer::Left(left))) => Ok(Turn::Left(left)),
+        (_, Ok(Answer::Written)) => Ok(Turn::Written),
+        (_, Ok(Answer::Installed(cut))) => Ok(Turn::Installed(cut)),
+        (_, Ok(Answer::Merged(cut))) => Ok(Turn::Merged(cut)),
+        (_, Ok(Answer::Retired(file))) => Ok(Turn::Retired(file)),
+        (_, Ok(_)) => Ok(Turn::Idle),
+        (_, Err(ArchiveError::Pinned | ArchiveError::NothingToRetire)) => Ok(Turn::Idle),
+        (_, Err(error)) => Err(error),
+    }
+}
+
+/// A turn of a job of this kind.
+fn make_turn<D: Disk>(
+    archive: &mut Archive<D>,
+    alloc: Global,
+    kind: JobKind,
+    keep: u32,
+    faults: &mut Faults<D::Sealed>,
+) -> Result<Turn, ArchiveError>
+    ensures turn { IsTurn D.honest D.moment D.left_since archive.old archive.new
+        (due kind keep archive.old.state) result }
+    ensures cause { HasCause ArchiveError.Fault (D.faults archive.old.disk) (D.faults archive.new.disk) result }
+    ensures unread { HasCause ArchiveError.SourceFault faults.old faults.new result }
+{
+    let Some(event) = due(archive, kind, keep) else {
+        if archive.is_closed() {
+            return Err(ArchiveError::Closed);
+        }
+        return Ok(Turn::Idle);
+    };
+    let answer = take_event(archive, alloc, &event, faults);
+    turn_told(&event, answer)
+}
+
+/// The next step of the job that stands, of whatever kind; without one it begins to roll all sealed segments but the
+/// newest `keep`; where there are none, it removes the oldest file that waits for its removal, and is idle where there
+/// is none that can be removed. Reads of a source that fail raise `faults`.
+///
+/// Errors: those of the call of the archive that is due.
+pub fn roll_turn<D: Disk>(
+    archive: &mut Archive<D>,
+    alloc: Global,
+    keep: u32,
+    faults: &mut Faults<D::Sealed>,
+) -> Result<Turn, ArchiveError>
+    ensures turn { IsTurn D.honest D.moment D.left_since archive.old archive.new
+        (due Roll keep archive.old.state) result }
+    ensures cause { HasCause ArchiveError.Fault (D.faults archive.old.disk) (D.faults archive.new.disk) result }
+    ensures unread { HasCause ArchiveError.SourceFault faults.old faults.new result }
+{
+    make_turn(archive, alloc, JobKind::Roll, keep, faults)
+}
+
+/// The same, but without a job it begins to merge all rolled files but the newest `keep`, and where there are none it
+/// is idle.
+pub fn merge_turn<D: Disk>(
+    archive: &mut Archive<D>,
+    alloc: Global,
+    keep: u32,
+    faults: &mut Faults<D::Sealed>,
+) -> Result<Turn, ArchiveError>
+    ensures turn { IsTurn D.honest D.moment D.left_since archive.old archive.new
+        (due Merge keep archive.old.state) result }
+    ensures cause { HasCause ArchiveError.Fault (D.faults archive.old.disk) (D.faults archive.new.disk) result }
+    ensures unread { HasCause ArchiveError.SourceFault faults.old faults.new result }
+{
+    make_turn(archive, alloc, JobKind::Merge, keep, faults)
+}
