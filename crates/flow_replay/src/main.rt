@@ -11,6 +11,7 @@ mod stopping;
 mod thawed;
 mod way;
 mod ways;
+mod worn;
 
 use crate::report::Report;
 use crate::way::{Plan, USAGE, Way, plan_of};

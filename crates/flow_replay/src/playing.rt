@@ -3,7 +3,8 @@
 use crate::report::Report;
 use crate::sharing::share;
 use crate::stage::Stage;
-use crate::thawed::{Thawed, fused, given_up, with_bad_reads};
+use crate::thawed::{Thawed, fused, given_up, with_bad_reads, worn};
+use crate::worn::Wear;
 use flow_disk::Disk;
 use flow_memory_disk::{FusedDisk, MemoryDisk, Room};
 use flow_scripts::{Command, Failing, Line, Part, Script, Widths};
@@ -85,25 +86,41 @@ pub(crate) fn begin<D: Disk>(
     }
 }
 
+/// What an archive answers to a line, or nothing where it damages a file of its disk.
+fn answer_one<D: Disk>(
+    alloc: Global,
+    stage: &mut Stage<D>,
+    wear: &Wear,
+    command: &Command,
+) -> Result<String, AllocError> {
+    if let Command::Damage(damage) = command {
+        wear.add(alloc, damage)?;
+        return Ok(String::new(alloc));
+    }
+    stage.answer(alloc, command)
+}
+
 /// An archive answers lines.
 fn answer_all<D: Disk>(
     alloc: Global,
     stage: &mut Stage<D>,
+    wear: &Wear,
     name: &str,
     lines: &[Line<'_>],
     report: &mut Report,
 ) -> Result<(), AllocError> {
     for line in lines {
-        let told = stage.answer(alloc, &line.command)?;
+        let told = answer_one(alloc, stage, wear, &line.command)?;
         report.compare(alloc, name, line, told.as_str())?;
     }
     Ok(())
 }
 
-/// A part with an archive.
+/// A part with an archive, on a disk that has this damage.
 fn with_archive<D: Disk>(
     alloc: Global,
     disk: Thawed<D>,
+    wear: &Wear,
     name: &str,
     first: &Line<'_>,
     lines: &[Line<'_>],
@@ -112,7 +129,7 @@ fn with_archive<D: Disk>(
     match begin(alloc, disk, &first.command)? {
         Beginning::Archive(mut stage) => {
             report.compare(alloc, name, first, "")?;
-            answer_all(alloc, &mut stage, name, lines, report)?;
+            answer_all(alloc, &mut stage, wear, name, lines, report)?;
             Ok(stage.into_disk())
         }
         Beginning::Refused(disk, why) => {
@@ -193,14 +210,11 @@ pub(crate) fn play_part<W: Wait>(
     }
     let disk = disk_of(disk, part.failing);
     let disk = match part.lines.split_first() {
-        Some((first, rest)) if first.command.begins() => with_archive(
-            alloc,
-            disk,
-            script.name,
-            first,
-            rest,
-            report,
-        )?,
+        Some((first, rest)) if first.command.begins() => {
+            let wear = Wear::none(alloc)?;
+            let disk = worn(disk, wear.share()?);
+            with_archive(alloc, disk, &wear, script.name, first, rest, report)?.into_disk()
+        }
         _ => without_archive(alloc, disk, script.name, &part.lines, report)?,
     };
     Ok(disk.restart())

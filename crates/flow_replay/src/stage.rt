@@ -154,6 +154,7 @@ impl<D: Disk> Stage<D> {
             Command::Status => self.status(alloc),
             Command::Create(_)
             | Command::Open
+            | Command::Damage(_)
             | Command::Disk(_)
             | Command::RollTurn(_)
             | Command::MergeTurn(_)

@@ -3,6 +3,7 @@
 ghost use Rattle.std.specs.Prelude.{◌≡◌, ℕ, false};
 
 use crate::asked::difference;
+use crate::worn::{Wear, WornDisk};
 use flow_disk::{Disk, DiskError};
 use flow_memory_disk::{FusedDisk, LyingDisk, MemoryDisk, OneFaultDisk, Room};
 use flow_scripts::OfDisk;
@@ -163,5 +164,13 @@ pub(crate) fn lying(disk: MemoryDisk, seed: u64) -> Thawed<LyingDisk<MemoryDisk>
 pub(crate) fn with_a_fault(disk: MemoryDisk, call: u64) -> Thawed<OneFaultDisk<MemoryDisk>> {
     Thawed {
         disk: OneFaultDisk::new(disk.restart(), call),
+    }
+}
+
+/// The same disk, whose frozen files give other octets where they are damaged.
+pub(crate) fn worn<D: Disk>(disk: Thawed<D>, wear: Wear) -> Thawed<WornDisk<D>> {
+    let Thawed { disk } = disk;
+    Thawed {
+        disk: WornDisk::new(disk, wear),
     }
 }

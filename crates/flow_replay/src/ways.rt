@@ -257,8 +257,8 @@ fn try_part(
     let Some((first, lines)) = part.lines.split_first() else {
         return Ok(());
     };
-    let is_stopped = first.command.begins() && !part.is_shared && part.failing == Failing::Never;
-    if !is_stopped {
+    let is_failing = part.failing != Failing::Never || part.is_damaged();
+    if !first.command.begins() || part.is_shared || is_failing {
         return Ok(());
     }
     let given = Given {

@@ -1,6 +1,6 @@
 //! What the words of a line ask.
 
-use crate::command::{Command, Event, OfDisk, Question, Widths};
+use crate::command::{Command, Damage, Event, OfDisk, Question, Widths};
 use crate::error::Why;
 use crate::octets::octets_of;
 use crate::words::{number, small_number, span_of};
@@ -99,6 +99,15 @@ fn of_disk(alloc: Global, words: &[&str]) -> Result<Option<OfDisk>, Why> {
     Ok(Some(asked))
 }
 
+/// Octets in place of those of a file.
+fn damage_of(alloc: Global, file: &str, at: &str, octets: &[&str]) -> Result<Damage, Why> {
+    Ok(Damage {
+        file: number(file)?,
+        at: number(at)?,
+        octets: octets_of(alloc, octets)?,
+    })
+}
+
 /// What words ask.
 pub(crate) fn command_of(alloc: Global, words: &[&str]) -> Result<Command, Why> {
     if let Some(asked) = of_disk(alloc, words)? {
@@ -117,6 +126,9 @@ pub(crate) fn command_of(alloc: Global, words: &[&str]) -> Result<Command, Why> 
         ["roll", "turn", keep] => Ok(Command::RollTurn(small_number(keep)?)),
         ["merge", "turn", keep] => Ok(Command::MergeTurn(small_number(keep)?)),
         ["refresh"] => Ok(Command::Refresh),
+        ["damage", file, at, octets @ ..] => Ok(Command::Damage(damage_of(
+            alloc, file, at, octets,
+        )?)),
         _ => Ok(Command::Event(event_of(alloc, words)?)),
     }
 }

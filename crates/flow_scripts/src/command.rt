@@ -79,6 +79,17 @@ pub enum OfDisk {
     Files,
 }
 
+/// Octets that reads of a frozen file give in place of those that it has.
+#[derive(Debug, Drop)]
+pub struct Damage {
+    /// The file's number.
+    pub file: u64,
+    /// The place of the first of them, in octets from the file's start.
+    pub at: u64,
+    /// The octets.
+    pub octets: Vec<u8>,
+}
+
 /// What a line asks.
 #[derive(Debug, Drop)]
 pub enum Command {
@@ -108,6 +119,8 @@ pub enum Command {
     MergeTurn(u32),
     /// Show readers what they don't see yet.
     Refresh,
+    /// Damage a frozen file, under the archive.
+    Damage(Damage),
     /// Something of the disk alone.
     Disk(OfDisk),
 }
@@ -154,6 +167,11 @@ impl Command {
     /// Whether it changes an archive, or what readers hold of it.
     pub fn acts(&self) -> bool {
         matches!(self, Command::Event(_) | Command::Hold | Command::LetGo)
+    }
+
+    /// Whether it damages a file.
+    pub(crate) fn damages(&self) -> bool {
+        matches!(self, Command::Damage(_))
     }
 
     /// Whether it asks for the state of an archive.

@@ -11,7 +11,7 @@ mod reading;
 mod script;
 mod words;
 
-pub use command::{Command, Event, OfDisk, Question, Span, Widths};
+pub use command::{Command, Damage, Event, OfDisk, Question, Span, Widths};
 pub use error::{BadScript, Why};
 pub use reading::read_scripts;
 pub use script::{Failing, Line, Part, Script, Size};

@@ -72,6 +72,16 @@ impl Part<'_> {
         }
     }
 
+    /// Whether one of its lines damages a file.
+    pub fn is_damaged(&self) -> bool {
+        for line in &self.lines {
+            if line.command.damages() {
+                return true;
+            }
+        }
+        false
+    }
+
     /// Whether a command may follow its lines.
     pub(crate) fn may_take(&self, command: &Command) -> bool {
         if self.lines.is_empty() {
