@@ -2,6 +2,7 @@
 """play.py PROGRAM FILE..: plays cases of the command line, as docs/CASES.md has them, each in a new folder. It prints
 each difference, and ends with `N cases, M runs: D differ`, where D counts cases. Its status is 0 where D is 0, 1 where
 it isn't, and 2 where a file of cases can't be read."""
+import ctypes
 import fcntl
 import os
 import re
@@ -15,6 +16,15 @@ import time
 
 SECONDS = 60
 
+# What `prctl` takes to give a capability up for good, and the two by which root passes rights: CAP_DAC_OVERRIDE and
+# CAP_DAC_READ_SEARCH.
+PR_CAPBSET_DROP = 24
+PASSING = (1, 2)
+LIBC = ctypes.CDLL(None)
+
+# Kept beside what a case holds, where runs have no more rights than the owner of a file.
+DENIED = "denied"
+
 
 class Bad(Exception):
     """A line that no case can have."""
@@ -26,7 +36,7 @@ class Run:
     def __init__(self, place, words, given):
         self.place, self.words, self.given = place, words, given
         self.out, self.err, self.status = [], [], 0
-        self.begins, self.columns, self.by = None, None, None
+        self.begins, self.columns, self.by, self.lines = None, None, None, []
 
     def sorted(self, octets):
         """Lines in the order of the word that they are sorted by, if any; those with one such word stay in order."""
@@ -50,9 +60,13 @@ class Run:
                 yield "err", b"one line", got.stderr
         elif got.stderr != wanted:
             yield "err", wanted, got.stderr
-        for line in got.stdout.decode(errors="replace").split("\n"):
+        lines = got.stdout.decode(errors="replace").split("\n")
+        for line in lines:
             if self.columns is not None and len(line) > self.columns:
                 yield "columns", self.columns, line
+        for wanted in self.lines:
+            if wanted.split() not in [line.split() for line in lines]:
+                yield "has", wanted, "no such line"
 
 
 class Case:
@@ -195,9 +209,22 @@ def poured(held):
     return came
 
 
+def deny(held, name):
+    """No right is left to a file or a folder, nor to the runs that follow, root's among them, to pass that."""
+    os.chmod(name, 0)
+    held.append(DENIED)
+    return []
+
+
+def give_up_passing():
+    for each in PASSING:
+        LIBC.prctl(PR_CAPBSET_DROP, each, 0, 0, 0)
+
+
 def run(held, program, wanted):
+    words, before = [program, *wanted.words], give_up_passing if DENIED in held else None
     try:
-        got = subprocess.run([program, *wanted.words], input=wanted.given, capture_output=True, timeout=SECONDS)
+        got = subprocess.run(words, input=wanted.given, capture_output=True, timeout=SECONDS, preexec_fn=before)
     except subprocess.TimeoutExpired:
         return [("end", "within %d seconds" % SECONDS, "none")]
     return list(wanted.differs(got)) + poured(held)
@@ -210,6 +237,7 @@ STEPS = {
     "remove": remove,
     "cut": cut,
     "hold": hold,
+    "deny": deny,
     "names": remember_names,
     "kept": look_at_kept_names,
 }
@@ -244,7 +272,7 @@ class Reader:
             self.run = None
         elif not self.cases:
             raise Bad("'%s' stands before the first case" % word)
-        elif word in ("out", "out*", "err", "status", "columns", "by"):
+        elif word in ("out", "out*", "has", "err", "status", "columns", "by"):
             self.expect(word, rest)
         else:
             self.step(place, word, rest)
@@ -257,6 +285,8 @@ class Reader:
             self.run.out.append(rest)
         elif word == "out*":
             self.run.begins = rest
+        elif word == "has":
+            self.run.lines.append(rest)
         elif word == "err":
             self.run.err.append(rest)
         elif word == "status":
