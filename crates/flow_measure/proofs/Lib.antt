@@ -3,6 +3,7 @@ pub mod FewFlows
 pub mod Fitting
 pub mod Gathering
 pub mod Histories
+pub mod Interleaving
 pub mod Intervals
 pub mod Keys
 pub mod Merging
@@ -11,6 +12,7 @@ pub mod Places
 pub mod Putting
 pub mod SinkSteps
 pub mod SumLaws
+pub mod Undoing
 pub mod ViewLaws
 pub mod Viewing
 pub mod Widening

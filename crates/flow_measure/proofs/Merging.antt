@@ -14,6 +14,8 @@ use Rattle.flow_measure.specs.Sums.{Table, key_cmp, is_key, interval_of, gathere
 use Rattle.flow_measure.specs.Sums.{with_entries, merged, widened, empty_table, IsKeyBy, AreSound, AllFit, IsRefused}
 use Rattle.flow_measure.specs.Sums.{Becomes}
 use Rattle.flow_measure.proofs.Gathering.{entries_of_none, first, second, less, gathered-again, gathered-entries}
+use Rattle.flow_measure.proofs.Gathering.{joined, sum_at, sum_at-append, sum_at-entries, get-gathered}
+use Rattle.flow_measure.proofs.Putting.{AreWell, table}
 use Rattle.flow_measure.proofs.Keys.{same_key, is_key-refl}
 use Rattle.flow_measure.proofs.Fitting.{front_fits}
 
@@ -117,3 +119,27 @@ done w sum all wide fit h =
     let is = done_same sum all h in
     let same : sum ≡ record { width = w; sums = gathered all } = λ i. record { width = wide i; sums = is i } in
     (subst AllFit same fit, same)
+
+-- ---- what is true of all rows is true of merged ones
+
+both_sound : (P : Type 0) (a b : Option Sums) → IfSome a (λ s. P × (0 < s.flows)) → IfSome b (λ s. P × (0 < s.flows))
+    → IfSome (joined a b) (λ s. P × (0 < s.flows))
+both_sound P None b h g = g
+both_sound P (Some a) None h g = h
+both_sound P (Some a) (Some b) h g = (h.0, omega arith)
+
+merged_sound : (w : ℕ) (m o : FinMap key_cmp Sums) → AreSound w m → AreSound w o
+    → AreSound w (gathered (entries m ++ entries o))
+merged_sound w m o h g q =
+    let is = get-gathered (entries m ++ entries o) q ∙ sum_at-append q (entries m) (entries o)
+    ∙ ap (λ a. joined a (sum_at q (entries o))) (sum_at-entries m q) ∙ ap (joined (get m q)) (sum_at-entries o q) in
+    subst (λ a. IfSome a (λ s. IsKeyBy w q × (0 < s.flows))) (sym is)
+    (both_sound (IsKeyBy w q) (get m q) (get o q) (h q) (g q))
+
+pub merges_well : {X : Type 0} (r : Result X SumError) (w : ℕ) (m o n : FinMap key_cmp Sums) → AreWell w m
+    → AreSound w o → Becomes r (merged (table w m) (table w o)) (table w m) (table w n) → AreWell w n
+merges_well (Ok x) w m o n well sound h =
+    let same : n ≡ gathered (entries m ++ entries o) = ap (λ (t : Table). t.sums) h.1 in
+    subst (AreWell w) (sym same) (well.0, merged_sound w m o well.1 sound, h.0)
+merges_well (Err e) w m o n well sound h =
+    let same : n ≡ m = ap (λ (t : Table). t.sums) h.1 in subst (AreWell w) (sym same) well

@@ -21,7 +21,7 @@ use Rattle.flow_measure.proofs.Keys.{keys_total, exact_keys, same_key, is_key-sy
 same_number : (a b : ℕ) → Some a ≡ Some b → a ≡ b
 same_number a b h = ap (λ o. unwrap_or o a) h
 
-same_entry : (a b : Key × Sums) → Some a ≡ Some b → a ≡ b
+pub same_entry : (a b : Key × Sums) → Some a ≡ Some b → a ≡ b
 same_entry a b h = ap (λ o. unwrap_or o a) h
 
 none_behind : (o : Option ℕ) → option_map suc o ≡ None → o ≡ None
@@ -165,7 +165,7 @@ find_push q (e ∷ es) k s h =
     ap (cond (is_key q e.0) (Some e.1)) (find_push q es k s (behind k e es h))
     ∙ apart q e.0 k (Some e.1) (Some s) (find key_cmp q es) (differs k e es h)
 
-place_push : (q : Key) (es : List (Key × Sums)) (k : Key) (s : Sums) → place_of k es ≡ None
+pub place_push : (q : Key) (es : List (Key × Sums)) (k : Key) (s : Sums) → place_of k es ≡ None
     → place_of q (es ++ (k, s) ∷ []) ≡ cond (is_key q k) (Some (length es)) (place_of q es)
 unfolding place_of
 place_push q [] k s h = refl

@@ -7,9 +7,8 @@ use Rattle.flow_measure.specs.declared.error.SumError.TheVariants.{SumSpent, Out
 use Rattle.flow_measure.specs.declared.flow.Flow.{Flow}
 use Rattle.flow_measure.specs.declared.rows.Key.{Key}
 use Rattle.flow_measure.specs.declared.rows.Sums.{Sums}
-use Rattle.flow_measure.specs.Sums.{key_cmp, gathered, Fits, Table, AllFit, AreSound, Becomes, with_sums, with_flow}
-use Rattle.flow_measure.specs.Sums.{key_of, counted}
-use Rattle.flow_measure.specs.Sums.{IsKeyBy}
+use Rattle.flow_measure.specs.Sums.{key_cmp, gathered, Fits, Table, AllFit, AreSound, Becomes, IsRefused, with_sums}
+use Rattle.flow_measure.specs.Sums.{IsKeyBy, key_of, counted, with_flow}
 use Rattle.flow_measure.specs.Entries.{Adds, added_to}
 use Rattle.flow_measure.proofs.Keys.{is_key-refl}
 use Rattle.flow_measure.proofs.Gathering.{joined, with_one, put-is_gathered}
@@ -32,13 +31,13 @@ well_put w m n k t e is_key counted fits h = subst (AreWell w) (sym e) (
 
 -- rows after a sum is put in its place are those before, with one more
 pub became : (w : ℕ) (m n : FinMap key_cmp Sums) (k : Key) (s t : Sums) (v : Table) → table w m ≡ v → n ≡ insert m k t
-    → joined (get m k) (Some s) ≡ Some t → Fits t → AreWell w m
+    → joined (get m k) (Some s) ≡ Some t → Fits t → AllFit (table w m)
     → AllFit (with_sums k s v) × (table w n ≡ with_sums k s v)
 became w m n k s t v is e sum fits h =
     let gathered_is : n ≡ gathered (entries m ++ (k, s) ∷ []) = e ∙ put-is_gathered m k s t sum in
     let same : table w n ≡ with_sums k s v = ap (table w) gathered_is ∙ ap (with_sums k s) is in
     let fit : AllFit (table w n) =
-    subst (λ x. AllFit (table w x)) (sym e) (kept (λ (q : Key) (x : Sums). Fits x) m k t h.2 fits) in
+    subst (λ x. AllFit (table w x)) (sym e) (kept (λ (q : Key) (x : Sums). Fits x) m k t h fits) in
     (subst AllFit same fit, same)
 
 sum_is : (o : Option Sums) (s : Sums) → joined o (Some s) ≡ Some (added_to o s)
@@ -59,6 +58,20 @@ fits_there w m k s all =
     with_one m k s k ∙ ap (λ b. joined (get m k) (cond b (Some s) None)) (is_key-refl k) ∙ sum_is (get m k) s in
     subst (λ o. IfSome o Fits) sum (all k)
 
+-- where nothing is added, the table with the sums is refused
+pub not_added : (X : Type 0) (e : SumError) (w : ℕ) (m n : FinMap key_cmp Sums) (k : Key) (s : Sums)
+    → Adds {X = X} (Err e) k s m n → IsRefused e (with_sums k s (table w m))
+not_added X SumSpent w m n k s h = λ all. h.0 (fits_there w m k s all)
+not_added X OutOfMemory w m n k s h = tt
+
+-- where sums are added, the table is that with the sums
+pub grew : (w : ℕ) (m n : FinMap key_cmp Sums) (k : Key) (s : Sums)
+    → Fits (added_to (get m k) s) × (n ≡ insert m k (added_to (get m k) s)) → AllFit (table w m)
+    → AllFit (table w n) × (table w n ≡ with_sums k s (table w m))
+grew w m n k s h fit =
+    let is = became w m n k s (added_to (get m k) s) (table w m) refl h.1 (sum_is (get m k) s) h.0 fit in
+    (subst AllFit (sym is.1) is.0, is.1)
+
 module _ {X : Type 0} where
   -- what was true of rows stays true once sums were added
   pub adds_well : (r : Result X SumError) (w : ℕ) (m n : FinMap key_cmp Sums) (k : Key) (s : Sums) → IsKeyBy w k
@@ -72,7 +85,8 @@ module _ {X : Type 0} where
   -- the table becomes that with the sums
   pub gives : (r : Result X SumError) (w : ℕ) (m n : FinMap key_cmp Sums) (k : Key) (s : Sums) (v : Table)
       → table w m ≡ v → AreWell w m → Adds r k s m n → Becomes r (with_sums k s v) v (table w n)
-  gives (Ok x) w m n k s v is well h = became w m n k s (added_to (get m k) s) v is h.1 (sum_is (get m k) s) h.0 well
+  gives (Ok x) w m n k s v is well h =
+      became w m n k s (added_to (get m k) s) v is h.1 (sum_is (get m k) s) h.0 well.2
   gives (Err SumSpent) w m n k s v is well h =
       (λ all. h.0 (fits_there w m k s (subst (λ u. AllFit (with_sums k s u)) (sym is) all)), ap (table w) h.1 ∙ is)
   gives (Err OutOfMemory) w m n k s v is well h = (tt, ap (table w) h.1 ∙ is)

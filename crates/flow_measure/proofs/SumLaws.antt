@@ -91,3 +91,9 @@ pub added_on : {X : Type 0} (r : Result X SumError) (old new : Table) (f : Flow)
     → OnOk r ((flows : List Flow) → AreSums old flows → AreSums new (flows ++ f ∷ []))
 added_on (Ok x) old new f h = added old new f h.1
 added_on (Err e) old new f h = tt
+
+pub merged_on : {X : Type 0} (r : Result X SumError) (a b new : Table) → a.width ≡ b.width
+    → Becomes r (merged a b) a new
+    → OnOk r ((flows more : List Flow) → AreSums a flows → AreSums b more → AreSums new (flows ++ more))
+merged_on (Ok x) a b new w h = merged_sums a b new w h.1
+merged_on (Err e) a b new w h = tt

@@ -1,8 +1,12 @@
 //! Sums by key, in the order in which their keys came, and where each key stands.
 
 ghost use Rattle.std.specs.Prelude.{◌<◌, ◌≡◌, ◌++◌, ◌∷◌, [], List, None, Some, slice_get, IfOk, OnOk, OnErr};
-ghost use Rattle.std.specs.FinMap.{entries};
-ghost use Rattle.flow_measure.specs.Entries.{place_of, map_of, Adds, AreOnce};
+ghost use Rattle.std.specs.Prelude.{ℕ, MatchResult};
+ghost use Rattle.std.specs.FinMap.{entries, get, insert};
+ghost use Rattle.flow_measure.specs.Entries.{place_of, map_of, added_to, table_at, Adds, AreOnce};
+ghost use Rattle.flow_measure.specs.Entries.{with_sums_at, without_last, undone, all_undone};
+ghost use Rattle.flow_measure.specs.Sums.{Fits, AllFit, IsRefused, Becomes, merged, with_sums};
+ghost use Rattle.flow_measure.specs.declared.entries.Change.TheVariants as Change;
 
 use crate::error::SumError;
 use crate::rows::{Key, Sums};
@@ -21,6 +25,15 @@ pub(crate) struct Entries {
     /// The places of keys that came lately, each where its key may be remembered. It is looked at before it is used.
     recent: [usize; RECENT],
     alloc: Global,
+}
+
+/// How the sums under a key were changed, for whoever takes it back.
+#[derive(Clone, Copy)]
+enum Change {
+    /// A new key came, at the place after all others.
+    Pushed,
+    /// Sums were added to those at this place, which were these.
+    Added(usize, Sums),
 }
 
 /// How many places of keys are remembered.
@@ -90,7 +103,10 @@ impl Entries {
     /// Adds sums to those of a key, of which this is the place.
     fn increase(&mut self, place: usize, key: Key, sums: Sums) -> Result<(), SumError>
         requires { place_of key self.old ≡ Some place }
-        ensures { Adds result key sums (map_of self.old) (map_of self.new) }
+        ensures adds { Adds result key sums (map_of self.old) (map_of self.new) }
+        ensures back { OnOk result ((total : Sums) → slice_get self.old place ≡ Some (key, total)
+            → undone (Change.Added place total) self.new ≡ self.old) }
+        ensures err { OnErr result (self.new ≡ self.old) }
     {
         let (_, total) = self.items[place];
         let Some(sum) = total.plus(sums) else {
@@ -125,6 +141,92 @@ impl Entries {
         }
         self.recent[slot] = self.items.len();
         self.push(Key { ..key }, Sums { ..sums })?;
+        Ok(())
+    }
+
+    /// Puts sums at a place, under the key there. At no key's place it does nothing.
+    fn set(&mut self, place: usize, sums: Sums)
+        ensures { self.new ≡ with_sums_at place sums self.old }
+    {
+        if place < self.items.len() {
+            self.items[place].1 = sums;
+        }
+    }
+
+    /// Takes out the key that came last, with its sums.
+    fn pop(&mut self)
+        ensures { self.new ≡ without_last self.old }
+    {
+        if let Some((key, _)) = self.items.pop() {
+            self.places.remove(&key);
+        }
+    }
+
+    /// Takes a change back.
+    fn undo(&mut self, change: Change)
+        ensures { self.new ≡ undone change self.old }
+    {
+        match change {
+            Change::Pushed => self.pop(),
+            Change::Added(place, sums) => self.set(place, sums),
+        }
+    }
+
+    /// Takes all changes back, the last one first.
+    fn undo_all(&mut self, changes: Vec<Change>)
+        ensures { self.new ≡ all_undone changes.items self.old }
+    {
+        let mut changes = changes;
+        while let Some(change) = changes.pop() {
+            self.undo(change);
+        }
+    }
+
+    /// Adds sums under a key, and answers how that is taken back.
+    fn change(&mut self, key: Key, sums: Sums) -> Result<Change, SumError>
+        ensures adds { Adds result key sums (map_of self.old) (map_of self.new) }
+        ensures ok { IfOk result (λ change. undone change self.new ≡ self.old) }
+        ensures err { OnErr result (self.new ≡ self.old) }
+    {
+        let slot = recent_slot(&key);
+        let Some(place) = self.find(self.recent[slot], key) else {
+            self.recent[slot] = self.items.len();
+            self.push(key, sums)?;
+            return Ok(Change::Pushed);
+        };
+        self.recent[slot] = place;
+        let (_, total) = self.items[place];
+        self.increase(place, key, sums)?;
+        Ok(Change::Added(place, total))
+    }
+
+    /// Adds sums under a key, and notes the change.
+    fn add_noted(&mut self, key: Key, sums: Sums, changes: &mut Vec<Change>) -> Result<(), SumError>
+        ensures adds { MatchResult result (λ _. Fits (added_to (get (map_of self.old) key) sums)
+            × (map_of self.new ≡ insert (map_of self.old) key (added_to (get (map_of self.old) key) sums)))
+            (λ e. IsRefused e (with_sums key sums (table_at 0 self.old))) }
+        ensures back { all_undone changes.new.items self.new ≡ all_undone changes.old.items self.old }
+    {
+        changes.reserve(1)?;
+        let change = self.change(key, sums)?;
+        changes.push(change).unwrap();
+        Ok(())
+    }
+
+    /// Adds the sums of others, key by key. Where one is refused, all that were added before it are taken back.
+    pub(crate) fn merge(&mut self, other: &Entries) -> Result<(), SumError>
+        requires { AllFit (table_at 0 self.old) }
+        ensures { (width : ℕ) → Becomes result (merged (table_at width self.old) (table_at width other.now))
+            (table_at width self.old) (table_at width self.new) }
+    {
+        let mut changes = Vec::new(self.alloc);
+        let mut walk = other.walk();
+        while let Some((key, sums)) = walk.next() {
+            if let Err(refusal) = self.add_noted(key, sums, &mut changes) {
+                self.undo_all(changes);
+                return Err(refusal);
+            }
+        }
         Ok(())
     }
 

@@ -1,10 +1,12 @@
 //! Laws of flows and of their sums.
 
-ghost use Rattle.std.specs.Prelude.{◌≡◌, ℕ, ◌<◌, ◌^◌, ◌%◌, List, [], ◌∷◌, ◌++◌, length, Option, map, filter};
+ghost use Rattle.std.specs.Prelude.{◌≡◌, ◌≢◌, ℕ, ◌+◌, ◌<◌, ◌≤◌, ◌^◌, ◌%◌, List, [], ◌∷◌, ◌++◌, length, Option, map, filter};
 ghost use Rattle.std.specs.FinMap as finite;
 ghost use Rattle.std.specs.List.{AllByRecursion};
+ghost use Rattle.std.specs.List.Sorted.{IsSortedByKey, IsPermutation, IsStableByKey};
 ghost use Rattle.flow_measure.specs.declared.flow.Flow.{Flow};
 ghost use Rattle.flow_measure.specs.declared.rows.Key.{Key};
+ghost use Rattle.flow_measure.specs.declared.rows.Row.{Row};
 ghost use Rattle.flow_codec.specs.Message.{in_fields, IsAccepted};
 ghost use Rattle.flow_codec.specs.Templates.{AllTemplates};
 ghost use Rattle.flow_codec.specs.Raw.{RawMessage, under};
@@ -12,9 +14,9 @@ ghost use Rattle.flow_measure.specs.Flows.{FlowFits, flows_of, flows_of_records}
 ghost use Rattle.flow_measure.specs.History.{Accepted, AreAcceptedFrom, History, IsHistory, read_from, templates_from};
 ghost use Rattle.flow_measure.specs.View.{AreCountsOf, view_of};
 ghost use Rattle.flow_measure.specs.Query.{totals_between, totals_in_view, flows_between, flows_in_view, message_at};
-ghost use Rattle.flow_measure.specs.Query.{message_in_view};
+ghost use Rattle.flow_measure.specs.Query.{message_in_view, interleaved, rows_of_both};
 ghost use Rattle.flow_measure.specs.Sums.{AllFit, sums_by, table_of, merged, widened, key_of, is_key, counted};
-ghost use Rattle.flow_measure.specs.Sums.{some_total};
+ghost use Rattle.flow_measure.specs.Sums.{Table, key_cmp, rows_between, some_total};
 
 /// The sums of flows have at each key the sum of the flows of that key, and nothing where there are none.
 pub fn sums_at_a_key()
@@ -64,4 +66,28 @@ pub fn reading()
         → length (read_from before octets) ≡ length octets
         → IsAccepted a.octets (templates_from before (read_from before octets)) a.message a.after
         → read_from before (octets ++ a.octets ∷ []) ≡ read_from before octets ++ a ∷ [] }
+{}
+
+/// Two lists of rows, interleaved, are what a stable sort by key makes of the first list followed by the second: all
+/// their rows in the order of their keys, and of each key the first list's rows, then the second's, as they came.
+pub fn interleaving()
+    ensures sorted { (steps : ℕ) (rows others : List Row) → length rows + length others ≤ steps
+        → IsSortedByKey (λ r. r.key) key_cmp rows → IsSortedByKey (λ r. r.key) key_cmp others
+        → IsSortedByKey (λ r. r.key) key_cmp (interleaved steps rows others) }
+    ensures rows { (steps : ℕ) (rows others : List Row) → IsPermutation (rows ++ others)
+        (interleaved steps rows others) }
+    ensures stable { (steps : ℕ) (rows others : List Row) → IsSortedByKey (λ r. r.key) key_cmp rows
+        → IsStableByKey (λ r. r.key) key_cmp (rows ++ others) (interleaved steps rows others) }
+{}
+
+/// The rows of two tables from one start up to another are in the order of their keys. Where the widths differ, they
+/// are all rows of both tables, and of each key the narrow table's row comes first.
+pub fn rows_in_order()
+    ensures sorted { (from to : ℕ) (narrow wide : Table)
+        → IsSortedByKey (λ r. r.key) key_cmp (rows_of_both from to narrow wide) }
+    ensures rows { (from to : ℕ) (narrow wide : Table) → narrow.width ≢ wide.width
+        → IsPermutation (rows_between from to narrow ++ rows_between from to wide) (rows_of_both from to narrow wide) }
+    ensures stable { (from to : ℕ) (narrow wide : Table) → narrow.width ≢ wide.width
+        → IsStableByKey (λ r. r.key) key_cmp (rows_between from to narrow ++ rows_between from to wide)
+        (rows_of_both from to narrow wide) }
 {}

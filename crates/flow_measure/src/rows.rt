@@ -169,10 +169,7 @@ impl Rows {
         ensures sums { OnOk result ((flows more : List Flow) → AreSums self.old flows → AreSums other.now more
             → AreSums self.new (flows ++ more)) }
     {
-        let mut sum = self.try_copy()?;
-        sum.add_all(other.entries()?.as_slice())?;
-        *self = sum;
-        Ok(())
+        self.entries.merge(&other.entries)
     }
 
     /// The sums over wide intervals, each of some intervals of these rows.

@@ -1,39 +1,36 @@
-use Rattle.std.proofs.Common.{◌≡◌, ◌<◌, refl, sym, ap, subst, ◌∙◌}
-use Rattle.std.specs.FinMap.{entries}
-use Rattle.std.specs.List.{AllByRecursion}
-use Rattle.flow_measure.specs.Sums.{AllFit, IsRefused, merged, with_entries}
-use Rattle.flow_measure.proofs.Merging.{passed_on, sound_entries, with_own}
-use Rattle.flow_measure.proofs.SumLaws.{merged_sums}
+use Rattle.std.proofs.Common.{sym, ap, subst, ◌∙◌}
+use Rattle.flow_measure.specs.Sums.{Table, AreSound, Becomes, merged}
+use Rattle.flow_measure.specs.Entries.{map_of, table_at}
+use Rattle.flow_measure.proofs.Merging.{merges_well}
+use Rattle.flow_measure.proofs.SumLaws.{merged_on}
 use Rattle.flow_measure.proofs.rows.Rows.merge.Goals as goal
 
-pub add_all-requires : goal.add_all-requires
-add_all-requires c =
-    let other = c.args.other.now in
-    let listed : c.as_slice.result.now ≡ entries other.sums = c.as_slice.ensures.value ∙ c.in_ok-entries.ensures.list in
-    subst (AllByRecursion (λ e. 0 < e.1.flows)) (sym listed)
-    (sound_entries other.width other.sums c.in_ok-entries.ensures.sound)
+pub merge-requires : goal.merge-requires
+merge-requires c = c.self.invariant.2
 
-pub returns-in_err-add_all-clause-becomes : goal.returns-in_err-add_all-clause-becomes
-returns-in_err-add_all-clause-becomes c =
-    let listed = c.as_slice.ensures.value ∙ c.in_ok-entries.ensures.list in
-    let whole = ap (with_entries c.as_slice.result.now) c.in_ok-sum.ensures.copy
-    ∙ with_own c.args.self.now c.args.other.now c.as_slice.result.now c.requires listed c.in_ok-entries.ensures.sound in
-    passed_on c.from_residual-in_err-add_all.result c.in_err-add_all.field-0.0 (merged c.args.self.now c.args.other.now)
-    c.args.self.now c.args.self.now c.from_residual-in_err-add_all.ensures.1
-    (subst (IsRefused c.in_err-add_all.field-0.0) whole c.in_err-add_all.ensures) refl
+pub invariant_of-self : goal.invariant_of-self
+invariant_of-self c =
+    let width = c.self.inside.width in
+    let own = map_of c.self.inside.entries in
+    let others = map_of c.other.inside.entries in
+    let same = ap (λ (t : Table). t.width) c.self.view_is ∙ c.requires
+    ∙ sym (ap (λ (t : Table). t.width) c.other.view_is) in
+    merges_well c.merge.result width own others (map_of c.merge.new.self) c.self.invariant
+    (subst (λ w. AreSound w others) (sym same) c.other.invariant.1) (c.merge.ensures width)
 
 pub returns-clause-becomes : goal.returns-clause-becomes
 returns-clause-becomes c =
-    let listed = c.as_slice.ensures.value ∙ c.in_ok-entries.ensures.list in
-    let whole = ap (with_entries c.as_slice.result.now) c.in_ok-sum.ensures.copy
-    ∙ with_own c.args.self.now c.args.other.now c.as_slice.result.now c.requires listed c.in_ok-entries.ensures.sound in
-    let h = c.in_ok-add_all.ensures in
-    (subst AllFit whole h.0, h.1 ∙ whole)
+    let width = c.self.inside.width in
+    let own = table_at width c.self.inside.entries in
+    let new = table_at width c.merge.new.self in
+    subst (λ (t : Table). Becomes c.merge.result (merged t c.args.other.now) t new) c.self.view_is
+    (subst (λ (t : Table). Becomes c.merge.result (merged own t) own new) c.other.view_is (c.merge.ensures width))
 
 pub returns-clause-sums : goal.returns-clause-sums
 returns-clause-sums c =
-    let listed = c.as_slice.ensures.value ∙ c.in_ok-entries.ensures.list in
-    let whole = ap (with_entries c.as_slice.result.now) c.in_ok-sum.ensures.copy
-    ∙ with_own c.args.self.now c.args.other.now c.as_slice.result.now c.requires listed c.in_ok-entries.ensures.sound in
-    let h = c.in_ok-add_all.ensures in
-    merged_sums c.args.self.now c.args.other.now c.add_all.new.self c.requires (h.1 ∙ whole)
+    let width = c.self.inside.width in
+    let own = table_at width c.self.inside.entries in
+    let new = table_at width c.merge.new.self in
+    merged_on c.merge.result c.args.self.now c.args.other.now new c.requires
+    (subst (λ (t : Table). Becomes c.merge.result (merged t c.args.other.now) t new) c.self.view_is
+    (subst (λ (t : Table). Becomes c.merge.result (merged own t) own new) c.other.view_is (c.merge.ensures width)))
