@@ -9,7 +9,8 @@ use Rattle.flow_measure.specs.Sums.{Table, key_cmp, gathered, sums_by, rows_betw
 use Rattle.flow_measure.specs.History.{History, flows_in}
 use Rattle.flow_measure.specs.View.{View, gathered_all}
 
--- two lists of rows in the order of their keys, as one: of two rows of one key the first list's comes first
+-- Two lists of rows in the order of their keys, as one: of two rows of one key the first list's comes first. The law
+-- `interleaving` says it by the words of a stable sort.
 abbrev pub interleaved : ℕ → List Row → List Row → List Row
 interleaved zero rows others = rows ++ others
 interleaved (suc steps) [] others = others

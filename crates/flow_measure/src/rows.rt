@@ -162,7 +162,7 @@ impl Rows {
         })
     }
 
-    /// Adds the sums of other rows, of the same width, key by key.
+    /// Adds the sums of other rows, of the same width, key by key, in place.
     pub fn merge(&mut self, other: &Rows) -> Result<(), SumError>
         requires { self.old.width ≡ other.now.width }
         ensures becomes { Becomes result (merged self.old other.now) self.old self.new }

@@ -9,9 +9,10 @@ use Rattle.flow_measure.proofs.entries.Entries.add_noted.Goals as goal
 
 pub returns-in_err-change-clause-adds : goal.returns-in_err-change-clause-adds
 returns-in_err-change-clause-adds c =
-    refused_by c.from_residual-in_err-change.result c.in_err-change.field-0.0
+    let refusal = c.in_err-change.field-0.0 in
+    refused_by c.from_residual-in_err-change.result refusal
     (with_sums c.args.key c.args.sums (table_at 0 c.args.self.now)) _ c.from_residual-in_err-change.ensures.1
-    (not_added Change c.in_err-change.field-0.0 0 (map_of c.args.self.now) (map_of c.change.new.self) c.args.key c.args.sums
+    (not_added Change refusal 0 (map_of c.args.self.now) (map_of c.change.new.self) c.args.key c.args.sums
     c.in_err-change.ensures.adds)
 
 pub returns-clause-back : goal.returns-clause-back
