@@ -22,3 +22,4 @@ pub mod Widened
 pub mod Counted
 pub mod FileForm
 pub mod RowFlows
+pub mod PartsLaws

@@ -1,13 +1,16 @@
 //! Laws of rolled files.
 
-ghost use Rattle.std.specs.Prelude.{◌≡◌, ℕ, ◌<◌, ◌^◌, List, map};
+ghost use Rattle.std.specs.Prelude.{◌≡◌, ℕ, ◌<◌, ◌≤◌, ◌^◌, List, [], ◌∷◌, ◌++◌, length, map, Option, None};
+ghost use Rattle.std.specs.List.{AllByRecursion, Contains};
 ghost use Rattle.std.specs.FinMap.{get};
 ghost use Rattle.flow_measure.specs.declared.rows.Key.{Key};
 ghost use Rattle.flow_measure.specs.Sums.{Table, sums_by};
 ghost use Rattle.flow_rolled.specs.Rollup.{IsRollup, IsBroken, IsFront, rollup_octets};
 ghost use Rattle.flow_codec.specs.Templates.{AllTemplates};
 ghost use Rattle.flow_codec.specs.File.{IsFile};
-ghost use Rattle.flow_rolled.specs.Rows.{IsTable, rows_in};
+ghost use Rattle.flow_rolled.specs.declared.row.RolledRow.{RolledRow};
+ghost use Rattle.flow_rolled.specs.Rows.{AreRows, IsTable, rows_in};
+ghost use Rattle.flow_rolled.specs.Parts.{Part, head, parts_of, rows_within, AllFollow, EndsWell};
 ghost use Rattle.flow_rolled.specs.Rollup.{parts_in};
 ghost use Rattle.flow_rolled.specs.AsFile.{messages_of, flows_within, flow_of_row, SameCounts};
 
@@ -38,4 +41,30 @@ pub fn rolled_file()
     ensures sums { (t : Table) (time : ℕ) → IsTable t → time < 2 ^ 32 → (key : Key)
         → SameCounts (get (sums_by t.width (flows_within (messages_of t.width (parts_in t time)))) key)
         (get t.sums key) }
+{}
+
+/// What the messages of rows in the file's order are. Joined, their rows are these rows: none is lost, none is twice. A
+/// message has up to 1,000 rows, all of its own domain, and each message has the Export Time. A message with rows comes
+/// after the head of its domain, and a head after messages of lesser domains alone, so a domain has one head.
+///
+/// Each message follows the one before it, and the last one is no head. Messages of this time that do so are the
+/// messages of their rows, and no others are.
+pub fn messages_of_rows()
+    ensures joined { (width time : ℕ) (rows : List RolledRow) → time < 2 ^ 32 → AreRows width None rows
+        → rows_within (parts_of time rows) ≡ rows }
+    ensures few { (width time : ℕ) (rows : List RolledRow) → time < 2 ^ 32 → AreRows width None rows
+        → AllByRecursion (λ p. length p.rows ≤ 1000) (parts_of time rows) }
+    ensures own { (width time : ℕ) (rows : List RolledRow) → time < 2 ^ 32 → AreRows width None rows
+        → AllByRecursion (λ p. AllByRecursion (λ r. r.key.domain ≡ p.domain) p.rows) (parts_of time rows) }
+    ensures time { (time : ℕ) (rows : List RolledRow) → AllByRecursion (λ p. p.time ≡ time) (parts_of time rows) }
+    ensures opened { (width time : ℕ) (rows : List RolledRow) (before more : List Part) (p : Part) → time < 2 ^ 32
+        → AreRows width None rows → parts_of time rows ≡ before ++ p ∷ more → 0 < length p.rows
+        → Contains before (head time p.domain) }
+    ensures once { (width time : ℕ) (rows : List RolledRow) (before more : List Part) (p : Part) → time < 2 ^ 32
+        → AreRows width None rows → parts_of time rows ≡ before ++ p ∷ more → p.rows ≡ []
+        → AllByRecursion (λ q. q.domain < p.domain) before }
+    ensures follow { (width time : ℕ) (rows : List RolledRow) → time < 2 ^ 32 → AreRows width None rows
+        → AllFollow width None (parts_of time rows) × EndsWell None (parts_of time rows) }
+    ensures only { (width time : ℕ) (parts : List Part) → AllFollow width None parts → EndsWell None parts
+        → AllByRecursion (λ p. p.time ≡ time) parts → parts_of time (rows_within parts) ≡ parts }
 {}
