@@ -9,3 +9,4 @@ pub mod Flowing
 pub mod Uniqueness
 pub mod Summed
 pub mod FewMessages
+pub mod FlowsFit

@@ -1,8 +1,10 @@
 //! Laws of segments.
 
-ghost use Rattle.std.specs.Prelude.{◌≡◌, ℕ, ◌+◌, ◌*◌, ◌<◌, ◌^◌, length, List, [], ◌∷◌, ◌++◌, map};
+ghost use Rattle.std.specs.Prelude.{◌≡◌, ℕ, ◌+◌, ◌*◌, ◌<◌, ◌≤◌, ◌^◌, length, List, [], ◌∷◌, ◌++◌, map};
 ghost use Rattle.flow_codec.specs.File.{IsFile};
-ghost use Rattle.flow_codec.specs.Message.{IsAccepted};
+ghost use Rattle.flow_codec.specs.Fault.{IsOctets};
+ghost use Rattle.flow_codec.specs.Message.{in_fields, IsAccepted};
+ghost use Rattle.flow_codec.specs.Raw.{RawMessage};
 ghost use Rattle.flow_measure.specs.History.{Accepted, AreAcceptedFrom, read_from, templates_from};
 ghost use Rattle.flow_segment.specs.Carry.{carry_from, carry_with, no_carry, octets_of, restated, segment_octets};
 ghost use Rattle.flow_segment.specs.Carry.{Carry, IsCarry, IsReadBack};
@@ -12,7 +14,7 @@ ghost use Rattle.flow_codec.specs.Message.{joined};
 ghost use Rattle.flow_segment.specs.Part.{rest_of, Cursor, Gives};
 ghost use Rattle.flow_codec.specs.Templates.{AllTemplates};
 ghost use Rattle.flow_measure.specs.declared.flow.Flow.{Flow};
-ghost use Rattle.flow_measure.specs.Flows.{FlowFits};
+ghost use Rattle.flow_measure.specs.Flows.{flows_of, FlowFits};
 ghost use Rattle.flow_measure.specs.History.{flows_in};
 ghost use Rattle.flow_measure.specs.Sums.{table_of, AllFit};
 ghost use Rattle.flow_segment.specs.PartFlows.{with_flows};
@@ -40,6 +42,17 @@ pub fn read_to_the_end()
     ensures { (octets : List ℕ) (file : ℕ) (c last : Cursor) (messages parts : List (List ℕ))
         → Gives octets file c messages last → rest_of octets c ≡ joined parts → AllByRecursion IsCutOff parts
         → messages ≡ parts }
+{}
+
+/// An accepted message has at most 65,535 records, and the counts of each of its flows fit their types: each is read
+/// from at most eight octets. The octets are numbers below 256.
+pub fn accepted_message_fits()
+    ensures few { (octets : List ℕ) (before after : AllTemplates) (message : RawMessage)
+        → IsAccepted octets before message after → length message.records ≤ 65535 }
+    ensures fit { (octets : List ℕ) (before after : AllTemplates) (message : RawMessage) → IsOctets octets
+        → IsAccepted octets before message after → AllByRecursion FlowFits (flows_of (in_fields message)) }
+    ensures all { (before : AllTemplates) (messages : List Accepted) → AreAcceptedFrom before messages
+        → AllByRecursion (λ a. IsOctets a.octets) messages → AllByRecursion FlowFits (flows_in messages) }
 {}
 
 /// The sums of flows and of those of messages behind them fit their types, where they are few: a message has fewer than

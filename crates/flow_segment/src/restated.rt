@@ -16,10 +16,10 @@ use flow_gate::ScanError;
 use std::alloc::Global;
 use std::convert::Infallible;
 
-/// Whether there were data records.
+/// A sink that keeps nothing of data records but whether there were any.
 #[derive(Drop)]
-struct Seen {
-    any: bool,
+pub struct Seen {
+    pub any: bool,
 }
 
 impl RecordSink for Seen {
