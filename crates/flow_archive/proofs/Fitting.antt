@@ -14,6 +14,7 @@ use Rattle.flow_measure.proofs.SumLaws.{merged-table_of}
 use Rattle.flow_measure.proofs.ViewLaws.{flows-append}
 use Rattle.flow_segment.specs.Carry.{Carry}
 use Rattle.flow_segment.proofs.FewMessages.{few_fit_behind}
+use Rattle.flow_segment.proofs.FlowsFit.{messages_fit}
 use Rattle.flow_snapshot.specs.Totals.{IsWithinLimits}
 use Rattle.flow_snapshot.proofs.Accepting.{accepted_first, accepted_rest}
 use Rattle.flow_recover.specs.Chain.{HandsOn}
@@ -41,7 +42,8 @@ fit_between h is within width from count =
     ap flows_in (sym (take-append-drop from h.all)) ∙ flows-append front rest in
     let three : flows_in rest ≡ flows_in part ++ flows_in (drop count rest) =
     ap flows_in (sym (take-append-drop count rest)) ∙ flows-append part (drop count rest) in
-    let fit_rest = (fit_in_two (flows_in front) (flows_in rest) (subst (AllByRecursion FlowFits) two within.fit)).1 in
+    let all_fit = messages_fit [] h.all is.accepted within.octets in
+    let fit_rest = (fit_in_two (flows_in front) (flows_in rest) (subst (AllByRecursion FlowFits) two all_fit)).1 in
     let fit = (fit_in_two (flows_in part) (flows_in (drop count rest))
     (subst (AllByRecursion FlowFits) three fit_rest)).0 in
     subst AllFit (merged-table_of width [] (flows_in part))

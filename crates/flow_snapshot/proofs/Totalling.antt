@@ -20,6 +20,7 @@ use Rattle.flow_measure.proofs.ViewLaws.{both_sums, flows-append, parts_sum, tot
 use Rattle.flow_measure.proofs.Widening.{joined-comm}
 use Rattle.flow_segment.specs.PartFlows.{with_flows}
 use Rattle.flow_segment.proofs.FewMessages.{few_fit_behind}
+use Rattle.flow_segment.proofs.FlowsFit.{messages_fit}
 use Rattle.flow_snapshot.specs.declared.error.QueryError.{QueryError}
 use Rattle.flow_snapshot.specs.declared.error.QueryError.TheVariants.{Damaged, Fault, OutOfMemory}
 use Rattle.flow_snapshot.specs.Shelf.{messages_in, Shelf}
@@ -144,6 +145,9 @@ module _ (h : History) (counts : List ℕ) (is : IsHistory h) (all : AreCountsOf
       ∙ ap (sums_by h.width) (sym (flows-append (rolled_messages h) (drop h.cut h.all)) ∙ ap flows_in later_messages))
 
   module _ (within : IsWithinLimits h) where
+    all_fit : AllByRecursion FlowFits (flows_in h.all)
+    all_fit = messages_fit [] h.all is.accepted within.octets
+
     in_two : flows_in h.all ≡ flows_in (take h.second h.all) ++ flows_in (drop h.second h.all)
     in_two = ap flows_in (sym (take-append-drop h.second h.all))
         ∙ flows-append (take h.second h.all) (drop h.second h.all)
@@ -151,7 +155,7 @@ module _ (h : History) (counts : List ℕ) (is : IsHistory h) (all : AreCountsOf
     fit_both_parts : AllByRecursion FlowFits (flows_in (take h.second h.all))
         × AllByRecursion FlowFits (flows_in (drop h.second h.all))
     fit_both_parts = fit_in_two (flows_in (take h.second h.all)) (flows_in (drop h.second h.all))
-        (subst (AllByRecursion FlowFits) in_two within.fit)
+        (subst (AllByRecursion FlowFits) in_two all_fit)
 
     pub sums_fit : SumsFit (view_of h counts)
     sums_fit = record {
@@ -167,7 +171,7 @@ module _ (h : History) (counts : List ℕ) (is : IsHistory h) (all : AreCountsOf
           ∙ merged-comm (table_of h.width later) (table_of h.wide early) same
           ∙ ap (λ (k : ℕ). merged (table_of h.wide early) (table_of k later)) same
           ∙ merged-table_of h.wide early later ∙ ap (table_of h.wide) (sym in_two)))
-          (few_fit_in h.wide [] h.all is.accepted within.fit within.few);
+          (few_fit_in h.wide [] h.all is.accepted all_fit within.few);
     }
 
     -- what totals answer of such a history

@@ -67,7 +67,7 @@ abbrev pub IsSealedAt : List Segment → ℕ → Option (List ℕ) → Type 0
 IsSealedAt segments place None = length (messages_in segments) ≤ place
 IsSealedAt segments place (Some message) = StandsAt segments place message
 
--- What is answered of a number: a message of a sealed segment, or of the active one; and none of those that aren't kept.
+-- What is answered of a number: a message of a sealed segment, or of the active one; and none where it isn't kept.
 abbrev pub IsMessageAt : Shelf → ℕ → Option (List ℕ) → Type 0
 IsMessageAt s n None = (n ≤ cut_of s) ⊎ (position_of s < n)
 IsMessageAt s n (Some message) =

@@ -2,11 +2,11 @@
 use Rattle.std.specs.Prelude.{◌≡◌, ⊤, ℕ, ◌<◌, ◌^◌, List, [], ◌∷◌, ◌++◌, length, map, Result, Ok, Err}
 use Rattle.std.specs.List.{flat_map, AllByRecursion}
 use Rattle.std.specs.FinMap.{FinMap, entries}
+use Rattle.flow_codec.specs.Fault.{IsOctets}
 use Rattle.flow_measure.specs.declared.rows.Sums.{Sums}
 use Rattle.flow_measure.specs.declared.error.SumError.{SumError}
 use Rattle.flow_measure.specs.declared.error.SumError.TheVariants as measure
-use Rattle.flow_measure.specs.Flows.{FlowFits}
-use Rattle.flow_measure.specs.History.{History, flows_in}
+use Rattle.flow_measure.specs.History.{History}
 use Rattle.flow_measure.specs.Query.{narrow_table_in}
 use Rattle.flow_measure.specs.Sums.{key_cmp, gathered, merged, AllFit, Table}
 use Rattle.flow_measure.specs.View.{View}
@@ -31,11 +31,10 @@ pub record SumsFit (v : View) : Type 0 where
   pub wide : AllFit (wide_table_in v)
   pub both : v.width ≡ v.wide → AllFit (merged (narrow_table_in v) (wide_table_in v))
 
--- A history within the limits of an archive: its messages are fewer than 2^48, and the counts of each flow fit their
--- types.
+-- A history within the limits of an archive: its messages are fewer than 2^48, and consist of octets, numbers below 256.
 pub record IsWithinLimits (h : History) : Type 0 where
   pub few : length h.all < 2 ^ 48
-  pub fit : AllByRecursion FlowFits (flows_in h.all)
+  pub octets : AllByRecursion (λ a. IsOctets a.octets) h.all
 
 -- ---- the first part
 

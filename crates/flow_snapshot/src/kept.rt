@@ -17,47 +17,17 @@ ghost use Rattle.flow_snapshot.specs.Told.{IsAnswered};
 
 use crate::error::QueryError;
 use bytes::Bytes;
-use flow_codec::{
-    Definition, Header, MessageError, RecordSink, Templates, WalkError, front_of, walk_message,
-};
+use flow_codec::{MessageError, RecordSink, Templates, WalkError, front_of, walk_message};
 use flow_disk::{Faults, SealedFile};
 use flow_gate::ScanError;
 use flow_measure::Flow;
-use flow_segment::{Chosen, SealedPart, collect_flows};
+use flow_segment::{Chosen, SealedPart, Seen, collect_flows};
 use std::alloc::{AllocError, Global};
-use std::convert::Infallible;
 use std::mem::replace;
 use std::sync::Arc;
 
 /// What is told of a message in memory that is none: of no file, since it stands in none.
 const NO_MESSAGE: QueryError = QueryError::Damaged(0, 0);
-
-/// Whether there were data records.
-#[derive(Drop)]
-struct Seen {
-    any: bool,
-}
-
-impl RecordSink for Seen {
-    ghost use Rattle.flow_segment.specs.Prefix.{AreSeen};
-
-    type Error = Infallible;
-
-    ghost holds = { λ start taken now. AreSeen start.any taken now.any };
-
-    ghost refuses = { λ _ _ _ _. ⊥ };
-
-    fn record(
-        &mut self,
-        _header: &Header,
-        _id: u16,
-        _definition: &Definition,
-        _octets: &[u8],
-    ) -> Result<(), Infallible> {
-        self.any = true;
-        Ok(())
-    }
-}
 
 /// Takes in the templates of a message in memory, and answers whether it has data records.
 fn take_in(alloc: Global, templates: &mut Templates, octets: &[u8]) -> Result<bool, QueryError>

@@ -19,8 +19,8 @@ pub fn one_view()
     ensures { (s : Shelf) (v w : View) → s.width < 2 ^ 32 → s.wide < 2 ^ 32 → IsViewOf s v → IsViewOf s w → v ≡ w }
 {}
 
-/// Each view of a shelf is read in its files, and no two views are. So where a shelf has a view, what is read in its files
-/// is that one.
+/// Each view of a shelf is read in its files, and no two views are. So where a shelf has a view, what is read in its
+/// files is that one.
 pub fn views_are_read()
     ensures read { (s : Shelf) (v : View) → IsViewOf s v → IsReadIn s v }
     ensures one { (s : Shelf) (v w : View) → s.width < 2 ^ 32 → s.wide < 2 ^ 32 → IsReadIn s v → IsReadIn s w → v ≡ w }

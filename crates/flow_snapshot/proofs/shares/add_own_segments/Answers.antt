@@ -26,9 +26,9 @@ loop-part-preserved g c = record {
       c.part-item.result _ (next_item c.args.parts.now c.loop-part.part-index c.part-item.result c.part-item.result
       c.loop-part-test.true c.part-item.is refl) c.next_turn-next.ensures.next c.loop-part.invariant.turn;
   width = c.in_ok-add_own_segment.ensures.width ∙ c.loop-part.invariant.width;
-  found = λ honest. part_read IsSegmentSum (segment_of {files = g.S.SealedFile}) (is_honest {files = g.S.SealedFile}) c.args.parts.now c.loop-part.part-index c.part-item.result
-      c.deref.result.now c.loop-part-test.true c.part-item.is c.deref.ensures honest c.args.workers c.args.worker
-      c.args.turn c.args.rows.now.width c.loop-part.rows.width c.loop-part.next c.next_turn-next.result
+  found = λ honest. part_read IsSegmentSum (segment_of {files = g.S.SealedFile}) (is_honest {files = g.S.SealedFile})
+      c.args.parts.now c.loop-part.part-index c.part-item.result c.deref.result.now c.loop-part-test.true
+      c.part-item.is c.deref.ensures honest c.args.workers c.args.worker c.args.turn c.args.rows.now.width c.loop-part.rows.width c.loop-part.next c.next_turn-next.result
       c.loop-part.invariant.width (c.loop-part.invariant.found honest) c.next_turn-next.ensures.next
       c.in_ok-add_own_segment.ensures.found;
   left = λ honest maps each.
@@ -61,7 +61,8 @@ returns-clause-turn g c = (
 pub returns-clause-found : goal.returns-clause-found
 returns-clause-found g c = λ honest.
     let P = IsSegmentSum c.args.rows.now.width in
-    subst (λ ps. HaveSums P (own c.args.workers c.args.worker c.args.turn (map (segment_of {files = g.S.SealedFile}) (shared ps))))
+    subst (λ ps. HaveSums P (own c.args.workers c.args.worker c.args.turn
+    (map (segment_of {files = g.S.SealedFile}) (shared ps))))
     (take_all c.loop-part.part-index c.args.parts.now c.loop-part-test.false) (c.loop-part.invariant.found honest).have
 
 pub returns-clause-given : goal.returns-clause-given

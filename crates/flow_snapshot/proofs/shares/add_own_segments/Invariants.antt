@@ -19,7 +19,8 @@ invariant-loop-part g l = record {
   turn : turn_after l.workers (length (drop l.part-index l.parts)) l.next
       ≡ turn_after l.workers (length l.parts) l.turn;
   width : l.rows.width ≡ l.fn.rows.width;
-  found : IsTrue (list_all (is_honest {files = g.S.SealedFile}) (shared l.parts)) → ReadSoFar (IsSegmentSum l.fn.rows.width) l.workers l.worker l.turn
+  found : IsTrue (list_all (is_honest {files = g.S.SealedFile}) (shared l.parts))
+      → ReadSoFar (IsSegmentSum l.fn.rows.width) l.workers l.worker l.turn
       (map (segment_of {files = g.S.SealedFile}) (shared (take l.part-index l.parts))) l.next;
   left : IsTrue (list_all (is_honest {files = g.S.SealedFile}) (shared l.parts)) → (maps : List (FinMap key_cmp Sums))
       → AllZip (IsSegmentSum l.fn.rows.width) (map (segment_of {files = g.S.SealedFile}) (shared l.parts)) maps

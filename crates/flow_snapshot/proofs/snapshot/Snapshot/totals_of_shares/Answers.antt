@@ -28,8 +28,8 @@ returns-clause-given g c = λ honest v is.
 pub returns-clause-found : goal.returns-clause-found
 returns-clause-found g c = λ honest.
     let found = c.in_ok-sums.ensures.found honest in
-    shares_read (λ (rows : Vec Row Global). rows.items) c.args.self.now.shelf c.in_ok-sums.sums c.args.from c.args.to _ _
-    c.rows_of_both.result found (c.in_ok-sums.ensures.given honest found.0 found.1 found.2 found.3)
+    shares_read (λ (rows : Vec Row Global). rows.items) c.args.self.now.shelf c.in_ok-sums.sums c.args.from c.args.to _
+    _ c.rows_of_both.result found (c.in_ok-sums.ensures.given honest found.0 found.1 found.2 found.3)
     c.rows_of_both.ensures.made
 
 pub returns-in_err-sums-clause-answered : goal.returns-in_err-sums-clause-answered
