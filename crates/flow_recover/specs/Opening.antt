@@ -1,5 +1,5 @@
 -- Opening an archive, and why it may be refused.
-use Rattle.std.specs.Prelude.{◌≡◌, ◌⊎◌, ℕ, Bool, true, IsTrue, List, [], ◌∷◌, length}
+use Rattle.std.specs.Prelude.{◌≡◌, ◌⊎◌, ℕ, ◌+◌, Bool, true, IsTrue, List, [], ◌∷◌, length}
 use Rattle.std.specs.List.{AllByRecursion}
 use Rattle.flow_disk.specs.Disk.{AllImages, Held, Marks}
 use Rattle.flow_disk.specs.declared.error.DiskError.{DiskError}
@@ -9,6 +9,7 @@ use Rattle.flow_gate.specs.declared.tail.ScanError.TheVariants as scan
 use Rattle.flow_manifest.specs.declared.error.OpenError.{OpenError}
 use Rattle.flow_manifest.specs.declared.error.OpenError.TheVariants as slot
 use Rattle.flow_manifest.specs.declared.manifest.Entry.{Entry}
+use Rattle.flow_manifest.specs.declared.manifest.Manifest.{Manifest}
 use Rattle.flow_recover.specs.Chain.{HandsOn, IsSegment}
 use Rattle.flow_segment.specs.Carry.{Carry}
 use Rattle.flow_rolled.specs.declared.error.RowError.{RowError}
@@ -73,6 +74,16 @@ pub record IsRead (files : ℕ → Held) (reads : ℕ → List ℕ) (slots : Slo
 pub record OnlySettles (old new : ℕ → Marks) : Type 0 where
   pub size : (n : ℕ) → (new n).size ≡ (old n).size
   pub settled : (n : ℕ) → (old n).settled ≡ true → (new n).settled ≡ true
+
+-- what every disk keeps of a file that was cut to so many octets and is frozen
+abbrev pub shut_at : ℕ → Marks
+shut_at size = record { size = size; settled = true; frozen = true; listed = true }
+
+-- Files end where they are to: each but the active one after as many octets as its entry says, and the active one after
+-- its trailer, two octets after the end of its messages.
+pub record AreCutTo (size : ℕ → ℕ) (m : Manifest) (end : ℕ) : Type 0 where
+  pub parts : AllByRecursion (λ e. size e.file ≡ e.length) (front_of m)
+  pub active : size (active_of m).file ≡ end + 2
 
 -- Frozen files hold what these parts say.
 abbrev pub FrozenStand : {S : Type 0} → (S → List ℕ) → List Entry → List Part → List S → Type 0

@@ -7,8 +7,8 @@
 //! for, and rolled files are sums. It keeps at every moment what each image stood for, and refuses for other reasons
 //! than the device and memory only where what is read stands for no state. What it finds is the state for which what is
 //! read stands, with what its active segment hands on.
-//! It leaves the files in front of the active one frozen, removes what the manifest doesn't name, and only settles the
-//! slots.
+//! It cuts each file that the manifest names exactly where it is to end, leaves those before the active one frozen,
+//! removes what the manifest doesn't name, and only settles the slots.
 #![tactic(auto)]
 
 mod active;

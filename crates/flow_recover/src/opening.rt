@@ -1,7 +1,7 @@
 //! Opening.
 
 ghost use Rattle.std.specs.Prelude.{◌≡◌, ◌≢◌, ◌⊎◌, ℕ, ◌-◌, ◌≤◌, ◌+◌, ◌<◌, ◌^◌, length, get_or, true, false, IsTrue};
-ghost use Rattle.std.specs.Prelude.{List};
+ghost use Rattle.std.specs.Prelude.{List, map};
 ghost use Rattle.std.specs.Prelude.{OnOk, IfOk, IfErr, IsErrOf};
 ghost use Rattle.std.specs.List.{AllByRecursion};
 ghost use Rattle.flow_disk.specs.Disk.{AllImages, IsDiskImage, IsWithin};
@@ -10,12 +10,12 @@ ghost use Rattle.flow_disk.specs.Cause.{HasCause};
 ghost use Rattle.flow_manifest.specs.declared.slots.Slot.{Slot};
 ghost use Rattle.flow_manifest.specs.Manifest.{IsValidManifest};
 ghost use Rattle.flow_manifest.specs.Slots.{file_of, reads_of};
-ghost use Rattle.flow_manifest.specs.Following.{active_of, no_entry};
+ghost use Rattle.flow_manifest.specs.Following.{active_of, front_of, no_entry};
 ghost use Rattle.flow_recover.specs.State.{Part, State, at_rest, part_of};
 ghost use Rattle.flow_recover.specs.Standing.{is_file_of, StandsForEither};
 ghost use Rattle.flow_recover.specs.Chain.{IsSegment};
 ghost use Rattle.flow_recover.specs.Kept.{IsCounted};
-ghost use Rattle.flow_recover.specs.Opening.{IsDeviceOrMemory, IsRead, IsRecovered, StandsForNone};
+ghost use Rattle.flow_recover.specs.Opening.{AreCutTo, IsDeviceOrMemory, IsRead, IsRecovered, StandsForNone};
 
 use crate::active::ActiveSegment;
 use crate::error::RecoverError;
@@ -68,6 +68,16 @@ pub fn recover<D: Disk>(alloc: Global, disk: &mut D) -> Result<Recovered<D>, Rec
         → is_file_of r.slots.current n ≡ false → (D.marks disk.new n).listed ≡ false) }
     ensures told { IsTrue (D.honest disk.old)
         → IfErr result (λ e. IsDeviceOrMemory e ⊎ StandsForNone (reads_of (D.held disk.old))) }
+
+    // The files that the manifest names end exactly where they are to: on every disk, and on an honest one in all that
+    // a stop may leave. So do the frozen files that are handed on, and on an honest disk they have as many octets.
+    ensures cut { IfOk result (λ r. AreCutTo (λ n. (D.marks disk.new n).size) r.slots.current r.end) }
+    ensures cut_images { IsTrue (D.honest disk.old) → IfOk result (λ r. AllImages (D.held disk.new)
+        (λ image. AreCutTo (λ n. length (image n)) r.slots.current r.end)) }
+    ensures sizes { IfOk result
+        (λ r. map D.Sealed.size r.parts.items ≡ map (λ e. e.length) (front_of r.slots.current)) }
+    ensures lengths { IsTrue (D.honest disk.old) → IfOk result
+        (λ r. map (λ f. length (D.Sealed.octets f)) r.parts.items ≡ map (λ e. e.length) (front_of r.slots.current)) }
 
     // The slots are only settled: whatever is answered, a stop may leave no more of them than before, and unless the
     // device failed they read as before.

@@ -1,7 +1,7 @@
 //! The end of an opening: files are cut to what counts of them, frozen, and removed where the manifest doesn't name
 //! them.
 
-ghost use Rattle.std.specs.Prelude.{◌≡◌, ◌≢◌, ◌⊎◌, ℕ, ◌+◌, ◌^◌, ◌<◌, ◌≤◌, ◌==◌, true, false, IsTrue, List, length};
+ghost use Rattle.std.specs.Prelude.{◌≡◌, ◌≢◌, ◌⊎◌, ℕ, ◌+◌, ◌^◌, ◌<◌, ◌≤◌, ◌==◌, true, false, IsTrue, List, length, map};
 ghost use Rattle.std.specs.Prelude.{OnOk, IfOk, IfErr};
 ghost use Rattle.std.specs.List.{list_any, AllByRecursion};
 ghost use Rattle.flow_disk.specs.Disk.{AllImages, ComesOf, InFile};
@@ -16,7 +16,7 @@ ghost use Rattle.flow_recover.specs.State.{State, end_of};
 ghost use Rattle.flow_recover.specs.Standing.{IsKnown, is_file_of, SameNamed};
 ghost use Rattle.flow_manifest.specs.Following.{active_of, front_of};
 ghost use Rattle.flow_recover.specs.Kept.{AreFilesOf, IsFileOf, IsReadyFor};
-ghost use Rattle.flow_recover.specs.Opening.{IsDeviceOrMemory, FrozenStand};
+ghost use Rattle.flow_recover.specs.Opening.{IsDeviceOrMemory, FrozenStand, shut_at};
 
 use crate::error::RecoverError;
 use flow_disk::{Disk, DiskError};
@@ -63,8 +63,8 @@ fn freeze_one<D: Disk>(disk: &mut D, entry: Entry) -> Result<D::Sealed, RecoverE
         (D.held disk.new entry.file).reads) }
     ensures file { IfOk result (λ part. IsFileOf D.Sealed.number D.Sealed.size D.Sealed.honest (D.honest disk.new) entry
         part) }
-    ensures frozen { OnOk result ((D.marks disk.new entry.file).frozen ≡ true) }
-    ensures listed { OnOk result ((D.marks disk.new entry.file).listed ≡ true) }
+    ensures size { IfOk result (λ part. D.Sealed.size part ≡ entry.length) }
+    ensures shut { OnOk result (D.marks disk.new entry.file ≡ shut_at entry.length) }
     ensures refused { IsTrue (D.honest disk.old) → entry.length ≤ (D.marks disk.old entry.file).size
         → IfErr result IsDeviceOrMemory }
     ensures cause { HasCause RecoverError.Fault (D.faults disk.old) (D.faults disk.new) result }
@@ -94,7 +94,8 @@ pub(crate) fn freeze_files<D: Disk>(
     ensures all { IfOk result (λ parts. length parts.items ≡ length entries.now) }
     ensures files { IfOk result (λ parts. AreFilesOf D.Sealed.number D.Sealed.size D.Sealed.honest (D.honest disk.new)
         entries.now parts.items) }
-    ensures frozen { OnOk result (AllByRecursion (λ e. (D.marks disk.new e.file).frozen ≡ true) entries.now) }
+    ensures sizes { IfOk result (λ parts. map D.Sealed.size parts.items ≡ map (λ e. e.length) entries.now) }
+    ensures shut { OnOk result (AllByRecursion (λ e. D.marks disk.new e.file ≡ shut_at e.length) entries.now) }
     ensures still { OnOk result
         ((n : ℕ) → (D.marks disk.old n).listed ≡ true → (D.marks disk.new n).listed ≡ true) }
     ensures parts { IsTrue (D.honest disk.old) → (slots : Slots) (s : State) → front_of s.manifest ≡ entries.now
@@ -201,8 +202,11 @@ pub(crate) fn tidy<D: Disk>(
     ensures all { IfOk result (λ parts. length parts.items ≡ length (front_of manifest.now)) }
     ensures files { IfOk result (λ parts. AreFilesOf D.Sealed.number D.Sealed.size D.Sealed.honest (D.honest disk.new)
         (front_of manifest.now) parts.items) }
-    ensures frozen { OnOk result
-        (AllByRecursion (λ e. (D.marks disk.new e.file).frozen ≡ true) (front_of manifest.now)) }
+    ensures sizes { IfOk result
+        (λ parts. map D.Sealed.size parts.items ≡ map (λ e. e.length) (front_of manifest.now)) }
+    ensures shut { OnOk result
+        (AllByRecursion (λ e. D.marks disk.new e.file ≡ shut_at e.length) (front_of manifest.now)) }
+    ensures size { OnOk result ((D.marks disk.new last.file).size ≡ end + 2) }
     ensures still { OnOk result ((n : ℕ) → is_file_of manifest.now n ≡ true → (D.marks disk.old n).listed ≡ true
         → (D.marks disk.new n).listed ≡ true) }
     ensures parts { IsTrue (D.honest disk.old) → (slots : Slots) (s : State) → s.manifest ≡ manifest.now

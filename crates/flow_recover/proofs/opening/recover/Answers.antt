@@ -1,17 +1,21 @@
-use Rattle.std.proofs.Common.{◌≡◌, ◌⊎◌, inl, ℕ, IsTrue, List, refl, sym, ◌∙◌, ap, subst}
+use Rattle.std.proofs.Common.{◌≡◌, ◌⊎◌, inl, ℕ, Bool, true, IsTrue, List, [], ◌∷◌, length, map, refl, sym, ◌∙◌, ap}
 use Rattle.std.specs.Prelude.{IsErrOf}
-use Rattle.std.proofs.Common.{arith, IsErrAnd, Result, Ok, Err}
+use Rattle.std.proofs.Common.{subst, arith, IsErrAnd, Result, Ok, Err}
 use Rattle.flow_disk.specs.Cause.{HasCause, HasRisen}
-use Rattle.flow_disk.specs.Disk.{AllImages, Held, IsDiskImage, IsImage, IsWithin}
+use Rattle.flow_disk.specs.Disk.{AllImages, Held, IsDiskImage, IsImage, IsWithin, Marks}
 use Rattle.flow_disk.proofs.Images.{image_here, with_image, with_image_is}
 use Rattle.flow_disk.proofs.Moments.{one_run, by, now_all}
 use Rattle.flow_disk.proofs.Results.{passed_on}
+use Rattle.flow_manifest.proofs.EntryLists.{all_by}
+use Rattle.flow_manifest.specs.declared.manifest.Entry.{Entry}
+use Rattle.flow_manifest.specs.Following.{front_of}
 use Rattle.flow_manifest.specs.Slots.{file_of, reads_of}
 use Rattle.flow_recover.specs.State.{Part, at_rest, part_of}
 use Rattle.flow_recover.specs.Standing.{IsKnown, StandsForEither}
 use Rattle.flow_recover.specs.declared.error.RecoverError.{RecoverError}
 use Rattle.flow_recover.specs.declared.error.RecoverError.TheVariants.{Fault}
-use Rattle.flow_recover.specs.Opening.{IsDeviceOrMemory, IsRead, StandsForNone}
+use Rattle.flow_recover.specs.Kept.{AreFilesOf}
+use Rattle.flow_recover.specs.Opening.{IsDeviceOrMemory, IsRead, StandsForNone, shut_at}
 use Rattle.flow_recover.proofs.Recovering.{chosen, either_known, known_either}
 use Rattle.flow_recover.proofs.opening.recover.Goals as goal
 
@@ -177,7 +181,9 @@ returns-clause-recovered g c =
       ready = c.in_ok-parts.ensures.ready;
       all = c.in_ok-parts.ensures.all;
       files = c.in_ok-parts.ensures.files;
-      are_frozen = c.in_ok-parts.ensures.frozen;
+      are_frozen = all_by (λ (e : Entry). D.marks d2 e.file ≡ shut_at e.length)
+          (λ (e : Entry). (D.marks d2 e.file).frozen ≡ true) (λ e shut. ap (λ (m : Marks). m.frozen) shut)
+          (front_of slots.current) c.in_ok-parts.ensures.shut;
       segment = c.in_ok-slots.ensures.segment;
       hands_on = λ h2. (is (back h2)).hands_on;
       read = λ h2. let there = is (back h2) in
@@ -191,3 +197,53 @@ returns-clause-recovered g c =
 
 pub returns-clause-listed : goal.returns-clause-listed
 returns-clause-listed g c n named = c.in_ok-parts.ensures.still n named (c.in_ok-slots.ensures.listed n named)
+
+pub returns-clause-cut : goal.returns-clause-cut
+returns-clause-cut g c =
+    let D = g.D.Disk in
+    let d2 = c.tidy.new.disk in
+    record {
+      parts = all_by (λ (e : Entry). D.marks d2 e.file ≡ shut_at e.length)
+          (λ (e : Entry). (D.marks d2 e.file).size ≡ e.length) (λ e shut. ap (λ (m : Marks). m.size) shut)
+          (front_of c.in_ok-slots.field-0.slots.current) c.in_ok-parts.ensures.shut;
+      active = ap (λ (e : Entry). (D.marks d2 e.file).size) (sym c.in_ok-slots.ensures.last)
+          ∙ c.in_ok-parts.ensures.size;
+    }
+
+pub returns-clause-cut_images : goal.returns-clause-cut_images
+returns-clause-cut_images g c h image is =
+    let D = g.D.Disk in
+    let d2 = c.tidy.new.disk in
+    let h2 = subst IsTrue (sym (c.tidy.ensures.honest ∙ c.find.ensures.honest)) h in
+    let long : (n : ℕ) → (D.marks d2 n).settled ≡ true → length (image n) ≡ (D.marks d2 n).size = λ n settled.
+    ap length (g.met.D.Disk.settled_alone d2 n (image n) h2 settled (is n)) ∙ sym (g.met.D.Disk.has_size d2 n h2) in
+    record {
+      parts = all_by (λ (e : Entry). D.marks d2 e.file ≡ shut_at e.length)
+          (λ (e : Entry). length (image e.file) ≡ e.length)
+          (λ e shut. long e.file (ap (λ (m : Marks). m.settled) shut) ∙ ap (λ (m : Marks). m.size) shut)
+          (front_of c.in_ok-slots.field-0.slots.current) c.in_ok-parts.ensures.shut;
+      active = ap (λ (e : Entry). length (image e.file)) (sym c.in_ok-slots.ensures.last)
+          ∙ long c.in_ok-slots.field-0.last.file c.in_ok-parts.ensures.ready.settled
+          ∙ c.in_ok-parts.ensures.size;
+    }
+
+-- honest files have as many octets as their sizes say
+lengths_are : {S : Type 0} (octets : S → List ℕ) (number size : S → ℕ) (is_honest : S → Bool) (honest : Bool)
+    → ((file : S) → IsTrue (is_honest file) → length (octets file) ≡ size file) → IsTrue honest
+    → (entries : List Entry) (files : List S) → AreFilesOf number size is_honest honest entries files
+    → map (λ file. length (octets file)) files ≡ map size files
+lengths_are octets number size is_honest honest whole h [] [] are = refl
+lengths_are octets number size is_honest honest whole h [] (x ∷ files) are = absurd are
+lengths_are octets number size is_honest honest whole h (e ∷ entries) [] are = absurd are
+lengths_are octets number size is_honest honest whole h (e ∷ entries) (x ∷ files) are =
+    let one : length (octets x) ≡ size x = whole x (subst IsTrue (sym are.0.honest_is) h) in
+    ap (λ (n : ℕ). n ∷ map (λ file. length (octets file)) files) one
+    ∙ ap (λ (l : List ℕ). size x ∷ l) (lengths_are octets number size is_honest honest whole h entries files are.1)
+
+pub returns-clause-lengths : goal.returns-clause-lengths
+returns-clause-lengths g c h =
+    let S = g.D.Sealed.SealedFile in
+    let h2 = subst IsTrue (sym (c.tidy.ensures.honest ∙ c.find.ensures.honest)) h in
+    lengths_are S.octets S.number S.size S.honest (g.D.Disk.honest c.tidy.new.disk) g.met.D.Sealed.SealedFile.whole h2
+    (front_of c.in_ok-slots.field-0.slots.current) c.in_ok-parts.parts.items c.in_ok-parts.ensures.files
+    ∙ c.in_ok-parts.ensures.sizes

@@ -1,9 +1,9 @@
 use Rattle.std.proofs.Common.{◌≡◌, ◌≢◌, ℕ, ◌+◌, ◌<◌, ◌≤◌, true, false, IsTrue, List, [], ◌∷◌, ◌++◌, length, get_or}
-use Rattle.std.proofs.Common.{Bool, take, refl, sym, ◌∙◌, ap, subst, arith, rules}
+use Rattle.std.proofs.Common.{Bool, map, take, refl, sym, ◌∙◌, ap, subst, arith, rules}
 use Rattle.std.proofs.Common.{⊎_elim}
 use Rattle.std.specs.List.{AllByRecursion}
 use Rattle.std.proofs.lemmas.Bool.{cases_eq}
-use Rattle.std.proofs.lemmas.List.{take_more, take_all}
+use Rattle.std.proofs.lemmas.List.{map-append, take_more, take_all}
 use Rattle.flow_disk.specs.Disk.{Marks, AllImages, InFile}
 use Rattle.flow_disk.specs.Moments.{LeavesOnly}
 use Rattle.flow_disk.proofs.Moments.{started, advance, now_all}
@@ -16,12 +16,12 @@ use Rattle.flow_recover.specs.State.{Part, State}
 use Rattle.flow_recover.specs.Standing.{PartsStand, StandsAs, IsKnown}
 use Rattle.flow_manifest.specs.Following.{no_entry, front_of}
 use Rattle.flow_recover.specs.Kept.{AreFilesOf}
-use Rattle.flow_recover.specs.Opening.{IsDeviceOrMemory, FrozenStand}
+use Rattle.flow_recover.specs.Opening.{IsDeviceOrMemory, FrozenStand, shut_at}
 use Rattle.flow_manifest.proofs.Bodies.{all_more}
 use Rattle.flow_manifest.proofs.EntryLists.{all_both, all_take}
 use Rattle.flow_recover.proofs.Stand.{all_first, all_last}
-use Rattle.flow_recover.proofs.Recovering.{cutting_one, all_at, own_before, part_is, parts_count, frozen_push, files_push}
-use Rattle.flow_recover.proofs.Recovering.{no_part}
+use Rattle.flow_recover.proofs.Recovering.{cutting_one, all_at, own_before, part_is, parts_count, frozen_push}
+use Rattle.flow_recover.proofs.Recovering.{files_push, no_part}
 use Rattle.flow_recover.proofs.tidying.freeze_files.Goals as goal
 
 pub entries-init : goal.entries-init
@@ -37,7 +37,8 @@ entries-init g c =
           (λ l. FrozenStand g.D.Sealed.SealedFile.octets [] [] l) (sym none) tt;
       files = let none : c.in-Ok.parts.items ≡ [] = search rules in subst (λ l. AreFilesOf g.D.Sealed.SealedFile.number
           g.D.Sealed.SealedFile.size g.D.Sealed.SealedFile.honest (D.honest d0) [] l) (sym none) tt;
-      marked = tt;
+      sizes = let none : c.in-Ok.parts.items ≡ [] = search rules in ap (map g.D.Sealed.SealedFile.size) none;
+      shut = tt;
       still = λ n was. was;
       other_held = λ h n apart. refl;
       room = search rules;
@@ -199,14 +200,23 @@ entries-preserved g c =
           (subst (λ (b : Bool). AreFilesOf g.D.Sealed.SealedFile.number g.D.Sealed.SealedFile.size
           g.D.Sealed.SealedFile.honest b (take i es) c.entries.parts.items) (sym c.freeze_one.ensures.honest)
           was.files)));
-      marked = subst (AllByRecursion (λ (x : Entry). (D.marks d2 x.file).frozen ≡ true)) (sym taken)
-          (all_more (λ (x : Entry). (D.marks d2 x.file).frozen ≡ true) (take i es) e
-          (all_both (λ (x : Entry). x.file ≢ e.file) (λ (x : Entry). (D.marks d1 x.file).frozen ≡ true)
-          (λ (x : Entry). (D.marks d2 x.file).frozen ≡ true)
-          (λ x apart is. ap (λ (m : Marks). m.frozen) (c.freeze_one.ensures.other_marks x.file apart) ∙ is)
-          (take i es) (own_before es i c.requires.own lt) was.marked) c.in_ok-part.ensures.frozen);
+      sizes =
+          let size = g.D.Sealed.SealedFile.size in
+          let count : Entry → ℕ = λ x. x.length in
+          ap (map size) c.push_reserved.ensures.items
+          ∙ map-append size c.entries.parts.items (c.in_ok-part.part ∷ [])
+          ∙ ap (λ (l : List ℕ). l ++ size c.in_ok-part.part ∷ []) was.sizes
+          ∙ ap (λ (n : ℕ). map count (take i es) ++ n ∷ []) c.in_ok-part.ensures.size
+          ∙ sym (map-append count (take i es) (e ∷ []))
+          ∙ ap (map count) (sym taken);
+      shut = subst (AllByRecursion (λ (x : Entry). D.marks d2 x.file ≡ shut_at x.length)) (sym taken)
+          (all_more (λ (x : Entry). D.marks d2 x.file ≡ shut_at x.length) (take i es) e
+          (all_both (λ (x : Entry). x.file ≢ e.file) (λ (x : Entry). D.marks d1 x.file ≡ shut_at x.length)
+          (λ (x : Entry). D.marks d2 x.file ≡ shut_at x.length)
+          (λ x apart is. c.freeze_one.ensures.other_marks x.file apart ∙ is)
+          (take i es) (own_before es i c.requires.own lt) was.shut) c.in_ok-part.ensures.shut);
       still = λ n old. ⊎_elim (λ (same : n ≡ e.file). ap (λ (k : ℕ). (D.marks d2 k).listed) same
-          ∙ c.in_ok-part.ensures.listed) (λ differs. ap (λ (m : Marks). m.listed)
+          ∙ ap (λ (m : Marks). m.listed) c.in_ok-part.ensures.shut) (λ differs. ap (λ (m : Marks). m.listed)
           (c.freeze_one.ensures.other_marks n differs) ∙ was.still n old) (cases_eq n e.file);
       room = omega (arith, c.push_reserved.ensures.capacity, was.room);
       count = c.push_reserved.ensures.len ∙ ap (λ (n : ℕ). n + 1) was.count;
@@ -248,14 +258,19 @@ returns-clause-files g c =
     g.D.Sealed.SealedFile.honest (D.honest c.entries.disk) l c.entries.parts.items) (take_all i es (omega arith))
     c.entries.invariant.files
 
-pub returns-clause-frozen : goal.returns-clause-frozen
-returns-clause-frozen g c =
+pub returns-clause-sizes : goal.returns-clause-sizes
+returns-clause-sizes g c =
+    c.entries.invariant.sizes
+    ∙ ap (map (λ (e : Entry). e.length)) (take_all c.entries.entry-index c.args.entries.now (omega arith))
+
+pub returns-clause-shut : goal.returns-clause-shut
+returns-clause-shut g c =
     let D = g.D.Disk in
     let d1 = c.entries.disk in
     let es = c.args.entries.now in
     let i = c.entries.entry-index in
-    subst (AllByRecursion (λ (e : Entry). (D.marks d1 e.file).frozen ≡ true)) (take_all i es (omega arith))
-    c.entries.invariant.marked
+    subst (AllByRecursion (λ (e : Entry). D.marks d1 e.file ≡ shut_at e.length)) (take_all i es (omega arith))
+    c.entries.invariant.shut
 
 pub returns-in_err-part-clause-other_files : goal.returns-in_err-part-clause-other_files
 returns-in_err-part-clause-other_files g c h n apart =

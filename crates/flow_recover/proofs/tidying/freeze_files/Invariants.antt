@@ -1,4 +1,4 @@
-use Rattle.std.proofs.Common.{◌≡◌, ◌≢◌, ℕ, ◌≤◌, true, IsTrue, length, take, vec_len}
+use Rattle.std.proofs.Common.{◌≡◌, ◌≢◌, ℕ, ◌≤◌, true, IsTrue, length, map, take, vec_len}
 use Rattle.std.specs.Prelude.{vec_capacity}
 use Rattle.std.specs.List.{AllByRecursion}
 use Rattle.flow_disk.specs.Disk.{AllImages}
@@ -9,7 +9,7 @@ use Rattle.flow_recover.specs.State.{State}
 use Rattle.flow_recover.specs.Standing.{IsKnown}
 use Rattle.flow_manifest.specs.Following.{front_of}
 use Rattle.flow_recover.specs.Kept.{AreFilesOf}
-use Rattle.flow_recover.specs.Opening.{FrozenStand}
+use Rattle.flow_recover.specs.Opening.{FrozenStand, shut_at}
 use Rattle.flow_recover.proofs.tidying.freeze_files.Given as goal
 
 abbrev pub invariant-entries : goal.invariant-entries
@@ -27,7 +27,8 @@ invariant-entries g l = let D = g.D.Disk in record {
       (take l.entry-index l.entries) → D.held l.disk n ≡ D.held l.fn.disk n;
   files : AreFilesOf g.D.Sealed.SealedFile.number g.D.Sealed.SealedFile.size g.D.Sealed.SealedFile.honest
       (D.honest l.disk) (take l.entry-index l.entries) l.parts.items;
-  marked : AllByRecursion (λ (e : Entry). (D.marks l.disk e.file).frozen ≡ true) (take l.entry-index l.entries);
+  sizes : map g.D.Sealed.SealedFile.size l.parts.items ≡ map (λ (e : Entry). e.length) (take l.entry-index l.entries);
+  shut : AllByRecursion (λ (e : Entry). D.marks l.disk e.file ≡ shut_at e.length) (take l.entry-index l.entries);
   still : (n : ℕ) → (D.marks l.fn.disk n).listed ≡ true → (D.marks l.disk n).listed ≡ true;
   room : length l.entries ≤ vec_capacity l.parts;
   count : vec_len l.parts ≡ l.entry-index;

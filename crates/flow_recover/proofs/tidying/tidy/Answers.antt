@@ -1,5 +1,5 @@
 use Rattle.std.proofs.Common.{◌≡◌, ◌≢◌, ⊎_elim, ℕ, ◌+◌, ◌-◌, ◌≤◌, true, false, IsTrue, List, length, take, sym, ◌∙◌, ap}
-use Rattle.std.proofs.Common.{Bool, subst, arith}
+use Rattle.std.proofs.Common.{Bool, map, subst, arith}
 use Rattle.std.specs.List.{AllByRecursion}
 use Rattle.std.proofs.lemmas.Bool.{cases_eq}
 use Rattle.flow_disk.specs.Disk.{Marks, InFile}
@@ -16,7 +16,7 @@ use Rattle.flow_recover.specs.State.{end_of}
 use Rattle.flow_recover.specs.Standing.{IsKnown, is_file_of, SameNamed}
 use Rattle.flow_manifest.specs.Following.{active_of, front_of}
 use Rattle.flow_recover.specs.Kept.{AreFilesOf}
-use Rattle.flow_recover.specs.Opening.{IsDeviceOrMemory, FrozenStand}
+use Rattle.flow_recover.specs.Opening.{IsDeviceOrMemory, FrozenStand, shut_at}
 use Rattle.flow_manifest.proofs.EntryLists.{all_by, all_both, all_take}
 use Rattle.flow_recover.proofs.Stand.{all_first, all_last, slot_below}
 use Rattle.flow_manifest.proofs.Followers.{split, are_entries, IsOther}
@@ -361,8 +361,8 @@ returns-clause-files g c =
     c.in_ok-parts.parts.items) (sym (c.remove_unnamed.ensures.honest ∙ c.cut_file.ensures.honest))
     c.in_ok-parts.ensures.files)
 
-pub returns-clause-frozen : goal.returns-clause-frozen
-returns-clause-frozen g c =
+pub returns-clause-shut : goal.returns-clause-shut
+returns-clause-shut g c =
     let D = g.D.Disk in
     let d1 = c.freeze_files.new.disk in
     let d3 = c.remove_unnamed.new.disk in
@@ -378,10 +378,25 @@ returns-clause-frozen g c =
     (λ (e : Entry). is_file_of m e.file ≡ true) (λ (e : Entry). D.marks d3 e.file ≡ D.marks d1 e.file)
     (λ e one is. c.remove_unnamed.ensures.marks e.file is
     ∙ c.cut_file.ensures.other_marks e.file (λ there. one.apart (there ∙ file))) (front_of m) are.front named in
-    all_both (λ (e : Entry). D.marks d3 e.file ≡ D.marks d1 e.file) (λ (e : Entry). (D.marks d1 e.file).frozen ≡ true)
-    (λ (e : Entry). (D.marks d3 e.file).frozen ≡ true) (λ e are_same is. ap (λ (k : Marks). k.frozen) are_same ∙ is)
-    (front_of m) same (subst (AllByRecursion (λ (e : Entry). (D.marks d1 e.file).frozen ≡ true)) slice
-    c.in_ok-parts.ensures.frozen)
+    all_both (λ (e : Entry). D.marks d3 e.file ≡ D.marks d1 e.file)
+    (λ (e : Entry). D.marks d1 e.file ≡ shut_at e.length)
+    (λ (e : Entry). D.marks d3 e.file ≡ shut_at e.length) (λ e are_same is. are_same ∙ is)
+    (front_of m) same (subst (AllByRecursion (λ (e : Entry). D.marks d1 e.file ≡ shut_at e.length)) slice
+    c.in_ok-parts.ensures.shut)
+
+pub returns-clause-sizes : goal.returns-clause-sizes
+returns-clause-sizes g c =
+    let slice : take (length c.as_slice-entries.result.now - 1) c.as_slice-entries.result.now ≡ front_of
+    c.args.manifest.now = ap (λ (l : List Entry). take (length l - 1) l) c.as_slice-entries.ensures in
+    c.in_ok-parts.ensures.sizes ∙ ap (map (λ (e : Entry). e.length)) slice
+
+pub returns-clause-size : goal.returns-clause-size
+returns-clause-size g c =
+    let m = c.args.manifest.now in
+    let file : c.args.last.file ≡ (active_of m).file = ap (λ (e : Entry). e.file) c.requires.last in
+    let same = c.remove_unnamed.ensures.marks c.args.last.file (ap (is_file_of m) file
+    ∙ active_named m c.requires.valid) in
+    ap (λ (k : Marks). k.size) same ∙ c.in_ok-cut_file.ensures.size
 
 pub returns-in_err-parts-clause-slots : goal.returns-in_err-parts-clause-slots
 returns-in_err-parts-clause-slots g c h slot =
