@@ -1,1 +1,10 @@
 mod Telling
+mod Passing
+mod JobStates
+mod Chains
+mod Replacements
+mod WholeJobs
+mod Turning
+mod TurnRuns
+mod TurnLaws
+mod Dues
