@@ -1,6 +1,7 @@
 -- Runs of events.
 use Rattle.std.proofs.Common.{◌≡◌, ◌⊎◌, inl, inr, ⊎_elim, ℕ, zero, suc, Bool, true, false, IsTrue, List, []}
-use Rattle.std.proofs.Common.{◌∷◌, ◌++◌, take, drop, Result, Ok, Err, refl, sym, ◌∙◌, ap, subst, arith}
+use Rattle.std.proofs.Common.{◌∷◌, ◌++◌, ◌≤◌, take, drop, Result, Ok, Err, refl, sym, ◌∙◌, ap, subst, arith}
+use Rattle.flow_disk.specs.Cause.{HasCause, HasRisen}
 use Rattle.flow_disk.specs.Moments.{LeavesOnly}
 use Rattle.flow_disk.proofs.Moments.{by, one_run, started}
 use Rattle.flow_recover.specs.State.{State, reopened}
@@ -14,7 +15,7 @@ use Rattle.flow_archive.specs.declared.refusal.ArchiveError.TheVariants.{Closed}
 use Rattle.flow_archive.specs.declared.refusal.ArchiveError.TheVariants.{Damaged, SourceFault, RollBusy, NoRoll}
 use Rattle.flow_archive.specs.declared.refusal.ArchiveError.TheVariants.{RollCount, RollNotDone, Pinned, NothingToRetire}
 use Rattle.flow_archive.specs.Answers.{Answers, Takes}
-use Rattle.flow_archive.specs.Runs.{IsAfter, IsRun, IsSince, Leads, StandsForSome}
+use Rattle.flow_archive.specs.Runs.{AreCaused, HasRefusal, IsAfter, IsRun, IsSince, Leads, StandsForSome}
 use Rattle.flow_archive.specs.Seen.{Seen, IsStep, StandsBeforeOrAfter}
 
 module _ {D : Type 0} (honest : D → Bool) (moment : D → ℕ) (left_since : D → ℕ → (ℕ → List ℕ) → Type 0) where
@@ -262,3 +263,51 @@ module _ {D : Type 0} (honest : D → Bool) (moment : D → ℕ) (left_since : D
         any_moment = λ now. all_moments parts.0 (drop i events) (drop i answers) new parts.2 (there now).2 now
             (there now).0;
       }
+
+-- ---- failures
+
+risen_still : (before mid now : ℕ) → HasRisen before mid → mid ≤ now → HasRisen before now
+risen_still before mid now (inl less) le = inl (omega (arith, less, le))
+risen_still before mid now (inr most) le = inr (omega (arith, most, le))
+
+risen_since : (before mid now : ℕ) → before ≤ mid → HasRisen mid now → HasRisen before now
+risen_since before mid now le (inl less) = inl (omega (arith, less, le))
+risen_since before mid now le (inr most) = inr most
+
+module _ {T : Type 0} (fault : ArchiveError) where
+  in_front : (answers : List (Result T ArchiveError)) (a : Result T ArchiveError) → HasRefusal fault answers
+      → HasRefusal fault (answers ++ a ∷ [])
+  in_front [] a has = absurd has
+  in_front (b ∷ answers) a (inl is) = inl is
+  in_front (b ∷ answers) a (inr has) = inr (in_front answers a has)
+
+  at_the_end : (answers : List (Result T ArchiveError)) (a : Result T ArchiveError) → a ≡ Err fault
+      → HasRefusal fault (answers ++ a ∷ [])
+  at_the_end [] a is = inl is
+  at_the_end (b ∷ answers) a is = inr (at_the_end answers a is)
+
+  either : (answers : List (Result T ArchiveError)) (a : Result T ArchiveError)
+      → HasRefusal fault (answers ++ a ∷ []) → HasRefusal fault answers ⊎ (a ≡ Err fault)
+  either [] a (inl is) = inr is
+  either [] a (inr has) = absurd has
+  either (b ∷ answers) a (inl is) = inl (inl is)
+  either (b ∷ answers) a (inr has) =
+      ⊎_elim (λ front. inl (inr front)) (λ last. inr last) (either answers a has)
+
+  unless : (mid now : ℕ) (a : Result T ArchiveError) → HasCause fault mid now a → (a ≡ Err fault → ⊥) → now ≡ mid
+  unless mid now (Ok done) cause never = cause.done
+  unless mid now (Err e) cause never = cause.other (λ same. never (ap (λ (x : ArchiveError). Err x) same))
+
+  -- one answer more
+  pub caused_more : (before mid now : ℕ) (answers : List (Result T ArchiveError)) (a : Result T ArchiveError)
+      → AreCaused fault before mid answers → HasCause fault mid now a → AreCaused fault before now (answers ++ a ∷ [])
+  caused_more before mid now answers a was cause = record {
+    later = omega (arith, was.later, cause.later);
+    none = λ never. unless mid now a cause (λ is. never (at_the_end answers a is))
+        ∙ was.none (λ has. never (in_front answers a has));
+    risen = λ has. ⊎_elim (λ front. risen_still before mid now (was.risen front) cause.later)
+        (λ last. risen_since before mid now was.later (cause.risen last)) (either answers a has);
+  }
+
+pub none_caused : {T : Type 0} (error : ArchiveError) (count : ℕ) → AreCaused {T = T} error count count []
+none_caused error count = record { later = omega arith; none = λ never. refl; risen = λ has. absurd has }

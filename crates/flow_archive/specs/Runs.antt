@@ -1,5 +1,6 @@
 -- Lists of events.
-use Rattle.std.specs.Prelude.{◌≡◌, ℕ, ◌≤◌, Bool, true, false, List, [], ◌∷◌, length, take, drop, Result, Ok, Err}
+use Rattle.std.specs.Prelude.{◌≡◌, ◌⊎◌, ℕ, ◌≤◌, Bool, true, false, List, [], ◌∷◌, length, take, drop, Result, Ok, Err}
+use Rattle.flow_disk.specs.Cause.{HasRisen}
 use Rattle.flow_disk.specs.Moments.{LeavesOnly}
 use Rattle.flow_recover.specs.State.{State, reopened}
 use Rattle.flow_recover.specs.Standing.{StandsFor}
@@ -87,3 +88,17 @@ pub record IsSince {D : Type 0} (honest : D → Bool) (moment : D → ℕ) (left
   pub reached : mid.closed ≡ false → IsAfter old.state (take i events) (take i answers) mid.state
   pub any_moment : mid.closed ≡ false → LeavesOnly moment left_since mid.disk new.disk
       (StandsForSome mid.state (drop i events) (drop i answers))
+
+-- ---- failures
+
+-- One of these answers is this refusal.
+abbrev pub HasRefusal : {T : Type 0} → ArchiveError → List (Result T ArchiveError) → Type 0
+HasRefusal error [] = ⊥
+HasRefusal error (answer ∷ answers) = (answer ≡ Err error) ⊎ HasRefusal error answers
+
+-- Where one of these answers is this fault the count of failures has risen, and where none is it is as it was.
+pub record AreCaused {T : Type 0} (fault : ArchiveError) (before now : ℕ) (answers : List (Result T ArchiveError))
+    : Type 0 where
+  pub later : before ≤ now
+  pub none : (HasRefusal fault answers → ⊥) → now ≡ before
+  pub risen : HasRefusal fault answers → HasRisen before now

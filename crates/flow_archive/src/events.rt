@@ -1,12 +1,12 @@
 //! Lists of events.
 
-ghost use Rattle.std.specs.Prelude.{◌≡◌, ℕ, true, false, IsTrue, All, IfOk, IfErr};
+ghost use Rattle.std.specs.Prelude.{◌≡◌, ℕ, true, false, IsTrue, All, IfOk, IfErr, MatchResult};
 ghost use Rattle.flow_disk.specs.Cause.{HasCause};
 ghost use Rattle.flow_disk.specs.Moments.{LeavesOnly};
 ghost use Rattle.flow_gate.specs.Scan.{texts};
 ghost use Rattle.flow_gate.specs.Steps.{slices};
 ghost use Rattle.flow_archive.specs.Answers.{Answers, Takes};
-ghost use Rattle.flow_archive.specs.Runs.{IsEvent, IsRun, IsSince, StandsForSome};
+ghost use Rattle.flow_archive.specs.Runs.{AreCaused, IsEvent, IsRun, IsSince, StandsForSome};
 ghost use Rattle.flow_archive.specs.Seen.{IsStep};
 
 use crate::archive::Archive;
@@ -98,6 +98,12 @@ pub fn run<D: Disk>(
     ensures run { IfOk result (λ answers. IsRun D.honest D.moment D.left_since archive.old events.now answers.items
         archive.new) }
     ensures kept { IfErr result (λ _. archive.new ≡ archive.old) }
+
+    // Where no answer is 30 Fault no call of the device failed, and where one is one has; of reads likewise.
+    ensures cause { IfOk result (λ answers. AreCaused ArchiveError.Fault (D.faults archive.old.disk)
+        (D.faults archive.new.disk) answers.items) }
+    ensures unread { MatchResult result (λ answers. AreCaused ArchiveError.SourceFault faults.old faults.new
+        answers.items) (λ _. faults.new ≡ faults.old) }
 
     // A stop at any moment leaves the archive after some front of the events.
     ensures any_moment { IsTrue (D.honest archive.old.disk) → archive.old.closed ≡ false

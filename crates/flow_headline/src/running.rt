@@ -1,11 +1,11 @@
 //! Events on any disk, and what a stop leaves of them.
 
-ghost use Rattle.std.specs.Prelude.{◌≡◌, ◌≤◌, ℕ, false, All, IfErr, IfOk, IsTrue};
+ghost use Rattle.std.specs.Prelude.{◌≡◌, ◌≤◌, ℕ, false, All, IfErr, IfOk, IsTrue, MatchResult};
 ghost use Rattle.flow_disk.specs.Disk.{AllImages};
 ghost use Rattle.flow_disk.specs.Moments.{LeavesOnly};
 ghost use Rattle.flow_recover.specs.State.{State};
 ghost use Rattle.flow_recover.specs.Standing.{StandsFor};
-ghost use Rattle.flow_archive.specs.Runs.{IsEvent, IsRun, IsSince, StandsForSome};
+ghost use Rattle.flow_archive.specs.Runs.{AreCaused, IsEvent, IsRun, IsSince, StandsForSome};
 ghost use Rattle.flow_headline.specs.Front.{EndsAtFault, IsFront, StopsBetween};
 
 use flow_archive::{Answer, Archive, ArchiveError, Event, run};
@@ -25,6 +25,11 @@ pub fn run_on_disk<D: Disk>(
     ensures run { IfOk result (λ answers. IsRun D.honest D.moment D.left_since archive.old events.now answers.items
         archive.new) }
     ensures kept { IfErr result (λ _. archive.new ≡ archive.old) }
+    // Where no answer is 30 Fault no call of the device failed, and where one is one has; of reads of sources likewise.
+    ensures cause { IfOk result (λ answers. AreCaused ArchiveError.Fault (D.faults archive.old.disk)
+        (D.faults archive.new.disk) answers.items) }
+    ensures unread { MatchResult result (λ answers. AreCaused ArchiveError.SourceFault faults.old faults.new
+        answers.items) (λ _. faults.new ≡ faults.old) }
     ensures any_moment { IsTrue (D.honest archive.old.disk) → archive.old.closed ≡ false
         → IfOk result (λ answers. LeavesOnly D.moment D.left_since archive.old.disk archive.new.disk
         (StandsForSome archive.old.state events.now answers.items)) }

@@ -3,8 +3,9 @@ use Rattle.std.proofs.lemmas.List.{take_more, take_all}
 use Rattle.flow_archive.specs.declared.event.Answer.{Answer}
 use Rattle.flow_archive.specs.declared.event.Event.{Event}
 use Rattle.flow_archive.specs.declared.refusal.ArchiveError.{ArchiveError}
-use Rattle.flow_archive.specs.Runs.{IsRun}
-use Rattle.flow_archive.proofs.Running.{run_more, all_moments, since}
+use Rattle.flow_archive.specs.declared.refusal.ArchiveError.TheVariants as refusal
+use Rattle.flow_archive.specs.Runs.{AreCaused, IsRun}
+use Rattle.flow_archive.proofs.Running.{caused_more, none_caused, run_more, all_moments, since}
 use Rattle.flow_archive.proofs.events.run.Goals as goal
 
 pub events-preserved : goal.events-preserved
@@ -24,6 +25,14 @@ events-preserved g c =
           (subst (λ (l : List (Result Answer ArchiveError)). IsRun D.honest D.moment D.left_since c.args.archive.now
           (take i c.args.events.now ++ e ∷ []) l c.take_event-answer.new.archive)
           (sym c.push_reserved.ensures.items) more);
+      cause = subst (λ (l : List (Result Answer ArchiveError)). AreCaused refusal.Fault
+          (D.faults c.args.archive.now.disk) (D.faults c.take_event-answer.new.archive.disk) l)
+          (sym c.push_reserved.ensures.items) (caused_more refusal.Fault _ _ _ c.events.answers.items
+          c.take_event-answer.result c.events.invariant.cause c.take_event-answer.ensures.cause);
+      unread = subst (λ (l : List (Result Answer ArchiveError)). AreCaused refusal.SourceFault
+          c.args.faults.now c.take_event-answer.new.faults l)
+          (sym c.push_reserved.ensures.items) (caused_more refusal.SourceFault _ _ _ c.events.answers.items
+          c.take_event-answer.result c.events.invariant.unread c.take_event-answer.ensures.unread);
       room = omega (arith, c.push_reserved.ensures.capacity, c.events.invariant.room);
       count = c.push_reserved.ensures.len ∙ ap (λ (n : ℕ). n + 1) c.events.invariant.count;
     }
