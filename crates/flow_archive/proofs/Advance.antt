@@ -1,7 +1,7 @@
 -- What a job reads of its sources, one after the other.
 use Rattle.std.proofs.Common.{◌≡◌, ℕ, ◌<◌, ◌^◌, List, [], ◌∷◌, ◌++◌, map, refl, sym, ap, subst, ◌∙◌, append-nil}
 use Rattle.std.proofs.Common.{append_assoc}
-use Rattle.std.proofs.Common.{arith, Result, Ok, Err}
+use Rattle.std.proofs.Common.{arith, inl, inr, Result, Ok, Err}
 use Rattle.std.specs.Prelude.{fold, max, IsErrAnd}
 use Rattle.std.proofs.lemmas.List.{map-append}
 use Rattle.flow_manifest.specs.declared.following.JobKind.{JobKind}
@@ -25,8 +25,8 @@ use Rattle.flow_archive.specs.declared.sources.Source.{Source}
 use Rattle.flow_archive.specs.declared.sources.SourceError.{SourceError}
 use Rattle.flow_archive.specs.declared.sources.SourceError.TheVariants.{Damaged, SumSpent, Fault, OutOfMemory}
 use Rattle.flow_archive.specs.Owned.{Frozen}
-use Rattle.flow_archive.specs.Sources.{of_sums, IsJobTime, IsRead, IsSource, IsSummed}
-use Rattle.flow_archive.specs.Advancing.{IsTakenIn}
+use Rattle.flow_archive.specs.Sources.{of_sums, IsJobTime, IsNotRead, IsRead, IsReadWhole, IsSource, IsSummed}
+use Rattle.flow_archive.specs.Advancing.{IsNotTaken, IsTakenIn}
 use Rattle.flow_archive.specs.UnderWay.{Rolling}
 use Rattle.flow_archive.proofs.SourceSums.{behind_fits}
 
@@ -150,3 +150,25 @@ pub source_err : {X : Type 0} (r : Result X SourceError) (e : SourceError) (P : 
     → IsErrAnd r (λ x. x ≡ e) → P (Err e) → P r
 source_err (Ok x) e P is holds = absurd is
 source_err (Err x) e P is holds = subst (λ y. P (Err y)) (sym is) holds
+
+-- ---- what is taken, damaged or not
+
+pub refused_so : {X : Type 0} (r : Result X SourceError) (e : SourceError) → IsErrAnd r (λ x. x ≡ e) → r ≡ Err e
+refused_so (Ok x) e is = absurd is
+refused_so (Err x) e is = ap Err is
+
+pub source_refused : (width made : ℕ) (f : Frozen) (rows : Table) (e : SourceError) → made ≡ rows.width
+    → IsNotRead f.entry.kind width made f e → IsNotTaken width f rows e
+source_refused width made f rows (Damaged at) is why =
+    subst (λ (w : ℕ). IsNotRead f.entry.kind width w f (Damaged at)) is why
+source_refused width made f rows SumSpent is why =
+    inl (subst (λ (w : ℕ). IsNotRead f.entry.kind width w f SumSpent) is why)
+source_refused width made f rows Fault is why = tt
+source_refused width made f rows OutOfMemory is why = tt
+
+pub merge_refused : (width made : ℕ) (f : Frozen) (rows : Table) (read : Source) (e : SumError) → made ≡ rows.width
+    → IsReadWhole f.entry.kind width made f read → IsRefused e (merged rows read.rows)
+    → IsNotTaken width f rows (of_sums e)
+merge_refused width made f rows read sum.SumSpent is whole spent =
+    inr (read, subst (λ (w : ℕ). IsReadWhole f.entry.kind width w f read) is whole, spent)
+merge_refused width made f rows read sum.OutOfMemory is whole spent = tt

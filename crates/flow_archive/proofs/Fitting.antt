@@ -76,4 +76,4 @@ module _ (s : State) (c : Carry) (h : History) (valid : IsValidManifest s.manife
       let both : Some other ≡ Some (record { kind = kind; sources = sources; read = read; staged = staged }) =
       sym damage.1.1 ∙ job in
       let same : other ≡ record { kind = kind; sources = sources; read = read; staged = staged } = cc in
-      never_spent (subst (IsSpent s) same ((damage.1.2.2 refl).1))
+      never_spent (subst (IsSpent s) same ((damage.1.2.1.1 refl).2))

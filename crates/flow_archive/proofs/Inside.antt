@@ -40,6 +40,15 @@ made_there honest marks held d job r f is made has =
     subst (λ (x : Option Made). IfSome x (IsOnDisk honest marks held d)) made
     (subst (λ (o : Option Rolling). IfSome o (λ x. IfSome x.staged (IsOnDisk honest marks held d))) is has)
 
+-- where its first source is
+pub first_place : (m : Manifest) (r : Rolling) (list : List Entry) (kind : JobKind) (from : ℕ)
+    → from ≡ count_before (source_of kind) list → list ≡ m.entries → kind ≡ r.kind
+    → from ≡ count_before (source_of r.kind) m.entries + 0
+first_place m r list kind from is all same =
+    let at : from ≡ count_before (source_of r.kind) m.entries =
+    is ∙ ap (count_before (source_of kind)) all ∙ ap (λ (k : JobKind). count_before (source_of k) m.entries) same in
+    omega (arith, at)
+
 -- where its next source stands
 pub next_place : (m : Manifest) (r : Rolling) (list : List Entry) (kind : JobKind) (from read : ℕ)
     → from ≡ count_before (source_of kind) list → list ≡ m.entries → kind ≡ r.kind → read ≡ r.read

@@ -1,6 +1,6 @@
 -- Where the next source of a job stands, and the job once it has taken it.
 use Rattle.std.proofs.Common.{◌≡◌, ℕ, zero, suc, ◌+◌, ◌-◌, ◌<◌, ◌≤◌, ◌^◌, Bool, true, false, IsTrue, List, [], ◌∷◌}
-use Rattle.std.proofs.Common.{◌++◌, length}
+use Rattle.std.proofs.Common.{◌++◌, inl, inr, length}
 use Rattle.std.proofs.Common.{map, take, drop, get_or, refl, sym, ap, subst, ◌∙◌, arith, Option, Some, None, Result, Err}
 use Rattle.std.specs.Prelude.{min, IfSome}
 use Rattle.std.specs.List.{AllByRecursion}
@@ -30,7 +30,7 @@ use Rattle.flow_archive.specs.declared.refusal.ArchiveError.TheVariants as refus
 use Rattle.flow_archive.specs.declared.sources.SourceError.{SourceError}
 use Rattle.flow_archive.specs.declared.sources.SourceError.TheVariants as source
 use Rattle.flow_archive.specs.Advancing.{IsTaken, IsTakenIn}
-use Rattle.flow_archive.specs.JobAnswers.{left_of, stepped, AnswersStep, HasJob, IsNextFile}
+use Rattle.flow_archive.specs.JobAnswers.{left_of, stepped, AnswersStep, HasJob, IsFirstFile, IsNextFile}
 use Rattle.flow_archive.specs.Seen.{IsArchive}
 use Rattle.flow_archive.specs.Sources.{of_source, IsJobTime, IsSource}
 use Rattle.flow_archive.specs.UnderWay.{Made, Rolling, job_in, staged_in, IsRolling, IsStaged}
@@ -253,52 +253,54 @@ one_less s j new is lt (same, width) =
     )
 
 -- a refusal changes nothing
-pub not_stepped : (honest closed : Bool) (s after : State) (j new : Rolling) (number : ℕ) (e : SourceError)
+pub not_stepped : (honest closed : Bool) (s after : State) (j new : Rolling) (first number : ℕ) (e : SourceError)
     → closed ≡ false → s.job ≡ job_in (Some j) → j.read < j.sources → after ≡ s
+    → IsFirstFile s (record { kind = j.kind; sources = j.sources; read = j.read; staged = staged_in j.staged }) first
     → IsNextFile s (record { kind = j.kind; sources = j.sources; read = j.read; staged = staged_in j.staged }) number
     → (IsTrue honest → IsTakenIn {X = Unit {0}} j.kind s.manifest
     (take (j.read + 1) (source_parts j.kind j.sources s)) (Err e) new)
-    → AnswersStep honest closed s (Err (of_source number e)) after
-not_stepped honest closed s after j new number (source.Damaged at) up is lt same next told = (
+    → AnswersStep honest closed s (Err (of_source first number e)) after
+not_stepped honest closed s after j new first number (source.Damaged at) up is lt same oldest next told = (
   up,
   (
     record { kind = j.kind; sources = j.sources; read = j.read; staged = staged_in j.staged },
     is,
-    (omega (arith, lt), next, λ h. absurd (told h)),
+    (omega (arith, lt), (inl next, λ h. absurd (told h))),
   ),
   same,
 )
-not_stepped honest closed s after j new number source.SumSpent up is lt same next told = (
+not_stepped honest closed s after j new first number source.SumSpent up is lt same oldest next told = (
   up,
   (
     record { kind = j.kind; sources = j.sources; read = j.read; staged = staged_in j.staged },
     is,
-    (omega (arith, lt), next, λ h. (refl, told h)),
+    (omega (arith, lt), (inr (oldest, refl), λ h. (oldest, refl, told h))),
   ),
   same,
 )
-not_stepped honest closed s after j new number source.Fault up is lt same next told = (
+not_stepped honest closed s after j new first number source.Fault up is lt same oldest next told = (
   up,
   (record { kind = j.kind; sources = j.sources; read = j.read; staged = staged_in j.staged }, is, omega (arith, lt)),
   same,
 )
-not_stepped honest closed s after j new number source.OutOfMemory up is lt same next told = (
+not_stepped honest closed s after j new first number source.OutOfMemory up is lt same oldest next told = (
   up,
   (record { kind = j.kind; sources = j.sources; read = j.read; staged = staged_in j.staged }, is, omega (arith, lt)),
   same,
 )
 
-pub source_fault : (number : ℕ) (e : SourceError) → of_source number e ≡ refusal.SourceFault → e ≡ source.Fault
-source_fault number (source.Damaged at) is = absurd (cc)
-source_fault number source.SumSpent is = absurd (cc)
-source_fault number source.Fault is = refl
-source_fault number source.OutOfMemory is = absurd (cc)
+pub source_fault : (first number : ℕ) (e : SourceError) → of_source first number e ≡ refusal.SourceFault
+    → e ≡ source.Fault
+source_fault first number (source.Damaged at) is = absurd (cc)
+source_fault first number source.SumSpent is = absurd (cc)
+source_fault first number source.Fault is = refl
+source_fault first number source.OutOfMemory is = absurd (cc)
 
-pub not_closing : (number : ℕ) (e : SourceError) → of_source number e ≡ refusal.Fault → ⊥
-not_closing number (source.Damaged at) is = cc
-not_closing number source.SumSpent is = cc
-not_closing number source.Fault is = cc
-not_closing number source.OutOfMemory is = cc
+pub not_closing : (first number : ℕ) (e : SourceError) → of_source first number e ≡ refusal.Fault → ⊥
+not_closing first number (source.Damaged at) is = cc
+not_closing first number source.SumSpent is = cc
+not_closing first number source.Fault is = cc
+not_closing first number source.OutOfMemory is = cc
 
 -- ---- what a job reads of an archive's files
 

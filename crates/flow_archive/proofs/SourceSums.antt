@@ -1,7 +1,7 @@
 -- The sums of a sealed segment are those of its messages.
 use Rattle.std.proofs.Common.{◌≡◌, ℕ, ◌-◌, ◌<◌, ◌≤◌, ◌^◌, List, [], length, take, drop, refl, sym, ap, subst, ◌∙◌}
-use Rattle.std.proofs.Common.{arith, ◌++◌, Option, Some, None, Result, Ok, Err}
-use Rattle.std.specs.Prelude.{IfSome}
+use Rattle.std.proofs.Common.{arith, ◌++◌, inl, inr, Option, Some, None, Result, Ok, Err}
+use Rattle.std.specs.Prelude.{IfSome, MatchResult}
 use Rattle.std.specs.Result.{IsErrAnd}
 use Rattle.std.specs.FinMap.{entries}
 use Rattle.std.specs.List.{AllByRecursion}
@@ -24,15 +24,16 @@ use Rattle.flow_measure.proofs.SinkSteps.{none_summed}
 use Rattle.flow_measure.proofs.SumLaws.{merged-table_of}
 use Rattle.flow_rolled.specs.declared.error.RowSumError.{RowSumError}
 use Rattle.flow_rolled.specs.declared.error.RowSumError.TheVariants as rows
-use Rattle.flow_rolled.specs.Rollup.{IsRollup}
+use Rattle.flow_rolled.specs.Rollup.{IsBroken, IsRollup}
 use Rattle.flow_rolled.specs.Stored as stored
-use Rattle.flow_rolled.specs.Stored.{IsAdded, IsNotAdded}
+use Rattle.flow_rolled.specs.Stored.{export_time, IsAdded, IsNotAdded}
 use Rattle.flow_rolled.proofs.Breaking.{one_table}
 use Rattle.flow_segment.specs.declared.error.PartSumError.{PartSumError}
 use Rattle.flow_segment.specs.declared.error.PartSumError.TheVariants as part
 use Rattle.flow_segment.specs.Carry.{Carry}
-use Rattle.flow_segment.specs.Prefix.{AreRead, AreTemplatesGiven, IsRestated}
-use Rattle.flow_segment.specs.PartFlows.{AreAdded, ArePartMessages, with_flows}
+use Rattle.flow_segment.specs.Prefix.{AreRead, AreTemplatesGiven, IsPrefixToldOf, IsRestated}
+use Rattle.flow_segment.specs.PartFlows as flows
+use Rattle.flow_segment.specs.PartFlows.{greatest_time, with_flows, AreAdded, ArePartMessages, HasMessages, IsDamage}
 use Rattle.flow_segment.specs.Segment.{part_octets}
 use Rattle.flow_segment.specs.Steps.{KeepsFront}
 use Rattle.flow_segment.proofs.FewMessages.{few_fit_behind}
@@ -44,7 +45,8 @@ use Rattle.flow_recover.proofs.Stand.{part_cut}
 use Rattle.flow_archive.specs.declared.sources.Source.{Source}
 use Rattle.flow_archive.specs.declared.sources.SourceError.{SourceError}
 use Rattle.flow_archive.specs.declared.sources.SourceError.TheVariants.{Fault}
-use Rattle.flow_archive.specs.Sources.{of_disk, of_part, of_rows, of_scan, IsSummed}
+use Rattle.flow_archive.specs.Sources.{of_disk, of_part, of_rows, of_scan, IsFileRefusal, IsFileSum, IsSegmentRefusal}
+use Rattle.flow_archive.specs.Sources.{IsSegmentSum, IsSummed}
 
 -- ---- what stands in the file
 
@@ -198,3 +200,79 @@ behind_fits a b all q =
     (joined_fits (sum_at q (entries a.sums)) (sum_at q (entries b.sums))
     (subst (λ o. IfSome o Fits) (get-gathered (entries a.sums ++ entries b.sums) q
     ∙ sum_at-append q (entries a.sums) (entries b.sums)) (all q)))
+
+-- ---- what is read, damaged or not
+
+module _ (prefix octets : List ℕ) (number start end count : ℕ) (A : Source → Type 0) where
+  abbrev IsAnswered : Result Source SourceError → Type 0
+  IsAnswered answer = MatchResult answer A (IsSegmentRefusal prefix octets number start end count)
+
+  pub prefix_refused : (e : ScanError) (answer : Result Source SourceError) → IsPrefixToldOf prefix number e
+      → answer ≡ Err (of_scan e)
+      → MatchResult answer A (IsSegmentRefusal prefix octets number start end count)
+  prefix_refused (scan.Damaged file at) answer why is =
+      subst IsAnswered (sym is) (inl (subst (λ (n : ℕ). IsPrefixToldOf prefix number (scan.Damaged n at)) why.0 why))
+  prefix_refused scan.Fault answer why is = subst IsAnswered (sym is) tt
+  prefix_refused scan.OutOfMemory answer why is = subst IsAnswered (sym is) tt
+
+  pub messages_refused : (before : AllTemplates) (e : PartSumError) (answer : Result Source SourceError)
+      → IsRestated prefix before → flows.IsNotAdded octets before number start end count e → answer ≡ Err (of_part e)
+      → MatchResult answer A (IsSegmentRefusal prefix octets number start end count)
+  messages_refused before (part.Damaged file at) answer restated why is =
+      subst IsAnswered (sym is) (inr (
+        before,
+        restated,
+        subst (λ (n : ℕ). IsDamage octets before number start end count (scan.Damaged n at)) why.0 why,
+      ))
+  messages_refused before part.SumSpent answer restated why is =
+      subst IsAnswered (sym is) (before, restated, why)
+  messages_refused before part.Fault answer restated why is = subst IsAnswered (sym is) tt
+  messages_refused before part.OutOfMemory answer restated why is = subst IsAnswered (sym is) tt
+
+pub segment_summed : (width : ℕ) (prefix octets : List ℕ) (count : ℕ) (before after : AllTemplates) (old new : Table)
+    (time : ℕ) → IsRestated prefix before → HasMessages octets before count → old ≡ empty_table width
+    → ((messages : List Accepted) → ArePartMessages octets before count messages
+    → AreAdded {X = ℕ} before old messages (Ok time) after new)
+    → ((messages : List Accepted) → ArePartMessages octets before count messages → time ≡ greatest_time messages)
+    → IsSegmentSum width prefix octets count (record { rows = new; time = time })
+segment_summed width prefix octets count before after old new time restated (messages, are) none added latest = (
+  before,
+  messages,
+  restated,
+  are,
+  sums_are width messages old new none (added messages are).1,
+  latest messages are,
+)
+
+module _ (width wide : ℕ) (octets : List ℕ) (old : Table) (none : old ≡ empty_table wide) where
+  pub file_summed : (new : Table) (time : ℕ) → IsAdded width octets old new → time ≡ export_time octets
+      → IsFileSum width wide octets (record { rows = new; time = time })
+  file_summed new time a at = (
+    a.table,
+    a.rollup,
+    a.sums ∙ ap (with_entries (entries a.table.sums)) none ∙ with_empty wide a.table (entries a.table.sums) refl,
+    at,
+  )
+
+  pub file_not_summed : (A : Source → Type 0) (file : stored.Rollup) (e : RowSumError)
+      (answer : Result Source SourceError) → file.octets ≡ octets → IsNotAdded file width old e
+      → answer ≡ Err (of_rows e) → MatchResult answer A (IsFileRefusal width wide octets)
+  file_not_summed A file (rows.Damaged number at) answer here why is =
+      subst (λ (r : Result Source SourceError). MatchResult r A (IsFileRefusal width wide octets)) (sym is)
+      (subst (λ (os : List ℕ). IsBroken width os at) here (why.1))
+  file_not_summed A file rows.SumSpent answer here why is =
+      subst (λ (r : Result Source SourceError). MatchResult r A (IsFileRefusal width wide octets)) (sym is)
+      (λ table rollup fit. why table (subst (λ (os : List ℕ). IsRollup width os table) (sym here) rollup)
+      (subst AllFit (sym (ap (with_entries (entries table.sums)) none
+      ∙ with_empty wide table (entries table.sums) refl)) fit))
+  file_not_summed A file rows.Fault answer here why is =
+      subst (λ (r : Result Source SourceError). MatchResult r A (IsFileRefusal width wide octets)) (sym is) tt
+  file_not_summed A file rows.OutOfMemory answer here why is =
+      subst (λ (r : Result Source SourceError). MatchResult r A (IsFileRefusal width wide octets)) (sym is) tt
+
+  pub file_unread : (A : Source → Type 0) (e : DiskError) (answer : Result Source SourceError)
+      → answer ≡ Err (of_disk e) → MatchResult answer A (IsFileRefusal width wide octets)
+  file_unread A disk.Fault answer is =
+      subst (λ (r : Result Source SourceError). MatchResult r A (IsFileRefusal width wide octets)) (sym is) tt
+  file_unread A disk.OutOfMemory answer is =
+      subst (λ (r : Result Source SourceError). MatchResult r A (IsFileRefusal width wide octets)) (sym is) tt

@@ -1,13 +1,15 @@
 -- A job takes one source more.
-use Rattle.std.specs.Prelude.{◌≡◌, ⊤, ◌+◌, List, Result, Ok, Err}
+use Rattle.std.specs.Prelude.{◌≡◌, ⊤, ◌⊎◌, ℕ, ◌+◌, max, List, Result, Ok, Err}
 use Rattle.flow_manifest.specs.declared.following.JobKind.{JobKind}
 use Rattle.flow_manifest.specs.declared.manifest.Manifest.{Manifest}
-use Rattle.flow_measure.specs.Sums.{AllFit, Table}
+use Rattle.flow_measure.specs.Sums.{merged, AllFit, Table}
 use Rattle.flow_recover.specs.Jobs.{IsJobSum}
 use Rattle.flow_recover.specs.State.{Part}
+use Rattle.flow_archive.specs.declared.sources.Source.{Source}
 use Rattle.flow_archive.specs.declared.sources.SourceError.{SourceError}
 use Rattle.flow_archive.specs.declared.sources.SourceError.TheVariants.{Damaged, SumSpent, Fault, OutOfMemory}
-use Rattle.flow_archive.specs.Sources.{IsJobTime}
+use Rattle.flow_archive.specs.Owned.{Frozen}
+use Rattle.flow_archive.specs.Sources.{IsJobTime, IsNotRead, IsReadWhole}
 use Rattle.flow_archive.specs.UnderWay.{Rolling}
 
 -- only its count of sources, its sums and its greatest Export Time are others
@@ -23,3 +25,18 @@ IsTakenIn kind m parts (Err (Damaged at)) new = ⊥
 IsTakenIn kind m parts (Err SumSpent) new = (table : Table) × IsJobSum kind m parts table × (AllFit table → ⊥)
 IsTakenIn kind m parts (Err Fault) new = ⊤
 IsTakenIn kind m parts (Err OutOfMemory) new = ⊤
+
+-- The sums of a file that was read whole are merged into the job's, and its greatest Export Time counts.
+abbrev pub HasTaken : ℕ → Frozen → Rolling → Rolling → Type 0
+HasTaken width f old new =
+    (read : Source) × IsReadWhole f.entry.kind width old.rows.width f read
+    × (new.rows ≡ merged old.rows read.rows) × (new.time ≡ max old.time read.time)
+
+-- Why a file isn't taken: it isn't read, or its sums and those of the job would pass their types together.
+abbrev pub IsNotTaken : ℕ → Frozen → Table → SourceError → Type 0
+IsNotTaken width f rows (Damaged at) = IsNotRead f.entry.kind width rows.width f (Damaged at)
+IsNotTaken width f rows SumSpent =
+    IsNotRead f.entry.kind width rows.width f SumSpent
+    ⊎ ((read : Source) × IsReadWhole f.entry.kind width rows.width f read × (AllFit (merged rows read.rows) → ⊥))
+IsNotTaken width f rows Fault = ⊤
+IsNotTaken width f rows OutOfMemory = ⊤

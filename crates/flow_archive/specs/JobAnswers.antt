@@ -1,5 +1,5 @@
 -- What an archive answers where it rolls, merges and removes files.
-use Rattle.std.specs.Prelude.{◌≡◌, ◌≢◌, ℕ, ◌+◌, ◌-◌, ◌<◌, ◌≤◌, ◌^◌, min, Bool, true, false, IsTrue, List, [], ◌∷◌}
+use Rattle.std.specs.Prelude.{◌≡◌, ◌≢◌, ◌⊎◌, ℕ, ◌+◌, ◌-◌, ◌<◌, ◌≤◌, ◌^◌, min, Bool, true, false, IsTrue, List, [], ◌∷◌}
 use Rattle.std.specs.Prelude.{take, drop, map, Option, Some, None, Result, Ok, Err}
 use Rattle.flow_disk.specs.Disk.{Marks}
 use Rattle.flow_manifest.specs.declared.following.JobKind.{JobKind}
@@ -67,6 +67,11 @@ stepped job = record job { read = min (job.read + 1) job.sources }
 abbrev pub HasJob : State → (Job → Type 0) → Type 0
 HasJob s Holds = (job : Job) × (s.job ≡ Some job) × Holds job
 
+-- This is the file of the job's first source.
+abbrev pub IsFirstFile : State → Job → ℕ → Type 0
+IsFirstFile s job file = (others : List ℕ)
+    × (map (λ e. e.file) (sources_of job.kind job.sources s.manifest.entries) ≡ file ∷ others)
+
 -- This is the file of the next source: the first of those that are left.
 abbrev pub IsNextFile : State → Job → ℕ → Type 0
 IsNextFile s job file = (others : List ℕ)
@@ -78,12 +83,18 @@ IsSpent s job =
     (table : Table) × IsJobSum job.kind s.manifest (take (job.read + 1) (source_parts job.kind job.sources s)) table
     × (AllFit table → ⊥)
 
+-- Damage is that of the next source's file; or, at octet 0, of the first one's, where sums don't fit their types. On an
+-- honest disk it is only the second.
+abbrev pub IsStepDamage : Bool → State → Job → ℕ → ℕ → Type 0
+IsStepDamage honest s job file at =
+    (IsNextFile s job file ⊎ (IsFirstFile s job file × (at ≡ 0)))
+    × (IsTrue honest → IsFirstFile s job file × (at ≡ 0) × IsSpent s job)
+
 abbrev pub IsStepped : State → State → Type 0
 IsStepped s after = HasJob s (λ job. after ≡ record s { job = Some (stepped job) })
 
--- How many sources are left behind this step; or the first of the refusals 49, 44, 20 that holds: 20 is of the next
--- source's file, and on an honest disk it comes only where sums don't fit their types. In place of the answer where a
--- source is left it may be 11, or 30 where a read failed. Every refusal changes nothing.
+-- How many sources are left after this step; or the first of the refusals 49, 44, 20 that holds. In place of the answer
+-- where a source is left it may be 11, or 30 where a read failed. Every refusal changes nothing.
 abbrev pub AnswersStep : Bool → Bool → State → Result ℕ ArchiveError → State → Type 0
 AnswersStep honest closed s (Ok left) after =
     (closed ≡ false)
@@ -92,7 +103,7 @@ AnswersStep honest closed s (Err Closed) after = (closed ≡ true) × (after ≡
 AnswersStep honest closed s (Err NoRoll) after = (closed ≡ false) × (s.job ≡ None) × (after ≡ s)
 AnswersStep honest closed s (Err (Damaged file at)) after =
     (closed ≡ false)
-    × HasJob s (λ job. (1 ≤ left_of job) × IsNextFile s job file × (IsTrue honest → (at ≡ 0) × IsSpent s job))
+    × HasJob s (λ job. (1 ≤ left_of job) × IsStepDamage honest s job file at)
     × (after ≡ s)
 AnswersStep honest closed s (Err SourceFault) after =
     (closed ≡ false) × HasJob s (λ job. 1 ≤ left_of job) × (after ≡ s)

@@ -1,23 +1,27 @@
 -- What a job reads of one source.
 use Rattle.std.specs.Prelude.{◌≡◌, ⊤, ℕ, ◌<◌, ◌^◌, List, [], ◌∷◌, fold, map, max, Result, Ok, Err}
+use Rattle.flow_codec.specs.Templates.{AllTemplates}
 use Rattle.flow_disk.specs.declared.error.DiskError.{DiskError}
 use Rattle.flow_disk.specs.declared.error.DiskError.TheVariants as disk
 use Rattle.flow_gate.specs.declared.tail.ScanError.{ScanError}
 use Rattle.flow_gate.specs.declared.tail.ScanError.TheVariants as scan
 use Rattle.flow_manifest.specs.declared.following.JobKind.{JobKind}
 use Rattle.flow_manifest.specs.declared.following.JobKind.TheVariants.{Roll, Merge}
-use Rattle.flow_manifest.specs.declared.manifest.Kind.TheVariants.{Rolled, Sealed}
+use Rattle.flow_manifest.specs.declared.manifest.Kind.{Kind}
+use Rattle.flow_manifest.specs.declared.manifest.Kind.TheVariants.{Active, Rolled, Sealed, Wide}
 use Rattle.flow_manifest.specs.declared.manifest.Manifest.{Manifest}
 use Rattle.flow_measure.specs.declared.error.SumError.{SumError}
 use Rattle.flow_measure.specs.declared.error.SumError.TheVariants as sum
-use Rattle.flow_measure.specs.History.{Accepted}
-use Rattle.flow_measure.specs.Sums.{AllFit, Table}
-use Rattle.flow_rolled.specs.Rollup.{IsRollup}
+use Rattle.flow_measure.specs.History.{Accepted, flows_in}
+use Rattle.flow_measure.specs.Sums.{table_of, widened, AllFit, Table}
+use Rattle.flow_rolled.specs.Rollup.{IsBroken, IsRollup}
 use Rattle.flow_rolled.specs.Stored.{export_time}
 use Rattle.flow_rolled.specs.declared.error.RowSumError.{RowSumError}
 use Rattle.flow_rolled.specs.declared.error.RowSumError.TheVariants as rolled
 use Rattle.flow_segment.specs.Carry.{Carry}
-use Rattle.flow_segment.specs.PartFlows.{greatest_time}
+use Rattle.flow_segment.specs.PartFlows.{greatest_time, ArePartMessages, HasMessages, IsPartToldOf}
+use Rattle.flow_segment.specs.Prefix.{IsRestated}
+use Rattle.flow_segment.specs.Segment.{part_octets}
 use Rattle.flow_segment.specs.declared.error.PartSumError.{PartSumError}
 use Rattle.flow_segment.specs.declared.error.PartSumError.TheVariants as part
 use Rattle.flow_recover.specs.Chain.{IsSegment}
@@ -29,7 +33,7 @@ use Rattle.flow_archive.specs.declared.refusal.ArchiveError.TheVariants as answe
 use Rattle.flow_archive.specs.declared.sources.Source.{Source}
 use Rattle.flow_archive.specs.declared.sources.SourceError.{SourceError}
 use Rattle.flow_archive.specs.declared.sources.SourceError.TheVariants.{Damaged, SumSpent, Fault, OutOfMemory}
-use Rattle.flow_archive.specs.Owned.{Frozen}
+use Rattle.flow_archive.specs.Owned.{segment_of, Frozen}
 
 -- The greatest Export Time of what a job reads of these parts: of the messages of segments, or of rolled files.
 abbrev pub IsJobTime : JobKind → List Part → ℕ → Type 0
@@ -65,12 +69,13 @@ abbrev pub of_sums : SumError → SourceError
 of_sums sum.SumSpent = SumSpent
 of_sums sum.OutOfMemory = OutOfMemory
 
--- and as an archive's answer, of the source with this number
-abbrev pub of_source : ℕ → SourceError → ArchiveError
-of_source number (Damaged at) = answer.Damaged number at
-of_source number SumSpent = answer.Damaged number 0
-of_source number Fault = answer.SourceFault
-of_source number OutOfMemory = answer.OutOfMemory
+-- and as an archive's answer, of the source with this number: sums that pass their types are damage of the job's first
+-- source, from its first octet on
+abbrev pub of_source : ℕ → ℕ → SourceError → ArchiveError
+of_source first number (Damaged at) = answer.Damaged number at
+of_source first number SumSpent = answer.Damaged first 0
+of_source first number Fault = answer.SourceFault
+of_source first number OutOfMemory = answer.OutOfMemory
 
 -- These are the sums of a source and its greatest Export Time, unless the sums pass their types, a read fails, or
 -- memory runs out.
@@ -92,3 +97,53 @@ IsSource Merge m f p = (f.entry.kind ≡ Rolled) × (f.octets ≡ p.front)
 abbrev pub IsRead : JobKind → Manifest → Part → Result Source SourceError → Type 0
 IsRead kind m p result =
     (sums : Table) × (time : ℕ) × IsSourceSum kind m p sums × IsJobTime kind (p ∷ []) time × IsSummed sums time result
+
+-- ---- a source that is read, damaged or not
+
+-- The sums of a segment over intervals of this width, and its greatest Export Time: its prefix restates templates, and
+-- so many accepted messages fill the octets after it.
+abbrev pub IsSegmentSum : ℕ → List ℕ → List ℕ → ℕ → Source → Type 0
+IsSegmentSum width prefix octets count source =
+    (before : AllTemplates) × (messages : List Accepted) × IsRestated prefix before
+    × ArePartMessages octets before count messages × (source.rows ≡ table_of width (flows_in messages))
+    × (source.time ≡ greatest_time messages)
+
+-- Those of a file of sums over intervals of `width`, over intervals of `wide`.
+abbrev pub IsFileSum : ℕ → ℕ → List ℕ → Source → Type 0
+IsFileSum width wide octets source =
+    (table : Table) × IsRollup width octets table × (source.rows ≡ widened wide table)
+    × (source.time ≡ export_time octets)
+
+-- All that a file holds is summed over intervals of `made`.
+abbrev pub IsReadWhole : Kind → ℕ → ℕ → Frozen → Source → Type 0
+IsReadWhole Wide width made f source = IsFileSum width made f.octets source
+IsReadWhole Rolled width made f source = IsFileSum width made f.octets source
+IsReadWhole Sealed width made f source =
+    IsSegmentSum made (segment_of f).prefix (part_octets f.entry.prefix f.entry.length f.octets) f.entry.messages source
+IsReadWhole Active width made f source = ⊥
+
+-- Why a segment isn't summed: it is damaged at this place, or its messages are whole and a sum would pass its type.
+abbrev pub IsSegmentRefusal : List ℕ → List ℕ → ℕ → ℕ → ℕ → ℕ → SourceError → Type 0
+IsSegmentRefusal prefix octets number start end count (Damaged at) =
+    IsPartToldOf prefix octets number start end count (scan.Damaged number at)
+IsSegmentRefusal prefix octets number start end count SumSpent =
+    (before : AllTemplates) × IsRestated prefix before × HasMessages octets before count
+IsSegmentRefusal prefix octets number start end count Fault = ⊤
+IsSegmentRefusal prefix octets number start end count OutOfMemory = ⊤
+
+-- Why a file of sums isn't summed: its octets break off at this place, or a sum would pass its type.
+abbrev pub IsFileRefusal : ℕ → ℕ → List ℕ → SourceError → Type 0
+IsFileRefusal width wide octets (Damaged at) = IsBroken width octets at
+IsFileRefusal width wide octets SumSpent =
+    (table : Table) → IsRollup width octets table → AllFit (widened wide table) → ⊥
+IsFileRefusal width wide octets Fault = ⊤
+IsFileRefusal width wide octets OutOfMemory = ⊤
+
+-- Why a file isn't summed.
+abbrev pub IsNotRead : Kind → ℕ → ℕ → Frozen → SourceError → Type 0
+IsNotRead Wide width made f e = IsFileRefusal width made f.octets e
+IsNotRead Rolled width made f e = IsFileRefusal width made f.octets e
+IsNotRead Sealed width made f e =
+    IsSegmentRefusal (segment_of f).prefix (part_octets f.entry.prefix f.entry.length f.octets) f.entry.file
+    f.entry.prefix f.entry.length f.entry.messages e
+IsNotRead Active width made f e = ⊥

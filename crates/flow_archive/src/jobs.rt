@@ -1,6 +1,7 @@
 //! The jobs of an archive, up to the making of their files.
 
 ghost use Rattle.std.specs.Prelude.{◌≡◌, ◌≢◌, ℕ, ◌<◌, IsTrue, List, [], ◌∷◌, ◌++◌, OnErr, OnOk};
+ghost use Rattle.std.specs.Prelude.{MatchResult};
 ghost use Rattle.flow_disk.specs.Cause.{HasCause};
 ghost use Rattle.flow_manifest.specs.declared.following.JobKind.TheVariants.{Merge, Roll};
 ghost use Rattle.flow_manifest.specs.declared.manifest.Manifest.{Manifest};
@@ -9,7 +10,7 @@ ghost use Rattle.flow_snapshot.specs.Totals.{IsWithinLimits};
 ghost use Rattle.flow_recover.specs.Jobs.{width_made, IsJobSum};
 ghost use Rattle.flow_recover.specs.Shelved.{HasHistory};
 ghost use Rattle.flow_recover.specs.State.{Part};
-ghost use Rattle.flow_archive.specs.Advancing.{IsTaken, IsTakenIn};
+ghost use Rattle.flow_archive.specs.Advancing.{HasTaken, IsNotTaken, IsTaken, IsTakenIn};
 ghost use Rattle.flow_archive.specs.JobAnswers.{begun, dropped, AnswersBegin, AnswersDrop, AnswersStep};
 ghost use Rattle.flow_archive.specs.JobAnswers.{IsStagedGone, IsStepped};
 ghost use Rattle.flow_archive.specs.Seen.{IsStep};
@@ -51,9 +52,9 @@ impl<D: Disk> Archive<D> {
 
     /// Reads one source of the job that is under way, a piece at a time, merges its sums into the job's, and answers
     /// how many sources are left. Where none is left nothing is read. Refusals, the first that holds: 49 Closed; 44
-    /// NoRoll; 20 Damaged, of the source's file, where it isn't what its entry says, or at octet 0 where sums would
-    /// pass their types; 30 where the device failed; and 11 OutOfMemory. None of them changes anything, and the archive
-    /// stays open.
+    /// NoRoll; 20 Damaged, of the source's file, where it isn't what its entry says, or of the first source's, at octet
+    /// 0, where sums would pass their types; 30 where the device failed; and 11 OutOfMemory. None of them changes
+    /// anything, and the archive stays open.
     pub fn roll_step(
         &mut self,
         alloc: Global,
@@ -79,10 +80,15 @@ impl<D: Disk> Archive<D> {
         }
         let manifest = &self.slots.current;
         let from = sources_from(job.kind, manifest.entries.as_slice());
+        let first = &self.files[from];
         let source = &self.files[from + job.read as usize];
         match take_source(alloc, job, source, manifest.width, faults) {
             Ok(()) => {}
-            Err(e) => return Err(e.of_source(source.number())),
+            Err(e) => {
+                let oldest = first.number();
+                let next = source.number();
+                return Err(e.of_source(oldest, next));
+            }
         }
         Ok(job.sources - job.read)
     }
@@ -153,6 +159,9 @@ fn take_source<S: SealedFile>(
     ensures kept { OnErr result (job.new ≡ job.old) }
     ensures taken { OnOk result (IsTaken job.old job.new) }
     ensures cause { HasCause SourceError.Fault faults.old faults.new result }
+    // On an honest disk, damaged or not: what is taken is all that the source holds; or why nothing is.
+    ensures found { IsTrue source.now.honest → MatchResult result (λ x. HasTaken width source.now job.old job.new)
+        (IsNotTaken width source.now job.old.rows) }
     // On an honest disk: the sums and the greatest Export Time are those of one part more.
     ensures read { IsTrue source.now.honest → (m : Manifest) (parts : List Part) (p : Part) → width ≡ m.width
         → job.old.rows.width ≡ width_made job.old.kind m → IsSource job.old.kind m source.now p

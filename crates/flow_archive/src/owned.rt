@@ -1,7 +1,7 @@
 //! The frozen files of an archive, and what directories have of them.
 
 ghost use Rattle.std.specs.Prelude.{◌≡◌, ◌++◌, ◌<◌, ◌≤◌, ℕ, Bool, true, false, IsTrue, OnOk, IfOk, IfErr, map, take};
-ghost use Rattle.std.specs.Prelude.{◌≢◌, vec_len};
+ghost use Rattle.std.specs.Prelude.{◌≢◌, vec_len, MatchResult};
 ghost use Rattle.std.specs.List.{list_all, AllByRecursion};
 ghost use Rattle.std.specs.Arc.{arc_value};
 ghost use Rattle.flow_disk.specs.Cause.{HasCause};
@@ -12,7 +12,7 @@ ghost use Rattle.flow_snapshot.specs.Files.{is_honest, rollup_of, segment_of, sh
 ghost use Rattle.flow_archive.specs.Owned.{all_frozen, frozen_as, rolled_in, segment_in, shelf_with, value_of, wide_in};
 ghost use Rattle.flow_archive.specs.Owned.{is_shared, unshared, MayBeFrozen};
 ghost use Rattle.flow_archive.specs.Owned as own;
-ghost use Rattle.flow_archive.specs.Sources.{IsRead, IsSource};
+ghost use Rattle.flow_archive.specs.Sources.{IsNotRead, IsRead, IsReadWhole, IsSource};
 ghost use Rattle.flow_recover.specs.Jobs.{width_made};
 ghost use Rattle.flow_recover.specs.Kept.{AreFilesOf};
 ghost use Rattle.flow_recover.specs.State.{Part};
@@ -159,6 +159,9 @@ impl<S: SealedFile> FrozenFile<S> {
         requires made { 0 < made }
         ensures width { IfOk result (λ source. source.rows.width ≡ made) }
         ensures cause { HasCause SourceError.Fault faults.old faults.new result }
+        // On an honest disk, damaged or not: all that it holds is summed; or why not.
+        ensures found { IsTrue self.now.honest → MatchResult result (IsReadWhole self.now.entry.kind width made self.now)
+            (IsNotRead self.now.entry.kind width made self.now) }
         // On an honest disk: where it is a source for a job, it is read as one.
         ensures read { IsTrue self.now.honest → (kind : JobKind) (m : Manifest) (p : Part) → width ≡ m.width
             → made ≡ width_made kind m → IsSource kind m self.now p → IsRead kind m p result }

@@ -1,6 +1,6 @@
 //! What a job reads of one source.
 
-ghost use Rattle.std.specs.Prelude.{◌≡◌, ◌<◌, ◌^◌, IsTrue, IfOk};
+ghost use Rattle.std.specs.Prelude.{◌≡◌, ◌<◌, ◌^◌, IsTrue, IfOk, MatchResult};
 ghost use Rattle.flow_disk.specs.Cause.{HasCause};
 ghost use Rattle.flow_manifest.specs.declared.manifest.Entry.{Entry};
 ghost use Rattle.flow_measure.specs.History.{flows_in};
@@ -9,10 +9,12 @@ ghost use Rattle.flow_rolled.specs.Rollup.{IsRollup};
 ghost use Rattle.flow_rolled.specs.Stored.{export_time};
 ghost use Rattle.flow_segment.specs.Carry.{Carry};
 ghost use Rattle.flow_segment.specs.PartFlows.{greatest_time};
+ghost use Rattle.flow_segment.specs.Segment.{part_octets};
 ghost use Rattle.flow_recover.specs.State.{Part};
 ghost use Rattle.flow_recover.specs.Chain.{IsSegment};
 ghost use Rattle.flow_recover.specs.Standing.{IsSealedAt};
 ghost use Rattle.flow_archive.specs.Sources.{of_disk, of_part, of_rows, of_scan, of_source, of_sums, IsSummed};
+ghost use Rattle.flow_archive.specs.Sources.{IsFileRefusal, IsFileSum, IsSegmentRefusal, IsSegmentSum};
 
 use crate::refusal::ArchiveError;
 use flow_disk::{DiskError, Faults, SealedFile};
@@ -45,13 +47,13 @@ pub(crate) enum SourceError {
 }
 
 impl SourceError {
-    /// What an archive answers, of the source with this number.
-    pub(crate) fn of_source(self, file: u64) -> ArchiveError
-        ensures { result ≡ of_source file self }
+    /// What an archive answers, of the source with this number, of a job whose first source has the number `first`.
+    pub(crate) fn of_source(self, first: u64, file: u64) -> ArchiveError
+        ensures { result ≡ of_source first file self }
     {
         match self {
             SourceError::Damaged(at) => ArchiveError::Damaged(file, at),
-            SourceError::SumSpent => ArchiveError::Damaged(file, 0),
+            SourceError::SumSpent => ArchiveError::Damaged(first, 0),
             SourceError::Fault => ArchiveError::SourceFault,
             SourceError::OutOfMemory => ArchiveError::OutOfMemory,
         }
@@ -128,6 +130,13 @@ pub(crate) fn sum_segment<S: SealedFile>(
     requires { 0 < width }
     ensures width { IfOk result (λ source. source.rows.width ≡ width) }
     ensures cause { HasCause SourceError.Fault faults.old faults.new result }
+    // On an honest disk, damaged or not: the sums of a segment that was read whole; or why it has none.
+    ensures found { IsTrue (S.honest part.now.reader) → MatchResult result
+        (IsSegmentSum width (part_octets 0 part.now.prefix (S.octets part.now.reader))
+        (part_octets part.now.prefix part.now.length (S.octets part.now.reader)) part.now.messages)
+        (IsSegmentRefusal (part_octets 0 part.now.prefix (S.octets part.now.reader))
+        (part_octets part.now.prefix part.now.length (S.octets part.now.reader)) (S.number part.now.reader)
+        part.now.prefix part.now.length part.now.messages) }
     // On an honest disk: where a segment of accepted messages stands there, the sums are those of its flows, and the
     // greatest Export Time is that of its messages.
     ensures given { IsTrue (S.honest part.now.reader) → (entry : Entry) (p : Part) (carry : Carry)
@@ -154,6 +163,9 @@ pub(crate) fn sum_file<S: SealedFile>(
     requires wide { 0 < wide }
     ensures width { IfOk result (λ source. source.rows.width ≡ wide) }
     ensures cause { HasCause SourceError.Fault faults.old faults.new result }
+    // On an honest disk, damaged or not: the sums of a file that was read whole; or why it has none.
+    ensures found { IsTrue part.now.honest
+        → MatchResult result (IsFileSum width wide part.now.octets) (IsFileRefusal width wide part.now.octets) }
     // On an honest disk: where it is the rolled file of these sums.
     ensures given { IsTrue part.now.honest → (table : Table) → IsRollup width part.now.octets table
         → IsSummed (widened wide table) (export_time part.now.octets) result }

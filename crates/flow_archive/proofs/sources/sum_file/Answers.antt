@@ -1,7 +1,9 @@
 use Rattle.std.proofs.Common.{refl, arith}
 use Rattle.flow_rolled.specs.Stored.{export_time}
 use Rattle.flow_archive.specs.Sources.{of_disk, of_rows}
-use Rattle.flow_archive.proofs.SourceSums.{err_is, file_refused, file_sums, not_read}
+use Rattle.flow_measure.specs.Sums.{empty_table}
+use Rattle.flow_archive.proofs.SourceSums.{err_is, file_not_summed, file_refused, file_summed, file_sums, file_unread}
+use Rattle.flow_archive.proofs.SourceSums.{not_read}
 use Rattle.flow_archive.proofs.sources.sum_file.Goals as goal
 
 pub returns-in_err-time-clause-given : goal.returns-in_err-time-clause-given
@@ -26,3 +28,22 @@ returns-clause-given g c = λ honest table is. (
       (c.in_ok-sum_rows.ensures.added honest),
   c.in_ok-time.ensures.time honest,
 )
+
+pub returns-in_err-time-clause-found : goal.returns-in_err-time-clause-found
+returns-in_err-time-clause-found g c = λ honest.
+    file_unread c.args.width c.args.wide c.args.part.now.octets (empty_table c.args.wide) refl _
+    c.in_err-time.field-0.0 c.from_residual.result
+    (err_is c.from_residual.result (of_disk c.in_err-time.field-0.0) c.from_residual.ensures.1)
+
+pub returns-in_err-sum_rows-clause-found : goal.returns-in_err-sum_rows-clause-found
+returns-in_err-sum_rows-clause-found g c = λ honest.
+    file_not_summed c.args.width c.args.wide c.args.part.now.octets c.new-rows.result c.new-rows.ensures _
+    c.args.part.now c.in_err-sum_rows.field-0.0 c.from_residual-in_err-sum_rows.result refl
+    (c.in_err-sum_rows.ensures.refused honest)
+    (err_is c.from_residual-in_err-sum_rows.result (of_rows c.in_err-sum_rows.field-0.0)
+    c.from_residual-in_err-sum_rows.ensures.1)
+
+pub returns-clause-found : goal.returns-clause-found
+returns-clause-found g c = λ honest.
+    file_summed c.args.width c.args.wide c.args.part.now.octets c.new-rows.result c.new-rows.ensures
+    c.sum_rows.new.rows c.in_ok-time.time (c.in_ok-sum_rows.ensures.added honest) (c.in_ok-time.ensures.time honest)

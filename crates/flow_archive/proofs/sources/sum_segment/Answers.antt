@@ -9,7 +9,7 @@ use Rattle.flow_segment.specs.declared.error.PartSumError.TheVariants as part
 use Rattle.flow_archive.specs.declared.sources.SourceError.TheVariants.{Fault}
 use Rattle.flow_archive.specs.Sources.{of_part, of_scan}
 use Rattle.flow_archive.proofs.SourceSums.{err_is, messages_there, not_added, not_restated, part_fault, passed_on}
-use Rattle.flow_archive.proofs.SourceSums.{restated_there, sums_are}
+use Rattle.flow_archive.proofs.SourceSums.{messages_refused, prefix_refused, restated_there, segment_summed, sums_are}
 use Rattle.flow_archive.proofs.sources.sum_segment.Goals as goal
 
 pub returns-in_err-templates-clause-given : goal.returns-in_err-templates-clause-given
@@ -63,3 +63,33 @@ returns-in_err-time-clause-cause g c =
     passed_on part.Fault Fault c.in_err-time.field-0.0 (of_part c.in_err-time.field-0.0) _ _ _
     c.from_residual-in_err-time.result c.in_err-time.ensures.cause c.in_ok-templates.ensures.cause.done
     c.from_residual-in_err-time.ensures.1 (part_fault c.in_err-time.field-0.0) (λ is. ap of_part is)
+
+pub returns-in_err-templates-clause-found : goal.returns-in_err-templates-clause-found
+returns-in_err-templates-clause-found g c = λ h.
+    let S = g.S.SealedFile in
+    let file = c.args.part.now in
+    prefix_refused (part_octets 0 file.prefix (S.octets file.reader))
+    (part_octets file.prefix file.length (S.octets file.reader)) (S.number file.reader) file.prefix file.length
+    file.messages _ c.in_err-templates.field-0.0 c.from_residual.result (c.in_err-templates.ensures.told h)
+    (err_is c.from_residual.result (of_scan c.in_err-templates.field-0.0) c.from_residual.ensures.1)
+
+pub returns-in_err-time-clause-found : goal.returns-in_err-time-clause-found
+returns-in_err-time-clause-found g c = λ h.
+    let S = g.S.SealedFile in
+    let file = c.args.part.now in
+    messages_refused (part_octets 0 file.prefix (S.octets file.reader))
+    (part_octets file.prefix file.length (S.octets file.reader)) (S.number file.reader) file.prefix file.length
+    file.messages _ c.in_ok-templates.templates c.in_err-time.field-0.0 c.from_residual-in_err-time.result
+    (c.in_ok-templates.ensures.found h) (c.in_err-time.ensures.told h)
+    (err_is c.from_residual-in_err-time.result (of_part c.in_err-time.field-0.0)
+    c.from_residual-in_err-time.ensures.1)
+
+pub returns-clause-found : goal.returns-clause-found
+returns-clause-found g c = λ h.
+    let S = g.S.SealedFile in
+    let file = c.args.part.now in
+    segment_summed c.args.width (part_octets 0 file.prefix (S.octets file.reader))
+    (part_octets file.prefix file.length (S.octets file.reader)) file.messages c.in_ok-templates.templates
+    c.add_flows.new.templates c.new-rows.result c.add_flows.new.rows c.in_ok-time.time
+    (c.in_ok-templates.ensures.found h) (c.in_ok-time.ensures.found h) c.new-rows.ensures
+    (c.in_ok-time.ensures.given h) (c.in_ok-time.ensures.time h)

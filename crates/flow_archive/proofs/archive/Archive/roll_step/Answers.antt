@@ -16,7 +16,7 @@ use Rattle.flow_archive.proofs.Stepping.{refused}
 use Rattle.flow_archive.proofs.SourceStand.{at_end, below, next_file, none_staged, not_closing, not_stepped, one_less}
 use Rattle.flow_archive.proofs.SourceStand.{source_read, taken_rolling}
 use Rattle.flow_archive.proofs.Undertaking.{job_archive, job_work, without_device}
-use Rattle.flow_archive.proofs.Inside.{next_place, state_of, the_rolling, with_rolling, work_of}
+use Rattle.flow_archive.proofs.Inside.{first_place, next_place, state_of, the_rolling, with_rolling, work_of}
 use Rattle.flow_archive.proofs.archive.Archive.roll_step.Goals as goal
 
 pub returns-in_default-clause-step : goal.returns-in_default-clause-step
@@ -57,6 +57,26 @@ returns-then-job-clause-step g c =
     (λ h image left. g.met.D.Disk.only_now d image h left)
     (λ h image is. stands_for inside.slots _ image
     ((c.self.invariant.0.still_open c.if-self.false).kept.known h image is)))
+
+pub index-first-requires : goal.index-first-requires
+index-first-requires g c =
+    let D = g.D.Disk in
+    let inside = c.self.inside in
+    let m = inside.slots.current in
+    let d = inside.disk in
+    let s = state_of inside in
+    let j : Rolling = c.in-Some.job in
+    let rolling = the_rolling (D.honest d) s inside.job j c.in-Some.is c.self.invariant.1.job in
+    let first_is = first_place m j c.as_slice.result.now c.job.inside.kind c.sources_from-from.result
+    c.sources_from-from.ensures c.as_slice.ensures (ap (λ (r : Rolling). r.kind) c.job.view_is) in
+    let len : vec_len inside.files ≡ length inside.files.items = search rules in
+    omega (
+      arith,
+      first_is,
+      len,
+      as_many (D.honest d) (front_of m) inside.files.items c.self.invariant.0.files_are,
+      below s c.self.invariant.0.counted.valid j.kind j.sources 0 rolling.few (omega (arith, rolling.some)),
+    )
 
 pub index-source-requires : goal.index-source-requires
 index-source-requires g c =
@@ -121,15 +141,22 @@ returns-in-Err-clause-answers g c =
     let kept : new ≡ j = c.in-Err.ensures.kept in
     let same : W new ≡ s = ap (λ (r : Rolling). W r) kept
     ∙ ap (λ (o : Option Rolling). with_rolling inside o) (sym c.in-Some.is) in
+    let first_is = first_place m j c.as_slice.result.now c.job.inside.kind c.sources_from-from.result
+    c.sources_from-from.ensures c.as_slice.ensures (ap (λ (r : Rolling). r.kind) c.job.view_is) in
+    let oldest = next_file s c.self.invariant.0.counted.valid j.kind j.sources 0 rolling.few
+    (omega (arith, rolling.some)) (D.honest d) inside.files.items c.index-first.result.now
+    (c.index-first.ensures ∙ ap (λ (n : ℕ). get_or inside.files.items n c.index-first.result.now) first_is)
+    c.self.invariant.0.files_are in
     let next = next_file s c.self.invariant.0.counted.valid j.kind j.sources j.read rolling.few lt (D.honest d)
     inside.files.items c.index-source.result.now
     (c.index-source.ensures ∙ ap (λ (n : ℕ). get_or inside.files.items n c.index-source.result.now) index_is)
     c.self.invariant.0.files_are in
     subst (λ (x : Seen g.row.D.Denot). AnswersStep (D.honest x.disk) x.closed x.state (Err c.of_source.result) (W new))
     c.self.view_is (subst (λ (e : ArchiveError). AnswersStep (D.honest d) inside.closed s (Err e) (W new))
-    (sym c.of_source.ensures) (not_stepped (D.honest d) inside.closed s (W new) j new c.number.result
-    c.in-Err.e c.if-self.false job_is lt same
-    (next.0, next.1 ∙ ap (λ (n : ℕ). n ∷ next.0) (sym c.number.ensures)) told))
+    (sym c.of_source.ensures) (not_stepped (D.honest d) inside.closed s (W new) j new c.number-oldest.result
+    c.number-next.result c.in-Err.e c.if-self.false job_is lt same
+    (oldest.0, oldest.1 ∙ ap (λ (n : ℕ). n ∷ oldest.0) (sym c.number-oldest.ensures))
+    (next.0, next.1 ∙ ap (λ (n : ℕ). n ∷ next.0) (sym c.number-next.ensures)) told))
 
 pub returns-in-Err-clause-fits : goal.returns-in-Err-clause-fits
 returns-in-Err-clause-fits g c =
@@ -170,7 +197,7 @@ returns-in-Err-clause-step g c =
     ∙ ap (λ (o : Option Rolling). with_rolling inside o) (sym c.in-Some.is) in
     rw (← c.self.view_is) (refused D.honest D.moment D.left_since D.held _ _ _ c.of_source.result
     (ap (λ (x : State). record { disk = d; state = x; closed = inside.closed }) same)
-    (λ is. not_closing c.number.result c.in-Err.e (sym c.of_source.ensures ∙ is))
+    (λ is. not_closing c.number-oldest.result c.number-next.result c.in-Err.e (sym c.of_source.ensures ∙ is))
     (λ h image left. g.met.D.Disk.only_now d image h left)
     (λ h still image is. stands_for inside.slots _ image ((c.self.invariant.0.still_open still).kept.known h image is)))
 
