@@ -34,7 +34,7 @@ flows_lines span v = flows_text (flows_in_view span.from span.to v)
 
 -- ---- on an honest disk
 
--- What was read stands for a state, whose view this is.
+-- What was read is that of a state, whose view this is.
 abbrev pub IsViewRead : (ℕ → List ℕ) → View → Type 0
 IsViewRead reads v = (s : State) × StandsFor reads s × IsViewOf (shelf_of s) v
 
@@ -63,7 +63,7 @@ IsNotAsked reads (Write failed) = ⊥
 IsNotAsked reads (Archive e) = ⊥
 IsNotAsked reads (Folder why) = ⊥
 
--- Why a query isn't answered: a read failed, or memory ran out; damage is told only where the view has no answer.
+-- Why a query isn't answered: a read failed, or memory ran out; damage is reported only where the view has no answer.
 abbrev pub IsQueryFault : (View → Type 0) → (ℕ → List ℕ) → QueryError → Type 0
 IsQueryFault has_answer reads (query.Damaged file at) = (v : View) × IsViewRead reads v × (has_answer v → ⊥)
 IsQueryFault has_answer reads query.Fault = ⊤
@@ -82,7 +82,7 @@ IsNotFound has_answer reads (Folder why) = ⊥
 abbrev pub TellsLines : (View → List ℕ) → (ℕ → List ℕ) → Option (List ℕ) → Option (List ℕ) → Type 0
 TellsLines lines reads old new = (text : List ℕ) × AreLinesOf lines reads text × Appends old new text
 
--- a front of them, where writing failed; else nothing
+-- a prefix of them, where writing failed; else nothing
 abbrev pub TellsNoLines : (View → List ℕ) → (View → Type 0) → (ℕ → List ℕ) → Option (List ℕ) → Option (List ℕ)
     → ArchiveRefusal → Type 0
 TellsNoLines lines has_answer reads old new (Write failed) =
@@ -110,7 +110,7 @@ AreFlows text = (flows : List Flow) × (text ≡ flows_text flows)
 abbrev pub Writes : (List ℕ → Type 0) → Option (List ℕ) → Option (List ℕ) → Type 0
 Writes are old new = (text : List ℕ) × are text × Appends old new text
 
--- a front of such lines, where writing failed; else nothing
+-- a prefix of such lines, where writing failed; else nothing
 abbrev pub WritesOrNot : (List ℕ → Type 0) → ArchiveRefusal → Option (List ℕ) → Option (List ℕ) → Type 0
 WritesOrNot are (Write failed) old new = (text : List ℕ) × are text × AppendsFront old new text
 WritesOrNot are (Opening e) old new = Keeps old new

@@ -35,12 +35,12 @@ standing_line t = codes "ok" ++ 32 ∷ decimal t.position ++ 32 ∷ decimal t.cu
 
 -- ---- on an honest disk
 
--- what was read stands for a state, which is told
+-- what was read is that of a state, which is written
 abbrev pub TellsState : (ℕ → List ℕ) → Option (List ℕ) → Option (List ℕ) → Type 0
 TellsState reads old new = (s : State) × StandsFor reads s × Appends old new (standing_line (standing_of s))
 
--- Nothing is written of what was read where it stands for no state, nor after a fault of the device or of memory; a
--- front of the line where writing failed.
+-- Nothing is written of what was read where it is that of no state, nor after a fault of the device or of memory; a
+-- prefix of the line where writing failed.
 abbrev pub IsCheckRefused : (ℕ → List ℕ) → Option (List ℕ) → Option (List ℕ) → ArchiveRefusal → Type 0
 IsCheckRefused reads old new (Write failed) =
     (s : State) × StandsFor reads s × AppendsFront old new (standing_line (standing_of s))
@@ -56,7 +56,7 @@ IsCheckRefused reads old new (Folder why) = ⊥
 abbrev pub IsChecked : Option (List ℕ) → Option (List ℕ) → Type 0
 IsChecked old new = (t : Standing) × Appends old new (standing_line t)
 
--- nothing is written, or where writing failed a front of a line
+-- nothing is written, or where writing failed a prefix of a line
 abbrev pub KeepsOrChecks : ArchiveRefusal → Option (List ℕ) → Option (List ℕ) → Type 0
 KeepsOrChecks (Write failed) old new = (t : Standing) × AppendsFront old new (standing_line t)
 KeepsOrChecks (Opening e) old new = Keeps old new

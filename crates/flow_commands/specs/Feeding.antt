@@ -82,7 +82,7 @@ fed_text (Some stopped) number count = codes "stopped" ++ counts_text number cou
 unfoldable pub fed_line : ℕ → Fed → List ℕ
 fed_line number fed = fed_text fed.stop number fed.messages ++ 10 ∷ []
 
--- the lines of Files behind so many others
+-- the lines of Files after so many others
 abbrev pub fed_lines : ℕ → List Fed → List ℕ
 fed_lines before [] = []
 fed_lines before (fed ∷ feds) = fed_line (suc before) fed ++ fed_lines (suc before) feds
@@ -114,7 +114,7 @@ feed_ended None None = Ok 0
 
 -- ---- what is written
 
--- the line of a File was written; or a front of it, where writing failed, and nothing where memory ran out
+-- the line of a File was written; or a prefix of it, where writing failed, and nothing where memory ran out
 abbrev pub TellsFile : ℕ → Fed → Option (List ℕ) → Option (List ℕ) → Result (Unit {0}) ArchiveRefusal → Type 0
 TellsFile number fed old new (Ok done) = Appends old new (fed_line number fed)
 TellsFile number fed old new (Err (Write failed)) = AppendsFront old new (fed_line number fed)
@@ -142,7 +142,7 @@ TellsFiles feds refused old new result =
     (Appends old new (fed_lines 0 feds) × (result ≡ feed_ended (first_stop feds) refused))
     ⊎ (IsUnwritten result × AppendsFront old new (fed_lines 0 feds))
 
--- so many Files were fed, while others were rolled, and this was told of them
+-- so many Files were fed, while others were rolled, and this was written of them
 abbrev pub TellsFed : ℕ → Option (List ℕ) → Option (List ℕ) → Result ℕ ArchiveRefusal → Type 0
 TellsFed count old new result =
     (feds : List Fed) × (refused : Option ArchiveError) × (length feds ≡ count)
@@ -173,7 +173,7 @@ FeedsLines count status old new =
     × (status ≡ first_status (first_stop feds))
 
 -- Nothing is written where the archive isn't opened; all lines of Files of which none stopped, where the rolling was
--- refused; a front of lines, where one couldn't be written.
+-- refused; a prefix of lines, where one couldn't be written.
 abbrev pub KeepsOrFeeds : ℕ → ArchiveRefusal → Option (List ℕ) → Option (List ℕ) → Type 0
 KeepsOrFeeds count (Archive e) old new =
     (feds : List Fed) × (length feds ≡ count) × Appends old new (fed_lines 0 feds) × (first_stop feds ≡ None)

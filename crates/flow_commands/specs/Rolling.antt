@@ -35,7 +35,7 @@ job_line kind count = job_name kind ++ 32 ∷ decimal count ++ 10 ∷ []
 abbrev pub IsJobLine : JobKind → List ℕ → Type 0
 IsJobLine kind text = (count : ℕ) × (text ≡ job_line kind count)
 
--- What is written of a job that answered so: its line, or a front of it where writing failed; nothing where the job was
+-- What is written of a job that answered so: its line, or a prefix of it where writing failed; nothing where the job was
 -- refused, or memory ran out.
 abbrev pub TellsJob : JobKind → Result ℕ ArchiveError → Option (List ℕ) → Option (List ℕ)
     → Result (Unit {0}) ArchiveRefusal → Type 0
@@ -48,8 +48,8 @@ TellsJob kind (Ok count) old new (Err (Archive e)) = ⊥
 TellsJob kind (Ok count) old new (Err (Query e)) = ⊥
 TellsJob kind (Ok count) old new (Err (Folder why)) = ⊥
 
--- The files of an archive but the newest were summed as one job, and this was written of it. Fault is told exactly where
--- a call of the disk failed.
+-- The files of an archive but the newest were summed as one job, and this was written of it. After Ok no call of the
+-- disk failed; where the answer is 30 Fault one has.
 pub record IsRolled {D : Type 0} (honest : D → Bool) (moment : D → ℕ) (left_since : D → ℕ → (ℕ → List ℕ) → Type 0)
     (faults : D → ℕ) (kind : JobKind) (keep : ℕ) (before after : Seen D) (old new : Option (List ℕ))
     (result : Result (Unit {0}) ArchiveRefusal) : Type 0 where

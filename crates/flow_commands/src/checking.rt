@@ -23,7 +23,7 @@ use std::fs::Files;
 use std::io::Write;
 use std::os::unix::fs::FileExt;
 
-/// How an archive stands.
+/// What an archive is found to be.
 #[derive(Drop)]
 struct Standing {
     /// How many messages were taken in.
@@ -69,7 +69,7 @@ fn summed_count(entries: &[Entry]) -> u64
     (count_of(entries, Kind::Rolled) + count_of(entries, Kind::Wide)) as u64
 }
 
-/// Opens the archive on a disk, of which nothing is frozen, and tells how it stands.
+/// Opens the archive on a disk, of which nothing is frozen, and says what it is.
 fn find_standing<D: Disk>(alloc: Global, disk: &mut D) -> Result<Standing, RecoverError>
     requires { (n : ℕ) → (D.marks disk.old n).frozen ≡ false }
     ensures stands { IsTrue (D.honest disk.old) → IfOk result
@@ -93,7 +93,7 @@ fn find_standing<D: Disk>(alloc: Global, disk: &mut D) -> Result<Standing, Recov
 
 /// Opens the archive on a disk, of which nothing is frozen, and writes `ok POSITION CUT ROLLED SEALED`: how many
 /// messages were taken in, how many of them stand in sums alone, how many files of sums and sealed segments there are.
-/// A stop at any moment leaves what stands for the archive that stood there.
+/// A stop at any moment leaves what opens as the archive that was there.
 pub fn check<D: Disk, W: Write>(
     alloc: Global,
     disk: &mut D,

@@ -99,7 +99,7 @@ pub(crate) fn stop_status(stop: FeedStop) -> u8
     }
 }
 
-/// Puts the line of the File of this number behind a text: `fed N MESSAGES` or `stopped N MESSAGES NUMBER NAME`.
+/// Puts the line of the File of this number after a text: `fed N MESSAGES` or `stopped N MESSAGES NUMBER NAME`.
 #[tactic(auto, unfolding(crate::specs::Feeding::fed_line))]
 fn push_line(text: &mut Vec<u8>, number: u64, fed: Fed) -> Result<(), AllocError>
     ensures { OnOk result (text.new.items ≡ text.old.items ++ fed_line number fed) }

@@ -1,8 +1,8 @@
 //! What the commands over an archive do, on any disk and over a folder.
 //!
 //! What the layers above may count on: on an honest disk `create` makes the archive that was asked for; `check` writes
-//! the line of the state for which what is read stands, and tells damage only where that is none. Whatever the disk,
-//! and so over a folder, `check` writes one line of numbers, or nothing, or a front of one where writing failed. A
+//! the line of the state of what is read, and reports damage only where there is none. Whatever the disk,
+//! and so over a folder, `check` writes one line of numbers, or nothing, or a prefix of one where writing failed. A
 //! refusal is printed with its number and its name, and has its exit status. `feed` takes Files one after the other,
 //! writes exactly a line for each, and ends with the status of the first that stopped, or with the refusal of the
 //! rolling; `roll` and `merge` are whole jobs, and write exactly how many files they summed.

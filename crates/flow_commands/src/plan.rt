@@ -98,7 +98,7 @@ impl StartSpan {
         self.from
     }
 
-    /// The second behind the last one.
+    /// The second after the last one.
     pub fn to(&self) -> u64
         ensures { result ≡ self.now.to }
     {

@@ -7,9 +7,9 @@ use flow_codec::StreamError;
 #[derive(Clone, Copy, Debug, PartialEq, Eq)]
 pub enum FeedStop {
     /// Behind the messages that were taken in the File has a fault (15 to 17), or reading it failed (31), or one
-    /// message more than 2^48 - 1 stands there (25).
+    /// message more than 2^48 - 1 is there (25).
     File(StreamError),
-    /// The archive refused the message behind them, or the seal that would have made room for it.
+    /// The archive refused the message after them, or the seal that would have made room for it.
     Archive(ArchiveError),
     /// There was no memory to hold it.
     OutOfMemory,

@@ -2,7 +2,7 @@
 
 use std::sync::{Condvar, Mutex, Wait};
 
-/// What a roller was told of the work beside it.
+/// What a roller knows of the work beside it.
 #[derive(Clone, Copy)]
 struct Work {
     /// How often there was something new, up to 2^64 - 1.

@@ -144,7 +144,7 @@ pub struct Tip<J: Naming> {
     ghost head_is: { head ≡ head_of J.book },
 }
 
-/// A beginning of the history that was told. It is seen as its steps.
+/// A prefix of the history that was published. It is seen as its steps.
 #[derive(Drop)]
 pub struct Told<J: Naming> {
     count: u64,

@@ -351,7 +351,7 @@ where
         Ok(turn)
     }
 
-    /// The next step of the job that stands, of whatever kind; without one it begins to roll all sealed segments but
+    /// The next step of the job that is under way, of whatever kind; without one it begins to roll all sealed segments but
     /// the newest `keep`; where there are none, it removes the oldest file that waits for its removal, and is idle where
     /// there is none that can be removed. Readers are shown an install.
     pub fn roll_turn(

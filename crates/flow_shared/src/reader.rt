@@ -73,7 +73,7 @@ impl<S: SealedFile, J: Naming> ArchiveReader<S, J> {
     pub fn snapshot(&mut self) -> Result<Snapshot<S>, ReaderError>
         ensures later { IsPrefix self.old self.new }
         ensures shelf { IfOk result (λ s. s.shelf ≡ after J.opening self.new) }
-        // On an honest disk it reads as it is, and has the view of each history of the opening files behind these steps.
+        // On an honest disk it reads as it is, and has the view of each history of the opening files after these steps.
         ensures honest { IsTrue J.honest → IfOk result (λ s. IsTrue s.honest) }
         ensures view { IsTrue J.honest → (h : History) → HasView J.opening h
             → IfOk result (λ s. HasView s.shelf (history_behind h self.new)) }

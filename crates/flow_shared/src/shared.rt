@@ -35,7 +35,7 @@ where
     Shown<D::Sealed, J>: Absorb<Telling<D::Sealed, J>, State = [Entry; 0]>,
 {
     /// Adds a message, and answers its number with what readers then see. Where the active segment has no room for it,
-    /// it is sealed before. What else it does stands on the call of `Locked`.
+    /// it is sealed before. What else it does is said at the call of `Locked`.
     pub fn append(&self, rt: &W, alloc: Global, message: &[u8]) -> Result<Receipt<J>, ArchiveError>
         ensures { IfOk result (λ r. IsTrue r.shown → HasOwn J.opening r.told (message.now ∷ []) r.position) }
     {
@@ -62,7 +62,7 @@ where
         self.lock.lock(rt).seal(alloc)
     }
 
-    /// A turn of rolling: the next step of the job that stands, else a job over all sealed segments but the newest
+    /// A turn of rolling: the next step of the job that is under way, else a job over all sealed segments but the newest
     /// `keep`, else a removal.
     pub fn roll_turn(
         &self,

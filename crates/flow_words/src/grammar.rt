@@ -132,8 +132,8 @@ const EXPLAIN_ABOUT: &str = "Tells what a refusal means, what usually causes it,
 
 /// What is told below the arguments of `explain`.
 const EXPLAIN_HELP: &str =
-    "A refusal is told on standard error as 'flowvault: NUMBER NAME ..'. A number that\n\
-     no refusal has is a wrong command line: status 2.\n\
+    "A refusal is written to standard error as 'flowvault: NUMBER NAME ..'. A\n\
+     number that no refusal has is a wrong command line: status 2.\n\
      \n\
      Example: flowvault explain 16";
 
@@ -141,7 +141,7 @@ const EXPLAIN_HELP: &str =
 const PROGRAM_HELP: &str = "Examples: flowvault measure 300 < FILE\n\
      \x20         flowvault create flows 300 && flowvault check flows\n\
      \n\
-     A refusal is told on standard error as 'flowvault: NUMBER NAME ..'.\n\
+     A refusal is written to standard error as 'flowvault: NUMBER NAME ..'.\n\
      Exit status: 0 done, 1 input refused, 2 wrong command line,\n\
      3 reading, writing or the device failed, 4 no memory, 5 archive damaged";
 
