@@ -1,16 +1,17 @@
 //! An archive that is opened.
 
-ghost use Rattle.std.specs.Prelude.{◌≡◌, ◌⊎◌, ℕ, Bool, List, false, IsTrue, IfOk, IfErr};
+ghost use Rattle.std.specs.Prelude.{◌≡◌, ◌⊎◌, ℕ, Bool, List, true, false, IsTrue, IfOk, IfErr, IsErrOf, length};
 ghost use Rattle.std.specs.List.{AllByRecursion};
-ghost use Rattle.flow_disk.specs.Disk.{AllImages};
+ghost use Rattle.flow_disk.specs.Disk.{AllImages, IsWithin};
 ghost use Rattle.flow_disk.specs.Moments.{LeavesOnly};
 ghost use Rattle.flow_disk.specs.Cause.{HasCause};
 ghost use Rattle.flow_gate.specs.Scan.{texts};
-ghost use Rattle.flow_manifest.specs.Slots.{reads_of};
+ghost use Rattle.flow_manifest.specs.declared.slots.Slot.{Slot};
+ghost use Rattle.flow_manifest.specs.Slots.{file_of, reads_of};
 ghost use Rattle.flow_recover.specs.Kept.{AreFilesOf};
-ghost use Rattle.flow_recover.specs.State.{State, part_of, reopened};
-ghost use Rattle.flow_recover.specs.Standing.{StandsFor, StandsForEither};
-ghost use Rattle.flow_recover.specs.Opening.{IsDeviceOrMemory, IsRecovered, StandsForNone};
+ghost use Rattle.flow_recover.specs.State.{State, end_of, part_of, reopened};
+ghost use Rattle.flow_recover.specs.Standing.{StandsFor, StandsForEither, is_file_of};
+ghost use Rattle.flow_recover.specs.Opening.{AreCutTo, IsDeviceOrMemory, IsRecovered, StandsForNone};
 ghost use Rattle.flow_archive.specs.Beginning.{answer_of, disk_of};
 ghost use Rattle.flow_archive.specs.Owned.{all_frozen, MayBeFrozen};
 
@@ -44,6 +45,22 @@ impl<D: Disk> Archive<D> {
             → IfErr result (λ r. IsDeviceOrMemory r.error ⊎ StandsForNone (reads_of (D.held disk))) }
         ensures any_moment { IsTrue (D.honest disk) → (s t : State) → AllImages (D.held disk) (StandsForEither s t)
             → LeavesOnly D.moment D.left_since disk (disk_of result) (StandsForEither s t) }
+        // The files that its manifest names end exactly where they are to: on every disk, and on an honest one in all
+        // that a stop may leave. They are listed, and on an honest disk no other file is.
+        ensures cut { IfOk result
+            (λ a. AreCutTo (λ n. (D.marks a.disk n).size) a.state.manifest (end_of a.state)) }
+        ensures cut_images { IsTrue (D.honest disk) → IfOk result (λ a. AllImages (D.held a.disk)
+            (λ image. AreCutTo (λ n. length (image n)) a.state.manifest (end_of a.state))) }
+        ensures listed { IfOk result (λ a. (n : ℕ) → is_file_of a.state.manifest n ≡ true
+            → (D.marks a.disk n).listed ≡ true) }
+        ensures removed { IsTrue (D.honest disk) → IfOk result (λ a. (n : ℕ)
+            → is_file_of a.state.manifest n ≡ false → (D.marks a.disk n).listed ≡ false) }
+        // The slots are only settled: whatever is answered, a stop may leave no more of them than before, and unless
+        // the device failed they read as before.
+        ensures slots { IsTrue (D.honest disk) → (slot : Slot)
+            → IsWithin (D.held (disk_of result) (file_of slot)) (D.held disk (file_of slot)) }
+        ensures kept { IsTrue (D.honest disk) → (IsErrOf (answer_of result) RecoverError.Fault → ⊥)
+            → (slot : Slot) → (D.held (disk_of result) (file_of slot)).reads ≡ (D.held disk (file_of slot)).reads }
         ensures cause { HasCause RecoverError.Fault (D.faults disk) (D.faults (disk_of result)) (answer_of result) }
     {
         let mut disk = disk;
@@ -109,6 +126,8 @@ pub(crate) fn resumed<D: Disk>(
     ensures refused { IfErr result (λ r. r.error ≡ RecoverError.OutOfMemory) }
     ensures still_open { IfOk result (λ a. a.closed ≡ false) }
     ensures at_rest { IfOk result (λ a. a.state ≡ reopened a.state) }
+    ensures counted { IfOk result
+        (λ a. (a.state.manifest ≡ found.slots.current) × (end_of a.state ≡ found.end)) }
     // Where what was read stood for the state that was found, it stands for this one.
     ensures read { (reads : ℕ → List ℕ) → IsRecovered D.honest D.marks D.held D.Sealed.octets D.Sealed.number
         D.Sealed.size D.Sealed.honest reads disk found.slots found.last found.end found.total (part_of found.active)

@@ -1,8 +1,9 @@
-use Rattle.std.proofs.Common.{◌≡◌, ℕ, false, List, [], length, take, refl, sym, ◌∙◌, ap, subst, rules, vec_len}
+use Rattle.std.proofs.Common.{◌≡◌, ℕ, ◌+◌, false, List, [], length, take, refl, sym, ◌∙◌, ap, subst, rules, vec_len}
 use Rattle.std.specs.List.{AllByRecursion}
 use Rattle.std.specs.Prelude.{None}
 use Rattle.flow_manifest.specs.declared.manifest.Entry.{Entry}
-use Rattle.flow_manifest.specs.Following.{front_of}
+use Rattle.flow_gate.specs.Gate.{octet_sum}
+use Rattle.flow_manifest.specs.Following.{active_of, front_of}
 use Rattle.flow_recover.specs.State.{State, part_of}
 use Rattle.flow_recover.specs.Standing.{IsKnown, StandsFor}
 use Rattle.flow_archive.specs.Owned.{all_frozen, Frozen, MayBeFrozen}
@@ -88,3 +89,9 @@ returns-clause-stands g c h image is =
     let still = (invariant_of-result g c).0.still_open refl in
     subst (λ (w : List Frozen). IsKnown found.slots (T w) image → StandsFor image (T w)) (sym c.new.ensures.items)
     (λ known. stands_for found.slots (T []) image known) (still.kept.known h image is)
+
+pub returns-clause-counted : goal.returns-clause-counted
+returns-clause-counted g c =
+    let found = c.args.found in
+    let end_at : List (List ℕ) → ℕ = λ messages. (active_of found.slots.current).prefix + octet_sum messages in
+    (refl, ap end_at c.in-Ok.ensures.messages ∙ sym (c.requires.1).counted.end_is)
