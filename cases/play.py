@@ -6,6 +6,7 @@ import ctypes
 import fcntl
 import os
 import re
+import resource
 import shlex
 import shutil
 import subprocess
@@ -77,7 +78,7 @@ class Case:
 
 
 def octets_of(words, named):
-    """The octets of words: hexadecimal digits, `XX*N`, a text in double quotes, a name, or `NAME*N`."""
+    """The octets of words: hexadecimal digits, `XX*N`, `A..B`, a text in double quotes, a name, or `NAME*N`."""
     octets = b""
     for word in words:
         if word == "|":
@@ -89,6 +90,9 @@ def octets_of(words, named):
             octets += named[name] * int(count)
         elif word.startswith('"') and word.endswith('"') and len(word) > 1:
             octets += word[1:-1].encode()
+        elif re.fullmatch(r"[0-9]+\.\.[0-9]+", word):
+            first, last = map(int, word.split(".."))
+            octets += b"".join(number.to_bytes(4, "big") for number in range(first, last + 1))
         elif re.fullmatch(r"(?:[0-9A-Fa-f]{2})+\*[0-9]+", word):
             digits, count = word.split("*")
             octets += bytes.fromhex(digits) * int(count)
@@ -216,13 +220,36 @@ def deny(held, name):
     return []
 
 
-def give_up_passing():
-    for each in PASSING:
-        LIBC.prctl(PR_CAPBSET_DROP, each, 0, 0, 0)
+class Memory:
+    """How many octets of memory the runs that follow have for their data."""
+
+    def __init__(self, octets):
+        self.octets = octets
+
+
+def give_memory(held, octets):
+    held.append(Memory(octets))
+    return []
+
+
+def bound(held):
+    """What a run gives up before it begins, if anything."""
+    limits = [each.octets for each in held if isinstance(each, Memory)]
+    if not limits and DENIED not in held:
+        return None
+
+    def give_up():
+        if DENIED in held:
+            for each in PASSING:
+                LIBC.prctl(PR_CAPBSET_DROP, each, 0, 0, 0)
+        if limits:
+            resource.setrlimit(resource.RLIMIT_DATA, (limits[-1], resource.getrlimit(resource.RLIMIT_DATA)[1]))
+
+    return give_up
 
 
 def run(held, program, wanted):
-    words, before = [program, *wanted.words], give_up_passing if DENIED in held else None
+    words, before = [program, *wanted.words], bound(held)
     try:
         got = subprocess.run(words, input=wanted.given, capture_output=True, timeout=SECONDS, preexec_fn=before)
     except subprocess.TimeoutExpired:
@@ -315,6 +342,8 @@ class Reader:
         elif word == "pour":
             pipe, path, count, *text = rest.split()
             steps.append((place, pour, [pipe, path, int(count), octets_of(text, self.named)]))
+        elif word == "memory":
+            steps.append((place, give_memory, [int(rest)]))
         elif word == "listed":
             steps.append((place, look_at_names, [words[0], words[2:]]))
         elif word == "link":
