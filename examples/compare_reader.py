@@ -6,9 +6,10 @@ temporary folder, whole ones, ones whose program was killed as it fed, and damag
 then the program for `check`, and for `totals` and `flows` over several spans, and compares what they write, line by
 line, and their statuses. It prints what was compared; the status is 0 where all agree, else 1.
 """
-import glob, os, random, re, shutil, signal, struct, subprocess, sys, tempfile, time
+import fcntl, glob, os, random, re, shutil, signal, struct, subprocess, sys, tempfile, time
 
 HERE = os.path.dirname(os.path.abspath(__file__))
+READER = os.path.join(HERE, "read_archive.py")
 TIME = 1700000000
 WITHDRAW_ALL = (2, struct.pack(">HH", 2, 0)), (3, struct.pack(">HH", 3, 0))
 FIELDS = [(150, 4), (152, 8), (152, 8), (152, 4), (4, 1), (4, 1), (4, 2), (1, 8), (1, 4), (1, 3), (1, 65535), (2, 4),
@@ -20,8 +21,9 @@ class Compared:
     def __init__(self, program):
         self.program, self.asked, self.lines, self.differ = program, 0, 0, 0
 
-    def run(self, *words):
-        return subprocess.run([self.program, *words], stdout=subprocess.PIPE, stderr=subprocess.PIPE, timeout=300)
+    def run(self, *words, program=None):
+        program = program or [self.program]
+        return subprocess.run([*program, *words], stdout=subprocess.PIPE, stderr=subprocess.PIPE, timeout=300)
 
     def make(self, *words):
         done = self.run(*words)
@@ -30,8 +32,7 @@ class Compared:
 
     def ask(self, *words):
         """Asks the reader, and then the program: its opening may cut and remove files."""
-        reader = [sys.executable, os.path.join(HERE, "read_archive.py"), *words]
-        ours = subprocess.run(reader, stdout=subprocess.PIPE, stderr=subprocess.PIPE, timeout=300)
+        ours = self.run(*words, program=[sys.executable, READER])
         theirs = self.run(*words)
         told = [done.stderr.decode().split("\n")[0].partition(": ")[2] for done in (ours, theirs)]
         told[0] = "30 Fault" if told[0].startswith("30 ") else told[0]
@@ -122,7 +123,7 @@ def messages(chance, count, domains):
     return octets
 
 
-def wide_rows(domains, keys):
+def great_rows(domains, keys):
     """Messages of many domains, which have no template after them, and of a key whose sums take several rows."""
     octets, body = b"", struct.pack(">HHHHHHHH", 256, 3, 150, 4, 1, 8, 4, 1)
     for domain in range(domains):
@@ -176,6 +177,41 @@ def dumps(compared, folder, big):
         print(f"the page's dump of {name}: {len(lines)} lines, {len(wrong)} differ {wrong or ''}", flush=True)
 
 
+# An archive of the first format: a message in a sealed segment, whose template the active one's prefix restates.
+FIRST_FORMAT = {
+    "1.slot": "A5 0001 0000000000000001 0000012C 00100000 0000000000000004 0000000000000000 00000001"
+              "00000003 00000000 0000000000000003 0000000000000000 0000000000000000",
+    "2.slot": "A5 0001 0000000000000002 0000012C 00100000 0000000000000005 0000000000000000 00000002"
+              "00000002 00000000 0000000000000003 0000000000000039 0000000000000001"
+              "00000003 00000028 0000000000000004 0000000000000000 0000000000000000",
+    "3.ipfix": "000A0039 6553F100 00000000 00000007 00020018 01000004 00960004 00040001 00010004 00020004"
+               "01000011 6553F100 06 000005DC 0000000A",
+    "4.ipfix": "000A0028 6553F100 00000001 00000007 00020018 01000004 00960004 00040001 00010004 00020004 0000"}
+
+
+def few(compared, at, file):
+    """An archive of the first format, and folders that hold none or can't be had."""
+    os.mkdir(at("first"))
+    for name, octets in FIRST_FORMAT.items():
+        file(os.path.join("first", name), bytes.fromhex(octets))
+    compared.compare("the first format", at("first"))
+    before = compared.differ
+    compared.ask("check", at("absent"))
+    os.mkdir(at("none"))
+    compared.ask("check", at("none"))
+    os.symlink("nowhere", os.path.join(at("none"), "9.ipfix"))
+    compared.ask("check", at("none"))
+    handle = os.open(at("first"), os.O_RDONLY)
+    fcntl.flock(handle, fcntl.LOCK_EX)
+    compared.ask("check", at("first"))
+    fcntl.flock(handle, fcntl.LOCK_SH)
+    beside = compared.run("check", at("first"), program=[sys.executable, READER])
+    wrong = (beside.returncode, compared.run("check", at("first")).returncode) != (0, 3)
+    os.close(handle)
+    compared.differ += wrong
+    print(f"no folder, no archive, a link, the lock held by another: {compared.differ - before} differ", flush=True)
+
+
 def main(program, seed="1"):
     chance, compared = random.Random(int(seed)), Compared(os.path.abspath(program))
     with tempfile.TemporaryDirectory(prefix="compare-reader-") as top:
@@ -196,16 +232,17 @@ def main(program, seed="1"):
         big = message(7, 1, 0x6553F13C, [(4, bytes(65515))])
         dumps(compared, at("flows"), file("big.ipfix", big))
         compared.compare("the page's archive", at("flows"))
+        few(compared, at, file)
         samples = sorted(glob.glob(os.path.join(HERE, "*.ipfix")))
         some = file("some.ipfix", messages(chance, 250, [0, 7, 4294967295]))
         more = file("more.ipfix", messages(chance, 200, [7, 8]))
-        many = file("many.ipfix", wide_rows(70, 2))
-        long = file("long.ipfix", wide_rows(2, 400))
+        many = file("many.ipfix", great_rows(200, 2))
+        long = file("long.ipfix", great_rows(2, 400))
         for name, words in (("equal", ["300", "--wide", "300"]), ("wide", ["300", "--wide", "3600"]), ("seven", ["7"])):
             folder = archive(name, *words, "--limit", "65535")
             compared.compare(f"{name}, empty", folder)
-            for command in (["feed", *samples, some], ["roll", "1"], ["merge", "0"], ["feed", more, many, long],
-                            ["roll", "0"], ["feed", some], ["roll", "1"], ["merge", "1"]):
+            for command in (["feed", *samples, some], ["roll", "1"], ["merge", "0"], ["feed", many],
+                            ["feed", more, long], ["roll", "0"], ["feed", some], ["roll", "1"], ["merge", "1"]):
                 compared.make(command[0], folder, *command[1:], *(["--keep", "99"] if command[0] == "feed" else []))
                 compared.compare(f"{name}, {command[0]}", folder)
         damage(compared, chance, at("wide"), at("copy"), 60)
@@ -213,7 +250,7 @@ def main(program, seed="1"):
         for n in range(6):
             feeding = subprocess.Popen([compared.program, "feed", killed, some, more, long, "--keep", "1"],
                                        stdout=subprocess.DEVNULL, stderr=subprocess.DEVNULL)
-            time.sleep(chance.uniform(0.1, 3))
+            time.sleep(chance.uniform(0.3, 4))
             feeding.send_signal(signal.SIGKILL)
             feeding.wait()
             compared.compare(f"killed {n + 1} times", killed)
