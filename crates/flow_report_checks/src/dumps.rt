@@ -1,6 +1,6 @@
 //! The lines that `dump` writes through writers and readers that fail or are interrupted.
 
-use crate::stage::{PLAIN, decoded, told};
+use crate::stage::{PLAIN, decoded, records, told};
 use flow_report::dump;
 use std::alloc::Global;
 use std::io;
@@ -11,16 +11,6 @@ use std::test::Fail;
 const PLAIN_LINES: &str =
     "message 57 1700000000 0 7\nrecord 256 flowStartSeconds=1700000000 protocolIdentifier=6 \
      octetDeltaCount=1500 packetDeltaCount=10\n";
-
-/// A message of 4,000 records.
-fn records(alloc: Global) -> Result<Vec<u8>, Fail> {
-    let mut file = decoded(
-        alloc,
-        "000A 0FC0 6553F100 00000000 00000007 | 0002 000C 0100 0001 0004 0001 | 0100 0FA4",
-    )?;
-    file.resize(4_032, 6)?;
-    Ok(file)
-}
 
 /// More text than is held at a time.
 #[test]
@@ -131,55 +121,6 @@ fn keeps_the_lines_before_a_failed_read(rt: HostRuntime) -> Result<(), Fail> {
         }
         want.push_str("31 Read")?;
         assert_eq!(rt; text.as_str(), want.as_str(), "{count} octets");
-    }
-    Ok(())
-}
-
-/// Takes all octets of a call, after as many interrupted calls: so many before the first, and so many before each later
-/// one.
-#[derive(Drop)]
-struct Interrupting {
-    left: u32,
-    later: u32,
-    taken: usize,
-}
-
-impl Write for Interrupting {
-    fn write(&mut self, octets: &[u8]) -> io::Result<usize> {
-        if self.left > 0 {
-            self.left -= 1;
-            return Err(io::Error::from(ErrorKind::Interrupted));
-        }
-        self.left = self.later;
-        self.taken = self.taken.wrapping_add(octets.len());
-        Ok(octets.len())
-    }
-
-    fn flush(&mut self) -> io::Result<()> {
-        Ok(())
-    }
-}
-
-/// The millionth interrupted call of a run ends it, over all of its writes: the text is written in two.
-#[test]
-fn bears_interrupted_writes(rt: HostRuntime) -> Result<(), Fail> {
-    let alloc = rt.alloc();
-    let file = records(alloc)?;
-    for (left, later, want) in [
-        (999_999, 0, ""),
-        (1_000_000, 0, "32 Write"),
-        (500_000, 499_999, ""),
-        (500_000, 500_000, "32 Write"),
-    ] {
-        let mut output = Interrupting {
-            left,
-            later,
-            taken: 0,
-        };
-        let answer = dump(alloc, &mut file.as_slice(), &mut output);
-        let text = told(alloc, [].as_slice(), answer)?;
-        assert_eq!(rt; text.as_str(), want, "{left} and {later}");
-        assert_eq!(rt; output.taken == 128_028, want.is_empty());
     }
     Ok(())
 }

@@ -20,6 +20,16 @@ pub(crate) fn decoded(alloc: Global, text: &str) -> Result<Vec<u8>, Fail> {
     Ok(octets)
 }
 
+/// A message of 4,000 records.
+pub(crate) fn records(alloc: Global) -> Result<Vec<u8>, Fail> {
+    let mut file = decoded(
+        alloc,
+        "000A 0FC0 6553F100 00000000 00000007 | 0002 000C 0100 0001 0004 0001 | 0100 0FA4",
+    )?;
+    file.resize(4_032, 6)?;
+    Ok(file)
+}
+
 /// Lines, and behind them an answer.
 pub(crate) fn told(
     alloc: Global,
