@@ -224,6 +224,43 @@ fn a_line_that_is_not_written(rt: HostRuntime) -> Result<(), Fail> {
     Ok(())
 }
 
+/// Takes all octets of a call, after as many interrupted calls.
+#[derive(Drop)]
+struct Interrupting {
+    each: u32,
+    left: u32,
+}
+
+impl Write for Interrupting {
+    fn write(&mut self, octets: &[u8]) -> io::Result<usize> {
+        if self.left > 0 {
+            self.left -= 1;
+            return Err(io::Error::from(ErrorKind::Interrupted));
+        }
+        self.left = self.each;
+        Ok(octets.len())
+    }
+
+    fn flush(&mut self) -> io::Result<()> {
+        Ok(())
+    }
+}
+
+/// The millionth interrupted call ends a run, though each File has a line that is written by itself.
+#[test]
+fn lines_bear_interrupts(rt: HostRuntime) -> Result<(), Fail> {
+    with_file(&rt, "cli_late")?;
+    let words = ["feed", "cli_late", "cli_late.ipfix", "cli_late.ipfix"];
+    for (each, status, told) in [(499_999, 0, ""), (500_000, 3, "flowvault: 32 Write\n")] {
+        let mut output = Interrupting { each, left: each };
+        let got = ran(&rt, words.as_slice(), &mut b"".as_slice(), &mut output)?;
+        assert_eq!(rt; got.status, status);
+        assert_eq!(rt; got.told.as_slice(), told.as_bytes());
+    }
+    fs::remove_dir_all(&rt, "cli_late")?;
+    Ok(())
+}
+
 /// The longest message and the plain one, 33 times: two mebibytes and more.
 fn large_file<H: Files + AllocGlobal>(rt: &H, path: &str) -> Result<(), Fail> {
     let alloc = rt.alloc();

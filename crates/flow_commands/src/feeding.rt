@@ -173,25 +173,27 @@ fn tell_files<W: Write>(
 {
     let mut first = None;
     let mut count: u64 = 0;
+    let mut patience = Patience::new();
     for fed in feds {
         count += 1;
-        tell_file(alloc, count, *fed, output)?;
+        tell_file(alloc, count, *fed, &mut patience, output)?;
         first = first.or(fed.stop);
     }
     ended(first, refused)
 }
 
-/// Writes the line of the File of this number.
+/// Writes the line of the File of this number. The interrupted calls of a run count together, whatever its lines.
 fn tell_file<W: Write>(
     alloc: Global,
     number: u64,
     fed: Fed,
+    patience: &mut Patience,
     output: &mut W,
 ) -> Result<(), ArchiveRefusal>
     ensures { TellsFile number fed (W.contents output.old) (W.contents output.new) result }
 {
     let text = line(alloc, number, fed)?;
-    write_patiently(output, text.as_slice(), &mut Patience::new())?;
+    write_patiently(output, text.as_slice(), patience)?;
     Ok(())
 }
 
