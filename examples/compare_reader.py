@@ -48,11 +48,13 @@ class Compared:
         """Asks for all of an archive."""
         before = (self.asked, self.lines, self.differ)
         state = " ".join(self.ask("check", folder))
+        begins = [int(line.split()[0]) for line in self.ask("flows", folder, "0", "4294967296")] or [TIME]
+        flow = begins[len(begins) // 2]
         starts = [int(line.split()[0]) for line in self.ask("totals", folder, "0", "4294967296")]
         starts = sorted(set(starts)) or [TIME]
         middle, last = starts[len(starts) // 2], starts[-1]
-        spans = (("flows", 0, 4294967296), ("totals", starts[0] + 1, last), ("flows", middle, last),
-                 ("totals", middle, middle + 1), ("flows", middle + 1, middle), ("totals", 0, middle))
+        spans = (("totals", starts[0] + 1, last), ("totals", middle, middle + 1), ("totals", middle - 1, middle),
+                 ("flows", flow, flow + 1), ("flows", flow - 1, flow), ("totals", middle + 1, middle))
         for command, start, end in spans:
             self.ask(command, folder, str(start), str(end))
         asked, lines, differ = (now - then for now, then in zip((self.asked, self.lines, self.differ), before))
@@ -144,12 +146,16 @@ def damage(compared, chance, folder, copy, count):
         path = os.path.join(copy, chance.choice(sorted(os.listdir(copy))))
         os.chmod(path, 0o640)
         octets = bytearray(open(path, "rb").read())
-        how = chance.randrange(4)
+        how = chance.randrange(5)
         at = min(chance.choice([chance.randrange(len(octets)), chance.randrange(150)]), len(octets) - 1)
         if how == 0:
             del octets[at:]
         elif how == 1:
             octets += chance.randbytes(chance.randint(1, 40))
+        elif how == 2:  # two rows of a rolled file, or two domains of two rows with three each, are exchanged
+            begin, size = chance.choice([(120, 41), (120, 40), (0, 362), (0, 366)])
+            begin += size * chance.randrange(1 + len(octets) // size)
+            octets[begin:begin + 2 * size] = octets[begin + size:begin + 2 * size] + octets[begin:begin + size]
         else:
             octets[at] = chance.choice([0, 1, octets[at] ^ 1, octets[at] ^ 128, chance.randrange(256)])
         open(path, "wb").write(octets)
@@ -188,13 +194,34 @@ FIRST_FORMAT = {
                "01000011 6553F100 06 000005DC 0000000A",
     "4.ipfix": "000A0028 6553F100 00000001 00000007 00020018 01000004 00960004 00040001 00010004 00020004 0000"}
 
+# Changes of its files: from which octet on these are written, or all is cut off, and what is answered then.
+EXCHANGED = FIRST_FORMAT["2.slot"].replace(" ", "")[142:] + FIRST_FORMAT["2.slot"].replace(" ", "")[78:142]
+CHANGES = [
+    ("2.slot", 102, None, "23 Cut 2"), ("2.slot", 1, "0003", "21 Format 2"), ("2.slot", 0, None, "23 Cut 2"),
+    ("2.slot", 39, EXCHANGED, "22 Entries 2"), ("1.slot", 10, "02", "20 Damaged 2 3"), ("1.slot", 0, "00", ""),
+    ("4.ipfix", 40, None, "20 Damaged 4 40"), ("4.ipfix", 40, "01", "20 Damaged 4 40"), ("4.ipfix", 41, "FF", ""),
+    ("4.ipfix", 40, "000A0010" + "00" * 12, "20 Damaged 4 40"), ("4.ipfix", 42, "000A0010", ""),
+    ("4.ipfix", 39, None, "20 Damaged 4 39"), ("4.ipfix", 21, "01", "20 Damaged 4 0"),
+    ("4.ipfix", 4, "00", "20 Damaged 4 0"), ("3.ipfix", 56, None, "20 Damaged 3 56"),
+    ("3.ipfix", 19, "03", "20 Damaged 3 0"), ("2.slot", 70, "02", "20 Damaged 3 57"), ("3.ipfix", 57, "0000", "")]
+
 
 def few(compared, at, file):
-    """An archive of the first format, and folders that hold none or can't be had."""
-    os.mkdir(at("first"))
-    for name, octets in FIRST_FORMAT.items():
-        file(os.path.join("first", name), bytes.fromhex(octets))
-    compared.compare("the first format", at("first"))
+    """An archive of the first format, and changes of it; folders that hold none or can't be had."""
+    before = compared.differ
+    for name, place, octets, wanted in [("2.slot", 0, "A5", ""), *CHANGES]:
+        shutil.rmtree(at("first"), ignore_errors=True)
+        os.mkdir(at("first"))
+        for other, text in FIRST_FORMAT.items():
+            file(os.path.join("first", other), bytes.fromhex(text))
+        with open(os.path.join(at("first"), name), "r+b") as out:
+            out.seek(place)
+            out.write(bytes.fromhex(octets or ""))
+            out.truncate() if octets is None else None
+        reported = compared.run("check", at("first"), program=[sys.executable, READER]).stderr.decode()
+        compared.differ += wanted not in reported or bool(wanted) != bool(reported)
+        compared.ask("check", at("first"))
+    print(f"the first format, and {len(CHANGES)} changes of it: {compared.differ - before} differ", flush=True)
     before = compared.differ
     compared.ask("check", at("absent"))
     os.mkdir(at("none"))
