@@ -1,5 +1,5 @@
 #!/usr/bin/env python3
-"""read_archive.py: an independent reader of flowvault's archives, written from docs/FORMATS.md alone.
+"""read_archive.py: an independent reader of flowvault's archives, by what docs/FORMATS.md says and no more.
 
   read_archive.py check DIR             looks for what an opening refuses, and writes `ok POSITION CUT ROLLED SEALED`
   read_archive.py totals DIR FROM TO    writes the sums of the intervals that start from FROM on and before TO
