@@ -35,8 +35,8 @@ job_line kind count = job_name kind ++ 32 ∷ decimal count ++ 10 ∷ []
 abbrev pub IsJobLine : JobKind → List ℕ → Type 0
 IsJobLine kind text = (count : ℕ) × (text ≡ job_line kind count)
 
--- What is written of a job that answered so: its line, or a prefix of it where writing failed; nothing where the job was
--- refused, or memory ran out.
+-- What is written of a job that answered so: its line, or a prefix of it where writing failed; nothing where the job
+-- was refused, or memory ran out.
 abbrev pub TellsJob : JobKind → Result ℕ ArchiveError → Option (List ℕ) → Option (List ℕ)
     → Result (Unit {0}) ArchiveRefusal → Type 0
 TellsJob kind (Err error) old new result = (result ≡ Err (of_archive error)) × Keeps old new

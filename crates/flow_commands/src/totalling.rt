@@ -53,7 +53,7 @@ fn ask_rows<S: SealedFile + Send + Sync, H: Threads + Sync>(
     faults: &mut Faults<S>,
 ) -> Result<Vec<Row>, QueryError>
     ensures cause { HasCause QueryError.Fault faults.old faults.new result }
-    // On honest disks: what is answered by each view of the files; where its sums fit their types no damage is reported.
+    // On honest disks: what is answered by each view of the files; where its sums fit their types none is damaged.
     ensures given { IsTrue snapshot.now.honest → (v : View) → IsViewOf snapshot.now.shelf v
         → IsMade (first_file snapshot.now.shelf) (SumsFit v)
         (λ rows. rows.items ≡ totals_in_view span.now.from span.now.to v) result }

@@ -12,7 +12,8 @@ use Rattle.flow_feed.specs.declared.batch.FeedStop.{FeedStop}
 use Rattle.flow_feed.specs.declared.batch.FeedStop.TheVariants.{File, Archive, OutOfMemory, Unopened}
 use Rattle.flow_feed.specs.Given.{AreGivenInTurn, HasTaken}
 
--- What follows the messages that are taken in, up to this place of the File: nothing, where the File is taken in whole; a fault of the File; or a message that isn't taken.
+-- What follows the messages that are taken in, up to this place of the File: nothing, where the File is taken in
+-- whole; a fault of the File; or a message that isn't taken.
 abbrev pub IsEnd : ℕ → Option FeedStop → Option (List ℕ) → Type 0
 IsEnd place None rest = IsAtEnd rest
 IsEnd place (Some (File (stream.File fault))) rest = IsFaultNext place rest fault
@@ -55,9 +56,9 @@ batch_of (message ∷ messages) = (message ∷ messages) ∷ []
 abbrev pub in_order : List (List (List ℕ)) → List (List ℕ)
 in_order batches = flat_map (λ (batch : List (List ℕ)). batch) batches
 
--- The first messages of the File are acknowledged, in their order, each once, and no other; as many as are reported; and
--- what follows them is why there aren't more. They were given in batches of 1 to 64, which are the File's next messages
--- each time; some of the last batch may be left. `appends` says what each batch made of the appender.
+-- The first messages of the File are acknowledged, in their order, each once, and no other; as many as are reported;
+-- and what follows them is why there aren't more. They were given in batches of 1 to 64, which are the File's next
+-- messages each time; some of the last batch may be left. `appends` says what each batch made of the appender.
 pub record IsFed {S : Type 0} (appends : S → S → List (List ℕ) → Result ℕ ArchiveError → Type 0) (old new : S)
     (octets : Option (List ℕ)) (fed : Fed) : Type 0 where
   pub batches : List (List (List ℕ))

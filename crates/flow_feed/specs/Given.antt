@@ -109,7 +109,8 @@ pub record HasTaken {S : Type 0} (appends : S → S → List (List ℕ) → Resu
 -- ---- the value under a lock
 
 -- Messages that the value under the lock was given: what its append makes of the archive, and of the steps that readers
--- are shown. No room is reported only where no segment has room for all of them, and a fault exactly where the device failed.
+-- are shown. No room is reported only where no segment has room for all of them, and a fault exactly where the device
+-- failed.
 pub record IsGivenLocked {D : Type 0} (honest : D → Bool) (moment : D → ℕ)
     (left_since : D → ℕ → (ℕ → List ℕ) → Type 0) (faults : D → ℕ) (old new : Held D) (messages : List (List ℕ))
     (result : Result ℕ ArchiveError) : Type 0 where

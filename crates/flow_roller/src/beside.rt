@@ -21,8 +21,8 @@ const TURNS: u64 = 16;
 /// How many of the newest segments are left where only what a job has left is to be done: all.
 const ALL: u32 = u32::MAX;
 
-/// Ends the job that is under way, and removes what waits for its removal, as far as it can be removed now. What readers are
-/// shown is published twice before each turn, so that neither directory holds a file that was replaced.
+/// Ends the job that is under way, and removes what waits for its removal, as far as it can be removed now. What
+/// readers are shown is published twice before each turn, so that neither directory holds a file that was replaced.
 fn clear<D: Disk, J: Naming, W: Wait>(
     shared: &SharedArchive<D, J, W>,
     rt: &W,
