@@ -5,7 +5,7 @@ ghost use Rattle.flow_memory_disk.specs.Memory.{story_of};
 
 use flow_archive::{Archive, ArchiveError};
 use flow_disk::{Disk, Faults};
-use flow_memory_disk::{MemoryDisk, Room};
+use flow_memory_disk::{FusedDisk, MemoryDisk, Room};
 use flow_turns::{merge_turn, roll_turn};
 use std::alloc::{AllocError, Global};
 
@@ -36,14 +36,14 @@ fn flow_at(octets: [u8; 2], number: u8) -> [u8; 33] {
 }
 
 /// A disk in memory.
-pub(crate) fn memory(alloc: Global) -> Result<MemoryDisk, AllocError>
+fn memory(alloc: Global) -> Result<MemoryDisk, AllocError>
     ensures { IfOk result (λ disk. (n : ℕ) → ((story_of disk).marks n).frozen ≡ false) }
 {
     Ok(MemoryDisk::new(alloc, ROOM)?.restart())
 }
 
 /// An archive without messages, by intervals of 300 seconds and wide ones of an hour.
-pub(crate) fn created<D: Disk>(alloc: Global, disk: D) -> Result<Archive<D>, ArchiveError>
+fn created<D: Disk>(alloc: Global, disk: D) -> Result<Archive<D>, ArchiveError>
     requires { (n : ℕ) → (D.marks disk n).frozen ≡ false }
 {
     match Archive::create_wide(alloc, disk, 300, 3_600, 65_535) {
@@ -52,14 +52,61 @@ pub(crate) fn created<D: Disk>(alloc: Global, disk: D) -> Result<Archive<D>, Arc
     }
 }
 
+/// One on a disk in memory.
+pub(crate) fn in_memory(alloc: Global) -> Result<Archive<MemoryDisk>, ArchiveError> {
+    created(alloc, memory(alloc)?)
+}
+
+/// One on a disk whose reads of this file fail.
+pub(crate) fn with_bad_reads(
+    alloc: Global,
+    file: u64,
+) -> Result<Archive<FusedDisk<MemoryDisk>>, ArchiveError> {
+    created(
+        alloc,
+        FusedDisk::with_bad_reads(memory(alloc)?, u64::MAX, file, 0),
+    )
+}
+
+/// Appends a message.
+fn append<D: Disk>(
+    archive: &mut Archive<D>,
+    alloc: Global,
+    message: &[u8],
+) -> Result<(), ArchiveError> {
+    archive.append(alloc, message)?;
+    Ok(())
+}
+
+/// Seals the active segment.
+fn seal<D: Disk>(archive: &mut Archive<D>, alloc: Global) -> Result<(), ArchiveError> {
+    archive.seal(alloc)?;
+    Ok(())
+}
+
 /// Appends a message, and seals it.
 pub(crate) fn put<D: Disk>(
     archive: &mut Archive<D>,
     alloc: Global,
     message: &[u8],
 ) -> Result<(), ArchiveError> {
-    archive.append(alloc, message)?;
-    archive.seal(alloc)?;
+    append(archive, alloc, message)?;
+    seal(archive, alloc)
+}
+
+/// Makes a turn of rolling.
+fn roll_once<D: Disk>(
+    archive: &mut Archive<D>,
+    alloc: Global,
+    keep: u32,
+) -> Result<(), ArchiveError> {
+    roll_turn(archive, alloc, keep, &mut Faults::new())?;
+    Ok(())
+}
+
+/// Makes a turn of merging.
+fn merge_once<D: Disk>(archive: &mut Archive<D>, alloc: Global) -> Result<(), ArchiveError> {
+    merge_turn(archive, alloc, 0, &mut Faults::new())?;
     Ok(())
 }
 
@@ -71,7 +118,7 @@ fn roll<D: Disk>(
     turns: u32,
 ) -> Result<(), ArchiveError> {
     for _ in 0..turns {
-        roll_turn(archive, alloc, keep, &mut Faults::new())?;
+        roll_once(archive, alloc, keep)?;
     }
     Ok(())
 }
@@ -79,7 +126,7 @@ fn roll<D: Disk>(
 /// Makes turns of merging.
 fn merge<D: Disk>(archive: &mut Archive<D>, alloc: Global, turns: u32) -> Result<(), ArchiveError> {
     for _ in 0..turns {
-        merge_turn(archive, alloc, 0, &mut Faults::new())?;
+        merge_once(archive, alloc)?;
     }
     Ok(())
 }

@@ -9,4 +9,6 @@ mod rolling;
 #[cfg(test)]
 mod scans;
 #[cfg(test)]
+mod sharing;
+#[cfg(test)]
 mod waiting;

@@ -3,14 +3,15 @@
 ghost use Rattle.std.specs.Prelude.{◌≡◌};
 ghost use Rattle.flow_recover.specs.Shelved.{shelf_of};
 
-use crate::archives::{FLOW, created, memory, put};
+use crate::archives::FLOW;
+use crate::sharing::{Trial, one_sealed, tried};
 use crate::waiting::Held;
 use flow_archive::Archive;
 use flow_disk::{Disk, Faults};
 use flow_memory_disk::MemoryDisk;
-use flow_roller::{Open, roll_worker};
+use flow_roller::{Gate, Open, roll_worker};
 use flow_shared::{Naming, Opened, SharedArchive, start};
-use std::alloc::Global;
+use std::alloc::{AllocError, Global};
 use std::marker::Brand;
 use std::process::Abort;
 use std::sync::Wait;
@@ -18,44 +19,57 @@ use std::sync::atomic::Ordering;
 use std::test::*;
 use std::thread::{Threads, join};
 
-/// An archive with one sealed segment, of one message.
-fn one_sealed(alloc: Global) -> Result<Archive<MemoryDisk>, Fail> {
-    let mut archive = created(alloc, memory(alloc)?)?;
-    put(&mut archive, alloc, &FLOW)?;
-    Ok(archive)
+/// Makes four turns: how many it says that it made.
+fn four<D: Disk, J: Naming, W: Wait, G: Gate>(
+    rt: &W,
+    alloc: Global,
+    shared: &SharedArchive<D, J, W>,
+    gate: &G,
+) -> Option<u64> {
+    roll_worker(shared, rt, alloc, gate, 0, 4, &mut Faults::new()).ok()
+}
+
+/// Ends what is shared.
+fn end<D: Disk, J: Naming, W: Wait>(rt: &W, shared: SharedArchive<D, J, W>) -> Archive<D> {
+    shared.end(rt)
+}
+
+/// The number of the last message that an archive has rolled.
+fn cut_of<D: Disk>(alloc: Global, archive: &mut Archive<D>) -> Result<u64, AllocError> {
+    Ok(archive.directory(alloc)?.into_snapshot().cut())
+}
+
+/// Four turns roll the segment.
+struct Rolled;
+
+impl Trial for Rolled {
+    fn run<D: Disk + Send, J: Naming + Send + Sync, W: Wait + Threads + Abort + Send + Sync>(
+        rt: &W,
+        alloc: Global,
+        shared: SharedArchive<D, J, W>,
+    ) -> Result<(), Fail>
+    where
+        D::Sealed: Send + Sync,
+    {
+        assert_eq!(rt; four(rt, alloc, &shared, &Open), Some(4));
+        let mut archive = end(rt, shared);
+        assert_eq!(rt; cut_of(alloc, &mut archive), Ok(1));
+        Ok(())
+    }
 }
 
 #[test]
 fn four_turns(rt: HostRuntime) -> Result<(), Fail> {
-    let archive = one_sealed(rt.alloc())?;
-    rolled::<MemoryDisk, Brand, _>(&rt, rt.alloc(), archive, Opened::new())
+    tried::<Rolled, _>(&rt, rt.alloc())
 }
 
-/// Four turns roll the segment.
-fn rolled<D: Disk, J: Naming, W: Wait + Abort>(
+/// Whether a message is appended.
+fn appends<D: Disk, J: Naming, W: Wait>(
     rt: &W,
     alloc: Global,
-    archive: Archive<D>,
-    opened: Opened,
-) -> Result<(), Fail>
-    requires book { opened.seen.book ≡ J.book }
-    requires opening { shelf_of archive.state ≡ J.opening }
-    requires honest { D.honest archive.disk ≡ J.honest }
-{
-    let Ok((shared, _readers)) = start::<D, J, W>(alloc, archive, opened, 1) else {
-        return Err(Fail::new("no start"));
-    };
-    let turns = roll_worker(&shared, rt, alloc, &Open, 0, 4, &mut Faults::new())?;
-    assert_eq!(rt; turns, 4);
-    let mut archive = shared.end(rt);
-    assert_eq!(rt; archive.directory(alloc)?.into_snapshot().cut(), 1);
-    Ok(())
-}
-
-#[test]
-fn roller_lets_append(rt: HostRuntime) -> Result<(), Fail> {
-    let archive = one_sealed(rt.alloc())?;
-    let_in::<MemoryDisk, Brand, _>(&rt, rt.alloc(), archive, Opened::new())
+    shared: &SharedArchive<D, J, W>,
+) -> bool {
+    shared.append(rt, alloc, &FLOW).is_ok()
 }
 
 /// Appends a message while the second turn is held, and says whether it was answered.
@@ -68,12 +82,36 @@ fn appended<D: Disk, J: Naming, W: Wait>(
     if !held.is_turning() {
         return false;
     }
-    let receipt = shared.append(rt, alloc, &FLOW);
+    let is_answered = appends(rt, alloc, shared);
     held.release();
-    receipt.is_ok()
+    is_answered
 }
 
-/// While the second turn is held, an append is answered.
+/// Makes four turns, and appends a message beside them while the second is held.
+fn held_beside<D: Disk + Send, J: Naming + Send + Sync, W: Wait + Threads + Abort + Send + Sync>(
+    rt: &W,
+    alloc: Global,
+    shared: SharedArchive<D, J, W>,
+) -> Result<(), Fail>
+where
+    D::Sealed: Send + Sync,
+{
+    let held = Held::new();
+    let (all, gate) = (&shared, &held);
+    let (turns, answered) = join(
+        rt,
+        move || four(rt, alloc, all, gate),
+        move || appended(rt, alloc, all, gate),
+    );
+    assert!(rt; turns.is_some());
+    assert!(rt; answered);
+    assert!(rt; !held.missed.load(Ordering::SeqCst));
+    let _archive = end(rt, shared);
+    Ok(())
+}
+
+/// Lets threads share an archive. What is sent to a thread has bounds that a trait's method can't have, so this is none
+/// of the trials.
 fn let_in<D: Disk + Send, J: Naming + Send + Sync, W: Wait + Threads + Abort + Send + Sync>(
     rt: &W,
     alloc: Global,
@@ -86,19 +124,14 @@ where
     requires opening { shelf_of archive.state ≡ J.opening }
     requires honest { D.honest archive.disk ≡ J.honest }
 {
-    let Ok((shared, _readers)) = start::<D, J, W>(alloc, archive, opened, 1) else {
-        return Err(Fail::new("no start"));
-    };
-    let held = Held::new();
-    let (all, gate) = (&shared, &held);
-    let (turns, answered) = join(
-        rt,
-        move || roll_worker(all, rt, alloc, gate, 0, 4, &mut Faults::new()).is_ok(),
-        move || appended(rt, alloc, all, gate),
-    );
-    assert!(rt; turns);
-    assert!(rt; answered);
-    assert!(rt; !held.missed.load(Ordering::SeqCst));
-    let _archive = shared.end(rt);
-    Ok(())
+    match start::<D, J, W>(alloc, archive, opened, 1) {
+        Ok((shared, _readers)) => held_beside(rt, alloc, shared),
+        Err(_) => Err(Fail::new("no start")),
+    }
+}
+
+#[test]
+fn roller_lets_append(rt: HostRuntime) -> Result<(), Fail> {
+    let archive = one_sealed(rt.alloc())?;
+    let_in::<MemoryDisk, Brand, _>(&rt, rt.alloc(), archive, Opened::new())
 }

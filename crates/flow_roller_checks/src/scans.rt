@@ -2,20 +2,40 @@
 
 ghost use Rattle.std.specs.Prelude.{◌<◌, ◌≤◌};
 
-use crate::archives::{created, memory, merge_three, roll_two};
+use crate::archives::{in_memory, merge_three, roll_two, with_bad_reads};
 use crate::waiting::Meeting;
 use flow_archive::Archive;
 use flow_disk::{Disk, Faults, SealedFile};
-use flow_memory_disk::FusedDisk;
-use flow_roller::{Open, scan_by_parts};
+use flow_measure::Row;
+use flow_roller::{Gate, Open, scan_by_parts};
 use flow_snapshot::{QueryError, Snapshot};
-use std::alloc::Global;
+use std::alloc::{AllocError, Global};
+use std::process::Abort;
 use std::sync::atomic::Ordering;
 use std::test::*;
 use std::thread::Threads;
 
 /// After all flows.
 const END: u64 = 1 << 32;
+
+/// All totals of a snapshot, by one thread.
+fn totals<S: SealedFile>(alloc: Global, snapshot: &Snapshot<S>) -> Result<Vec<Row>, QueryError> {
+    snapshot.totals(alloc, 0, END, &mut Faults::new())
+}
+
+/// All totals of a snapshot, by so many workers.
+fn scanned<S: SealedFile + Send + Sync, R: Threads + Sync, G: Gate + Sync>(
+    rt: &R,
+    alloc: Global,
+    snapshot: &Snapshot<S>,
+    gate: &G,
+    workers: u32,
+) -> Result<Vec<Row>, QueryError>
+    requires { (0 < workers) × (workers ≤ 64) }
+{
+    let faults = &mut Faults::new();
+    scan_by_parts(snapshot, rt, alloc, gate, workers, 0, END, faults)
+}
 
 /// Whether so many workers answer what one thread answers.
 fn agree<S: SealedFile + Send + Sync, R: Threads + Sync>(
@@ -26,9 +46,8 @@ fn agree<S: SealedFile + Send + Sync, R: Threads + Sync>(
 ) -> bool
     requires { (0 < workers) × (workers ≤ 64) }
 {
-    let rows = snapshot.totals(alloc, 0, END, &mut Faults::new());
-    let faults = &mut Faults::new();
-    scan_by_parts(snapshot, rt, alloc, &Open, workers, 0, END, faults) == rows
+    let rows = totals(alloc, snapshot);
+    scanned(rt, alloc, snapshot, &Open, workers) == rows
 }
 
 /// Whether one worker, two and 64 do.
@@ -40,61 +59,100 @@ fn all_agree<S: SealedFile + Send + Sync, R: Threads + Sync>(
     agree(rt, alloc, snapshot, 1) && agree(rt, alloc, snapshot, 2) && agree(rt, alloc, snapshot, 64)
 }
 
-/// How many rows a snapshot has in all.
-fn count_of<S: SealedFile>(alloc: Global, snapshot: &Snapshot<S>) -> Result<usize, QueryError> {
-    let rows = snapshot.totals(alloc, 0, END, &mut Faults::new())?;
-    Ok(rows.len())
+/// How many rows there are.
+fn count_of(rows: Result<Vec<Row>, QueryError>) -> Result<usize, QueryError> {
+    Ok(rows?.len())
 }
 
 /// A snapshot of an archive as it is.
 fn snapshot_of<D: Disk>(
     archive: &mut Archive<D>,
     alloc: Global,
-) -> Result<Snapshot<D::Sealed>, Fail> {
+) -> Result<Snapshot<D::Sealed>, AllocError> {
     Ok(archive.directory(alloc)?.into_snapshot())
 }
 
+/// The number of the last message that an archive has rolled by wide intervals.
+fn last_wide<D: Disk>(archive: &mut Archive<D>, alloc: Global) -> Result<u64, AllocError> {
+    Ok(snapshot_of(archive, alloc)?.second_cut())
+}
+
+/// An archive has so many rows, or a refusal of them: so answer one thread, one worker, two and 64.
+fn answer<D: Disk, R: Threads + Sync + Abort>(
+    rt: &R,
+    alloc: Global,
+    archive: &mut Archive<D>,
+    count: Result<usize, QueryError>,
+) -> Result<(), Fail>
+where
+    D::Sealed: Send + Sync,
+{
+    let snapshot = snapshot_of(archive, alloc)?;
+    assert_eq!(rt; count_of(totals(alloc, &snapshot)), count);
+    assert!(rt; all_agree(rt, alloc, &snapshot));
+    Ok(())
+}
+
 /// However many workers there are, they answer what one thread answers: of rolled and sealed files, and of wide ones.
+fn scan_twice<D: Disk, R: Threads + Sync + Abort>(
+    rt: &R,
+    alloc: Global,
+    archive: &mut Archive<D>,
+) -> Result<(), Fail>
+where
+    D::Sealed: Send + Sync,
+{
+    roll_two(archive, alloc)?;
+    answer(rt, alloc, archive, Ok(2))?;
+    merge_three(archive, alloc)?;
+    assert_eq!(rt; last_wide(archive, alloc)?, 3);
+    answer(rt, alloc, archive, Ok(2))
+}
+
 #[test]
 fn scans_are_totals(rt: HostRuntime) -> Result<(), Fail> {
     let alloc = rt.alloc();
-    let mut archive = created(alloc, memory(alloc)?)?;
-    roll_two(&mut archive, alloc)?;
-    let snapshot = snapshot_of(&mut archive, alloc)?;
-    assert_eq!(rt; count_of(alloc, &snapshot), Ok(2));
-    assert!(rt; all_agree(&rt, alloc, &snapshot));
-    merge_three(&mut archive, alloc)?;
-    let snapshot = snapshot_of(&mut archive, alloc)?;
-    assert_eq!(rt; snapshot.second_cut(), 3);
-    assert_eq!(rt; count_of(alloc, &snapshot), Ok(2));
-    assert!(rt; all_agree(&rt, alloc, &snapshot));
-    Ok(())
+    scan_twice(&rt, alloc, &mut in_memory(alloc)?)
 }
 
 /// The same where a worker's read fails: of the second sealed segment.
+fn scan_fault<D: Disk, R: Threads + Sync + Abort>(
+    rt: &R,
+    alloc: Global,
+    archive: &mut Archive<D>,
+) -> Result<(), Fail>
+where
+    D::Sealed: Send + Sync,
+{
+    roll_two(archive, alloc)?;
+    answer(rt, alloc, archive, Err(QueryError::Fault))
+}
+
 #[test]
 fn refusals_are_totals(rt: HostRuntime) -> Result<(), Fail> {
     let alloc = rt.alloc();
-    let disk = FusedDisk::with_bad_reads(memory(alloc)?, u64::MAX, 6, 0);
-    let mut archive = created(alloc, disk)?;
-    roll_two(&mut archive, alloc)?;
-    let snapshot = snapshot_of(&mut archive, alloc)?;
-    assert_eq!(rt; count_of(alloc, &snapshot), Err(QueryError::Fault));
-    assert!(rt; all_agree(&rt, alloc, &snapshot));
-    Ok(())
+    scan_fault(&rt, alloc, &mut with_bad_reads(alloc, 6)?)
 }
 
 /// Each of two workers waits for the other.
+fn meet<D: Disk, R: Threads + Sync + Abort>(
+    rt: &R,
+    alloc: Global,
+    archive: &mut Archive<D>,
+) -> Result<(), Fail>
+where
+    D::Sealed: Send + Sync,
+{
+    roll_two(archive, alloc)?;
+    let snapshot = snapshot_of(archive, alloc)?;
+    let meeting = Meeting::new();
+    assert_eq!(rt; count_of(scanned(rt, alloc, &snapshot, &meeting, 2)), Ok(2));
+    assert!(rt; !meeting.missed.load(Ordering::SeqCst));
+    Ok(())
+}
+
 #[test]
 fn workers_meet(rt: HostRuntime) -> Result<(), Fail> {
     let alloc = rt.alloc();
-    let mut archive = created(alloc, memory(alloc)?)?;
-    roll_two(&mut archive, alloc)?;
-    let snapshot = snapshot_of(&mut archive, alloc)?;
-    let meeting = Meeting::new();
-    let faults = &mut Faults::new();
-    let rows = scan_by_parts(&snapshot, &rt, alloc, &meeting, 2, 0, END, faults)?;
-    assert_eq!(rt; rows.len(), 2);
-    assert!(rt; !meeting.missed.load(Ordering::SeqCst));
-    Ok(())
+    meet(&rt, alloc, &mut in_memory(alloc)?)
 }

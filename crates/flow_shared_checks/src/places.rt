@@ -1,85 +1,106 @@
 //! Places of readers.
 
-ghost use Rattle.std.specs.Prelude.{◌≡◌};
-ghost use Rattle.flow_recover.specs.Shelved.{shelf_of};
-
-use crate::started::{FLOW, created};
-use flow_archive::Archive;
-use flow_disk::{Disk, Faults};
-use flow_memory_disk::MemoryDisk;
-use flow_shared::{Naming, Opened, ReaderError, start};
+use crate::calls::{append, ends_open, has_flow, is_away, last_of, learn, shown};
+use crate::started::{Trial, tried};
+use flow_disk::{Disk, SealedFile};
+use flow_shared::{ArchiveReader, Naming, SharedArchive};
 use std::alloc::Global;
-use std::marker::Brand;
 use std::process::Abort;
 use std::sync::Wait;
 use std::test::*;
+use std::thread::Threads;
 
-#[test]
-fn own_write(rt: HostRuntime) -> Result<(), Fail> {
-    let archive = created(rt.alloc())?;
-    written::<MemoryDisk, Brand, _>(&rt, rt.alloc(), archive, Opened::new())
+/// A reader is shown a message that it learnt the receipt of.
+struct OwnWrite;
+
+impl Trial for OwnWrite {
+    fn run<D: Disk + Send, J: Naming + Send + Sync, W: Wait + Threads + Abort + Send + Sync>(
+        rt: &W,
+        alloc: Global,
+        shared: SharedArchive<D, J, W>,
+        readers: Vec<ArchiveReader<D::Sealed, J>>,
+    ) -> Result<(), Fail>
+    where
+        D::Sealed: Send + Sync,
+    {
+        let mut readers = readers;
+        let mut reader = readers.pop().ok_or("a place")?;
+        assert!(rt; readers.is_empty());
+        written(rt, alloc, shared, &mut reader)
+    }
 }
 
 /// A message is appended, and is what a reader finds that learnt its receipt.
 fn written<D: Disk, J: Naming, W: Wait + Abort>(
     rt: &W,
     alloc: Global,
-    archive: Archive<D>,
-    opened: Opened,
-) -> Result<(), Fail>
-    requires book { opened.seen.book ≡ J.book }
-    requires opening { shelf_of archive.state ≡ J.opening }
-    requires honest { D.honest archive.disk ≡ J.honest }
-{
-    let Ok((shared, mut readers)) = start::<D, J, W>(alloc, archive, opened, 1) else {
-        return Err(Fail::new("no start"));
-    };
-    let mut reader = readers.pop().ok_or("a place")?;
-    assert!(rt; readers.is_empty());
-    let receipt = shared.append(rt, alloc, &FLOW)?;
-    assert!(rt; receipt.shown);
-    let position = receipt.position;
-    reader.learn(receipt.told);
-    let snapshot = reader.snapshot()?;
-    let message = snapshot.message(alloc, position, &mut Faults::new())?;
-    let message = message.ok_or("a message")?;
-    assert_eq!(rt; message.as_slice(), FLOW.as_slice());
-    let archive = shared.end(rt);
-    assert!(rt; !archive.is_closed());
+    shared: SharedArchive<D, J, W>,
+    reader: &mut ArchiveReader<D::Sealed, J>,
+) -> Result<(), Fail> {
+    let receipt = append(rt, alloc, &shared).ok_or("an append")?;
+    let position = learn(reader, receipt);
+    let snapshot = shown(reader).ok_or("a snapshot")?;
+    assert!(rt; has_flow(alloc, &snapshot, position));
+    assert!(rt; ends_open(rt, shared));
     // Nobody shows anything now: a place that enters is away, and what was taken before is still answered.
-    assert!(rt; matches!(reader.snapshot(), Err(ReaderError::Away)));
-    assert_eq!(rt; snapshot.position(), position);
+    assert!(rt; is_away(reader));
+    assert_eq!(rt; last_of(&snapshot), position);
     Ok(())
 }
 
 #[test]
-fn places_enter(rt: HostRuntime) -> Result<(), Fail> {
-    let archive = created(rt.alloc())?;
-    entered::<MemoryDisk, Brand, _>(&rt, rt.alloc(), archive, Opened::new())
+fn own_write(rt: HostRuntime) -> Result<(), Fail> {
+    tried::<OwnWrite, _>(&rt, rt.alloc(), 1)
 }
 
 /// Each of 16 places takes 100 snapshots while messages are added, and none is refused.
-fn entered<D: Disk, J: Naming, W: Wait + Abort>(
+struct Places;
+
+impl Trial for Places {
+    fn run<D: Disk + Send, J: Naming + Send + Sync, W: Wait + Threads + Abort + Send + Sync>(
+        rt: &W,
+        alloc: Global,
+        shared: SharedArchive<D, J, W>,
+        readers: Vec<ArchiveReader<D::Sealed, J>>,
+    ) -> Result<(), Fail>
+    where
+        D::Sealed: Send + Sync,
+    {
+        let mut readers = readers;
+        assert_eq!(rt; readers.len(), 16);
+        for reader in readers.iter_mut() {
+            assert!(rt; enters(rt, alloc, &shared, reader));
+        }
+        assert!(rt; ends_open(rt, shared));
+        Ok(())
+    }
+}
+
+/// Whether a message is appended, and is the last one of each of 100 snapshots.
+fn enters<D: Disk, J: Naming, W: Wait>(
     rt: &W,
     alloc: Global,
-    archive: Archive<D>,
-    opened: Opened,
-) -> Result<(), Fail>
-    requires book { opened.seen.book ≡ J.book }
-    requires opening { shelf_of archive.state ≡ J.opening }
-    requires honest { D.honest archive.disk ≡ J.honest }
-{
-    let Ok((shared, mut readers)) = start::<D, J, W>(alloc, archive, opened, 16) else {
-        return Err(Fail::new("no start"));
-    };
-    assert_eq!(rt; readers.len(), 16);
-    for reader in readers.iter_mut() {
-        let receipt = shared.append(rt, alloc, &FLOW)?;
-        assert!(rt; receipt.shown);
-        for _ in 0..100 {
-            assert_eq!(rt; reader.snapshot()?.position(), receipt.position);
+    shared: &SharedArchive<D, J, W>,
+    reader: &mut ArchiveReader<D::Sealed, J>,
+) -> bool {
+    match append(rt, alloc, shared) {
+        Some(receipt) => is_shown_to(reader, receipt.position),
+        None => false,
+    }
+}
+
+/// Whether the message of this number is the last one of each of 100 snapshots.
+fn is_shown_to<S: SealedFile, J: Naming>(reader: &mut ArchiveReader<S, J>, position: u64) -> bool {
+    for _ in 0..100 {
+        match shown(reader) {
+            Some(snapshot) if last_of(&snapshot) == position => {}
+            _ => return false,
         }
     }
-    let _archive = shared.end(rt);
-    Ok(())
+    true
+}
+
+#[test]
+fn places_enter(rt: HostRuntime) -> Result<(), Fail> {
+    tried::<Places, _>(&rt, rt.alloc(), 16)
 }

@@ -1,8 +1,8 @@
 use Rattle.std.proofs.Common.{true}
 use Rattle.flow_recover.specs.Shelved.{shelf_of}
-use Rattle.flow_roller_checks.proofs.rolling.four_turns.Given as goal
+use Rattle.flow_roller_checks.proofs.sharing.tried.Given as goal
 
 -- the start that is made
-abbrev pub ghosts-rolled : goal.ghosts-rolled
-ghosts-rolled g a =
+abbrev pub ghosts-share : goal.ghosts-share
+ghosts-share g a =
     record { book = a.opened.seen.book; opening = shelf_of a.archive.state; honest = true }
