@@ -49,7 +49,8 @@ fn main(rt: HostRuntime) -> ExitCode {
         let _ = println!(rt; "there is no script");
         return ExitCode::from(1);
     }
-    let mut report = Report::new(alloc);
+    let more = u64::from(plan.way == Way::Memory);
+    let mut report = Report::new(alloc, more);
     let mut count = 0u64;
     for script in &scripts {
         count = count.saturating_add(1);
@@ -61,8 +62,11 @@ fn main(rt: HostRuntime) -> ExitCode {
     }
     let (text, answers, differ) = (report.text.as_str(), report.answers, report.differ);
     let _ = print!(rt; "{text}");
-    if plan.way != Way::Plainly {
+    if plan.way.stops() {
         let _ = println!(rt; "{} of {} stops played", report.played, report.stops);
+    }
+    if plan.way == Way::Memory {
+        let _ = println!(rt; "{} given once more", more.saturating_sub(report.more));
     }
     let _ = println!(rt; "{count} scripts, {answers} answers: {differ} differ");
     if report.agrees() {

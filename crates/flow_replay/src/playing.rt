@@ -110,13 +110,17 @@ fn answer_all<D: Disk>(
     report: &mut Report,
 ) -> Result<(), AllocError> {
     for line in lines {
-        let told = answer_one(alloc, stage, wear, &line.command)?;
+        let mut told = answer_one(alloc, stage, wear, &line.command)?;
+        if report.repeats(line, told.as_str()) {
+            told = answer_one(alloc, stage, wear, &line.command)?;
+        }
         report.compare(alloc, name, line, told.as_str())?;
     }
     Ok(())
 }
 
-/// A part with an archive, on a disk that has this damage.
+/// A part with an archive, on a disk that has this damage: the disk, and whether the part is played. It isn't where it
+/// is to be given once more.
 fn with_archive<D: Disk>(
     alloc: Global,
     disk: Thawed<D>,
@@ -125,19 +129,22 @@ fn with_archive<D: Disk>(
     first: &Line<'_>,
     lines: &[Line<'_>],
     report: &mut Report,
-) -> Result<D, AllocError> {
+) -> Result<(D, bool), AllocError> {
     match begin(alloc, disk, &first.command)? {
         Beginning::Archive(mut stage) => {
             report.compare(alloc, name, first, "")?;
             answer_all(alloc, &mut stage, wear, name, lines, report)?;
-            Ok(stage.into_disk())
+            Ok((stage.into_disk(), true))
         }
         Beginning::Refused(disk, why) => {
+            if report.repeats(first, why.as_str()) {
+                return Ok((disk, false));
+            }
             report.compare(alloc, name, first, why.as_str())?;
             for line in lines {
                 report.compare(alloc, name, line, "there is no archive")?;
             }
-            Ok(disk)
+            Ok((disk, true))
         }
     }
 }
@@ -178,7 +185,10 @@ fn without_archive<D: Disk>(
     let mut disk = disk;
     for line in lines {
         if let Command::Disk(asked) = &line.command {
-            let told = disk.answer(alloc, asked)?;
+            let mut told = disk.answer(alloc, asked)?;
+            if report.repeats(line, told.as_str()) {
+                told = disk.answer(alloc, asked)?;
+            }
             report.compare(alloc, name, line, told.as_str())?;
         }
     }
@@ -195,6 +205,38 @@ fn disk_of(disk: MemoryDisk, failing: Failing) -> Thawed<FusedDisk<MemoryDisk>> 
     }
 }
 
+/// A part that no threads share, on a disk: the disk afterwards, and whether the part is played.
+fn play_once(
+    alloc: Global,
+    disk: MemoryDisk,
+    script: &Script<'_>,
+    part: &Part<'_>,
+    report: &mut Report,
+) -> Result<(MemoryDisk, bool), AllocError> {
+    let disk = disk_of(disk, part.failing);
+    let (disk, is_played) = match part.lines.split_first() {
+        Some((first, rest)) if first.command.begins() => {
+            let wear = Wear::none(alloc)?;
+            let disk = worn(disk, wear.share()?);
+            let (disk, is_played) = with_archive(
+                alloc,
+                disk,
+                &wear,
+                script.name,
+                first,
+                rest,
+                report,
+            )?;
+            (disk.into_disk(), is_played)
+        }
+        _ => {
+            let disk = without_archive(alloc, disk, script.name, &part.lines, report)?;
+            (disk, true)
+        }
+    };
+    Ok((disk.restart(), is_played))
+}
+
 /// A part, on a disk: the disk afterwards.
 pub(crate) fn play_part<W: Wait>(
     rt: &W,
@@ -208,14 +250,10 @@ pub(crate) fn play_part<W: Wait>(
         let disk = with_shared(rt, alloc, given_up(disk), script, part, report)?;
         return Ok(disk.restart());
     }
-    let disk = disk_of(disk, part.failing);
-    let disk = match part.lines.split_first() {
-        Some((first, rest)) if first.command.begins() => {
-            let wear = Wear::none(alloc)?;
-            let disk = worn(disk, wear.share()?);
-            with_archive(alloc, disk, &wear, script.name, first, rest, report)?.into_disk()
-        }
-        _ => without_archive(alloc, disk, script.name, &part.lines, report)?,
-    };
-    Ok(disk.restart())
+    let (disk, is_played) = play_once(alloc, disk, script, part, report)?;
+    if is_played {
+        return Ok(disk);
+    }
+    let (disk, _) = play_once(alloc, disk, script, part, report)?;
+    Ok(disk)
 }

@@ -6,6 +6,9 @@ use std::alloc::{AllocError, Global};
 /// How many characters of a line are told.
 const TOLD: usize = 100;
 
+/// What an answer ends by where memory is refused.
+const NO_MEMORY: &str = "11 OutOfMemory";
+
 /// What a run has found: how much it has compared, and what differs.
 #[derive(Drop)]
 pub(crate) struct Report {
@@ -18,17 +21,20 @@ pub(crate) struct Report {
     /// How many stops or faults there are, and how many of them are played.
     pub(crate) stops: u64,
     pub(crate) played: u64,
+    /// How many lines may be given once more, since memory was refused.
+    pub(crate) more: u64,
 }
 
 impl Report {
-    /// Nothing.
-    pub(crate) fn new(alloc: Global) -> Report {
+    /// Nothing; so many lines may be given once more.
+    pub(crate) fn new(alloc: Global, more: u64) -> Report {
         Report {
             text: String::new(alloc),
             answers: 0,
             differ: 0,
             stops: 0,
             played: 0,
+            more,
         }
     }
 
@@ -43,6 +49,18 @@ impl Report {
         let is_taken = self.stops.checked_rem(every) == Some(0);
         self.played = self.played.saturating_add(u64::from(is_taken));
         is_taken
+    }
+
+    /// Whether something may be given once more. It is counted then.
+    pub(crate) fn gives_again(&mut self) -> bool {
+        let gives = self.more > 0;
+        self.more = self.more.saturating_sub(1);
+        gives
+    }
+
+    /// Whether a line is given once more after this answer: one that ends by a want of memory, which isn't wanted.
+    pub(crate) fn repeats(&mut self, line: &Line<'_>, came: &str) -> bool {
+        came.ends_with(NO_MEMORY) && !line.wanted.ends_with(NO_MEMORY) && self.gives_again()
     }
 
     /// Counts an answer that is the one that is wanted.

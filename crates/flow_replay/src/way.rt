@@ -13,6 +13,15 @@ pub(crate) enum Way {
     Faults,
     /// And its disk lies, in each of so many ways.
     Lies,
+    /// As they are, and what is refused for want of memory, which isn't wanted, is given once more.
+    Memory,
+}
+
+impl Way {
+    /// Whether parts are stopped, or meet faults or lies.
+    pub(crate) fn stops(self) -> bool {
+        !matches!(self, Way::Plainly | Way::Memory)
+    }
 }
 
 /// How scripts are played, and which of the stops or faults.
@@ -38,6 +47,7 @@ pub(crate) fn plan_of(words: &[String]) -> Option<Plan> {
         "twice" => Way::StoppedTwice,
         "faults" => Way::Faults,
         "lies" => Way::Lies,
+        "memory" => Way::Memory,
         _ => return None,
     };
     let every: u64 = every.parse().ok()?;
@@ -46,4 +56,4 @@ pub(crate) fn plan_of(words: &[String]) -> Option<Plan> {
 
 /// How the words of a command line are written.
 pub(crate) const USAGE: &str =
-    "flow_replay [plainly | stopped [N] | twice [N] | faults [N] | lies [N]] < SCRIPTS";
+    "flow_replay [plainly | stopped [N] | twice [N] | faults [N] | lies [N] | memory] < SCRIPTS";

@@ -273,15 +273,31 @@ fn try_part(
     };
     let trial = Trial::new(alloc, image, given)?;
     match plan.way {
-        Way::Plainly => Ok(()),
+        Way::Plainly | Way::Memory => Ok(()),
         Way::Faults => fault_each(alloc, scene, &trial, plan.every, report),
         Way::Lies => lie_each(alloc, scene, &trial, plan.every, report),
         Way::Stopped | Way::StoppedTwice => stop_each(alloc, scene, &trial, plan.every, report),
     }
 }
 
-/// A script, on a disk without files: as it is, and each part in the way of a plan before.
+/// A script, on a disk without files: as it is, and each part in the way of a plan before. Where the player's own memory
+/// is refused, it is played once more from its beginning, if something may be given once more.
 pub(crate) fn play<W: Wait>(
+    rt: &W,
+    alloc: Global,
+    script: &Script<'_>,
+    plan: Plan,
+    report: &mut Report,
+) -> Result<(), DiskError> {
+    let played = play_all(rt, alloc, script, plan, report);
+    if played.is_err() && report.gives_again() {
+        return play_all(rt, alloc, script, plan, report);
+    }
+    played
+}
+
+/// Plays each part of a script.
+fn play_all<W: Wait>(
     rt: &W,
     alloc: Global,
     script: &Script<'_>,
@@ -291,7 +307,7 @@ pub(crate) fn play<W: Wait>(
     let room = room_of(script);
     let mut disk = MemoryDisk::new(alloc, room)?;
     for part in &script.parts {
-        if plan.way != Way::Plainly {
+        if plan.way.stops() {
             let image = Image::of(alloc, disk, &part.lines)?;
             try_part(alloc, script.name, part, &image, plan, report)?;
             disk = image.disk_in(alloc, room)?;
