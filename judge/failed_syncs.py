@@ -1,5 +1,5 @@
 #!/usr/bin/env python3
-"""judge_syncs.py PROGRAM [--short] [--jobs N] [--only WORD] [--keep-traces FOLDER]: shows that no message is lost, and
+"""failed_syncs.py PROGRAM [--short] [--jobs N] [--only WORD] [--keep-traces FOLDER]: shows that no message is lost, and
 none is counted twice, where syncs fail and the machine stops later. It needs strace, and says so where there is none.
 
 PROGRAM is run under strace, and each of its system calls is played on a model of the folder (Model), which keeps two
@@ -769,7 +769,7 @@ def main():
     os.umask(0o022)
     signal.signal(signal.SIGTERM, lambda *_: sys.exit(1))
     memory = "/dev/shm" if os.access("/dev/shm", os.W_OK) else None
-    with tempfile.TemporaryDirectory(prefix="judge_syncs_", dir=memory) as place:
+    with tempfile.TemporaryDirectory(prefix="failed_syncs_", dir=memory) as place:
         return judged(asked, os.path.realpath(place))
 
 
