@@ -1,5 +1,5 @@
 -- The rows that were read of a rolled file, and those of its table.
-use Rattle.std.proofs.Common.{◌≡◌, ℕ, ◌<◌, ◌^◌, List, [], ◌++◌, length, None, sym, ap, subst, ◌∙◌}
+use Rattle.std.proofs.Common.{◌≡◌, ℕ, ◌<◌, ◌^◌, List, [], ◌++◌, length, drop, None, sym, ap, subst, ◌∙◌}
 use Rattle.std.proofs.Common.{arith, length-append}
 use Rattle.std.proofs.lemmas.List.{append-nil}
 use Rattle.std.specs.Prelude.{Result, Ok, Err, IsErrAnd, IfErr}
@@ -15,7 +15,8 @@ use Rattle.flow_rolled.specs.Parts.{Part, last_from, rows_within}
 use Rattle.flow_rolled.specs.Octets.{part_octets, parts_octets}
 use Rattle.flow_rolled.specs.Rollup.{IsRollup}
 use Rattle.flow_rolled.specs.Printed.{told_of_rows, told_of_sums}
-use Rattle.flow_rolled.specs.Stored.{Reader, HasGiven, HasRead, Gives, IsAdded, IsNotAdded, with_rows, table_of}
+use Rattle.flow_rolled.specs.Stored.{Rollup, Reader, HasGiven, HasRead, Gives, IsAdded, IsNotAdded, IsSpentBy}
+use Rattle.flow_rolled.specs.Stored.{with_rows, table_of}
 use Rattle.flow_rolled.proofs.Grouping.{rows_front}
 use Rattle.flow_rolled.proofs.Fronts.{rows_in_order}
 use Rattle.flow_rolled.proofs.SameParts.{part_long}
@@ -75,6 +76,25 @@ not_added r rows more old mid measure.SumSpent wide so is spent = λ t h fit.
     spent (subst AllFit (sym (rows_both rows more old) ∙ ap (with_rows more) (sym is))
     (front_rows (rows ++ more) all.0 old (subst AllFit sums fit)))
 not_added r rows more old mid measure.OutOfMemory wide so is spent = tt
+
+-- a reader's refusal is no spent sum
+pub not_spent : (part : Rollup) (w : ℕ) (old : Table) (e : RowError) → IsSpentBy part w old (told_of_rows e)
+not_spent part w old (row.Damaged file at) = tt
+not_spent part w old row.Fault = tt
+not_spent part w old row.OutOfMemory = tt
+
+-- a sum is spent by the rows that were read
+pub spent_by : (r : Reader) (rows more : List RolledRow) (old mid : Table) (e : SumError) → HasRead r (rows ++ more)
+    → mid ≡ with_rows rows old → IsRefused e (with_rows more mid) → IsSpentBy r.part r.width old (told_of_sums e)
+spent_by r rows more old mid measure.SumSpent so is spent = record {
+  front = so.front;
+  follow = so.behind.follow;
+  rest = drop r.place r.part.octets;
+  is = so.is;
+  spent = λ fit. spent (subst AllFit (ap (λ (l : List RolledRow). with_rows l old) (sym so.behind.rows_are)
+      ∙ sym (rows_both rows more old) ∙ ap (with_rows more) (sym is)) fit);
+}
+spent_by r rows more old mid measure.OutOfMemory so is spent = tt
 
 pub err_as : {X E : Type 0} (r : Result X E) (e : E) (P : E → Type 0) → IsErrAnd r (λ x. x ≡ e) → P e → IfErr r P
 err_as (Ok x) e P h p = tt

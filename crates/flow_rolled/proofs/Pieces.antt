@@ -4,7 +4,7 @@ use Rattle.std.proofs.Common.{drop}
 use Rattle.std.proofs.Common.{Option, Some, None, refl, sym, ap, subst, ◌∙◌, arith, append_assoc, length-append}
 use Rattle.std.proofs.Common.{length-drop}
 use Rattle.std.proofs.lemmas.List.{drop-drop, drop_at, drop-take, take-append-drop, take_min, length-take, append-nil}
-use Rattle.std.specs.Prelude.{IsTrue, Vec, Result, Ok, Err, IfOk, IfSome}
+use Rattle.std.specs.Prelude.{IsTrue, Vec, Result, Ok, Err, IfOk, IfNone, IfSome}
 use Rattle.std.specs.declared.alloc.Global.{Global}
 use Rattle.flow_rolled.specs.declared.row.RolledRow.{RolledRow}
 use Rattle.flow_rolled.specs.declared.message.State.{State}
@@ -105,6 +105,12 @@ step_further file old new (Ok (Some rows)) within h =
     (omega (arith, place, some), omega (arith, place, size, within))
 step_further file old new (Ok None) within h = tt
 step_further file old new (Err e) within h = tt
+
+pub step_last : (file : ℕ) (old new : Progress) (result : Result (Option (Vec RolledRow Global)) RowError)
+    → Steps file old result new → IfOk result (λ o. IfNone o (old.place ≡ old.end))
+step_last file old new (Ok (Some rows)) h = tt
+step_last file old new (Ok None) h = h.0
+step_last file old new (Err e) h = tt
 
 pub step_few : (file : ℕ) (old new : Progress) (result : Result (Option (Vec RolledRow Global)) RowError)
     → Steps file old result new → IfOk result (λ o. IfSome o (λ rows. length rows.items ≤ 1000))

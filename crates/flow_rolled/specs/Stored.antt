@@ -104,6 +104,21 @@ IsNotAdded part width old sum.SumSpent =
 IsNotAdded part width old sum.Fault = Unit {0}
 IsNotAdded part width old sum.OutOfMemory = Unit {0}
 
+-- With the rows of messages with which the octets begin, a sum would pass its type.
+pub record AreSpent (width : ℕ) (octets : List ℕ) (old : Table) : Type 0 where
+  pub front : List Part
+  pub follow : AllFollow width None front
+  pub rest : List ℕ
+  pub is : octets ≡ parts_octets width front ++ rest
+  pub spent : AllFit (with_rows (rows_within front) old) → ⊥
+
+-- a sum that is reported as spent is spent by rows of this file
+abbrev pub IsSpentBy : Rollup → ℕ → Table → RowSumError → Type 0
+IsSpentBy part width old (sum.Damaged file at) = Unit {0}
+IsSpentBy part width old sum.SumSpent = AreSpent width part.octets old
+IsSpentBy part width old sum.Fault = Unit {0}
+IsSpentBy part width old sum.OutOfMemory = Unit {0}
+
 -- damage names this file
 abbrev pub NamesFile : Rollup → RowSumError → Type 0
 NamesFile part (sum.Damaged file at) = file ≡ part.file

@@ -63,7 +63,7 @@ impl<'a, S: SealedFile> RowReader<'a, S> {
         alloc: Global,
         faults: &mut Faults<S>,
     ) -> Result<Option<Vec<RolledRow>>, RowError>
-        // On every file: each message takes the reader further, and never past the end.
+        // On every file: each message takes the reader further, never past the end, and `None` comes at the end alone.
         ensures part { self.new.part ≡ self.old.part }
         ensures width { self.new.width ≡ self.old.width }
         ensures further { IfOk result (λ o. IfSome o (λ _. (self.old.place < self.new.place)
@@ -72,6 +72,7 @@ impl<'a, S: SealedFile> RowReader<'a, S> {
         ensures given { (rows : List RolledRow) → HasGiven self.old rows
             → IfOk result (λ o. IfSome o (λ more. HasGiven self.new (rows ++ more.items))) }
         ensures end { IfOk result (λ o. IfNone o (self.new ≡ self.old)) }
+        ensures last { IfOk result (λ o. IfNone o (self.old.place ≡ self.old.part.length)) }
         ensures kept { OnErr result (self.new ≡ self.old) }
         ensures told { IfErr result (λ e. IsTold self.old e) }
         ensures cause { HasCause RowError.Fault faults.old faults.new result }

@@ -4,7 +4,7 @@ ghost use Rattle.std.specs.Prelude.{◌≡◌, ◌<◌, IsTrue, OnOk, IfErr, Mat
 ghost use Rattle.flow_disk.specs.Cause.{HasCause};
 ghost use Rattle.flow_measure.specs.Sums.{AllFit, IsRefused, widened_key};
 ghost use Rattle.flow_rolled.specs.Rows.{sums_in};
-ghost use Rattle.flow_rolled.specs.Stored.{with_rows, AreCounted, IsAdded, IsNotAdded, NamesFile};
+ghost use Rattle.flow_rolled.specs.Stored.{with_rows, AreCounted, IsAdded, IsNotAdded, IsSpentBy, NamesFile};
 
 use crate::error::RowSumError;
 use crate::part::RolledPart;
@@ -54,8 +54,8 @@ fn add_widened(rows: &mut Rows, list: &[RolledRow]) -> Result<(), SumError>
 /// under the key of the interval that holds its start. No list of them is made: it takes memory for one piece of the
 /// file, the rows of one message, and new keys.
 ///
-/// What `RowReader` refuses is refused so; 14 SumSpent where a sum would pass its type. After an `Err` some rows may
-/// have been added.
+/// What `RowReader` refuses is refused so; 14 SumSpent where a sum would pass its type by the rows read so far. After
+/// an `Err` some rows may have been added.
 pub fn sum_rows<S: SealedFile>(
     alloc: Global,
     faults: &mut Faults<S>,
@@ -72,6 +72,8 @@ pub fn sum_rows<S: SealedFile>(
     // On an honest one: the sums are those of the file's table, and a refusal is told of what refuses.
     ensures added { IsTrue part.now.honest → OnOk result (IsAdded width part.now.octets rows.old rows.new) }
     ensures refused { IsTrue part.now.honest → IfErr result (λ e. IsNotAdded part.now width rows.old e) }
+    // A sum that is reported as spent is so by rows with which the file begins, damaged after them or not.
+    ensures spent { IsTrue part.now.honest → IfErr result (λ e. IsSpentBy part.now width rows.old e) }
 {
     let mut reader = RowReader::new(alloc, part, width);
     while let Some(list) = reader.next(alloc, faults)? {

@@ -3,9 +3,9 @@ use Rattle.std.specs.Prelude.{IsTrue}
 use Rattle.flow_measure.specs.Sums.{Table, IsRefused}
 use Rattle.flow_rolled.specs.declared.row.RolledRow.{RolledRow}
 use Rattle.flow_rolled.specs.Parts.{last_from}
-use Rattle.flow_rolled.specs.Printed.{told_of_sums}
-use Rattle.flow_rolled.specs.Stored.{Rollup, Reader, HasGiven, IsAdded, IsNotAdded, AreCounted, with_rows}
-use Rattle.flow_rolled.proofs.Counted.{given_in_order, added, not_added, err_as}
+use Rattle.flow_rolled.specs.Printed.{told_of_rows, told_of_sums}
+use Rattle.flow_rolled.specs.Stored.{Rollup, Reader, HasGiven, IsAdded, IsNotAdded, IsSpentBy, AreCounted, with_rows}
+use Rattle.flow_rolled.proofs.Counted.{given_in_order, added, not_added, not_spent, spent_by, err_as}
 use Rattle.flow_rolled.proofs.Widened.{HasKey, counted, rows_none, rows_both, key_after, last_behind}
 use Rattle.flow_rolled.proofs.summing.sum_rows.Goals as goal
 
@@ -53,6 +53,31 @@ returns-in_err-add_widened-clause-refused g c = λ honest.
     (subst (λ (p : Rollup). IsNotAdded p c.args.width c.args.rows.now (told_of_sums e)) part
     (subst (λ w. IsNotAdded next.part w c.args.rows.now (told_of_sums e)) width
     (not_added next given list c.args.rows.now c.loop-reader.rows e wide so h.rows spent)))
+
+pub returns-in_err-list-clause-spent : goal.returns-in_err-list-clause-spent
+returns-in_err-list-clause-spent g c = λ honest.
+    let e = c.in_err-list.field-0.0 in
+    err_as c.from_residual.result (told_of_rows e) (IsSpentBy c.args.part.now c.args.width c.args.rows.now)
+    c.from_residual.ensures.1 (not_spent c.args.part.now c.args.width c.args.rows.now e)
+
+pub returns-in_err-add_widened-clause-spent : goal.returns-in_err-add_widened-clause-spent
+returns-in_err-add_widened-clause-spent g c = λ honest.
+    let given = c.loop-reader.invariant.0 in
+    let h = c.loop-reader.invariant.1 in
+    let list = c.in-Some.list.items in
+    let next = c.next.new.self in
+    let gives = rw c.in-Some.is at c.in_ok-list.ensures.gives in
+    let so = gives (subst (λ (p : Rollup). IsTrue p.honest) (sym h.part) honest) given (h.read honest) in
+    let part = c.in_ok-list.ensures.part ∙ h.part in
+    let width = c.in_ok-list.ensures.width ∙ h.width in
+    let e = c.in_err-add_widened.field-0.0 in
+    let spent = subst (λ (l : List RolledRow). IsRefused e (with_rows l c.loop-reader.rows)) c.deref.ensures.value
+    c.in_err-add_widened.ensures.0 in
+    err_as c.from_residual-in_err-add_widened.result (told_of_sums e)
+    (IsSpentBy c.args.part.now c.args.width c.args.rows.now) c.from_residual-in_err-add_widened.ensures.1
+    (subst (λ (p : Rollup). IsSpentBy p c.args.width c.args.rows.now (told_of_sums e)) part
+    (subst (λ w. IsSpentBy next.part w c.args.rows.now (told_of_sums e)) width
+    (spent_by next given list c.args.rows.now c.loop-reader.rows e so h.rows spent)))
 
 pub loop-reader-preserved : goal.loop-reader-preserved
 loop-reader-preserved g c =

@@ -1,8 +1,8 @@
 use Rattle.std.proofs.Common.{◌≡◌, ◌<◌, ◌≤◌, sym, ap, subst, ◌∙◌, refl, length}
-use Rattle.std.specs.Prelude.{IsTrue, IfOk, IfSome}
+use Rattle.std.specs.Prelude.{IsTrue, IfNone, IfOk, IfSome}
 use Rattle.flow_rolled.specs.Stored.{Rollup, Reader, HasGiven, HasRead, Gives}
 use Rattle.flow_rolled.proofs.Pieces.{IsMid, mid_fed, mid_near, reader_at, gives, step_on, step_end, step_further}
-use Rattle.flow_rolled.proofs.Pieces.{step_given}
+use Rattle.flow_rolled.proofs.Pieces.{step_given, step_last}
 use Rattle.flow_rolled.proofs.reader.RowReader.next.Given.{Over}
 use Rattle.flow_rolled.proofs.reader.RowReader.next.Goals.{then-is_short+in_ok-piece, else-is_short}
 use Rattle.flow_rolled.proofs.reader.RowReader.next.Goals as goal
@@ -55,6 +55,17 @@ returns-clause-further g c =
     × (c.step.new.self.place ≤ c.args.self.now.part.length)))) place
     (subst (λ n. IfOk c.step.result (λ o. IfSome o (λ _. (here.cursor.place < c.step.new.self.place)
     × (c.step.new.self.place ≤ n)))) end went)
+
+pub returns-clause-last : goal.returns-clause-last
+returns-clause-last g c =
+    let here = c.if-is_short.self-inside in
+    let was = reader_was g c in
+    let ended = step_last c.file.result here.cursor c.step.new.self c.step.result c.step.ensures.steps in
+    let place : here.cursor.place ≡ c.args.self.now.place = ap (λ (r : Reader). r.place) was in
+    let end : here.cursor.end ≡ c.args.self.now.part.length = (ready g c).0.end ∙ ap (λ (r : Reader). r.part.length)
+    was in
+    subst (λ n. IfOk c.step.result (λ o. IfNone o (n ≡ c.args.self.now.part.length))) place
+    (subst (λ n. IfOk c.step.result (λ o. IfNone o (here.cursor.place ≡ n))) end ended)
 
 pub returns-clause-given : goal.returns-clause-given
 returns-clause-given g c = λ rows so.
