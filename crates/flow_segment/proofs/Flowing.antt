@@ -14,8 +14,9 @@ use Rattle.flow_codec.specs.Message.{IsAccepted}
 use Rattle.flow_codec.specs.Raw.{under, Placed, RawMessage, Took}
 use Rattle.flow_codec.specs.Templates.{AllTemplates}
 use Rattle.flow_measure.specs.History.{Accepted, templates_from}
+use Rattle.flow_measure.proofs.Histories.{accepted_then, after_then}
 use Rattle.flow_segment.specs.Part.{rest_of, Cursor, IsOn, IsPartStep, Moves}
-use Rattle.flow_segment.specs.PartFlows.{greatest_time, records_in, ArePartMessages, IsDamage, IsStoppedAt}
+use Rattle.flow_segment.specs.PartFlows.{greatest_time, records_in, AreBehind, ArePartMessages, IsDamage, IsStoppedAt}
 use Rattle.flow_segment.specs.PartFlows.{IsWalkedInto, TookAll}
 use Rattle.flow_segment.specs.Prefix.{AreRead, IsFaulty}
 use Rattle.flow_segment.specs.Segment.{part_octets}
@@ -40,6 +41,19 @@ later_time : (messages : List Accepted) (a : Accepted)
     → greatest_time (messages ++ a ∷ []) ≡ max (greatest_time messages) a.message.header.time
 later_time [] a = omega arith
 later_time (b ∷ more) a = omega (arith, later_time more a)
+
+-- the templates after one message more
+pub behind_more : (before now after : AllTemplates) (octets : List ℕ) (m : RawMessage) → AreBehind before now
+    → IsAccepted octets now m after → AreBehind before after
+behind_more before now after octets m h is =
+    let a : Accepted = record { octets = octets; message = m; after = after } in (
+      h.0 ++ a ∷ [],
+      accepted_then before h.0 a h.1 (subst (λ (ts : AllTemplates). IsAccepted octets ts m after) h.2 is),
+      sym (after_then before h.0 a),
+    )
+
+pub behind_kept : (before now after : AllTemplates) → AreBehind before now → after ≡ now → AreBehind before after
+behind_kept before now after h same = subst (AreBehind before) (sym same) h
 
 -- what holds of a part that is read as far as a cursor stands
 abbrev pub PartSoFar : (List Accepted → Type 0) → Bool → List ℕ → ℕ → ℕ → AllTemplates → AllTemplates → Cursor → Type 0

@@ -15,8 +15,8 @@ use Rattle.std.specs.List.{AllByRecursion}
 use Rattle.std.proofs.lemmas.List.Concat.{flat_map-cons}
 use Rattle.flow_codec.specs.Message.{joined}
 use Rattle.flow_codec.proofs.Dividing.{version_of-append, length_of-append, one_division}
-use Rattle.flow_segment.specs.Part.{before_message, Cursor, IsReady, IsOn, IsHeld, IsPartStep, Gives, Moves, rest_of}
-use Rattle.flow_segment.specs.Part.{standing_at}
+use Rattle.flow_segment.specs.Part.{before_message, Cursor, Holds, IsReady, IsOn, IsHeld, IsPartStep, Gives, Moves}
+use Rattle.flow_segment.specs.Part.{rest_of, standing_at}
 use Rattle.flow_segment.specs.Segment.{reading, Reading}
 
 pub step_held : (xs : List ℕ) (at n k : ℕ) → k ≡ at → n ≤ length (drop at xs) → IsCutOff (take n (drop at xs))
@@ -233,6 +233,15 @@ near_step octets file number old mid new result e on is ready within field h =
     let held : IsHeld file mid result new = subst (λ (k : ℕ). IsHeld k mid result new) is h in
     let t = part_step octets file mid new result (subst (IsOn octets) (sym e) on) ready within field held in
     (t.0, subst (λ (c : Cursor). IsPartStep octets file c result new) e t.1)
+
+-- what is held after a step over octets that are ready
+pub held_holds : (file : ℕ) (was old new : Cursor) (result : Result Bool ScanError) → IsHeld file old result new
+    → Holds was result new
+held_holds file was old new (Ok true) h = tt
+held_holds file was old new (Ok false) h = ap (λ (c : Cursor). c.message) h.1
+held_holds file was old new (Err (Damaged f at)) h = ap (λ (c : Cursor). c.message) h.3
+held_holds file was old new (Err Fault) h = absurd h
+held_holds file was old new (Err OutOfMemory) h = absurd h
 
 -- ---- what is given to the end
 

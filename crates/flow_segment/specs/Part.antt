@@ -1,5 +1,5 @@
 -- Reading the messages of a part, some octets ahead.
-use Rattle.std.specs.Prelude.{◌≡◌, ◌⊎◌, ℕ, ◌+◌, ◌-◌, ◌<◌, ◌≤◌, Bool, true, false, List, [], ◌∷◌, ◌++◌, length, take}
+use Rattle.std.specs.Prelude.{◌≡◌, ◌⊎◌, ⊤, ℕ, ◌+◌, ◌-◌, ◌<◌, ◌≤◌, Bool, true, false, List, [], ◌∷◌, ◌++◌, length, take}
 use Rattle.std.specs.Prelude.{drop, Result, Ok, Err}
 use Rattle.flow_gate.specs.declared.tail.ScanError.{ScanError}
 use Rattle.flow_gate.specs.declared.tail.ScanError.TheVariants.{Damaged, Fault, OutOfMemory}
@@ -52,6 +52,15 @@ Moves old (Ok true) new =
     × (new.place ≤ new.end)
 Moves old (Ok false) new = (old.place ≡ old.end) × (new.place ≡ old.place)
 Moves old (Err e) new = new.place ≡ old.place
+
+-- What is held after a step, whatever the octets: nothing where the part is at its end or no message stands, and after
+-- another refusal what was held.
+abbrev pub Holds : Cursor → Result Bool ScanError → Cursor → Type 0
+Holds old (Ok true) new = ⊤
+Holds old (Ok false) new = new.message ≡ []
+Holds old (Err (Damaged f at)) new = new.message ≡ []
+Holds old (Err Fault) new = new.message ≡ old.message
+Holds old (Err OutOfMemory) new = new.message ≡ old.message
 
 -- the octets of the part from the next message on
 abbrev pub rest_of : List ℕ → Cursor → List ℕ

@@ -14,7 +14,7 @@ use Rattle.flow_codec.specs.Raw.{under, Placed, RawMessage}
 use Rattle.flow_codec.specs.Templates.{AllTemplates}
 use Rattle.flow_measure.specs.declared.flow.Flow.{Flow}
 use Rattle.flow_measure.specs.Flows.{flows_of_records, FlowFits}
-use Rattle.flow_measure.specs.History.{Accepted, flows_in, templates_from}
+use Rattle.flow_measure.specs.History.{Accepted, AreAcceptedFrom, flows_in, templates_from}
 use Rattle.flow_measure.specs.Sums.{Table, merged, table_of, AllFit}
 use Rattle.flow_segment.specs.Carry.{octets_of}
 use Rattle.flow_segment.specs.Prefix.{AreRead, IsFaulty, IsPrefixToldOf, IsRestated}
@@ -32,6 +32,11 @@ HasMessages octets before count = (messages : List Accepted) × ArePartMessages 
 abbrev pub greatest_time : List Accepted → ℕ
 greatest_time [] = 0
 greatest_time (a ∷ more) = max a.message.header.time (greatest_time more)
+
+-- the templates after some accepted messages, the first of which is behind those of before
+abbrev pub AreBehind : AllTemplates → AllTemplates → Type 0
+AreBehind before now =
+    (messages : List Accepted) × AreAcceptedFrom before messages × (now ≡ templates_from before messages)
 
 -- ---- damage
 

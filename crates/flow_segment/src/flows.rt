@@ -5,8 +5,9 @@ ghost use Rattle.flow_disk.specs.Cause.{HasCause};
 ghost use Rattle.flow_measure.specs.declared.flow.Flow.{Flow};
 ghost use Rattle.flow_measure.specs.History.{Accepted};
 ghost use Rattle.flow_measure.specs.Sums.{empty_table};
-ghost use Rattle.flow_segment.specs.PartFlows.{AreAdded, AreCollected, AreFlowsGiven, ArePartFlows, ArePartMessages};
-ghost use Rattle.flow_segment.specs.PartFlows.{greatest_time, HasMessages, IsDamage, IsNotAdded, IsPartToldOf};
+ghost use Rattle.flow_segment.specs.PartFlows.{AreAdded, AreBehind, AreCollected, AreFlowsGiven, ArePartFlows};
+ghost use Rattle.flow_segment.specs.PartFlows.{ArePartMessages, greatest_time, HasMessages, IsDamage, IsNotAdded};
+ghost use Rattle.flow_segment.specs.PartFlows.{IsPartToldOf};
 ghost use Rattle.flow_segment.specs.Segment.{part_octets};
 
 use crate::error::PartSumError;
@@ -28,7 +29,7 @@ use std::mem::replace;
 /// Where a message is refused, or none stands, it answers `Damaged`, with the file and the place; where there is
 /// another count of messages, with the file and its length; `SumSpent` where all messages are accepted and a sum would
 /// pass its type; `Fault` exactly where a read has raised `faults`; and `OutOfMemory`. After an `Err` the rows are
-/// empty, and the templates are those behind some of the messages.
+/// empty, and the templates are those after some accepted messages.
 ///
 /// It answers the greatest Export Time of the messages, in seconds since 1970-01-01 00:00 UTC, and 0 where there are
 /// none.
@@ -42,6 +43,7 @@ pub fn add_flows<S: SealedFile>(
     // On every disk.
     ensures width { rows.new.width ≡ rows.old.width }
     ensures none { OnErr result (rows.new ≡ empty_table rows.old.width) }
+    ensures templates { AreBehind templates.old templates.new }
     ensures cause { HasCause PartSumError.Fault faults.old faults.new result }
     // On an honest one: accepted messages fill the part; or why nothing is added.
     ensures found { IsTrue (S.honest part.now.reader) → OnOk result
@@ -75,8 +77,8 @@ pub fn add_flows<S: SealedFile>(
 /// 1970-01-01 00:00 UTC, behind those in a list, in the order of their records, and takes the messages' templates in:
 /// those given are in force in front of the first message, as `templates_of` or the segment before leaves them.
 ///
-/// It refuses as `add_flows` does, but for sums. After an `Err` the list is empty, and the templates are those behind
-/// some of the messages.
+/// It refuses as `add_flows` does, but for sums. After an `Err` the list is empty, and the templates are those after
+/// some accepted messages.
 pub fn collect_flows<S: SealedFile>(
     alloc: Global,
     part: &SealedPart<S>,
@@ -88,6 +90,7 @@ pub fn collect_flows<S: SealedFile>(
 ) -> Result<(), ScanError>
     // On every disk.
     ensures none { OnErr result (flows.new.items ≡ []) }
+    ensures templates { AreBehind templates.old templates.new }
     ensures cause { HasCause ScanError.Fault faults.old faults.new result }
     // On an honest one: accepted messages fill the part; or why there are no flows.
     ensures found { IsTrue (S.honest part.now.reader) → OnOk result

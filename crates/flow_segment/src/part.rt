@@ -6,7 +6,7 @@ ghost use Rattle.flow_disk.specs.Cause.{HasCause};
 ghost use Rattle.flow_disk.specs.Disk.{IsDiskImage, Stays};
 ghost use Rattle.flow_disk.specs.Moments.{LeavesOnly};
 ghost use Rattle.flow_codec.specs.Cutting.{length_of};
-ghost use Rattle.flow_segment.specs.Part.{before_message, standing_at, IsReady, IsHeld, IsOn, IsPartStep, Moves};
+ghost use Rattle.flow_segment.specs.Part.{before_message, standing_at, Holds, IsReady, IsHeld, IsOn, IsPartStep, Moves};
 
 use flow_codec::front_of;
 use flow_disk::{Disk, Faults, SealedFile};
@@ -160,10 +160,10 @@ fn keep_field(octets: &[u8])
     let _ = octets;
 }
 
-/// Reads the next message of a part of a frozen file, which the cursor then holds; `false` at the part's end. Where no
-/// message stands it answers `Damaged`, with the file and the place; `Fault` exactly where this read has raised
-/// `faults`; and `OutOfMemory`. After an `Err` the cursor stands where it stood; behind `Damaged` it holds no message
-/// any more, behind the others the one that it held.
+/// Reads the next message of a part of a frozen file, which the cursor then holds; `false` at the part's end, where it
+/// holds none. Where no message stands it answers `Damaged`, with the file and the place; `Fault` exactly where this
+/// read has raised `faults`; and `OutOfMemory`. After an `Err` the cursor stands where it stood; after `Damaged` it
+/// holds no message any more, after the others the one that it held.
 ///
 /// It reads 262,144 octets at a time, so the device is read once for many messages.
 pub fn advance<F: SealedFile>(
@@ -177,6 +177,7 @@ pub fn advance<F: SealedFile>(
     // On every disk.
     ensures end { cursor.new.end ≡ cursor.old.end }
     ensures moves { Moves cursor.old result cursor.new }
+    ensures holds { Holds cursor.old result cursor.new }
     ensures cause { HasCause ScanError.Fault faults.old faults.new result }
 
     // On an honest one.
@@ -206,6 +207,7 @@ pub fn advance_on<D: Disk>(
     ensures marks { Stays (D.marks disk.old) (D.marks disk.new) }
     ensures end { cursor.new.end ≡ cursor.old.end }
     ensures moves { Moves cursor.old result cursor.new }
+    ensures holds { Holds cursor.old result cursor.new }
     ensures cause { HasCause ScanError.Fault (D.faults disk.old) (D.faults disk.new) result }
 
     // On an honest one.

@@ -1,11 +1,11 @@
 //! The data records of a part's messages, handed to a sink.
 
-ghost use Rattle.std.specs.Prelude.{◌≡◌, ◌≤◌, List, IsTrue, IfOk, IfErr, OnOk};
+ghost use Rattle.std.specs.Prelude.{◌≡◌, ◌≤◌, List, IsTrue, IfOk, IfErr, OnErr, OnOk};
 ghost use Rattle.flow_disk.specs.Cause.{HasCause};
 ghost use Rattle.flow_codec.specs.Raw.{Placed, Took};
 ghost use Rattle.flow_measure.specs.History.{Accepted, templates_from};
-ghost use Rattle.flow_segment.specs.PartFlows.{greatest_time, records_in, ArePartMessages, IsDamage, IsWalkedInto};
-ghost use Rattle.flow_segment.specs.PartFlows.{TookAll};
+ghost use Rattle.flow_segment.specs.PartFlows.{greatest_time, records_in, AreBehind, ArePartMessages, IsDamage};
+ghost use Rattle.flow_segment.specs.PartFlows.{IsWalkedInto, TookAll};
 ghost use Rattle.flow_segment.specs.Segment.{part_octets};
 
 use crate::part::{Cursor, advance};
@@ -26,8 +26,9 @@ fn hand_over<R: RecordSink<Error = AllocError>>(
     at: u64,
     sink: &mut R,
 ) -> Result<u32, ScanError>
-    ensures { IsWalkedInto (λ time m. Took R.holds m.header sink.old m.records sink.new × (time ≡ m.header.time))
-        file at octets.now templates.old templates.new result }
+    ensures walked { IsWalkedInto (λ time m. Took R.holds m.header sink.old m.records sink.new
+        × (time ≡ m.header.time)) file at octets.now templates.old templates.new result }
+    ensures kept { OnErr result (templates.new ≡ templates.old) }
 {
     match walk_message(templates, alloc, octets, sink) {
         Ok(header) => Ok(header.time),
@@ -52,7 +53,8 @@ pub(crate) fn walk_part<S: SealedFile, R: RecordSink<Error = AllocError>>(
     faults: &mut Faults<S>,
 ) -> Result<u32, ScanError>
     ensures cause { HasCause ScanError.Fault faults.old faults.new result }
-    // On every disk: the sink took some records.
+    // On every disk: the sink took some records, and the templates are those after some messages.
+    ensures templates { AreBehind templates.old templates.new }
     ensures taken { OnOk result ((records : List Placed) × TookAll R.holds sink.old records sink.new) }
     // On an honest one: those of accepted messages that fill the part; or why there are none.
     ensures found { IsTrue (S.honest part.now.reader) → OnOk result ((messages : List Accepted)

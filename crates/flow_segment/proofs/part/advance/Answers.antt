@@ -1,5 +1,5 @@
 use Rattle.std.proofs.Common.{◌∙◌}
-use Rattle.flow_segment.proofs.Parts.{fed_step, near_step}
+use Rattle.flow_segment.proofs.Parts.{fed_step, near_step, held_holds}
 use Rattle.flow_segment.proofs.part.advance.Goals.{then-is_short+in_ok-piece, else-is_short}
 use Rattle.flow_segment.proofs.part.advance.Goals as goal
 
@@ -20,3 +20,7 @@ returns-clause-step g c = λ honest on.
       | else-is_short w ↦ near_step octets number c.file.result old mid new c.step.result w.cursor-is on
           c.file.ensures e.ready e.ahead e.field e.held
     ]
+
+pub returns-clause-holds : goal.returns-clause-holds
+returns-clause-holds g c = held_holds c.file.result c.args.cursor.now c.if-is_short.cursor c.step.new.self c.step.result
+    c.step.ensures.held

@@ -1,7 +1,7 @@
 use Rattle.std.proofs.Common.{◌∙◌, refl}
 use Rattle.flow_disk.proofs.Moments.{started, goes_on}
 use Rattle.flow_disk.specs.Disk.{IsDiskImage}
-use Rattle.flow_segment.proofs.Parts.{fed_step, near_step}
+use Rattle.flow_segment.proofs.Parts.{fed_step, near_step, held_holds}
 use Rattle.flow_segment.proofs.part.advance_on.Goals.{then-is_short+in_ok-piece, else-is_short}
 use Rattle.flow_segment.proofs.part.advance_on.Goals as goal
 
@@ -43,3 +43,7 @@ returns-clause-step g c = λ honest on.
       | else-is_short w ↦ near_step octets c.args.file c.args.file old mid new c.step.result w.cursor-is on refl
           e.ready e.ahead e.field e.held
     ]
+
+pub returns-clause-holds : goal.returns-clause-holds
+returns-clause-holds g c = held_holds c.args.file c.args.cursor.now c.if-is_short.cursor c.step.new.self c.step.result
+    c.step.ensures.held

@@ -5,7 +5,8 @@ use Rattle.flow_segment.specs.PartFlows.{IsDamage}
 use Rattle.flow_segment.specs.Segment.{part_octets}
 use Rattle.flow_segment.proofs.Carrying.{err_of}
 use Rattle.flow_segment.proofs.Restating.{moves_within}
-use Rattle.flow_segment.proofs.Flowing.{count_within, max_is, part_more, time_found, walked_told, AreTaken, PartSoFar}
+use Rattle.flow_segment.proofs.Flowing.{behind_kept, behind_more, count_within, max_is, part_more, time_found}
+use Rattle.flow_segment.proofs.Flowing.{walked_told, AreTaken, PartSoFar}
 use Rattle.flow_segment.proofs.Taking.{took_then}
 use Rattle.flow_segment.proofs.walking.walk_part.Goals as goal
 
@@ -25,7 +26,7 @@ returns-in_err-hand_over-clause-told g c = λ h.
     part.messages c.in_ok-advance.field-0 c.args.templates.now c.messages.templates c.hand_over.new.templates
     c.messages.cursor c.advance.new.cursor c.message.result.now c.in_err-hand_over.field-0.0
     c.if-not-branch.false c.messages.invariant.0 c.in_ok-advance.ensures.moves c.in_ok-advance.ensures.step
-    c.message.ensures c.file-file.ensures c.place-at.ensures c.in_err-hand_over.ensures h)
+    c.message.ensures c.file-file.ensures c.place-at.ensures c.in_err-hand_over.ensures.walked h)
 
 pub messages-preserved : goal.messages-preserved
 messages-preserved g c =
@@ -33,7 +34,7 @@ messages-preserved g c =
     let holds = g.R.RecordSink.holds in
     let part = c.args.part.now in
     let file = part.reader in
-    let x = c.in_ok-hand_over.ensures in
+    let x = c.in_ok-hand_over.ensures.walked in
     let some = c.messages.invariant.5 in (
       subst (λ (t : ℕ). PartSoFar (AreTaken holds c.args.sink.now c.hand_over.new.sink (c.messages.count + 1) t)
           (S.honest file) (S.octets file) part.prefix part.length c.args.templates.now c.hand_over.new.templates c.advance.new.cursor)
@@ -54,7 +55,14 @@ messages-preserved g c =
         took_then holds c.args.sink.now c.messages.sink c.hand_over.new.sink some.0 (under (x.0).header (x.0).records)
             some.1 x.2.0,
       ),
+      behind_more c.args.templates.now c.messages.templates c.hand_over.new.templates c.message.result.now x.0
+          c.messages.invariant.6 x.1,
     )
+
+pub returns-in_err-hand_over-clause-templates : goal.returns-in_err-hand_over-clause-templates
+returns-in_err-hand_over-clause-templates g c =
+    behind_kept c.args.templates.now c.messages.templates c.hand_over.new.templates c.messages.invariant.6
+    c.in_err-hand_over.ensures.kept
 
 pub returns-then-not-branch-clause-time : goal.returns-then-not-branch-clause-time
 returns-then-not-branch-clause-time g c = λ h messages are.

@@ -1,6 +1,6 @@
 use Rattle.std.proofs.Common.{◌≡◌, ◌-◌, ◌≤◌, List}
 use Rattle.flow_codec.specs.Raw.{Placed}
-use Rattle.flow_segment.specs.PartFlows.{TookAll}
+use Rattle.flow_segment.specs.PartFlows.{AreBehind, TookAll}
 use Rattle.flow_segment.proofs.Flowing.{AreTaken, PartSoFar}
 use Rattle.flow_segment.proofs.walking.walk_part.Given as goal
 
@@ -12,6 +12,7 @@ invariant-messages g l =
     l.part.prefix l.part.length l.initial.templates l.templates l.cursor
     × (l.cursor.end ≡ l.part.length) × (l.cursor.place ≤ l.cursor.end) × (l.faults ≡ l.initial.faults)
     × (l.count ≤ l.cursor.place) × ((records : List Placed) × TookAll holds l.initial.sink records l.sink)
+    × AreBehind l.initial.templates l.templates
 
 abbrev pub decreases-messages : goal.decreases-messages
 decreases-messages g l = l.cursor.end - l.cursor.place
