@@ -299,7 +299,7 @@ class Reader:
             self.run = None
         elif not self.cases:
             raise Bad("'%s' stands before the first case" % word)
-        elif word in ("out", "out*", "has", "err", "status", "columns", "by"):
+        elif word in ("out", "out*", "lines", "has", "err", "status", "columns", "by"):
             self.expect(word, rest)
         else:
             self.step(place, word, rest)
@@ -312,6 +312,9 @@ class Reader:
             self.run.out.append(rest)
         elif word == "out*":
             self.run.begins = rest
+        elif word == "lines":
+            count, _, line = rest.partition(" ")
+            self.run.out += [line] * int(count)
         elif word == "has":
             self.run.lines.append(rest)
         elif word == "err":
