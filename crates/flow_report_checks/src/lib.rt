@@ -1,12 +1,10 @@
-//! Tests of what is written of a File, on public calls: the totals of `measure`, the lines of `dump`, and those of rows
-//! and flows.
+//! Tests of what is written of a File, of rows and of flows through writers and readers that fail, or are interrupted, on
+//! public calls. The lines themselves are in cases/files.txt and cases/messages.txt.
 #![tactic(auto)]
 
 #[cfg(test)]
-mod dumps;
+mod readers;
 #[cfg(test)]
-mod measures;
+mod tasks;
 #[cfg(test)]
-mod patience;
-#[cfg(test)]
-mod stage;
+mod writers;
