@@ -1,5 +1,6 @@
-//! Tests of the message path on public calls: values of elements, messages, templates restated, Files in pieces, flows
-//! and their sums.
+//! Tests of the message path on public calls that no run of the program makes: values and messages in fields,
+//! templates restated, places in a File, readers that give it in pieces or fail, flows and their sums. What `measure`
+//! and `dump` say of messages and Files is in cases/files.txt and cases/messages.txt.
 #![tactic(auto)]
 
 #[cfg(test)]

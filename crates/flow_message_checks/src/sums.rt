@@ -1,11 +1,10 @@
 //! Flows and their sums, worked out by hand.
 
-use crate::holds::{holds, told};
-use flow_codec::{DataRecord, Field, Header, Message, MessageError, Templates, walk_message};
-use flow_elements::{ElementId, Items};
+use crate::holds::{FLOW, holds};
+use flow_codec::{MessageError, Templates, read_message, walk_message};
 use flow_measure::{Flow, Flows, Key, Row, Rows, SumError, Sums, flows_of_message};
 use std::alloc::{AllocError, Global};
-use std::test::*;
+use std::test::Fail;
 
 fn flow(start: u32, protocol: Option<u8>) -> Flow {
     Flow {
@@ -17,7 +16,8 @@ fn flow(start: u32, protocol: Option<u8>) -> Flow {
     }
 }
 
-fn row(start: u32, protocol: Option<u8>, flows: u64, octets: u128, packets: u128) -> Row {
+/// The row of so many such flows.
+fn row(start: u32, width: u32, protocol: Option<u8>, flows: u64) -> Row {
     Row {
         key: Key {
             start,
@@ -26,111 +26,75 @@ fn row(start: u32, protocol: Option<u8>, flows: u64, octets: u128, packets: u128
         },
         sums: Sums {
             flows,
-            octets,
-            packets,
+            octets: 1500 * u128::from(flows),
+            packets: 10 * u128::from(flows),
         },
-        width: 300,
+        width,
     }
+}
+
+/// The flows of the message by its fields.
+fn by_fields(alloc: Global, templates: &mut Templates) -> Result<Vec<Flow>, Fail> {
+    Ok(flows_of_message(alloc, &read_message(templates, alloc, &FLOW)?)?)
+}
+
+/// The flows of the message as it is walked.
+fn by_walk(alloc: Global, templates: &mut Templates, flows: &mut Flows) -> Result<bool, Fail> {
+    walk_message(templates, alloc, &FLOW, flows).map_err(MessageError::from)?;
+    Ok(flows.flows.as_slice() == [flow(1700000000, Some(6))].as_slice())
+}
+
+#[test]
+fn flows(rt: HostRuntime) -> Result<(), Fail> {
+    let alloc = rt.alloc();
+    let found = by_fields(alloc, &mut Templates::new(alloc))?;
+    let wanted = [flow(1700000000, Some(6))];
+    holds(found.as_slice() == wanted.as_slice(), "one flow by fields")?;
+    let is_walked = by_walk(alloc, &mut Templates::new(alloc), &mut Flows::new(alloc))?;
+    holds(is_walked, "one flow by the walk")
+}
+
+/// The rows of flows that start then, over intervals of 300 seconds.
+fn rows_of(alloc: Global, starts: &[(u32, Option<u8>)]) -> Result<Rows, SumError> {
+    let mut rows = Rows::new(alloc, 300);
+    for (start, protocol) in starts {
+        rows.add(&flow(*start, *protocol))?;
+    }
+    Ok(rows)
 }
 
 /// Whether these are all rows that start within a span.
 fn are_rows(
     alloc: Global,
     rows: &Rows,
-    from: u64,
-    to: u64,
+    (from, to): (u64, u64),
     wanted: &[Row],
 ) -> Result<bool, AllocError> {
     Ok(rows.in_span(alloc, from, to)?.as_slice() == wanted)
 }
 
-/// Flows of two intervals.
-fn add_flows(rows: &mut Rows) -> Result<(), SumError> {
-    for (start, protocol) in [
-        (1700000000, Some(6)),
-        (1699999800, None),
-        (1700000099, Some(6)),
-        (1700000100, Some(6)),
-    ] {
-        rows.add(&flow(start, protocol))?;
-    }
-    Ok(())
-}
+/// All seconds.
+const ALL: (u64, u64) = (0, 1 << 32);
 
-/// Adds flows, and lists their rows in three spans.
-fn list_spans(alloc: Global, rows: &mut Rows) -> Result<(), Fail> {
-    add_flows(rows)?;
-    let wanted = [
-        row(1699999800, None, 1, 1500, 10),
-        row(1699999800, Some(6), 2, 3000, 20),
-        row(1700000100, Some(6), 1, 1500, 10),
+/// Looks at the rows of three spans.
+fn spans(alloc: Global, rows: &Rows) -> Result<(), Fail> {
+    let all = [
+        row(1699999800, 300, None, 1),
+        row(1699999800, 300, Some(6), 2),
+        row(1700000100, 300, Some(6), 1),
     ];
-    holds(are_rows(alloc, rows, 0, 1 << 32, &wanted)?, "three rows")?;
-    holds(
-        are_rows(alloc, rows, 1699999800, 1700000100, &wanted[..2])?,
-        "the rows of the first interval",
-    )?;
-    holds(
-        are_rows(alloc, rows, 1699999801, 1700000101, &wanted[2..])?,
-        "the row of the second interval",
-    )
+    holds(are_rows(alloc, rows, ALL, &all)?, "three rows")?;
+    let first = are_rows(alloc, rows, (1699999800, 1700000100), &all[..2])?;
+    holds(first, "the rows of the first interval")?;
+    let second = are_rows(alloc, rows, (1699999801, 1700000101), &all[2..])?;
+    holds(second, "the row of the second interval")
 }
 
-#[test]
-fn sums(rt: HostRuntime) -> Result<(), Fail> {
-    list_spans(rt.alloc(), &mut Rows::new(rt.alloc(), 300))
-}
-
-/// Adds flows of domains and of intervals that take turns, so that many keys share a remembered place.
-fn add_turns(rows: &mut Rows) -> Result<(), SumError> {
-    for start in [1700000000, 1700000100, 1699999799, 1700000099] {
-        for domain in 0..130 {
-            for protocol in [None, Some(0), Some(255)] {
-                rows.add(&Flow {
-                    domain,
-                    ..flow(start, protocol)
-                })?;
-            }
-        }
-    }
-    Ok(())
-}
-
-/// The rows of flows that take turns.
-fn rows_of_turns(alloc: Global, rows: &mut Rows) -> Result<Vec<Row>, Fail> {
-    add_turns(rows)?;
-    Ok(rows.in_span(alloc, 0, 1 << 32)?)
-}
-
-#[test]
-fn keys_take_turns(rt: HostRuntime) -> Result<(), Fail> {
-    let all = rows_of_turns(rt.alloc(), &mut Rows::new(rt.alloc(), 300))?;
-    assert_eq!(rt; all.len(), 3 * 130 * 3);
-    let mut place = 0;
-    for (start, flows) in [(1699999500, 1), (1699999800, 2), (1700000100, 1)] {
-        for domain in 0..130 {
-            for protocol in [None, Some(0), Some(255)] {
-                let key = Key {
-                    start,
-                    domain,
-                    protocol,
-                };
-                let row = all.get(place).map(|row| (row.key, row.sums.flows));
-                assert_eq!(rt; row, Some((key, flows)));
-                place += 1;
-            }
-        }
-    }
-    Ok(())
-}
-
-/// Flows of two hours, in rows of 3,600 seconds.
-fn wide_rows(alloc: Global, rows: &mut Rows) -> Result<Rows, Fail> {
-    for start in [1700000000, 1699999200, 1700002800] {
-        rows.add(&flow(start, Some(6)))?;
-    }
-    if rows.width() != 300 {
-        return Err(Fail::new("a width of 300 is wanted"));
+/// The rows over intervals of 3,600 seconds.
+fn widened(alloc: Global, rows: &Rows) -> Result<Rows, Fail> {
+    holds(rows.width() == 300, "a width of 300")?;
+    if 3600 % rows.width() != 0 {
+        return Err(Fail::new("a width that 3,600 is a multiple of"));
     }
     Ok(rows.widen(alloc, 3600)?)
 }
@@ -138,164 +102,73 @@ fn wide_rows(alloc: Global, rows: &mut Rows) -> Result<Rows, Fail> {
 /// Looks at the rows of 3,600 seconds.
 fn are_wide(alloc: Global, wide: &Rows) -> Result<(), Fail> {
     let wanted = [
-        Row {
-            width: 3600,
-            ..row(1699999200, Some(6), 2, 3000, 20)
-        },
-        Row {
-            width: 3600,
-            ..row(1700002800, Some(6), 1, 1500, 10)
-        },
+        row(1699999200, 3600, None, 1),
+        row(1699999200, 3600, Some(6), 3),
     ];
-    holds(wide.width() == 3600, "a width of 3,600")?;
-    holds(are_rows(alloc, wide, 0, 1 << 32, &wanted)?, "two rows")
+    holds(are_rows(alloc, wide, ALL, &wanted)?, "two rows")
 }
 
 #[test]
-fn widened(rt: HostRuntime) -> Result<(), Fail> {
-    let wide = wide_rows(rt.alloc(), &mut Rows::new(rt.alloc(), 300))?;
-    are_wide(rt.alloc(), &wide)
+fn sums(rt: HostRuntime) -> Result<(), Fail> {
+    let alloc = rt.alloc();
+    let starts = [
+        (1700000000, Some(6)),
+        (1699999800, None),
+        (1700000099, Some(6)),
+        (1700000100, Some(6)),
+    ];
+    let rows = rows_of(alloc, &starts)?;
+    spans(alloc, &rows)?;
+    are_wide(alloc, &widened(alloc, &rows)?)
 }
 
-/// What adding other rows answers.
-fn merged(rows: &mut Rows, other: &Rows) -> Result<Result<(), SumError>, Fail> {
+/// Adds other rows.
+fn merge(rows: &mut Rows, other: &Rows) -> Result<Result<(), SumError>, Fail> {
     if rows.width() != other.width() {
         return Err(Fail::new("equal widths are wanted"));
     }
     Ok(rows.merge(other))
 }
 
-/// Adds two rows to each other in turn, until a sum is spent.
-fn add_in_turn(a: &mut Rows, b: &mut Rows) -> Result<(), Fail> {
-    for turn in 1..93u32 {
-        let added = if turn % 2 == 1 {
-            merged(a, b)?
-        } else {
-            merged(b, a)?
-        };
-        if turn < 92 {
-            added?;
-        } else {
-            holds(added == Err(SumError::SumSpent), "a sum that is spent")?;
-        }
-    }
-    Ok(())
+/// As many flows as fit, without octets.
+const FULL: Row = Row {
+    key: Key {
+        start: 0,
+        domain: 7,
+        protocol: Some(6),
+    },
+    sums: Sums {
+        flows: u64::MAX,
+        octets: 0,
+        packets: 0,
+    },
+    width: 300,
+};
+
+/// Their rows.
+fn full(alloc: Global) -> Result<Rows, SumError> {
+    let mut rows = Rows::new(alloc, 300);
+    rows.put(FULL.key, FULL.sums)?;
+    Ok(rows)
 }
 
-/// The count of flows in the only row.
-fn count_of(alloc: Global, rows: &Rows) -> Result<Option<u64>, AllocError> {
-    let all = rows.in_span(alloc, 0, 1 << 32)?;
-    Ok(match all.as_slice() {
-        [row] => Some(row.sums.flows),
-        _ => None,
-    })
-}
-
-/// The counts of flows of two rows of one flow, behind adding them in turn.
-fn counts_in_turn(
-    alloc: Global,
-    a: &mut Rows,
-    b: &mut Rows,
-) -> Result<(Option<u64>, Option<u64>), Fail> {
-    a.add(&flow(1700000000, Some(6)))?;
-    b.add(&flow(1700000000, Some(6)))?;
-    add_in_turn(a, b)?;
-    Ok((count_of(alloc, a)?, count_of(alloc, b)?))
-}
-
-/// The same, from no rows on.
-fn spent_counts(alloc: Global) -> Result<(Option<u64>, Option<u64>), Fail> {
-    let mut b = Rows::new(alloc, 300);
-    counts_in_turn(alloc, &mut Rows::new(alloc, 300), &mut b)
-}
-
-/// Two rows that add each other in turn: their counts of flows are the numbers of Fibonacci.
-#[test]
-fn spent(rt: HostRuntime) -> Result<(), Fail> {
-    let (a, b) = spent_counts(rt.alloc())?;
-    assert_eq!(rt; a, Some(12200160415121876738));
-    assert_eq!(rt; b, Some(7540113804746346429));
-    Ok(())
+/// Adds one flow to as many as fit, and the other way round: neither is changed.
+fn spend(alloc: Global, full: &mut Rows, one: &mut Rows) -> Result<(), Fail> {
+    holds(merge(full, one)? == Err(SumError::SumSpent), "a spent sum")?;
+    holds(merge(one, full)? == Err(SumError::SumSpent), "the same")?;
+    holds(are_rows(alloc, full, ALL, &[FULL])?, "as many flows as fit")?;
+    let one_row = [row(0, 300, Some(6), 1)];
+    holds(are_rows(alloc, one, ALL, &one_row)?, "one flow")?;
+    holds(
+        merge(one, &rows_of(alloc, &[(299, Some(6))])?)? == Ok(()),
+        "room for another",
+    )?;
+    let two = [row(0, 300, Some(6), 2)];
+    holds(are_rows(alloc, one, ALL, &two)?, "two flows")
 }
 
 #[test]
-fn errors(rt: HostRuntime) -> Result<(), Fail> {
-    told(rt.alloc(), Some(SumError::SumSpent), "14 SumSpent")?;
-    told(rt.alloc(), Some(SumError::OutOfMemory), "11 OutOfMemory")
-}
-
-/// One template and one record of it.
-const PLAIN: [u8; 57] = [
-    0x00, 0x0A, 0x00, 0x39, 0x65, 0x53, 0xF1, 0x00, 0, 0, 0, 0, 0, 0, 0, 7, 0x00, 0x02, 0x00, 0x18,
-    0x01, 0x00, 0x00, 0x04, 0x00, 0x96, 0x00, 0x04, 0x00, 0x04, 0x00, 0x01, 0x00, 0x01, 0x00, 0x04,
-    0x00, 0x02, 0x00, 0x04, 0x01, 0x00, 0x00, 0x11, 0x65, 0x53, 0xF1, 0x00, 0x06, 0x00, 0x00, 0x05,
-    0xDC, 0x00, 0x00, 0x00, 0x0A,
-];
-
-/// Takes the flows of `PLAIN`.
-fn take_flows(alloc: Global, templates: &mut Templates, flows: &mut Flows) -> Result<(), Fail> {
-    walk_message(templates, alloc, &PLAIN, flows).map_err(MessageError::from)?;
-    let wanted = [flow(1700000000, Some(6))];
-    holds(flows.flows.as_slice() == wanted.as_slice(), "one flow")
-}
-
-#[test]
-fn flows(rt: HostRuntime) -> Result<(), Fail> {
-    let alloc = rt.alloc();
-    let mut flows = Flows::new(alloc);
-    take_flows(alloc, &mut Templates::new(alloc), &mut flows)
-}
-
-/// A record of these elements, each with its octets.
-fn record(rt: &HostRuntime, elements: &[(u16, &[u8])]) -> Result<DataRecord, Fail> {
-    let mut fields = Vec::new(rt.alloc());
-    for (number, octets) in elements {
-        let id = ElementId {
-            enterprise: None,
-            number: *number,
-        };
-        let octets = Items::from_vec(Vec::from_slice(rt.alloc(), octets)?);
-        fields.push(Field { id, octets })?;
-    }
-    Ok(DataRecord {
-        template: 256,
-        options: false,
-        fields: Items::from_vec(fields),
-    })
-}
-
-/// A message in fields of one record of these elements.
-fn message(rt: &HostRuntime, elements: &[(u16, &[u8])]) -> Result<Message, Fail> {
-    let mut records = Vec::new(rt.alloc());
-    records.push(record(rt, elements)?)?;
-    Ok(Message {
-        header: Header {
-            length: 0,
-            time: 1700000000,
-            sequence: 0,
-            domain: 7,
-        },
-        records: Items::from_vec(records),
-    })
-}
-
-/// Whether this is the only flow of a message in fields.
-fn has_one_flow(alloc: Global, message: &Message, wanted: Flow) -> Result<bool, AllocError> {
-    Ok(flows_of_message(alloc, message)?.as_slice() == [wanted].as_slice())
-}
-
-/// A message in fields: elements that come twice, and one of a length that doesn't count.
-#[test]
-fn flows_by_fields(rt: HostRuntime) -> Result<(), Fail> {
-    let elements: [(u16, &[u8]); 6] = [
-        (152, &[0; 7]),
-        (1, &[0x05, 0xDC]),
-        (4, &[6]),
-        (2, &[10]),
-        (1, &[9]),
-        (4, &[17]),
-    ];
-    let message = message(&rt, &elements)?;
-    assert!(rt; has_one_flow(rt.alloc(), &message, flow(1700000000, Some(6)))?);
-    Ok(())
+fn a_sum_that_is_spent(rt: HostRuntime) -> Result<(), Fail> {
+    let mut one = rows_of(rt.alloc(), &[(0, Some(6))])?;
+    spend(rt.alloc(), &mut full(rt.alloc())?, &mut one)
 }
