@@ -1,24 +1,17 @@
-//! Tests of the disks in memory, and of the gate, manifests and the slots over them: what each call answers, what is
-//! read after a stop at each device call, what counts as damage, and a disk that lies.
+//! Tests of the disks in memory: what their calls answer, with room and without, with faults and lies, and what a stop
+//! leaves; and a manifest, read and written. What archives make of their slots, manifests and lists of messages, with
+//! stops, faults and lies, is in the scripts of flow_replay.
 #![tactic(auto)]
 
 #[cfg(test)]
+mod calls;
+#[cfg(test)]
 mod disks;
 #[cfg(test)]
-mod following;
+mod lies;
 #[cfg(test)]
 mod manifests;
 #[cfg(test)]
-mod octets;
-#[cfg(test)]
 mod same;
 #[cfg(test)]
-mod segment;
-#[cfg(test)]
-mod slots;
-#[cfg(test)]
 mod stops;
-#[cfg(test)]
-mod swap;
-#[cfg(test)]
-mod tests;
