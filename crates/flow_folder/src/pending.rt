@@ -66,6 +66,7 @@ impl<F: FileExt + OpenFile + Drop> Pending<F> {
         ensures stage { IfOk result (λ pending. pending.stage ≡ Stage.Doubtful) }
         ensures whole { IfOk result
             (λ pending. (place : ℕ) → place < length → IsWritten pending.written.ranges.items place) }
+        ensures cut { IfOk result (λ pending. pending.was_cut ≡ true) }
     {
         let mut written = Ranges::none(alloc)?;
         written.add(Range {
