@@ -3,20 +3,21 @@
 use crate::calls::{Call, Thawed};
 use crate::folders::fresh;
 use flow_disk::DiskError;
-use flow_folder::{FolderDisk, Lockable};
+use flow_folder::{FolderDisk, FolderError, Lockable};
 use std::alloc::{Alloc, Allocator, Global};
 use std::cell::Cell;
 use std::fs::{self, File, Files, Metadata, OpenFile, OpenOptions, Permissions, TryLockError};
 use std::io::{self, ErrorKind, Read, Seek, SeekFrom, Write};
 use std::os::fd::AsRawFd;
-use std::os::unix::fs::FileExt;
+use std::os::unix::fs::{FileExt, MetadataExt};
 use std::test::Fail;
 
-/// How many of the next syncs fail, how many octets can still be written, and how many writes, cuts and new files were
-/// made.
+/// How many of the next syncs fail, why no name can be looked up, if so, how many octets can still be written, and how
+/// many writes, cuts and new files were made.
 #[derive(Drop)]
 struct Plan {
     failing: Cell<u32>,
+    unseen: Cell<Option<ErrorKind>>,
     room: Cell<u64>,
     writes: Cell<u32>,
     cuts: Cell<u32>,
@@ -27,6 +28,7 @@ impl Plan {
     fn new() -> Plan {
         Plan {
             failing: Cell::new(0),
+            unseen: Cell::new(None),
             room: Cell::new(1000),
             writes: Cell::new(0),
             cuts: Cell::new(0),
@@ -35,7 +37,7 @@ impl Plan {
     }
 }
 
-/// The system, but for what a plan lets fail.
+/// The system, but for what a plan lets fail, and as it is to who isn't root: nobody writes a read-only file.
 #[derive(Clone, Copy)]
 struct Failing<'a> {
     rt: &'a HostRuntime,
@@ -65,6 +67,8 @@ impl<'a> Files for Failing<'a> {
     fn open_file(&self, how: &OpenOptions, path: &str) -> io::Result<FailingFile<'a>> {
         if how.asks_create_new() {
             self.plan.made.set(self.plan.made.get().saturating_add(1));
+        } else if how.asks_write() && self.rt.metadata(path)?.mode() & 0o200 == 0 {
+            return Err(ErrorKind::PermissionDenied.into());
         }
         Ok(FailingFile {
             file: self.rt.open_file(how, path)?,
@@ -81,7 +85,10 @@ impl<'a> Files for Failing<'a> {
     }
 
     fn symlink_metadata(&self, path: &str) -> io::Result<Metadata> {
-        self.rt.symlink_metadata(path)
+        match self.plan.unseen.get() {
+            Some(why) => Err(why.into()),
+            None => self.rt.symlink_metadata(path),
+        }
     }
 
     fn copy(&self, from: &str, to: &str) -> io::Result<u64> {
@@ -227,7 +234,7 @@ fn freeze(failing: &Failing<'_>, folder: &str) -> Result<(), Fail> {
     Ok(())
 }
 
-const FAILED_SYNCS: [Row<'static>; 8] = [
+const FAILED_SYNCS: [Row<'static>; 12] = [
     Row(Call::Write(3, 0, b"abcdef"), 0, true, [1, 0, 1]),
     Row(Call::Cut(3, 4), 0, true, [1, 1, 1]),
     // written and cut again at once
@@ -241,6 +248,11 @@ const FAILED_SYNCS: [Row<'static>; 8] = [
     Row(Call::Sync(3), 0, true, [5, 2, 1]),
     // not after a good one
     Row(Call::Sync(3), 0, true, [5, 2, 1]),
+    Row(Call::Write(3, 0, b"A"), 0, true, [6, 2, 1]),
+    Row(Call::Write(3, 3, b"D"), 0, true, [7, 2, 1]),
+    // each of the two places
+    Row(Call::Sync(3), 1, false, [9, 2, 1]),
+    Row(Call::Sync(3), 0, true, [9, 2, 1]),
 ];
 
 #[test]
@@ -253,7 +265,7 @@ fn failed_syncs_are_made_good(rt: HostRuntime) -> Result<(), Fail> {
     };
     make(&failing, "folder_syncs", &FAILED_SYNCS)?;
     let octets = fs::read(&rt, "folder_syncs/3.ipfix")?;
-    assert_eq!(rt; octets.as_slice(), b"abcdZ".as_slice());
+    assert_eq!(rt; octets.as_slice(), b"AbcDZ".as_slice());
     fs::remove_dir_all(&rt, "folder_syncs")?;
     Ok(())
 }
@@ -304,6 +316,30 @@ fn others_files_are_written_again(rt: HostRuntime) -> Result<(), Fail> {
     let octets = fs::read(&rt, "folder_again/3.ipfix")?;
     assert_eq!(rt; octets.as_slice(), b"abcdefg".as_slice());
     fs::remove_dir_all(&rt, "folder_again")?;
+    Ok(())
+}
+
+/// What others wrote is written again in several pieces, each where it stood.
+#[test]
+fn long_files_are_written_again_in_place(rt: HostRuntime) -> Result<(), Fail> {
+    fresh(&rt, "folder_long")?;
+    let mut octets = vec![in rt.alloc(); 1u8; 4096]?;
+    octets.resize(5000, 2)?;
+    fs::write(&rt, "folder_long/3.ipfix", octets.as_slice())?;
+    let plan = Plan::new();
+    plan.room.set(10_000);
+    let failing = Failing {
+        rt: &rt,
+        plan: &plan,
+    };
+    make(
+        &failing,
+        "folder_long",
+        &[Row(Call::Sync(3), 0, true, [2, 1, 0])],
+    )?;
+    let after = fs::read(&rt, "folder_long/3.ipfix")?;
+    assert!(rt; after.as_slice() == octets.as_slice());
+    fs::remove_dir_all(&rt, "folder_long")?;
     Ok(())
 }
 
@@ -375,5 +411,30 @@ fn a_full_device_is_a_fault(rt: HostRuntime) -> Result<(), Fail> {
     };
     make(&failing, "folder_full", &FULL)?;
     fs::remove_dir_all(&rt, "folder_full")?;
+    Ok(())
+}
+
+/// A name that can't be looked up isn't taken for that of no file.
+#[test]
+fn unseen_names_are_faults(rt: HostRuntime) -> Result<(), Fail> {
+    fresh(&rt, "folder_unseen")?;
+    let plan = Plan::new();
+    plan.unseen.set(Some(ErrorKind::Other));
+    let failing = Failing {
+        rt: &rt,
+        plan: &plan,
+    };
+    make(
+        &failing,
+        "folder_unseen",
+        &[Row(Call::Length(3, 0), 0, false, [0, 0, 0])],
+    )?;
+    fs::write(&rt, "folder_unseen/3.ipfix", b"abc".as_slice())?;
+    let opened = FolderDisk::new(&failing, "folder_unseen");
+    assert!(rt; matches!(opened, Err(FolderError::Refused(_))));
+    plan.unseen.set(Some(ErrorKind::OutOfMemory));
+    let opened = FolderDisk::new(&failing, "folder_unseen");
+    assert!(rt; matches!(opened, Err(FolderError::OutOfMemory)));
+    fs::remove_dir_all(&rt, "folder_unseen")?;
     Ok(())
 }

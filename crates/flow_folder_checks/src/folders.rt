@@ -270,6 +270,18 @@ fn short_files_are_faults_of_the_disk(rt: HostRuntime) -> Result<(), Fail> {
 }
 
 #[test]
+fn longer_files_are_not_frozen(rt: HostRuntime) -> Result<(), Fail> {
+    fresh(&rt, "folder_changed")?;
+    let mut disk = FolderDisk::new(&rt, "folder_changed")?;
+    disk.write_at(3, 0, b"abcdef")?;
+    disk.sync(3)?;
+    fs::write(&rt, "folder_changed/3.ipfix", b"abcdefg".as_slice())?;
+    assert!(rt; matches!(disk.freeze(3), Err(DiskError::Fault)));
+    fs::remove_dir_all(&rt, "folder_changed")?;
+    Ok(())
+}
+
+#[test]
 fn absent_files_are_frozen(rt: HostRuntime) -> Result<(), Fail> {
     fresh(&rt, "folder_nothing")?;
     let mut disk = FolderDisk::new(&rt, "folder_nothing")?;
