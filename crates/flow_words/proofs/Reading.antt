@@ -32,7 +32,7 @@ use Rattle.clap.proofs.OnLiterals.{clap_on_literals}
 use Rattle.clap.proofs.WalkLemmas.{both, first_value-rows, raw_values-rows, walk_stopped}
 use Rattle.clap.proofs.FaultLemmas.{stopped_fault}
 use Rattle.flow_words.specs.declared.request.Request.{Request}
-use Rattle.flow_words.specs.declared.request.Request.TheVariants.{Check, Measure, Dump, Explain}
+use Rattle.flow_words.specs.declared.request.Request.TheVariants.{Check, Measure, Dump, Inspect, Explain}
 use Rattle.flow_words.specs.declared.request.LineError.{LineError}
 use Rattle.flow_words.specs.declared.request.LineError.TheVariants as line
 use Rattle.flow_report.specs.Numbers.{number_of}
@@ -41,7 +41,7 @@ use Rattle.flow_words.specs.Arguments.{folder_in, queried, totalled_in}
 use Rattle.flow_words.specs.Arguments.{requested, request_in, unfed, width_in}
 use Rattle.flow_words.specs.CommandLine.{parsed_names, asked, dump_of, dump_shape, flowvault, is_parsed, measure_of}
 use Rattle.flow_words.specs.CommandLine.{measure_shape, parsed, unless, width_rule, without_dashes}
-use Rattle.flow_words.specs.Requested.{IsLineError, IsWrongValue}
+use Rattle.flow_words.specs.Requested.{IsLineError, wrong_values, wrong_values_of}
 
 pub first_value_is : (f : Found) (id : Text) → first_value f id ≡ first_of id (rows_of f)
 first_value_is f id = first_value-rows f id
@@ -684,6 +684,13 @@ pub is_read : is_simple_and_free flowvault ≡ true
 unfolding clap_on_literals
 is_read = refl
 
+-- the name and the rows of the subcommand that is found in words that were taken
+pub rows_taken : (app : App) (words : List Text) (m : ArgMatches) → app ≡ flowvault → HasMatchesOf app words m
+    → subcommand_rows_of m ≡ subcommand_of flowvault words
+rows_taken app words m is matches =
+    let simple : is_simple_and_free app ≡ true = ap is_simple_and_free is ∙ is_read in
+    (matches (both (is_simple app) _ simple).0).1 ∙ ap (λ (a : App). subcommand_of a words) is
+
 -- the matches of words that were taken
 pub takes : (app : App) (words : List Text) (m : ArgMatches) (made : Option Request) → app ≡ flowvault
     → (is_simple_and_free app ≡ true → fault_of app words ≡ []) → HasMatchesOf app words m
@@ -691,9 +698,7 @@ pub takes : (app : App) (words : List Text) (m : ArgMatches) (made : Option Requ
 takes app words m made is none matches found =
     let simple : is_simple_and_free app ≡ true = ap is_simple_and_free is ∙ is_read in
     let free : fault_of flowvault words ≡ [] = ap (λ (a : App). fault_of a words) (sym is) ∙ none simple in
-    let rows : subcommand_rows_of m ≡ subcommand_of flowvault words = (matches (both (is_simple app) _ simple).0).1
-    ∙ ap (λ (a : App). subcommand_of a words) is in
-    by free rows (verdict words)
+    by free (rows_taken app words m is matches) (verdict words)
   where
     by : fault_of flowvault words ≡ [] → subcommand_rows_of m ≡ subcommand_of flowvault words → Verdict words
         → made ≡ asked words
@@ -730,51 +735,103 @@ asked_by m name rows named found = by (out-ArgMatches m).subcommand named found
         let rows_are : rows ≡ rows_of (found_of (out-SubCommand (box_value b)).matches) = cc in
         ap₂ requested name_is rows_are
 
-wrong_words : (asking : List Text) (e : LineError) → IsWrongValue e → asked asking ≡ None → IsLineError asking e
-wrong_words asking line.Width wrong none = none
-wrong_words asking line.Plan wrong none = none
-wrong_words asking line.Span wrong none = none
-wrong_words asking line.Totals wrong none = none
-wrong_words asking line.Keep wrong none = none
-wrong_words asking line.Files wrong none = none
-wrong_words asking line.Number wrong none = none
-wrong_words asking line.OutOfMemory wrong none = absurd wrong
-wrong_words asking (line.Parser e) wrong none = absurd wrong
+-- said by no parser
+abbrev IsOurs : LineError → Type 0
+IsOurs line.Width = ⊤
+IsOurs line.Plan = ⊤
+IsOurs line.Span = ⊤
+IsOurs line.Totals = ⊤
+IsOurs line.Keep = ⊤
+IsOurs line.Files = ⊤
+IsOurs line.Number = ⊤
+IsOurs line.OutOfMemory = ⊤
+IsOurs (line.Parser e) = ⊥
+
+either_ours : (b : Bool) (this other : LineError) → IsOurs this → IsOurs other → IsOurs (if b then this else other)
+either_ours true this other is_this is_other = is_this
+either_ours false this other is_this is_other = is_other
+
+values_ours : (command : Option (Text × List Row)) → IsOurs (wrong_values command)
+values_ours None = tt
+values_ours (Some c) =
+    let numbered : LineError = if bytes_eq (codes "explain") c.0 then line.Number else line.Width in
+    let merged : LineError = if bytes_eq (codes "merge") c.0 then line.Keep else numbered in
+    let rolled : LineError = if bytes_eq (codes "roll") c.0 then line.Keep else merged in
+    let fed : LineError = if bytes_eq (codes "feed") c.0 then line.Files else rolled in
+    let listed : LineError = if bytes_eq (codes "flows") c.0 then line.Span else fed in
+    let totalled : LineError = if bytes_eq (codes "totals") c.0 then line.Totals else listed in
+    either_ours (bytes_eq (codes "create") c.0) line.Plan totalled tt
+    (either_ours (bytes_eq (codes "totals") c.0) line.Totals listed tt
+    (either_ours (bytes_eq (codes "flows") c.0) line.Span fed tt
+    (either_ours (bytes_eq (codes "feed") c.0) line.Files rolled tt
+    (either_ours (bytes_eq (codes "roll") c.0) line.Keep merged tt
+    (either_ours (bytes_eq (codes "merge") c.0) line.Keep numbered tt
+    (either_ours (bytes_eq (codes "explain") c.0) line.Number line.Width tt tt))))))
+
+-- what is said of the values of the command that the parser finds, by its name
+pub named_values : (m : ArgMatches) (name : Text) → Some name ≡ subcommand_name_of m
+    → wrong_values_of name ≡ wrong_values (subcommand_rows_of m)
+named_values m name named = by (out-ArgMatches m).subcommand named
+  where
+    by : {Z : Type 0} (sub : Option (Box SubCommand Z))
+        → Some name ≡ option_map (λ b. (out-SubCommand (box_value b)).name.now) sub
+        → wrong_values_of name ≡ wrong_values (subcommand_rows sub)
+    by None n = absurd cc
+    by (Some b) n =
+        let name_is : name ≡ (out-SubCommand (box_value b)).name.now = cc in
+        ap wrong_values_of name_is
+
+wrong_words : (asking : List Text) (e : LineError) → e ≡ wrong_values (subcommand_of flowvault asking)
+    → asked asking ≡ None → IsLineError asking e
+wrong_words asking line.Width is none = (none, is)
+wrong_words asking line.Plan is none = (none, is)
+wrong_words asking line.Span is none = (none, is)
+wrong_words asking line.Totals is none = (none, is)
+wrong_words asking line.Keep is none = (none, is)
+wrong_words asking line.Files is none = (none, is)
+wrong_words asking line.Number is none = (none, is)
+wrong_words asking line.OutOfMemory is none = tt
+wrong_words asking (line.Parser e) is none =
+    absurd (subst IsOurs (sym is) (values_ours (subcommand_of flowvault asking)))
 
 pub ok_made : (o : Option Request) (asking : List Text) (e : LineError) → o ≡ asked asking
     → IfOk (ok_or o e) (λ request. asked asking ≡ Some request)
 ok_made None asking e is = tt
 ok_made (Some request) asking e is = sym is
 
-pub err_made : (o : Option Request) (asking : List Text) (e : LineError) → IsWrongValue e → o ≡ asked asking
+pub err_made : (o : Option Request) (asking : List Text) (e : LineError)
+    → e ≡ wrong_values (subcommand_of flowvault asking) → o ≡ asked asking
     → IfErr (ok_or o e) (λ e. IsLineError asking e)
 err_made None asking e wrong is = wrong_words asking e wrong (sym is)
 err_made (Some request) asking e wrong is = tt
 
 -- ---- a command by its name
 
-differs : (word name : Text) → (name ≡ word → ⊥) → bytes_eq word name ≡ false
+pub differs : (word name : Text) → (name ≡ word → ⊥) → bytes_eq word name ≡ false
 differs word name not_it = by (bytes_eq word name) refl
   where
     by : (b : Bool) → bytes_eq word name ≡ b → bytes_eq word name ≡ false
     by true e = absurd (not_it (sym ((bytes_eq-Decides word name).0 e)))
     by false e = e
 
-passed_over : (b : Bool) (this others : Option Request) → b ≡ false → others ≡ (if b then this else others)
+pub passed_over : {Z : Type 0} (b : Bool) (this others : Z) → b ≡ false → others ≡ (if b then this else others)
 passed_over b this others e = ap (λ (b : Bool). if b then this else others) (sym e)
 
 -- the name of none of the first commands
 pub other_name : (name : Text) (rows : List Row) → (name ≡ codes "measure" → ⊥) → (name ≡ codes "dump" → ⊥)
-    → (name ≡ codes "create" → ⊥) → (name ≡ codes "check" → ⊥) → queried name rows ≡ unfed name rows
-other_name name rows no_measure no_dump no_create no_check =
+    → (name ≡ codes "inspect" → ⊥) → (name ≡ codes "create" → ⊥) → (name ≡ codes "check" → ⊥)
+    → queried name rows ≡ unfed name rows
+other_name name rows no_measure no_dump no_inspect no_create no_check =
     let checked : Option Request = if bytes_eq (codes "check") name then option_map Check (folder_in rows)
     else queried name rows in
     let created : Option Request = if bytes_eq (codes "create") name then create_in rows else checked in
-    let dumped : Option Request = if bytes_eq (codes "dump") name then Some Dump else created in
+    let inspected : Option Request = if bytes_eq (codes "inspect") name then Some Inspect else created in
+    let dumped : Option Request = if bytes_eq (codes "dump") name then Some Dump else inspected in
     passed_over (bytes_eq (codes "check") name) (option_map Check (folder_in rows)) (queried name rows)
     (differs (codes "check") name no_check)
     ∙ passed_over (bytes_eq (codes "create") name) (create_in rows) checked (differs (codes "create") name no_create)
-    ∙ passed_over (bytes_eq (codes "dump") name) (Some Dump) created (differs (codes "dump") name no_dump)
+    ∙ passed_over (bytes_eq (codes "inspect") name) (Some Inspect) created (differs (codes "inspect") name no_inspect)
+    ∙ passed_over (bytes_eq (codes "dump") name) (Some Dump) inspected (differs (codes "dump") name no_dump)
     ∙ passed_over (bytes_eq (codes "measure") name) (option_map Measure (width_in rows)) dumped
     (differs (codes "measure") name no_measure)
 

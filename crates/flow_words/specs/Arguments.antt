@@ -5,7 +5,7 @@ use Rattle.std.specs.Option.{option_map_or}
 use Rattle.std.specs.Str.{bytes_eq}
 use Rattle.clap.specs.Walk.{Row, Text, all_of, first_of}
 use Rattle.flow_words.specs.declared.request.Request.{Request}
-use Rattle.flow_words.specs.declared.request.Request.TheVariants.{Measure, Dump, Create, Check, Totals, Flows}
+use Rattle.flow_words.specs.declared.request.Request.TheVariants.{Measure, Dump, Inspect, Create, Check, Totals, Flows}
 use Rattle.flow_words.specs.declared.request.Request.TheVariants.{Feed, Roll, Merge, Explain}
 use Rattle.flow_words.specs.Explain.{is_refusal}
 use Rattle.flow_report.specs.Numbers.{number_between}
@@ -115,6 +115,7 @@ abbrev pub unfed : Text → List Row → Option Request
 unfed name rows =
     if bytes_eq (codes "measure") name then option_map Measure (width_in rows)
     else if bytes_eq (codes "dump") name then Some Dump
+    else if bytes_eq (codes "inspect") name then Some Inspect
     else if bytes_eq (codes "create") name then create_in rows
     else if bytes_eq (codes "check") name then option_map Check (folder_in rows)
     else queried name rows

@@ -48,6 +48,9 @@ sized_shape = record (new_shape (codes "create")) {
 abbrev pub create_shape : Shape
 create_shape = record sized_shape { rules = sized_shape.rules ++ option (codes "SECONDS") (codes "wide") ∷ [] }
 
+abbrev pub inspect_shape : Shape
+inspect_shape = new_shape (codes "inspect")
+
 abbrev pub check_shape : Shape
 check_shape = record (new_shape (codes "check")) { rules = folder_rule ∷ [] }
 
@@ -83,12 +86,12 @@ explain_shape = record (new_shape (codes "explain")) { rules = needed (codes "NU
 
 -- the commands whose arguments are asked for as the parser reads them
 abbrev pub parsed_names : List Text
-parsed_names = codes "create" ∷ codes "check" ∷ codes "totals" ∷ codes "flows" ∷ codes "feed" ∷ codes "roll"
-    ∷ codes "merge" ∷ codes "explain" ∷ []
+parsed_names = codes "inspect" ∷ codes "create" ∷ codes "check" ∷ codes "totals" ∷ codes "flows" ∷ codes "feed"
+    ∷ codes "roll" ∷ codes "merge" ∷ codes "explain" ∷ []
 
 -- the program with the commands that read standard input
 abbrev pub with_streams : App
-with_streams = with_subcommand (with_subcommand program measure_shape) dump_shape
+with_streams = with_subcommand (with_subcommand (with_subcommand program measure_shape) dump_shape) inspect_shape
 
 -- and with those that make or open an archive, and ask it nothing
 abbrev pub with_archives : App

@@ -1,5 +1,5 @@
 -- What one run of the program answers.
-use Rattle.std.specs.Prelude.{◌≡◌, ◌⊎◌, ℕ, List, Option, Some, IfSome, length, ⊤}
+use Rattle.std.specs.Prelude.{◌≡◌, ◌≢◌, ◌⊎◌, ℕ, List, Option, Some, IfSome, length, ⊤}
 use Rattle.std.specs.Io.KnownBytes.{Appends, Keeps}
 use Rattle.clap.specs.declared.error.kind.ErrorKind.{ErrorKind}
 use Rattle.clap.specs.declared.error.kind.ErrorKind.TheVariants.{DisplayHelp, DisplayVersion}
@@ -9,7 +9,7 @@ use Rattle.flow_words.specs.declared.request.LineError.{LineError}
 use Rattle.flow_words.specs.declared.request.LineError.TheVariants.{Parser, Width, Plan, Span, Keep, Files}
 use Rattle.flow_words.specs.declared.request.LineError.TheVariants.{Number, OutOfMemory, Totals as TotalsWrong}
 use Rattle.flow_words.specs.declared.request.Request.{Request}
-use Rattle.flow_words.specs.declared.request.Request.TheVariants.{Measure, Dump, Create, Check, Totals, Flows}
+use Rattle.flow_words.specs.declared.request.Request.TheVariants.{Measure, Dump, Inspect, Create, Check, Totals, Flows}
 use Rattle.flow_words.specs.declared.request.Request.TheVariants.{Feed, Roll as RollAsked, Merge as MergeAsked}
 use Rattle.flow_words.specs.declared.request.Request.TheVariants.{Explain}
 use Rattle.flow_commands.specs.declared.archive_refusal.ArchiveRefusal.{ArchiveRefusal}
@@ -27,6 +27,7 @@ use Rattle.flow_report.specs.Printed.{printed, line_of}
 use Rattle.flow_report.specs.Writing.{AppendsFront}
 use Rattle.flow_report.specs.Dump.{IsDumped, IsDumpedUntil}
 use Rattle.flow_report.specs.Measure.{HasTotals, IsRefusedBy, KeepsOrFront}
+use Rattle.flow_inspect.specs.Inspect.{HasLines, KeepsOrFront as InspectKeepsOrFront}
 
 -- the line of a refusal came on standard error, or a front of it where that could be written no further
 abbrev pub IsRefusalTold : Refusal → Option (List ℕ) → Option (List ℕ) → Type 0
@@ -84,6 +85,12 @@ Runs Dump input left old new before after status =
     ((status ≡ 0) × Keeps before after × IfSome input (λ octets. IsDumped octets old new))
     ⊎ ((e : Refusal) × (status ≡ status_of e) × IsRefusalTold e before after
     × IfSome input (λ octets. IsDumpedUntil octets left old new e))
+Runs Inspect input left old new before after status =
+    ((status ≡ 0) × Keeps before after
+    × IfSome input (λ octets. (lines : List ℕ) × HasLines octets lines × Appends old new lines))
+    ⊎ ((e : Refusal) × (status ≡ status_of e) × IsRefusalTold e before after
+    × IfSome input (λ octets. IsRefusedBy octets left e)
+    × InspectKeepsOrFront input old new e)
 -- None of these reads standard input, and `create` writes nothing.
 Runs (Create folder plan) input left old new before after status =
     Keeps input left × Keeps old new × CreateEnds before after status
@@ -105,6 +112,10 @@ Runs (Explain number) input left old new before after status = Keeps input left 
 abbrev pub IsHelp : ErrorKind → Type 0
 IsHelp kind = (kind ≡ DisplayHelp) ⊎ (kind ≡ DisplayVersion)
 
+-- and neither of them was
+abbrev pub IsNoHelp : ErrorKind → Type 0
+IsNoHelp kind = (kind ≢ DisplayHelp) × (kind ≢ DisplayVersion)
+
 -- words that ask for nothing: the output stays, and one line says why
 abbrev pub IsWrong : LineError → ℕ → Option (List ℕ) → Option (List ℕ) → Option (List ℕ) → Option (List ℕ) → ℕ → Type 0
 IsWrong e wanted old new before after status =
@@ -113,7 +124,8 @@ IsWrong e wanted old new before after status =
 -- What is answered of words that ask for nothing, or for help.
 abbrev pub IsTold : LineError → Option (List ℕ) → Option (List ℕ) → Option (List ℕ) → Option (List ℕ) → ℕ → Type 0
 IsTold (Parser error) old new before after status =
-    (IsHelp (kind_of error) × IsShown before after status) ⊎ IsWrong (Parser error) 2 old new before after status
+    (IsHelp (kind_of error) × IsShown before after status)
+    ⊎ (IsNoHelp (kind_of error) × IsWrong (Parser error) 2 old new before after status)
 IsTold Width old new before after status = IsWrong Width 2 old new before after status
 IsTold Plan old new before after status = IsWrong Plan 2 old new before after status
 IsTold Span old new before after status = IsWrong Span 2 old new before after status

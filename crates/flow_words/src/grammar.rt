@@ -8,6 +8,7 @@ ghost use Rattle.flow_words.specs.CommandLine.{check_shape, create_shape, dump_s
 ghost use Rattle.flow_words.specs.CommandLine.{flowvault, folder_rule, keep_shape, measure_shape, needed, option};
 ghost use Rattle.flow_words.specs.CommandLine.{program, several, sized_shape, span_shape, totals_shape, width_rule};
 ghost use Rattle.flow_words.specs.CommandLine.{with_archives, with_feeding, with_queries, with_rolling, with_streams};
+ghost use Rattle.flow_words.specs.CommandLine.{inspect_shape};
 
 use clap::{Arg, ArgAction, Command};
 use std::alloc::{AllocError, Global};
@@ -37,6 +38,22 @@ const DUMP_HELP: &str =
      lines before a refused message stay.\n\
      \n\
      Example: flowvault dump < FILE";
+
+/// What `inspect` does, in a line or two.
+const INSPECT_ABOUT: &str =
+    "Counts what the IPFIX File on standard input has of each Observation\nDomain, and how many records are missing";
+
+/// What is told below the options of `inspect`.
+const INSPECT_HELP: &str =
+    "The lines, a domain each, in the order of their first messages: domain DOMAIN\n\
+     messages N records N options N gaps N missing N backwards N from TIME to TIME\n\
+     A gap is a message whose Sequence Number is past the one that the domain's data\n\
+     records so far make due: as many are missing, lost on their way or without a\n\
+     template in force. Backwards are those before it: sent twice, in another order,\n\
+     or by an exporter that began anew. TIME is the least and the greatest Export\n\
+     Time. Nothing is written unless the whole File is accepted.\n\
+     \n\
+     Example: flowvault inspect < FILE";
 
 /// What `create` does, in a line or two.
 const CREATE_ABOUT: &str = "Makes an archive in a folder that exists";
@@ -219,6 +236,16 @@ fn dump_command<'a>(alloc: Global) -> Command<'a>
         .after_help(DUMP_HELP)
 }
 
+/// The command `inspect`, with its help.
+fn inspect_command<'a>(alloc: Global) -> Command<'a>
+    ensures shape { shape_of result ≡ inspect_shape }
+    ensures own { (fields_of result).has_globals ≡ false }
+{
+    Command::new(alloc, "inspect")
+        .about(INSPECT_ABOUT)
+        .after_help(INSPECT_HELP)
+}
+
 /// The command `create` but for its last argument.
 fn sized_command<'a>(alloc: Global) -> Result<Command<'a>, AllocError>
     ensures shape { IfOk result (λ command. shape_of command ≡ sized_shape) }
@@ -363,7 +390,8 @@ fn with_streams<'a>(alloc: Global) -> Result<Command<'a>, AllocError>
 {
     program(alloc)
         .subcommand(measure_command(alloc)?)?
-        .subcommand(dump_command(alloc))
+        .subcommand(dump_command(alloc))?
+        .subcommand(inspect_command(alloc))
 }
 
 /// The program with these, and those that make or open an archive and ask it nothing.

@@ -7,7 +7,7 @@ ghost use Rattle.clap.specs.Walk.{rows_of};
 ghost use Rattle.clap.specs.Simple.{subcommand_rows_of};
 ghost use Rattle.flow_words.specs.Arguments.{changing, create_in, fed_in, queried, requested, request_in, unfed};
 ghost use Rattle.flow_words.specs.CommandLine.{asked};
-ghost use Rattle.flow_words.specs.Requested.{IsLineError, IsWrongValue};
+ghost use Rattle.flow_words.specs.Requested.{IsLineError, wrong_values, wrong_values_of};
 ghost use Rattle.clap.specs.declared.error.kind.ErrorKind.TheVariants as ErrorKind;
 ghost use Rattle.flow_words.specs.declared.request.LineError.TheVariants as LineError;
 
@@ -33,6 +33,8 @@ pub enum Request<'a> {
     },
     /// Message and record lines of the File on standard input.
     Dump,
+    /// Lines of the Observation Domains of the File on standard input.
+    Inspect,
     /// A new archive in a folder.
     Create {
         folder: FolderName<'a>,
@@ -167,6 +169,7 @@ fn unfed<'a>(name: &str, arguments: &ArgMatches<'a>) -> Option<Request<'a>>
             width: width_in(arguments)?,
         }),
         "dump" => Some(Request::Dump),
+        "inspect" => Some(Request::Inspect),
         "create" => create_in(arguments),
         "check" => Some(Request::Check {
             folder: folder_in(arguments)?,
@@ -214,18 +217,29 @@ fn found<'a>(alloc: Global, matches: &ArgMatches<'a>) -> Result<Option<Request<'
     }
 }
 
+/// What is wrong with the values of the command of this name.
+fn wrong_values_of(name: &str) -> LineError
+    ensures { result ≡ wrong_values_of name.now }
+{
+    match name {
+        "create" => LineError::Plan,
+        "totals" => LineError::Totals,
+        "flows" => LineError::Span,
+        "feed" => LineError::Files,
+        "roll" => LineError::Keep,
+        "merge" => LineError::Keep,
+        "explain" => LineError::Number,
+        _ => LineError::Width,
+    }
+}
+
 /// What is wrong with the values that a command line has.
-fn wrong_value(matches: &ArgMatches<'_>) -> LineError
-    ensures { IsWrongValue result }
+fn wrong_values(matches: &ArgMatches<'_>) -> LineError
+    ensures { result ≡ wrong_values (subcommand_rows_of matches.now) }
 {
     match matches.subcommand() {
-        Some(("create", _)) => LineError::Plan,
-        Some(("totals", _)) => LineError::Totals,
-        Some(("flows", _)) => LineError::Span,
-        Some(("feed", _)) => LineError::Files,
-        Some(("roll" | "merge", _)) => LineError::Keep,
-        Some(("explain", _)) => LineError::Number,
-        _ => LineError::Width,
+        Some((name, _)) => wrong_values_of(name),
+        None => LineError::Width,
     }
 }
 
@@ -239,7 +253,7 @@ pub fn parse<'a, S: AsStr>(alloc: Global, words: &'a [S]) -> Result<Request<'a>,
     };
     match command.try_get_matches_from(words) {
         Ok(matches) => match found(alloc, &matches) {
-            Ok(request) => request.ok_or(wrong_value(&matches)),
+            Ok(request) => request.ok_or(wrong_values(&matches)),
             Err(AllocError) => Err(LineError::OutOfMemory),
         },
         Err(error) => Err(line_error(error)),

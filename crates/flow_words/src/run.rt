@@ -24,6 +24,7 @@ use flow_commands::{
     flows_in, roll_in, totals_in,
 };
 use flow_folder::Lockable;
+use flow_inspect::inspect;
 use flow_manifest::JobKind;
 use flow_report::{Patience, Refusal, Width, dump, measure, write_patiently};
 use std::alloc::{AllocError, AllocGlobal, Global};
@@ -203,6 +204,25 @@ fn run_dump<R: Read, W: Write, E: Write>(
     ensures other { result ≢ 2 }
 {
     match dump(alloc, input, output) {
+        Ok(()) => DONE,
+        Err(refusal) => tell(alloc, errors, &refusal),
+    }
+}
+
+/// Runs `inspect`.
+fn run_inspect<R: Read, W: Write, E: Write>(
+    alloc: Global,
+    input: &mut R,
+    output: &mut W,
+    errors: &mut E,
+) -> u8
+    ensures runs { Runs asked.Inspect (R.remaining input.old) (R.remaining input.new) (W.contents output.old)
+        (W.contents output.new) (E.contents errors.old) (E.contents errors.new) result }
+    ensures quiet { result ≡ 0 → Keeps (E.contents errors.old) (E.contents errors.new) }
+    ensures status { result ≤ 5 }
+    ensures other { result ≢ 2 }
+{
+    match inspect(alloc, input, output) {
         Ok(()) => DONE,
         Err(refusal) => tell(alloc, errors, &refusal),
     }
@@ -400,6 +420,7 @@ where
     match request {
         Request::Measure { width } => run_measure(rt.alloc(), width, input, output, errors),
         Request::Dump => run_dump(rt.alloc(), input, output, errors),
+        Request::Inspect => run_inspect(rt.alloc(), input, output, errors),
         Request::Create { folder, plan } => run_create(rt, &folder, &plan, errors),
         Request::Check { folder } => run_check(rt, &folder, output, errors),
         Request::Totals {

@@ -1,5 +1,7 @@
 use Rattle.std.specs.Prelude.{map}
-use Rattle.flow_words.proofs.Reading.{takes, is_told, ok_made, err_made}
+use Rattle.std.proofs.Common.{◌∙◌, ap}
+use Rattle.flow_words.specs.Requested.{wrong_values}
+use Rattle.flow_words.proofs.Reading.{takes, is_told, ok_made, err_made, rows_taken}
 use Rattle.flow_words.proofs.request.parse.Goals as goal
 
 pub returns-clause-refused : goal.returns-clause-refused
@@ -14,7 +16,7 @@ returns-in-Ok-found-clause-found g c =
     let request = c.in-Ok-found.request in
     let made = takes _ words m request c.in-Ok.ensures c.in-Ok-try_get_matches_from.ensures.kinds
     c.in-Ok-try_get_matches_from.ensures.matches c.in-Ok-found.ensures in
-    rw c.ok_or.ensures.value (ok_made request words c.wrong_value.result made)
+    rw c.ok_or.ensures.value (ok_made request words c.wrong_values.result made)
 
 pub returns-in-Ok-found-clause-refused : goal.returns-in-Ok-found-clause-refused
 returns-in-Ok-found-clause-refused g c =
@@ -23,4 +25,6 @@ returns-in-Ok-found-clause-refused g c =
     let request = c.in-Ok-found.request in
     let made = takes _ words m request c.in-Ok.ensures c.in-Ok-try_get_matches_from.ensures.kinds
     c.in-Ok-try_get_matches_from.ensures.matches c.in-Ok-found.ensures in
-    rw c.ok_or.ensures.value (err_made request words c.wrong_value.result c.wrong_value.ensures made)
+    let rows = rows_taken _ words m c.in-Ok.ensures c.in-Ok-try_get_matches_from.ensures.matches in
+    rw c.ok_or.ensures.value
+    (err_made request words c.wrong_values.result (c.wrong_values.ensures ∙ ap wrong_values rows) made)

@@ -1,0 +1,88 @@
+-- What is counted of a domain depends on its own messages alone.
+use Rattle.std.proofs.Common.{◌≡◌, ℕ, Bool, List, [], ◌∷◌, Option, Some, refl, sym, ap, ◌∙◌, eqb-true, eq-eqb}
+use Rattle.std.specs.Prelude.{true, false, cond, fold, nat_eq, if◌then◌else◌}
+use Rattle.std.specs.Map.{lookup}
+use Rattle.indexmap.specs.IndexMap.{insert_entry}
+use Rattle.flow_codec.specs.Raw.{RawMessage}
+use Rattle.flow_inspect.specs.declared.counting.RecordCounts.{RecordCounts}
+use Rattle.flow_inspect.specs.declared.reporting.DomainReport.{DomainReport}
+use Rattle.flow_inspect.specs.Counting.{counts_of}
+use Rattle.flow_inspect.specs.Reports.{entries_after, own, report_after, report_of, reports_of}
+
+-- a look-up after a key has got a value
+lookup_after : {V : Type 0} (d k : ℕ) (v : V) (es : List (ℕ × V))
+    → lookup (nat_eq d) (insert_entry nat_eq es k v) ≡ cond (nat_eq d k) (Some v) (lookup (nat_eq d) es)
+lookup_after d k v [] = refl
+lookup_after {V} d k v (e ∷ es) = by (nat_eq k e.0) refl (lookup_after d k v es)
+  where
+    here : (b c : Bool) → b ≡ c → cond b (Some v) (lookup (nat_eq d) es)
+        ≡ cond c (Some v) (cond b (Some e.1) (lookup (nat_eq d) es))
+    here true true s = refl
+    here false false s = refl
+    here true false s = absurd cc
+    here false true s = absurd cc
+
+    there : (b c : Bool) → (b ≡ true → c ≡ true → ⊥)
+        → cond b (Some e.1) (cond c (Some v) (lookup (nat_eq d) es))
+        ≡ cond c (Some v) (cond b (Some e.1) (lookup (nat_eq d) es))
+    there true true s = absurd (s refl refl)
+    there true false s = refl
+    there false true s = refl
+    there false false s = refl
+
+    by : (b : Bool) → nat_eq k e.0 ≡ b
+        → lookup (nat_eq d) (insert_entry nat_eq es k v) ≡ cond (nat_eq d k) (Some v) (lookup (nat_eq d) es)
+        → lookup (nat_eq d) (insert_entry nat_eq (e ∷ es) k v)
+        ≡ cond (nat_eq d k) (Some v) (lookup (nat_eq d) (e ∷ es))
+    by true s rest =
+        ap (λ (b : Bool). lookup (nat_eq d) (if b then (e.0, v) ∷ es else e ∷ insert_entry nat_eq es k v)) s
+        ∙ here (nat_eq d e.0) (nat_eq d k) (ap (nat_eq d) (sym (eqb-true k e.0 s)))
+    by false s rest =
+        let apart : nat_eq d e.0 ≡ true → nat_eq d k ≡ true → ⊥ = λ p q.
+        let wrong = sym (eq-eqb k e.0 (sym (eqb-true d k q) ∙ eqb-true d e.0 p)) ∙ s in absurd cc in
+        ap (λ (b : Bool). lookup (nat_eq d) (if b then (e.0, v) ∷ es else e ∷ insert_entry nat_eq es k v)) s
+        ∙ ap (λ (r : Option V). cond (nat_eq d e.0) (Some e.1) r) rest
+        ∙ there (nat_eq d e.0) (nat_eq d k) apart
+
+-- from any entries on
+from_here : (d : ℕ) (es : List (ℕ × DomainReport)) (messages : List RawMessage)
+    → lookup (nat_eq d) (fold (λ (x : List (ℕ × DomainReport)) (m : RawMessage). entries_after x m.header
+    (counts_of m.records)) es messages)
+    ≡ fold (λ (r : Option DomainReport) (m : RawMessage). Some (report_after r m.header (counts_of m.records)))
+    (lookup (nat_eq d) es) (own d messages)
+from_here d es [] = refl
+from_here d es (m ∷ ms) = from_here d (entries_after es m.header counts) ms ∙ by (nat_eq d domain) refl
+  where
+    domain : ℕ
+    domain = m.header.domain
+
+    counts : RecordCounts
+    counts = counts_of m.records
+
+    here : Option DomainReport
+    here = lookup (nat_eq d) es
+
+    goes_on : Option DomainReport → List RawMessage → Option DomainReport
+    goes_on r messages =
+        fold (λ (r : Option DomainReport) (m : RawMessage). Some (report_after r m.header (counts_of m.records))) r
+        messages
+
+    found : lookup (nat_eq d) (entries_after es m.header counts)
+        ≡ cond (nat_eq d domain) (Some (report_after (lookup (nat_eq domain) es) m.header counts)) here
+    found = lookup_after d domain (report_after (lookup (nat_eq domain) es) m.header counts) es
+
+    by : (b : Bool) → nat_eq d domain ≡ b → goes_on (lookup (nat_eq d) (entries_after es m.header counts)) (own d ms)
+        ≡ goes_on here (cond (nat_eq d domain) (m ∷ own d ms) (own d ms))
+    by true s =
+        ap (λ (r : Option DomainReport). goes_on r (own d ms))
+        (found ∙ ap (λ (b : Bool). cond b (Some (report_after (lookup (nat_eq domain) es) m.header counts)) here) s
+        ∙ ap (λ (n : ℕ). Some (report_after (lookup (nat_eq n) es) m.header counts)) (sym (eqb-true d domain s)))
+        ∙ sym (ap (λ (b : Bool). goes_on here (cond b (m ∷ own d ms) (own d ms))) s)
+    by false s =
+        ap (λ (r : Option DomainReport). goes_on r (own d ms))
+        (found ∙ ap (λ (b : Bool). cond b (Some (report_after (lookup (nat_eq domain) es) m.header counts)) here) s)
+        ∙ sym (ap (λ (b : Bool). goes_on here (cond b (m ∷ own d ms) (own d ms))) s)
+
+pub alone : (d : ℕ) (messages : List RawMessage)
+    → lookup (nat_eq d) (reports_of messages) ≡ report_of (own d messages)
+alone d messages = from_here d [] messages

@@ -1,0 +1,226 @@
+-- How the reports of a run over a File go on.
+use Rattle.std.proofs.Common.{◌≡◌, ℕ, ◌<◌, ◌+◌, ◌^◌, ◌-◌, Bool, List, [], ◌∷◌, ◌++◌, length, Option, None, Some}
+use Rattle.std.proofs.Common.{IfSome, refl, sym, ap, ap₂, ◌∙◌, subst, length-append, arith, inl, inr, ◌⊎◌}
+use Rattle.std.specs.Prelude.{Ok, Err, true, false, ⊤, min, cond, count_by, fold, take, slice_get}
+use Rattle.std.specs.declared.convert.Infallible.{Infallible}
+use Rattle.std.proofs.Math.Nat.{min-eq_left}
+use Rattle.std.proofs.lemmas.List.{append-nil, take_more}
+use Rattle.std.proofs.lemmas.List.Sums.{count_by-le-length, fold-append}
+use Rattle.std.proofs.lemmas.List.Concat.{flat_map-append}
+use Rattle.std.proofs.lemmas.Option.{get_or_from_slice_get, slice_get_within}
+use Rattle.flow_codec.specs.declared.file.FileError.{FileError}
+use Rattle.flow_codec.specs.declared.error.MessageError.{MessageError}
+use Rattle.flow_codec.specs.declared.error.MessageError.TheVariants as message
+use Rattle.flow_codec.specs.declared.sink.WalkError.{WalkError}
+use Rattle.flow_codec.specs.declared.sink.WalkError.TheVariants as walk
+use Rattle.flow_codec.specs.declared.stream.StreamError.{StreamError}
+use Rattle.flow_codec.specs.declared.stream.StreamError.TheVariants as stream
+use Rattle.flow_codec.specs.declared.message.Header.{Header}
+use Rattle.flow_codec.specs.declared.patient.ReadFailed.{ReadFailed}
+use Rattle.flow_codec.specs.Raw.{RawMessage, RawRecord, Placed, under}
+use Rattle.flow_codec.specs.Templates.{AllTemplates}
+use Rattle.flow_codec.specs.Message.{IsAccepted}
+use Rattle.flow_codec.specs.Fault.{IsFault}
+use Rattle.flow_codec.specs.Stream.{Progress, IsStep, IsStop, IsMessageNext}
+use Rattle.flow_codec.specs.File.{AcceptedFront, whole, broken, refused}
+use Rattle.flow_codec.specs.Walk.{IsWalkedBy, IsStopped}
+use Rattle.flow_codec.proofs.Following.{Follows, follows_none, follows_more, follows_end, follows_broken}
+use Rattle.flow_codec.proofs.Following.{follows_refused}
+use Rattle.flow_codec.proofs.Sizes.{few_records, short_enough}
+use Rattle.flow_report.specs.Refusals.{message_refusal, stream_refusal}
+use Rattle.flow_report.specs.Measure.{IsRefusedBy}
+use Rattle.flow_report.specs.Fronts.{IsSpentFront, IsReadFront}
+use Rattle.flow_report.proofs.Reached.{IsShort, spent_at, read_up}
+use Rattle.flow_inspect.specs.declared.counting.RecordCounts.{RecordCounts}
+use Rattle.flow_inspect.specs.declared.reporting.DomainReport.{DomainReport}
+use Rattle.flow_inspect.specs.Counting.{HasCounted, counts_of, is_flow, is_option}
+use Rattle.flow_inspect.specs.Reports.{entries_after, report_line, reports_of, reports_text}
+use Rattle.flow_inspect.specs.Inspect.{HasReports, walk_refusal}
+
+-- what is counted of the messages that a reader gave
+pub record HasInspected (old : Option (List ℕ)) (reader : Progress) (here : AllTemplates)
+    (entries : List (ℕ × DomainReport)) : Type 0 where
+  pub messages : List RawMessage
+  pub run : Follows old reader.rest reader.at messages here
+  pub counted : reader.count ≡ length messages
+  pub going : reader.stopped ≡ None
+  pub entries_are : entries ≡ reports_of messages
+
+-- before the first message
+pub begun : (old : Option (List ℕ)) (reader : Progress) (here : AllTemplates) (entries : List (ℕ × DomainReport))
+    → reader ≡ record { rest = old; message = []; count = 0; at = 0; stopped = None } → here ≡ [] → entries ≡ []
+    → HasInspected old reader here entries
+begun old reader here entries is none empty =
+    subst (λ (r : Progress). HasInspected old r here entries) (sym is) (record {
+      messages = [];
+      run = subst (λ (t : AllTemplates). Follows old old 0 [] t) (sym none) (follows_none old);
+      counted = refl;
+      going = refl;
+      entries_are = empty;
+    })
+
+-- ---- the records of a message
+
+count_under : (p : RawRecord → Bool) (header : Header) (records : List RawRecord)
+    → count_by (λ (x : Placed). p x.1) (under header records) ≡ count_by p records
+count_under p header records = from 0 records
+  where
+    from : (a : ℕ) (rs : List RawRecord)
+        → fold (λ (n : ℕ) (x : Placed). n + cond (p x.1) 1 0) a (under header rs)
+        ≡ fold (λ (n : ℕ) (r : RawRecord). n + cond (p r) 1 0) a rs
+    from a [] = refl
+    from a (r ∷ rs) = from (a + cond (p r) 1 0) rs
+
+none_counted : (n : ℕ) → n ≡ 0 → n ≡ min (n + 0) (2 ^ 32 - 1)
+none_counted n zero = subst (λ (k : ℕ). k ≡ min (k + 0) (2 ^ 32 - 1)) (sym zero) refl
+
+pub counts_are : (header : Header) (records : List RawRecord) (start now : RecordCounts)
+    → start.records ≡ 0 → start.options ≡ 0 → length records < 65536 → HasCounted start (under header records) now
+    → now ≡ counts_of records
+counts_are header records start now none nought few h =
+    ap₂ (λ (a b : ℕ). let c : RecordCounts = record { records = a; options = b } in c)
+    (of_kind is_flow start.records now.records none h.0) (of_kind is_option start.options now.options nought h.1)
+  where
+    of_kind : (p : RawRecord → Bool) (first last : ℕ) → first ≡ 0
+        → last ≡ min (first + count_by (λ (x : Placed). p x.1) (under header records)) (2 ^ 32 - 1)
+        → last ≡ count_by p records
+    of_kind p first last zero is =
+        let le = count_by-le-length p records in
+        let same = count_under p header records in
+        is ∙ ap (λ (n : ℕ). min n (2 ^ 32 - 1)) (omega (arith, zero, same))
+        ∙ min-eq_left (omega (arith, le, few))
+
+-- one message more
+pub stepped : (old : Option (List ℕ)) (r0 r1 : Progress) (h0 h1 : AllTemplates)
+    (before after : List (ℕ × DomainReport)) (start now : RecordCounts) (header : Header) (octets : List ℕ)
+    → HasInspected old r0 h0 before → IsStep r0 (Ok true) r1 → octets ≡ r1.message
+    → start.records ≡ 0 → start.options ≡ 0 → IsWalkedBy HasCounted octets h0 h1 start now header
+    → after ≡ entries_after before header now → HasInspected old r1 h1 after
+stepped old r0 r1 h0 h1 before after start now header octets s step is none nought walked grown =
+    let m : RawMessage = record { header = header; records = walked.0 } in
+    let accepted : IsAccepted r1.message h0 m h1 = subst (λ (o : List ℕ). IsAccepted o h0 m h1) is walked.1 in
+    let took = walked.2 start [] (none_counted start.records none, none_counted start.options nought) in
+    let records = few_records r1.message h0 m h1 accepted.0 in
+    let short = short_enough r1.message h0 m h1 accepted.0 in
+    let counts = counts_are header walked.0 start now none nought (omega (arith, records, short.1)) took in
+    record {
+      messages = s.messages ++ m ∷ [];
+      run = follows_more old r0 r1 s.messages h0 h1 m s.run step accepted;
+      counted = omega (arith, s.counted, step.4, length-append s.messages (m ∷ []));
+      going = step.1;
+      entries_are =
+          grown ∙ ap₂ (λ (es : List (ℕ × DomainReport)) (c : RecordCounts). entries_after es header c) s.entries_are counts
+          ∙ sym (fold-append (λ (es : List (ℕ × DomainReport)) (x : RawMessage). entries_after es x.header (counts_of x.records))
+          [] s.messages (m ∷ []));
+    }
+
+-- at the File's end this is counted of all
+pub ended : (old : Option (List ℕ)) (reader next : Progress) (here : AllTemplates) (entries : List (ℕ × DomainReport))
+    → HasInspected old reader here entries → IsStep reader (Ok false) next
+    → IfSome old (λ octets. HasReports octets entries)
+ended old reader next here entries h step =
+    with_front old (follows_end old reader next h.messages here h.run step)
+  where
+    with_front : (o : Option (List ℕ)) → IfSome o (λ octets. AcceptedFront octets h.messages here whole)
+        → IfSome o (λ octets. HasReports octets entries)
+    with_front None f = tt
+    with_front (Some octets) f = (h.messages, here, f, h.entries_are)
+
+-- the line of one domain more
+pub one_line_more : (entries : List (ℕ × DomainReport)) (i : ℕ) (e : ℕ × DomainReport) → slice_get entries i ≡ Some e
+    → reports_text (take (i + 1) entries) ≡ reports_text (take i entries) ++ report_line e
+one_line_more entries i e is =
+    ap reports_text (take_more entries i e (slice_get_within entries i e is)
+    ∙ ap (λ (x : ℕ × DomainReport). take i entries ++ x ∷ []) (get_or_from_slice_get entries i e e is))
+    ∙ flat_map-append report_line (take i entries) (e ∷ [])
+    ∙ ap (λ (l : List ℕ). reports_text (take i entries) ++ l) (append-nil (report_line e))
+
+-- ---- refusals
+
+pub always : (old : Option (List ℕ)) → IfSome old (λ octets. ⊤)
+always None = tt
+always (Some octets) = tt
+
+-- a refusal by this fault, of the message of this number
+abbrev IsRefusedAt : MessageError → ℕ → List ℕ → Type 0
+IsRefusedAt fault number octets = (messages : List RawMessage) × (after : AllTemplates)
+    × AcceptedFront octets messages after (refused fault) × (number ≡ length messages + 1)
+
+as_message : (fault : MessageError) (number : ℕ) (octets : List ℕ) (left : Option (List ℕ)) → IsRefusedAt fault number
+    octets
+    → IsRefusedBy octets left (message_refusal fault number)
+as_message message.OutOfMemory number octets left h = tt
+as_message message.Short number octets left h = h
+as_message message.Version number octets left h = h
+as_message message.Length number octets left h = h
+as_message (message.SetLength at) number octets left h = h
+as_message (message.TemplateCut at) number octets left h = h
+as_message (message.TemplateId at) number octets left h = h
+as_message (message.ScopeCount at) number octets left h = h
+as_message (message.RecordCut at) number octets left h = h
+as_message (message.TemplatesFull domain) number octets left h = h
+as_message message.DomainsFull number octets left h = h
+
+-- a message at which the run stops
+pub stopped_at : {S : Type 0} (holds : S → List Placed → S → Type 0)
+    (refuses : S → List Placed → Placed → Infallible → Type 0) (old left : Option (List ℕ)) (r0 r1 : Progress)
+    (h0 : AllTemplates) (entries : List (ℕ × DomainReport)) (start : S) (octets : List ℕ) (stop : WalkError Infallible)
+    → HasInspected old r0 h0 entries → IsStep r0 (Ok true) r1 → octets ≡ r1.message
+    → IsStopped holds refuses octets h0 start stop
+    → IfSome old (λ file. IsRefusedBy file left (walk_refusal stop r1.count))
+stopped_at holds refuses old left r0 r1 h0 entries start octets (walk.Sink never) s step is h = always old
+stopped_at holds refuses old left r0 r1 h0 entries start octets (walk.Message fault) s step is (inl none) =
+    subst (λ (e : MessageError). IfSome old (λ file. IsRefusedBy file left (message_refusal e r1.count))) (sym none)
+    (always old)
+stopped_at holds refuses old left r0 r1 h0 entries start octets (walk.Message fault) s step is (inr faulty) =
+    with_front old (follows_refused old r0 r1 s.messages h0 fault s.run step
+    (subst (λ (o : List ℕ). IsFault o h0 fault) is faulty))
+  where
+    number : r1.count ≡ length s.messages + 1
+    number = omega (arith, step.4, s.counted)
+
+    with_front : (o : Option (List ℕ)) → IfSome o (λ file. AcceptedFront file s.messages h0 (refused fault))
+        → IfSome o (λ file. IsRefusedBy file left (message_refusal fault r1.count))
+    with_front None f = tt
+    with_front (Some file) f = as_message fault r1.count file left (s.messages, h0, f, number)
+
+-- the reader stops
+pub ended_by : (old left : Option (List ℕ)) (ahead : List ℕ) (r0 r1 : Progress) (h0 : AllTemplates)
+    (entries : List (ℕ × DomainReport)) (e : StreamError)
+    → HasInspected old r0 h0 entries → IsStep r0 (Err e) r1
+    → ((failed : ReadFailed) → e ≡ stream.Read failed → IsShort r0 ahead left)
+    → IfSome old (λ file. IsRefusedBy file left (stream_refusal e))
+ended_by old left ahead r0 r1 h0 entries e s step short = by e step short
+  where
+    broke : (o : Option (List ℕ)) (fault : FileError)
+        → IfSome o (λ file. AcceptedFront file s.messages h0 (broken fault))
+        → IfSome o (λ file. IsRefusedBy file left (stream_refusal (stream.File fault)))
+    broke None fault f = tt
+    broke (Some file) fault f = (s.messages, h0, f)
+
+    spent : (o : Option (List ℕ)) → IfSome o (λ file. IsSpentFront file s.messages)
+        → IfSome o (λ file. IsRefusedBy file left (stream_refusal stream.NumbersSpent))
+    spent None f = tt
+    spent (Some file) f = (s.messages, f)
+
+    full : (r0.stopped ≡ Some stream.NumbersSpent)
+        ⊎ ((r0.stopped ≡ None) × IsStop r0.count r0.at r0.rest stream.NumbersSpent)
+        → (r0.count ≡ 2 ^ 48 - 1) × IsMessageNext r0.rest
+    full (inl was) = let none = sym s.going ∙ was in absurd cc
+    full (inr h) = h.1
+
+    all : (o : Option (List ℕ)) (failed : ReadFailed) → IfSome o (λ file. IsReadFront file left s.messages)
+        → IfSome o (λ file. IsRefusedBy file left (stream_refusal (stream.Read failed)))
+    all None failed f = tt
+    all (Some file) failed f = (s.messages, f)
+
+    by : (e : StreamError) → IsStep r0 (Err e) r1
+        → ((failed : ReadFailed) → e ≡ stream.Read failed → IsShort r0 ahead left)
+        → IfSome old (λ file. IsRefusedBy file left (stream_refusal e))
+    by (stream.File fault) step short = broke old fault
+        (follows_broken old r0 r1 s.messages h0 fault s.going s.run step)
+    by (stream.Read failed) step short =
+        let ahead_is = short failed refl in
+        all old failed (read_up old r0.rest left r0.at s.messages h0 ahead s.run ahead_is.0 ahead_is.1)
+    by stream.NumbersSpent step short = let h = full step.0 in
+        spent old (spent_at old r0.rest r0.at s.messages h0 s.run (sym s.counted ∙ h.0) h.1)

@@ -1,0 +1,42 @@
+-- What `inspect` answers of a File.
+use Rattle.std.specs.Prelude.{◌≡◌, ℕ, List, Option, IfSome}
+use Rattle.std.specs.Io.KnownBytes.{Keeps}
+use Rattle.std.specs.declared.convert.Infallible.{Infallible}
+use Rattle.flow_codec.specs.declared.sink.WalkError.{WalkError}
+use Rattle.flow_codec.specs.declared.sink.WalkError.TheVariants as walk
+use Rattle.flow_codec.specs.Raw.{RawMessage}
+use Rattle.flow_codec.specs.Templates.{AllTemplates}
+use Rattle.flow_codec.specs.File.{AcceptedFront, whole}
+use Rattle.flow_report.specs.declared.refusal.Refusal.{Refusal}
+use Rattle.flow_report.specs.declared.refusal.Refusal.TheVariants.{Message, File, OutOfMemory, SumSpent, NumbersSpent}
+use Rattle.flow_report.specs.declared.refusal.Refusal.TheVariants.{Read, Write}
+use Rattle.flow_report.specs.Refusals.{message_refusal}
+use Rattle.flow_report.specs.Writing.{AppendsFront}
+use Rattle.flow_inspect.specs.declared.reporting.DomainReport.{DomainReport}
+use Rattle.flow_inspect.specs.Reports.{reports_of, reports_text}
+
+-- what counts records refuses none
+abbrev pub walk_refusal : WalkError Infallible → ℕ → Refusal
+walk_refusal (walk.Message fault) number = message_refusal fault number
+walk_refusal (walk.Sink never) number = OutOfMemory
+
+-- the octets are a whole File of accepted messages, and this is counted of its domains
+abbrev pub HasReports : List ℕ → List (ℕ × DomainReport) → Type 0
+HasReports octets entries = (messages : List RawMessage) × (after : AllTemplates)
+    × AcceptedFront octets messages after whole × (entries ≡ reports_of messages)
+
+-- the octets are a whole File of accepted messages, and these are the lines of its domains
+abbrev pub HasLines : List ℕ → List ℕ → Type 0
+HasLines octets lines = (messages : List RawMessage) × (after : AllTemplates)
+    × AcceptedFront octets messages after whole × (lines ≡ reports_text (reports_of messages))
+
+-- What a writer holds after a refusal: what it held, or, where writing failed, a prefix of the lines besides.
+abbrev pub KeepsOrFront : Option (List ℕ) → Option (List ℕ) → Option (List ℕ) → Refusal → Type 0
+KeepsOrFront input old new (Write failed) =
+    IfSome input (λ octets. (lines : List ℕ) × HasLines octets lines × AppendsFront old new lines)
+KeepsOrFront input old new (Message fault number) = Keeps old new
+KeepsOrFront input old new (File fault) = Keeps old new
+KeepsOrFront input old new OutOfMemory = Keeps old new
+KeepsOrFront input old new SumSpent = Keeps old new
+KeepsOrFront input old new NumbersSpent = Keeps old new
+KeepsOrFront input old new (Read failed) = Keeps old new

@@ -1,0 +1,3 @@
+pub mod Counting
+pub mod Reports
+pub mod Inspect

@@ -1,0 +1,115 @@
+//! The command `inspect`.
+
+ghost use Rattle.std.specs.Prelude.{◌≡◌, [], ℕ, List, OnOk, IfOk, IfErr, IfSome};
+ghost use Rattle.std.specs.Io.KnownBytes.{Appends};
+ghost use Rattle.flow_report.specs.Refusals.{IsOfInput};
+ghost use Rattle.flow_report.specs.Measure.{IsRefusedBy};
+ghost use Rattle.flow_inspect.specs.Inspect.{HasReports, HasLines, KeepsOrFront, walk_refusal};
+ghost use Rattle.flow_inspect.specs.Reports.{entries_after, reports_text};
+
+use crate::counting::RecordCounts;
+use crate::reporting::{DomainReport, begun, continued, push_report};
+use flow_codec::{Header, MessageReader, Templates, WalkError, walk_message};
+use flow_report::{Patience, Refusal, write_patiently};
+use indexmap::IndexMap;
+use std::alloc::{AllocError, Global};
+use std::convert::Infallible;
+use std::io::{Read, Write};
+
+/// What is counted of each domain, in the order of their first messages.
+type Reports = IndexMap<u32, DomainReport>;
+
+/// Why a run stops at the message of this number.
+fn walk_refusal(stop: WalkError<Infallible>, number: u64) -> Refusal
+    ensures value { result ≡ walk_refusal stop number }
+    ensures unwritten { IsOfInput result }
+{
+    match stop {
+        WalkError::Message(fault) => Refusal::of_message(fault, number),
+        WalkError::Sink(never) => match never {},
+    }
+}
+
+/// Counts one message more.
+fn add_message(
+    reports: &mut Reports,
+    header: &Header,
+    counts: RecordCounts,
+) -> Result<(), AllocError>
+    ensures { OnOk result (reports.new.entries ≡ entries_after reports.old.entries header.now counts) }
+{
+    let report = match reports.get(&header.domain) {
+        Some(report) => continued(*report, header, counts),
+        None => begun(header, counts),
+    };
+    match reports.insert(header.domain, report) {
+        Ok(_) => Ok(()),
+        Err(_) => Err(AllocError),
+    }
+}
+
+/// What is counted of each domain of the File that `input` reads.
+fn reports_of<R: Read>(alloc: Global, input: &mut R) -> Result<Reports, Refusal>
+    ensures reports { IfOk result (λ reports. IfSome (R.remaining input.old) (λ octets. HasReports octets reports.entries)) }
+    ensures refused { IfErr result (λ e. IfSome (R.remaining input.old)
+        (λ octets. IsRefusedBy octets (R.remaining input.new) e)) }
+    ensures unwritten { IfErr result (λ e. IsOfInput e) }
+{
+    let mut reader = MessageReader::new(alloc)?;
+    let mut templates = Templates::new(alloc);
+    let mut reports = IndexMap::new(alloc);
+    'messages: while reader.advance(input)? {
+        let mut counts = RecordCounts {
+            records: 0,
+            options: 0,
+        };
+        match walk_message(&mut templates, alloc, reader.message(), &mut counts) {
+            Ok(header) => add_message(&mut reports, &header, counts)?,
+            Err(stop) => return Err(walk_refusal(stop, reader.count())),
+        }
+    }
+    Ok(reports)
+}
+
+/// The lines of all domains.
+fn text_of(alloc: Global, reports: &Reports) -> Result<Vec<u8>, AllocError>
+    ensures { IfOk result (λ text. text.items ≡ reports_text reports.now.entries) }
+{
+    let mut text = Vec::new(alloc);
+    for i in 0..reports.len() {
+        if let Some((domain, report)) = reports.get_index(i) {
+            push_report(&mut text, *domain, report)?;
+        }
+    }
+    Ok(text)
+}
+
+/// Reads a File and writes a line for each Observation Domain, in the order of their first messages: `domain DOMAIN
+/// messages N records N options N gaps N missing N backwards N from TIME to TIME`. Nothing is written unless the whole
+/// File was accepted.
+///
+/// A message's Sequence Number is due where it is that of the domain's message before, with as many data records more as
+/// that one has, modulo 2^32 (RFC 7011, section 3.1). One past it is a gap, of as many missing records as it is past it.
+/// One that is before it counts as backwards. The first message of a domain has whichever it has. TIME is the least and
+/// the greatest Export Time, in seconds since 1970-01-01 00:00 UTC.
+pub fn inspect<R: Read, W: Write>(
+    alloc: Global,
+    input: &mut R,
+    output: &mut W,
+) -> Result<(), Refusal>
+    // The lines are those of a whole File.
+    ensures lines { OnOk result
+        (IfSome (R.remaining input.old) (λ octets. (lines : List ℕ) × HasLines octets lines
+        × Appends (W.contents output.old) (W.contents output.new) lines)) }
+    // A refusal is that of the first fault by place.
+    ensures refused { IfErr result (λ e. IfSome (R.remaining input.old)
+        (λ octets. IsRefusedBy octets (R.remaining input.new) e)) }
+    // After one nothing is written, or, where writing failed, a prefix of the lines.
+    ensures kept { IfErr result
+        (λ e. KeepsOrFront (R.remaining input.old) (W.contents output.old) (W.contents output.new) e) }
+{
+    let reports = reports_of(alloc, input)?;
+    let text = text_of(alloc, &reports)?;
+    write_patiently(output, text.as_slice(), &mut Patience::new())?;
+    Ok(())
+}
