@@ -2,7 +2,7 @@
 ghost use Rattle.std.specs.Prelude.{◌≡◌, ℕ, false};
 
 use crate::calls::{Call, Thawed, memory};
-use crate::same::same;
+use crate::same::holds;
 use flow_disk::{Disk, DiskError};
 use flow_memory_disk::{FusedDisk, LyingDisk, OneFaultDisk, Room};
 use std::alloc::Global;
@@ -78,10 +78,10 @@ fn made_by(calls: u64) -> u64 {
 
 #[test]
 fn a_fuse_passes_so_many_calls(rt: HostRuntime) -> Result<(), Fail> {
-    same(&told_in_memory(rt.alloc())?, &(11, true), 0)?;
+    holds(told_in_memory(rt.alloc())? == (11, true), 0)?;
     for calls in 0..ALL + 2 {
-        let wanted = (made_by(calls), true);
-        same(&told_by_fuse(rt.alloc(), calls)?, &wanted, calls)?;
+        let told = told_by_fuse(rt.alloc(), calls)?;
+        holds(told == (made_by(calls), true), calls)?;
     }
     Ok(())
 }
@@ -105,13 +105,13 @@ const BAD_READS: [(u64, u64, u64); 4] = [(7, 0, 10), (7, 3, 10), (7, 4, 11), (2,
 fn one_call_fails(rt: HostRuntime) -> Result<(), Fail> {
     for (file, from, made) in BAD_READS {
         let told = told_with_bad_reads(rt.alloc(), file, from)?;
-        same(&told, &(made, true), from)?;
+        holds(told == (made, true), from)?;
     }
     for call in 0..ALL + 2 {
         let (made, is_so) = told_but_one(rt.alloc(), call)?;
         let is_whole = call == 0 || call > ALL;
-        same(&made, &if is_whole { 11 } else { 10 }, call)?;
-        same(&(is_so || !is_whole), &true, call)?;
+        let wanted = if is_whole { 11 } else { 10 };
+        holds(made == wanted && (is_so || !is_whole), call)?;
     }
     Ok(())
 }
@@ -134,31 +134,28 @@ const NO_ROOM: [Call<'static>; 7] = [
     Call::Files(&[]),
 ];
 
-/// How many of them meet no fault.
-fn passed<D: Disk>(alloc: Global, disk: D) -> Result<u64, DiskError>
+/// How many of them meet no fault, and whether each of these gives what it says.
+fn passed<D: Disk>(alloc: Global, disk: D) -> Result<(u64, bool), DiskError>
     requires { (n : ℕ) → (D.marks disk n).frozen ≡ false }
 {
-    let (passed, is_so) = Thawed { disk }.make(alloc, &NO_ROOM)?;
-    Ok(if is_so { passed } else { 0 })
+    let mut thawed = Thawed { disk };
+    thawed.make(alloc, &NO_ROOM)
 }
 
-fn passed_in_memory(alloc: Global) -> Result<u64, DiskError> {
+fn passed_in_memory(alloc: Global) -> Result<(u64, bool), DiskError> {
     passed(alloc, memory(alloc, NONE)?)
 }
 
-fn passed_by_fuse(alloc: Global) -> Result<u64, DiskError> {
+fn passed_by_fuse(alloc: Global) -> Result<(u64, bool), DiskError> {
     passed(alloc, FusedDisk::new(memory(alloc, NONE)?, 99))
 }
 
-fn passed_without_fault(alloc: Global) -> Result<u64, DiskError> {
+fn passed_without_fault(alloc: Global) -> Result<(u64, bool), DiskError> {
     passed(alloc, OneFaultDisk::new(memory(alloc, NONE)?, 0))
 }
 
-/// Of a disk that lies its other calls alone: what is told of files that aren't there may be a lie.
-fn passed_lying(alloc: Global) -> Result<u64, DiskError> {
-    let disk = LyingDisk::new(memory(alloc, NONE)?, 0);
-    let (passed, _) = Thawed { disk }.make(alloc, &NO_ROOM)?;
-    Ok(passed)
+fn passed_lying(alloc: Global) -> Result<(u64, bool), DiskError> {
+    passed(alloc, LyingDisk::new(memory(alloc, NONE)?, 0))
 }
 
 /// Whether an empty file is removed once frozen, with room for so many calls: its sync is one, and its removal two.
@@ -169,20 +166,24 @@ fn is_retired(alloc: Global, calls: usize) -> Result<bool, DiskError> {
         calls,
         written: 0,
     };
-    let disk = memory(alloc, room)?;
-    match (Thawed { disk }).retire(alloc, 7, &[]) {
+    let thawed = Thawed {
+        disk: memory(alloc, room)?,
+    };
+    match thawed.retire(alloc, 7, &[]) {
         Err(DiskError::Fault) => Ok(false),
         answer => answer,
     }
 }
 
+/// Of a disk that lies what is told of files that aren't there may be a lie.
 #[test]
 fn each_change_of_a_disk_with_no_room(rt: HostRuntime) -> Result<(), Fail> {
     let alloc = rt.alloc();
-    same(&passed_in_memory(alloc)?, &3, 0)?;
-    same(&passed_by_fuse(alloc)?, &3, 1)?;
-    same(&passed_without_fault(alloc)?, &3, 2)?;
-    same(&passed_lying(alloc)?, &3, 3)?;
-    same(&is_retired(alloc, 2)?, &false, 4)?;
-    same(&is_retired(alloc, 3)?, &true, 5)
+    holds(passed_in_memory(alloc)? == (3, true), 0)?;
+    holds(passed_by_fuse(alloc)? == (3, true), 1)?;
+    holds(passed_without_fault(alloc)? == (3, true), 2)?;
+    let (lying, _) = passed_lying(alloc)?;
+    holds(lying == 3, 3)?;
+    holds(!is_retired(alloc, 2)?, 4)?;
+    holds(is_retired(alloc, 3)?, 5)
 }

@@ -1,5 +1,5 @@
 // A manifest, read, written, and read again.
-use crate::same::same;
+use crate::same::holds;
 use flow_manifest::{ManifestError, decode, encode, read_back};
 use std::alloc::Global;
 use std::test::Fail;
@@ -28,16 +28,16 @@ const ENTRIES: &str = "[Entry { kind: Wide, prefix: 0, file: 10, length: 161, me
      Entry { kind: Active, prefix: 40, file: 8, length: 0, messages: 0 }]";
 
 /// Whether its octets are read as its entries, written again, and read as the same once more.
-fn is_read(alloc: Global) -> Result<(bool, bool, bool), ManifestError> {
+fn is_read(alloc: Global) -> Result<bool, ManifestError> {
     let manifest = decode(alloc, &EACH_KIND)?;
     let text = format!(in alloc; "{:?}", manifest.entries.as_slice())?;
     let is_written = encode(alloc, &manifest)?.as_slice() == EACH_KIND.as_slice();
     let again = read_back(alloc, &manifest)?;
     let is_same = again.entries.as_slice() == manifest.entries.as_slice();
-    Ok((text.as_str() == ENTRIES, is_written, is_same))
+    Ok(text.as_str() == ENTRIES && is_written && is_same)
 }
 
 #[test]
 fn a_manifest_with_an_entry_of_each_kind(rt: HostRuntime) -> Result<(), Fail> {
-    same(&is_read(rt.alloc())?, &(true, true, true), 0)
+    holds(is_read(rt.alloc())?, 0)
 }

@@ -2,7 +2,7 @@
 ghost use Rattle.std.specs.Prelude.{◌≡◌, ℕ, true, false, OnOk};
 
 use crate::calls::{Call, Thawed, memory};
-use crate::same::same;
+use crate::same::holds;
 use flow_disk::{Disk, DiskError, SealedFile};
 use flow_memory_disk::{Choice, FusedDisk, MemoryDisk, OneFaultDisk, Room};
 use std::alloc::Global;
@@ -29,7 +29,7 @@ fn after<D: Disk>(alloc: Global, disk: D, calls: &[Call<'_>], passed: u64) -> Re
     let mut thawed = Thawed { disk };
     let (made, _) = thawed.make(alloc, calls)?;
     let Thawed { disk } = thawed;
-    same(&made, &passed, 0)?;
+    holds(made == passed, passed)?;
     Ok(disk)
 }
 
@@ -78,10 +78,10 @@ fn restarts_as(alloc: Global, octets: &[u8]) -> Result<bool, Fail> {
 fn a_stop_leaves_what_is_chosen(rt: HostRuntime) -> Result<(), Fail> {
     let mut case = 0u64;
     for (choice, wanted) in &CHOICES {
-        same(&leaves(rt.alloc(), *choice, *wanted)?, &true, case)?;
+        holds(leaves(rt.alloc(), *choice, *wanted)?, case)?;
         case = case.saturating_add(1);
     }
-    same(&restarts_as(rt.alloc(), &[1, 2, 5, 4, 6, 7, 8])?, &true, 6)
+    holds(restarts_as(rt.alloc(), &[1, 2, 5, 4, 6, 7, 8])?, 6)
 }
 
 /// Calls on file 7 of which one meets a fault, on a disk that fails after so many calls, and what the file then reads
@@ -138,7 +138,7 @@ fn a_failed_call_leaves_the_file_and_a_failed_write_half(rt: HostRuntime) -> Res
     for (calls, left, passed, octets) in &FAILURES {
         let by_fuse = is_left_by_fuse(alloc, calls, (*left, *passed), octets)?;
         let by_one_fault = is_left_by_one_fault(alloc, calls, (*left, *passed), octets)?;
-        same(&(by_fuse, by_one_fault), &(true, true), *left)?;
+        holds(by_fuse && by_one_fault, *left)?;
     }
     Ok(())
 }
@@ -164,22 +164,20 @@ fn retired<D: Disk>(disk: &mut D) -> Result<u64, DiskError>
     Ok(length)
 }
 
-/// Freezes file 7 twice, of which the first fails, and removes it: how long it was frozen.
-fn frozen_again<D: Disk>(disk: &mut D) -> Result<Option<u64>, DiskError>
+/// Freezes file 7 twice, of which the first fails, and removes it: whether it had three octets, and has none.
+fn is_frozen_again<D: Disk>(disk: &mut D) -> Result<bool, DiskError>
     requires { (D.marks disk.old 7).frozen ≡ false }
 {
     settle(disk)?;
     if disk.freeze(7).is_ok() {
-        return Ok(None);
+        return Ok(false);
     }
-    Ok(Some(retired(disk)?))
+    Ok(retired(disk)? == 3 && disk.length(7)? == 0)
 }
 
-/// Freezes file 7 on a disk whose third call fails, which freezes; the next one freezes. How long it was, and is.
-fn frozen_at_last(alloc: Global) -> Result<(Option<u64>, u64), DiskError> {
-    let mut disk = OneFaultDisk::new(memory(alloc, AMPLE)?, 3);
-    let length = frozen_again(&mut disk)?;
-    Ok((length, disk.length(7)?))
+/// The same on a disk whose third call fails, which freezes; the next one freezes.
+fn is_frozen_at_last(alloc: Global) -> Result<bool, DiskError> {
+    is_frozen_again(&mut OneFaultDisk::new(memory(alloc, AMPLE)?, 3))
 }
 
 /// Whether file 7 is settled and frozen, and its removal meets a fault.
@@ -190,15 +188,15 @@ fn fails_to_retire<D: Disk>(disk: &mut D) -> Result<bool, DiskError>
     Ok(retired(disk) == Err(DiskError::Fault))
 }
 
-/// How long file 7 is after a restart where its removal failed, the fourth call.
-fn length_left(alloc: Global) -> Result<(bool, u64), DiskError> {
+/// Whether file 7 has its three octets after a restart where its removal failed, the fourth call.
+fn is_left(alloc: Global) -> Result<bool, DiskError> {
     let mut disk = FusedDisk::new(memory(alloc, AMPLE)?, 3);
     let fails = fails_to_retire(&mut disk)?;
-    Ok((fails, disk.restart().length(7)?))
+    Ok(reads_as(alloc, &mut disk.restart(), &[1, 2, 3])? && fails)
 }
 
 #[test]
 fn a_failed_call_leaves_a_frozen_file(rt: HostRuntime) -> Result<(), Fail> {
-    same(&frozen_at_last(rt.alloc())?, &(Some(3), 0), 0)?;
-    same(&length_left(rt.alloc())?, &(true, 3), 1)
+    holds(is_frozen_at_last(rt.alloc())?, 0)?;
+    holds(is_left(rt.alloc())?, 1)
 }

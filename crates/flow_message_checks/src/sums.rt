@@ -1,10 +1,10 @@
 //! Flows and their sums, worked out by hand.
 
-use crate::holds::{FLOW, holds};
+use crate::holds::FLOW;
 use flow_codec::{MessageError, Templates, read_message, walk_message};
 use flow_measure::{Flow, Flows, Key, Row, Rows, SumError, Sums, flows_of_message};
 use std::alloc::{AllocError, Global};
-use std::test::Fail;
+use std::test::*;
 
 fn flow(start: u32, protocol: Option<u8>) -> Flow {
     Flow {
@@ -33,25 +33,38 @@ fn row(start: u32, width: u32, protocol: Option<u8>, flows: u64) -> Row {
     }
 }
 
-/// The flows of the message by its fields.
-fn by_fields(alloc: Global, templates: &mut Templates) -> Result<Vec<Flow>, Fail> {
-    Ok(flows_of_message(alloc, &read_message(templates, alloc, &FLOW)?)?)
+/// The flow of the message.
+const THE_FLOW: Flow = Flow {
+    domain: 7,
+    start: 1700000000,
+    protocol: Some(6),
+    octets: 1500,
+    packets: 10,
+};
+
+/// Whether the message has its flow by its fields.
+fn has_flow(alloc: Global, templates: &mut Templates) -> Result<bool, Fail> {
+    let message = read_message(templates, alloc, &FLOW)?;
+    Ok(flows_of_message(alloc, &message)?.as_slice() == [THE_FLOW].as_slice())
 }
 
-/// The flows of the message as it is walked.
-fn by_walk(alloc: Global, templates: &mut Templates, flows: &mut Flows) -> Result<bool, Fail> {
+/// Whether the message has its flow as it is walked.
+fn walks_flow(alloc: Global, templates: &mut Templates, flows: &mut Flows) -> Result<bool, Fail> {
     walk_message(templates, alloc, &FLOW, flows).map_err(MessageError::from)?;
-    Ok(flows.flows.as_slice() == [flow(1700000000, Some(6))].as_slice())
+    Ok(flows.flows.as_slice() == [THE_FLOW].as_slice())
+}
+
+/// The same without templates before it.
+fn walks_its_flow(alloc: Global, flows: &mut Flows) -> Result<bool, Fail> {
+    walks_flow(alloc, &mut Templates::new(alloc), flows)
 }
 
 #[test]
 fn flows(rt: HostRuntime) -> Result<(), Fail> {
     let alloc = rt.alloc();
-    let found = by_fields(alloc, &mut Templates::new(alloc))?;
-    let wanted = [flow(1700000000, Some(6))];
-    holds(found.as_slice() == wanted.as_slice(), "one flow by fields")?;
-    let is_walked = by_walk(alloc, &mut Templates::new(alloc), &mut Flows::new(alloc))?;
-    holds(is_walked, "one flow by the walk")
+    assert!(rt; has_flow(alloc, &mut Templates::new(alloc))?);
+    assert!(rt; walks_its_flow(alloc, &mut Flows::new(alloc))?);
+    Ok(())
 }
 
 /// The rows of flows that start then, over intervals of 300 seconds.
@@ -76,58 +89,71 @@ fn are_rows(
 /// All seconds.
 const ALL: (u64, u64) = (0, 1 << 32);
 
-/// Looks at the rows of three spans.
-fn spans(alloc: Global, rows: &Rows) -> Result<(), Fail> {
+/// Whether the rows of three spans are these.
+fn are_spans(alloc: Global, rows: &Rows) -> Result<bool, AllocError> {
     let all = [
         row(1699999800, 300, None, 1),
         row(1699999800, 300, Some(6), 2),
         row(1700000100, 300, Some(6), 1),
     ];
-    holds(are_rows(alloc, rows, ALL, &all)?, "three rows")?;
-    let first = are_rows(alloc, rows, (1699999800, 1700000100), &all[..2])?;
-    holds(first, "the rows of the first interval")?;
-    let second = are_rows(alloc, rows, (1699999801, 1700000101), &all[2..])?;
-    holds(second, "the row of the second interval")
+    let [first, second, third] = all;
+    Ok(
+        are_rows(alloc, rows, ALL, &all)?
+            && are_rows(alloc, rows, (1699999800, 1700000100), &[first, second])?
+            && are_rows(alloc, rows, (1699999801, 1700000101), &[third])?,
+    )
 }
 
 /// The rows over intervals of 3,600 seconds.
 fn widened(alloc: Global, rows: &Rows) -> Result<Rows, Fail> {
-    holds(rows.width() == 300, "a width of 300")?;
     if 3600 % rows.width() != 0 {
         return Err(Fail::new("a width that 3,600 is a multiple of"));
     }
     Ok(rows.widen(alloc, 3600)?)
 }
 
-/// Looks at the rows of 3,600 seconds.
-fn are_wide(alloc: Global, wide: &Rows) -> Result<(), Fail> {
+/// Whether the rows of 3,600 seconds are these.
+fn are_wide(alloc: Global, wide: &Rows) -> Result<bool, AllocError> {
     let wanted = [
         row(1699999200, 3600, None, 1),
         row(1699999200, 3600, Some(6), 3),
     ];
-    holds(are_rows(alloc, wide, ALL, &wanted)?, "two rows")
+    are_rows(alloc, wide, ALL, &wanted)
+}
+
+/// When flows start, and their protocols.
+const STARTS: [(u32, Option<u8>); 4] = [
+    (1700000000, Some(6)),
+    (1699999800, None),
+    (1700000099, Some(6)),
+    (1700000100, Some(6)),
+];
+
+/// Whether flows have their rows, and their rows of 3,600 seconds.
+fn are_summed(alloc: Global) -> Result<(bool, bool), Fail> {
+    let rows = rows_of(alloc, &STARTS)?;
+    let are_spans = are_spans(alloc, &rows)?;
+    Ok((are_spans, are_wide(alloc, &widened(alloc, &rows)?)?))
 }
 
 #[test]
 fn sums(rt: HostRuntime) -> Result<(), Fail> {
-    let alloc = rt.alloc();
-    let starts = [
-        (1700000000, Some(6)),
-        (1699999800, None),
-        (1700000099, Some(6)),
-        (1700000100, Some(6)),
-    ];
-    let rows = rows_of(alloc, &starts)?;
-    spans(alloc, &rows)?;
-    are_wide(alloc, &widened(alloc, &rows)?)
+    let (are_spans, are_wide) = are_summed(rt.alloc())?;
+    assert!(rt; are_spans);
+    assert!(rt; are_wide);
+    Ok(())
 }
 
-/// Adds other rows.
-fn merge(rows: &mut Rows, other: &Rows) -> Result<Result<(), SumError>, Fail> {
+/// Adds other rows, unless a sum passes its type: whether they are added.
+fn merge(rows: &mut Rows, other: &Rows) -> Result<bool, Fail> {
     if rows.width() != other.width() {
         return Err(Fail::new("equal widths are wanted"));
     }
-    Ok(rows.merge(other))
+    match rows.merge(other) {
+        Ok(()) => Ok(true),
+        Err(SumError::SumSpent) => Ok(false),
+        Err(error) => Err(Fail::from(error)),
+    }
 }
 
 /// As many flows as fit, without octets.
@@ -152,23 +178,31 @@ fn full(alloc: Global) -> Result<Rows, SumError> {
     Ok(rows)
 }
 
-/// Adds one flow to as many as fit, and the other way round: neither is changed.
-fn spend(alloc: Global, full: &mut Rows, one: &mut Rows) -> Result<(), Fail> {
-    holds(merge(full, one)? == Err(SumError::SumSpent), "a spent sum")?;
-    holds(merge(one, full)? == Err(SumError::SumSpent), "the same")?;
-    holds(are_rows(alloc, full, ALL, &[FULL])?, "as many flows as fit")?;
-    let one_row = [row(0, 300, Some(6), 1)];
-    holds(are_rows(alloc, one, ALL, &one_row)?, "one flow")?;
-    holds(
-        merge(one, &rows_of(alloc, &[(299, Some(6))])?)? == Ok(()),
-        "room for another",
-    )?;
-    let two = [row(0, 300, Some(6), 2)];
-    holds(are_rows(alloc, one, ALL, &two)?, "two flows")
+/// Whether one flow can't be added to as many as fit, nor the other way round, and neither is changed.
+fn are_spent(alloc: Global, full: &mut Rows, one: &mut Rows) -> Result<bool, Fail> {
+    let is_added = merge(full, one)? || merge(one, full)?;
+    let wanted = [row(0, 300, Some(6), 1)];
+    let is_same = are_rows(alloc, full, ALL, &[FULL])? && are_rows(alloc, one, ALL, &wanted)?;
+    Ok(is_same && !is_added)
+}
+
+/// Whether one flow is added to another.
+fn is_added(alloc: Global, one: &mut Rows, other: &Rows) -> Result<bool, Fail> {
+    let wanted = [row(0, 300, Some(6), 2)];
+    Ok(merge(one, other)? && are_rows(alloc, one, ALL, &wanted)?)
+}
+
+/// Both of one flow.
+fn spend(alloc: Global, one: &mut Rows) -> Result<bool, Fail> {
+    Ok(
+        are_spent(alloc, &mut full(alloc)?, one)?
+            && is_added(alloc, one, &rows_of(alloc, &[(299, Some(6))])?)?,
+    )
 }
 
 #[test]
 fn a_sum_that_is_spent(rt: HostRuntime) -> Result<(), Fail> {
     let mut one = rows_of(rt.alloc(), &[(0, Some(6))])?;
-    spend(rt.alloc(), &mut full(rt.alloc())?, &mut one)
+    assert!(rt; spend(rt.alloc(), &mut one)?);
+    Ok(())
 }
