@@ -2,7 +2,7 @@
 
 ghost use Rattle.std.specs.Prelude.{◌≡◌, ℕ, false};
 
-use flow_disk::{Disk, DiskError};
+use flow_disk::{Disk, DiskError, Faults, SealedFile};
 use std::alloc::Global;
 use std::test::Fail;
 
@@ -25,7 +25,7 @@ pub(crate) enum Call<'a> {
     Files(&'a [u64]),
 }
 
-/// A disk on which nothing is frozen: its calls look first whether they may be made.
+/// A disk on which nothing is frozen: its calls look first whether they may be made, where that isn't plain.
 #[derive(Drop)]
 pub(crate) struct Thawed<D: Disk> {
     pub(crate) disk: D,
@@ -35,7 +35,7 @@ pub(crate) struct Thawed<D: Disk> {
 impl<D: Disk> Thawed<D> {
     /// Writes octets at a place.
     fn write(&mut self, file: u64, at: u64, octets: &[u8]) -> Result<bool, DiskError> {
-        if self.disk.length(file)? < at {
+        if at > 0 && self.disk.length(file)? < at {
             return Ok(false);
         }
         self.disk.write_at(file, at, octets)?;
@@ -96,12 +96,14 @@ impl<D: Disk> Thawed<D> {
         Ok(())
     }
 
-    /// Makes a call that is refused as a fault.
-    pub(crate) fn refuse(&mut self, alloc: Global, call: Call<'_>) -> Result<(), Fail> {
-        match self.gives(alloc, call) {
-            Err(DiskError::Fault) => Ok(()),
-            _ => Err(Fail::new("it isn't a fault")),
+    /// Makes calls, each of which is refused as a fault.
+    pub(crate) fn refuse(&mut self, alloc: Global, calls: &[Call<'_>]) -> Result<(), Fail> {
+        for (index, call) in calls.iter().enumerate() {
+            if self.gives(alloc, *call) != Err(DiskError::Fault) {
+                return Err(Fail::new(format_args!("call {index} isn't a fault")));
+            }
         }
+        Ok(())
     }
 
     /// Settles a file and freezes it. Then the disk is given up.
@@ -111,4 +113,29 @@ impl<D: Disk> Thawed<D> {
         disk.sync(file)?;
         Ok(disk.freeze(file)?)
     }
+
+    /// Freezes a file that has just these octets, and removes it: whether it is so while it is frozen.
+    pub(crate) fn retire(self, alloc: Global, file: u64, octets: &[u8]) -> Result<bool, Fail> {
+        let mut disk = self.disk;
+        disk.length(file)?;
+        disk.sync(file)?;
+        let sealed = disk.freeze(file)?;
+        let is_so = is_frozen(alloc, &sealed, file, octets)?;
+        disk.retire(sealed)?;
+        Ok(is_so)
+    }
+}
+
+/// Whether a frozen file has this number and just these octets.
+fn is_frozen<S: SealedFile>(
+    alloc: Global,
+    sealed: &S,
+    file: u64,
+    octets: &[u8],
+) -> Result<bool, DiskError> {
+    if sealed.file() != file || sealed.length() != octets.len() as u64 {
+        return Ok(false);
+    }
+    let read = sealed.read(alloc, &mut Faults::new(), 0, octets.len())?;
+    Ok(read.as_slice() == octets)
 }

@@ -4,7 +4,7 @@ use crate::calls::{Call, Thawed};
 use crate::folders::fresh;
 use flow_disk::DiskError;
 use flow_folder::{FolderDisk, FolderError, Lockable};
-use std::alloc::{Alloc, Allocator, Global};
+use std::alloc::{Alloc, AllocError, Allocator, Global};
 use std::cell::Cell;
 use std::fs::{self, File, Files, Metadata, OpenFile, OpenOptions, Permissions, TryLockError};
 use std::io::{self, ErrorKind, Read, Seek, SeekFrom, Write};
@@ -25,11 +25,12 @@ struct Plan {
 }
 
 impl Plan {
-    fn new() -> Plan {
+    /// A plan by which nothing fails as yet, with room for so many octets.
+    fn new(room: u64) -> Plan {
         Plan {
             failing: Cell::new(0),
             unseen: Cell::new(None),
-            room: Cell::new(1000),
+            room: Cell::new(room),
             writes: Cell::new(0),
             cuts: Cell::new(0),
             made: Cell::new(0),
@@ -234,7 +235,54 @@ fn freeze(failing: &Failing<'_>, folder: &str) -> Result<(), Fail> {
     Ok(())
 }
 
-const FAILED_SYNCS: [Row<'static>; 12] = [
+/// What is made of a folder, one after the other, each by a value of its own.
+#[derive(Clone, Copy)]
+enum Part<'a> {
+    /// These calls.
+    Calls(&'a [Row<'a>]),
+    /// File 3 is frozen.
+    Freeze,
+}
+
+/// A folder: what its file 3 has before, if anything, for how many octets there is room, what is made of it, and what
+/// its file 3 has afterwards, if anything.
+type Folder<'a> = (&'a [u8], u64, &'a [Part<'a>], &'a [u8]);
+
+/// Makes what is to be made of a folder, one after the other.
+fn make_all(failing: &Failing<'_>, folder: &str, parts: &[Part<'_>]) -> Result<(), Fail> {
+    for part in parts {
+        match *part {
+            Part::Calls(rows) => make(failing, folder, rows)?,
+            Part::Freeze => freeze(failing, folder)?,
+        }
+    }
+    Ok(())
+}
+
+/// The octets of file 3 in the folder of these tests, and none where it isn't there.
+fn octets_of_3(rt: &HostRuntime) -> Result<Vec<u8>, Fail> {
+    if fs::exists(rt, "folder_failing/3.ipfix")? {
+        return Ok(fs::read(rt, "folder_failing/3.ipfix")?);
+    }
+    Ok(Vec::new(rt.alloc()))
+}
+
+/// Makes a folder, makes of it what is to be made, and looks at it afterwards.
+fn play(rt: &HostRuntime, (before, room, parts, after): Folder<'_>) -> Result<(), Fail> {
+    fresh(rt, "folder_failing")?;
+    if !before.is_empty() {
+        fs::write(rt, "folder_failing/3.ipfix", before)?;
+    }
+    let plan = Plan::new(room);
+    make_all(&Failing { rt, plan: &plan }, "folder_failing", parts)?;
+    if octets_of_3(rt)?.as_slice() != after {
+        return Err(Fail::new("other octets at the end"));
+    }
+    Ok(fs::remove_dir_all(rt, "folder_failing")?)
+}
+
+/// Syncs that fail are made good.
+const SYNCS: [Row<'static>; 12] = [
     Row(Call::Write(3, 0, b"abcdef"), 0, true, [1, 0, 1]),
     Row(Call::Cut(3, 4), 0, true, [1, 1, 1]),
     // written and cut again at once
@@ -255,21 +303,7 @@ const FAILED_SYNCS: [Row<'static>; 12] = [
     Row(Call::Sync(3), 0, true, [9, 2, 1]),
 ];
 
-#[test]
-fn failed_syncs_are_made_good(rt: HostRuntime) -> Result<(), Fail> {
-    fresh(&rt, "folder_syncs")?;
-    let plan = Plan::new();
-    let failing = Failing {
-        rt: &rt,
-        plan: &plan,
-    };
-    make(&failing, "folder_syncs", &FAILED_SYNCS)?;
-    let octets = fs::read(&rt, "folder_syncs/3.ipfix")?;
-    assert_eq!(rt; octets.as_slice(), b"AbcDZ".as_slice());
-    fs::remove_dir_all(&rt, "folder_syncs")?;
-    Ok(())
-}
-
+/// Files of others are written again.
 const CHANGED: [Row<'static>; 5] = [
     Row(Call::Write(3, 5, b"F"), 0, true, [1, 0, 0]),
     // all of it, with the length
@@ -289,83 +323,28 @@ const FROZEN: [Row<'static>; 4] = [
     Row(Call::Sync(3), 0, true, [6, 3, 0]),
 ];
 
-#[test]
-fn others_files_are_written_again(rt: HostRuntime) -> Result<(), Fail> {
-    fresh(&rt, "folder_again")?;
-    fs::write(&rt, "folder_again/3.ipfix", b"abcdef".as_slice())?;
-    let plan = Plan::new();
-    let failing = Failing {
-        rt: &rt,
-        plan: &plan,
-    };
-    make(&failing, "folder_again", &CHANGED)?;
+const AGAIN: [Part<'static>; 5] = [
+    Part::Calls(&CHANGED),
     // a later value doesn't know it
-    make(
-        &failing,
-        "folder_again",
-        &[Row(Call::Sync(3), 0, true, [4, 2, 0])],
-    )?;
-    freeze(&failing, "folder_again")?;
-    make(&failing, "folder_again", &FROZEN)?;
+    Part::Calls(&[Row(Call::Sync(3), 0, true, [4, 2, 0])]),
+    Part::Freeze,
+    Part::Calls(&FROZEN),
     // doubtful again
-    make(
-        &failing,
-        "folder_again",
-        &[Row(Call::Sync(3), 0, true, [7, 4, 0])],
-    )?;
-    let octets = fs::read(&rt, "folder_again/3.ipfix")?;
-    assert_eq!(rt; octets.as_slice(), b"abcdefg".as_slice());
-    fs::remove_dir_all(&rt, "folder_again")?;
-    Ok(())
-}
-
-/// What others wrote is written again in several pieces, each where it stood.
-#[test]
-fn long_files_are_written_again_in_place(rt: HostRuntime) -> Result<(), Fail> {
-    fresh(&rt, "folder_long")?;
-    let mut octets = vec![in rt.alloc(); 1u8; 4096]?;
-    octets.resize(5000, 2)?;
-    fs::write(&rt, "folder_long/3.ipfix", octets.as_slice())?;
-    let plan = Plan::new();
-    plan.room.set(10_000);
-    let failing = Failing {
-        rt: &rt,
-        plan: &plan,
-    };
-    make(
-        &failing,
-        "folder_long",
-        &[Row(Call::Sync(3), 0, true, [2, 1, 0])],
-    )?;
-    let after = fs::read(&rt, "folder_long/3.ipfix")?;
-    assert!(rt; after.as_slice() == octets.as_slice());
-    fs::remove_dir_all(&rt, "folder_long")?;
-    Ok(())
-}
-
-const WRITTEN: [Row<'static>; 1] = [Row(Call::Write(3, 0, b"abc"), 0, true, [1, 0, 1])];
-
-const DOUBTFUL: [Row<'static>; 2] = [
-    Row(Call::Sync(3), 1, false, [2, 1, 1]),
-    // no longer taken for settled
-    Row(Call::Sync(3), 0, true, [3, 2, 1]),
+    Part::Calls(&[Row(Call::Sync(3), 0, true, [7, 4, 0])]),
 ];
 
-#[test]
-fn failed_syncs_of_frozen_files_are_doubtful(rt: HostRuntime) -> Result<(), Fail> {
-    fresh(&rt, "folder_doubtful")?;
-    let plan = Plan::new();
-    let failing = Failing {
-        rt: &rt,
-        plan: &plan,
-    };
-    make(&failing, "folder_doubtful", &WRITTEN)?;
-    freeze(&failing, "folder_doubtful")?;
-    make(&failing, "folder_doubtful", &DOUBTFUL)?;
-    fs::remove_dir_all(&rt, "folder_doubtful")?;
-    Ok(())
-}
+/// After a failed sync a frozen file is doubtful.
+const DOUBTFUL: [Part<'static>; 3] = [
+    Part::Calls(&[Row(Call::Write(3, 0, b"abc"), 0, true, [1, 0, 1])]),
+    Part::Freeze,
+    Part::Calls(&[
+        Row(Call::Sync(3), 1, false, [2, 1, 1]),
+        // no longer taken for settled
+        Row(Call::Sync(3), 0, true, [3, 2, 1]),
+    ]),
+];
 
+/// Names are durable first.
 const NAMES: [Row<'static>; 6] = [
     // nothing is written to a name that may be lost: it was made once more
     Row(Call::Write(3, 0, b"abc"), 2, false, [0, 0, 2]),
@@ -379,19 +358,7 @@ const NAMES: [Row<'static>; 6] = [
     Row(Call::Files(&[]), 0, true, [1, 0, 5]),
 ];
 
-#[test]
-fn names_are_durable_first(rt: HostRuntime) -> Result<(), Fail> {
-    fresh(&rt, "folder_entries")?;
-    let plan = Plan::new();
-    let failing = Failing {
-        rt: &rt,
-        plan: &plan,
-    };
-    make(&failing, "folder_entries", &NAMES)?;
-    fs::remove_dir_all(&rt, "folder_entries")?;
-    Ok(())
-}
-
+/// A full device is a fault.
 const FULL: [Row<'static>; 4] = [
     Row(Call::Write(3, 0, b"abc"), 0, true, [1, 0, 1]),
     Row(Call::Write(3, 0, b"ABCDEF"), 0, false, [2, 0, 1]),
@@ -400,25 +367,38 @@ const FULL: [Row<'static>; 4] = [
     Row(Call::Read(3, 0, b"ABc"), 0, true, [2, 0, 1]),
 ];
 
+/// A file of two pieces is written again in two, each where it was.
+const PIECES: [Part<'static>; 1] = [Part::Calls(&[Row(Call::Sync(3), 0, true, [2, 1, 0])])];
+
+const FOLDERS: [Folder<'static>; 5] = [
+    (b"", 1000, &[Part::Calls(&SYNCS)], b"AbcDZ"),
+    (b"abcdef", 1000, &AGAIN, b"abcdefg"),
+    (b"", 1000, &DOUBTFUL, b"abc"),
+    (b"", 1000, &[Part::Calls(&NAMES)], b""),
+    (b"", 5, &[Part::Calls(&FULL)], b"ABc"),
+];
+
+/// Octets of two pieces, which aren't alike.
+fn two_pieces(alloc: Global) -> Result<Vec<u8>, AllocError> {
+    let mut octets = vec![in alloc; 1u8; 4096]?;
+    octets.resize(5000, 2)?;
+    Ok(octets)
+}
+
 #[test]
-fn a_full_device_is_a_fault(rt: HostRuntime) -> Result<(), Fail> {
-    fresh(&rt, "folder_full")?;
-    let plan = Plan::new();
-    plan.room.set(5);
-    let failing = Failing {
-        rt: &rt,
-        plan: &plan,
-    };
-    make(&failing, "folder_full", &FULL)?;
-    fs::remove_dir_all(&rt, "folder_full")?;
-    Ok(())
+fn syncs_and_writes_that_fail(rt: HostRuntime) -> Result<(), Fail> {
+    for folder in FOLDERS {
+        play(&rt, folder)?;
+    }
+    let long = two_pieces(rt.alloc())?;
+    play(&rt, (&long, 10_000, &PIECES, &long))
 }
 
 /// A name that can't be looked up isn't taken for that of no file.
 #[test]
 fn unseen_names_are_faults(rt: HostRuntime) -> Result<(), Fail> {
     fresh(&rt, "folder_unseen")?;
-    let plan = Plan::new();
+    let plan = Plan::new(1000);
     plan.unseen.set(Some(ErrorKind::Other));
     let failing = Failing {
         rt: &rt,

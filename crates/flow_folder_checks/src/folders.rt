@@ -1,4 +1,5 @@
-//! What no clause says: what stands in a real folder after each call.
+//! What no clause says: what stands in a real folder after each call. Which names are those of files, and that others
+//! stay, is in cases/folders.txt.
 
 use crate::calls::{Call, Thawed};
 use flow_disk::{Disk, DiskError, Faults, SealedFile};
@@ -8,85 +9,29 @@ use std::fs;
 use std::os::unix::fs::{MetadataExt, symlink};
 use std::test::Fail;
 
-/// Makes calls on a folder, each of which gives what it says.
-fn give(rt: &HostRuntime, folder: &str, calls: &[Call<'_>]) -> Result<(), Fail> {
-    let mut disk = Thawed {
-        disk: FolderDisk::new(rt, folder)?,
-    };
-    disk.give(rt.alloc(), calls)
+/// The disk over a folder.
+type Folder<'a> = Thawed<FolderDisk<'a, HostRuntime>>;
+
+/// Opens a folder. It promises nothing, so that what is built of it is proved without all that a disk promises.
+fn opened<'a>(rt: &'a HostRuntime, folder: &'a str) -> Result<Folder<'a>, FolderError> {
+    let disk = FolderDisk::new(rt, folder)?;
+    Ok(Thawed { disk })
 }
 
-/// Writes a file of these octets and freezes it.
-fn freeze<'a>(
-    rt: &'a HostRuntime,
-    folder: &'a str,
-    octets: &[u8],
-) -> Result<<FolderDisk<'a, HostRuntime> as Disk>::Sealed, Fail> {
-    let mut disk = Thawed {
-        disk: FolderDisk::new(rt, folder)?,
-    };
-    disk.give(rt.alloc(), &[Call::Write(3, 0, octets)])?;
-    disk.freeze(3)
+/// Makes calls on a folder, each of which gives what it says.
+fn give(rt: &HostRuntime, folder: &str, calls: &[Call<'_>]) -> Result<(), Fail> {
+    opened(rt, folder)?.give(rt.alloc(), calls)
 }
 
 /// An empty folder of this name, where the test runs.
 pub(crate) fn fresh(rt: &HostRuntime, folder: &str) -> Result<(), Fail> {
     let _ = fs::remove_dir_all(rt, folder);
-    fs::create_dir(rt, folder)?;
-    Ok(())
+    Ok(fs::create_dir(rt, folder)?)
 }
 
-/// So many octets of a frozen file from a place on, where its value says that it has them.
-fn read<S: SealedFile>(
-    alloc: Global,
-    sealed: &S,
-    at: u64,
-    count: usize,
-) -> Result<Vec<u8>, DiskError> {
-    let length = sealed.length();
-    if length < at || length - at < count as u64 {
-        return Err(DiskError::OutOfMemory);
-    }
-    sealed.read(alloc, &mut Faults::new(), at, count)
-}
-
-#[test]
-fn names_are_exact(rt: HostRuntime) -> Result<(), Fail> {
-    fresh(&rt, "folder_exact")?;
-    for name in [
-        "0.ipfix",
-        "1.slot",
-        "2.slot",
-        "3.ipfix",
-        "10.ipfix",
-        "18446744073709551615.ipfix",
-        ".ipfix",
-        ".slot",
-        "0.slot",
-        "3.slot",
-        "1.ipfix",
-        "2.ipfix",
-        "03.ipfix",
-        "00.ipfix",
-        "01.slot",
-        "+3.ipfix",
-        "-3.ipfix",
-        " 3.ipfix",
-        "3 .ipfix",
-        "3.ipfix.ipfix",
-        "3.ipfix~",
-        "3.IPFIX",
-        "3a.ipfix",
-        "18446744073709551616.ipfix",
-        "99999999999999999999999999.ipfix",
-    ] {
-        let path = format!(in rt.alloc(); "folder_exact/{name}")?;
-        fs::write(&rt, path.as_str(), b"".as_slice())?;
-    }
-    let files = [0, 1, 2, 3, 10, 18446744073709551615];
-    give(&rt, "folder_exact", &[Call::Files(&files)])?;
-    fs::remove_dir_all(&rt, "folder_exact")?;
-    Ok(())
+/// Whether nothing is in a folder.
+fn is_empty(rt: &HostRuntime, folder: &str) -> Result<bool, Fail> {
+    Ok(fs::read_dir(rt, folder)?.next().is_none())
 }
 
 const NAMES: [Call<'static>; 6] = [
@@ -115,39 +60,6 @@ fn files_have_their_names(rt: HostRuntime) -> Result<(), Fail> {
     Ok(())
 }
 
-const OTHERS: [Call<'static>; 6] = [
-    Call::Write(3, 0, b"a"),
-    Call::Sync(3),
-    Call::Files(&[3]),
-    Call::Remove(3),
-    Call::Remove(1),
-    Call::Files(&[]),
-];
-
-#[test]
-fn other_names_stay(rt: HostRuntime) -> Result<(), Fail> {
-    fresh(&rt, "folder_others")?;
-    let others = [
-        "folder_others/1.ipfix",
-        "folder_others/03.ipfix",
-        "folder_others/3.slot",
-        "folder_others/notes",
-    ];
-    for name in others {
-        fs::write(&rt, name, b"kept".as_slice())?;
-    }
-    give(&rt, "folder_others", &OTHERS)?;
-    for name in others {
-        assert_eq!(rt;
-            fs::read(&rt, name)?.as_slice(),
-            b"kept".as_slice(),
-            "{name}"
-        );
-    }
-    fs::remove_dir_all(&rt, "folder_others")?;
-    Ok(())
-}
-
 const OCTETS: [Call<'static>; 9] = [
     Call::Write(3, 0, b"abcdef"),
     Call::Write(3, 2, b"XY"),
@@ -160,18 +72,7 @@ const OCTETS: [Call<'static>; 9] = [
     Call::Length(3, 4),
 ];
 
-#[test]
-fn octets_are_written_and_read(rt: HostRuntime) -> Result<(), Fail> {
-    fresh(&rt, "folder_octets")?;
-    give(&rt, "folder_octets", &OCTETS)?;
-    let octets = fs::read(&rt, "folder_octets/3.ipfix")?;
-    assert_eq!(rt; octets.as_slice(), b"abXZ".as_slice());
-    give(&rt, "folder_octets", &[Call::Remove(3), Call::Length(3, 0)])?;
-    assert!(rt; !fs::exists(&rt, "folder_octets/3.ipfix")?);
-    fs::remove_dir_all(&rt, "folder_octets")?;
-    Ok(())
-}
-
+/// Calls on files that aren't there.
 const ABSENT: [Call<'static>; 7] = [
     Call::Length(3, 0),
     Call::Sync(3),
@@ -183,26 +84,39 @@ const ABSENT: [Call<'static>; 7] = [
 ];
 
 #[test]
-fn absent_files_are_empty(rt: HostRuntime) -> Result<(), Fail> {
-    fresh(&rt, "folder_absent")?;
-    give(&rt, "folder_absent", &ABSENT)?;
-    assert!(rt; fs::read_dir(&rt, "folder_absent")?.next().is_none());
-    fs::remove_dir_all(&rt, "folder_absent")?;
+fn octets_are_written_and_read(rt: HostRuntime) -> Result<(), Fail> {
+    fresh(&rt, "folder_octets")?;
+    give(&rt, "folder_octets", &ABSENT)?;
+    assert!(rt; is_empty(&rt, "folder_octets")?);
+    give(&rt, "folder_octets", &OCTETS)?;
+    let octets = fs::read(&rt, "folder_octets/3.ipfix")?;
+    assert_eq!(rt; octets.as_slice(), b"abXZ".as_slice());
+    give(&rt, "folder_octets", &[Call::Remove(3), Call::Length(3, 0)])?;
+    assert!(rt; is_empty(&rt, "folder_octets")?);
+    fs::remove_dir_all(&rt, "folder_octets")?;
     Ok(())
+}
+
+/// Writes a file of these octets and freezes it.
+fn freeze<'a>(
+    rt: &'a HostRuntime,
+    folder: &'a str,
+    octets: &[u8],
+) -> Result<<FolderDisk<'a, HostRuntime> as Disk>::Sealed, Fail> {
+    let mut disk = opened(rt, folder)?;
+    disk.give(rt.alloc(), &[Call::Write(3, 0, octets)])?;
+    disk.freeze(3)
 }
 
 /// Whether the folder of the next test is in use.
 fn is_in_use(rt: &HostRuntime) -> bool {
-    matches!(
-        FolderDisk::new(rt, "folder_locked"),
-        Err(FolderError::InUse)
-    )
+    matches!(opened(rt, "folder_locked"), Err(FolderError::InUse))
 }
 
 #[test]
 fn a_folder_is_locked(rt: HostRuntime) -> Result<(), Fail> {
     fresh(&rt, "folder_locked")?;
-    let disk = FolderDisk::new(&rt, "folder_locked")?;
+    let Thawed { disk } = opened(&rt, "folder_locked")?;
     assert!(rt; is_in_use(&rt));
     drop(disk);
     assert!(rt; !is_in_use(&rt));
@@ -214,140 +128,144 @@ fn a_folder_is_locked(rt: HostRuntime) -> Result<(), Fail> {
     Ok(())
 }
 
-#[test]
-fn only_a_folder_is_opened(rt: HostRuntime) -> Result<(), Fail> {
-    fresh(&rt, "folder_only")?;
-    fs::write(&rt, "folder_only/file", b"".as_slice())?;
-    for path in ["folder_only/none", "folder_only/file", "folder_only/file/x"] {
-        let disk = FolderDisk::new(&rt, path);
-        assert!(rt; matches!(disk, Err(FolderError::NotThere)), "{path}");
+/// Writes these octets to file 3, freezes it and removes it: whether it has just them.
+fn retires(rt: &HostRuntime, folder: &str, octets: &[u8]) -> Result<bool, Fail> {
+    let mut disk = opened(rt, folder)?;
+    if !octets.is_empty() {
+        disk.give(rt.alloc(), &[Call::Write(3, 0, octets)])?;
     }
-    fs::remove_dir_all(&rt, "folder_only")?;
-    Ok(())
+    disk.retire(rt.alloc(), 3, octets)
 }
 
 #[test]
-fn frozen_files_are_read(rt: HostRuntime) -> Result<(), Fail> {
+fn frozen_files_are_read_and_removed(rt: HostRuntime) -> Result<(), Fail> {
     fresh(&rt, "folder_frozen")?;
-    let mut disk = FolderDisk::new(&rt, "folder_frozen")?;
-    disk.write_at(3, 0, b"abcdef")?;
-    disk.sync(3)?;
-    let sealed = disk.freeze(3)?;
-    assert_eq!(rt; sealed.file(), 3);
-    assert_eq!(rt; sealed.length(), 6);
-    let mut faults = Faults::new();
-    let got = sealed.read(rt.alloc(), &mut faults, 2, 3)?;
-    assert_eq!(rt; got.as_slice(), b"cde".as_slice());
-    disk.retire(sealed)?;
-    assert!(rt; !fs::exists(&rt, "folder_frozen/3.ipfix")?);
+    for octets in [b"abcdef".as_slice(), b"".as_slice()] {
+        assert!(rt; retires(&rt, "folder_frozen", octets)?);
+        assert!(rt; is_empty(&rt, "folder_frozen")?);
+    }
     fs::remove_dir_all(&rt, "folder_frozen")?;
     Ok(())
 }
 
-#[test]
-fn short_files_are_faults(rt: HostRuntime) -> Result<(), Fail> {
-    fresh(&rt, "folder_short")?;
-    let sealed = freeze(&rt, "folder_short", b"abcdef")?;
-    fs::remove_file(&rt, "folder_short/3.ipfix")?;
-    fs::write(&rt, "folder_short/3.ipfix", b"abc".as_slice())?;
-    assert_eq!(rt; read(rt.alloc(), &sealed, 2, 3), Err(DiskError::Fault));
-    fs::remove_file(&rt, "folder_short/3.ipfix")?;
-    assert_eq!(rt; read(rt.alloc(), &sealed, 0, 1), Err(DiskError::Fault));
-    fs::remove_dir_all(&rt, "folder_short")?;
-    Ok(())
+/// Whether reading so many octets of a frozen file from a place on meets a fault, where its value says it has them.
+fn is_short<S: SealedFile>(
+    alloc: Global,
+    sealed: &S,
+    at: u64,
+    count: usize,
+) -> Result<bool, DiskError> {
+    let length = sealed.length();
+    if length < at || length - at < count as u64 {
+        return Err(DiskError::OutOfMemory);
+    }
+    Ok(sealed.read(alloc, &mut Faults::new(), at, count) == Err(DiskError::Fault))
 }
 
-#[test]
-fn short_files_are_faults_of_the_disk(rt: HostRuntime) -> Result<(), Fail> {
-    fresh(&rt, "folder_shortened")?;
-    let mut disk = FolderDisk::new(&rt, "folder_shortened")?;
+/// Writes six octets to a file, leaves three of them, and reads and cuts it as if they were there: whether both are
+/// faults.
+fn are_short(rt: &HostRuntime) -> Result<bool, Fail> {
+    let Thawed { mut disk } = opened(rt, "folder_changed")?;
     disk.write_at(3, 0, b"abcdef")?;
-    fs::write(&rt, "folder_shortened/3.ipfix", b"abc".as_slice())?;
-    assert_eq!(rt; disk.read(rt.alloc(), 3, 2, 3), Err(DiskError::Fault));
-    assert_eq!(rt; disk.cut(3, 5), Err(DiskError::Fault));
-    fs::remove_dir_all(&rt, "folder_shortened")?;
-    Ok(())
+    fs::write(rt, "folder_changed/3.ipfix", b"abc".as_slice())?;
+    let is_fault = disk.read(rt.alloc(), 3, 2, 3) == Err(DiskError::Fault);
+    Ok(is_fault && disk.cut(3, 5) == Err(DiskError::Fault))
 }
 
-#[test]
-fn longer_files_are_not_frozen(rt: HostRuntime) -> Result<(), Fail> {
-    fresh(&rt, "folder_changed")?;
-    let mut disk = FolderDisk::new(&rt, "folder_changed")?;
+/// Settles six octets of a file, adds one beside the disk, and freezes it: whether that is a fault.
+fn is_longer(rt: &HostRuntime) -> Result<bool, Fail> {
+    let Thawed { mut disk } = opened(rt, "folder_changed")?;
     disk.write_at(3, 0, b"abcdef")?;
     disk.sync(3)?;
-    fs::write(&rt, "folder_changed/3.ipfix", b"abcdefg".as_slice())?;
-    assert!(rt; matches!(disk.freeze(3), Err(DiskError::Fault)));
+    fs::write(rt, "folder_changed/3.ipfix", b"abcdefg".as_slice())?;
+    Ok(matches!(disk.freeze(3), Err(DiskError::Fault)))
+}
+
+#[test]
+fn files_that_others_changed_are_faults(rt: HostRuntime) -> Result<(), Fail> {
+    fresh(&rt, "folder_changed")?;
+    assert!(rt; are_short(&rt)?);
+    assert!(rt; is_longer(&rt)?);
+    let sealed = freeze(&rt, "folder_changed", b"abcdef")?;
+    fs::remove_file(&rt, "folder_changed/3.ipfix")?;
+    fs::write(&rt, "folder_changed/3.ipfix", b"abc".as_slice())?;
+    assert!(rt; is_short(rt.alloc(), &sealed, 2, 3)?);
+    fs::remove_file(&rt, "folder_changed/3.ipfix")?;
+    assert!(rt; is_short(rt.alloc(), &sealed, 0, 1)?);
     fs::remove_dir_all(&rt, "folder_changed")?;
     Ok(())
 }
 
-#[test]
-fn absent_files_are_frozen(rt: HostRuntime) -> Result<(), Fail> {
-    fresh(&rt, "folder_nothing")?;
-    let mut disk = FolderDisk::new(&rt, "folder_nothing")?;
-    disk.sync(3)?;
-    let sealed = disk.freeze(3)?;
-    assert_eq!(rt; sealed.length(), 0);
-    disk.retire(sealed)?;
-    assert!(rt; fs::read_dir(&rt, "folder_nothing")?.next().is_none());
-    fs::remove_dir_all(&rt, "folder_nothing")?;
-    Ok(())
+/// Calls on a name that a link has.
+const LINKED: [Call<'static>; 3] = [
+    Call::Write(3, 0, b"lost"),
+    Call::Length(3, 0),
+    Call::Sync(3),
+];
+
+/// Makes a link under the name of file 3 beside a disk, and looks for faults.
+fn linked_files(rt: &HostRuntime) -> Result<(), Fail> {
+    let mut disk = opened(rt, "folder_links")?;
+    symlink(rt, "target", "folder_links/3.ipfix")?;
+    disk.refuse(rt.alloc(), &LINKED)
+}
+
+/// The number of a file in whose place something else is.
+fn not_a_file(rt: &HostRuntime) -> Option<u64> {
+    match opened(rt, "folder_links") {
+        Err(FolderError::NotAFile(file)) => Some(file),
+        _ => None,
+    }
 }
 
 #[test]
 fn only_files_are_files(rt: HostRuntime) -> Result<(), Fail> {
     fresh(&rt, "folder_links")?;
     fs::write(&rt, "folder_links/target", b"kept".as_slice())?;
-    let mut disk = FolderDisk::new(&rt, "folder_links")?;
-    symlink(&rt, "target", "folder_links/3.ipfix")?;
-    assert_eq!(rt; disk.write_at(3, 0, b"lost"), Err(DiskError::Fault));
-    assert_eq!(rt; disk.length(3), Err(DiskError::Fault));
-    assert_eq!(rt; disk.sync(3), Err(DiskError::Fault));
-    drop(disk);
-    let linked = FolderDisk::new(&rt, "folder_links");
-    assert!(rt; matches!(linked, Err(FolderError::NotAFile(3))));
+    linked_files(&rt)?;
+    assert_eq!(rt; not_a_file(&rt), Some(3));
     fs::remove_file(&rt, "folder_links/3.ipfix")?;
     fs::create_dir(&rt, "folder_links/1.slot")?;
-    let taken = FolderDisk::new(&rt, "folder_links");
-    assert!(rt; matches!(taken, Err(FolderError::NotAFile(1))));
-    assert_eq!(rt;
-        fs::read(&rt, "folder_links/target")?.as_slice(),
-        b"kept".as_slice()
-    );
+    assert_eq!(rt; not_a_file(&rt), Some(1));
+    let target = fs::read(&rt, "folder_links/target")?;
+    assert_eq!(rt; target.as_slice(), b"kept".as_slice());
     fs::remove_dir_all(&rt, "folder_links")?;
     Ok(())
+}
+
+/// Renames a folder under a disk, puts another in its place, and goes on: whether what is written there is read, and
+/// nothing of it is in the other folder.
+fn is_renamed(rt: &HostRuntime) -> Result<bool, Fail> {
+    let mut disk = opened(rt, "folder_before")?;
+    fs::rename(rt, "folder_before", "folder_after")?;
+    fs::create_dir(rt, "folder_before")?;
+    disk.give(rt.alloc(), &[Call::Write(3, 0, b"abc"), Call::Sync(3)])?;
+    let is_there = fs::exists(rt, "folder_after/3.ipfix")? && is_empty(rt, "folder_before")?;
+    Ok(disk.retire(rt.alloc(), 3, b"abc")? && is_there && is_empty(rt, "folder_after")?)
 }
 
 #[test]
 fn a_folder_may_be_renamed(rt: HostRuntime) -> Result<(), Fail> {
     fresh(&rt, "folder_before")?;
     let _ = fs::remove_dir_all(&rt, "folder_after");
-    let mut disk = FolderDisk::new(&rt, "folder_before")?;
-    fs::rename(&rt, "folder_before", "folder_after")?;
-    fs::create_dir(&rt, "folder_before")?;
-    disk.write_at(3, 0, b"abc")?;
-    disk.sync(3)?;
-    let sealed = disk.freeze(3)?;
-    assert!(rt; fs::read_dir(&rt, "folder_before")?.next().is_none());
-    let got = sealed.read(rt.alloc(), &mut Faults::new(), 0, 3)?;
-    assert_eq!(rt; got.as_slice(), b"abc".as_slice());
-    assert!(rt; fs::exists(&rt, "folder_after/3.ipfix")?);
+    assert!(rt; is_renamed(&rt)?);
     fs::remove_dir_all(&rt, "folder_before")?;
     fs::remove_dir_all(&rt, "folder_after")?;
     Ok(())
 }
 
+/// The rights to file 3 in the folder of the next test: all but those of its group to read it.
+fn mode(rt: &HostRuntime) -> Result<u32, Fail> {
+    Ok(fs::metadata(rt, "folder_modes/3.ipfix")?.mode() & 0o737)
+}
+
 #[test]
 fn files_are_their_owners(rt: HostRuntime) -> Result<(), Fail> {
     fresh(&rt, "folder_modes")?;
-    let mut disk = FolderDisk::new(&rt, "folder_modes")?;
-    disk.write_at(3, 0, b"abc")?;
-    let written = fs::metadata(&rt, "folder_modes/3.ipfix")?.mode();
-    assert_eq!(rt; written & 0o737, 0o600);
-    disk.sync(3)?;
-    let _ = disk.freeze(3)?;
-    let frozen = fs::metadata(&rt, "folder_modes/3.ipfix")?.mode();
-    assert_eq!(rt; frozen & 0o737, 0o400);
+    give(&rt, "folder_modes", &[Call::Write(3, 0, b"abc")])?;
+    assert_eq!(rt; mode(&rt)?, 0o600);
+    let _ = opened(&rt, "folder_modes")?.freeze(3)?;
+    assert_eq!(rt; mode(&rt)?, 0o400);
     fs::remove_dir_all(&rt, "folder_modes")?;
     Ok(())
 }
