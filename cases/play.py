@@ -57,8 +57,8 @@ class Run:
             yield "out, from its start", self.begins.encode(), got.stdout
         wanted = "".join(line + "\n" for line in self.err).encode()
         if self.err == ["*"]:
-            if not re.fullmatch(rb"flowvault: [^\n]+\n", got.stderr):
-                yield "err", b"one line", got.stderr
+            if not re.match(rb"flowvault: [^\n]+\n", got.stderr):
+                yield "err", b"a line of flowvault", got.stderr
         elif got.stderr != wanted:
             yield "err", wanted, got.stderr
         lines = got.stdout.decode(errors="replace").split("\n")
@@ -359,6 +359,14 @@ class Reader:
             raise Bad("the word '%s' isn't known" % word)
 
 
+def done(does, held, given):
+    """The differences of a step: one that can't be done, as on a file that isn't there, is one."""
+    try:
+        return list(does(held, *given))
+    except OSError as error:
+        return [("step", "done", error)]
+
+
 def play(case):
     """Plays a case in a new folder. Answers whether nothing differed."""
     held, good = [], True
@@ -367,7 +375,7 @@ def play(case):
         os.chdir(folder)
         try:
             for place, does, given in case.steps:
-                for what, wanted, came in does(held, *given):
+                for what, wanted, came in done(does, held, given):
                     good = False
                     print("%s: case %s: %s: wanted %s, came %s" % (place, case.name, what, wanted, came))
         finally:

@@ -28,6 +28,7 @@ use Rattle.flow_report.specs.declared.text_error.TextError.TheVariants as text
 use Rattle.flow_report.specs.Writing.{IsCut}
 use Rattle.flow_commands.specs.Archives.{of_opening, of_query, of_text}
 use Rattle.flow_commands.specs.Asking.{Always, AreLinesOf, flows_lines, totals_lines}
+use Rattle.flow_report.specs.declared.format.Format.{Format}
 use Rattle.flow_report.specs.ArchiveLines.{flows_text, rows_text}
 use Rattle.flow_commands.specs.Plans.{Span}
 use Rattle.flow_commands.specs.Asking.{IsBeforeWriting, IsNotAsked, IsNotFound, IsReadAs, IsUnopened, IsViewRead}
@@ -115,29 +116,30 @@ none_written are output (refusal.Folder why) before = Keeps-refl output
 
 -- a folder that can't be opened
 pub away_kept : {A : Type 0} (r : Result A ArchiveRefusal) (are : List ℕ → Type 0) (output : Option (List ℕ))
-    → are [] → IfErr r (λ e. WritesOrNot are e output output)
-away_kept (Ok a) are output none = tt
-away_kept (Err e) are output none = by e
+    (text : List ℕ) → are text → IfErr r (λ e. WritesOrNot are e output output)
+away_kept (Ok a) are output text is = tt
+away_kept (Err e) are output text is = by e
   where
     by : (e : ArchiveRefusal) → WritesOrNot are e output output
     by (refusal.Opening e) = Keeps-refl output
     by refusal.OutOfMemory = Keeps-refl output
     by (refusal.Query e) = Keeps-refl output
-    by (refusal.Write failed) = ([], none, (0, omega arith, Appends-nil output))
+    by (refusal.Write failed) = (text, is, (0, omega arith, Appends-nil output))
     by (refusal.Archive e) = Keeps-refl output
     by (refusal.Folder why) = Keeps-refl output
 
 -- ---- answers
 
 -- the rows of a snapshot of what was read
-pub rows_read : (reads : ℕ → List ℕ) (sight : Sight) (width : ℕ) (span : Span) (from to : ℕ) (rows : List Row)
+pub rows_read : (format : Format) (reads : ℕ → List ℕ) (sight : Sight) (width : ℕ) (span : Span) (from to : ℕ)
+    (rows : List Row)
     → IsReadAs reads sight width → from ≡ span.from → to ≡ span.to
     → (IsTrue sight.honest → (v : View) → IsViewOf sight.shelf v → rows ≡ totals_in_view from to v)
-    → AreLinesOf (totals_lines span) reads (rows_text width rows)
-rows_read reads sight width span from to rows (v, read, (honest, view, wide)) from_is to_is given =
+    → AreLinesOf (totals_lines format span) reads (rows_text format width rows)
+rows_read format reads sight width span from to rows (v, read, (honest, view, wide)) from_is to_is given =
     let rows_are : rows ≡ totals_in_view span.from span.to v = given honest v view
     ∙ ap₂ (λ (a : ℕ) (b : ℕ). totals_in_view a b v) from_is to_is in
-    (v, read, ap₂ rows_text wide rows_are)
+    (v, read, ap₂ (rows_text format) wide rows_are)
 
 pub rows_refused : (reads : ℕ → List ℕ) (sight : Sight) (width first : ℕ) (e : QueryError)
     → IsReadAs reads sight width
@@ -147,14 +149,15 @@ rows_refused reads sight width first e (v, read, (honest, view, wide)) given =
     sums_told SumsFit reads first v read e (given honest v view)
 
 -- its flows
-pub flows_read : (reads : ℕ → List ℕ) (sight : Sight) (width : ℕ) (span : Span) (from to : ℕ) (flows : List Flow)
+pub flows_read : (format : Format) (reads : ℕ → List ℕ) (sight : Sight) (width : ℕ) (span : Span) (from to : ℕ)
+    (flows : List Flow)
     → IsReadAs reads sight width → from ≡ span.from → to ≡ span.to
     → (IsTrue sight.honest → (v : View) → IsViewOf sight.shelf v → flows ≡ flows_in_view from to v)
-    → AreLinesOf (flows_lines span) reads (flows_text flows)
-flows_read reads sight width span from to flows (v, read, (honest, view, wide)) from_is to_is given =
+    → AreLinesOf (flows_lines format span) reads (flows_text format flows)
+flows_read format reads sight width span from to flows (v, read, (honest, view, wide)) from_is to_is given =
     let flows_are : flows ≡ flows_in_view span.from span.to v = given honest v view
     ∙ ap₂ (λ (a : ℕ) (b : ℕ). flows_in_view a b v) from_is to_is in
-    (v, read, ap flows_text flows_are)
+    (v, read, ap (flows_text format) flows_are)
 
 pub flows_refused : (reads : ℕ → List ℕ) (sight : Sight) (width : ℕ) (e : QueryError)
     → IsReadAs reads sight width

@@ -57,7 +57,7 @@ take_within [] b (suc n) most = absurd (omega (arith, most))
 take_within (x ∷ xs) b (suc n) most = ap (λ (l : List ℕ). x ∷ l) (take_within xs b n (omega (arith, most)))
 
 -- a front of what comes behind what was written
-front_behind : (a b c : Option (List ℕ)) (text more : List ℕ) → Appends a b text → AppendsFront b c more
+pub front_behind : (a b c : Option (List ℕ)) (text more : List ℕ) → Appends a b text → AppendsFront b c more
     → AppendsFront a c (text ++ more)
 front_behind a b c text more written (n, most, front) =
     let long = length-append text more in (
@@ -72,7 +72,7 @@ kept_front (Some xs) None text kept = absurd kept
 kept_front (Some xs) (Some ys) text kept = (0, omega arith, kept ∙ sym (append-nil xs))
 
 -- a front of a text is one of what goes on from it
-front_on : (a b : Option (List ℕ)) (text more : List ℕ) → AppendsFront a b text → AppendsFront a b (text ++ more)
+pub front_on : (a b : Option (List ℕ)) (text more : List ℕ) → AppendsFront a b text → AppendsFront a b (text ++ more)
 front_on a b text more (n, most, front) =
     let long = length-append text more in (
       n,

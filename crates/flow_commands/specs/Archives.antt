@@ -17,13 +17,16 @@ use Rattle.flow_report.specs.declared.text_error.TextError.TheVariants as text
 use Rattle.flow_commands.specs.declared.archive_refusal.ArchiveRefusal.{ArchiveRefusal}
 use Rattle.flow_commands.specs.declared.archive_refusal.ArchiveRefusal.TheVariants.{Folder, Opening, Archive}
 use Rattle.flow_commands.specs.declared.folder_fault.FolderFault.{FolderFault}
-use Rattle.flow_commands.specs.declared.folder_fault.FolderFault.TheVariants.{Away, InUse, NotAFile, NoHandles}
+use Rattle.flow_commands.specs.declared.folder_fault.FolderFault.TheVariants.{NotThere, Refused, InUse, NotAFile}
+use Rattle.flow_commands.specs.declared.folder_fault.FolderFault.TheVariants.{NoHandles}
 use Rattle.flow_commands.specs.declared.archive_refusal.ArchiveRefusal.TheVariants.{Query}
 use Rattle.flow_commands.specs.declared.archive_refusal.ArchiveRefusal.TheVariants.{OutOfMemory, Write}
 
--- Of a folder a second line says that it is in use, which name in it isn't a file's, or what the system lacks.
+-- Of a folder a second line says that it isn't there or in use, which name in it isn't a file's, or what the system lacks.
 abbrev pub fault_printed : FolderFault → List ℕ
-fault_printed Away = codes "30 Fault"
+fault_printed NotThere = codes "30 Fault\nflowvault: there is no such folder"
+fault_printed Refused =
+    codes "30 Fault\nflowvault: the system refused the folder: may this user read, write and enter it?"
 fault_printed InUse = codes "30 Fault\nflowvault: the folder is in use, by a flowvault that still runs"
 fault_printed (NotAFile file) =
     codes "30 Fault\nflowvault: " ++ name_of file
@@ -86,9 +89,9 @@ of_text text.OutOfMemory = OutOfMemory
 of_text (text.Write failed) = Write failed
 
 abbrev pub of_folder : FolderError → ArchiveRefusal
-of_folder folder.NotThere = Folder Away
+of_folder folder.NotThere = Folder NotThere
 of_folder folder.InUse = Folder InUse
 of_folder (folder.NotAFile file) = Folder (NotAFile file)
 of_folder folder.NoHandles = Folder NoHandles
 of_folder folder.OutOfMemory = OutOfMemory
-of_folder (folder.Refused error) = Folder Away
+of_folder (folder.Refused error) = Folder Refused

@@ -18,6 +18,7 @@ use Rattle.flow_commands.specs.declared.archive_refusal.ArchiveRefusal.{ArchiveR
 use Rattle.flow_commands.specs.declared.archive_refusal.ArchiveRefusal.TheVariants.{Folder, Opening, Archive}
 use Rattle.flow_commands.specs.declared.archive_refusal.ArchiveRefusal.TheVariants.{Query}
 use Rattle.flow_commands.specs.declared.archive_refusal.ArchiveRefusal.TheVariants.{OutOfMemory, Write}
+use Rattle.flow_report.specs.declared.format.Format.{Format}
 use Rattle.flow_report.specs.ArchiveLines.{flows_text, rows_text}
 use Rattle.flow_commands.specs.Plans.{Span}
 use Rattle.flow_report.specs.Writing.{AppendsFront}
@@ -25,12 +26,12 @@ use Rattle.flow_report.specs.Writing.{AppendsFront}
 -- ---- by the archive's view
 
 -- the lines of the sums of all flows, of the intervals that start in a span
-abbrev pub totals_lines : Span → View → List ℕ
-totals_lines span v = rows_text v.width (totals_in_view span.from span.to v)
+abbrev pub totals_lines : Format → Span → View → List ℕ
+totals_lines format span v = rows_text format v.width (totals_in_view span.from span.to v)
 
 -- the lines of the flows that are kept and start in a span
-abbrev pub flows_lines : Span → View → List ℕ
-flows_lines span v = flows_text (flows_in_view span.from span.to v)
+abbrev pub flows_lines : Format → Span → View → List ℕ
+flows_lines format span v = flows_text format (flows_in_view span.from span.to v)
 
 -- ---- on an honest disk
 
@@ -100,11 +101,11 @@ Always v = ⊤
 -- ---- on every disk
 
 -- lines of rows, and of flows
-abbrev pub AreRows : List ℕ → Type 0
-AreRows text = (width : ℕ) × (rows : List Row) × (text ≡ rows_text width rows)
+abbrev pub AreRows : Format → List ℕ → Type 0
+AreRows format text = (width : ℕ) × (rows : List Row) × (text ≡ rows_text format width rows)
 
-abbrev pub AreFlows : List ℕ → Type 0
-AreFlows text = (flows : List Flow) × (text ≡ flows_text flows)
+abbrev pub AreFlows : Format → List ℕ → Type 0
+AreFlows format text = (flows : List Flow) × (text ≡ flows_text format flows)
 
 -- such lines were written
 abbrev pub Writes : (List ℕ → Type 0) → Option (List ℕ) → Option (List ℕ) → Type 0

@@ -115,9 +115,8 @@ impl From<FolderError> for ArchiveRefusal {
 
     fn from(error: FolderError) -> ArchiveRefusal {
         match error {
-            FolderError::NotThere | FolderError::Refused(_) => {
-                ArchiveRefusal::Folder(FolderFault::Away)
-            }
+            FolderError::NotThere => ArchiveRefusal::Folder(FolderFault::NotThere),
+            FolderError::Refused(_) => ArchiveRefusal::Folder(FolderFault::Refused),
             FolderError::InUse => ArchiveRefusal::Folder(FolderFault::InUse),
             FolderError::NotAFile(file) => ArchiveRefusal::Folder(FolderFault::NotAFile(file)),
             FolderError::NoHandles => ArchiveRefusal::Folder(FolderFault::NoHandles),

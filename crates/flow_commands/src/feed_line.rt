@@ -120,7 +120,7 @@ fn push_line(text: &mut Vec<u8>, number: u64, fed: Fed) -> Result<(), AllocError
 }
 
 /// The line of the File of this number.
-pub(crate) fn line(alloc: Global, number: u64, fed: Fed) -> Result<Vec<u8>, AllocError>
+pub fn fed_line(alloc: Global, number: u64, fed: Fed) -> Result<Vec<u8>, AllocError>
     ensures { IfOk result (λ text. text.items ≡ fed_line number fed) }
 {
     let mut text = Vec::new(alloc);

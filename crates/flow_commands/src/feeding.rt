@@ -1,6 +1,7 @@
 //! The command `feed`.
 
 ghost use Rattle.std.specs.Prelude.{◌≡◌, ◌≢◌, ◌≤◌, ◌<◌, ◌⊎◌, ℕ, Err, List, Option, Some, None, false, length, IsTrue, IfOk, IfErr};
+ghost use Rattle.std.specs.Prelude.{IfSome};
 ghost use Rattle.std.specs.Io.KnownBytes.{Keeps};
 ghost use Rattle.flow_manifest.specs.Slots.{reads_of};
 ghost use Rattle.flow_recover.specs.Shelved.{shelf_of};
@@ -10,7 +11,8 @@ ghost use Rattle.flow_commands.specs.Feeding.{FeedsLines, KeepsOrFeeds, TellsFed
 ghost use Rattle.flow_commands.specs.Feeding.{feed_ended, IsNotFed};
 
 use crate::archive_refusal::ArchiveRefusal;
-use crate::feed_line::{line, stop_status};
+use crate::feed_line::{fed_line, stop_status};
+use crate::plan::FeedPlan;
 use crate::progress::{Progress, Watched};
 use flow_archive::{Archive, ArchiveError};
 use flow_disk::{Disk, Faults};
@@ -22,12 +24,12 @@ use flow_shared::{Naming, Opened, SharedArchive, start};
 use std::alloc::{AllocGlobal, Global};
 use std::convert::AsStr;
 use std::fs::{File, Files};
-use std::io::{ErrorKind, Write};
+use std::io::{ErrorKind, Read, Write};
 use std::marker::Brand;
 use std::os::unix::fs::FileExt;
 use std::sync::Wait;
-use std::thread;
 use std::thread::Threads;
+use std::{io, thread};
 
 /// The status where each File was taken in whole.
 const DONE: u8 = 0;
@@ -35,14 +37,45 @@ const DONE: u8 = 0;
 /// The most Files that are fed at once.
 const MOST_FILES: usize = 8;
 
+/// The path that standard input has among those of Files.
+const STANDARD_INPUT: &str = "-";
+
 /// A File of which nothing was taken in.
 const UNFED: Fed = Fed {
     messages: 0,
     stop: None,
 };
 
-/// Takes the File at a path into an archive that threads share, shows its progress, and rings the bell for each `span`
-/// octets that are read.
+/// Takes the File that `input` reads into an archive that threads share, after its first `passed` messages, shows its
+/// progress, and rings the bell for each `span` octets that are read.
+pub fn feed_stream<H: AllocGlobal + Wait, D: Disk, J: Naming, R: Read, P: Write + Drop>(
+    rt: &H,
+    shared: &SharedArchive<D, J, H>,
+    bell: &Bell,
+    span: u32,
+    input: &mut R,
+    progress: &Progress<P>,
+    passed: u64,
+) -> Fed {
+    let mut input = Watched::new(rt, input, progress, bell, span);
+    let mut appender = SharedAppender::new(rt, shared);
+    feed(&mut appender, rt.alloc(), &mut input, passed)
+}
+
+/// What comes of a File that can't be opened.
+pub fn unopened(error: &io::Error) -> Fed {
+    let stop = if error.kind() == ErrorKind::OutOfMemory {
+        FeedStop::OutOfMemory
+    } else {
+        FeedStop::Unopened
+    };
+    Fed {
+        messages: 0,
+        stop: Some(stop),
+    }
+}
+
+/// The same of the File at a path.
 fn feed_path<H: Files + AllocGlobal + Clone + Drop + Wait, D: Disk, J: Naming, P: Write + Drop>(
     rt: &H,
     shared: &SharedArchive<D, J, H>,
@@ -50,25 +83,14 @@ fn feed_path<H: Files + AllocGlobal + Clone + Drop + Wait, D: Disk, J: Naming, P
     span: u32,
     path: &str,
     progress: &Progress<P>,
+    passed: u64,
 ) -> Fed {
     match File::open(rt, path) {
         Ok(file) => {
             let mut file = file;
-            let mut input = Watched::new(rt, &mut file, progress, bell, span);
-            let mut appender = SharedAppender::new(rt, shared);
-            feed(&mut appender, rt.alloc(), &mut input)
+            feed_stream(rt, shared, bell, span, &mut file, progress, passed)
         }
-        Err(error) => {
-            let stop = if error.kind() == ErrorKind::OutOfMemory {
-                FeedStop::OutOfMemory
-            } else {
-                FeedStop::Unopened
-            };
-            Fed {
-                messages: 0,
-                stop: Some(stop),
-            }
-        }
+        Err(error) => unopened(&error),
     }
 }
 
@@ -78,13 +100,12 @@ fn roll_files<D: Disk, J: Naming, H: Wait>(
     alloc: Global,
     shared: &SharedArchive<D, J, H>,
     bell: &Bell,
-    keep: u32,
 ) -> Option<ArchiveError> {
-    roll_beside(shared, rt, alloc, bell, keep, &mut Faults::new()).err()
+    roll_beside(shared, rt, alloc, bell, &mut Faults::new()).err()
 }
 
-/// Takes the Files at these paths into an archive that threads share, each by a thread of its own where one can be made,
-/// and puts what came of each in its place.
+/// Takes the Files at these paths but standard input into an archive that threads share, each by a thread of its own
+/// where one can be made, and puts what came of each in its place.
 fn feed_each<
     H: Files + AllocGlobal + Clone + Drop + Threads + Wait + Send + Sync,
     D: Disk + Send,
@@ -98,6 +119,7 @@ fn feed_each<
     span: u32,
     paths: &[S],
     progress: &Progress<P>,
+    passed: u64,
     feds: Vec<Fed>,
 ) -> Vec<Fed>
 where
@@ -110,8 +132,67 @@ where
     let mut feds = feds;
     let one = |i: usize, fed: &mut Fed|
         requires { i < length paths.now }
-    { *fed = feed_path(rt, shared, bell, span, paths[i].as_str(), progress) };
+    {
+        if paths[i].as_str() != STANDARD_INPUT {
+            *fed = feed_path(rt, shared, bell, span, paths[i].as_str(), progress, passed);
+        }
+    };
     thread::for_each_mut(rt, feds.as_mut_slice(), MOST_FILES, &one);
+    feds
+}
+
+/// The first of these paths that is standard input.
+fn place_of_input<S: AsStr>(paths: &[S]) -> Option<usize>
+    ensures { IfSome result (λ i. i < length paths.now) }
+{
+    for (i, path) in paths.iter().enumerate() {
+        if path.as_str() == STANDARD_INPUT {
+            return Some(i);
+        }
+    }
+    None
+}
+
+/// Takes the Files at these paths into an archive that threads share; standard input, where it is among them, by this
+/// thread, and where it is again, that has ended.
+fn feed_all<
+    H: Files + AllocGlobal + Clone + Drop + Threads + Wait + Send + Sync,
+    D: Disk + Send,
+    J: Naming + Send + Sync,
+    S: AsStr + Sync,
+    R: Read,
+    P: Write + Drop + Send,
+>(
+    rt: &H,
+    shared: &SharedArchive<D, J, H>,
+    bell: &Bell,
+    span: u32,
+    paths: &[S],
+    input: Option<&mut R>,
+    progress: &Progress<P>,
+    passed: u64,
+    feds: Vec<Fed>,
+) -> Vec<Fed>
+where
+    H::File: Send + Sync,
+    H::Dir: Send + Sync,
+    D::Sealed: Send + Sync,
+    requires { length feds.items ≡ length paths.now }
+    ensures { length result.items ≡ length paths.now }
+{
+    let (Some(place), Some(input)) = (place_of_input(paths), input) else {
+        return feed_each(rt, shared, bell, span, paths, progress, passed, feds);
+    };
+    let (feds, own) = thread::join(
+        rt,
+        move || -> Vec<Fed>
+            requires { length feds.items ≡ length paths.now }
+            ensures { length result.items ≡ length paths.entry.now }
+        { feed_each(rt, shared, bell, span, paths, progress, passed, feds) },
+        move || feed_stream(rt, shared, bell, span, input, progress, passed),
+    );
+    let mut feds = feds;
+    feds[place] = own;
     feds
 }
 
@@ -122,13 +203,15 @@ fn feed_beside<
     D: Disk + Send,
     J: Naming + Send + Sync,
     S: AsStr + Sync,
+    R: Read,
     P: Write + Drop + Send,
 >(
     rt: &H,
     shared: &SharedArchive<D, J, H>,
     span: u32,
-    keep: u32,
+    plan: FeedPlan,
     paths: &[S],
+    input: Option<&mut R>,
     progress: &Progress<P>,
     feds: Vec<Fed>,
 ) -> (Vec<Fed>, Option<ArchiveError>)
@@ -139,7 +222,7 @@ where
     requires { length feds.items ≡ length paths.now }
     ensures { length result.0.items ≡ length paths.now }
 {
-    let bell = Bell::new();
+    let bell = Bell::new(plan.keep);
     let rung = &bell;
     let alloc = rt.alloc();
     thread::scope(
@@ -149,8 +232,18 @@ where
             requires { length feds.items ≡ length paths.now }
             ensures { length result.0.items ≡ length paths.entry.now }
         {
-            let roller = scope.spawn(move || roll_files(rt, alloc, shared, rung, keep));
-            let feds = feed_each(rt, shared, rung, span, paths, progress, feds);
+            let roller = scope.spawn(move || roll_files(rt, alloc, shared, rung));
+            let feds = feed_all(
+                rt,
+                shared,
+                rung,
+                span,
+                paths,
+                input,
+                progress,
+                plan.passed,
+                feds,
+            );
             rung.end(rt);
             match roller {
                 Ok(roller) => (feds, roller.join(rt)),
@@ -192,7 +285,7 @@ fn tell_file<W: Write>(
 ) -> Result<(), ArchiveRefusal>
     ensures { TellsFile number fed (W.contents output.old) (W.contents output.new) result }
 {
-    let text = line(alloc, number, fed)?;
+    let text = fed_line(alloc, number, fed)?;
     write_patiently(output, text.as_slice(), patience)?;
     Ok(())
 }
@@ -211,7 +304,7 @@ fn ended(first: Option<FeedStop>, refused: Option<ArchiveError>) -> Result<u8, A
 }
 
 /// Takes the Files at these paths into an archive, each by a thread of its own where one can be made, while another one
-/// rolls all sealed segments but the newest `keep`; then writes a line for each: `fed N MESSAGES`, or `stopped N MESSAGES
+/// rolls all sealed segments but the newest that are kept; then writes a line for each: `fed N MESSAGES`, or `stopped N MESSAGES
 /// NUMBER NAME` where message MESSAGES + 1 isn't taken. N counts from 1. It answers the status of the first File that
 /// stopped, 0 where none did.
 ///
@@ -222,15 +315,17 @@ fn feed_files<
     D: Disk + Send,
     J: Naming + Send + Sync,
     S: AsStr + Sync,
+    R: Read,
     W: Write,
     P: Write + Drop + Send,
 >(
     rt: &H,
     archive: Archive<D>,
     opened: Opened,
-    keep: u32,
+    plan: FeedPlan,
     paths: &[S],
     feds: Vec<Fed>,
+    input: Option<&mut R>,
     output: &mut W,
     progress: &Progress<P>,
 ) -> Result<u8, ArchiveRefusal>
@@ -252,7 +347,7 @@ where
         return Err(ArchiveRefusal::OutOfMemory);
     };
     drop(places);
-    let (feds, refused) = feed_beside(rt, &shared, span, keep, paths, progress, feds);
+    let (feds, refused) = feed_beside(rt, &shared, span, plan, paths, input, progress, feds);
     let _archive = shared.end(rt);
     progress.clear(rt);
     tell_files(alloc, feds.as_slice(), refused, output)
@@ -263,13 +358,15 @@ fn feed_on<
     H: Files + AllocGlobal + Clone + Drop + Threads + Wait + Send + Sync,
     D: Disk + Send,
     S: AsStr + Sync,
+    R: Read,
     W: Write,
     P: Write + Drop + Send,
 >(
     rt: &H,
     disk: D,
-    keep: u32,
+    plan: FeedPlan,
     paths: &[S],
+    input: Option<&mut R>,
     output: &mut W,
     progress: &Progress<P>,
 ) -> Result<u8, ArchiveRefusal>
@@ -289,13 +386,14 @@ where
     match Archive::open(rt.alloc(), disk) {
         Ok(archive) => {
             let feds = Vec::from_elem(rt.alloc(), UNFED, paths.len())?;
-            feed_files::<H, D, Brand, S, W, P>(
+            feed_files::<H, D, Brand, S, R, W, P>(
                 rt,
                 archive,
                 Opened::new(),
-                keep,
+                plan,
                 paths,
                 feds,
+                input,
                 output,
                 progress,
             )
@@ -304,19 +402,21 @@ where
     }
 }
 
-/// Takes Files into the archive of a folder, at most 8, side by side, and writes a line for each. The archive is opened
-/// before a File is read. The newest `keep` sealed segments are left as they are; older ones are rolled meanwhile. It
-/// answers the exit status: that of the first File that stopped.
+/// Takes Files into the archive of a folder, at most 8, side by side, and writes a line for each. The path `-` is standard
+/// input's, where `input` is given. The archive is opened before a File is read. As many of the newest sealed
+/// segments are kept as the plan says; older ones are rolled meanwhile. It answers the exit status: that of the first File that stopped.
 pub fn feed_in<
     H: Files + AllocGlobal + Clone + Drop + Threads + Wait + Send + Sync,
     S: AsStr + Sync,
+    R: Read,
     W: Write,
     P: Write + Drop + Send,
 >(
     rt: &H,
     folder: &str,
-    keep: u32,
+    plan: FeedPlan,
     paths: &[S],
+    input: Option<&mut R>,
     output: &mut W,
     progress: &Progress<P>,
 ) -> Result<u8, ArchiveRefusal>
@@ -331,5 +431,5 @@ where
     ensures other { IfOk result (λ status. status ≢ 2) }
 {
     let disk = FolderDisk::new(rt, folder)?;
-    feed_on(rt, disk, keep, paths, output, progress)
+    feed_on(rt, disk, plan, paths, input, output, progress)
 }

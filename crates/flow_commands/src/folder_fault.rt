@@ -22,11 +22,13 @@ impl fmt::Display for FileName {
     }
 }
 
-/// Why a folder can't be opened, printed as 30 Fault; a second line says what the system itself doesn't.
+/// Why a folder can't be opened, printed as 30 Fault, and a second line.
 #[derive(Debug, Drop)]
 pub enum FolderFault {
-    /// It isn't there, or the system refused it.
-    Away,
+    /// There is no folder at this path.
+    NotThere,
+    /// The system refused it.
+    Refused,
     /// It is in use.
     InUse,
     /// The name of this file is that of something else.
@@ -40,7 +42,11 @@ impl fmt::Display for FolderFault {
 
     fn fmt<W: fmt::Write>(&self, f: &mut fmt::Formatter<W>) -> fmt::Result {
         match self {
-            FolderFault::Away => write!(f, "30 Fault"),
+            FolderFault::NotThere => write!(f, "30 Fault\nflowvault: there is no such folder"),
+            FolderFault::Refused => write!(
+                f,
+                "30 Fault\nflowvault: the system refused the folder: may this user read, write and enter it?"
+            ),
             FolderFault::InUse => write!(
                 f,
                 "30 Fault\nflowvault: the folder is in use, by a flowvault that still runs"

@@ -9,6 +9,7 @@ ghost use Rattle.flow_commands.specs.declared.archive_refusal.ArchiveRefusal.The
 ghost use Rattle.flow_commands.specs.Asking.{Always, AreFlows, AreLinesOf, IsBeforeWriting, IsNotFound, TellsLines};
 ghost use Rattle.flow_commands.specs.Asking.{TellsNoLines};
 ghost use Rattle.flow_commands.specs.Asking.{Writes, WritesOrNot, flows_lines};
+ghost use Rattle.flow_report.specs.declared.format.Format.{Format};
 ghost use Rattle.flow_report.specs.ArchiveLines.{flows_text};
 
 use crate::archive_refusal::ArchiveRefusal;
@@ -19,7 +20,7 @@ use flow_disk::{Disk, Faults};
 use flow_folder::{FolderDisk, Lockable};
 use flow_measure::Flow;
 use flow_recover::RecoverError;
-use flow_report::write_flows;
+use flow_report::{Format, write_flows};
 use flow_snapshot::QueryError;
 use std::alloc::{AllocGlobal, Global};
 use std::fs::Files;
@@ -35,7 +36,8 @@ fn find_flows<D: Disk>(
 ) -> Result<Vec<Flow>, ArchiveRefusal>
     ensures disk { archive.new.disk ≡ archive.old.disk }
     ensures lines { IsTrue (D.honest archive.old.disk) → (reads : ℕ → List ℕ) → StandsFor reads archive.old.state
-        → IfOk result (λ found. AreLinesOf (flows_lines span.now) reads (flows_text found.items)) }
+        → IfOk result (λ found. (format : Format) → AreLinesOf (flows_lines format span.now) reads
+        (flows_text format found.items)) }
     ensures refused { IsTrue (D.honest archive.old.disk) → (reads : ℕ → List ℕ) → StandsFor reads archive.old.state
         → IfErr result (IsNotFound Always reads) }
     ensures unwritten { IfErr result (λ e. IsBeforeWriting e) }
@@ -52,22 +54,24 @@ fn list<D: Disk, W: Write>(
     alloc: Global,
     archive: &mut Archive<D>,
     span: &StartSpan,
+    format: Format,
     output: &mut W,
     faults: &mut Faults<D::Sealed>,
 ) -> Result<(), ArchiveRefusal>
     ensures disk { archive.new.disk ≡ archive.old.disk }
     ensures told { IsTrue (D.honest archive.old.disk) → (reads : ℕ → List ℕ) → StandsFor reads archive.old.state
-        → OnOk result (TellsLines (flows_lines span.now) reads (W.contents output.old) (W.contents output.new)) }
-    ensures refused { IsTrue (D.honest archive.old.disk) → (reads : ℕ → List ℕ) → StandsFor reads archive.old.state
-        → IfErr result (TellsNoLines (flows_lines span.now) Always reads (W.contents output.old)
+        → OnOk result (TellsLines (flows_lines format span.now) reads (W.contents output.old)
         (W.contents output.new)) }
-    ensures written { OnOk result (Writes AreFlows (W.contents output.old) (W.contents output.new)) }
-    ensures kept { IfErr result (λ e. WritesOrNot AreFlows e (W.contents output.old) (W.contents output.new)) }
+    ensures refused { IsTrue (D.honest archive.old.disk) → (reads : ℕ → List ℕ) → StandsFor reads archive.old.state
+        → IfErr result (TellsNoLines (flows_lines format span.now) Always reads (W.contents output.old)
+        (W.contents output.new)) }
+    ensures written { OnOk result (Writes (AreFlows format) (W.contents output.old) (W.contents output.new)) }
+    ensures kept { IfErr result (λ e. WritesOrNot (AreFlows format) e (W.contents output.old) (W.contents output.new)) }
     ensures opened { IfErr result (λ e. e ≢ refusal.Opening RecoverError.Fault) }
     ensures cause { HasCause (refusal.Query QueryError.Fault) faults.old faults.new result }
 {
     let found = find_flows(alloc, archive, span, faults)?;
-    write_flows(alloc, found.as_slice(), output)?;
+    write_flows(alloc, found.as_slice(), format, output)?;
     Ok(())
 }
 
@@ -78,18 +82,21 @@ pub fn flows<D: Disk, W: Write>(
     alloc: Global,
     disk: D,
     span: &StartSpan,
+    format: Format,
     output: &mut W,
     faults: &mut Faults<D::Sealed>,
 ) -> Result<Archive<D>, Refused<D, ArchiveRefusal>>
     requires { (n : ℕ) → (D.marks disk n).frozen ≡ false }
     // On an honest disk the lines are those of the one view of what was read, and no damage is reported once it is open.
     ensures told { IsTrue (D.honest disk) → OnOk result
-        (TellsLines (flows_lines span.now) (reads_of (D.held disk)) (W.contents output.old) (W.contents output.new)) }
-    ensures refused { IsTrue (D.honest disk) → IfErr result (λ r. TellsNoLines (flows_lines span.now) Always
+        (TellsLines (flows_lines format span.now) (reads_of (D.held disk)) (W.contents output.old)
+        (W.contents output.new)) }
+    ensures refused { IsTrue (D.honest disk) → IfErr result (λ r. TellsNoLines (flows_lines format span.now) Always
         (reads_of (D.held disk)) (W.contents output.old) (W.contents output.new) r.error) }
     // And whatever the disk:
-    ensures written { OnOk result (Writes AreFlows (W.contents output.old) (W.contents output.new)) }
-    ensures kept { IfErr result (λ r. WritesOrNot AreFlows r.error (W.contents output.old) (W.contents output.new)) }
+    ensures written { OnOk result (Writes (AreFlows format) (W.contents output.old) (W.contents output.new)) }
+    ensures kept { IfErr result
+        (λ r. WritesOrNot (AreFlows format) r.error (W.contents output.old) (W.contents output.new)) }
     // It is a fault of opening exactly where a call of the disk failed, and one of asking exactly where a read failed.
     ensures opening { HasCause (refusal.Opening RecoverError.Fault) (D.faults disk) (D.faults (disk_of result))
         (answer_of result) }
@@ -98,7 +105,7 @@ pub fn flows<D: Disk, W: Write>(
     match Archive::open(alloc, disk) {
         Ok(archive) => {
             let mut archive = archive;
-            match list(alloc, &mut archive, span, output, faults) {
+            match list(alloc, &mut archive, span, format, output, faults) {
                 Ok(()) => Ok(archive),
                 Err(error) => Err(Refused {
                     disk: archive.into_disk(),
@@ -118,15 +125,16 @@ pub fn flows_in<H: Files + AllocGlobal + Clone + Drop, W: Write>(
     rt: &H,
     folder: &str,
     span: &StartSpan,
+    format: Format,
     output: &mut W,
 ) -> Result<(), ArchiveRefusal>
 where
     H::File: FileExt + Lockable,
-    ensures written { OnOk result (Writes AreFlows (W.contents output.old) (W.contents output.new)) }
-    ensures kept { IfErr result (λ e. WritesOrNot AreFlows e (W.contents output.old) (W.contents output.new)) }
+    ensures written { OnOk result (Writes (AreFlows format) (W.contents output.old) (W.contents output.new)) }
+    ensures kept { IfErr result (λ e. WritesOrNot (AreFlows format) e (W.contents output.old) (W.contents output.new)) }
 {
     let disk = FolderDisk::new(rt, folder)?;
-    match flows(rt.alloc(), disk, span, output, &mut Faults::new()) {
+    match flows(rt.alloc(), disk, span, format, output, &mut Faults::new()) {
         Ok(_) => Ok(()),
         Err(refused) => Err(refused.error),
     }

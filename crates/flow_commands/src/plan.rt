@@ -106,6 +106,15 @@ impl StartSpan {
     }
 }
 
+/// How Files are fed.
+#[derive(Clone, Copy, Debug)]
+pub struct FeedPlan {
+    /// How many of the newest sealed segments are left as they are.
+    pub keep: u32,
+    /// How many of the first messages of each File are only read.
+    pub passed: u64,
+}
+
 /// How many workers scan an archive, from 1 to 64.
 #[derive(Drop)]
 pub struct Workers {

@@ -15,6 +15,7 @@ ghost use Rattle.flow_commands.specs.declared.archive_refusal.ArchiveRefusal.The
 ghost use Rattle.flow_commands.specs.Asking.{AreLinesOf, AreRows, IsBeforeWriting, IsNotFound, TellsLines};
 ghost use Rattle.flow_commands.specs.Asking.{TellsNoLines};
 ghost use Rattle.flow_commands.specs.Asking.{Writes, WritesOrNot, totals_lines};
+ghost use Rattle.flow_report.specs.declared.format.Format.{Format};
 ghost use Rattle.flow_report.specs.ArchiveLines.{rows_text};
 
 use crate::archive_refusal::ArchiveRefusal;
@@ -25,7 +26,7 @@ use flow_disk::{Disk, Faults, SealedFile};
 use flow_folder::{FolderDisk, Lockable};
 use flow_measure::Row;
 use flow_recover::RecoverError;
-use flow_report::write_rows;
+use flow_report::{Format, write_rows};
 use flow_roller::{Open, scan_by_parts};
 use flow_snapshot::{QueryError, Snapshot};
 use std::alloc::{AllocGlobal, Global};
@@ -44,7 +45,7 @@ struct FoundRows {
 
 /// What a snapshot answers to `totals`, by so many workers. Where one of them is refused, it is asked once more by one
 /// thread, so that what is answered doesn't depend on how many there are.
-fn ask_rows<S: SealedFile + Send + Sync, H: Threads + Sync>(
+pub fn ask_rows<S: SealedFile + Send + Sync, H: Threads + Sync>(
     rt: &H,
     alloc: Global,
     snapshot: &Snapshot<S>,
@@ -84,7 +85,8 @@ where
     D::Sealed: Send + Sync,
     ensures disk { archive.new.disk ≡ archive.old.disk }
     ensures lines { IsTrue (D.honest archive.old.disk) → (reads : ℕ → List ℕ) → StandsFor reads archive.old.state
-        → IfOk result (λ found. AreLinesOf (totals_lines span.now) reads (rows_text found.width found.rows.items)) }
+        → IfOk result (λ found. (format : Format) → AreLinesOf (totals_lines format span.now) reads
+        (rows_text format found.width found.rows.items)) }
     ensures refused { IsTrue (D.honest archive.old.disk) → (reads : ℕ → List ℕ) → StandsFor reads archive.old.state
         → IfErr result (IsNotFound SumsFit reads) }
     ensures unwritten { IfErr result (λ e. IsBeforeWriting e) }
@@ -106,6 +108,7 @@ fn total<D: Disk, H: Threads + Sync, W: Write>(
     archive: &mut Archive<D>,
     span: &StartSpan,
     workers: &Workers,
+    format: Format,
     output: &mut W,
     faults: &mut Faults<D::Sealed>,
 ) -> Result<(), ArchiveRefusal>
@@ -113,29 +116,32 @@ where
     D::Sealed: Send + Sync,
     ensures disk { archive.new.disk ≡ archive.old.disk }
     ensures told { IsTrue (D.honest archive.old.disk) → (reads : ℕ → List ℕ) → StandsFor reads archive.old.state
-        → OnOk result (TellsLines (totals_lines span.now) reads (W.contents output.old) (W.contents output.new)) }
-    ensures refused { IsTrue (D.honest archive.old.disk) → (reads : ℕ → List ℕ) → StandsFor reads archive.old.state
-        → IfErr result (TellsNoLines (totals_lines span.now) SumsFit reads (W.contents output.old)
+        → OnOk result (TellsLines (totals_lines format span.now) reads (W.contents output.old)
         (W.contents output.new)) }
-    ensures written { OnOk result (Writes AreRows (W.contents output.old) (W.contents output.new)) }
-    ensures kept { IfErr result (λ e. WritesOrNot AreRows e (W.contents output.old) (W.contents output.new)) }
+    ensures refused { IsTrue (D.honest archive.old.disk) → (reads : ℕ → List ℕ) → StandsFor reads archive.old.state
+        → IfErr result (TellsNoLines (totals_lines format span.now) SumsFit reads (W.contents output.old)
+        (W.contents output.new)) }
+    ensures written { OnOk result (Writes (AreRows format) (W.contents output.old) (W.contents output.new)) }
+    ensures kept { IfErr result (λ e. WritesOrNot (AreRows format) e (W.contents output.old) (W.contents output.new)) }
     ensures opened { IfErr result (λ e. e ≢ refusal.Opening RecoverError.Fault) }
     ensures cause { HasCause (refusal.Query QueryError.Fault) faults.old faults.new result }
 {
     let found = find_rows(rt, alloc, archive, span, workers, faults)?;
-    write_rows(alloc, found.rows.as_slice(), found.width, output)?;
+    write_rows(alloc, found.rows.as_slice(), found.width, format, output)?;
     Ok(())
 }
 
 /// Opens the archive on a disk, of which nothing is frozen, and writes the totals lines of the intervals that start in
-/// a span: START DOMAIN PROTOCOL FLOWS OCTETS PACKETS, and of a row over wide intervals their width after them. So many
-/// workers scan it, each a thread where one can be made. It hands the archive on, or gives the disk back.
+/// a span: START DOMAIN PROTOCOL FLOWS OCTETS PACKETS, and of a row over wide intervals their width after them; in CSV
+/// and JSON each row has its width. So many workers scan it, each a thread where one can be made. It hands the archive
+/// on, or gives the disk back.
 pub fn totals<D: Disk, H: Threads + Sync, W: Write>(
     rt: &H,
     alloc: Global,
     disk: D,
     span: &StartSpan,
     workers: &Workers,
+    format: Format,
     output: &mut W,
     faults: &mut Faults<D::Sealed>,
 ) -> Result<Archive<D>, Refused<D, ArchiveRefusal>>
@@ -144,12 +150,14 @@ where
     requires { (n : ℕ) → (D.marks disk n).frozen ≡ false }
     // On an honest disk the lines are those of the one view of what was read.
     ensures told { IsTrue (D.honest disk) → OnOk result
-        (TellsLines (totals_lines span.now) (reads_of (D.held disk)) (W.contents output.old) (W.contents output.new)) }
-    ensures refused { IsTrue (D.honest disk) → IfErr result (λ r. TellsNoLines (totals_lines span.now) SumsFit
+        (TellsLines (totals_lines format span.now) (reads_of (D.held disk)) (W.contents output.old)
+        (W.contents output.new)) }
+    ensures refused { IsTrue (D.honest disk) → IfErr result (λ r. TellsNoLines (totals_lines format span.now) SumsFit
         (reads_of (D.held disk)) (W.contents output.old) (W.contents output.new) r.error) }
     // And whatever the disk:
-    ensures written { OnOk result (Writes AreRows (W.contents output.old) (W.contents output.new)) }
-    ensures kept { IfErr result (λ r. WritesOrNot AreRows r.error (W.contents output.old) (W.contents output.new)) }
+    ensures written { OnOk result (Writes (AreRows format) (W.contents output.old) (W.contents output.new)) }
+    ensures kept { IfErr result
+        (λ r. WritesOrNot (AreRows format) r.error (W.contents output.old) (W.contents output.new)) }
     // It is a fault of opening exactly where a call of the disk failed, and one of asking exactly where a read failed.
     ensures opening { HasCause (refusal.Opening RecoverError.Fault) (D.faults disk) (D.faults (disk_of result))
         (answer_of result) }
@@ -158,7 +166,16 @@ where
     match Archive::open(alloc, disk) {
         Ok(archive) => {
             let mut archive = archive;
-            match total(rt, alloc, &mut archive, span, workers, output, faults) {
+            match total(
+                rt,
+                alloc,
+                &mut archive,
+                span,
+                workers,
+                format,
+                output,
+                faults,
+            ) {
                 Ok(()) => Ok(archive),
                 Err(error) => Err(Refused {
                     disk: archive.into_disk(),
@@ -180,13 +197,14 @@ pub fn totals_in<H: Files + AllocGlobal + Clone + Drop + Threads + Send + Sync, 
     folder: &str,
     span: &StartSpan,
     workers: Option<Workers>,
+    format: Format,
     output: &mut W,
 ) -> Result<(), ArchiveRefusal>
 where
     H::File: FileExt + Lockable + Send + Sync,
     H::Dir: Send + Sync,
-    ensures written { OnOk result (Writes AreRows (W.contents output.old) (W.contents output.new)) }
-    ensures kept { IfErr result (λ e. WritesOrNot AreRows e (W.contents output.old) (W.contents output.new)) }
+    ensures written { OnOk result (Writes (AreRows format) (W.contents output.old) (W.contents output.new)) }
+    ensures kept { IfErr result (λ e. WritesOrNot (AreRows format) e (W.contents output.old) (W.contents output.new)) }
 {
     let workers = match workers {
         Some(workers) => workers,
@@ -199,6 +217,7 @@ where
         disk,
         span,
         &workers,
+        format,
         output,
         &mut Faults::new(),
     ) {

@@ -1,7 +1,7 @@
 -- A File, batch by batch.
 use Rattle.std.proofs.Common.{◌≡◌, ℕ, ◌+◌, ◌<◌, Bool, true, false, Bor, List, [], ◌∷◌, ◌++◌, length, take, drop, get_or}
 use Rattle.std.proofs.Common.{◌≤◌, Option, Some, None, Result, refl, sym, ◌∙◌, ap, ap₂, subst, append-nil, append_assoc}
-use Rattle.std.proofs.Common.{arith, length-append, length-drop, take-append-drop}
+use Rattle.std.proofs.Common.{zero-add, arith, length-append, length-drop, take-append-drop}
 use Rattle.std.proofs.lemmas.List.{length-map, length-take-le, map_more, take_all, take-map}
 use Rattle.std.specs.Prelude.{All, Vec}
 use Rattle.std.specs.declared.alloc.Global.{Global}
@@ -14,9 +14,10 @@ use Rattle.flow_codec.proofs.Streaming.{message_next}
 use Rattle.flow_gate.specs.Scan.{texts}
 use Rattle.flow_gate.specs.Steps.{slices}
 use Rattle.flow_archive.specs.declared.refusal.ArchiveError.{ArchiveError}
+use Rattle.flow_feed.specs.declared.batch.Fed.{Fed}
 use Rattle.flow_feed.specs.declared.batch.FeedStop.{FeedStop}
 use Rattle.flow_feed.specs.declared.batch.FeedStop.TheVariants.{Archive, OutOfMemory}
-use Rattle.flow_feed.specs.Feed.{batch_of, in_order, AreRead, IsEnd, IsFed}
+use Rattle.flow_feed.specs.Feed.{batch_of, in_order, ArePassed, AreRead, IsEnd, IsFed}
 use Rattle.flow_feed.specs.Given.{AreGivenInTurn, HasTaken, IsGivenTogether}
 use Rattle.flow_feed.proofs.Readings.{consumes_none, consumes_then, joined_then, read_none, IsReading}
 use Rattle.flow_feed.proofs.Taking.{in_order_one, in_order_then, turns_none, turns_one, turns_then}
@@ -72,16 +73,18 @@ few_of : (messages : List (List ℕ)) → length messages ≤ 64 → All IsFew (
 few_of [] most = All-nil IsFew
 few_of (m ∷ ms) most = All-cons IsFew (m ∷ ms) [] (omega arith, most) (All-nil IsFew)
 
--- all of the File that was taken in so far
-pub record IsFeeding {S : Type 0} (appends : S → S → List (List ℕ) → Result ℕ ArchiveError → Type 0) (old now : S)
-    (start reader : Progress) (count : ℕ) : Type 0 where
+-- all of the File that was passed, and taken in, so far
+pub record IsFeeding {S : Type 0} (appends : S → S → List (List ℕ) → Result ℕ ArchiveError → Type 0) (first : ℕ)
+    (old now : S) (start reader : Progress) (count : ℕ) : Type 0 where
+  pub passed : List (List ℕ)
+  pub passed_are : length passed ≡ first
   pub batches : List (List (List ℕ))
   pub few : All IsFew batches
   pub messages : List (List ℕ)
   pub taken : HasTaken appends (AreGivenInTurn batches) old now messages None
   pub batches_are : in_order batches ≡ messages
-  pub reading : IsReading start messages reader
-  pub count_is : count ≡ length messages
+  pub reading : IsReading start (passed ++ messages) reader
+  pub count_is : count ≡ length passed + length messages
 
 -- a File of these octets, of which nothing was read
 abbrev pub start_of : Option (List ℕ) → Progress
@@ -93,38 +96,6 @@ pub opened : (reader : Held) (input : Option (List ℕ))
     → progress reader input ≡ start_of input
 opened reader None is = ap (λ (r : Held). progress r None) is
 opened reader (Some octets) is = ap (λ (r : Held). progress r (Some octets)) is
-
-module _ {S : Type 0} (appends : S → S → List (List ℕ) → Result ℕ ArchiveError → Type 0) (old : S)
-    (octets : Option (List ℕ)) where
-  -- nothing is read
-  pub fed_nothing : IsFed appends old old octets (record { messages = 0; stop = Some OutOfMemory })
-  fed_nothing = record {
-    batches = [];
-    few = All-nil IsFew;
-    messages = [];
-    taken = turns_none appends old;
-    left = [];
-    batches_are = refl;
-    count = refl;
-    all = All-nil IsCutOff;
-    rest = octets;
-    front = consumes_none octets;
-    read = (octets, consumes_none octets);
-    ended = tt;
-  }
-
-  pub started : (reader : Progress) → reader ≡ start_of octets
-      → IsFeeding appends old old (start_of octets) reader reader.count
-  started reader is = record {
-    batches = [];
-    few = All-nil IsFew;
-    messages = [];
-    taken = turns_none appends old;
-    batches_are = refl;
-    reading = subst (λ (p : Progress). IsReading (start_of octets) [] p) (sym is)
-        (read_none (start_of octets) refl);
-    count_is = ap (λ (p : Progress). p.count) is;
-  }
 
 -- octets that are read, and those behind them, where the last of what is read is given back
 given_back : (old rest : Option (List ℕ)) (a b : List ℕ) → Consumes old rest (a ++ b)
@@ -172,18 +143,108 @@ reads_on start mid reader messages more stop so_far read =
       count = let before = so_far.count in let after = on.3 in omega (arith, counted);
     }
 
+-- messages that were read, and reading goes on
+read_on : (start reader : Progress) (passed : List (List ℕ)) → start.stopped ≡ None
+    → AreRead start passed false None reader → IsReading start passed reader
+read_on start reader passed still read = reads_on start start reader [] passed None (read_none start still) read
+
+module _ {S : Type 0} (appends : S → S → List (List ℕ) → Result ℕ ArchiveError → Type 0) (first : ℕ) (old : S)
+    (octets : Option (List ℕ)) where
+  -- nothing is read
+  pub fed_nothing : IsFed appends first old old octets (record { messages = 0; stop = Some OutOfMemory })
+  fed_nothing = record {
+    passed = [];
+    most_passed = omega arith;
+    batches = [];
+    all_passed = λ some. absurd (omega (arith, some));
+    few = All-nil IsFew;
+    messages = [];
+    taken = turns_none appends old;
+    left = [];
+    batches_are = refl;
+    count = refl;
+    all = All-nil IsCutOff;
+    rest = octets;
+    front = consumes_none octets;
+    read = (octets, consumes_none octets);
+    ended = tt;
+  }
+
+  -- the File ends before more than what is passed
+  pub fed_passed : (start reader : Progress) (fed : Fed) → start ≡ start_of octets
+      → ArePassed first start reader (Some fed) → IsFed appends first old old octets fed
+  fed_passed start reader fed is (passed, most, read, counted) =
+      let same = sym (append-nil passed) in
+      let none_before : start.count ≡ 0 = ap (λ (p : Progress). p.count) is in
+      let at_none : start.at ≡ 0 = ap (λ (p : Progress). p.at) is in
+      record {
+        passed = passed;
+        most_passed = most;
+        batches = [];
+        all_passed = λ some. absurd (omega (arith, some));
+        few = All-nil IsFew;
+        messages = [];
+        taken = subst (λ (o : Option ArchiveError). HasTaken appends (AreGivenInTurn []) old old [] o)
+            (sym read.refused) (turns_none appends old);
+        left = [];
+        batches_are = refl;
+        count = omega (arith, counted, none_before);
+        all = subst (λ (l : List (List ℕ)). All IsCutOff l) (same ∙ sym (append-nil (passed ++ []))) read.all;
+        rest = read.rest;
+        front = subst (λ (l : List (List ℕ)). Consumes octets read.rest (joined l)) same
+            (subst (λ (p : Progress). Consumes p.rest read.rest (joined passed)) is read.front);
+        read = (read.rest, consumes_none read.rest);
+        ended = subst (λ (l : List (List ℕ)). IsEnd (length (joined l)) fed.stop read.rest) same
+            (subst (λ (k : ℕ). IsEnd k fed.stop read.rest)
+            (ap (λ (k : ℕ). k + length (joined passed)) at_none ∙ zero-add (length (joined passed)))
+            (read.ended refl));
+      }
+
+  -- all that was to be passed is
+  pub started : (start reader : Progress) → start ≡ start_of octets → ArePassed first start reader None
+      → IsFeeding appends first old old (start_of octets) reader reader.count
+  started start reader is (passed, passed_are, read) =
+      let still : start.stopped ≡ None = ap (λ (p : Progress). p.stopped) is in
+      let reading : IsReading start passed reader = read_on start reader passed still read in
+      let none_before : start.count ≡ 0 = ap (λ (p : Progress). p.count) is in
+      record {
+        passed = passed;
+        passed_are = passed_are;
+        batches = [];
+        few = All-nil IsFew;
+        messages = [];
+        taken = turns_none appends old;
+        batches_are = refl;
+        reading = subst (λ (p : Progress). IsReading p (passed ++ []) reader) is
+            (subst (λ (l : List (List ℕ)). IsReading start l reader) (sym (append-nil passed)) reading);
+        count_is = let counted = reading.count in omega (arith, counted, none_before);
+      }
+
 -- what is known of octets that come back before others, after these
 given_next : (rest : Option (List ℕ)) (a : List ℕ) → Consumes (prepend_known a rest) rest a
 given_next None a = tt
 given_next (Some xs) a = refl
 
-module _ {S : Type 0} (appends : S → S → List (List ℕ) → Result ℕ ArchiveError → Type 0) (old now new : S)
-    (octets : Option (List ℕ)) (mid reader : Progress) (count : ℕ)
-    (so_far : IsFeeding appends old now (start_of octets) mid count) where
+module _ {S : Type 0} (appends : S → S → List (List ℕ) → Result ℕ ArchiveError → Type 0) (first : ℕ)
+    (old now new : S) (octets : Option (List ℕ)) (mid reader : Progress) (count : ℕ)
+    (so_far : IsFeeding appends first old now (start_of octets) mid count) where
+  abbrev passed : List (List ℕ)
+  passed = so_far.passed
+
+  most_passed : length passed ≤ first
+  most_passed = let are = so_far.passed_are in omega (arith, are)
+
+  -- what was passed and taken in, and more
+  behind_passed : (messages more : List (List ℕ)) → passed ++ (messages ++ more) ≡ (passed ++ messages) ++ more
+  behind_passed messages more = sym (append_assoc passed messages more)
+
   -- no memory to give what was read
-  pub ends_early : new ≡ now → IsFed appends old new octets (record { messages = count; stop = Some OutOfMemory })
+  pub ends_early : new ≡ now → IsFed appends first old new octets (record { messages = count; stop = Some OutOfMemory })
   ends_early same = record {
+    passed = passed;
+    most_passed = most_passed;
     batches = so_far.batches;
+    all_passed = λ some. so_far.passed_are;
     few = so_far.few;
     messages = so_far.messages;
     taken = subst (λ (s : S). HasTaken appends (AreGivenInTurn so_far.batches) old s so_far.messages None) (sym same)
@@ -191,7 +252,8 @@ module _ {S : Type 0} (appends : S → S → List (List ℕ) → Result ℕ Arch
     left = [];
     batches_are = so_far.batches_are ∙ sym (append-nil so_far.messages);
     count = so_far.count_is;
-    all = subst (λ (l : List (List ℕ)). All IsCutOff l) (sym (append-nil so_far.messages)) so_far.reading.all;
+    all = subst (λ (l : List (List ℕ)). All IsCutOff l) (sym (append-nil (passed ++ so_far.messages)))
+        so_far.reading.all;
     rest = mid.rest;
     front = so_far.reading.front;
     read = (mid.rest, consumes_none mid.rest);
@@ -214,7 +276,7 @@ module _ {S : Type 0} (appends : S → S → List (List ℕ) → Result ℕ Arch
     pub ends_refused : (is_last : Bool) (stop : Option FeedStop) (error : ArchiveError)
         → AreRead mid more is_last stop reader → n < length more
         → HasTaken appends (AreGivenInTurn (batch_of more)) now new (take n more) (Some error)
-        → IsFed appends old new octets (record { messages = count + n; stop = Some (Archive error) })
+        → IsFed appends first old new octets (record { messages = count + n; stop = Some (Archive error) })
     ends_refused is_last stop error read fewer taken =
         let messages = so_far.messages in
         let left = drop n more in
@@ -227,7 +289,15 @@ module _ {S : Type 0} (appends : S → S → List (List ℕ) → Result ℕ Arch
         subst (λ (l : List (List ℕ)). All IsCutOff l) (sym whole) read.all in
         let both : (messages ++ take n more) ++ left ≡ messages ++ more =
         append_assoc messages (take n more) left ∙ ap (λ (l : List (List ℕ)). messages ++ l) whole in
+        let before = passed ++ messages in
+        let given : passed ++ (messages ++ take n more) ≡ before ++ take n more = behind_passed messages (take n more) in
+        let together : (passed ++ (messages ++ take n more)) ++ left ≡ before ++ more =
+        ap (λ (l : List (List ℕ)). l ++ left) given ∙ append_assoc before (take n more) left
+        ∙ ap (λ (l : List (List ℕ)). before ++ l) whole in
         record {
+          passed = passed;
+          most_passed = most_passed;
+          all_passed = λ some. so_far.passed_are;
           batches = batches;
           few = all_few;
           messages = messages ++ take n more;
@@ -236,13 +306,14 @@ module _ {S : Type 0} (appends : S → S → List (List ℕ) → Result ℕ Arch
           left = left;
           batches_are = in_order_are ∙ sym both;
           count = let were = so_far.count_is in omega (arith, counted);
-          all = subst (λ (l : List (List ℕ)). All IsCutOff l) (sym both)
-              (All-append IsCutOff messages more so_far.reading.all read.all);
+          all = subst (λ (l : List (List ℕ)). All IsCutOff l) (sym together)
+              (All-append IsCutOff before more so_far.reading.all read.all);
           rest = rest;
-          front = all_read (start_of octets) mid messages (take n more) rest so_far.reading
+          front = subst (λ (l : List (List ℕ)). Consumes octets rest (joined l)) (sym given)
+              (all_read (start_of octets) mid before (take n more) rest so_far.reading
               (given_back mid.rest read.rest (joined (take n more)) (joined left)
               (subst (λ (l : List ℕ). Consumes mid.rest read.rest l)
-              (ap joined (sym whole) ∙ joined_then (take n more) left) read.front));
+              (ap joined (sym whole) ∙ joined_then (take n more) left) read.front)));
           read = (read.rest, given_next read.rest (joined left));
           ended = next_message read.rest left (All-right (take n more) left all)
               (let gone = length-drop n more in omega (arith, fewer, gone));
@@ -258,30 +329,43 @@ module _ {S : Type 0} (appends : S → S → List (List ℕ) → Result ℕ Arch
 
       -- a batch more
       pub feeds_on : (stop : Option FeedStop) → AreRead mid more false stop reader
-          → IsFeeding appends old new (start_of octets) reader reader.count
+          → IsFeeding appends first old new (start_of octets) reader reader.count
       feeds_on stop read =
-          let reads = reads_on (start_of octets) mid reader so_far.messages more stop so_far.reading read in
+          let before = passed ++ so_far.messages in
+          let reads = reads_on (start_of octets) mid reader before more stop so_far.reading read in
+          let counted : length (before ++ more) ≡ length passed + length so_far.messages + length more =
+          length-append before more ∙ ap (λ (k : ℕ). k + length more) (length-append passed so_far.messages) in
+          let long : length (so_far.messages ++ more) ≡ length so_far.messages + length more =
+          length-append so_far.messages more in
           record {
+            passed = passed;
+            passed_are = so_far.passed_are;
             batches = batches;
             few = all_few;
             messages = so_far.messages ++ more;
             taken = taken_all;
             batches_are = in_order_are;
-            reading = reads;
-            count_is = let counted = reads.count in omega (arith, counted);
+            reading = subst (λ (l : List (List ℕ)). IsReading (start_of octets) l reader)
+                (sym (behind_passed so_far.messages more)) reads;
+            count_is = let were = reads.count in omega (arith, were, counted, long);
           }
 
       -- the last batch
       pub ends_last : (stop : Option FeedStop) → AreRead mid more true stop reader
-          → IsFed appends old new octets (record { messages = count + n; stop = stop })
+          → IsFed appends first old new octets (record { messages = count + n; stop = stop })
       ends_last stop read =
           let messages = so_far.messages in
-          let long = all_long messages more in
+          let before = passed ++ messages in
+          let given : before ++ more ≡ passed ++ (messages ++ more) = sym (behind_passed messages more) in
+          let long = all_long before more in
           let counted : length (messages ++ more) ≡ length messages + length more = length-append messages more in
-          let place : mid.at + length (joined more) ≡ length (joined (messages ++ more)) =
-          let before = so_far.reading.at in omega (arith, long) in
+          let place : mid.at + length (joined more) ≡ length (joined (before ++ more)) =
+          let so = so_far.reading.at in omega (arith, long, so) in
           let same = sym (append-nil (messages ++ more)) in
           record {
+            passed = passed;
+            most_passed = most_passed;
+            all_passed = λ some. so_far.passed_are;
             batches = batches;
             few = all_few;
             messages = messages ++ more;
@@ -290,10 +374,13 @@ module _ {S : Type 0} (appends : S → S → List (List ℕ) → Result ℕ Arch
             left = [];
             batches_are = in_order_are ∙ same;
             count = let were = so_far.count_is in omega (arith, counted, all);
-            all = subst (λ (l : List (List ℕ)). All IsCutOff l) same
-                (All-append IsCutOff messages more so_far.reading.all read.all);
+            all = subst (λ (l : List (List ℕ)). All IsCutOff l)
+                (given ∙ sym (append-nil (passed ++ (messages ++ more))))
+                (All-append IsCutOff before more so_far.reading.all read.all);
             rest = read.rest;
-            front = all_read (start_of octets) mid messages more read.rest so_far.reading read.front;
+            front = subst (λ (l : List (List ℕ)). Consumes octets read.rest (joined l)) given
+                (all_read (start_of octets) mid before more read.rest so_far.reading read.front);
             read = (read.rest, consumes_none read.rest);
-            ended = subst (λ (k : ℕ). IsEnd k stop read.rest) place (read.ended refl);
+            ended = subst (λ (l : List (List ℕ)). IsEnd (length (joined l)) stop read.rest) given
+                (subst (λ (k : ℕ). IsEnd k stop read.rest) place (read.ended refl));
           }

@@ -1,5 +1,5 @@
 -- A File into an archive.
-use Rattle.std.specs.Prelude.{◌≡◌, ◌≤◌, ℕ, ◌+◌, Bool, true, false, List, [], ◌∷◌, ◌++◌, flat_map, All, length, Option}
+use Rattle.std.specs.Prelude.{◌≡◌, ◌≤◌, ◌<◌, ℕ, ◌+◌, Bool, true, false, List, [], ◌∷◌, ◌++◌, flat_map, All, length, Option}
 use Rattle.std.specs.Prelude.{Some, None, Result, ⊤}
 use Rattle.std.specs.Io.KnownBytes.{Consumes, IsAtEnd}
 use Rattle.flow_codec.specs.declared.stream.StreamError.TheVariants as stream
@@ -56,20 +56,31 @@ batch_of (message ∷ messages) = (message ∷ messages) ∷ []
 abbrev pub in_order : List (List (List ℕ)) → List (List ℕ)
 in_order batches = flat_map (λ (batch : List (List ℕ)). batch) batches
 
--- The first messages of the File are acknowledged, in their order, each once, and no other; as many as are reported;
--- and what follows them is why there aren't more. They were given in batches of 1 to 64, which are the File's next
--- messages each time; some of the last batch may be left. `appends` says what each batch made of the appender.
-pub record IsFed {S : Type 0} (appends : S → S → List (List ℕ) → Result ℕ ArchiveError → Type 0) (old new : S)
-    (octets : Option (List ℕ)) (fed : Fed) : Type 0 where
+-- The first messages of a File are read, so many, or all that it has, and are not given to anybody: it ended so.
+abbrev pub ArePassed : ℕ → Progress → Progress → Option Fed → Type 0
+ArePassed first old new None = (passed : List (List ℕ)) × (length passed ≡ first) × AreRead old passed false None new
+ArePassed first old new (Some fed) =
+    (passed : List (List ℕ)) × (length passed ≤ first) × AreRead old passed true fed.stop new
+    × (fed.messages ≡ old.count + length passed)
+
+-- The messages of the File after the first `first` ones are acknowledged, up to where it stopped, in their order, each
+-- once, and no other; `fed` reports how many messages of the File were passed and acknowledged; and what follows them is
+-- why there aren't more. They were given in batches of 1 to 64, which are the File's next messages each time; some of the
+-- last batch may be left. `appends` says what each batch made of the appender.
+pub record IsFed {S : Type 0} (appends : S → S → List (List ℕ) → Result ℕ ArchiveError → Type 0) (first : ℕ)
+    (old new : S) (octets : Option (List ℕ)) (fed : Fed) : Type 0 where
+  pub passed : List (List ℕ)
+  pub most_passed : length passed ≤ first
   pub batches : List (List (List ℕ))
+  pub all_passed : 0 < length batches → length passed ≡ first
   pub few : All (λ (batch : List (List ℕ)). (1 ≤ length batch) × (length batch ≤ 64)) batches
   pub messages : List (List ℕ)
   pub taken : HasTaken appends (AreGivenInTurn batches) old new messages (refusal_in fed.stop)
   pub left : List (List ℕ)
   pub batches_are : in_order batches ≡ messages ++ left
-  pub count : fed.messages ≡ length messages
-  pub all : All IsCutOff (messages ++ left)
+  pub count : fed.messages ≡ length passed + length messages
+  pub all : All IsCutOff ((passed ++ messages) ++ left)
   pub rest : Option (List ℕ)
-  pub front : Consumes octets rest (joined messages)
+  pub front : Consumes octets rest (joined (passed ++ messages))
   pub read : (after : Option (List ℕ)) × Consumes rest after (joined left)
-  pub ended : IsEnd (length (joined messages)) fed.stop rest
+  pub ended : IsEnd (length (joined (passed ++ messages))) fed.stop rest

@@ -1,6 +1,8 @@
 //! A File into an archive.
 
-ghost use Rattle.flow_feed.specs.Feed.{IsFed};
+ghost use Rattle.std.specs.Prelude.{◌≡◌, None};
+ghost use Rattle.flow_codec.specs.Stream.{progress};
+ghost use Rattle.flow_feed.specs.Feed.{ArePassed, IsFed};
 
 use crate::appender::Appender;
 use crate::batch::{Fed, FeedStop};
@@ -10,11 +12,39 @@ use flow_codec::MessageReader;
 use std::alloc::Global;
 use std::io::Read;
 
-/// Takes the messages of the File that `input` reads into an archive, up to its end, its first fault, or the first
-/// message that the archive refuses. A batch is what was read together, up to 64 messages, and is given as soon as it is
-/// read; one that is refused by what its messages are is given message by message.
-pub fn feed<A: Appender, R: Read>(appender: &mut A, alloc: Global, input: &mut R) -> Fed
-    ensures { IsFed A.appends appender.old appender.new (R.remaining input.old) result }
+/// Reads the first messages of a File without giving them to anybody: so many, or where it has fewer all of them, and
+/// then how it ended.
+fn pass<R: Read>(reader: &mut MessageReader, input: &mut R, first: u64) -> Option<Fed>
+    requires { reader.old.stopped ≡ None }
+    ensures { ArePassed first (progress reader.old (R.remaining input.old))
+        (progress reader.new (R.remaining input.new)) result }
+{
+    for _ in 0..first {
+        match reader.advance(input) {
+            Ok(true) => {}
+            Ok(false) => {
+                return Some(Fed {
+                    messages: reader.count(),
+                    stop: None,
+                });
+            }
+            Err(error) => {
+                return Some(Fed {
+                    messages: reader.count(),
+                    stop: Some(FeedStop::File(error)),
+                });
+            }
+        }
+    }
+    None
+}
+
+/// Takes the messages of the File that `input` reads into an archive, after the first `first` ones, which are only read:
+/// up to its end, its first fault, or the first message that the archive refuses. A batch is what was read together, up to
+/// 64 messages, and is given as soon as it is read; one that is refused by what its messages are is given message by
+/// message. What is reported counts the messages of the File, those that were only read too.
+pub fn feed<A: Appender, R: Read>(appender: &mut A, alloc: Global, input: &mut R, first: u64) -> Fed
+    ensures { IsFed A.appends first appender.old appender.new (R.remaining input.old) result }
 {
     let Ok(mut reader) = MessageReader::new(alloc) else {
         return Fed {
@@ -22,6 +52,9 @@ pub fn feed<A: Appender, R: Read>(appender: &mut A, alloc: Global, input: &mut R
             stop: Some(FeedStop::OutOfMemory),
         };
     };
+    if let Some(ended) = pass(&mut reader, input, first) {
+        return ended;
+    }
     'batches: loop {
         // All messages that were read before are taken in.
         let before = reader.count();

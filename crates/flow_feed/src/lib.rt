@@ -2,8 +2,8 @@
 //!
 //! Promised to the layer above: `feed` takes the messages of a File, as they are read, in batches, and gives each batch
 //! to an appender: the value under the archive's lock, or the archive that threads share. What is acknowledged of the
-//! File is its first messages, in their order, each once, and as many as are told, and where nothing stopped it is the
-//! whole File.
+//! File are the messages after those that are passed over, in their order, each once, and as many as are reported, and
+//! where nothing stopped it all the rest of the File.
 #![tactic(auto)]
 
 mod appender;

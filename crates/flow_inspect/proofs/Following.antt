@@ -1,12 +1,13 @@
 -- How the reports of a run over a File go on.
 use Rattle.std.proofs.Common.{◌≡◌, ℕ, ◌<◌, ◌+◌, ◌^◌, ◌-◌, Bool, List, [], ◌∷◌, ◌++◌, length, Option, None, Some}
-use Rattle.std.proofs.Common.{IfSome, refl, sym, ap, ap₂, ◌∙◌, subst, length-append, arith, inl, inr, ◌⊎◌}
+use Rattle.std.proofs.Common.{append_assoc, IfSome, refl, sym, ap, ap₂, ◌∙◌, subst, length-append, arith, inl, inr, ◌⊎◌}
 use Rattle.std.specs.Prelude.{Ok, Err, true, false, ⊤, min, cond, count_by, fold, take, slice_get}
 use Rattle.std.specs.declared.convert.Infallible.{Infallible}
 use Rattle.std.proofs.Math.Nat.{min-eq_left}
 use Rattle.std.proofs.lemmas.List.{append-nil, take_more}
 use Rattle.std.proofs.lemmas.List.Sums.{count_by-le-length, fold-append}
 use Rattle.std.proofs.lemmas.List.Concat.{flat_map-append}
+use Rattle.std.specs.List.{flat_map}
 use Rattle.std.proofs.lemmas.Option.{get_or_from_slice_get, slice_get_within}
 use Rattle.flow_codec.specs.declared.file.FileError.{FileError}
 use Rattle.flow_codec.specs.declared.error.MessageError.{MessageError}
@@ -34,7 +35,9 @@ use Rattle.flow_report.proofs.Reached.{IsShort, spent_at, read_up}
 use Rattle.flow_inspect.specs.declared.counting.RecordCounts.{RecordCounts}
 use Rattle.flow_inspect.specs.declared.reporting.DomainReport.{DomainReport}
 use Rattle.flow_inspect.specs.Counting.{HasCounted, counts_of, is_flow, is_option}
-use Rattle.flow_inspect.specs.Reports.{entries_after, report_line, reports_of, reports_text}
+use Rattle.flow_report.specs.declared.format.Format.{Format}
+use Rattle.flow_report.specs.Formats.{heading}
+use Rattle.flow_inspect.specs.Reports.{entries_after, report_in, report_names, reports_of, reports_text}
 use Rattle.flow_inspect.specs.Inspect.{HasReports, walk_refusal}
 
 -- what is counted of the messages that a reader gave
@@ -127,13 +130,17 @@ ended old reader next here entries h step =
     with_front (Some octets) f = (h.messages, here, f, h.entries_are)
 
 -- the line of one domain more
-pub one_line_more : (entries : List (ℕ × DomainReport)) (i : ℕ) (e : ℕ × DomainReport) → slice_get entries i ≡ Some e
-    → reports_text (take (i + 1) entries) ≡ reports_text (take i entries) ++ report_line e
-one_line_more entries i e is =
-    ap reports_text (take_more entries i e (slice_get_within entries i e is)
+pub one_line_more : (format : Format) (entries : List (ℕ × DomainReport)) (i : ℕ) (e : ℕ × DomainReport)
+    → slice_get entries i ≡ Some e
+    → reports_text format (take (i + 1) entries) ≡ reports_text format (take i entries) ++ report_in format e
+one_line_more format entries i e is =
+    let names = heading format report_names in
+    let before = flat_map (report_in format) (take i entries) in
+    ap (reports_text format) (take_more entries i e (slice_get_within entries i e is)
     ∙ ap (λ (x : ℕ × DomainReport). take i entries ++ x ∷ []) (get_or_from_slice_get entries i e e is))
-    ∙ flat_map-append report_line (take i entries) (e ∷ [])
-    ∙ ap (λ (l : List ℕ). reports_text (take i entries) ++ l) (append-nil (report_line e))
+    ∙ ap (λ (l : List ℕ). names ++ l) (flat_map-append (report_in format) (take i entries) (e ∷ [])
+    ∙ ap (λ (l : List ℕ). before ++ l) (append-nil (report_in format e)))
+    ∙ sym (append_assoc names before (report_in format e))
 
 -- ---- refusals
 

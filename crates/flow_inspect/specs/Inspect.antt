@@ -7,6 +7,7 @@ use Rattle.flow_codec.specs.declared.sink.WalkError.TheVariants as walk
 use Rattle.flow_codec.specs.Raw.{RawMessage}
 use Rattle.flow_codec.specs.Templates.{AllTemplates}
 use Rattle.flow_codec.specs.File.{AcceptedFront, whole}
+use Rattle.flow_report.specs.declared.format.Format.{Format}
 use Rattle.flow_report.specs.declared.refusal.Refusal.{Refusal}
 use Rattle.flow_report.specs.declared.refusal.Refusal.TheVariants.{Message, File, OutOfMemory, SumSpent, NumbersSpent}
 use Rattle.flow_report.specs.declared.refusal.Refusal.TheVariants.{Read, Write}
@@ -26,17 +27,17 @@ HasReports octets entries = (messages : List RawMessage) × (after : AllTemplate
     × AcceptedFront octets messages after whole × (entries ≡ reports_of messages)
 
 -- the octets are a whole File of accepted messages, and these are the lines of its domains
-abbrev pub HasLines : List ℕ → List ℕ → Type 0
-HasLines octets lines = (messages : List RawMessage) × (after : AllTemplates)
-    × AcceptedFront octets messages after whole × (lines ≡ reports_text (reports_of messages))
+abbrev pub HasLines : Format → List ℕ → List ℕ → Type 0
+HasLines format octets lines = (messages : List RawMessage) × (after : AllTemplates)
+    × AcceptedFront octets messages after whole × (lines ≡ reports_text format (reports_of messages))
 
 -- What a writer holds after a refusal: what it held, or, where writing failed, a prefix of the lines besides.
-abbrev pub KeepsOrFront : Option (List ℕ) → Option (List ℕ) → Option (List ℕ) → Refusal → Type 0
-KeepsOrFront input old new (Write failed) =
-    IfSome input (λ octets. (lines : List ℕ) × HasLines octets lines × AppendsFront old new lines)
-KeepsOrFront input old new (Message fault number) = Keeps old new
-KeepsOrFront input old new (File fault) = Keeps old new
-KeepsOrFront input old new OutOfMemory = Keeps old new
-KeepsOrFront input old new SumSpent = Keeps old new
-KeepsOrFront input old new NumbersSpent = Keeps old new
-KeepsOrFront input old new (Read failed) = Keeps old new
+abbrev pub KeepsOrFront : Format → Option (List ℕ) → Option (List ℕ) → Option (List ℕ) → Refusal → Type 0
+KeepsOrFront format input old new (Write failed) =
+    IfSome input (λ octets. (lines : List ℕ) × HasLines format octets lines × AppendsFront old new lines)
+KeepsOrFront format input old new (Message fault number) = Keeps old new
+KeepsOrFront format input old new (File fault) = Keeps old new
+KeepsOrFront format input old new OutOfMemory = Keeps old new
+KeepsOrFront format input old new SumSpent = Keeps old new
+KeepsOrFront format input old new NumbersSpent = Keeps old new
+KeepsOrFront format input old new (Read failed) = Keeps old new

@@ -7,6 +7,9 @@ use Rattle.std.specs.Map.{lookup}
 use Rattle.indexmap.specs.IndexMap.{insert_entry}
 use Rattle.flow_codec.specs.declared.message.Header.{Header}
 use Rattle.flow_codec.specs.Raw.{RawMessage}
+use Rattle.flow_report.specs.declared.format.Format.{Format}
+use Rattle.flow_report.specs.declared.format.Format.TheVariants.{Lines, Csv, Json}
+use Rattle.flow_report.specs.Formats.{Named, heading, line_in}
 use Rattle.flow_inspect.specs.declared.counting.RecordCounts.{RecordCounts}
 use Rattle.flow_inspect.specs.declared.reporting.DomainReport.{DomainReport}
 use Rattle.flow_inspect.specs.Counting.{counts_of}
@@ -105,5 +108,23 @@ report_line e =
     codes "domain" ++ 32 ∷ decimal e.0 ++ counts_text e.1 ++ sequence_text e.1
     ++ codes " from" ++ 32 ∷ decimal e.1.first ++ codes " to" ++ 32 ∷ decimal e.1.last ++ 10 ∷ []
 
-abbrev pub reports_text : List (ℕ × DomainReport) → List ℕ
-reports_text entries = flat_map report_line entries
+-- the same values with their names
+abbrev pub report_values : ℕ × DomainReport → List Named
+report_values e =
+    (codes "domain", Some e.0) ∷ (codes "messages", Some e.1.messages) ∷ (codes "records", Some e.1.records)
+    ∷ (codes "options", Some e.1.options) ∷ (codes "gaps", Some e.1.gaps) ∷ (codes "missing", Some e.1.missing)
+    ∷ (codes "backwards", Some e.1.backwards) ∷ (codes "from", Some e.1.first) ∷ (codes "to", Some e.1.last) ∷ []
+
+abbrev pub report_names : List (List ℕ)
+report_names =
+    codes "domain" ∷ codes "messages" ∷ codes "records" ∷ codes "options" ∷ codes "gaps" ∷ codes "missing"
+    ∷ codes "backwards" ∷ codes "from" ∷ codes "to" ∷ []
+
+-- the line of a domain in a format
+unfoldable pub report_in : Format → ℕ × DomainReport → List ℕ
+report_in Lines e = report_line e
+report_in Csv e = line_in Csv (report_values e)
+report_in Json e = line_in Json (report_values e)
+
+abbrev pub reports_text : Format → List (ℕ × DomainReport) → List ℕ
+reports_text format entries = heading format report_names ++ flat_map (report_in format) entries

@@ -8,9 +8,9 @@ ghost use Rattle.flow_inspect.specs.Inspect.{HasReports, HasLines, KeepsOrFront,
 ghost use Rattle.flow_inspect.specs.Reports.{entries_after, reports_text};
 
 use crate::counting::RecordCounts;
-use crate::reporting::{DomainReport, begun, continued, push_report};
+use crate::reporting::{DomainReport, begun, continued, push_heading, push_in};
 use flow_codec::{Header, MessageReader, Templates, WalkError, walk_message};
-use flow_report::{Patience, Refusal, write_patiently};
+use flow_report::{Format, Patience, Refusal, write_patiently};
 use indexmap::IndexMap;
 use std::alloc::{AllocError, Global};
 use std::convert::Infallible;
@@ -72,21 +72,22 @@ fn reports_of<R: Read>(alloc: Global, input: &mut R) -> Result<Reports, Refusal>
 }
 
 /// The lines of all domains.
-fn text_of(alloc: Global, reports: &Reports) -> Result<Vec<u8>, AllocError>
-    ensures { IfOk result (λ text. text.items ≡ reports_text reports.now.entries) }
+fn text_of(alloc: Global, format: Format, reports: &Reports) -> Result<Vec<u8>, AllocError>
+    ensures { IfOk result (λ text. text.items ≡ reports_text format reports.now.entries) }
 {
     let mut text = Vec::new(alloc);
+    push_heading(&mut text, format)?;
     for i in 0..reports.len() {
         if let Some((domain, report)) = reports.get_index(i) {
-            push_report(&mut text, *domain, report)?;
+            push_in(&mut text, format, *domain, report)?;
         }
     }
     Ok(text)
 }
 
 /// Reads a File and writes a line for each Observation Domain, in the order of their first messages: `domain DOMAIN
-/// messages N records N options N gaps N missing N backwards N from TIME to TIME`. Nothing is written unless the whole
-/// File was accepted.
+/// messages N records N options N gaps N missing N backwards N from TIME to TIME`, or the same values as CSV or JSON.
+/// Nothing is written unless the whole File was accepted.
 ///
 /// A message's Sequence Number is due where it is that of the domain's message before, with as many data records more as
 /// that one has, modulo 2^32 (RFC 7011, section 3.1). One past it is a gap, of as many missing records as it is past it.
@@ -94,22 +95,23 @@ fn text_of(alloc: Global, reports: &Reports) -> Result<Vec<u8>, AllocError>
 /// the greatest Export Time, in seconds since 1970-01-01 00:00 UTC.
 pub fn inspect<R: Read, W: Write>(
     alloc: Global,
+    format: Format,
     input: &mut R,
     output: &mut W,
 ) -> Result<(), Refusal>
     // The lines are those of a whole File.
     ensures lines { OnOk result
-        (IfSome (R.remaining input.old) (λ octets. (lines : List ℕ) × HasLines octets lines
+        (IfSome (R.remaining input.old) (λ octets. (lines : List ℕ) × HasLines format octets lines
         × Appends (W.contents output.old) (W.contents output.new) lines)) }
     // A refusal is that of the first fault by place.
     ensures refused { IfErr result (λ e. IfSome (R.remaining input.old)
         (λ octets. IsRefusedBy octets (R.remaining input.new) e)) }
     // After one nothing is written, or, where writing failed, a prefix of the lines.
     ensures kept { IfErr result
-        (λ e. KeepsOrFront (R.remaining input.old) (W.contents output.old) (W.contents output.new) e) }
+        (λ e. KeepsOrFront format (R.remaining input.old) (W.contents output.old) (W.contents output.new) e) }
 {
     let reports = reports_of(alloc, input)?;
-    let text = text_of(alloc, &reports)?;
+    let text = text_of(alloc, format, &reports)?;
     write_patiently(output, text.as_slice(), &mut Patience::new())?;
     Ok(())
 }

@@ -4,10 +4,12 @@ ghost use Rattle.std.specs.Prelude.{◌≡◌, ◌++◌, ◌∷◌, if◌then◌
 ghost use Rattle.std.specs.Fmt.{decimal};
 ghost use Rattle.flow_inspect.specs.Reports.{begun, continued, due_after, plus};
 ghost use Rattle.flow_inspect.specs.Reports.{counts_text, report_line, sequence_text};
+ghost use Rattle.flow_inspect.specs.Reports.{report_in, report_names, report_values};
+ghost use Rattle.flow_report.specs.Formats.{heading, line_in};
 
 use crate::counting::RecordCounts;
 use flow_codec::Header;
-use flow_report::push_count;
+use flow_report::{Format, MOST_VALUE, push_count, put_last, put_opening, put_value};
 use std::alloc::AllocError;
 
 /// A Sequence Number that is so far past the due one, modulo 2^32, or farther, is before it.
@@ -124,14 +126,13 @@ fn push_sequence(text: &mut Vec<u8>, report: &DomainReport) -> Result<(), AllocE
     Ok(())
 }
 
+/// The most octets of a line of nine values, and what it begins with.
+const MOST_REPORT: usize = 9 * MOST_VALUE + 1;
+
 /// Puts the line of a domain after a text: `domain DOMAIN messages N records N options N gaps N missing N backwards N
 /// from TIME to TIME`.
 #[tactic(auto, unfolding(crate::specs::Reports::report_line))]
-pub(crate) fn push_report(
-    text: &mut Vec<u8>,
-    domain: u32,
-    report: &DomainReport,
-) -> Result<(), AllocError>
+fn push_report(text: &mut Vec<u8>, domain: u32, report: &DomainReport) -> Result<(), AllocError>
     ensures { OnOk result (text.new.items ≡ text.old.items ++ report_line (domain, report.now)) }
 {
     push_named(text, "domain", u64::from(domain))?;
@@ -140,5 +141,57 @@ pub(crate) fn push_report(
     push_named(text, " from", u64::from(report.first))?;
     push_named(text, " to", u64::from(report.last))?;
     text.push(b'\n')?;
+    Ok(())
+}
+
+/// Puts the values of a domain after a text, a line in a format.
+fn push_values(
+    text: &mut Vec<u8>,
+    format: Format,
+    domain: u32,
+    report: &DomainReport,
+) -> Result<(), AllocError>
+    ensures { OnOk result (text.new.items ≡ text.old.items ++ line_in format (report_values (domain, report.now))) }
+{
+    text.reserve(MOST_REPORT)?;
+    put_opening(text, format);
+    put_value(text, format, "domain", domain);
+    put_value(text, format, "messages", report.messages);
+    put_value(text, format, "records", report.records);
+    put_value(text, format, "options", report.options);
+    put_value(text, format, "gaps", report.gaps);
+    put_value(text, format, "missing", report.missing);
+    put_value(text, format, "backwards", report.backwards);
+    put_value(text, format, "from", report.first);
+    put_last(text, format, "to", report.last);
+    Ok(())
+}
+
+/// Puts the line of a domain after a text, in a format.
+#[tactic(auto, unfolding(crate::specs::Reports::report_in))]
+pub(crate) fn push_in(
+    text: &mut Vec<u8>,
+    format: Format,
+    domain: u32,
+    report: &DomainReport,
+) -> Result<(), AllocError>
+    ensures { OnOk result (text.new.items ≡ text.old.items ++ report_in format (domain, report.now)) }
+{
+    match format {
+        Format::Lines => push_report(text, domain, report),
+        Format::Csv => push_values(text, Format::Csv, domain, report),
+        Format::Json => push_values(text, Format::Json, domain, report),
+    }
+}
+
+/// Puts after a text what is before all lines: in CSV the names of the values.
+pub(crate) fn push_heading(text: &mut Vec<u8>, format: Format) -> Result<(), AllocError>
+    ensures { OnOk result (text.new.items ≡ text.old.items ++ heading format report_names) }
+{
+    if let Format::Csv = format {
+        text.extend_from_slice(
+            "domain,messages,records,options,gaps,missing,backwards,from,to\n".as_bytes(),
+        )?;
+    }
     Ok(())
 }

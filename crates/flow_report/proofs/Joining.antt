@@ -82,6 +82,12 @@ pub record IsTelling (old : Option (List ℕ)) (held : List ℕ) (now : Option (
 pub begins : (a : Option (List ℕ)) (held text : List ℕ) → IsTelling a held a held text text
 begins a held text = record { front = []; told = holds_more a held [] held (sym (append-nil held)); parts = refl }
 
+-- what is before the first piece is held
+pub begins_after : (a : Option (List ℕ)) (held first text rest : List ℕ) → held ≡ first → text ≡ first ++ rest
+    → IsTelling a [] a held text rest
+begins_after a held first text rest e parts =
+    record { front = first; told = holds_more a [] first held e; parts = parts }
+
 pub goes_on : (a b c : Option (List ℕ)) (held mid left text x rest later : List ℕ) → IsTelling a held b mid text later
     → later ≡ x ++ rest → Tells b mid c left x → IsTelling a held c left text rest
 goes_on a b c held mid left text x rest later p e q = record {

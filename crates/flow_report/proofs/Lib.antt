@@ -1,5 +1,6 @@
 pub mod Reached
 pub mod Joining
+pub mod LineMade
 pub mod Listed
 pub mod Holding
 pub mod Printing

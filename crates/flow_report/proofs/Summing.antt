@@ -35,6 +35,7 @@ use Rattle.flow_codec.proofs.Sizes.{few_records, short_enough}
 use Rattle.flow_report.specs.declared.refusal.Refusal.{Refusal}
 use Rattle.flow_report.specs.declared.refusal.Refusal.TheVariants as refusal
 use Rattle.flow_report.specs.Refusals.{refusal_of, message_refusal, stream_refusal, IsOfInput}
+use Rattle.flow_report.specs.declared.format.Format.{Format}
 use Rattle.flow_report.specs.Measure.{flows_of_all, HasSums, IsRefusedBy, KeepsOrFront}
 use Rattle.flow_codec.proofs.Following.{Follows, follows_none, follows_more, follows_end, follows_broken}
 use Rattle.flow_codec.proofs.Following.{follows_refused}
@@ -285,12 +286,12 @@ of_input (stream.Read failed) = tt
 of_input stream.NumbersSpent = tt
 
 -- a refusal before anything is written keeps what the writer held
-pub kept : (width : ℕ) (input old new : Option (List ℕ)) (e : Refusal) → IsOfInput e → Keeps old new
-    → KeepsOrFront width input old new e
-kept width input old new (refusal.Message fault number) is keeps = keeps
-kept width input old new (refusal.File fault) is keeps = keeps
-kept width input old new refusal.OutOfMemory is keeps = keeps
-kept width input old new refusal.SumSpent is keeps = keeps
-kept width input old new refusal.NumbersSpent is keeps = keeps
-kept width input old new (refusal.Read failed) is keeps = keeps
-kept width input old new (refusal.Write failed) is keeps = absurd is
+pub kept : (format : Format) (width : ℕ) (input old new : Option (List ℕ)) (e : Refusal) → IsOfInput e → Keeps old new
+    → KeepsOrFront format width input old new e
+kept format width input old new (refusal.Message fault number) is keeps = keeps
+kept format width input old new (refusal.File fault) is keeps = keeps
+kept format width input old new refusal.OutOfMemory is keeps = keeps
+kept format width input old new refusal.SumSpent is keeps = keeps
+kept format width input old new refusal.NumbersSpent is keeps = keeps
+kept format width input old new (refusal.Read failed) is keeps = keeps
+kept format width input old new (refusal.Write failed) is keeps = absurd is

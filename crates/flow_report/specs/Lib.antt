@@ -1,6 +1,7 @@
 pub mod Writing
 pub mod Numbers
 pub mod Lines
+pub mod Formats
 pub mod ArchiveLines
 pub mod Refusals
 pub mod Printed

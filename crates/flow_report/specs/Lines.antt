@@ -1,4 +1,4 @@
--- The lines that the program writes, as octets of UTF-8.
+-- The lines of messages and their records, as octets of UTF-8.
 use Rattle.std.specs.Prelude.{ℕ, ◌+◌, ◌/◌, ◌%◌, nat_lt, Bool, List, [], ◌∷◌, ◌++◌, map, codes, Option, Some, None}
 use Rattle.std.specs.Prelude.{unwrap_or, if◌then◌else◌}
 use Rattle.std.specs.List.{flat_map, join_with_byte}
@@ -12,30 +12,6 @@ use Rattle.flow_codec.specs.declared.message.Field.{Field}
 use Rattle.flow_codec.specs.declared.message.Header.{Header}
 use Rattle.flow_codec.specs.Fields.{fields_in}
 use Rattle.flow_codec.specs.Raw.{RawRecord, RawMessage}
-use Rattle.flow_measure.specs.declared.rows.Key.{Key}
-use Rattle.flow_measure.specs.declared.rows.Sums.{Sums}
-
--- ---- totals
-
--- a minus for none
-unfoldable pub protocol_text : Option ℕ → List ℕ
-protocol_text None = 45 ∷ []
-protocol_text (Some protocol) = decimal protocol
-
--- START DOMAIN PROTOCOL
-unfoldable pub key_text : Key → List ℕ
-key_text key = decimal key.start ++ 32 ∷ decimal key.domain ++ 32 ∷ protocol_text key.protocol
-
--- FLOWS OCTETS PACKETS
-unfoldable pub sums_text : Sums → List ℕ
-sums_text sums = decimal sums.flows ++ 32 ∷ decimal sums.octets ++ 32 ∷ decimal sums.packets
-
--- START DOMAIN PROTOCOL FLOWS OCTETS PACKETS of a key and its sums, with a line feed
-unfoldable pub totals_line : Key × Sums → List ℕ
-totals_line e = key_text e.0 ++ 32 ∷ sums_text e.1 ++ 10 ∷ []
-
-abbrev pub totals_text : List (Key × Sums) → List ℕ
-totals_text entries = flat_map totals_line entries
 
 -- ---- values
 

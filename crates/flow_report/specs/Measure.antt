@@ -1,19 +1,21 @@
 -- What `measure` answers of a File.
-use Rattle.std.specs.Prelude.{◌≡◌, ℕ, ◌+◌, List, length, ⊤, Option, IfSome}
+use Rattle.std.specs.Prelude.{◌≡◌, ℕ, ◌+◌, List, length, map, ⊤, Option, IfSome}
 use Rattle.std.specs.Io.KnownBytes.{Keeps}
 use Rattle.std.specs.List.{flat_map}
 use Rattle.flow_codec.specs.Message.{in_fields}
 use Rattle.flow_measure.specs.declared.flow.Flow.{Flow}
+use Rattle.flow_measure.specs.declared.rows.Row.{Row}
 use Rattle.flow_codec.specs.Raw.{RawMessage}
 use Rattle.flow_codec.specs.Templates.{AllTemplates}
 use Rattle.flow_codec.specs.File.{AcceptedFront, whole, broken, refused}
 use Rattle.std.specs.FinMap.{entries}
-use Rattle.flow_measure.specs.Sums.{Table, table_of}
+use Rattle.flow_measure.specs.Sums.{Table, row_of, table_of}
 use Rattle.flow_measure.specs.Flows.{flows_of}
 use Rattle.flow_report.specs.declared.refusal.Refusal.{Refusal}
 use Rattle.flow_report.specs.declared.refusal.Refusal.TheVariants.{Message, File, OutOfMemory, SumSpent, NumbersSpent}
 use Rattle.flow_report.specs.declared.refusal.Refusal.TheVariants.{Read, Write}
-use Rattle.flow_report.specs.Lines.{totals_text}
+use Rattle.flow_report.specs.declared.format.Format.{Format}
+use Rattle.flow_report.specs.ArchiveLines.{rows_text}
 use Rattle.flow_report.specs.Fronts.{IsSpentFront, IsReadFront}
 use Rattle.flow_report.specs.Writing.{AppendsFront}
 
@@ -25,9 +27,12 @@ flows_of_all messages = flat_map (λ m. flows_of (in_fields m)) messages
 abbrev pub table_of_all : ℕ → List RawMessage → Table
 table_of_all width messages = table_of width (flows_of_all messages)
 
--- the lines of all sums, in the order of their keys
-abbrev pub lines_of : Table → List ℕ
-lines_of table = totals_text (entries table.sums)
+-- all sums, in the order of their keys
+abbrev pub rows_of : Table → List Row
+rows_of table = map (row_of table.width) (entries table.sums)
+
+abbrev pub lines_of : Format → Table → List ℕ
+lines_of format table = rows_text format table.width (rows_of table)
 
 -- the octets are a whole File of accepted messages, and these are their sums
 abbrev pub HasSums : ℕ → List ℕ → Table → Type 0
@@ -35,9 +40,9 @@ HasSums width octets table = (messages : List RawMessage) × (after : AllTemplat
     × AcceptedFront octets messages after whole × (table ≡ table_of_all width messages)
 
 -- the octets are a whole File of accepted messages, and these are their totals lines
-abbrev pub HasTotals : ℕ → List ℕ → List ℕ → Type 0
-HasTotals width octets lines = (messages : List RawMessage) × (after : AllTemplates)
-    × AcceptedFront octets messages after whole × (lines ≡ lines_of (table_of_all width messages))
+abbrev pub HasTotals : Format → ℕ → List ℕ → List ℕ → Type 0
+HasTotals format width octets lines = (messages : List RawMessage) × (after : AllTemplates)
+    × AcceptedFront octets messages after whole × (lines ≡ lines_of format (table_of_all width messages))
 
 -- What a refusal says of a File: the first fault by place; where a read failed, that all messages that stand whole in
 -- what was read are accepted; nothing where memory or a writer failed. `left` is what the input has left.
@@ -53,12 +58,12 @@ IsRefusedBy octets left (Read failed) = (messages : List RawMessage) × IsReadFr
 IsRefusedBy octets left (Write failed) = ⊤
 
 -- What a writer holds after a refusal: what it held, or, where writing failed, a front of the lines besides.
-abbrev pub KeepsOrFront : ℕ → Option (List ℕ) → Option (List ℕ) → Option (List ℕ) → Refusal → Type 0
-KeepsOrFront width input old new (Write failed) =
-    IfSome input (λ octets. (lines : List ℕ) × HasTotals width octets lines × AppendsFront old new lines)
-KeepsOrFront width input old new (Message fault number) = Keeps old new
-KeepsOrFront width input old new (File fault) = Keeps old new
-KeepsOrFront width input old new OutOfMemory = Keeps old new
-KeepsOrFront width input old new SumSpent = Keeps old new
-KeepsOrFront width input old new NumbersSpent = Keeps old new
-KeepsOrFront width input old new (Read failed) = Keeps old new
+abbrev pub KeepsOrFront : Format → ℕ → Option (List ℕ) → Option (List ℕ) → Option (List ℕ) → Refusal → Type 0
+KeepsOrFront format width input old new (Write failed) =
+    IfSome input (λ octets. (lines : List ℕ) × HasTotals format width octets lines × AppendsFront old new lines)
+KeepsOrFront format width input old new (Message fault number) = Keeps old new
+KeepsOrFront format width input old new (File fault) = Keeps old new
+KeepsOrFront format width input old new OutOfMemory = Keeps old new
+KeepsOrFront format width input old new SumSpent = Keeps old new
+KeepsOrFront format width input old new NumbersSpent = Keeps old new
+KeepsOrFront format width input old new (Read failed) = Keeps old new

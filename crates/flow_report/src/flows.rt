@@ -1,17 +1,46 @@
 //! Lines of flows.
 
-ghost use Rattle.std.specs.Prelude.{◌≡◌, ◌≤◌, [], OnOk, IfErr, vec_capacity};
+ghost use Rattle.std.specs.Prelude.{◌≡◌, ◌≤◌, ◌+◌, ◌++◌, [], OnOk, IfErr, vec_len, vec_capacity};
 ghost use Rattle.std.specs.Io.KnownBytes.{Appends};
-ghost use Rattle.flow_report.specs.ArchiveLines.{flows_text};
+ghost use Rattle.flow_report.specs.ArchiveLines.{flow_line, flow_names, flows_text};
+ghost use Rattle.flow_report.specs.Formats.{heading};
 ghost use Rattle.flow_report.specs.Writing.{AppendsFront, IsCut};
 
+use crate::format::Format;
 use crate::output::{HeldText, MOST_HELD};
 use crate::patient::WriteFailed;
-use crate::text::put_flow;
 use crate::text_error::TextError;
+use crate::values::{put_last, put_opening, put_protocol, put_text, put_value};
 use flow_measure::Flow;
 use std::alloc::Global;
 use std::io::Write;
+
+/// The line of a flow, where there is room: START DOMAIN PROTOCOL OCTETS PACKETS.
+#[tactic(auto, unfolding(crate::specs::ArchiveLines::flow_line))]
+fn put_flow(line: &mut Vec<u8>, format: Format, flow: Flow)
+    requires { vec_len line.old + 428 ≤ vec_capacity line.old }
+    ensures text { line.new.items ≡ line.old.items ++ flow_line format flow }
+    ensures room { vec_capacity line.old ≤ vec_capacity line.new }
+{
+    put_opening(line, format);
+    put_value(line, format, "start", flow.start);
+    put_value(line, format, "domain", flow.domain);
+    put_protocol(line, format, flow.protocol);
+    put_value(line, format, "octets", flow.octets);
+    put_last(line, format, "packets", flow.packets);
+}
+
+/// What is before the lines of flows, where there is room: in CSV the names of their values.
+fn put_flows_heading(line: &mut Vec<u8>, format: Format)
+    requires { vec_len line.old + 428 ≤ vec_capacity line.old }
+    ensures text { line.new.items ≡ line.old.items ++ heading format flow_names }
+    ensures len { vec_len line.new ≤ vec_len line.old + 428 }
+    ensures room { vec_capacity line.old ≤ vec_capacity line.new }
+{
+    if let Format::Csv = format {
+        put_text(line, "start,domain,protocol,octets,packets\n");
+    }
+}
 
 impl HeldText {
     ghost use Rattle.std.specs.Prelude.{◌≡◌, ◌<◌, ◌≤◌, OnOk, IfErr, length, vec_capacity};
@@ -20,18 +49,24 @@ impl HeldText {
     ghost use Rattle.flow_report.specs.Telling.{Tells, TellsFront};
 
     /// Takes the line of a flow, and writes what is held where that is much.
-    fn put_flow<W: Write>(&mut self, output: &mut W, flow: Flow) -> Result<(), WriteFailed>
+    fn put_flow<W: Write>(
+        &mut self,
+        output: &mut W,
+        format: Format,
+        flow: Flow,
+    ) -> Result<(), WriteFailed>
         requires few { length self.old.text.items < 65536 }
-        requires room { 65823 ≤ vec_capacity self.old.text }
+        requires room { 65964 ≤ vec_capacity self.old.text }
         ensures told { OnOk result
             (Tells (W.contents output.old) self.old.text.items (W.contents output.new) self.new.text.items
-            (flow_line flow)) }
+            (flow_line format flow)) }
         ensures few { OnOk result (length self.new.text.items < 65536) }
-        ensures room { 65823 ≤ vec_capacity self.new.text }
+        ensures room { 65964 ≤ vec_capacity self.new.text }
         ensures front { IfErr result
-            (λ _. TellsFront (W.contents output.old) self.old.text.items (W.contents output.new) (flow_line flow)) }
+            (λ _. TellsFront (W.contents output.old) self.old.text.items (W.contents output.new)
+            (flow_line format flow)) }
     {
-        put_flow(&mut self.text, flow);
+        put_flow(&mut self.text, format, flow);
         if self.text.len() >= MOST_HELD {
             self.flush(output)?;
         }
@@ -42,28 +77,35 @@ impl HeldText {
 /// Writes the lines of flows, as they are made: no memory is taken but for the text that is held.
 fn tell_flows<W: Write>(
     flows: &[Flow],
+    format: Format,
     lines: &mut HeldText,
     output: &mut W,
 ) -> Result<(), WriteFailed>
     requires none { lines.old.text.items ≡ [] }
-    requires room { 65823 ≤ vec_capacity lines.old.text }
-    ensures all { OnOk result (Appends (W.contents output.old) (W.contents output.new) (flows_text flows.now)) }
+    requires room { 65964 ≤ vec_capacity lines.old.text }
+    ensures all { OnOk result (Appends (W.contents output.old) (W.contents output.new) (flows_text format flows.now)) }
     ensures front { IfErr result
-        (λ _. AppendsFront (W.contents output.old) (W.contents output.new) (flows_text flows.now)) }
+        (λ _. AppendsFront (W.contents output.old) (W.contents output.new) (flows_text format flows.now)) }
 {
+    put_flows_heading(&mut lines.text, format);
     for flow in flows {
-        lines.put_flow(output, *flow)?;
+        lines.put_flow(output, format, *flow)?;
     }
     lines.flush(output)?;
     Ok(())
 }
 
-/// Writes the lines of flows: START DOMAIN PROTOCOL OCTETS PACKETS.
-pub fn write_flows<W: Write>(alloc: Global, flows: &[Flow], output: &mut W) -> Result<(), TextError>
-    ensures all { OnOk result (Appends (W.contents output.old) (W.contents output.new) (flows_text flows.now)) }
-    ensures cut { IfErr result (IsCut (W.contents output.old) (W.contents output.new) (flows_text flows.now)) }
+/// Writes flows: START DOMAIN PROTOCOL OCTETS PACKETS.
+pub fn write_flows<W: Write>(
+    alloc: Global,
+    flows: &[Flow],
+    format: Format,
+    output: &mut W,
+) -> Result<(), TextError>
+    ensures all { OnOk result (Appends (W.contents output.old) (W.contents output.new) (flows_text format flows.now)) }
+    ensures cut { IfErr result (IsCut (W.contents output.old) (W.contents output.new) (flows_text format flows.now)) }
 {
     let mut lines = HeldText::new(alloc)?;
-    tell_flows(flows, &mut lines, output)?;
+    tell_flows(flows, format, &mut lines, output)?;
     Ok(())
 }

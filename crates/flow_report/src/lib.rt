@@ -1,12 +1,14 @@
 //! What `measure` and `dump` write of an IPFIX File (RFC 5655), and lines of an archive's rows and flows.
 //!
 //! What the layers above may count on: `measure` writes the totals lines of the whole File or nothing, `dump` the lines
-//! of all messages before the first fault; a refusal is that of the first fault by place. A writer bears a bounded
-//! number of interrupted calls, and is given a front of the text where it fails.
+//! of all messages before the first fault; a refusal is that of the first fault by place. Sums and flows are written
+//! in words, as CSV or as JSON. A writer bears a bounded number of interrupted calls, and is given a front of the text
+//! where it fails.
 #![tactic(auto)]
 
 mod dumping;
 mod flows;
+mod format;
 mod label;
 mod line;
 mod measuring;
@@ -18,10 +20,12 @@ mod rows;
 mod tables;
 mod text;
 mod text_error;
+mod values;
 mod width;
 
 pub use dumping::dump;
 pub use flows::write_flows;
+pub use format::Format;
 pub use measuring::measure;
 pub use numbers::number_between;
 pub use patient::{MOST_INTERRUPTS, Patience, WriteFailed, write_patiently};
@@ -29,4 +33,5 @@ pub use refusal::Refusal;
 pub use rows::write_rows;
 pub use text::push_count;
 pub use text_error::TextError;
+pub use values::{MOST_VALUE, put_last, put_opening, put_value};
 pub use width::Width;

@@ -6,13 +6,14 @@ ghost use Rattle.flow_report.specs.Refusals.{refusal_of, IsOfInput};
 ghost use Rattle.flow_report.specs.Writing.{AppendsFront};
 ghost use Rattle.flow_report.specs.Measure.{lines_of, HasTotals, HasSums, IsRefusedBy, KeepsOrFront};
 
-use crate::output::{HeldText, MOST_HELD};
+use crate::format::Format;
+use crate::output::HeldText;
 use crate::patient::WriteFailed;
 use crate::refusal::Refusal;
-use crate::text::put_totals;
+use crate::rows::put_rows_heading;
 use crate::width::Width;
 use flow_codec::{MessageReader, Templates, WalkError, walk_message};
-use flow_measure::{Key, Rows, SumError, Sums, Totals};
+use flow_measure::{Row, Rows, SumError, Totals};
 use std::alloc::Global;
 use std::io::{Read, Write};
 
@@ -48,80 +49,52 @@ fn refusal_of(stop: WalkError<SumError>, number: u64) -> Refusal
     }
 }
 
-impl HeldText {
-    ghost use Rattle.std.specs.Prelude.{◌≡◌, ◌<◌, ◌≤◌, OnOk, IfErr, length, vec_capacity};
-    ghost use Rattle.flow_measure.specs.declared.rows.Key.{Key};
-    ghost use Rattle.flow_report.specs.Lines.{totals_line};
-    ghost use Rattle.flow_report.specs.Telling.{Tells, TellsFront};
-
-    /// Takes the line of a key and its sums, and writes what is held where that is much.
-    fn put_totals<W: Write>(
-        &mut self,
-        output: &mut W,
-        key: Key,
-        sums: Sums,
-    ) -> Result<(), WriteFailed>
-        requires few { length self.old.text.items < 65536 }
-        requires room { 65823 ≤ vec_capacity self.old.text }
-        ensures told { OnOk result
-            (Tells (W.contents output.old) self.old.text.items (W.contents output.new) self.new.text.items
-            (totals_line (key, sums))) }
-        ensures few { OnOk result (length self.new.text.items < 65536) }
-        ensures room { 65823 ≤ vec_capacity self.new.text }
-        ensures front { IfErr result
-            (λ _. TellsFront (W.contents output.old) self.old.text.items (W.contents output.new)
-            (totals_line (key, sums))) }
-    {
-        put_totals(&mut self.text, key, sums);
-        if self.text.len() >= MOST_HELD {
-            self.flush(output)?;
-        }
-        Ok(())
-    }
-}
-
 /// Writes the lines of all sums, as they are made: no memory is taken but for the text that is held.
 fn write_totals<W: Write>(
     rows: &Rows,
+    format: Format,
     lines: &mut HeldText,
     output: &mut W,
 ) -> Result<(), WriteFailed>
     requires none { lines.old.text.items ≡ [] }
-    requires room { 65823 ≤ vec_capacity lines.old.text }
-    ensures all { OnOk result (Appends (W.contents output.old) (W.contents output.new) (lines_of rows.now)) }
+    requires room { 65964 ≤ vec_capacity lines.old.text }
+    ensures all { OnOk result (Appends (W.contents output.old) (W.contents output.new) (lines_of format rows.now)) }
     ensures front { IfErr result
-        (λ _. AppendsFront (W.contents output.old) (W.contents output.new) (lines_of rows.now)) }
+        (λ _. AppendsFront (W.contents output.old) (W.contents output.new) (lines_of format rows.now)) }
 {
+    let width = rows.width();
     let mut walk = rows.walk();
+    put_rows_heading(&mut lines.text, format);
     'rows: while let Some((key, sums)) = walk.next() {
-        lines.put_totals(output, key, sums)?;
+        lines.put_row(output, format, width, Row { key, sums, width })?;
     }
     lines.flush(output)?;
     Ok(())
 }
 
-/// Reads a File and writes the totals lines of all its flows: START DOMAIN PROTOCOL FLOWS OCTETS PACKETS, one for each
-/// interval of this width, Observation Domain and protocol, in this order, none before protocol 0. Nothing is written
-/// unless the whole File was accepted.
+/// Reads a File and writes the sums of all its flows: START DOMAIN PROTOCOL FLOWS OCTETS PACKETS, and in CSV and JSON
+/// the width, a row for each interval of this width, Observation Domain and protocol, in this order, none before
+/// protocol 0. Nothing is written unless the whole File was accepted.
 pub fn measure<R: Read, W: Write>(
     alloc: Global,
     width: Width,
+    format: Format,
     input: &mut R,
     output: &mut W,
 ) -> Result<(), Refusal>
     // The lines are those of a whole File.
     ensures lines { OnOk result
-        (IfSome (R.remaining input.old) (λ octets. (lines : List ℕ) × HasTotals width octets lines
+        (IfSome (R.remaining input.old) (λ octets. (lines : List ℕ) × HasTotals format width octets lines
         × Appends (W.contents output.old) (W.contents output.new) lines)) }
     // A refusal is that of the first fault by place.
     ensures refused { IfErr result (λ e. IfSome (R.remaining input.old)
         (λ octets. IsRefusedBy octets (R.remaining input.new) e)) }
     // After one nothing is written, or, where writing failed, a front of the lines.
     ensures kept { IfErr result
-        (λ e. KeepsOrFront width (R.remaining input.old) (W.contents output.old) (W.contents output.new) e) }
+        (λ e. KeepsOrFront format width (R.remaining input.old) (W.contents output.old) (W.contents output.new) e) }
 {
     let rows = sums_of(alloc, width, input)?;
     let mut lines = HeldText::new(alloc)?;
-    write_totals(&rows, &mut lines, output)?;
+    write_totals(&rows, format, &mut lines, output)?;
     Ok(())
 }

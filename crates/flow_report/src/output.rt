@@ -3,7 +3,7 @@
 ghost use Rattle.std.specs.Prelude.{◌≡◌, ◌≤◌, [], IfOk, OnOk, IfErr, vec_capacity};
 
 use crate::patient::{Patience, WriteFailed, write_patiently};
-use crate::text::MOST_LINE;
+use crate::values::MOST_LINE;
 use std::alloc::{AllocError, Global};
 use std::io::Write;
 
@@ -28,7 +28,7 @@ impl HeldText {
     /// One that holds nothing.
     pub(crate) fn new(alloc: Global) -> Result<Self, AllocError>
         ensures none { IfOk result (λ held. held.text.items ≡ []) }
-        ensures room { IfOk result (λ held. 65823 ≤ vec_capacity held.text) }
+        ensures room { IfOk result (λ held. 65964 ≤ vec_capacity held.text) }
     {
         Ok(HeldText {
             text: Vec::with_capacity(alloc, MOST_HELD + MOST_LINE)?,

@@ -1,7 +1,7 @@
 //! What the tests run. It promises nothing, so that they are proved without all that these calls promise.
 
 use flow_measure::{Flow, Row};
-use flow_report::{Refusal, TextError, Width, dump, measure, write_flows, write_rows};
+use flow_report::{Format, Refusal, TextError, Width, dump, measure, write_flows, write_rows};
 use std::alloc::{AllocError, Global};
 use std::io::{Read, Write};
 use std::test::Fail;
@@ -24,7 +24,7 @@ pub(crate) enum Task<'a> {
     /// The messages and records of a File.
     Dump(&'a [u8]),
     /// The totals of a File, by intervals of so many seconds.
-    Measure(&'a str, &'a [u8]),
+    Measure(Format, &'a str, &'a [u8]),
     /// Rows of sums.
     Rows(&'a [Row]),
     /// Flows.
@@ -60,12 +60,13 @@ pub(crate) fn dumped<R: Read, W: Write>(
 /// Runs `measure`: its refusal.
 fn measured<W: Write>(
     alloc: Global,
+    format: Format,
     width: &str,
     mut file: &[u8],
     output: &mut W,
 ) -> Result<String, Fail> {
     let width = Width::of(width).ok_or("a width")?;
-    Ok(printed(alloc, measure(alloc, width, &mut file, output))?)
+    Ok(printed(alloc, measure(alloc, width, format, &mut file, output))?)
 }
 
 /// Writes rows over intervals of 300 seconds: the refusal.
@@ -74,7 +75,7 @@ fn rows_written<W: Write>(
     rows: &[Row],
     output: &mut W,
 ) -> Result<String, AllocError> {
-    printed_text(alloc, write_rows(alloc, rows, 300, output))
+    printed_text(alloc, write_rows(alloc, rows, 300, Format::Lines, output))
 }
 
 /// Writes flows: the refusal.
@@ -83,7 +84,7 @@ fn flows_written<W: Write>(
     flows: &[Flow],
     output: &mut W,
 ) -> Result<String, AllocError> {
-    printed_text(alloc, write_flows(alloc, flows, output))
+    printed_text(alloc, write_flows(alloc, flows, Format::Lines, output))
 }
 
 /// Writes this: the refusal, and nothing where there is none.
@@ -94,7 +95,7 @@ pub(crate) fn written<W: Write>(
 ) -> Result<String, Fail> {
     match task {
         Task::Dump(mut file) => Ok(dumped(alloc, &mut file, output)?),
-        Task::Measure(width, file) => measured(alloc, width, file, output),
+        Task::Measure(format, width, file) => measured(alloc, format, width, file, output),
         Task::Rows(rows) => Ok(rows_written(alloc, rows, output)?),
         Task::Flows(flows) => Ok(flows_written(alloc, flows, output)?),
     }

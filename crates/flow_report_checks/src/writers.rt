@@ -3,6 +3,7 @@
 
 use crate::tasks::{PLAIN, PLAIN_LINES, Task, written};
 use flow_measure::{Flow, Key, Row, Sums};
+use flow_report::Format;
 use std::alloc::{AllocError, Global};
 use std::io;
 use std::io::{ErrorKind, Write};
@@ -69,6 +70,15 @@ fn takes(
 /// The line of totals of the plain message.
 const PLAIN_LINE: &str = "1699999800 7 6 1 1500 10\n";
 
+/// The same as CSV.
+const PLAIN_CSV: &str =
+    "start,domain,protocol,flows,octets,packets,width\n1699999800,7,6,1,1500,10,300\n";
+
+/// The same as JSON.
+const PLAIN_JSON: &str =
+    "{\"start\":1699999800,\"domain\":7,\"protocol\":6,\"flows\":1,\"octets\":1500,\
+                          \"packets\":10,\"width\":300}\n";
+
 #[test]
 fn writers_that_are_slow_or_fail(rt: HostRuntime) -> Result<(), Fail> {
     for (piece, room) in [
@@ -83,7 +93,9 @@ fn writers_that_are_slow_or_fail(rt: HostRuntime) -> Result<(), Fail> {
     ] {
         for (task, lines) in [
             (Task::Dump(&PLAIN), PLAIN_LINES),
-            (Task::Measure("300", &PLAIN), PLAIN_LINE),
+            (Task::Measure(Format::Lines, "300", &PLAIN), PLAIN_LINE),
+            (Task::Measure(Format::Csv, "300", &PLAIN), PLAIN_CSV),
+            (Task::Measure(Format::Json, "300", &PLAIN), PLAIN_JSON),
         ] {
             let is_so = takes(rt.alloc(), task, lines, (piece, room))?;
             assert!(rt; is_so, "{piece} of {room}");
@@ -209,7 +221,7 @@ fn interrupts_are_borne(rt: HostRuntime) -> Result<(), Fail> {
     let (rows, flows) = (rows(alloc)?, flows(alloc)?);
     for (task, count, writes) in [
         (Task::Dump(&dumped), 256_056, 4),
-        (Task::Measure("1", &measured), 147_000, 3),
+        (Task::Measure(Format::Lines, "1", &measured), 147_000, 3),
         (Task::Rows(&rows), 175_000, 3),
         (Task::Flows(&flows), 161_000, 3),
     ] {

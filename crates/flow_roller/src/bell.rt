@@ -8,6 +8,8 @@ struct Work {
     /// How often there was something new, up to 2^64 - 1.
     rings: u64,
     has_ended: bool,
+    /// How many of the newest sealed segments are left as they are.
+    keep: u32,
 }
 
 /// By which those who append wake a roller: there may be something to roll, or nothing more is appended.
@@ -18,11 +20,12 @@ pub struct Bell {
 }
 
 impl Bell {
-    /// One that hasn't rung yet.
-    pub fn new() -> Bell {
+    /// One that hasn't rung yet. The newest `keep` sealed segments are left as they are.
+    pub fn new(keep: u32) -> Bell {
         let work = Work {
             rings: 0,
             has_ended: false,
+            keep,
         };
         Bell {
             work: Mutex::new(work),
@@ -33,6 +36,20 @@ impl Bell {
     /// Says that there may be something to roll.
     pub fn ring<W: Wait>(&self, rt: &W) {
         let mut work = self.work.lock(rt);
+        work.rings = work.rings.saturating_add(1);
+        drop(work);
+        self.changed.notify_all();
+    }
+
+    /// How many of the newest sealed segments are left as they are.
+    pub(crate) fn keep<W: Wait>(&self, rt: &W) -> u32 {
+        self.work.lock(rt).keep
+    }
+
+    /// From now on the newest `keep` sealed segments are left as they are.
+    pub fn set_keep<W: Wait>(&self, rt: &W, keep: u32) {
+        let mut work = self.work.lock(rt);
+        work.keep = keep;
         work.rings = work.rings.saturating_add(1);
         drop(work);
         self.changed.notify_all();

@@ -42,15 +42,14 @@ fn clear<D: Disk, J: Naming, W: Wait>(
 }
 
 /// Makes turns of rolling while others append, until they have ended and there is nothing left to do: all sealed
-/// segments but the newest `keep` are rolled then, and files that were replaced are removed. It waits for the bell where
-/// it is idle, and makes its turns 1,000,000 times at most. It stops at the first refusal, and answers that. Reads of a
-/// job's sources that fail raise `faults`.
+/// segments but the newest ones that the bell says to keep are rolled then, and files that were replaced are removed. It
+/// waits for the bell where it is idle, and makes its turns 1,000,000 times at most. It stops at the first refusal, and
+/// answers that. Reads of a job's sources that fail raise `faults`.
 pub fn roll_beside<D: Disk, J: Naming, W: Wait>(
     shared: &SharedArchive<D, J, W>,
     rt: &W,
     alloc: Global,
     bell: &Bell,
-    keep: u32,
     faults: &mut Faults<D::Sealed>,
 ) -> Result<(), ArchiveError>
     ensures unread { HasCause ArchiveError.SourceFault faults.old faults.new result }
@@ -58,6 +57,7 @@ pub fn roll_beside<D: Disk, J: Naming, W: Wait>(
     let mut heard = 0;
     let mut has_ended = false;
     for _ in 0..MOST_CALLS {
+        let keep = bell.keep(rt);
         roll_worker(shared, rt, alloc, &Open, keep, TURNS, faults)?;
         clear(shared, rt, alloc, faults)?;
         if shared.roll_turn(rt, alloc, keep, faults)? == Turn::Idle {

@@ -1,2 +1,5 @@
 pub mod Told
+pub mod Walking
+pub mod Verdicts
+pub mod Answered
 pub mod Reading

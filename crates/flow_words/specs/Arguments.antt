@@ -1,18 +1,41 @@
 -- What a command asks for, by its name and the values that were found for its arguments.
-use Rattle.std.specs.Prelude.{ℕ, ◌%◌, ◌==◌, List, Option, Some, None, option_map, option_and_then}
-use Rattle.std.specs.Prelude.{codes, if◌then◌else◌, length, nat_lt}
+use Rattle.std.specs.Prelude.{ℕ, ◌%◌, ◌==◌, ◌&&◌, List, Option, Some, None, option_map, option_and_then}
+use Rattle.std.specs.Prelude.{codes, if◌then◌else◌, length, nat_lt, Bool, true, false}
+use Rattle.std.specs.List.{list_any}
 use Rattle.std.specs.Option.{option_map_or}
 use Rattle.std.specs.Str.{bytes_eq}
 use Rattle.clap.specs.Walk.{Row, Text, all_of, first_of}
 use Rattle.flow_words.specs.declared.request.Request.{Request}
 use Rattle.flow_words.specs.declared.request.Request.TheVariants.{Measure, Dump, Inspect, Create, Check, Totals, Flows}
-use Rattle.flow_words.specs.declared.request.Request.TheVariants.{Feed, Roll, Merge, Explain}
+use Rattle.flow_words.specs.declared.request.Request.TheVariants.{Feed, Shell, Roll, Merge, Explain}
 use Rattle.flow_words.specs.Explain.{is_refusal}
+use Rattle.flow_report.specs.declared.format.Format.{Format}
+use Rattle.flow_report.specs.declared.format.Format.TheVariants.{Lines, Csv, Json}
 use Rattle.flow_report.specs.Numbers.{number_between}
+use Rattle.flow_commands.specs.declared.plan.FeedPlan.{FeedPlan}
 use Rattle.flow_commands.specs.Plans.{Plan, Span}
 
 abbrev pub width_in : List Row → Option ℕ
 width_in rows = option_and_then (number_between 1 86400) (first_of (codes "WIDTH") rows)
+
+-- an option without a value is there
+abbrev pub is_set : Text → List Row → Bool
+is_set id rows = option_map_or (bytes_eq (codes "true")) (first_of id rows) false
+
+-- one format at most: lines where none is asked for
+abbrev pub format_of : Bool → Bool → Option Format
+format_of true true = None
+format_of true false = Some Csv
+format_of false true = Some Json
+format_of false false = Some Lines
+
+abbrev pub format_in : List Row → Option Format
+format_in rows = format_of (is_set (codes "csv") rows) (is_set (codes "json") rows)
+
+-- what `measure` asks for
+abbrev pub measured_in : List Row → Option Request
+measured_in rows =
+    option_and_then (λ format. option_map (λ width. Measure width format) (width_in rows)) (format_in rows)
 
 -- the octets of messages that a segment takes: 1,048,576 where nothing else is asked for
 abbrev pub limit_in : List Row → Option ℕ
@@ -58,12 +81,13 @@ workers_in rows =
 
 -- what `totals` asks for
 abbrev pub totalled_in : List Row → Option Request
-totalled_in rows = option_and_then (λ folder. option_and_then (λ span. option_map (Totals folder span) (workers_in rows))
-    (span_in rows)) (folder_in rows)
+totalled_in rows = option_and_then (λ folder. option_and_then (λ span. option_and_then (λ workers.
+    option_map (Totals folder span workers) (format_in rows)) (workers_in rows)) (span_in rows)) (folder_in rows)
 
 -- what `flows` asks for
 abbrev pub listed_in : List Row → Option Request
-listed_in rows = option_and_then (λ folder. option_map (Flows folder) (span_in rows)) (folder_in rows)
+listed_in rows = option_and_then (λ folder. option_and_then (λ span. option_map (Flows folder span) (format_in rows))
+    (span_in rows)) (folder_in rows)
 
 -- how many of the newest files are left
 abbrev pub keep_in : List Row → Option ℕ
@@ -73,9 +97,23 @@ keep_in rows = option_and_then (number_between 0 4294967295) (first_of (codes "K
 abbrev pub rolled_in : (Text → ℕ → Request) → List Row → Option Request
 rolled_in request rows = option_and_then (λ folder. option_map (request folder) (keep_in rows)) (folder_in rows)
 
--- how many of the newest segments `feed` leaves: 8 where nothing else is asked for
+-- how many of the newest segments `feed` and `shell` leave: 8 where nothing else is asked for
 abbrev pub kept_in : List Row → Option ℕ
 kept_in rows = option_map_or (number_between 0 4294967295) (first_of (codes "KEEP") rows) (Some 8)
+
+-- how many of the first messages of a File are only read: none where nothing is asked for
+abbrev pub passed_in : List Row → Option ℕ
+passed_in rows = option_map_or (number_between 0 281474976710655) (first_of (codes "COUNT") rows) (Some 0)
+
+-- how Files are fed
+abbrev pub feeding_in : List Row → Option FeedPlan
+feeding_in rows =
+    option_and_then (λ keep. option_map (λ passed. record { keep = keep; passed = passed }) (passed_in rows)) (kept_in rows)
+
+-- Messages of one File alone are passed.
+abbrev pub fed_alone : Text → FeedPlan → List Text → Option Request
+fed_alone folder plan files =
+    if nat_lt 0 plan.passed && nat_lt 1 (length files) then None else Some (Feed folder plan files)
 
 -- at most 8 Files
 abbrev pub few_of : List Text → Option (List Text)
@@ -84,10 +122,14 @@ few_of files = if nat_lt 8 (length files) then None else Some files
 abbrev pub files_in : List Row → Option (List Text)
 files_in rows = option_and_then few_of (all_of (codes "FILE") rows)
 
+-- standard input is one of these Files
+abbrev pub has_input : List Text → Bool
+has_input files = list_any (λ file. bytes_eq file (codes "-")) files
+
 -- what `feed` asks for
 abbrev pub fed_in : List Row → Option Request
-fed_in rows = option_and_then (λ folder. option_and_then (λ keep. option_map (Feed folder keep) (files_in rows))
-    (kept_in rows)) (folder_in rows)
+fed_in rows = option_and_then (λ folder. option_and_then (λ plan. option_and_then (fed_alone folder plan)
+    (files_in rows)) (feeding_in rows)) (folder_in rows)
 
 -- what `explain` asks for: the number of a refusal
 abbrev pub explained_in : List Row → Option ℕ
@@ -95,11 +137,16 @@ explained_in rows =
     option_and_then (λ n. if is_refusal n then Some n else None)
     (option_and_then (number_between 0 99) (first_of (codes "NUMBER") rows))
 
+-- what `shell` asks for
+abbrev pub shelled_in : List Row → Option Request
+shelled_in rows = option_and_then (λ folder. option_map (Shell folder) (kept_in rows)) (folder_in rows)
+
 -- what the name of a command that changes an archive, and the values of its arguments, ask for
 abbrev pub changing : Text → List Row → Option Request
 changing name rows =
     if bytes_eq (codes "roll") name then rolled_in Roll rows
     else if bytes_eq (codes "merge") name then rolled_in Merge rows
+    else if bytes_eq (codes "shell") name then shelled_in rows
     else None
 
 -- what a query's name and the values of its arguments ask for
@@ -113,9 +160,9 @@ queried name rows =
 -- what the name of a command other than `feed`, and the values of its arguments, ask for
 abbrev pub unfed : Text → List Row → Option Request
 unfed name rows =
-    if bytes_eq (codes "measure") name then option_map Measure (width_in rows)
+    if bytes_eq (codes "measure") name then measured_in rows
     else if bytes_eq (codes "dump") name then Some Dump
-    else if bytes_eq (codes "inspect") name then Some Inspect
+    else if bytes_eq (codes "inspect") name then option_map Inspect (format_in rows)
     else if bytes_eq (codes "create") name then create_in rows
     else if bytes_eq (codes "check") name then option_map Check (folder_in rows)
     else queried name rows

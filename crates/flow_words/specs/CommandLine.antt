@@ -1,9 +1,9 @@
 -- What the words of a command line ask for, and what the parser of the command line is told of its commands.
-use Rattle.std.specs.Prelude.{ℕ, Bool, true, List, [], ◌∷◌, ◌++◌, Option, Some, None, option_map, codes}
+use Rattle.std.specs.Prelude.{ℕ, Bool, true, false, ◌||◌, List, [], ◌∷◌, ◌++◌, Option, Some, None, option_map, codes}
 use Rattle.std.specs.Prelude.{if◌then◌else◌}
 use Rattle.std.specs.List.{list_any}
 use Rattle.std.specs.Str.{bytes_eq}
-use Rattle.clap.specs.declared.builder.action.ArgAction.TheVariants.{Append, Set}
+use Rattle.clap.specs.declared.builder.action.ArgAction.TheVariants.{Append, Set, SetTrue}
 use Rattle.clap.specs.Faults.{fault_of}
 use Rattle.clap.specs.Kinds.{Kinds}
 use Rattle.clap.specs.Walk.{Rule, Text}
@@ -11,6 +11,7 @@ use Rattle.clap.specs.Simple.{App, Shape, new_rule, new_shape, subcommand_of, wi
 use Rattle.flow_words.specs.declared.request.Request.{Request}
 use Rattle.flow_words.specs.declared.request.Request.TheVariants.{Measure, Dump}
 use Rattle.flow_report.specs.Numbers.{number_between}
+use Rattle.flow_report.specs.declared.format.Format.TheVariants.{Lines}
 use Rattle.flow_words.specs.Arguments.{request_in}
 
 -- ---- what the parser is told
@@ -27,6 +28,14 @@ several id = record (new_rule id) { required = true; action = Some Append }
 abbrev pub option : Text → Text → Rule
 option id name = record (new_rule id) { long = Some name; action = Some Set }
 
+-- an option without a value
+abbrev pub flag : Text → Rule
+flag name = record (new_rule name) { long = Some name; action = Some SetTrue }
+
+-- the formats in which rows, flows and domains are written
+abbrev pub format_rules : List Rule
+format_rules = flag (codes "csv") ∷ flag (codes "json") ∷ []
+
 abbrev pub width_rule : Rule
 width_rule = needed (codes "WIDTH")
 
@@ -34,7 +43,7 @@ abbrev pub folder_rule : Rule
 folder_rule = needed (codes "DIR")
 
 abbrev pub measure_shape : Shape
-measure_shape = record (new_shape (codes "measure")) { rules = width_rule ∷ [] }
+measure_shape = record (new_shape (codes "measure")) { rules = width_rule ∷ format_rules }
 
 abbrev pub dump_shape : Shape
 dump_shape = new_shape (codes "dump")
@@ -49,30 +58,43 @@ abbrev pub create_shape : Shape
 create_shape = record sized_shape { rules = sized_shape.rules ++ option (codes "SECONDS") (codes "wide") ∷ [] }
 
 abbrev pub inspect_shape : Shape
-inspect_shape = new_shape (codes "inspect")
+inspect_shape = record (new_shape (codes "inspect")) { rules = format_rules }
 
 abbrev pub check_shape : Shape
 check_shape = record (new_shape (codes "check")) { rules = folder_rule ∷ [] }
 
--- `totals` and `flows`
+-- the span of starts that `totals` and `flows` ask about
 abbrev pub span_shape : Text → Shape
 span_shape name = record (new_shape name) {
   rules = folder_rule ∷ needed (codes "FROM") ∷ needed (codes "TO") ∷ [];
 }
 
+-- `totals` and `flows`
+abbrev pub query_shape : Text → Shape
+query_shape name = record (span_shape name) { rules = (span_shape name).rules ++ format_rules }
+
 -- `totals` also takes how many workers scan
 abbrev pub totals_shape : Shape
-totals_shape = record (span_shape (codes "totals")) {
-  rules = (span_shape (codes "totals")).rules ++ option (codes "WORKERS") (codes "workers") ∷ [];
+totals_shape = record (query_shape (codes "totals")) {
+  rules = (query_shape (codes "totals")).rules ++ option (codes "WORKERS") (codes "workers") ∷ [];
 }
 
 -- `roll` and `merge`
 abbrev pub keep_shape : Text → Shape
 keep_shape name = record (new_shape name) { rules = folder_rule ∷ needed (codes "KEEP") ∷ [] }
 
-abbrev pub feed_shape : Shape
-feed_shape = record (new_shape (codes "feed")) {
+-- the arguments of `feed` but for its last
+abbrev pub kept_shape : Shape
+kept_shape = record (new_shape (codes "feed")) {
   rules = folder_rule ∷ several (codes "FILE") ∷ option (codes "KEEP") (codes "keep") ∷ [];
+}
+
+abbrev pub feed_shape : Shape
+feed_shape = record kept_shape { rules = kept_shape.rules ++ option (codes "COUNT") (codes "from") ∷ [] }
+
+abbrev pub shell_shape : Shape
+shell_shape = record (new_shape (codes "shell")) {
+  rules = folder_rule ∷ option (codes "KEEP") (codes "keep") ∷ [];
 }
 
 abbrev pub program : App
@@ -87,7 +109,7 @@ explain_shape = record (new_shape (codes "explain")) { rules = needed (codes "NU
 -- the commands whose arguments are asked for as the parser reads them
 abbrev pub parsed_names : List Text
 parsed_names = codes "inspect" ∷ codes "create" ∷ codes "check" ∷ codes "totals" ∷ codes "flows" ∷ codes "feed"
-    ∷ codes "roll" ∷ codes "merge" ∷ codes "explain" ∷ []
+    ∷ codes "shell" ∷ codes "roll" ∷ codes "merge" ∷ codes "explain" ∷ []
 
 -- the program with the commands that read standard input
 abbrev pub with_streams : App
@@ -100,11 +122,11 @@ with_archives = with_subcommand (with_subcommand with_streams create_shape) chec
 -- and with those that ask it
 abbrev pub with_queries : App
 with_queries =
-    with_subcommand (with_subcommand with_archives totals_shape) (span_shape (codes "flows"))
+    with_subcommand (with_subcommand with_archives totals_shape) (query_shape (codes "flows"))
 
--- and with the one that takes Files into it
+-- and with those that take Files into it
 abbrev pub with_feeding : App
-with_feeding = with_subcommand with_queries feed_shape
+with_feeding = with_subcommand (with_subcommand with_queries feed_shape) shell_shape
 
 -- and with those that roll its files
 abbrev pub with_rolling : App
@@ -125,8 +147,15 @@ without_dashes (word ∷ rest) = if bytes_eq word (codes "--") then rest else wo
 -- one argument: digits alone, from 1 to 86,400
 abbrev pub measure_of : List (List ℕ) → Option Request
 measure_of [] = None
-measure_of (word ∷ []) = option_map Measure (number_between 1 86400 word)
+measure_of (word ∷ []) = option_map (λ width. Measure width Lines) (number_between 1 86400 word)
 measure_of (word ∷ other ∷ rest) = None
+
+-- a format is asked for before the first `--`
+abbrev pub asks_format : List (List ℕ) → Bool
+asks_format [] = false
+asks_format (word ∷ rest) =
+    if bytes_eq word (codes "--") then false
+    else bytes_eq (codes "--csv") word || bytes_eq (codes "--json") word || asks_format rest
 
 -- no argument
 abbrev pub dump_of : List (List ℕ) → Option Request
@@ -145,13 +174,14 @@ unless (fault ∷ faults) made = None
 abbrev pub parsed : List (List ℕ) → Option Request
 parsed words = unless (fault_of flowvault words) (request_in (subcommand_of flowvault words))
 
--- The program's name, a command, and the command's arguments: of `measure` and `dump` word by word; of the others as
--- the parser reads them.
+-- The program's name, a command, and the command's arguments: of `dump`, and of `measure` without a format, word by
+-- word; of the others as the parser reads them.
 abbrev pub asked : List (List ℕ) → Option Request
 asked [] = None
 asked (name ∷ []) = None
 asked (name ∷ command ∷ arguments) =
-    if bytes_eq (codes "measure") command then measure_of (without_dashes arguments)
+    if bytes_eq (codes "measure") command then
+    if asks_format arguments then parsed (name ∷ command ∷ arguments) else measure_of (without_dashes arguments)
     else if bytes_eq (codes "dump") command then dump_of (without_dashes arguments)
     else if is_parsed command then parsed (name ∷ command ∷ arguments)
     else None

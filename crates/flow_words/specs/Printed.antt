@@ -1,5 +1,5 @@
 -- The lines on standard error of wrong words.
-use Rattle.std.specs.Prelude.{ℕ, List, codes}
+use Rattle.std.specs.Prelude.{ℕ, List, ◌++◌, codes}
 use Rattle.clap.specs.declared.error.kind.ErrorKind.{ErrorKind}
 use Rattle.clap.specs.declared.error.kind.ErrorKind.TheVariants.{MissingSubcommand, MissingRequiredArgument}
 use Rattle.clap.specs.Values.{kind_of}
@@ -24,6 +24,8 @@ words_text line.Totals = codes
     "FROM and TO are seconds since 1970-01-01 00:00 UTC, digits alone, 0 to 4294967296, --workers 1 to 64"
 words_text line.Keep = codes "KEEP is how many of the newest files are left, digits alone, 0 to 4294967295"
 words_text line.Files =
-    codes "FILE is given 1 to 8 times, --keep is how many of the newest segments are left, 0 to 4294967295"
+    codes "FILE is given 1 to 8 times, but once with --from, 0 to 281474976710655; --keep is how many of the newest "
+    ++ codes "segments are left, 0 to 4294967295"
 words_text line.Number = codes "no refusal has this NUMBER: they are 1 to 11, 14 to 17, 20 to 27, 30 to 32, 40 to 49"
+words_text line.Formats = codes "--csv and --json are two formats: one of them is taken, not both"
 words_text line.OutOfMemory = codes "11 OutOfMemory"

@@ -1,16 +1,17 @@
 -- What one run of the program answers.
-use Rattle.std.specs.Prelude.{◌≡◌, ◌≢◌, ◌⊎◌, ℕ, List, Option, Some, IfSome, length, ⊤}
+use Rattle.std.specs.Prelude.{◌≡◌, ◌≢◌, ◌⊎◌, ℕ, ◌++◌, false, List, Option, Some, IfSome, length, ⊤}
 use Rattle.std.specs.Io.KnownBytes.{Appends, Keeps}
 use Rattle.clap.specs.declared.error.kind.ErrorKind.{ErrorKind}
 use Rattle.clap.specs.declared.error.kind.ErrorKind.TheVariants.{DisplayHelp, DisplayVersion}
+use Rattle.clap.specs.declared.error.Error.{Error}
 use Rattle.clap.specs.Values.{kind_of}
 use Rattle.flow_report.specs.declared.refusal.Refusal.{Refusal}
 use Rattle.flow_words.specs.declared.request.LineError.{LineError}
 use Rattle.flow_words.specs.declared.request.LineError.TheVariants.{Parser, Width, Plan, Span, Keep, Files}
-use Rattle.flow_words.specs.declared.request.LineError.TheVariants.{Number, OutOfMemory, Totals as TotalsWrong}
+use Rattle.flow_words.specs.declared.request.LineError.TheVariants.{Formats, Number, OutOfMemory, Totals as TotalsWrong}
 use Rattle.flow_words.specs.declared.request.Request.{Request}
 use Rattle.flow_words.specs.declared.request.Request.TheVariants.{Measure, Dump, Inspect, Create, Check, Totals, Flows}
-use Rattle.flow_words.specs.declared.request.Request.TheVariants.{Feed, Roll as RollAsked, Merge as MergeAsked}
+use Rattle.flow_words.specs.declared.request.Request.TheVariants.{Feed, Shell, Roll as RollAsked, Merge as MergeAsked}
 use Rattle.flow_words.specs.declared.request.Request.TheVariants.{Explain}
 use Rattle.flow_commands.specs.declared.archive_refusal.ArchiveRefusal.{ArchiveRefusal}
 use Rattle.flow_commands.specs.Archives.{archive_printed, archive_status}
@@ -19,10 +20,11 @@ use Rattle.flow_manifest.specs.declared.following.JobKind.TheVariants.{Roll, Mer
 use Rattle.flow_commands.specs.Feeding.{FeedsLines, KeepsOrFeeds}
 use Rattle.flow_commands.specs.Rolling.{IsJobLine}
 use Rattle.flow_commands.specs.Asking.{AreFlows, AreRows, Writes, WritesOrNot}
+use Rattle.flow_words.specs.Arguments.{has_input}
 use Rattle.flow_words.specs.CommandLine.{asked}
 use Rattle.flow_words.specs.Requested.{IsLineError}
 use Rattle.flow_report.specs.Refusals.{status_of}
-use Rattle.flow_words.specs.Printed.{words_text}
+use Rattle.flow_words.specs.Printed.{kind_text, words_text}
 use Rattle.flow_report.specs.Printed.{printed, line_of}
 use Rattle.flow_report.specs.Writing.{AppendsFront}
 use Rattle.flow_report.specs.Dump.{IsDumped, IsDumpedUntil}
@@ -65,6 +67,10 @@ FeedEnds count old new before after status =
     (Keeps before after × FeedsLines count status old new)
     ⊎ IsEndedBy (λ e. KeepsOrFeeds count e old new) before after status
 
+-- `shell`: what it answers is written on standard output, and nothing on standard error; or it was refused.
+abbrev pub ShellEnds : Option (List ℕ) → Option (List ℕ) → ℕ → Type 0
+ShellEnds before after status = Keeps before after ⊎ IsEndedBy (λ e. ⊤) before after status
+
 -- Text is shown on standard output, with status 0 and nothing on standard error; or it couldn't be, and that is told.
 abbrev pub IsShown : Option (List ℕ) → Option (List ℕ) → ℕ → Type 0
 IsShown before after status =
@@ -75,33 +81,34 @@ IsShown before after status =
 -- lines of the whole File were written, and nothing on standard error; else that of the refusal, which is told.
 abbrev pub Runs : Request → Option (List ℕ) → Option (List ℕ) → Option (List ℕ) → Option (List ℕ) → Option (List ℕ)
     → Option (List ℕ) → ℕ → Type 0
-Runs (Measure width) input left old new before after status =
+Runs (Measure width format) input left old new before after status =
     ((status ≡ 0) × Keeps before after
-    × IfSome input (λ octets. (lines : List ℕ) × HasTotals width octets lines × Appends old new lines))
+    × IfSome input (λ octets. (lines : List ℕ) × HasTotals format width octets lines × Appends old new lines))
     ⊎ ((e : Refusal) × (status ≡ status_of e) × IsRefusalTold e before after
     × IfSome input (λ octets. IsRefusedBy octets left e)
-    × KeepsOrFront width input old new e)
+    × KeepsOrFront format width input old new e)
 Runs Dump input left old new before after status =
     ((status ≡ 0) × Keeps before after × IfSome input (λ octets. IsDumped octets old new))
     ⊎ ((e : Refusal) × (status ≡ status_of e) × IsRefusalTold e before after
     × IfSome input (λ octets. IsDumpedUntil octets left old new e))
-Runs Inspect input left old new before after status =
+Runs (Inspect format) input left old new before after status =
     ((status ≡ 0) × Keeps before after
-    × IfSome input (λ octets. (lines : List ℕ) × HasLines octets lines × Appends old new lines))
+    × IfSome input (λ octets. (lines : List ℕ) × HasLines format octets lines × Appends old new lines))
     ⊎ ((e : Refusal) × (status ≡ status_of e) × IsRefusalTold e before after
     × IfSome input (λ octets. IsRefusedBy octets left e)
-    × InspectKeepsOrFront input old new e)
--- None of these reads standard input, and `create` writes nothing.
+    × InspectKeepsOrFront format input old new e)
+-- None of these reads standard input, but `feed` where it is one of the Files, and `shell`; and `create` writes nothing.
 Runs (Create folder plan) input left old new before after status =
     Keeps input left × Keeps old new × CreateEnds before after status
 Runs (Check folder) input left old new before after status =
     Keeps input left × CheckEnds old new before after status
-Runs (Totals folder span workers) input left old new before after status =
-    Keeps input left × AskEnds AreRows old new before after status
-Runs (Flows folder span) input left old new before after status =
-    Keeps input left × AskEnds AreFlows old new before after status
-Runs (Feed folder keep files) input left old new before after status =
-    Keeps input left × FeedEnds (length files) old new before after status
+Runs (Totals folder span workers format) input left old new before after status =
+    Keeps input left × AskEnds (AreRows format) old new before after status
+Runs (Flows folder span format) input left old new before after status =
+    Keeps input left × AskEnds (AreFlows format) old new before after status
+Runs (Feed folder plan files) input left old new before after status =
+    (has_input files ≡ false → Keeps input left) × FeedEnds (length files) old new before after status
+Runs (Shell folder keep) input left old new before after status = ShellEnds before after status
 Runs (RollAsked folder keep) input left old new before after status =
     Keeps input left × AskEnds (IsJobLine Roll) old new before after status
 Runs (MergeAsked folder keep) input left old new before after status =
@@ -121,11 +128,24 @@ abbrev pub IsWrong : LineError → ℕ → Option (List ℕ) → Option (List �
 IsWrong e wanted old new before after status =
     (status ≡ wanted) × Keeps old new × AppendsFront before after (line_of (words_text e))
 
+-- The line for words that the parser refuses, and what it says of them.
+abbrev pub AreWordsLines : Error → List ℕ → Type 0
+AreWordsLines error text = (said : List ℕ) × (text ≡ line_of (kind_text (kind_of error)) ++ said)
+
+-- They came on standard error, or a prefix of them.
+abbrev pub AreWordsTold : Error → Option (List ℕ) → Option (List ℕ) → Type 0
+AreWordsTold error before after = (text : List ℕ) × AreWordsLines error text × AppendsFront before after text
+
+-- words that the parser refuses: the output stays, and that is said
+abbrev pub AreWrongWords : Error → Option (List ℕ) → Option (List ℕ) → Option (List ℕ) → Option (List ℕ) → ℕ → Type 0
+AreWrongWords error old new before after status =
+    (status ≡ 2) × Keeps old new × AreWordsTold error before after
+
 -- What is answered of words that ask for nothing, or for help.
 abbrev pub IsTold : LineError → Option (List ℕ) → Option (List ℕ) → Option (List ℕ) → Option (List ℕ) → ℕ → Type 0
 IsTold (Parser error) old new before after status =
     (IsHelp (kind_of error) × IsShown before after status)
-    ⊎ (IsNoHelp (kind_of error) × IsWrong (Parser error) 2 old new before after status)
+    ⊎ (IsNoHelp (kind_of error) × AreWrongWords error old new before after status)
 IsTold Width old new before after status = IsWrong Width 2 old new before after status
 IsTold Plan old new before after status = IsWrong Plan 2 old new before after status
 IsTold Span old new before after status = IsWrong Span 2 old new before after status
@@ -133,6 +153,7 @@ IsTold TotalsWrong old new before after status = IsWrong TotalsWrong 2 old new b
 IsTold Keep old new before after status = IsWrong Keep 2 old new before after status
 IsTold Files old new before after status = IsWrong Files 2 old new before after status
 IsTold Number old new before after status = IsWrong Number 2 old new before after status
+IsTold Formats old new before after status = IsWrong Formats 2 old new before after status
 IsTold OutOfMemory old new before after status = IsWrong OutOfMemory 4 old new before after status
 
 -- What is answered of any words: the run of the request that they ask for, or why there is none.

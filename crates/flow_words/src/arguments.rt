@@ -1,16 +1,19 @@
 //! What the values of a command's arguments are.
 
-ghost use Rattle.std.specs.Prelude.{◌≡◌, ◌≤◌, IfOk, IfSome};
+ghost use Rattle.std.specs.Prelude.{◌≡◌, ◌≤◌, IfOk, IfSome, codes};
+ghost use Rattle.std.specs.List.{list_any};
+ghost use Rattle.std.specs.Str.{bytes_eq};
 ghost use Rattle.clap.specs.Matches.{found_of};
 ghost use Rattle.clap.specs.Walk.{rows_of};
 ghost use Rattle.flow_words.specs.Arguments.{explained_in, folder_in, limit_in, plan_in, second_in, span_in, wide_in};
-ghost use Rattle.flow_words.specs.Arguments.{files_in, keep_in, kept_in, width_in, workers_in};
+ghost use Rattle.flow_words.specs.Arguments.{feeding_in, files_in, format_in, is_set, keep_in, kept_in, passed_in};
+ghost use Rattle.flow_words.specs.Arguments.{width_in, workers_in};
 ghost use Rattle.flow_commands.specs.Plans.{IsWide};
 
 use crate::explaining::Explanation;
 use clap::ArgMatches;
-use flow_commands::{NewArchive, StartSpan, Workers};
-use flow_report::{Width, number_between};
+use flow_commands::{FeedPlan, NewArchive, StartSpan, Workers};
+use flow_report::{Format, Width, number_between};
 use std::alloc::{AllocError, Global};
 use std::marker::Model;
 
@@ -23,11 +26,14 @@ const MOST_SECOND: u64 = 4_294_967_296;
 /// The most files that may be left.
 const MOST_KEEP: u64 = 4_294_967_295;
 
-/// How many of the newest segments `feed` leaves where nothing else is asked for.
+/// How many of the newest segments `feed` and `shell` leave where nothing else is asked for.
 const USUAL_KEEP: u32 = 8;
 
 /// The most Files that are fed in one run.
 const MOST_FILES: usize = 8;
+
+/// The most messages of a File.
+const MOST_MESSAGES: u64 = 281_474_976_710_655;
 
 /// The most workers that scan.
 const MOST_WORKERS: u64 = 64;
@@ -61,6 +67,31 @@ impl<'a> Model for FileNames<'a> {
     ghost Value = { List (List ℕ) };
 
     ghost view = { λ f. map (λ s. s.now) f.paths.items };
+}
+
+impl FileNames<'_> {
+    ghost use Rattle.flow_words.specs.Arguments.{has_input};
+
+    /// Whether standard input is one of them.
+    pub(crate) fn has_input(&self) -> bool
+        ensures { result ≡ has_input self.now }
+    {
+        are_with_input(self.paths.as_slice())
+    }
+}
+
+/// Whether a path is that of standard input.
+fn is_input(path: &str) -> bool
+    ensures { result ≡ bytes_eq path.now (codes "-") }
+{
+    path == "-"
+}
+
+/// Whether one of some paths is that of standard input.
+fn are_with_input(paths: &[&str]) -> bool
+    ensures { result ≡ list_any (λ path. bytes_eq path.now (codes "-")) paths.now }
+{
+    paths.iter().any(|path| is_input(path))
 }
 
 /// The width among the arguments of `measure` or `create`.
@@ -141,6 +172,29 @@ pub(crate) fn span_in(arguments: &ArgMatches<'_>) -> Option<StartSpan>
     Some(StartSpan::new(from, to))
 }
 
+/// Whether an option without a value is among a command's arguments.
+#[tactic(auto, using(crate::proofs::Reading::first_value_is))]
+fn is_set(arguments: &ArgMatches<'_>, id: &str) -> bool
+    ensures { result ≡ is_set id.now (rows_of (found_of arguments.now)) }
+{
+    match arguments.get_str(id) {
+        Some(word) => "true" == word,
+        None => false,
+    }
+}
+
+/// The format among a command's arguments: one at most, lines where none is asked for.
+pub(crate) fn format_in(arguments: &ArgMatches<'_>) -> Option<Format>
+    ensures { result ≡ format_in (rows_of (found_of arguments.now)) }
+{
+    match (is_set(arguments, "csv"), is_set(arguments, "json")) {
+        (true, true) => None,
+        (true, false) => Some(Format::Csv),
+        (false, true) => Some(Format::Json),
+        (false, false) => Some(Format::Lines),
+    }
+}
+
 /// How many workers scan, among the arguments of `totals`, where that is said.
 #[tactic(auto, using(crate::proofs::Reading::first_value_is))]
 pub(crate) fn workers_in(arguments: &ArgMatches<'_>) -> Option<Option<Workers>>
@@ -162,7 +216,7 @@ pub(crate) fn keep_in(arguments: &ArgMatches<'_>) -> Option<u32>
     Some(keep as u32)
 }
 
-/// How many of the newest segments are left, among the arguments of `feed`.
+/// How many of the newest segments are left, among the arguments of `feed` and `shell`.
 #[tactic(auto, using(crate::proofs::Reading::first_value_is))]
 pub(crate) fn kept_in(arguments: &ArgMatches<'_>) -> Option<u32>
     ensures { result ≡ kept_in (rows_of (found_of arguments.now)) }
@@ -172,6 +226,26 @@ pub(crate) fn kept_in(arguments: &ArgMatches<'_>) -> Option<u32>
     };
     let keep = number_between(0, MOST_KEEP, word.as_bytes())?;
     Some(keep as u32)
+}
+
+/// How many of the first messages of a File are only read, among the arguments of `feed`.
+#[tactic(auto, using(crate::proofs::Reading::first_value_is))]
+fn passed_in(arguments: &ArgMatches<'_>) -> Option<u64>
+    ensures { result ≡ passed_in (rows_of (found_of arguments.now)) }
+{
+    let Some(word) = arguments.get_str("COUNT") else {
+        return Some(0);
+    };
+    number_between(0, MOST_MESSAGES, word.as_bytes())
+}
+
+/// How the Files are fed, among the arguments of `feed`.
+pub(crate) fn feeding_in(arguments: &ArgMatches<'_>) -> Option<FeedPlan>
+    ensures { result ≡ feeding_in (rows_of (found_of arguments.now)) }
+{
+    let keep = kept_in(arguments)?;
+    let passed = passed_in(arguments)?;
+    Some(FeedPlan { keep, passed })
 }
 
 /// The Files among the arguments of `feed`: at most 8.

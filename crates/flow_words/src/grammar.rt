@@ -4,11 +4,11 @@ ghost use Rattle.std.specs.Prelude.{◌≡◌, false, IfOk};
 ghost use Rattle.clap.specs.Walk.{rule_of};
 ghost use Rattle.clap.specs.Simple.{app_of, shape_of};
 ghost use Rattle.clap.specs.declared.builder.command.Command.TheViews.{out-Command as fields_of};
-ghost use Rattle.flow_words.specs.CommandLine.{check_shape, create_shape, dump_shape, explain_shape, feed_shape};
+ghost use Rattle.flow_words.specs.CommandLine.{check_shape, create_shape, dump_shape, explain_shape, feed_shape, flag};
 ghost use Rattle.flow_words.specs.CommandLine.{flowvault, folder_rule, keep_shape, measure_shape, needed, option};
 ghost use Rattle.flow_words.specs.CommandLine.{program, several, sized_shape, span_shape, totals_shape, width_rule};
 ghost use Rattle.flow_words.specs.CommandLine.{with_archives, with_feeding, with_queries, with_rolling, with_streams};
-ghost use Rattle.flow_words.specs.CommandLine.{inspect_shape};
+ghost use Rattle.flow_words.specs.CommandLine.{inspect_shape, kept_shape, query_shape, shell_shape};
 
 use clap::{Arg, ArgAction, Command};
 use std::alloc::{AllocError, Global};
@@ -114,7 +114,8 @@ const FEED_HELP: &str =
      written for each: fed N MESSAGES, or stopped N MESSAGES NUMBER NAME, where the\n\
      message after the first MESSAGES isn't taken in, or the File ends within it; N\n\
      counts the Files from 1. Messages that were taken in stay, whatever comes\n\
-     later, a stop of the machine too: feed the rest of a File, not all of it again.\n\
+     later, a stop of the machine too: feed the rest of a File, not all of it again:\n\
+     --from MESSAGES passes over what was taken in, where there is one FILE.\n\
      Meanwhile sealed segments but the newest --keep are rolled, as of roll; no more\n\
      than these are left in the end. A terminal on standard error is shown how much\n\
      is read.\n\
@@ -122,6 +123,27 @@ const FEED_HELP: &str =
      opened is told on standard error before a File is read.\n\
      \n\
      Example: flowvault feed flows FILE OTHER --keep 24";
+
+/// What `shell` does, in a line or two.
+const SHELL_ABOUT: &str =
+    "Answers requests about the archive of a folder, and takes Files in\nmeanwhile";
+
+/// What is told below the arguments of `shell`.
+const SHELL_HELP: &str =
+    "Standard input has the requests, a line each. They are answered in their order:\n\
+     \x20 feed FILE       began N: this File, the Nth, is taken in from now on; 8 at once\n\
+     \x20 totals FROM TO  lines as of totals\n\
+     \x20 flows FROM TO   lines as of flows\n\
+     \x20 message N       the octets of the Nth message in hexadecimal digits, or none\n\
+     \x20 check           ok POSITION CUT, as of check\n\
+     \x20 keep N          the newest N sealed segments aren't rolled from now on\n\
+     \x20 wait            answered when all Files have ended\n\
+     \x20 quit            answered last: Files end with what was read of them\n\
+     An answer ends with done STATUS: 0, or as an exit status, after refused NUMBER\n\
+     NAME; 2 is no request. Between two answers the line of a File that has ended is\n\
+     written, as of feed. No answer waits for a File.\n\
+     \n\
+     Example: flowvault shell flows --keep 24 < REQUESTS";
 
 /// What `roll` does, in a line or two.
 const ROLL_ABOUT: &str = "Sums the sealed segments of the archive in a folder, but the newest";
@@ -153,6 +175,12 @@ const EXPLAIN_HELP: &str =
      number that no refusal has is a wrong command line: status 2.\n\
      \n\
      Example: flowvault explain 16";
+
+/// What `--csv` asks for.
+const CSV: &str = "As CSV: a line of names first";
+
+/// What `--json` asks for.
+const JSON: &str = "As JSON, an object a line";
 
 /// What is told below the commands.
 const PROGRAM_HELP: &str = "Examples: flowvault measure 300 < FILE\n\
@@ -195,6 +223,17 @@ fn option<'a>(alloc: Global, id: &'a str, name: &'a str, help: &'a str) -> Arg<'
         .help(help)
 }
 
+/// An option without a value.
+fn flag<'a>(alloc: Global, name: &'a str, help: &'a str) -> Arg<'a>
+    ensures rule { rule_of result ≡ flag name.now }
+    ensures own { result.global ≡ false }
+{
+    Arg::new(alloc, name)
+        .long(name)
+        .action(ArgAction::SetTrue)
+        .help(help)
+}
+
 /// The width of the intervals.
 fn width_argument<'a>(alloc: Global) -> Arg<'a>
     ensures rule { rule_of result ≡ width_rule }
@@ -223,7 +262,9 @@ fn measure_command<'a>(alloc: Global) -> Result<Command<'a>, AllocError>
     Command::new(alloc, "measure")
         .about(MEASURE_ABOUT)
         .after_help(MEASURE_HELP)
-        .arg(width_argument(alloc))
+        .arg(width_argument(alloc))?
+        .arg(flag(alloc, "csv", CSV))?
+        .arg(flag(alloc, "json", JSON))
 }
 
 /// The command `dump`, with its help.
@@ -237,13 +278,15 @@ fn dump_command<'a>(alloc: Global) -> Command<'a>
 }
 
 /// The command `inspect`, with its help.
-fn inspect_command<'a>(alloc: Global) -> Command<'a>
-    ensures shape { shape_of result ≡ inspect_shape }
-    ensures own { (fields_of result).has_globals ≡ false }
+fn inspect_command<'a>(alloc: Global) -> Result<Command<'a>, AllocError>
+    ensures shape { IfOk result (λ command. shape_of command ≡ inspect_shape) }
+    ensures own { IfOk result (λ command. (fields_of command).has_globals ≡ false) }
 {
     Command::new(alloc, "inspect")
         .about(INSPECT_ABOUT)
         .after_help(INSPECT_HELP)
+        .arg(flag(alloc, "csv", CSV))?
+        .arg(flag(alloc, "json", JSON))
 }
 
 /// The command `create` but for its last argument.
@@ -310,12 +353,27 @@ fn span_command<'a>(
         .arg(needed(alloc, "TO", "Starts before it: up to 4294967296"))
 }
 
+/// A command that asks an archive about a span of starts, and takes a format, with its help.
+fn query_command<'a>(
+    alloc: Global,
+    name: &'a str,
+    about: &'a str,
+    help: &'a str,
+) -> Result<Command<'a>, AllocError>
+    ensures shape { IfOk result (λ command. shape_of command ≡ query_shape name.now) }
+    ensures own { IfOk result (λ command. (fields_of command).has_globals ≡ false) }
+{
+    span_command(alloc, name, about, help)?
+        .arg(flag(alloc, "csv", CSV))?
+        .arg(flag(alloc, "json", JSON))
+}
+
 /// The command `totals`, with its help.
 fn totals_command<'a>(alloc: Global) -> Result<Command<'a>, AllocError>
     ensures shape { IfOk result (λ command. shape_of command ≡ totals_shape) }
     ensures own { IfOk result (λ command. (fields_of command).has_globals ≡ false) }
 {
-    span_command(alloc, "totals", TOTALS_ABOUT, TOTALS_HELP)?.arg(option(
+    query_command(alloc, "totals", TOTALS_ABOUT, TOTALS_HELP)?.arg(option(
         alloc,
         "WORKERS",
         "workers",
@@ -323,16 +381,50 @@ fn totals_command<'a>(alloc: Global) -> Result<Command<'a>, AllocError>
     ))
 }
 
-/// The command `feed`, with its help.
-fn feed_command<'a>(alloc: Global) -> Result<Command<'a>, AllocError>
-    ensures shape { IfOk result (λ command. shape_of command ≡ feed_shape) }
+/// The command `feed` but for its last argument.
+fn kept_command<'a>(alloc: Global) -> Result<Command<'a>, AllocError>
+    ensures shape { IfOk result (λ command. shape_of command ≡ kept_shape) }
     ensures own { IfOk result (λ command. (fields_of command).has_globals ≡ false) }
 {
     Command::new(alloc, "feed")
         .about(FEED_ABOUT)
         .after_help(FEED_HELP)
         .arg(folder_argument(alloc))?
-        .arg(several(alloc, "FILE", "Paths of 1 to 8 IPFIX Files"))?
+        .arg(several(
+            alloc,
+            "FILE",
+            "Paths of 1 to 8 IPFIX Files; - is standard input",
+        ))?
+        .arg(option(
+            alloc,
+            "KEEP",
+            "keep",
+            "Newest segments that aren't rolled: 0 to 4294967295 [8]",
+        ))
+}
+
+/// The command `feed`, with its help.
+fn feed_command<'a>(alloc: Global) -> Result<Command<'a>, AllocError>
+    ensures shape { IfOk result (λ command. shape_of command ≡ feed_shape) }
+    ensures own { IfOk result (λ command. (fields_of command).has_globals ≡ false) }
+{
+    kept_command(alloc)?.arg(option(
+        alloc,
+        "COUNT",
+        "from",
+        "First messages of the one FILE that are passed over [0]",
+    ))
+}
+
+/// The command `shell`, with its help.
+fn shell_command<'a>(alloc: Global) -> Result<Command<'a>, AllocError>
+    ensures shape { IfOk result (λ command. shape_of command ≡ shell_shape) }
+    ensures own { IfOk result (λ command. (fields_of command).has_globals ≡ false) }
+{
+    Command::new(alloc, "shell")
+        .about(SHELL_ABOUT)
+        .after_help(SHELL_HELP)
+        .arg(folder_argument(alloc))?
         .arg(option(
             alloc,
             "KEEP",
@@ -391,7 +483,7 @@ fn with_streams<'a>(alloc: Global) -> Result<Command<'a>, AllocError>
     program(alloc)
         .subcommand(measure_command(alloc)?)?
         .subcommand(dump_command(alloc))?
-        .subcommand(inspect_command(alloc))
+        .subcommand(inspect_command(alloc)?)
 }
 
 /// The program with these, and those that make or open an archive and ask it nothing.
@@ -409,14 +501,16 @@ fn with_queries<'a>(alloc: Global) -> Result<Command<'a>, AllocError>
 {
     with_archives(alloc)?
         .subcommand(totals_command(alloc)?)?
-        .subcommand(span_command(alloc, "flows", FLOWS_ABOUT, FLOWS_HELP)?)
+        .subcommand(query_command(alloc, "flows", FLOWS_ABOUT, FLOWS_HELP)?)
 }
 
-/// The program with these, and the one that takes Files into an archive.
+/// The program with these, and those that take Files into an archive.
 fn with_feeding<'a>(alloc: Global) -> Result<Command<'a>, AllocError>
     ensures { IfOk result (λ command. app_of command ≡ with_feeding) }
 {
-    with_queries(alloc)?.subcommand(feed_command(alloc)?)
+    with_queries(alloc)?
+        .subcommand(feed_command(alloc)?)?
+        .subcommand(shell_command(alloc)?)
 }
 
 /// The program with these, and those that roll the files of an archive.

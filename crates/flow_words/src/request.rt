@@ -5,22 +5,22 @@ ghost use Rattle.clap.specs.Values.{kind_of};
 ghost use Rattle.clap.specs.Matches.{found_of};
 ghost use Rattle.clap.specs.Walk.{rows_of};
 ghost use Rattle.clap.specs.Simple.{subcommand_rows_of};
-ghost use Rattle.flow_words.specs.Arguments.{changing, create_in, fed_in, queried, requested, request_in, unfed};
+ghost use Rattle.flow_words.specs.Arguments.{changing, create_in, fed_alone, fed_in, queried, requested, request_in, unfed};
 ghost use Rattle.flow_words.specs.CommandLine.{asked};
-ghost use Rattle.flow_words.specs.Requested.{IsLineError, wrong_values, wrong_values_of};
+ghost use Rattle.flow_words.specs.Requested.{IsLineError, wrong_values, wrong_values_in, wrong_values_of};
 ghost use Rattle.clap.specs.declared.error.kind.ErrorKind.TheVariants as ErrorKind;
 ghost use Rattle.flow_words.specs.declared.request.LineError.TheVariants as LineError;
 
 use crate::arguments::{
-    FileNames, FolderName, explained_in, files_in, folder_in, keep_in, kept_in, plan_in, span_in,
-    width_in, workers_in,
+    FileNames, FolderName, explained_in, feeding_in, files_in, folder_in, format_in, keep_in,
+    kept_in, plan_in, span_in, width_in, workers_in,
 };
 use crate::explaining::Explanation;
 use crate::grammar::command_line;
 use clap::error::ErrorKind;
 use clap::{ArgMatches, Error};
-use flow_commands::{NewArchive, StartSpan, Workers};
-use flow_report::Width;
+use flow_commands::{FeedPlan, NewArchive, StartSpan, Workers};
+use flow_report::{Format, Width};
 use std::alloc::{AllocError, Global};
 use std::convert::AsStr;
 
@@ -30,11 +30,14 @@ pub enum Request<'a> {
     /// Totals lines of the File on standard input.
     Measure {
         width: Width,
+        format: Format,
     },
     /// Message and record lines of the File on standard input.
     Dump,
     /// Lines of the Observation Domains of the File on standard input.
-    Inspect,
+    Inspect {
+        format: Format,
+    },
     /// A new archive in a folder.
     Create {
         folder: FolderName<'a>,
@@ -50,17 +53,24 @@ pub enum Request<'a> {
         span: StartSpan,
         /// How many workers scan it; as many as there are processors where nothing is said.
         workers: Option<Workers>,
+        format: Format,
     },
     /// Lines of the flows in the archive of a folder that aren't rolled.
     Flows {
         folder: FolderName<'a>,
         span: StartSpan,
+        format: Format,
     },
     /// Files are taken into the archive of a folder.
     Feed {
         folder: FolderName<'a>,
-        keep: u32,
+        plan: FeedPlan,
         files: FileNames<'a>,
+    },
+    /// Requests about the archive of a folder are answered, and Files taken in meanwhile.
+    Shell {
+        folder: FolderName<'a>,
+        keep: u32,
     },
     /// All sealed segments but the newest become one rolled file.
     Roll {
@@ -94,10 +104,13 @@ pub enum LineError {
     Totals,
     /// How many files are left isn't digits alone, or is past 2^32 - 1.
     Keep,
-    /// There are more than 8 Files, or how many segments are left isn't digits alone, or is past 2^32 - 1.
+    /// There are more than 8 Files, or how many segments are left isn't digits alone, or is past 2^32 - 1; or how many
+    /// messages are passed isn't digits alone, or is past 2^48 - 1, or there are several Files of which some are passed.
     Files,
     /// No refusal has the number.
     Number,
+    /// Two formats are asked for.
+    Formats,
     OutOfMemory,
 }
 
@@ -135,6 +148,10 @@ fn changing<'a>(name: &str, arguments: &ArgMatches<'a>) -> Option<Request<'a>>
             folder: folder_in(arguments)?,
             keep: keep_in(arguments)?,
         }),
+        "shell" => Some(Request::Shell {
+            folder: folder_in(arguments)?,
+            keep: kept_in(arguments)?,
+        }),
         _ => None,
     }
 }
@@ -148,10 +165,12 @@ fn queried<'a>(name: &str, arguments: &ArgMatches<'a>) -> Option<Request<'a>>
             folder: folder_in(arguments)?,
             span: span_in(arguments)?,
             workers: workers_in(arguments)?,
+            format: format_in(arguments)?,
         }),
         "flows" => Some(Request::Flows {
             folder: folder_in(arguments)?,
             span: span_in(arguments)?,
+            format: format_in(arguments)?,
         }),
         "explain" => Some(Request::Explain {
             refusal: explained_in(arguments)?,
@@ -166,10 +185,13 @@ fn unfed<'a>(name: &str, arguments: &ArgMatches<'a>) -> Option<Request<'a>>
 {
     match name {
         "measure" => Some(Request::Measure {
+            format: format_in(arguments)?,
             width: width_in(arguments)?,
         }),
         "dump" => Some(Request::Dump),
-        "inspect" => Some(Request::Inspect),
+        "inspect" => Some(Request::Inspect {
+            format: format_in(arguments)?,
+        }),
         "create" => create_in(arguments),
         "check" => Some(Request::Check {
             folder: folder_in(arguments)?,
@@ -178,17 +200,31 @@ fn unfed<'a>(name: &str, arguments: &ArgMatches<'a>) -> Option<Request<'a>>
     }
 }
 
+/// What `feed` asks for: messages are passed of one File alone.
+fn fed_alone<'a>(
+    folder: FolderName<'a>,
+    plan: FeedPlan,
+    files: FileNames<'a>,
+) -> Option<Request<'a>>
+    ensures { result ≡ fed_alone folder.entry plan files.entry }
+{
+    if plan.passed > 0 && files.paths.len() > 1 {
+        return None;
+    }
+    Some(Request::Feed {
+        folder,
+        plan,
+        files,
+    })
+}
+
 /// What `feed` asks for.
 fn fed_in<'a>(alloc: Global, arguments: &ArgMatches<'a>) -> Result<Option<Request<'a>>, AllocError>
     ensures { IfOk result (λ request. request ≡ fed_in (rows_of (found_of arguments.now))) }
 {
     let files = files_in(alloc, arguments)?;
-    match (folder_in(arguments), kept_in(arguments), files) {
-        (Some(folder), Some(keep), Some(files)) => Ok(Some(Request::Feed {
-            folder,
-            keep,
-            files,
-        })),
+    match (folder_in(arguments), feeding_in(arguments), files) {
+        (Some(folder), Some(plan), Some(files)) => Ok(fed_alone(folder, plan, files)),
         _ => Ok(None),
     }
 }
@@ -228,8 +264,19 @@ fn wrong_values_of(name: &str) -> LineError
         "feed" => LineError::Files,
         "roll" => LineError::Keep,
         "merge" => LineError::Keep,
+        "shell" => LineError::Keep,
         "explain" => LineError::Number,
         _ => LineError::Width,
+    }
+}
+
+/// What is wrong with the values of a command, by its name and its arguments.
+fn wrong_values_in(name: &str, arguments: &ArgMatches<'_>) -> LineError
+    ensures { result ≡ wrong_values_in name.now (rows_of (found_of arguments.now)) }
+{
+    match format_in(arguments) {
+        Some(_) => wrong_values_of(name),
+        None => LineError::Formats,
     }
 }
 
@@ -238,7 +285,7 @@ fn wrong_values(matches: &ArgMatches<'_>) -> LineError
     ensures { result ≡ wrong_values (subcommand_rows_of matches.now) }
 {
     match matches.subcommand() {
-        Some((name, _)) => wrong_values_of(name),
+        Some((name, arguments)) => wrong_values_in(name, arguments),
         None => LineError::Width,
     }
 }

@@ -1,6 +1,6 @@
 //! One run of the program: words and an input in, lines and a status out.
 
-ghost use Rattle.std.specs.Prelude.{◌≡◌, ◌≢◌, ◌≤◌, OnOk, OnErr, IfOk, IfErr, IfSome, length, map, string_bytes};
+ghost use Rattle.std.specs.Prelude.{◌≡◌, ◌≢◌, ◌≤◌, false, OnOk, OnErr, IfOk, IfErr, IfSome, length, map, string_bytes};
 ghost use Rattle.std.specs.Io.KnownBytes.{Appends, Keeps};
 ghost use Rattle.clap.specs.Values.{kind_of};
 ghost use Rattle.flow_report.specs.Refusals.{status_of};
@@ -9,8 +9,11 @@ ghost use Rattle.flow_words.specs.Printed.{kind_text, words_text};
 ghost use Rattle.flow_report.specs.Writing.{AppendsFront};
 ghost use Rattle.flow_commands.specs.Archives.{archive_printed, archive_status};
 ghost use Rattle.flow_commands.specs.Asking.{AreFlows, AreRows};
+ghost use Rattle.flow_commands.specs.Feeding.{FeedsLines, KeepsOrFeeds};
 ghost use Rattle.flow_commands.specs.Rolling.{IsJobLine};
+ghost use Rattle.flow_words.specs.Arguments.{has_input};
 ghost use Rattle.flow_words.specs.Run.{AskEnds, CheckEnds, CreateEnds, FeedEnds, Runs, IsArchiveTold, IsHelp, IsTold};
+ghost use Rattle.flow_words.specs.Run.{ShellEnds, AreWordsLines, AreWordsTold};
 ghost use Rattle.flow_words.specs.Run.{IsRefusalTold, IsAnswered, IsShown};
 ghost use Rattle.flow_words.specs.declared.request.Request.TheVariants as asked;
 
@@ -20,18 +23,19 @@ use crate::request::{LineError, Request, parse};
 use clap::Error;
 use clap::error::ErrorKind;
 use flow_commands::{
-    ArchiveRefusal, NewArchive, Progress, StartSpan, Workers, check_in, create_in, feed_in,
-    flows_in, roll_in, totals_in,
+    ArchiveRefusal, FeedPlan, NewArchive, Progress, StartSpan, Workers, check_in, create_in,
+    feed_in, flows_in, roll_in, totals_in,
 };
 use flow_folder::Lockable;
 use flow_inspect::inspect;
 use flow_manifest::JobKind;
-use flow_report::{Patience, Refusal, Width, dump, measure, write_patiently};
+use flow_report::{Format, Patience, Refusal, Width, dump, measure, write_patiently};
+use flow_shell::shell_in;
 use std::alloc::{AllocError, AllocGlobal, Global};
 use std::convert::AsStr;
 use std::fmt::Display;
 use std::fs::Files;
-use std::io::{Read, Write};
+use std::io::{Empty, Read, Write};
 use std::os::unix::fs::FileExt;
 use std::sync::Wait;
 use std::thread::Threads;
@@ -68,11 +72,16 @@ const WRONG_KEEP: &str =
 
 /// What is told of too many Files, or of a number of segments that can't be left.
 const WRONG_FILES: &str =
-    "flowvault: FILE is given 1 to 8 times, --keep is how many of the newest segments are left, 0 to 4294967295\n";
+    "flowvault: FILE is given 1 to 8 times, but once with --from, 0 to 281474976710655; --keep is how many of the \
+     newest segments are left, 0 to 4294967295\n";
 
 /// What is told of a number that no refusal has.
 const WRONG_NUMBER: &str =
     "flowvault: no refusal has this NUMBER: they are 1 to 11, 14 to 17, 20 to 27, 30 to 32, 40 to 49\n";
+
+/// What is reported of two formats.
+const WRONG_FORMATS: &str =
+    "flowvault: --csv and --json are two formats: one of them is taken, not both\n";
 
 /// What is told where a command is missing.
 const NO_COMMAND: &str = "flowvault: a command is needed: flowvault --help lists them\n";
@@ -174,17 +183,18 @@ fn tell_of_archive<E: Write>(alloc: Global, errors: &mut E, refusal: &ArchiveRef
 fn run_measure<R: Read, W: Write, E: Write>(
     alloc: Global,
     width: Width,
+    format: Format,
     input: &mut R,
     output: &mut W,
     errors: &mut E,
 ) -> u8
-    ensures runs { Runs (asked.Measure width) (R.remaining input.old) (R.remaining input.new) (W.contents output.old)
-        (W.contents output.new) (E.contents errors.old) (E.contents errors.new) result }
+    ensures runs { Runs (asked.Measure width format) (R.remaining input.old) (R.remaining input.new)
+        (W.contents output.old) (W.contents output.new) (E.contents errors.old) (E.contents errors.new) result }
     ensures quiet { result ≡ 0 → Keeps (E.contents errors.old) (E.contents errors.new) }
     ensures status { result ≤ 5 }
     ensures other { result ≢ 2 }
 {
-    match measure(alloc, width, input, output) {
+    match measure(alloc, width, format, input, output) {
         Ok(()) => DONE,
         Err(refusal) => tell(alloc, errors, &refusal),
     }
@@ -212,17 +222,18 @@ fn run_dump<R: Read, W: Write, E: Write>(
 /// Runs `inspect`.
 fn run_inspect<R: Read, W: Write, E: Write>(
     alloc: Global,
+    format: Format,
     input: &mut R,
     output: &mut W,
     errors: &mut E,
 ) -> u8
-    ensures runs { Runs asked.Inspect (R.remaining input.old) (R.remaining input.new) (W.contents output.old)
+    ensures runs { Runs (asked.Inspect format) (R.remaining input.old) (R.remaining input.new) (W.contents output.old)
         (W.contents output.new) (E.contents errors.old) (E.contents errors.new) result }
     ensures quiet { result ≡ 0 → Keeps (E.contents errors.old) (E.contents errors.new) }
     ensures status { result ≤ 5 }
     ensures other { result ≢ 2 }
 {
-    match inspect(alloc, input, output) {
+    match inspect(alloc, format, input, output) {
         Ok(()) => DONE,
         Err(refusal) => tell(alloc, errors, &refusal),
     }
@@ -275,19 +286,20 @@ fn run_totals<H: Files + AllocGlobal + Clone + Drop + Threads + Send + Sync, W: 
     folder: &FolderName<'_>,
     span: &StartSpan,
     workers: Option<Workers>,
+    format: Format,
     output: &mut W,
     errors: &mut E,
 ) -> u8
 where
     H::File: FileExt + Lockable + Send + Sync,
     H::Dir: Send + Sync,
-    ensures runs { AskEnds AreRows (W.contents output.old) (W.contents output.new) (E.contents errors.old)
+    ensures runs { AskEnds (AreRows format) (W.contents output.old) (W.contents output.new) (E.contents errors.old)
         (E.contents errors.new) result }
     ensures quiet { result ≡ 0 → Keeps (E.contents errors.old) (E.contents errors.new) }
     ensures status { result ≤ 5 }
     ensures other { result ≢ 2 }
 {
-    match totals_in(rt, folder.path, span, workers, output) {
+    match totals_in(rt, folder.path, span, workers, format, output) {
         Ok(()) => DONE,
         Err(refusal) => tell_of_archive(rt.alloc(), errors, &refusal),
     }
@@ -298,34 +310,71 @@ fn run_flows<H: Files + AllocGlobal + Clone + Drop, W: Write, E: Write>(
     rt: &H,
     folder: &FolderName<'_>,
     span: &StartSpan,
+    format: Format,
     output: &mut W,
     errors: &mut E,
 ) -> u8
 where
     H::File: FileExt + Lockable,
-    ensures runs { AskEnds AreFlows (W.contents output.old) (W.contents output.new) (E.contents errors.old)
+    ensures runs { AskEnds (AreFlows format) (W.contents output.old) (W.contents output.new) (E.contents errors.old)
         (E.contents errors.new) result }
     ensures quiet { result ≡ 0 → Keeps (E.contents errors.old) (E.contents errors.new) }
     ensures status { result ≤ 5 }
     ensures other { result ≢ 2 }
 {
-    match flows_in(rt, folder.path, span, output) {
+    match flows_in(rt, folder.path, span, format, output) {
         Ok(()) => DONE,
         Err(refusal) => tell_of_archive(rt.alloc(), errors, &refusal),
     }
 }
 
+/// Feeds Files; standard input is one of them, or it isn't read.
+fn feed_files<
+    H: Files + AllocGlobal + Clone + Drop + Threads + Wait + Send + Sync,
+    R: Read,
+    W: Write,
+    P: Write + Drop + Send,
+>(
+    rt: &H,
+    folder: &FolderName<'_>,
+    plan: FeedPlan,
+    files: &FileNames<'_>,
+    input: &mut R,
+    output: &mut W,
+    progress: &Progress<P>,
+) -> Result<u8, ArchiveRefusal>
+where
+    H::File: FileExt + Lockable + Send + Sync,
+    H::Dir: Send + Sync,
+    ensures input { has_input files.now ≡ false → Keeps (R.remaining input.old) (R.remaining input.new) }
+    ensures written { IfOk result (λ status. FeedsLines (length files.now) status (W.contents output.old)
+        (W.contents output.new)) }
+    ensures kept { IfErr result (λ e. KeepsOrFeeds (length files.now) e (W.contents output.old)
+        (W.contents output.new)) }
+    ensures most { IfOk result (λ status. status ≤ 5) }
+    ensures other { IfOk result (λ status. status ≢ 2) }
+{
+    let paths = files.paths.as_slice();
+    if files.has_input() {
+        return feed_in(rt, folder.path, plan, paths, Some(input), output, progress);
+    }
+    let none: Option<&mut Empty> = None;
+    feed_in(rt, folder.path, plan, paths, none, output, progress)
+}
+
 /// Runs `feed`.
 fn run_feed<
     H: Files + AllocGlobal + Clone + Drop + Threads + Wait + Send + Sync,
+    R: Read,
     W: Write,
     E: Write,
     P: Write + Drop + Send,
 >(
     rt: &H,
     folder: &FolderName<'_>,
-    keep: u32,
+    plan: FeedPlan,
     files: &FileNames<'_>,
+    input: &mut R,
     output: &mut W,
     errors: &mut E,
     progress: &Progress<P>,
@@ -333,20 +382,35 @@ fn run_feed<
 where
     H::File: FileExt + Lockable + Send + Sync,
     H::Dir: Send + Sync,
+    ensures input { has_input files.now ≡ false → Keeps (R.remaining input.old) (R.remaining input.new) }
     ensures runs { FeedEnds (length files.now) (W.contents output.old) (W.contents output.new) (E.contents errors.old)
         (E.contents errors.new) result }
     ensures quiet { result ≡ 0 → Keeps (E.contents errors.old) (E.contents errors.new) }
     ensures status { result ≤ 5 }
     ensures other { result ≢ 2 }
 {
-    match feed_in(
-        rt,
-        folder.path,
-        keep,
-        files.paths.as_slice(),
-        output,
-        progress,
-    ) {
+    match feed_files(rt, folder, plan, files, input, output, progress) {
+        Ok(status) => status,
+        Err(refusal) => tell_of_archive(rt.alloc(), errors, &refusal),
+    }
+}
+
+/// Runs `shell`.
+fn run_shell<
+    H: Files + AllocGlobal + Clone + Drop + Threads + Wait + Send + Sync,
+    R: Read,
+    W: Write,
+    E: Write,
+>(rt: &H, folder: &FolderName<'_>, keep: u32, input: &mut R, output: &mut W, errors: &mut E) -> u8
+where
+    H::File: FileExt + Lockable + Send + Sync,
+    H::Dir: Send + Sync,
+    ensures runs { ShellEnds (E.contents errors.old) (E.contents errors.new) result }
+    ensures quiet { result ≡ 0 → Keeps (E.contents errors.old) (E.contents errors.new) }
+    ensures status { result ≤ 5 }
+    ensures other { result ≢ 2 }
+{
+    match shell_in(rt, folder.path, keep, input, output) {
         Ok(status) => status,
         Err(refusal) => tell_of_archive(rt.alloc(), errors, &refusal),
     }
@@ -418,22 +482,30 @@ where
     ensures other { result ≢ 2 }
 {
     match request {
-        Request::Measure { width } => run_measure(rt.alloc(), width, input, output, errors),
+        Request::Measure { width, format } => {
+            run_measure(rt.alloc(), width, format, input, output, errors)
+        }
         Request::Dump => run_dump(rt.alloc(), input, output, errors),
-        Request::Inspect => run_inspect(rt.alloc(), input, output, errors),
+        Request::Inspect { format } => run_inspect(rt.alloc(), format, input, output, errors),
         Request::Create { folder, plan } => run_create(rt, &folder, &plan, errors),
         Request::Check { folder } => run_check(rt, &folder, output, errors),
         Request::Totals {
             folder,
             span,
             workers,
-        } => run_totals(rt, &folder, &span, workers, output, errors),
-        Request::Flows { folder, span } => run_flows(rt, &folder, &span, output, errors),
+            format,
+        } => run_totals(rt, &folder, &span, workers, format, output, errors),
+        Request::Flows {
+            folder,
+            span,
+            format,
+        } => run_flows(rt, &folder, &span, format, output, errors),
         Request::Feed {
             folder,
-            keep,
+            plan,
             files,
-        } => run_feed(rt, &folder, keep, &files, output, errors, progress),
+        } => run_feed(rt, &folder, plan, &files, input, output, errors, progress),
+        Request::Shell { folder, keep } => { run_shell(rt, &folder, keep, input, output, errors) }
         Request::Roll { folder, keep } => run_job(rt, &folder, JobKind::Roll, keep, output, errors),
         Request::Merge { folder, keep } => {
             run_job(rt, &folder, JobKind::Merge, keep, output, errors)
@@ -484,7 +556,7 @@ fn refuse<W: Write, E: Write>(
 {
     match error {
         LineError::Parser(error) if error.use_stderr() => {
-            tell_line(errors, kind_line(error.kind()).as_bytes());
+            tell_words(alloc, errors, error);
             WRONG_LINE
         }
         LineError::Parser(help) => show(alloc, help, output, errors),
@@ -516,6 +588,10 @@ fn refuse<W: Write, E: Write>(
             tell_line(errors, WRONG_NUMBER.as_bytes());
             WRONG_LINE
         }
+        LineError::Formats => {
+            tell_line(errors, WRONG_FORMATS.as_bytes());
+            WRONG_LINE
+        }
         LineError::OutOfMemory => tell(alloc, errors, &Refusal::OutOfMemory),
     }
 }
@@ -528,6 +604,46 @@ fn kind_line(kind: ErrorKind) -> &'static str
         ErrorKind::MissingSubcommand => NO_COMMAND,
         ErrorKind::MissingRequiredArgument => NO_ARGUMENT,
         _ => WRONG_WORDS,
+    }
+}
+
+/// The part of a text before a mark, or all of it.
+fn before<'a>(text: &'a str, mark: &str) -> &'a str {
+    match text.split_once(mark) {
+        Some((front, _)) => front,
+        None => text,
+    }
+}
+
+/// What the parser of the command line says of words that it refuses: which word, and which one is like it, but not how
+/// the command is used; nothing where no command is there.
+fn said_of(alloc: Global, error: &Error) -> Result<String, AllocError> {
+    if error.kind() == ErrorKind::MissingSubcommand {
+        return Ok(String::new(alloc));
+    }
+    let text = format!(in alloc; "{error}")?;
+    let said = before(before(text.as_str(), "\nUsage:"), "\nFor more information");
+    format!(in alloc; "{}\n", said.trim_end())
+}
+
+/// The line for words that the parser of the command line refuses, and what it says of them.
+fn words_lines(alloc: Global, error: &Error) -> Result<String, AllocError>
+    ensures { IfOk result (λ lines. AreWordsLines error.now (string_bytes lines)) }
+{
+    let said = said_of(alloc, error)?;
+    let mut lines = String::from_str(alloc, kind_line(error.kind()))?;
+    lines.push_str(said.as_str())?;
+    Ok(lines)
+}
+
+/// Tells why the parser of the command line refuses words. Where there is no memory for what it says of them, the line is
+/// told alone.
+fn tell_words<E: Write>(alloc: Global, errors: &mut E, error: &Error)
+    ensures { AreWordsTold error.now (E.contents errors.old) (E.contents errors.new) }
+{
+    match words_lines(alloc, error) {
+        Ok(lines) => tell_line(errors, lines.as_bytes()),
+        Err(AllocError) => tell_line(errors, kind_line(error.kind()).as_bytes()),
     }
 }
 

@@ -53,6 +53,6 @@ returns-in_err-flows-clause-cause g c =
     c.in_err-flows.ensures.cause refl c.from_residual-in_err-flows.ensures.1 (query_fault e) (query_is_told e)
 
 pub returns-clause-lines : goal.returns-clause-lines
-returns-clause-lines g c h reads stands =
-    flows_read reads _ c.in_ok-asked.asked.width c.args.span.now c.from.result c.to.result _
+returns-clause-lines g c h reads stands format =
+    flows_read format reads _ c.in_ok-asked.asked.width c.args.span.now c.from.result c.to.result _
     (c.in_ok-asked.ensures.read h reads stands) c.from.ensures c.to.ensures c.in_ok-flows.ensures.given

@@ -1,5 +1,6 @@
 use Rattle.std.proofs.Common.{[], refl}
 use Rattle.std.specs.Prelude.{IfErr}
+use Rattle.flow_report.specs.ArchiveLines.{flows_text}
 use Rattle.flow_commands.specs.Asking.{AreFlows, WritesOrNot}
 use Rattle.flow_commands.proofs.Asked.{away_kept}
 use Rattle.flow_commands.proofs.listing.flows_in.Goals as goal
@@ -7,6 +8,6 @@ use Rattle.flow_commands.proofs.listing.flows_in.Goals as goal
 pub returns-in_err-disk-clause-kept : goal.returns-in_err-disk-clause-kept
 returns-in_err-disk-clause-kept g c =
     let output = g.W.Write.contents c.args.output.now in
-    let kept : IfErr c.from_residual.result (λ e. WritesOrNot AreFlows e output output) =
-    away_kept c.from_residual.result AreFlows output ([], refl) in
+    let kept : IfErr c.from_residual.result (λ e. WritesOrNot (AreFlows c.args.format) e output output) =
+    away_kept c.from_residual.result (AreFlows c.args.format) output (flows_text c.args.format []) ([], refl) in
     kept

@@ -15,16 +15,16 @@ pub returns-in_err-found-clause-refused : goal.returns-in_err-found-clause-refus
 returns-in_err-found-clause-refused g c h reads stands =
     let output = g.W.Write.contents c.args.output.now in
     passed_on c.from_residual.result (c.in_err-found.field-0).0
-    (λ e. TellsNoLines (flows_lines c.args.span.now) Always reads output output e) c.from_residual.ensures.1
-    (none_told (flows_lines c.args.span.now) Always reads output (c.in_err-found.field-0).0
+    (λ e. TellsNoLines (flows_lines c.args.format c.args.span.now) Always reads output output e) c.from_residual.ensures.1
+    (none_told (flows_lines c.args.format c.args.span.now) Always reads output (c.in_err-found.field-0).0
     (c.in_err-found.ensures.refused h reads stands))
 
 pub returns-in_err-found-clause-kept : goal.returns-in_err-found-clause-kept
 returns-in_err-found-clause-kept g c =
     let output = g.W.Write.contents c.args.output.now in
-    passed_on c.from_residual.result (c.in_err-found.field-0).0 (λ e. WritesOrNot AreFlows e output output)
+    passed_on c.from_residual.result (c.in_err-found.field-0).0 (λ e. WritesOrNot (AreFlows c.args.format) e output output)
     c.from_residual.ensures.1
-    (none_written AreFlows output (c.in_err-found.field-0).0 c.in_err-found.ensures.unwritten)
+    (none_written (AreFlows c.args.format) output (c.in_err-found.field-0).0 c.in_err-found.ensures.unwritten)
 
 pub returns-in_err-found-clause-opened : goal.returns-in_err-found-clause-opened
 returns-in_err-found-clause-opened g c =
@@ -41,19 +41,20 @@ pub returns-in_err-write_flows-clause-refused : goal.returns-in_err-write_flows-
 returns-in_err-write_flows-clause-refused g c h reads stands =
     let found = c.in_ok-found.found in
     passed_on c.from_residual-in_err-write_flows.result (of_text (c.in_err-write_flows.field-0).0)
-    (λ e. TellsNoLines (flows_lines c.args.span.now) Always reads (g.W.Write.contents c.args.output.now)
+    (λ e. TellsNoLines (flows_lines c.args.format c.args.span.now) Always reads (g.W.Write.contents c.args.output.now)
     (g.W.Write.contents c.write_flows.new.output) e) c.from_residual-in_err-write_flows.ensures.1
-    (cut_told (flows_lines c.args.span.now) Always reads _ _ (flows_text found.items)
-    (c.in_ok-found.ensures.lines h reads stands) (c.in_err-write_flows.field-0).0
+    (cut_told (flows_lines c.args.format c.args.span.now) Always reads _ _ (flows_text c.args.format found.items)
+    (c.in_ok-found.ensures.lines h reads stands c.args.format) (c.in_err-write_flows.field-0).0
     (rw c.as_slice.ensures.value at c.in_err-write_flows.ensures.cut))
 
 pub returns-in_err-write_flows-clause-kept : goal.returns-in_err-write_flows-clause-kept
 returns-in_err-write_flows-clause-kept g c =
     let found = c.in_ok-found.found in
     passed_on c.from_residual-in_err-write_flows.result (of_text (c.in_err-write_flows.field-0).0)
-    (λ e. WritesOrNot AreFlows e (g.W.Write.contents c.args.output.now) (g.W.Write.contents c.write_flows.new.output))
+    (λ e. WritesOrNot (AreFlows c.args.format) e (g.W.Write.contents c.args.output.now)
+    (g.W.Write.contents c.write_flows.new.output))
     c.from_residual-in_err-write_flows.ensures.1
-    (cut_written AreFlows _ _ (flows_text found.items) (found.items, refl)
+    (cut_written (AreFlows c.args.format) _ _ (flows_text c.args.format found.items) (found.items, refl)
     (c.in_err-write_flows.field-0).0 (rw c.as_slice.ensures.value at c.in_err-write_flows.ensures.cut))
 
 pub returns-in_err-write_flows-clause-opened : goal.returns-in_err-write_flows-clause-opened
@@ -71,15 +72,15 @@ returns-in_err-write_flows-clause-cause g c =
 pub returns-clause-told : goal.returns-clause-told
 returns-clause-told g c h reads stands =
     let found = c.in_ok-found.found in (
-      flows_text found.items,
-      c.in_ok-found.ensures.lines h reads stands,
+      flows_text c.args.format found.items,
+      c.in_ok-found.ensures.lines h reads stands c.args.format,
       rw c.as_slice.ensures.value at c.in_ok-write_flows.ensures.all,
     )
 
 pub returns-clause-written : goal.returns-clause-written
 returns-clause-written g c =
     let found = c.in_ok-found.found in (
-      flows_text found.items,
+      flows_text c.args.format found.items,
       (found.items, refl),
       rw c.as_slice.ensures.value at c.in_ok-write_flows.ensures.all,
     )

@@ -54,6 +54,6 @@ returns-in_err-rows-clause-cause g c =
     c.in_err-rows.ensures.cause refl c.from_residual-in_err-rows.ensures.1 (query_fault e) (query_is_told e)
 
 pub returns-clause-lines : goal.returns-clause-lines
-returns-clause-lines g c h reads stands =
-    rows_read reads _ c.in_ok-asked.asked.width c.args.span.now c.args.span.now.from c.args.span.now.to _
+returns-clause-lines g c h reads stands format =
+    rows_read format reads _ c.in_ok-asked.asked.width c.args.span.now c.args.span.now.from c.args.span.now.to _
     (c.in_ok-asked.ensures.read h reads stands) refl refl c.in_ok-rows.ensures.given

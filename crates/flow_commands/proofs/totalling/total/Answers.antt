@@ -16,16 +16,16 @@ pub returns-in_err-found-clause-refused : goal.returns-in_err-found-clause-refus
 returns-in_err-found-clause-refused g c h reads stands =
     let output = g.W.Write.contents c.args.output.now in
     passed_on c.from_residual.result (c.in_err-found.field-0).0
-    (λ e. TellsNoLines (totals_lines c.args.span.now) SumsFit reads output output e) c.from_residual.ensures.1
-    (none_told (totals_lines c.args.span.now) SumsFit reads output (c.in_err-found.field-0).0
+    (λ e. TellsNoLines (totals_lines c.args.format c.args.span.now) SumsFit reads output output e) c.from_residual.ensures.1
+    (none_told (totals_lines c.args.format c.args.span.now) SumsFit reads output (c.in_err-found.field-0).0
     (c.in_err-found.ensures.refused h reads stands))
 
 pub returns-in_err-found-clause-kept : goal.returns-in_err-found-clause-kept
 returns-in_err-found-clause-kept g c =
     let output = g.W.Write.contents c.args.output.now in
-    passed_on c.from_residual.result (c.in_err-found.field-0).0 (λ e. WritesOrNot AreRows e output output)
+    passed_on c.from_residual.result (c.in_err-found.field-0).0 (λ e. WritesOrNot (AreRows c.args.format) e output output)
     c.from_residual.ensures.1
-    (none_written AreRows output (c.in_err-found.field-0).0 c.in_err-found.ensures.unwritten)
+    (none_written (AreRows c.args.format) output (c.in_err-found.field-0).0 c.in_err-found.ensures.unwritten)
 
 pub returns-in_err-found-clause-opened : goal.returns-in_err-found-clause-opened
 returns-in_err-found-clause-opened g c =
@@ -42,19 +42,22 @@ pub returns-in_err-write_rows-clause-refused : goal.returns-in_err-write_rows-cl
 returns-in_err-write_rows-clause-refused g c h reads stands =
     let found = c.in_ok-found.found in
     passed_on c.from_residual-in_err-write_rows.result (of_text (c.in_err-write_rows.field-0).0)
-    (λ e. TellsNoLines (totals_lines c.args.span.now) SumsFit reads (g.W.Write.contents c.args.output.now)
+    (λ e. TellsNoLines (totals_lines c.args.format c.args.span.now) SumsFit reads (g.W.Write.contents c.args.output.now)
     (g.W.Write.contents c.write_rows.new.output) e) c.from_residual-in_err-write_rows.ensures.1
-    (cut_told (totals_lines c.args.span.now) SumsFit reads _ _ (rows_text found.width found.rows.items)
-    (c.in_ok-found.ensures.lines h reads stands) (c.in_err-write_rows.field-0).0
+    (cut_told (totals_lines c.args.format c.args.span.now) SumsFit reads _ _
+    (rows_text c.args.format found.width found.rows.items)
+    (c.in_ok-found.ensures.lines h reads stands c.args.format) (c.in_err-write_rows.field-0).0
     (rw c.as_slice.ensures.value at c.in_err-write_rows.ensures.cut))
 
 pub returns-in_err-write_rows-clause-kept : goal.returns-in_err-write_rows-clause-kept
 returns-in_err-write_rows-clause-kept g c =
     let found = c.in_ok-found.found in
     passed_on c.from_residual-in_err-write_rows.result (of_text (c.in_err-write_rows.field-0).0)
-    (λ e. WritesOrNot AreRows e (g.W.Write.contents c.args.output.now) (g.W.Write.contents c.write_rows.new.output))
+    (λ e. WritesOrNot (AreRows c.args.format) e (g.W.Write.contents c.args.output.now)
+    (g.W.Write.contents c.write_rows.new.output))
     c.from_residual-in_err-write_rows.ensures.1
-    (cut_written AreRows _ _ (rows_text found.width found.rows.items) (found.width, found.rows.items, refl)
+    (cut_written (AreRows c.args.format) _ _ (rows_text c.args.format found.width found.rows.items)
+    (found.width, found.rows.items, refl)
     (c.in_err-write_rows.field-0).0 (rw c.as_slice.ensures.value at c.in_err-write_rows.ensures.cut))
 
 pub returns-in_err-write_rows-clause-opened : goal.returns-in_err-write_rows-clause-opened
@@ -72,15 +75,15 @@ returns-in_err-write_rows-clause-cause g c =
 pub returns-clause-told : goal.returns-clause-told
 returns-clause-told g c h reads stands =
     let found = c.in_ok-found.found in (
-      rows_text found.width found.rows.items,
-      c.in_ok-found.ensures.lines h reads stands,
+      rows_text c.args.format found.width found.rows.items,
+      c.in_ok-found.ensures.lines h reads stands c.args.format,
       rw c.as_slice.ensures.value at c.in_ok-write_rows.ensures.all,
     )
 
 pub returns-clause-written : goal.returns-clause-written
 returns-clause-written g c =
     let found = c.in_ok-found.found in (
-      rows_text found.width found.rows.items,
+      rows_text c.args.format found.width found.rows.items,
       (found.width, found.rows.items, refl),
       rw c.as_slice.ensures.value at c.in_ok-write_rows.ensures.all,
     )

@@ -6,18 +6,19 @@ use Rattle.flow_gate.specs.Scan.{texts}
 use Rattle.flow_archive.specs.declared.refusal.ArchiveError.{ArchiveError}
 use Rattle.flow_feed.specs.Feed.{batch_of, AreRead}
 use Rattle.flow_feed.specs.Given.{AreGivenInTurn, HasTaken}
-use Rattle.flow_feed.proofs.Batches.{ends_early, few_texts, ends_last, ends_refused, fed_nothing, feeds_on, texts_long}
+use Rattle.flow_feed.proofs.Batches.{ends_early, few_texts, ends_last, ends_refused, fed_nothing, fed_passed, feeds_on, opened, started}
+use Rattle.flow_feed.proofs.Batches.{texts_long}
 use Rattle.flow_feed.proofs.feeding.feed.Goals as goal
 
 pub returns-in_default : goal.returns-in_default
 returns-in_default g c =
-    fed_nothing g.A.Appender.appends c.args.appender.now (g.R.Read.remaining c.args.input.now)
+    fed_nothing g.A.Appender.appends c.args.first c.args.appender.now (g.R.Read.remaining c.args.input.now)
 
 pub returns-in_default-give : goal.returns-in_default-give
 returns-in_default-give g c =
     let known = g.R.Read.remaining in
     rw c.count-before.ensures.value
-    (ends_early g.A.Appender.appends c.args.appender.now c.batches.appender c.give.new.appender
+    (ends_early g.A.Appender.appends c.args.first c.args.appender.now c.batches.appender c.give.new.appender
     (known c.args.input.now) (progress c.batches.reader (known c.batches.input))
     (progress c.read_batch-batch.new.reader (known c.read_batch-batch.new.input)) c.batches.reader.count
     c.batches.invariant c.in_default-give.ensures.refused)
@@ -25,24 +26,38 @@ returns-in_default-give g c =
 pub returns-in-Some : goal.returns-in-Some
 returns-in-Some g c =
     let known = g.R.Read.remaining in
+    fed_passed g.A.Appender.appends c.args.first c.args.appender.now (known c.args.input.now)
+    (progress c.in-Ok.reader (known c.args.input.now)) (progress c.pass.new.reader (known c.pass.new.input)) c.in-Some.ended
+    (opened c.in-Ok.reader (known c.args.input.now) c.in-Ok.ensures) c.in-Some.ensures
+
+pub batches-init : goal.batches-init
+batches-init g c =
+    let known = g.R.Read.remaining in
+    started g.A.Appender.appends c.args.first c.args.appender.now (known c.args.input.now)
+    (progress c.in-Ok.reader (known c.args.input.now)) (progress c.pass.new.reader (known c.pass.new.input))
+    (opened c.in-Ok.reader (known c.args.input.now) c.in-Ok.ensures) c.in_default-pass.ensures
+
+pub returns-in-Some-stop : goal.returns-in-Some-stop
+returns-in-Some-stop g c =
+    let known = g.R.Read.remaining in
     let appends = g.A.Appender.appends in
     let mid = c.batches.appender in
     let new = c.give.new.appender in
     let batch = c.read_batch-batch.result in
     let slice = c.as_slice.result.now in
     let n = c.in-Ok-give.taken.count in
-    let told = subst (λ (o : Option ArchiveError). HasTaken appends (AreGivenInTurn (batch_of (texts slice))) mid new (take n (texts slice)) o) c.in-Some.is
+    let told = subst (λ (o : Option ArchiveError). HasTaken appends (AreGivenInTurn (batch_of (texts slice))) mid new (take n (texts slice)) o) c.in-Some-stop.is
     c.in-Ok-give.ensures.taken in
-    let fewer = subst (λ (k : ℕ). n < k) (sym (texts_long slice)) (rw c.in-Some.is at c.in-Ok-give.ensures.fewer) in
+    let fewer = subst (λ (k : ℕ). n < k) (sym (texts_long slice)) (rw c.in-Some-stop.is at c.in-Ok-give.ensures.fewer) in
     rw c.count-before.ensures.value
-    (ends_refused appends c.args.appender.now mid new (known c.args.input.now)
+    (ends_refused appends c.args.first c.args.appender.now mid new (known c.args.input.now)
     (progress c.batches.reader (known c.batches.input))
     (progress c.read_batch-batch.new.reader (known c.read_batch-batch.new.input)) c.batches.reader.count
     c.batches.invariant (texts batch.messages.items) n (few_texts batch.messages.items c.read_batch-batch.ensures.few)
-    batch.is_last batch.stop c.in-Some.error
+    batch.is_last batch.stop c.in-Some-stop.error
     c.read_batch-batch.ensures.read
     (subst (λ (ms : List (Vec ℕ Global)). n < length (texts ms)) c.as_slice.ensures.value fewer)
-    (subst (λ (ms : List (Vec ℕ Global)). HasTaken appends (AreGivenInTurn (batch_of (texts ms))) mid new (take n (texts ms)) (Some c.in-Some.error))
+    (subst (λ (ms : List (Vec ℕ Global)). HasTaken appends (AreGivenInTurn (batch_of (texts ms))) mid new (take n (texts ms)) (Some c.in-Some-stop.error))
     c.as_slice.ensures.value told))
 
 pub returns-then-batch : goal.returns-then-batch
@@ -60,7 +75,7 @@ returns-then-batch g c =
     let told = subst (λ (o : Option ArchiveError). HasTaken appends (AreGivenInTurn (batch_of (texts slice))) mid new (take n (texts slice)) o)
     c.in_default-stop.is c.in-Ok-give.ensures.taken in
     rw c.count-before.ensures.value
-    (ends_last appends c.args.appender.now mid new (known c.args.input.now) before after c.batches.reader.count
+    (ends_last appends c.args.first c.args.appender.now mid new (known c.args.input.now) before after c.batches.reader.count
     c.batches.invariant items n (few_texts batch.messages.items c.read_batch-batch.ensures.few)
     (subst (λ (ms : List (Vec ℕ Global)). n ≡ length (texts ms)) c.as_slice.ensures.value
     (rw c.in_default-stop.is at c.in-Ok-give.ensures.all ∙ sym (texts_long slice)))
@@ -82,7 +97,7 @@ batches-preserved g c =
     let after = progress c.read_batch-batch.new.reader (known c.read_batch-batch.new.input) in
     let told = subst (λ (o : Option ArchiveError). HasTaken appends (AreGivenInTurn (batch_of (texts slice))) mid new (take n (texts slice)) o)
     c.in_default-stop.is c.in-Ok-give.ensures.taken in
-    feeds_on appends c.args.appender.now mid new (known c.args.input.now) before after c.batches.reader.count
+    feeds_on appends c.args.first c.args.appender.now mid new (known c.args.input.now) before after c.batches.reader.count
     c.batches.invariant items n (few_texts batch.messages.items c.read_batch-batch.ensures.few)
     (subst (λ (ms : List (Vec ℕ Global)). n ≡ length (texts ms)) c.as_slice.ensures.value
     (rw c.in_default-stop.is at c.in-Ok-give.ensures.all ∙ sym (texts_long slice)))

@@ -5,7 +5,7 @@ use Rattle.flow_feed.proofs.feeding.feed.Given as goal
 
 abbrev pub invariant-batches : goal.invariant-batches
 invariant-batches g l =
-    IsFeeding g.A.Appender.appends l.fn.appender l.appender (start_of (g.R.Read.remaining l.fn.input))
+    IsFeeding g.A.Appender.appends l.fn.first l.fn.appender l.appender (start_of (g.R.Read.remaining l.fn.input))
     (progress l.reader (g.R.Read.remaining l.input)) l.reader.count
 
 abbrev pub decreases-batches : goal.decreases-batches

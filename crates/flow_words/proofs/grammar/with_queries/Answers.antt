@@ -9,5 +9,5 @@ returns c =
     let one_is : app_of c.in_ok-subcommand.field-0 ≡ with_subcommand with_archives totals_shape =
     c.in_ok-subcommand.ensures.shape c.in_ok-totals_command.ensures.own
     ∙ ap₂ with_subcommand c.in_ok-with_archives.ensures c.in_ok-totals_command.ensures.shape in
-    IfOk-weaker c.subcommand-2.result _ _ (λ m h. h.shape c.in_ok-span_command.ensures.own
-    ∙ ap₂ with_subcommand one_is c.in_ok-span_command.ensures.shape) c.subcommand-2.ensures
+    IfOk-weaker c.subcommand-2.result _ _ (λ m h. h.shape c.in_ok-query_command.ensures.own
+    ∙ ap₂ with_subcommand one_is c.in_ok-query_command.ensures.shape) c.subcommand-2.ensures

@@ -12,5 +12,5 @@ returns c =
     let two_are : app_of c.in_ok-subcommand-2.field-0 ≡ with_subcommand (with_subcommand program measure_shape) dump_shape =
     c.in_ok-subcommand-2.ensures.shape c.dump_command.ensures.own
     ∙ ap₂ with_subcommand one_is c.dump_command.ensures.shape in
-    IfOk-weaker c.subcommand-3.result _ _ (λ m h. h.shape c.inspect_command.ensures.own
-    ∙ ap₂ with_subcommand two_are c.inspect_command.ensures.shape) c.subcommand-3.ensures
+    IfOk-weaker c.subcommand-3.result _ _ (λ m h. h.shape c.in_ok-inspect_command.ensures.own
+    ∙ ap₂ with_subcommand two_are c.in_ok-inspect_command.ensures.shape) c.subcommand-3.ensures

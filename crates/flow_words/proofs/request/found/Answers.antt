@@ -1,6 +1,6 @@
 use Rattle.std.proofs.Common.{◌∙◌}
 use Rattle.std.proofs.lemmas.Result.{IfOk-weaker}
-use Rattle.flow_words.proofs.Reading.{asked_by}
+use Rattle.flow_words.proofs.Answered.{asked_by}
 use Rattle.flow_words.proofs.request.found.Goals as goal
 
 pub returns-in-Some : goal.returns-in-Some

@@ -1,7 +1,7 @@
 use Rattle.std.specs.Prelude.{map}
 use Rattle.std.proofs.Common.{◌∙◌, ap}
 use Rattle.flow_words.specs.Requested.{wrong_values}
-use Rattle.flow_words.proofs.Reading.{takes, is_told, ok_made, err_made, rows_taken}
+use Rattle.flow_words.proofs.Answered.{takes, is_told, ok_made, err_made, rows_taken}
 use Rattle.flow_words.proofs.request.parse.Goals as goal
 
 pub returns-clause-refused : goal.returns-clause-refused

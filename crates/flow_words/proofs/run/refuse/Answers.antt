@@ -4,7 +4,7 @@ use Rattle.flow_words.proofs.run.refuse.Goals as goal
 
 pub returns-in-Width-clause-told : goal.returns-in-Width-clause-told
 returns-in-Width-clause-told g c =
-    rw c.in-Width.is (refl, Keeps-refl _, rw c.as_bytes-in-Width.ensures.value at c.tell_line-in-Width.ensures)
+    rw c.in-Width.is (refl, Keeps-refl _, rw c.as_bytes.ensures.value at c.tell_line.ensures)
 
 pub returns-in-Plan-clause-told : goal.returns-in-Plan-clause-told
 returns-in-Plan-clause-told g c =
@@ -29,3 +29,7 @@ returns-in-Keep-clause-told g c =
 pub returns-in-Files-clause-told : goal.returns-in-Files-clause-told
 returns-in-Files-clause-told g c =
     rw c.in-Files.is (refl, Keeps-refl _, rw c.as_bytes-in-Files.ensures.value at c.tell_line-in-Files.ensures)
+
+pub returns-in-Formats-clause-told : goal.returns-in-Formats-clause-told
+returns-in-Formats-clause-told g c =
+    rw c.in-Formats.is (refl, Keeps-refl _, rw c.as_bytes-in-Formats.ensures.value at c.tell_line-in-Formats.ensures)

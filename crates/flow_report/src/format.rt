@@ -1,0 +1,64 @@
+//! How values are written.
+
+ghost use Rattle.std.specs.Prelude.{◌≡◌, ◌≤◌, length};
+ghost use Rattle.flow_report.specs.Formats.{closing, none_text, opening, separator};
+
+/// How the values of a row, a flow or a domain are written.
+#[derive(Clone, Copy, Debug, PartialEq, Eq)]
+pub enum Format {
+    /// A line each, of words with a space between two.
+    Lines,
+    /// CSV (RFC 4180): a line of names, then a line each, of values with a comma between two. Lines end in a line feed.
+    Csv,
+    /// JSON (RFC 8259), an object each, which is a line.
+    Json,
+}
+
+impl Format {
+    /// What a line begins with.
+    pub(crate) fn opening(self) -> &'static str
+        ensures text { result.now ≡ opening self }
+        ensures len { length result.now ≤ 1 }
+    {
+        match self {
+            Format::Lines => "",
+            Format::Csv => "",
+            Format::Json => "{",
+        }
+    }
+
+    /// What is between two values.
+    pub(crate) fn separator(self) -> u8
+        ensures { result ≡ separator self }
+    {
+        match self {
+            Format::Lines => b' ',
+            Format::Csv => b',',
+            Format::Json => b',',
+        }
+    }
+
+    /// What a line ends with.
+    pub(crate) fn closing(self) -> &'static str
+        ensures text { result.now ≡ closing self }
+        ensures len { length result.now ≤ 2 }
+    {
+        match self {
+            Format::Lines => "\n",
+            Format::Csv => "\n",
+            Format::Json => "}\n",
+        }
+    }
+
+    /// What is written for none.
+    pub(crate) fn none(self) -> &'static str
+        ensures text { result.now ≡ none_text self }
+        ensures len { length result.now ≤ 4 }
+    {
+        match self {
+            Format::Lines => "-",
+            Format::Csv => "",
+            Format::Json => "null",
+        }
+    }
+}

@@ -1,0 +1,58 @@
+-- What a line asks of the shell.
+use Rattle.std.specs.Prelude.{ℕ, ◌==◌, List, [], ◌∷◌, Option, Some, None, codes, option_map, option_and_then, if◌then◌else◌}
+use Rattle.std.specs.List.{before_first, after_first}
+use Rattle.std.specs.Str.{bytes_eq}
+use Rattle.flow_report.specs.Numbers.{number_between}
+use Rattle.flow_commands.specs.Plans.{Span}
+use Rattle.flow_shell.specs.declared.asked.Query.{Query}
+use Rattle.flow_shell.specs.declared.asked.Query.TheVariants.{Totals, Flows, Message, Check}
+use Rattle.flow_shell.specs.declared.asked.ShellRequest.{ShellRequest}
+use Rattle.flow_shell.specs.declared.asked.ShellRequest.TheVariants.{Ask, Feed, Keep, Wait, Quit}
+
+-- the part of a line before its first space, and what comes after that
+abbrev pub name_of : List ℕ → List ℕ
+name_of line = before_first (λ octet. octet == 32) line
+
+abbrev pub rest_of : List ℕ → List ℕ
+rest_of line = after_first (λ octet. octet == 32) line
+
+-- seconds since 1970-01-01 00:00 UTC, up to 2^32
+abbrev pub span_in : List ℕ → Option Span
+span_in words =
+    option_and_then (λ from. option_map (λ to. record { from = from; to = to })
+    (number_between 0 4294967296 (rest_of words))) (number_between 0 4294967296 (name_of words))
+
+-- the number of a message, up to 2^48 - 1
+abbrev pub message_in : List ℕ → Option ℕ
+message_in word = number_between 0 281474976710655 word
+
+abbrev pub keep_in : List ℕ → Option ℕ
+keep_in word = number_between 0 4294967295 word
+
+-- a File at a path
+abbrev pub file_in : List ℕ → Option ShellRequest
+file_in [] = None
+file_in (octet ∷ octets) = Some (Feed (octet ∷ octets))
+
+-- what a question's name, and the words after it, ask for
+abbrev pub query_by_name : List ℕ → List ℕ → Option Query
+query_by_name name rest =
+    if bytes_eq (codes "totals") name then option_map Totals (span_in rest)
+    else if bytes_eq (codes "flows") name then option_map Flows (span_in rest)
+    else if bytes_eq (codes "message") name then option_map Message (message_in rest)
+    else None
+
+-- what a name and the words after it ask for
+abbrev pub by_name : List ℕ → List ℕ → Option ShellRequest
+by_name name rest =
+    if bytes_eq (codes "feed") name then file_in rest
+    else if bytes_eq (codes "keep") name then option_map Keep (keep_in rest)
+    else option_map Ask (query_by_name name rest)
+
+-- what a line asks for
+abbrev pub request_in : List ℕ → Option ShellRequest
+request_in line =
+    if bytes_eq (codes "check") line then Some (Ask Check)
+    else if bytes_eq (codes "wait") line then Some Wait
+    else if bytes_eq (codes "quit") line then Some Quit
+    else by_name (name_of line) (rest_of line)

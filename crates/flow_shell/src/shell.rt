@@ -1,0 +1,567 @@
+//! Requests, answered one after the other while Files are fed.
+
+ghost use Rattle.std.specs.Prelude.{◌≡◌, ◌≢◌, ◌≤◌, ◌++◌, ⊤, ℕ, false, IfErr, IfOk, IsTrue, OnOk, string_bytes};
+ghost use Rattle.std.specs.Io.KnownBytes.{Appends};
+ghost use mathlib.Core.List.{IsPrefix};
+ghost use Rattle.flow_measure.specs.History.{History};
+ghost use Rattle.flow_shared.specs.Meaning.{HasView};
+ghost use Rattle.flow_recover.specs.Shelved.{shelf_of};
+ghost use Rattle.flow_shell.specs.Answers.{query_lines, KeepsBefore};
+ghost use Rattle.flow_shell.specs.Written.{IsAnswer};
+ghost use Rattle.flow_shell.specs.Written.{began_line, done_line, refused_line, IsEndedBy, IsFinished, IsRefusalWritten, IsWritten};
+
+use crate::answering::{answer_check, answer_flows, answer_message, answer_totals};
+use crate::asked::{Query, ShellRequest, request_of};
+use crate::board::{Board, Stoppable};
+use crate::refusal::ShellRefusal;
+use flow_archive::{Archive, ArchiveError};
+use flow_commands::{ArchiveRefusal, Progress, Workers, fed_line, feed_stream, unopened};
+use flow_disk::{Disk, Faults, SealedFile};
+use flow_folder::{FolderDisk, Lockable};
+use flow_report::{Patience, write_patiently};
+use flow_roller::{Bell, roll_beside};
+use flow_shared::{ArchiveReader, Naming, Opened, SharedArchive, start};
+use std::alloc::{AllocError, AllocGlobal, Global};
+use std::fs::{File, Files};
+use std::io::{BufRead, BufReader, Read, Write};
+use std::marker::Brand;
+use std::os::unix::fs::FileExt;
+use std::sync::Wait;
+use std::thread::{Scope, Threads};
+use std::{io, thread};
+
+/// The status of an answer.
+const DONE: u8 = 0;
+
+/// The status of a line that is no request.
+const WRONG_LINE: u8 = 2;
+
+/// What a line that is no request is answered.
+const WRONG_REQUEST: &str =
+    "refused no request: one of feed FILE, totals FROM TO, flows FROM TO, message N, check, \
+     keep N, wait, quit\n";
+
+/// What is answered where memory is wanting for more.
+const NO_MEMORY: &str = "refused 11 OutOfMemory\n";
+
+/// The status of an answer where memory is wanting.
+const WITHOUT_MEMORY: u8 = 4;
+
+/// The status of an answer that is refused for what it asks.
+const REFUSED: u8 = 1;
+
+/// The status where requests can't be read.
+const UNREAD: u8 = 3;
+
+/// A progress that isn't shown, since answers are written meanwhile.
+type Silent = Progress<Vec<u8>>;
+
+/// What is answered where requests can't be read.
+const UNREADABLE: &str = "refused 31 Read\n";
+
+/// The most Files that are fed at once.
+const MOST_FILES: usize = 8;
+
+/// What `feed` is answered where 8 Files are fed.
+const NO_PLACE: &str = "refused 8 Files are fed\n";
+
+/// Takes the File at a path into the archive, and says how it ended.
+fn feed_one<H: Files + AllocGlobal + Clone + Drop + Wait, D: Disk, J: Naming>(
+    rt: &H,
+    shared: &SharedArchive<D, J, H>,
+    bell: &Bell,
+    board: &Board,
+    limit: u32,
+    number: u64,
+    path: String,
+    progress: &Silent,
+) {
+    let fed = match File::open(rt, path.as_str()) {
+        Ok(file) => {
+            let mut file = file;
+            let mut input = Stoppable {
+                rt,
+                board,
+                input: &mut file,
+            };
+            feed_stream(rt, shared, bell, limit, &mut input, progress, 0)
+        }
+        Err(error) => unopened(&error),
+    };
+    board.end(rt, number, fed);
+}
+
+/// Rolls beside the shell, and answers the first refusal of that, if any.
+fn roll_files<D: Disk, J: Naming, H: Wait>(
+    rt: &H,
+    alloc: Global,
+    shared: &SharedArchive<D, J, H>,
+    bell: &Bell,
+) -> Option<ArchiveError> {
+    roll_beside(shared, rt, alloc, bell, &mut Faults::new()).err()
+}
+
+/// The end of an answer: `done STATUS`.
+fn done_line(status: u8) -> &'static str
+    requires { status ≤ 5 }
+    ensures { result.now ≡ done_line status }
+{
+    match status {
+        0 => "done 0\n",
+        1 => "done 1\n",
+        2 => "done 2\n",
+        3 => "done 3\n",
+        4 => "done 4\n",
+        _ => "done 5\n",
+    }
+}
+
+/// Writes the end of an answer.
+fn end_answer<W: Write>(status: u8, output: &mut W) -> Result<(), ArchiveRefusal>
+    requires { status ≤ 5 }
+    ensures { IsWritten (done_line status) (W.contents output.old) (W.contents output.new) result }
+{
+    write_patiently(output, done_line(status).as_bytes(), &mut Patience::new())?;
+    Ok(())
+}
+
+/// Writes a text, and the end of an answer after it.
+fn answer_text<W: Write>(text: &str, status: u8, output: &mut W) -> Result<(), ArchiveRefusal>
+    requires { status ≤ 5 }
+    ensures { IsWritten (text.now ++ done_line status) (W.contents output.old) (W.contents output.new) result }
+{
+    write_patiently(output, text.as_bytes(), &mut Patience::new())?;
+    end_answer(status, output)
+}
+
+/// The line of a refusal.
+fn refused_line(alloc: Global, refusal: &ShellRefusal) -> Result<String, AllocError>
+    ensures { IfOk result (λ line. string_bytes line ≡ refused_line refusal.now) }
+{
+    format!(in alloc; "refused {refusal}\n")
+}
+
+/// Writes a refusal, and the end of an answer after it. A want of memory is reported without any.
+fn answer_refusal<W: Write>(
+    alloc: Global,
+    refusal: &ShellRefusal,
+    output: &mut W,
+) -> Result<(), ArchiveRefusal>
+    ensures { IsRefusalWritten refusal.now (W.contents output.old) (W.contents output.new) result }
+{
+    match refused_line(alloc, refusal) {
+        Ok(line) => answer_text(line.as_str(), refusal.status(), output),
+        Err(AllocError) => answer_text(NO_MEMORY, WITHOUT_MEMORY, output),
+    }
+}
+
+/// Ends an answer that was refused, or couldn't be written.
+fn finish_refused<W: Write>(
+    alloc: Global,
+    refusal: ArchiveRefusal,
+    output: &mut W,
+) -> Result<(), ArchiveRefusal>
+    ensures { IsEndedBy refusal (W.contents output.old) (W.contents output.new) result }
+{
+    match refusal {
+        ArchiveRefusal::Write(failed) => Err(ArchiveRefusal::Write(failed)),
+        other => answer_refusal(alloc, &ShellRefusal::Archive(other), output),
+    }
+}
+
+/// Ends an answer: where it was refused, with the line of that. Where it couldn't be written, nothing more is.
+fn finish<W: Write>(
+    alloc: Global,
+    outcome: Result<(), ShellRefusal>,
+    output: &mut W,
+) -> Result<(), ArchiveRefusal>
+    ensures { IsFinished outcome (W.contents output.old) (W.contents output.new) result }
+{
+    match outcome {
+        Ok(()) => end_answer(DONE, output),
+        Err(ShellRefusal::Reader(error)) => {
+            answer_refusal(alloc, &ShellRefusal::Reader(error), output)
+        }
+        Err(ShellRefusal::Archive(refusal)) => finish_refused(alloc, refusal, output),
+    }
+}
+
+/// Writes the lines of the Files that have ended since the last answer.
+fn tell_ended<H: Wait, W: Write>(
+    rt: &H,
+    alloc: Global,
+    board: &Board,
+    output: &mut W,
+) -> Result<(), ArchiveRefusal> {
+    for _ in 0..MOST_FILES {
+        let Some((number, fed)) = board.take_ended(rt) else {
+            return Ok(());
+        };
+        let line = fed_line(alloc, number, fed)?;
+        write_patiently(output, line.as_slice(), &mut Patience::new())?;
+    }
+    Ok(())
+}
+
+/// The line for the File of this number, which is fed from now on.
+fn began_line(alloc: Global, number: u64) -> Result<String, AllocError>
+    ensures { IfOk result (λ line. string_bytes line ≡ began_line number) }
+{
+    format!(in alloc; "began {number}\n")
+}
+
+/// Begins to feed the File at a path, by a thread of its own; where none can be made it is fed before the answer. The
+/// answer is `began N`.
+fn begin_feed<
+    's,
+    E: 's,
+    H: Files + AllocGlobal + Clone + Drop + Threads + Wait + Send + Sync,
+    D: Disk + Send,
+    J: Naming + Send + Sync,
+    W: Write,
+>(
+    scope: &Scope<'s, E>,
+    rt: &'s H,
+    alloc: Global,
+    shared: &'s SharedArchive<D, J, H>,
+    bell: &'s Bell,
+    board: &'s Board,
+    limit: u32,
+    path: &str,
+    progress: &'s Silent,
+    output: &mut W,
+) -> Result<(), ArchiveRefusal>
+where
+    H::File: Send + Sync,
+    H::Dir: Send + Sync,
+    D::Sealed: Send + Sync,
+{
+    let Ok(path) = String::from_str(alloc, path) else {
+        return answer_text(NO_MEMORY, WITHOUT_MEMORY, output);
+    };
+    let Some(number) = board.begin(rt) else {
+        return answer_text(NO_PLACE, REFUSED, output);
+    };
+    match scope.spawn(move || feed_one(rt, shared, bell, board, limit, number, path, progress)) {
+        Ok(_) => {}
+        Err(refused) => (refused.value)(),
+    }
+    let line = began_line(alloc, number)?;
+    answer_text(line.as_str(), DONE, output)
+}
+
+/// What a reader is shown, and by how many workers it is asked.
+#[derive(Drop)]
+struct Asking<S: SealedFile, J: Naming> {
+    reader: ArchiveReader<S, J>,
+    /// The width of the archive's intervals, in seconds.
+    width: u32,
+    workers: Workers,
+}
+
+/// Writes the lines that a query is answered by.
+fn answer_lines<S: SealedFile + Send + Sync, J: Naming, H: Threads + Sync, W: Write>(
+    rt: &H,
+    alloc: Global,
+    asking: &mut Asking<S, J>,
+    query: &Query,
+    output: &mut W,
+) -> Result<(), ShellRefusal>
+    ensures later { IsPrefix asking.old.reader asking.new.reader }
+    ensures width { asking.new.width ≡ asking.old.width }
+    ensures lines { IsTrue J.honest → (h : History) → HasView J.opening h
+        → OnOk result (Appends (W.contents output.old) (W.contents output.new)
+        (query_lines query.now asking.old.width J.opening h asking.new.reader)) }
+    ensures kept { IfErr result (λ e. KeepsBefore e (W.contents output.old) (W.contents output.new)) }
+{
+    let Asking {
+        reader,
+        width,
+        workers,
+    } = asking;
+    match query {
+        Query::Totals(span) => answer_totals(rt, alloc, reader, *width, span, workers, output),
+        Query::Flows(span) => answer_flows(alloc, reader, span, output),
+        Query::Message(number) => answer_message(alloc, reader, *number, output),
+        Query::Check => answer_check(alloc, reader, output),
+    }
+}
+
+/// Answers a query.
+fn answer_query<S: SealedFile + Send + Sync, J: Naming, H: Threads + Sync, W: Write>(
+    rt: &H,
+    alloc: Global,
+    asking: &mut Asking<S, J>,
+    query: &Query,
+    output: &mut W,
+) -> Result<(), ArchiveRefusal>
+    ensures later { IsPrefix asking.old.reader asking.new.reader }
+    ensures width { asking.new.width ≡ asking.old.width }
+    // On an honest disk: its lines and done 0, or a refusal and its status.
+    ensures answered { IsTrue J.honest → (h : History) → HasView J.opening h
+        → OnOk result (IsAnswer (query_lines query.now asking.old.width J.opening h asking.new.reader)
+        (W.contents output.old) (W.contents output.new)) }
+{
+    let outcome = answer_lines(rt, alloc, asking, query, output);
+    finish(alloc, outcome, output)
+}
+
+/// How the requests ended.
+#[derive(Clone, Copy, Debug, PartialEq, Eq)]
+enum End {
+    /// The input has no more of them.
+    OfInput,
+    /// It was asked for.
+    Quit,
+    /// Reading failed.
+    Unread,
+}
+
+/// Reads the next line, without its line feed. It is none at the end.
+fn next_line<B: BufRead>(input: &mut B, line: &mut Vec<u8>) -> Result<bool, io::Error> {
+    line.clear();
+    if input.read_until(b'\n', line)? == 0 {
+        return Ok(false);
+    }
+    if line.last() == Some(&b'\n') {
+        line.pop();
+    }
+    Ok(true)
+}
+
+/// Answers requests, up to the end of the input, or to `quit`.
+fn serve<
+    's,
+    E: 's,
+    H: Files + AllocGlobal + Clone + Drop + Threads + Wait + Send + Sync,
+    D: Disk + Send,
+    J: Naming + Send + Sync,
+    R: Read,
+    W: Write,
+>(
+    scope: &Scope<'s, E>,
+    rt: &'s H,
+    alloc: Global,
+    shared: &'s SharedArchive<D, J, H>,
+    bell: &'s Bell,
+    board: &'s Board,
+    limit: u32,
+    asking: &mut Asking<D::Sealed, J>,
+    input: &mut R,
+    output: &mut W,
+    progress: &'s Silent,
+) -> Result<End, ArchiveRefusal>
+where
+    H::File: Send + Sync,
+    H::Dir: Send + Sync,
+    D::Sealed: Send + Sync,
+{
+    let Ok(input) = BufReader::new(alloc, input) else {
+        return Err(ArchiveRefusal::OutOfMemory);
+    };
+    let mut input = input;
+    let mut line = Vec::new(alloc);
+    for _ in 0..u64::MAX {
+        match next_line(&mut input, &mut line) {
+            Ok(true) => {}
+            Ok(false) => return Ok(End::OfInput),
+            Err(_) => return Ok(End::Unread),
+        }
+        tell_ended(rt, alloc, board, output)?;
+        let Ok(text) = str::from_utf8(line.as_slice()) else {
+            answer_text(WRONG_REQUEST, WRONG_LINE, output)?;
+            continue;
+        };
+        match request_of(text) {
+            None => answer_text(WRONG_REQUEST, WRONG_LINE, output)?,
+            Some(ShellRequest::Quit) => return Ok(End::Quit),
+            Some(ShellRequest::Ask(query)) => answer_query(rt, alloc, asking, &query, output)?,
+            Some(ShellRequest::Keep(keep)) => {
+                bell.set_keep(rt, keep);
+                end_answer(DONE, output)?;
+            }
+            Some(ShellRequest::Wait) => {
+                board.wait(rt);
+                tell_ended(rt, alloc, board, output)?;
+                end_answer(DONE, output)?;
+            }
+            Some(ShellRequest::Feed(file)) => begin_feed(
+                scope, rt, alloc, shared, bell, board, limit, file.path, progress, output,
+            )?,
+        }
+    }
+    Ok(End::OfInput)
+}
+
+/// Ends the Files that are fed, and writes their lines; and the end of the answer to `quit`.
+fn leave<H: Wait, W: Write>(
+    rt: &H,
+    alloc: Global,
+    board: &Board,
+    end: End,
+    output: &mut W,
+) -> Result<u8, ArchiveRefusal>
+    ensures most { IfOk result (λ status. status ≤ 5) }
+    ensures other { IfOk result (λ status. status ≢ 2) }
+{
+    tell_ended(rt, alloc, board, output)?;
+    match end {
+        End::OfInput => Ok(DONE),
+        End::Quit => {
+            end_answer(DONE, output)?;
+            Ok(DONE)
+        }
+        End::Unread => {
+            write_patiently(output, UNREADABLE.as_bytes(), &mut Patience::new())?;
+            Ok(UNREAD)
+        }
+    }
+}
+
+/// Answers requests while a thread rolls, where one can be made; then all Files that are fed end, and the rolling. It
+/// answers the status, and the first refusal of the rolling.
+fn serve_beside<
+    H: Files + AllocGlobal + Clone + Drop + Threads + Wait + Send + Sync,
+    D: Disk + Send,
+    J: Naming + Send + Sync,
+    R: Read,
+    W: Write,
+>(
+    rt: &H,
+    shared: &SharedArchive<D, J, H>,
+    limit: u32,
+    keep: u32,
+    asking: &mut Asking<D::Sealed, J>,
+    input: &mut R,
+    output: &mut W,
+) -> (Result<u8, ArchiveRefusal>, Option<ArchiveError>)
+where
+    H::File: Send + Sync,
+    H::Dir: Send + Sync,
+    D::Sealed: Send + Sync,
+    ensures { IfOk result.0 (λ status. (status ≤ 5) × (status ≢ 2)) }
+{
+    let bell = Bell::new(keep);
+    let board = Board::new();
+    let silent = Silent::new(None);
+    let (rung, places, progress) = (&bell, &board, &silent);
+    let alloc = rt.alloc();
+    thread::scope(
+        thread::scope_env(),
+        rt,
+        move |scope| -> (Result<u8, ArchiveRefusal>, Option<ArchiveError>)
+            requires { ⊤ }
+            ensures { IfOk result.0 (λ status. (status ≤ 5) × (status ≢ 2)) }
+        {
+            let roller = scope.spawn(move || roll_files(rt, alloc, shared, rung));
+            let served = serve(
+                scope, rt, alloc, shared, rung, places, limit, asking, input, output, progress,
+            );
+            places.quit(rt);
+            places.wait(rt);
+            let status = match served {
+                Ok(end) => leave(rt, alloc, places, end, output),
+                Err(refusal) => Err(refusal),
+            };
+            rung.end(rt);
+            match roller {
+                Ok(roller) => (status, roller.join(rt)),
+                Err(_) => (status, None),
+            }
+        },
+    )
+}
+
+/// Shares an archive, and answers requests about it.
+fn serve_archive<
+    H: Files + AllocGlobal + Clone + Drop + Threads + Wait + Send + Sync,
+    D: Disk + Send,
+    J: Naming + Send + Sync,
+    R: Read,
+    W: Write,
+>(
+    rt: &H,
+    archive: Archive<D>,
+    opened: Opened,
+    keep: u32,
+    input: &mut R,
+    output: &mut W,
+) -> Result<u8, ArchiveRefusal>
+where
+    H::File: Send + Sync,
+    H::Dir: Send + Sync,
+    D::Sealed: Send + Sync,
+    requires book { opened.seen.book ≡ J.book }
+    requires opening { shelf_of archive.state ≡ J.opening }
+    requires honest { D.honest archive.disk ≡ J.honest }
+    ensures most { IfOk result (λ status. status ≤ 5) }
+    ensures other { IfOk result (λ status. status ≢ 2) }
+{
+    let limit = archive.limit();
+    let width = archive.width();
+    let Ok((shared, readers)) = start::<D, J, H>(rt.alloc(), archive, opened, 1) else {
+        return Err(ArchiveRefusal::OutOfMemory);
+    };
+    let mut readers = readers;
+    let Some(reader) = readers.pop() else {
+        return Err(ArchiveRefusal::OutOfMemory);
+    };
+    let mut asking = Asking {
+        reader,
+        width,
+        workers: Workers::of_processors(rt),
+    };
+    let (status, refused) = serve_beside(rt, &shared, limit, keep, &mut asking, input, output);
+    let _archive = shared.end(rt);
+    match (status?, refused) {
+        (_, Some(error)) => Err(ArchiveRefusal::from(error)),
+        (status, None) => Ok(status),
+    }
+}
+
+/// Opens the archive on a disk, of which nothing is frozen, and answers requests about it.
+fn serve_disk<
+    H: Files + AllocGlobal + Clone + Drop + Threads + Wait + Send + Sync,
+    D: Disk + Send,
+    R: Read,
+    W: Write,
+>(rt: &H, disk: D, keep: u32, input: &mut R, output: &mut W) -> Result<u8, ArchiveRefusal>
+where
+    H::File: Send + Sync,
+    H::Dir: Send + Sync,
+    D::Sealed: Send + Sync,
+    requires { (n : ℕ) → (D.marks disk n).frozen ≡ false }
+    ensures most { IfOk result (λ status. status ≤ 5) }
+    ensures other { IfOk result (λ status. status ≢ 2) }
+{
+    match Archive::open(rt.alloc(), disk) {
+        Ok(archive) => serve_archive::<H, D, Brand, R, W>(
+            rt,
+            archive,
+            Opened::new(),
+            keep,
+            input,
+            output,
+        ),
+        Err(refused) => Err(ArchiveRefusal::from(refused.error)),
+    }
+}
+
+/// Opens the archive of a folder, and answers the requests that `input` has, a line each, in their order: with their
+/// lines, and `done STATUS`. Files that are asked for are fed meanwhile, at most 8 at once, and the line of one that has
+/// ended is written before the next answer. The newest `keep` sealed segments are left as they are; older ones are
+/// rolled meanwhile. After `quit`, and at the end of the input, Files end with what was read of them.
+pub fn shell_in<
+    H: Files + AllocGlobal + Clone + Drop + Threads + Wait + Send + Sync,
+    R: Read,
+    W: Write,
+>(rt: &H, folder: &str, keep: u32, input: &mut R, output: &mut W) -> Result<u8, ArchiveRefusal>
+where
+    H::File: FileExt + Lockable + Send + Sync,
+    H::Dir: Send + Sync,
+    ensures most { IfOk result (λ status. status ≤ 5) }
+    ensures other { IfOk result (λ status. status ≢ 2) }
+{
+    let disk = FolderDisk::new(rt, folder)?;
+    serve_disk(rt, disk, keep, input, output)
+}
