@@ -1,5 +1,5 @@
-//! Tests on public calls of what archives are made of: segments, their sums and flows, rolled files; and of the plain
-//! archive. Archives themselves are tested by the scripts of flow_replay.
+//! Tests on public calls of what archives are made of: the messages, sums and flows of sealed segments, and rolled
+//! files; and of the plain archive. Archives themselves are tested by the scripts of flow_replay.
 #![tactic(auto)]
 
 #[cfg(test)]
@@ -10,8 +10,6 @@ mod held;
 mod plain;
 #[cfg(test)]
 mod rolled;
-#[cfg(test)]
-mod rolled_parts;
 #[cfg(test)]
 mod segment_sums;
 #[cfg(test)]
