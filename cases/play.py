@@ -45,6 +45,11 @@ class Run:
             return octets
         return b"".join(sorted(octets.splitlines(True), key=lambda line: line.split()[self.by - 1]))
 
+    def see(self):
+        """The last line on standard error of a refusal, which cases leave out."""
+        refused = re.match(r"flowvault: (\d+) [A-Z]", self.err[0]) if self.err else None
+        return ["flowvault: see: flowvault explain " + refused[1]] if refused else []
+
     def differs(self, got):
         """Yields each difference of what came, as (what, wanted, came)."""
         if got.returncode != self.status:
@@ -55,7 +60,7 @@ class Run:
                 yield "out", wanted, self.sorted(got.stdout)
         elif not got.stdout.startswith(self.begins.encode()) or not got.stdout:
             yield "out, from its start", self.begins.encode(), got.stdout
-        wanted = "".join(line + "\n" for line in self.err).encode()
+        wanted = "".join(line + "\n" for line in self.err + self.see()).encode()
         if self.err == ["*"]:
             if not re.match(rb"flowvault: [^\n]+\n", got.stderr):
                 yield "err", b"a line of flowvault", got.stderr

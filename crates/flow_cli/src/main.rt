@@ -38,8 +38,7 @@ fn main(rt: HostRuntime) -> ExitCode {
     let mut input = rt.stdin();
     let mut output = rt.stdout();
     let mut errors = rt.stderr();
-    let terminal = errors.is_terminal().then_some(rt.stderr());
-    let progress = Progress::new(terminal);
+    let progress = Progress::new(Some(rt.stderr()), errors.is_terminal());
     let status = run_line(
         &rt,
         words.as_slice(),

@@ -10,6 +10,7 @@ use std::process::Abort;
 use std::sync::Wait;
 use std::test::*;
 use std::thread::Threads;
+use std::time::Clock;
 use std::{fs, io};
 
 /// A template of elements 150, 4, 1 and 2, and a flow.
@@ -34,7 +35,13 @@ fn decoded(alloc: Global, text: &str) -> Result<Vec<u8>, Fail> {
     Ok(octets)
 }
 
-/// What a run answered: its status, and what it told on standard error. A test sees nothing else of it, so that it is
+/// The lines where standard input can't be read.
+const UNREAD: &str = "flowvault: 31 Read\nflowvault: see: flowvault explain 31\n";
+
+/// The lines where standard output can't be written.
+const UNWRITTEN: &str = "flowvault: 32 Write\nflowvault: see: flowvault explain 32\n";
+
+/// What a run answered: its status, and what it wrote on standard error. A test sees nothing else of it, so that it is
 /// proved without all that a run promises.
 #[derive(Drop)]
 struct Answer {
@@ -42,24 +49,23 @@ struct Answer {
     told: Vec<u8>,
 }
 
-/// Runs these words, behind the program's name, where standard error is no terminal.
-fn ran<H: Files + AllocGlobal + Clone + Drop + Threads + Wait + Send + Sync, R: Read, W: Write>(
-    host: &H,
-    words: &[&str],
-    input: &mut R,
-    output: &mut W,
-) -> Result<Answer, AllocError>
+/// Runs these words, after the program's name, where standard error is no terminal.
+fn ran<
+    H: Files + AllocGlobal + Clock + Clone + Drop + Threads + Wait + Send + Sync,
+    R: Read,
+    W: Write,
+>(host: &H, words: &[&str], input: &mut R, output: &mut W) -> Result<Answer, AllocError>
 where
     H::File: FileExt + Lockable + Send + Sync,
     H::Dir: Send + Sync,
 {
-    let progress: Progress<Vec<u8>> = Progress::new(None);
+    let progress: Progress<Vec<u8>> = Progress::new(None, false);
     ran_before(host, words, input, output, &progress)
 }
 
 /// Runs these words, where progress is shown.
 fn ran_before<
-    H: Files + AllocGlobal + Clone + Drop + Threads + Wait + Send + Sync,
+    H: Files + AllocGlobal + Clock + Clone + Drop + Threads + Wait + Send + Sync,
     R: Read,
     W: Write,
     P: Write + Drop + Send,
@@ -84,7 +90,7 @@ where
 }
 
 /// Runs these words on a File, and compares all that it answers.
-fn answers<A: Abort, H: Files + AllocGlobal + Clone + Drop + Threads + Wait + Send + Sync>(
+fn answers<A: Abort, H: Files + AllocGlobal + Clock + Clone + Drop + Threads + Wait + Send + Sync>(
     rt: &A,
     host: &H,
     words: &[&str],
@@ -113,7 +119,7 @@ fn a_file_is_measured_or_refused(rt: HostRuntime) -> Result<(), Fail> {
     let file = file.as_slice();
     let words = ["measure", "300"];
     answers(&rt, &rt, words.as_slice(), file, 0, PLAIN_LINE, "")?;
-    let cut = "flowvault: 15 Cut 0\n";
+    let cut = "flowvault: 15 Cut 0\nflowvault: see: flowvault explain 15\n";
     answers(&rt, &rt, words.as_slice(), &[0], 1, "", cut)
 }
 
@@ -134,7 +140,7 @@ fn a_reader_that_never_answers(rt: HostRuntime) -> Result<(), Fail> {
     let got = ran(&rt, &["measure", "300"], &mut Interrupted, &mut output)?;
     assert_eq!(rt; got.status, 3);
     assert_eq!(rt; output.len(), 0);
-    assert_eq!(rt; got.told.as_slice(), b"flowvault: 31 Read\n".as_slice());
+    assert_eq!(rt; got.told.as_slice(), UNREAD.as_bytes());
     Ok(())
 }
 
@@ -164,7 +170,7 @@ fn a_writer_that_takes_nothing(rt: HostRuntime) -> Result<(), Fail> {
         let mut output = Narrow { room: 0 };
         let got = ran(&rt, words, &mut file.as_slice(), &mut output)?;
         assert_eq!(rt; got.status, 3);
-        assert_eq!(rt; got.told.as_slice(), b"flowvault: 32 Write\n".as_slice());
+        assert_eq!(rt; got.told.as_slice(), UNWRITTEN.as_bytes());
     }
     Ok(())
 }
@@ -181,12 +187,12 @@ fn help_that_is_written_or_not(rt: HostRuntime) -> Result<(), Fail> {
     let got = ran(&rt, &["--help"], &mut Interrupted, &mut output)?;
     assert_eq!(rt; got.status, 3);
     assert_eq!(rt; output.room, 0);
-    assert_eq!(rt; got.told.as_slice(), b"flowvault: 32 Write\n".as_slice());
+    assert_eq!(rt; got.told.as_slice(), UNWRITTEN.as_bytes());
     Ok(())
 }
 
 /// An archive in a folder, and beside it a File of the plain message.
-fn with_file<H: Files + AllocGlobal + Clone + Drop + Threads + Wait + Send + Sync>(
+fn with_file<H: Files + AllocGlobal + Clock + Clone + Drop + Threads + Wait + Send + Sync>(
     rt: &H,
     folder: &str,
 ) -> Result<(), Fail>
@@ -217,7 +223,7 @@ fn a_line_that_is_not_written(rt: HostRuntime) -> Result<(), Fail> {
     let mut output = Narrow { room: 4 };
     let got = ran(&rt, words.as_slice(), &mut b"".as_slice(), &mut output)?;
     assert_eq!(rt; got.status, 3);
-    assert_eq!(rt; got.told.as_slice(), b"flowvault: 32 Write\n".as_slice());
+    assert_eq!(rt; got.told.as_slice(), UNWRITTEN.as_bytes());
     let check = ["check", "cli_mute"];
     answers(&rt, &rt, check.as_slice(), &[], 0, "ok 2 0 0 0\n", "")?;
     fs::remove_dir_all(&rt, "cli_mute")?;
@@ -251,7 +257,7 @@ impl Write for Interrupting {
 fn lines_bear_interrupts(rt: HostRuntime) -> Result<(), Fail> {
     with_file(&rt, "cli_late")?;
     let words = ["feed", "cli_late", "cli_late.ipfix", "cli_late.ipfix"];
-    for (each, status, told) in [(499_999, 0, ""), (500_000, 3, "flowvault: 32 Write\n")] {
+    for (each, status, told) in [(499_999, 0, ""), (500_000, 3, UNWRITTEN)] {
         let mut output = Interrupting { each, left: each };
         let got = ran(&rt, words.as_slice(), &mut b"".as_slice(), &mut output)?;
         assert_eq!(rt; got.status, status);
@@ -301,7 +307,7 @@ fn progress_before_a_terminal(rt: HostRuntime) -> Result<(), Fail> {
     ];
     let mut seen = Vec::new(rt.alloc());
     let mut output = Vec::new(rt.alloc());
-    let progress = Progress::new(Some(&mut seen));
+    let progress = Progress::new(Some(&mut seen), true);
     let got = ran_before(
         &rt,
         words.as_slice(),

@@ -1,5 +1,5 @@
 -- What an archive that is opened answers.
-use Rattle.std.proofs.Common.{◌≡◌, ◌∙◌, ℕ, List, [], Option, sym, ap, ap₂, subst, arith}
+use Rattle.std.proofs.Common.{◌≡◌, ◌∙◌, ℕ, List, Option, sym, ap, ap₂, subst, arith}
 use Rattle.std.specs.Prelude.{true, IsTrue, Result, Ok, Err, IfErr}
 use Rattle.std.proofs.KnownBytes.{Appends-nil, Keeps-refl}
 use Rattle.flow_manifest.specs.Following.{front_of}
@@ -49,7 +49,7 @@ read_as reads sight width s stands wide there shown =
       ),
     )
 
--- ---- refusals, told of a command
+-- ---- refusals of a command
 
 pub unopened_told : (reads : ℕ → List ℕ) (e : RecoverError) → IsUnopened reads e → IsNotAsked reads (of_opening e)
 unopened_told reads (opening.Damaged file at) told = told

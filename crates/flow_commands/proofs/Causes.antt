@@ -59,7 +59,7 @@ query_is_no_opening (query.Damaged file at) is = absurd (cc)
 query_is_no_opening query.Fault is = absurd (cc)
 query_is_no_opening query.OutOfMemory is = absurd (cc)
 
--- ---- want of memory, and writing
+-- ---- out of memory, and writing
 
 pub memory_is_no_opening : refusal.OutOfMemory ≢ refusal.Opening opening.Fault
 memory_is_no_opening is = absurd (cc)

@@ -56,7 +56,7 @@ take_within a b zero most = refl
 take_within [] b (suc n) most = absurd (omega (arith, most))
 take_within (x ∷ xs) b (suc n) most = ap (λ (l : List ℕ). x ∷ l) (take_within xs b n (omega (arith, most)))
 
--- a front of what comes behind what was written
+-- a prefix of what comes after what was written
 pub front_behind : (a b c : Option (List ℕ)) (text more : List ℕ) → Appends a b text → AppendsFront b c more
     → AppendsFront a c (text ++ more)
 front_behind a b c text more written (n, most, front) =
@@ -71,7 +71,7 @@ kept_front None b text kept = (0, omega arith, tt)
 kept_front (Some xs) None text kept = absurd kept
 kept_front (Some xs) (Some ys) text kept = (0, omega arith, kept ∙ sym (append-nil xs))
 
--- a front of a text is one of what goes on from it
+-- a prefix of a text is one of what goes on from it
 pub front_on : (a b : Option (List ℕ)) (text more : List ℕ) → AppendsFront a b text → AppendsFront a b (text ++ more)
 front_on a b text more (n, most, front) =
     let long = length-append text more in (

@@ -1,4 +1,4 @@
--- How an archive stands, by what an opening finds.
+-- What an archive has, by what an opening finds.
 use Rattle.std.proofs.Common.{◌≡◌, ◌∙◌, ap, ℕ, List}
 use Rattle.flow_manifest.specs.declared.manifest.Kind.TheVariants.{Sealed}
 use Rattle.flow_manifest.specs.declared.manifest.Manifest.{Manifest}

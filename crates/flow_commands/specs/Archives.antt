@@ -18,11 +18,11 @@ use Rattle.flow_commands.specs.declared.archive_refusal.ArchiveRefusal.{ArchiveR
 use Rattle.flow_commands.specs.declared.archive_refusal.ArchiveRefusal.TheVariants.{Folder, Opening, Archive}
 use Rattle.flow_commands.specs.declared.folder_fault.FolderFault.{FolderFault}
 use Rattle.flow_commands.specs.declared.folder_fault.FolderFault.TheVariants.{NotThere, Refused, InUse, NotAFile}
-use Rattle.flow_commands.specs.declared.folder_fault.FolderFault.TheVariants.{NoHandles}
+use Rattle.flow_commands.specs.declared.folder_fault.FolderFault.TheVariants.{NoHandles, NoClock}
 use Rattle.flow_commands.specs.declared.archive_refusal.ArchiveRefusal.TheVariants.{Query}
 use Rattle.flow_commands.specs.declared.archive_refusal.ArchiveRefusal.TheVariants.{OutOfMemory, Write}
 
--- Of a folder a second line says that it isn't there or in use, which name in it isn't a file's, or what the system lacks.
+-- A second line says that the folder isn't there or in use, which name in it isn't a file's, or what the system lacks.
 abbrev pub fault_printed : FolderFault → List ℕ
 fault_printed NotThere = codes "30 Fault\nflowvault: there is no such folder"
 fault_printed Refused =
@@ -32,6 +32,7 @@ fault_printed (NotAFile file) =
     codes "30 Fault\nflowvault: " ++ name_of file
     ++ codes " in the folder is a link, a folder, a pipe or a device, and not a file"
 fault_printed NoHandles = codes "30 Fault\nflowvault: the system's list of open files, /proc/self/fd, isn't there"
+fault_printed NoClock = codes "30 Fault\nflowvault: the system's clock can't be read"
 
 -- the number, the name and what the refusal carries
 abbrev pub archive_printed : ArchiveRefusal → List ℕ

@@ -20,7 +20,7 @@ use Rattle.flow_report.specs.Writing.{AppendsFront}
 abbrev pub summed_count : List Entry → ℕ
 summed_count entries = count_of Rolled entries + count_of Wide entries
 
--- how many messages an archive has, how many of them stand in sums alone, its files of sums and its sealed segments
+-- how many messages an archive has, how many of them are in sums alone, its files of sums and its sealed segments
 abbrev pub standing_of : State → Standing
 standing_of s = record {
   position = position_of s;

@@ -87,6 +87,10 @@ abbrev pub fed_lines : ℕ → List Fed → List ℕ
 fed_lines before [] = []
 fed_lines before (fed ∷ feds) = fed_line (suc before) fed ++ fed_lines (suc before) feds
 
+-- what comes of a File that can't be opened: 11 where memory is refused, else 31
+abbrev pub unopened : FeedStop → Fed
+unopened why = record { messages = 0; stop = Some why }
+
 -- ---- statuses
 
 abbrev pub stream_status : StreamError → ℕ

@@ -5,3 +5,4 @@ pub mod Check
 pub mod Asking
 pub mod Rolling
 pub mod Feeding
+pub mod Warnings

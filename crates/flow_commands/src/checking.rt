@@ -28,7 +28,7 @@ use std::os::unix::fs::FileExt;
 struct Standing {
     /// How many messages were taken in.
     position: u64,
-    /// How many of them stand in sums alone.
+    /// How many of them are in sums alone.
     cut: u64,
     /// How many files of sums there are, over wide intervals or not.
     rolled: u64,
@@ -37,7 +37,7 @@ struct Standing {
 }
 
 impl Standing {
-    /// The line that tells it.
+    /// The line that says it.
     #[tactic(auto, unfolding(crate::specs::Check::standing_line))]
     fn push_line(&self, text: &mut Vec<u8>) -> Result<(), AllocError>
         ensures { OnOk result (text.new.items ≡ text.old.items ++ standing_line self.now) }
@@ -92,7 +92,7 @@ fn find_standing<D: Disk>(alloc: Global, disk: &mut D) -> Result<Standing, Recov
 }
 
 /// Opens the archive on a disk, of which nothing is frozen, and writes `ok POSITION CUT ROLLED SEALED`: how many
-/// messages were taken in, how many of them stand in sums alone, how many files of sums and sealed segments there are.
+/// messages were taken in, how many of them are in sums alone, how many files of sums and sealed segments there are.
 /// A stop at any moment leaves what opens as the archive that was there.
 pub fn check<D: Disk, W: Write>(
     alloc: Global,

@@ -67,7 +67,7 @@ fn stream_name(error: StreamError) -> &'static str
 }
 
 /// The number and the name of why a File isn't taken in whole.
-fn stop_name(stop: FeedStop) -> &'static str
+pub(crate) fn stop_name(stop: FeedStop) -> &'static str
     ensures { result.now ≡ stop_name stop }
 {
     match stop {

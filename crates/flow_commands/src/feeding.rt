@@ -8,12 +8,16 @@ ghost use Rattle.flow_recover.specs.Shelved.{shelf_of};
 ghost use Rattle.flow_archive.specs.declared.refusal.ArchiveError.{ArchiveError as Refusal};
 ghost use Rattle.flow_feed.specs.declared.batch.Fed.{Fed as FedFile};
 ghost use Rattle.flow_commands.specs.Feeding.{FeedsLines, KeepsOrFeeds, TellsFed, TellsFile, TellsFiles};
-ghost use Rattle.flow_commands.specs.Feeding.{feed_ended, IsNotFed};
+ghost use Rattle.flow_commands.specs.Feeding.{feed_ended, unopened, IsNotFed};
+ghost use Rattle.flow_feed.specs.declared.batch.FeedStop.TheVariants as stop;
+ghost use Rattle.std.specs.IoError.{error_kind};
+ghost use Rattle.std.specs.declared.io.ErrorKind.TheVariants as kind;
 
 use crate::archive_refusal::ArchiveRefusal;
 use crate::feed_line::{fed_line, stop_status};
 use crate::plan::FeedPlan;
 use crate::progress::{Progress, Watched};
+use crate::warning::{StoppedFile, UnopenedFile};
 use flow_archive::{Archive, ArchiveError};
 use flow_disk::{Disk, Faults};
 use flow_feed::{Fed, FeedStop, SharedAppender, feed};
@@ -62,8 +66,11 @@ pub fn feed_stream<H: AllocGlobal + Wait, D: Disk, J: Naming, R: Read, P: Write 
     feed(&mut appender, rt.alloc(), &mut input, passed)
 }
 
-/// What comes of a File that can't be opened.
-pub fn unopened(error: &io::Error) -> Fed {
+/// What comes of a File that can't be opened: 11 where memory is refused, else 31.
+pub fn unopened(error: &io::Error) -> Fed
+    ensures memory { error_kind error.now ≡ kind.OutOfMemory → result ≡ unopened stop.OutOfMemory }
+    ensures other { error_kind error.now ≢ kind.OutOfMemory → result ≡ unopened stop.Unopened }
+{
     let stop = if error.kind() == ErrorKind::OutOfMemory {
         FeedStop::OutOfMemory
     } else {
@@ -75,12 +82,29 @@ pub fn unopened(error: &io::Error) -> Fed {
     }
 }
 
-/// The same of the File at a path.
+/// Warns of the File of this number that it can't be opened, and why.
+fn warn_of_unopened<H: Wait, P: Write + Drop>(
+    rt: &H,
+    number: u64,
+    path: &str,
+    error: &io::Error,
+    progress: &Progress<P>,
+) {
+    let line = UnopenedFile {
+        number,
+        path,
+        error,
+    };
+    progress.say(rt, &line);
+}
+
+/// The same of the File of this number at a path.
 fn feed_path<H: Files + AllocGlobal + Clone + Drop + Wait, D: Disk, J: Naming, P: Write + Drop>(
     rt: &H,
     shared: &SharedArchive<D, J, H>,
     bell: &Bell,
     span: u32,
+    number: u64,
     path: &str,
     progress: &Progress<P>,
     passed: u64,
@@ -90,7 +114,10 @@ fn feed_path<H: Files + AllocGlobal + Clone + Drop + Wait, D: Disk, J: Naming, P
             let mut file = file;
             feed_stream(rt, shared, bell, span, &mut file, progress, passed)
         }
-        Err(error) => unopened(&error),
+        Err(error) => {
+            warn_of_unopened(rt, number, path, &error, progress);
+            unopened(&error)
+        }
     }
 }
 
@@ -133,8 +160,10 @@ where
     let one = |i: usize, fed: &mut Fed|
         requires { i < length paths.now }
     {
-        if paths[i].as_str() != STANDARD_INPUT {
-            *fed = feed_path(rt, shared, bell, span, paths[i].as_str(), progress, passed);
+        let path = paths[i].as_str();
+        if path != STANDARD_INPUT {
+            let number = (i as u64).saturating_add(1);
+            *fed = feed_path(rt, shared, bell, span, number, path, progress, passed);
         }
     };
     thread::for_each_mut(rt, feds.as_mut_slice(), MOST_FILES, &one);
@@ -253,6 +282,29 @@ where
     )
 }
 
+/// Warns of each File that stopped, with its place; of one that isn't opened that was done.
+fn warn_of_stops<H: Wait, S: AsStr, P: Write + Drop>(
+    rt: &H,
+    paths: &[S],
+    feds: &[Fed],
+    progress: &Progress<P>,
+) {
+    for (i, (path, fed)) in paths.iter().zip(feds).enumerate() {
+        match fed.stop {
+            None | Some(FeedStop::Unopened) => {}
+            Some(stop) => {
+                let line = StoppedFile {
+                    number: (i as u64).saturating_add(1),
+                    path: path.as_str(),
+                    messages: fed.messages,
+                    stop,
+                };
+                progress.say(rt, &line);
+            }
+        }
+    }
+}
+
 /// Writes the lines of Files, and answers the status of the first that stopped.
 fn tell_files<W: Write>(
     alloc: Global,
@@ -350,6 +402,7 @@ where
     let (feds, refused) = feed_beside(rt, &shared, span, plan, paths, input, progress, feds);
     let _archive = shared.end(rt);
     progress.clear(rt);
+    warn_of_stops(rt, paths, feds.as_slice(), progress);
     tell_files(alloc, feds.as_slice(), refused, output)
 }
 
@@ -430,6 +483,9 @@ where
     ensures most { IfOk result (λ status. status ≤ 5) }
     ensures other { IfOk result (λ status. status ≢ 2) }
 {
+    if plan.warn {
+        progress.warn(rt);
+    }
     let disk = FolderDisk::new(rt, folder)?;
     feed_on(rt, disk, plan, paths, input, output, progress)
 }

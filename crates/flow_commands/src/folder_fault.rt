@@ -1,4 +1,4 @@
-//! Why a folder can't be opened as an archive's disk.
+//! What the system refuses or lacks: why a folder can't be opened as an archive's disk, or no time is known.
 
 ghost use Rattle.std.specs.Prelude.{Some, ◌≡◌};
 ghost use Rattle.flow_folder.specs.Naming.{name_of};
@@ -22,7 +22,7 @@ impl fmt::Display for FileName {
     }
 }
 
-/// Why a folder can't be opened, printed as 30 Fault, and a second line.
+/// Why a folder can't be opened, or no time is known, printed as 30 Fault, and a second line.
 #[derive(Debug, Drop)]
 pub enum FolderFault {
     /// There is no folder at this path.
@@ -35,6 +35,8 @@ pub enum FolderFault {
     NotAFile(u64),
     /// The system's list of open files isn't there.
     NoHandles,
+    /// The system's clock can't be read, or is set before 1970.
+    NoClock,
 }
 
 impl fmt::Display for FolderFault {
@@ -59,6 +61,10 @@ impl fmt::Display for FolderFault {
             FolderFault::NoHandles => write!(
                 f,
                 "30 Fault\nflowvault: the system's list of open files, /proc/self/fd, isn't there"
+            ),
+            FolderFault::NoClock => write!(
+                f,
+                "30 Fault\nflowvault: the system's clock can't be read"
             ),
         }
     }

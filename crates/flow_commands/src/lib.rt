@@ -20,6 +20,7 @@ mod plan;
 mod progress;
 mod rolling;
 mod totalling;
+mod warning;
 
 pub use archive_refusal::ArchiveRefusal;
 pub use checking::{check, check_in};

@@ -113,6 +113,8 @@ pub struct FeedPlan {
     pub keep: u32,
     /// How many of the first messages of each File are only read.
     pub passed: u64,
+    /// Whether a warning says where a File stopped, though standard error is no terminal.
+    pub warn: bool,
 }
 
 /// How many workers scan an archive, from 1 to 64.

@@ -1,6 +1,7 @@
-//! How far feeding is, on a terminal.
+//! How far feeding is, on a terminal, and what it warns of.
 
 use flow_roller::Bell;
+use std::fmt::Display;
 use std::io;
 use std::io::{Read, Write};
 use std::sync::{Mutex, Wait};
@@ -11,24 +12,44 @@ const STEP: u64 = 1 << 20;
 /// What is shown.
 #[derive(Drop)]
 struct Shown<W: Write + Drop> {
-    terminal: Option<W>,
+    errors: Option<W>,
+    is_terminal: bool,
+    /// Whether warnings are written.
+    warns: bool,
     mebibytes: u64,
     /// Whether a line of it is on the terminal.
     is_shown: bool,
 }
 
-/// Shows on a terminal how much of the Files is read, by whichever threads, and nothing where there is no terminal. What
-/// can't be written there is left out.
+impl<W: Write + Drop> Shown<W> {
+    /// Clears what is shown, so that a line can be written in its place.
+    fn clear(&mut self) {
+        if !self.is_shown {
+            return;
+        }
+        if let Some(errors) = &mut self.errors {
+            let _ = write!(errors, "\r\x1b[K");
+            let _ = errors.flush();
+        }
+        self.is_shown = false;
+    }
+}
+
+/// Shows on a terminal how much of the Files is read, by whichever threads, and writes warnings there, or where they are
+/// asked for. What can't be written is left out.
 #[derive(Drop)]
 pub struct Progress<W: Write + Drop> {
     shown: Mutex<Shown<W>>,
 }
 
 impl<W: Write + Drop> Progress<W> {
-    /// Nothing is shown yet.
-    pub fn new(terminal: Option<W>) -> Self {
+    /// Nothing is shown yet. Where `errors` is a terminal, progress and warnings are written to it; else warnings, where
+    /// they are asked for.
+    pub fn new(errors: Option<W>, is_terminal: bool) -> Self {
         let shown = Shown {
-            terminal,
+            errors,
+            is_terminal,
+            warns: is_terminal,
             mebibytes: 0,
             is_shown: false,
         };
@@ -37,31 +58,44 @@ impl<W: Write + Drop> Progress<W> {
         }
     }
 
+    /// Warnings are written from now on, though it is no terminal.
+    pub(crate) fn warn<H: Wait>(&self, rt: &H) {
+        self.shown.lock(rt).warns = true;
+    }
+
     /// Shows that so many mebibytes more are read, in place of what is shown.
     fn add<H: Wait>(&self, rt: &H, mebibytes: u64) {
         let mut guard = self.shown.lock(rt);
         let shown = &mut *guard;
         shown.mebibytes = shown.mebibytes.saturating_add(mebibytes);
         let all = shown.mebibytes;
-        if let Some(terminal) = &mut shown.terminal {
-            let _ = write!(terminal, "\r{all} MiB read");
-            let _ = terminal.flush();
+        if !shown.is_terminal {
+            return;
+        }
+        if let Some(errors) = &mut shown.errors {
+            let _ = write!(errors, "\r{all} MiB read");
+            let _ = errors.flush();
             shown.is_shown = true;
+        }
+    }
+
+    /// Writes a line, where warnings are written.
+    pub(crate) fn say<H: Wait, L: Display>(&self, rt: &H, line: &L) {
+        let mut guard = self.shown.lock(rt);
+        let shown = &mut *guard;
+        if !shown.warns {
+            return;
+        }
+        shown.clear();
+        if let Some(errors) = &mut shown.errors {
+            let _ = write!(errors, "flowvault: {line}\n");
+            let _ = errors.flush();
         }
     }
 
     /// Clears what is shown, so that a line can be written in its place.
     pub(crate) fn clear<H: Wait>(&self, rt: &H) {
-        let mut guard = self.shown.lock(rt);
-        let shown = &mut *guard;
-        if !shown.is_shown {
-            return;
-        }
-        if let Some(terminal) = &mut shown.terminal {
-            let _ = write!(terminal, "\r\x1b[K");
-            let _ = terminal.flush();
-        }
-        shown.is_shown = false;
+        self.shown.lock(rt).clear();
     }
 }
 

@@ -26,7 +26,7 @@ fn job_name(kind: JobKind) -> &'static str
     }
 }
 
-/// The line that tells how many files a job summed.
+/// The line that says how many files a job summed.
 #[tactic(auto, unfolding(crate::specs::Rolling::job_line))]
 fn job_line(alloc: Global, kind: JobKind, count: u32) -> Result<Vec<u8>, AllocError>
     ensures { IfOk result (λ text. text.items ≡ job_line kind count) }

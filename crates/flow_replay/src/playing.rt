@@ -119,8 +119,40 @@ fn answer_all<D: Disk>(
     Ok(())
 }
 
-/// A part with an archive, on a disk that has this damage: the disk, and whether the part is played. It isn't where it
-/// is to be given once more.
+/// The answers of an archive that begins a part.
+fn answer_part<D: Disk>(
+    alloc: Global,
+    stage: &mut Stage<D>,
+    wear: &Wear,
+    name: &str,
+    first: &Line<'_>,
+    lines: &[Line<'_>],
+    report: &mut Report,
+) -> Result<(), AllocError> {
+    report.compare(alloc, name, first, "")?;
+    answer_all(alloc, stage, wear, name, lines, report)
+}
+
+/// The answers of a part whose archive is refused: whether it is played. It isn't where it is to be given once more.
+fn refuse_part(
+    alloc: Global,
+    name: &str,
+    why: &str,
+    first: &Line<'_>,
+    lines: &[Line<'_>],
+    report: &mut Report,
+) -> Result<bool, AllocError> {
+    if report.repeats(first, why) {
+        return Ok(false);
+    }
+    report.compare(alloc, name, first, why)?;
+    for line in lines {
+        report.compare(alloc, name, line, "there is no archive")?;
+    }
+    Ok(true)
+}
+
+/// A part with an archive, on a disk that has this damage: the disk, and whether the part is played.
 fn with_archive<D: Disk>(
     alloc: Global,
     disk: Thawed<D>,
@@ -132,19 +164,12 @@ fn with_archive<D: Disk>(
 ) -> Result<(D, bool), AllocError> {
     match begin(alloc, disk, &first.command)? {
         Beginning::Archive(mut stage) => {
-            report.compare(alloc, name, first, "")?;
-            answer_all(alloc, &mut stage, wear, name, lines, report)?;
+            answer_part(alloc, &mut stage, wear, name, first, lines, report)?;
             Ok((stage.into_disk(), true))
         }
         Beginning::Refused(disk, why) => {
-            if report.repeats(first, why.as_str()) {
-                return Ok((disk, false));
-            }
-            report.compare(alloc, name, first, why.as_str())?;
-            for line in lines {
-                report.compare(alloc, name, line, "there is no archive")?;
-            }
-            Ok((disk, true))
+            let is_played = refuse_part(alloc, name, why.as_str(), first, lines, report)?;
+            Ok((disk, is_played))
         }
     }
 }
@@ -164,8 +189,10 @@ fn with_shared<W: Wait>(
     };
     match begin(alloc, disk, &first.command)? {
         Beginning::Archive(stage) => {
-            report.compare(alloc, script.name, first, "")?;
-            share(rt, alloc, stage.into_archive(), script, lines, report)
+            let compared = report.compare(alloc, script.name, first, "");
+            let disk = share(rt, alloc, stage.into_archive(), script, lines, report)?;
+            compared?;
+            Ok(disk)
         }
         Beginning::Refused(disk, why) => {
             report.compare(alloc, script.name, first, why.as_str())?;
@@ -205,6 +232,21 @@ fn disk_of(disk: MemoryDisk, failing: Failing) -> Thawed<FusedDisk<MemoryDisk>> 
     }
 }
 
+/// A part with an archive that no threads share: the disk afterwards, and whether the part is played.
+fn play_archive(
+    alloc: Global,
+    disk: Thawed<FusedDisk<MemoryDisk>>,
+    name: &str,
+    first: &Line<'_>,
+    lines: &[Line<'_>],
+    report: &mut Report,
+) -> Result<(MemoryDisk, bool), AllocError> {
+    let wear = Wear::none(alloc)?;
+    let disk = worn(disk, wear.share()?);
+    let (disk, is_played) = with_archive(alloc, disk, &wear, name, first, lines, report)?;
+    Ok((disk.into_disk().restart(), is_played))
+}
+
 /// A part that no threads share, on a disk: the disk afterwards, and whether the part is played.
 fn play_once(
     alloc: Global,
@@ -214,27 +256,15 @@ fn play_once(
     report: &mut Report,
 ) -> Result<(MemoryDisk, bool), AllocError> {
     let disk = disk_of(disk, part.failing);
-    let (disk, is_played) = match part.lines.split_first() {
+    match part.lines.split_first() {
         Some((first, rest)) if first.command.begins() => {
-            let wear = Wear::none(alloc)?;
-            let disk = worn(disk, wear.share()?);
-            let (disk, is_played) = with_archive(
-                alloc,
-                disk,
-                &wear,
-                script.name,
-                first,
-                rest,
-                report,
-            )?;
-            (disk.into_disk(), is_played)
+            play_archive(alloc, disk, script.name, first, rest, report)
         }
         _ => {
             let disk = without_archive(alloc, disk, script.name, &part.lines, report)?;
-            (disk, true)
+            Ok((disk.restart(), true))
         }
-    };
-    Ok((disk.restart(), is_played))
+    }
 }
 
 /// A part, on a disk: the disk afterwards.

@@ -157,6 +157,26 @@ fn done<D: Disk, J: Naming, W: Wait>(
     }
 }
 
+/// A shared archive answers lines.
+fn answer_lines<D: Disk, J: Naming, W: Wait>(
+    rt: &W,
+    alloc: Global,
+    shared: &SharedArchive<D, J, W>,
+    reading: &mut Reading<D, J>,
+    name: &str,
+    lines: &[Line<'_>],
+    report: &mut Report,
+) -> Result<(), AllocError> {
+    for line in lines {
+        let told = match reading.asked(alloc, &line.command)? {
+            Some(told) => told,
+            None => done(rt, alloc, shared, reading, &line.command)?,
+        };
+        report.compare(alloc, name, line, told.as_str())?;
+    }
+    Ok(())
+}
+
 /// A shared archive answers lines: its disk afterwards.
 fn answer_all<D: Disk, J: Naming, W: Wait>(
     rt: &W,
@@ -183,13 +203,7 @@ fn answer_all<D: Disk, J: Naming, W: Wait>(
         held: None,
         narrow,
     };
-    for line in lines {
-        let told = match reading.asked(alloc, &line.command)? {
-            Some(told) => told,
-            None => done(rt, alloc, &shared, &mut reading, &line.command)?,
-        };
-        report.compare(alloc, script.name, line, told.as_str())?;
-    }
+    answer_lines(rt, alloc, &shared, &mut reading, script.name, lines, report)?;
     drop(reading);
     Ok(shared.end(rt).into_disk())
 }

@@ -137,6 +137,31 @@ fn is_closed<D: Disk>(alloc: Global, stage: &mut Stage<D>) -> Result<bool, Alloc
     Ok(seal.as_str() == CLOSED && step.as_str() == CLOSED)
 }
 
+/// How far lines were given to an archive.
+#[derive(Clone, Copy)]
+struct GivenUntil {
+    /// How many were taken.
+    taken: usize,
+    is_stopped: bool,
+    is_closed: bool,
+}
+
+/// Gives lines to an archive until one meets a fault.
+fn given_until<D: Disk>(
+    alloc: Global,
+    stage: &mut Stage<D>,
+    lines: &[Line<'_>],
+) -> Result<GivenUntil, AllocError> {
+    let (taken, last) = given_to(alloc, stage, lines)?;
+    let is_stopped = last.as_str() == FAULT;
+    let is_closed = last.is_empty() || is_stopped && is_closed(alloc, stage)?;
+    Ok(GivenUntil {
+        taken,
+        is_stopped,
+        is_closed,
+    })
+}
+
 /// Makes or opens an archive, and gives lines to it until one meets a fault.
 fn run<D: Disk>(
     alloc: Global,
@@ -145,15 +170,12 @@ fn run<D: Disk>(
 ) -> Result<Ended<D>, AllocError> {
     match begin(alloc, disk, given.begin)? {
         Beginning::Archive(mut stage) => {
-            let (taken, last) = given_to(alloc, &mut stage, given.lines)?;
-            let is_stopped = last.as_str() == FAULT;
-            let is_closed = last.is_empty() || is_stopped && is_closed(alloc, &mut stage)?;
-            let disk = stage.into_disk();
+            let until = given_until(alloc, &mut stage, given.lines)?;
             Ok(Ended {
-                taken,
-                is_stopped,
-                is_closed,
-                disk,
+                taken: until.taken,
+                is_stopped: until.is_stopped,
+                is_closed: until.is_closed,
+                disk: stage.into_disk(),
             })
         }
         Beginning::Refused(disk, why) => {

@@ -9,7 +9,7 @@ use crate::stopping::{Ended, Given, Image, Trial, found};
 use crate::thawed::fused;
 use crate::way::{Plan, Way};
 use flow_disk::DiskError;
-use flow_memory_disk::{Choice, FusedDisk, MemoryDisk};
+use flow_memory_disk::{Choice, FusedDisk, MemoryDisk, Room};
 use flow_scripts::{Command, Failing, Line, Part, Script};
 use std::alloc::Global;
 use std::sync::Wait;
@@ -296,6 +296,26 @@ pub(crate) fn play<W: Wait>(
     played
 }
 
+/// Plays a part of a script on a disk: the disk afterwards.
+fn play_next<W: Wait>(
+    rt: &W,
+    alloc: Global,
+    disk: MemoryDisk,
+    script: &Script<'_>,
+    part: &Part<'_>,
+    room: Room,
+    plan: Plan,
+    report: &mut Report,
+) -> Result<MemoryDisk, DiskError> {
+    if !plan.way.stops() {
+        return Ok(play_part(rt, alloc, disk, script, part, report)?);
+    }
+    let image = Image::of(alloc, disk, &part.lines)?;
+    try_part(alloc, script.name, part, &image, plan, report)?;
+    let disk = image.disk_in(alloc, room)?;
+    Ok(play_part(rt, alloc, disk, script, part, report)?)
+}
+
 /// Plays each part of a script.
 fn play_all<W: Wait>(
     rt: &W,
@@ -307,12 +327,7 @@ fn play_all<W: Wait>(
     let room = room_of(script);
     let mut disk = MemoryDisk::new(alloc, room)?;
     for part in &script.parts {
-        if plan.way.stops() {
-            let image = Image::of(alloc, disk, &part.lines)?;
-            try_part(alloc, script.name, part, &image, plan, report)?;
-            disk = image.disk_in(alloc, room)?;
-        }
-        disk = play_part(rt, alloc, disk, script, part, report)?;
+        disk = play_next(rt, alloc, disk, script, part, room, plan, report)?;
     }
     Ok(())
 }

@@ -141,7 +141,7 @@ fn refused_line(alloc: Global, refusal: &ShellRefusal) -> Result<String, AllocEr
     format!(in alloc; "refused {refusal}\n")
 }
 
-/// Writes a refusal, and the end of an answer after it. A want of memory is reported without any.
+/// Writes a refusal, and the end of an answer after it. That memory ran out is reported without any.
 fn answer_refusal<W: Write>(
     alloc: Global,
     refusal: &ShellRefusal,
@@ -443,7 +443,7 @@ where
 {
     let bell = Bell::new(keep);
     let board = Board::new();
-    let silent = Silent::new(None);
+    let silent = Silent::new(None, false);
     let (rung, places, progress) = (&bell, &board, &silent);
     let alloc = rt.alloc();
     thread::scope(

@@ -1,12 +1,13 @@
--- What is told on standard error.
+-- What is reported on standard error.
 use Rattle.std.proofs.Common.{◌≡◌, ℕ, List, Option, refl, sym, ap}
-use Rattle.std.proofs.Common.{subst, arith}
+use Rattle.std.proofs.Common.{subst, arith, append_assoc, ◌∙◌}
+use Rattle.std.specs.Prelude.{◌++◌, codes}
 use Rattle.std.proofs.KnownBytes.{Appends-nil}
 use Rattle.clap.specs.declared.error.kind.ErrorKind.{ErrorKind}
 use Rattle.clap.specs.declared.error.kind.ErrorKind.TheVariants as kind
 use Rattle.flow_report.specs.declared.refusal.Refusal.{Refusal}
 use Rattle.flow_report.specs.Printed.{printed, line_of}
-use Rattle.flow_words.specs.Printed.{kind_text}
+use Rattle.flow_words.specs.Printed.{first_word, kind_text, told_lines}
 use Rattle.flow_report.specs.Writing.{AppendsFront}
 use Rattle.flow_words.specs.Run.{IsArchiveTold, IsRefusalTold}
 use Rattle.flow_commands.specs.declared.archive_refusal.ArchiveRefusal.{ArchiveRefusal}
@@ -16,7 +17,7 @@ pub nothing_told : (e : Refusal) (errors : Option (List ℕ)) → IsRefusalTold 
 nothing_told e errors = (0, omega arith, Appends-nil errors)
 
 pub line_told : (e : Refusal) (line : List ℕ) (before after : Option (List ℕ))
-    → line ≡ line_of (printed e) → AppendsFront before after line → IsRefusalTold e before after
+    → line ≡ told_lines (printed e) → AppendsFront before after line → IsRefusalTold e before after
 line_told e line before after is told = subst (AppendsFront before after) is told
 
 -- ---- of a command over an archive
@@ -25,8 +26,22 @@ pub nothing_told_of_archive : (e : ArchiveRefusal) (errors : Option (List ℕ)) 
 nothing_told_of_archive e errors = (0, omega arith, Appends-nil errors)
 
 pub line_told_of_archive : (e : ArchiveRefusal) (line : List ℕ) (before after : Option (List ℕ))
-    → line ≡ line_of (archive_printed e) → AppendsFront before after line → IsArchiveTold e before after
+    → line ≡ told_lines (archive_printed e) → AppendsFront before after line → IsArchiveTold e before after
 line_told_of_archive e line before after is told = subst (AppendsFront before after) is told
+
+-- ---- the lines of a refusal's text
+
+-- a refusal's text, then the number that `explain` is to be given
+abbrev told_bytes : List ℕ → List ℕ → List ℕ
+told_bytes text word =
+    codes "flowvault: " ++ (text ++ (codes "\nflowvault: see: flowvault explain " ++ (word ++ codes "\n")))
+
+pub two_lines : (text word bytes : List ℕ) → bytes ≡ told_bytes text word → word ≡ first_word text
+    → bytes ≡ told_lines text
+two_lines text word bytes e f =
+    e ∙ ap (λ (w : List ℕ). told_bytes text w) f
+    ∙ ap (λ (x : List ℕ). codes "flowvault: " ++ x)
+    (sym (append_assoc text (codes "\n") (line_of (codes "see: flowvault explain " ++ first_word text))))
 
 -- ---- the line of each kind of wrong words
 

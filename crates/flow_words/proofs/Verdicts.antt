@@ -147,7 +147,7 @@ no_two x y tail = refl
 abbrev measured : Walk → List Text → Option Request
 measured w rest = requested (codes "measure") (rows_from measure_built w rest)
 
--- behind `--`
+-- after `--`
 measure_ended : (rest : List Text)
     → Reads (from_here measure_built (idle_at [] None 1) (dashes ∷ rest))
     (measured (idle_at [] None 1) (dashes ∷ rest)) (measure_of rest)
@@ -156,7 +156,7 @@ measure_ended [] = inr (tt, refl)
 measure_ended (x ∷ []) = inl (refl, refl)
 measure_ended (x ∷ y ∷ rest) = inr (tt, refl)
 
--- behind the width
+-- after the width
 abbrev behind : Text → Walk
 behind x = idle_at [] (Some (codes "WIDTH", x ∷ [])) 2
 
@@ -292,7 +292,7 @@ commands = names_of (built flowvault)
 abbrev start : Walk
 start = idle_at [] None 1
 
--- what is told of a walk's end
+-- what is reported of a walk's end
 abbrev ended_at : Walk → Kinds
 ended_at end =
     or_else (entered_fault (built flowvault) end.stopped)
@@ -300,7 +300,7 @@ ended_at end =
     (or_else (defaults_fault (settled top_built.rules end.held).rows top_built.rules)
     (check_fault top_built (finished top_built.rules end.held) (is_some (entered (built flowvault) end.stopped)))))
 
--- what is told of the words from a place of the walk on
+-- what is reported of the words from a place of the walk on
 abbrev told : Walk → List Text → Kinds
 told w rest = or_else (walk_fault top_built commands w rest) (ended_at (fold (walked top_built.rules commands) w rest))
 
@@ -311,7 +311,7 @@ nothing_then : (a : Kinds) → or_else a [] ≡ a
 nothing_then [] = refl
 nothing_then (k ∷ ks) = refl
 
--- what is told of a first word, by the command that it names
+-- what is reported of a first word, by the command that it names
 abbrev turned_by : Option Text → Text → Kinds
 turned_by named command =
     let met = subcommand_or_other top_built.rules named idle 1 command (held [] None) in
@@ -404,7 +404,7 @@ named_only name = (name, [])
 abbrev help_alone : Names
 help_alone = named_only (codes "help") ∷ []
 
--- behind `dump`
+-- after `dump`
 abbrev later_names : Names
 later_names = map named_only parsed_names ++ help_alone
 

@@ -207,14 +207,14 @@ module _ (s : Shape) (short : (x : ℕ) → Asks (arg_by_short s.rules x)) (rows
 
 -- ---- a command's level
 
--- what is told of the words at a level once they are walked
+-- what is reported of the words at a level once they are walked
 abbrev pub later : Shape → Walk → List Text → Kinds
 later s w rest =
     let end = (fold (walked s.rules []) w rest).held in
     or_else [] (or_else (settle_fault s.rules s.args_override_self end)
     (or_else (defaults_fault (settled s.rules end).rows s.rules) (check_fault s (finished s.rules end) false)))
 
--- what is told of the words from a place of the walk on
+-- what is reported of the words from a place of the walk on
 abbrev pub from_here : Shape → Walk → List Text → Kinds
 from_here s w rest = or_else (walk_fault s [] w rest) (later s w rest)
 

@@ -1,5 +1,5 @@
 -- What a command asks for, by its name and the values that were found for its arguments.
-use Rattle.std.specs.Prelude.{ℕ, ◌%◌, ◌==◌, ◌&&◌, List, Option, Some, None, option_map, option_and_then}
+use Rattle.std.specs.Prelude.{ℕ, ◌%◌, ◌==◌, ◌&&◌, ◌||◌, is_some, List, Option, Some, None, option_map, option_and_then}
 use Rattle.std.specs.Prelude.{codes, if◌then◌else◌, length, nat_lt, Bool, true, false}
 use Rattle.std.specs.List.{list_any}
 use Rattle.std.specs.Option.{option_map_or}
@@ -9,6 +9,10 @@ use Rattle.flow_words.specs.declared.request.Request.{Request}
 use Rattle.flow_words.specs.declared.request.Request.TheVariants.{Measure, Dump, Inspect, Create, Check, Totals, Flows}
 use Rattle.flow_words.specs.declared.request.Request.TheVariants.{Feed, Shell, Roll, Merge, Explain}
 use Rattle.flow_words.specs.Explain.{is_refusal}
+use Rattle.flow_words.specs.declared.arguments.MomentSpan.{MomentSpan}
+use Rattle.flow_moments.specs.declared.moment.Moment.{Moment}
+use Rattle.flow_moments.specs.declared.moment.Moment.TheVariants.{Second}
+use Rattle.flow_moments.specs.Moments.{is_relative, moment_of, second_at}
 use Rattle.flow_report.specs.declared.format.Format.{Format}
 use Rattle.flow_report.specs.declared.format.Format.TheVariants.{Lines, Csv, Json}
 use Rattle.flow_report.specs.Numbers.{number_between}
@@ -62,10 +66,39 @@ plan_in rows =
 abbrev pub second_in : Text → List Row → Option ℕ
 second_in id rows = option_and_then (number_between 0 4294967296) (first_of id rows)
 
-abbrev pub span_in : List Row → Option Span
+-- a span by its seconds, where it is now the second `now`
+abbrev pub span_at : ℕ → MomentSpan → Span
+span_at now span = record { from = second_at now span.from; to = second_at now span.to }
+
+-- one of them depends on what second it is now
+abbrev pub depends_on_now : MomentSpan → Bool
+depends_on_now span = is_relative span.from || is_relative span.to
+
+-- FROM and TO
+abbrev pub numbered_span_in : List Row → Option MomentSpan
+numbered_span_in rows =
+    option_and_then (λ from. option_map (λ to. record { from = Second from; to = Second to })
+    (second_in (codes "TO") rows)) (second_in (codes "FROM") rows)
+
+-- a moment by an option, or the usual one
+abbrev pub moment_in : Text → Moment → List Row → Option Moment
+moment_in id usual rows = option_map_or moment_of (first_of id rows) (Some usual)
+
+-- an argument is there
+abbrev pub is_given : Text → List Row → Bool
+is_given id rows = is_some (first_of id rows)
+
+-- `--since` and `--until`, and no number beside them: all seconds but where one of them says less
+abbrev pub worded_span_in : List Row → Option MomentSpan
+worded_span_in rows =
+    if is_given (codes "FROM") rows then None
+    else option_and_then (λ from. option_map (λ to. record { from = from; to = to })
+    (moment_in (codes "UNTIL") (Second 4294967296) rows)) (moment_in (codes "SINCE") (Second 0) rows)
+
+abbrev pub span_in : List Row → Option MomentSpan
 span_in rows =
-    option_and_then (λ from. option_map (λ to. record { from = from; to = to }) (second_in (codes "TO") rows))
-    (second_in (codes "FROM") rows)
+    if is_given (codes "SINCE") rows || is_given (codes "UNTIL") rows then worded_span_in rows
+    else numbered_span_in rows
 
 abbrev pub folder_in : List Row → Option Text
 folder_in rows = first_of (codes "DIR") rows
@@ -108,7 +141,11 @@ passed_in rows = option_map_or (number_between 0 281474976710655) (first_of (cod
 -- how Files are fed
 abbrev pub feeding_in : List Row → Option FeedPlan
 feeding_in rows =
-    option_and_then (λ keep. option_map (λ passed. record { keep = keep; passed = passed }) (passed_in rows)) (kept_in rows)
+    option_and_then (λ keep. option_map (λ passed. record {
+      keep = keep;
+      passed = passed;
+      warn = is_set (codes "warn") rows;
+    }) (passed_in rows)) (kept_in rows)
 
 -- Messages of one File alone are passed.
 abbrev pub fed_alone : Text → FeedPlan → List Text → Option Request

@@ -1,4 +1,4 @@
--- What the words of a command line ask for, and what the parser of the command line is told of its commands.
+-- What the words of a command line ask for, and the commands that the parser of the command line is given.
 use Rattle.std.specs.Prelude.{ℕ, Bool, true, false, ◌||◌, List, [], ◌∷◌, ◌++◌, Option, Some, None, option_map, codes}
 use Rattle.std.specs.Prelude.{if◌then◌else◌}
 use Rattle.std.specs.List.{list_any}
@@ -14,11 +14,15 @@ use Rattle.flow_report.specs.Numbers.{number_between}
 use Rattle.flow_report.specs.declared.format.Format.TheVariants.{Lines}
 use Rattle.flow_words.specs.Arguments.{request_in}
 
--- ---- what the parser is told
+-- ---- what the parser is given
 
 -- an argument that has to be there, once
 abbrev pub needed : Text → Rule
 needed id = record (new_rule id) { required = true; action = Some Set }
+
+-- an argument that may be there, once
+abbrev pub optional : Text → Rule
+optional id = record (new_rule id) { action = Some Set }
 
 -- an argument that has to be there, and may be there again
 abbrev pub several : Text → Rule
@@ -63,15 +67,22 @@ inspect_shape = record (new_shape (codes "inspect")) { rules = format_rules }
 abbrev pub check_shape : Shape
 check_shape = record (new_shape (codes "check")) { rules = folder_rule ∷ [] }
 
--- the span of starts that `totals` and `flows` ask about
+-- the span of starts that `totals` and `flows` ask about, by numbers
 abbrev pub span_shape : Text → Shape
 span_shape name = record (new_shape name) {
-  rules = folder_rule ∷ needed (codes "FROM") ∷ needed (codes "TO") ∷ [];
+  rules = folder_rule ∷ optional (codes "FROM") ∷ optional (codes "TO") ∷ [];
 }
+
+-- or by moments
+abbrev pub moment_rules : List Rule
+moment_rules = option (codes "SINCE") (codes "since") ∷ option (codes "UNTIL") (codes "until") ∷ []
+
+abbrev pub moments_shape : Text → Shape
+moments_shape name = record (span_shape name) { rules = (span_shape name).rules ++ moment_rules }
 
 -- `totals` and `flows`
 abbrev pub query_shape : Text → Shape
-query_shape name = record (span_shape name) { rules = (span_shape name).rules ++ format_rules }
+query_shape name = record (moments_shape name) { rules = (moments_shape name).rules ++ format_rules }
 
 -- `totals` also takes how many workers scan
 abbrev pub totals_shape : Shape
@@ -83,14 +94,16 @@ totals_shape = record (query_shape (codes "totals")) {
 abbrev pub keep_shape : Text → Shape
 keep_shape name = record (new_shape name) { rules = folder_rule ∷ needed (codes "KEEP") ∷ [] }
 
--- the arguments of `feed` but for its last
+-- the arguments of `feed` but for its last ones
 abbrev pub kept_shape : Shape
 kept_shape = record (new_shape (codes "feed")) {
   rules = folder_rule ∷ several (codes "FILE") ∷ option (codes "KEEP") (codes "keep") ∷ [];
 }
 
 abbrev pub feed_shape : Shape
-feed_shape = record kept_shape { rules = kept_shape.rules ++ option (codes "COUNT") (codes "from") ∷ [] }
+feed_shape = record kept_shape {
+  rules = kept_shape.rules ++ option (codes "COUNT") (codes "from") ∷ flag (codes "warn") ∷ [];
+}
 
 abbrev pub shell_shape : Shape
 shell_shape = record (new_shape (codes "shell")) {
@@ -139,7 +152,7 @@ flowvault = with_subcommand with_rolling explain_shape
 
 -- ---- what is asked for
 
--- the words but for the first `--`, behind which a parser takes no word for an option
+-- the words but for the first `--`, after which a parser takes no word for an option
 abbrev pub without_dashes : List (List ℕ) → List (List ℕ)
 without_dashes [] = []
 without_dashes (word ∷ rest) = if bytes_eq word (codes "--") then rest else word ∷ without_dashes rest

@@ -6,6 +6,7 @@ use Rattle.clap.specs.declared.error.kind.ErrorKind.TheVariants.{DisplayHelp, Di
 use Rattle.clap.specs.declared.error.Error.{Error}
 use Rattle.clap.specs.Values.{kind_of}
 use Rattle.flow_report.specs.declared.refusal.Refusal.{Refusal}
+use Rattle.flow_report.specs.declared.refusal.Refusal.TheVariants as refusal
 use Rattle.flow_words.specs.declared.request.LineError.{LineError}
 use Rattle.flow_words.specs.declared.request.LineError.TheVariants.{Parser, Width, Plan, Span, Keep, Files}
 use Rattle.flow_words.specs.declared.request.LineError.TheVariants.{Formats, Number, OutOfMemory, Totals as TotalsWrong}
@@ -24,27 +25,27 @@ use Rattle.flow_words.specs.Arguments.{has_input}
 use Rattle.flow_words.specs.CommandLine.{asked}
 use Rattle.flow_words.specs.Requested.{IsLineError}
 use Rattle.flow_report.specs.Refusals.{status_of}
-use Rattle.flow_words.specs.Printed.{kind_text, words_text}
+use Rattle.flow_words.specs.Printed.{kind_text, told_lines, words_text}
 use Rattle.flow_report.specs.Printed.{printed, line_of}
 use Rattle.flow_report.specs.Writing.{AppendsFront}
 use Rattle.flow_report.specs.Dump.{IsDumped, IsDumpedUntil}
 use Rattle.flow_report.specs.Measure.{HasTotals, IsRefusedBy, KeepsOrFront}
 use Rattle.flow_inspect.specs.Inspect.{HasLines, KeepsOrFront as InspectKeepsOrFront}
 
--- the line of a refusal came on standard error, or a front of it where that could be written no further
+-- the lines of a refusal came on standard error, or a prefix of them where that could be written no further
 abbrev pub IsRefusalTold : Refusal → Option (List ℕ) → Option (List ℕ) → Type 0
-IsRefusalTold e before after = AppendsFront before after (line_of (printed e))
+IsRefusalTold e before after = AppendsFront before after (told_lines (printed e))
 
--- the lines of a refusal of a command over an archive, or a front of them
+-- the lines of a refusal of a command over an archive, or a prefix of them
 abbrev pub IsArchiveTold : ArchiveRefusal → Option (List ℕ) → Option (List ℕ) → Type 0
-IsArchiveTold e before after = AppendsFront before after (line_of (archive_printed e))
+IsArchiveTold e before after = AppendsFront before after (told_lines (archive_printed e))
 
--- A command over an archive was refused, and that is told.
+-- A command over an archive was refused, and that is reported.
 abbrev pub IsEndedBy : (ArchiveRefusal → Type 0) → Option (List ℕ) → Option (List ℕ) → ℕ → Type 0
 IsEndedBy also before after status =
     (e : ArchiveRefusal) × (status ≡ archive_status e) × IsArchiveTold e before after × also e
 
--- Commands over an archive in a folder. No contract knows what a folder holds: the work of each is told of any disk,
+-- Commands over an archive in a folder. No contract knows what a folder holds: clauses on any disk say what each does,
 -- and here how it ends.
 abbrev pub CreateEnds : Option (List ℕ) → Option (List ℕ) → ℕ → Type 0
 CreateEnds before after status = ((status ≡ 0) × Keeps before after) ⊎ IsEndedBy (λ e. ⊤) before after status
@@ -71,14 +72,14 @@ FeedEnds count old new before after status =
 abbrev pub ShellEnds : Option (List ℕ) → Option (List ℕ) → ℕ → Type 0
 ShellEnds before after status = Keeps before after ⊎ IsEndedBy (λ e. ⊤) before after status
 
--- Text is shown on standard output, with status 0 and nothing on standard error; or it couldn't be, and that is told.
+-- Text is shown on standard output, with status 0 and nothing on standard error; or it couldn't be, and that is reported.
 abbrev pub IsShown : Option (List ℕ) → Option (List ℕ) → ℕ → Type 0
 IsShown before after status =
     ((status ≡ 0) × Keeps before after) ⊎ ((e : Refusal) × (status ≡ status_of e) × IsRefusalTold e before after)
 
 -- A run of a command, by what standard input had and has left, and by what standard output (old, new) and standard
 -- error (before, after) hold: status 0 where the
--- lines of the whole File were written, and nothing on standard error; else that of the refusal, which is told.
+-- lines of the whole File were written, and nothing on standard error; else that of the refusal, which is reported.
 abbrev pub Runs : Request → Option (List ℕ) → Option (List ℕ) → Option (List ℕ) → Option (List ℕ) → Option (List ℕ)
     → Option (List ℕ) → ℕ → Type 0
 Runs (Measure width format) input left old new before after status =
@@ -124,9 +125,9 @@ abbrev pub IsNoHelp : ErrorKind → Type 0
 IsNoHelp kind = (kind ≢ DisplayHelp) × (kind ≢ DisplayVersion)
 
 -- words that ask for nothing: the output stays, and one line says why
-abbrev pub IsWrong : LineError → ℕ → Option (List ℕ) → Option (List ℕ) → Option (List ℕ) → Option (List ℕ) → ℕ → Type 0
-IsWrong e wanted old new before after status =
-    (status ≡ wanted) × Keeps old new × AppendsFront before after (line_of (words_text e))
+abbrev pub IsWrong : LineError → Option (List ℕ) → Option (List ℕ) → Option (List ℕ) → Option (List ℕ) → ℕ → Type 0
+IsWrong e old new before after status =
+    (status ≡ 2) × Keeps old new × AppendsFront before after (line_of (words_text e))
 
 -- The line for words that the parser refuses, and what it says of them.
 abbrev pub AreWordsLines : Error → List ℕ → Type 0
@@ -146,15 +147,16 @@ abbrev pub IsTold : LineError → Option (List ℕ) → Option (List ℕ) → Op
 IsTold (Parser error) old new before after status =
     (IsHelp (kind_of error) × IsShown before after status)
     ⊎ (IsNoHelp (kind_of error) × AreWrongWords error old new before after status)
-IsTold Width old new before after status = IsWrong Width 2 old new before after status
-IsTold Plan old new before after status = IsWrong Plan 2 old new before after status
-IsTold Span old new before after status = IsWrong Span 2 old new before after status
-IsTold TotalsWrong old new before after status = IsWrong TotalsWrong 2 old new before after status
-IsTold Keep old new before after status = IsWrong Keep 2 old new before after status
-IsTold Files old new before after status = IsWrong Files 2 old new before after status
-IsTold Number old new before after status = IsWrong Number 2 old new before after status
-IsTold Formats old new before after status = IsWrong Formats 2 old new before after status
-IsTold OutOfMemory old new before after status = IsWrong OutOfMemory 4 old new before after status
+IsTold Width old new before after status = IsWrong Width old new before after status
+IsTold Plan old new before after status = IsWrong Plan old new before after status
+IsTold Span old new before after status = IsWrong Span old new before after status
+IsTold TotalsWrong old new before after status = IsWrong TotalsWrong old new before after status
+IsTold Keep old new before after status = IsWrong Keep old new before after status
+IsTold Files old new before after status = IsWrong Files old new before after status
+IsTold Number old new before after status = IsWrong Number old new before after status
+IsTold Formats old new before after status = IsWrong Formats old new before after status
+IsTold OutOfMemory old new before after status =
+    (status ≡ 4) × Keeps old new × IsRefusalTold refusal.OutOfMemory before after
 
 -- What is answered of any words: the run of the request that they ask for, or why there is none.
 abbrev pub IsAnswered : List (List ℕ) → Option (List ℕ) → Option (List ℕ) → Option (List ℕ) → Option (List ℕ)

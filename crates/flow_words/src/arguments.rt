@@ -6,13 +6,15 @@ ghost use Rattle.std.specs.Str.{bytes_eq};
 ghost use Rattle.clap.specs.Matches.{found_of};
 ghost use Rattle.clap.specs.Walk.{rows_of};
 ghost use Rattle.flow_words.specs.Arguments.{explained_in, folder_in, limit_in, plan_in, second_in, span_in, wide_in};
-ghost use Rattle.flow_words.specs.Arguments.{feeding_in, files_in, format_in, is_set, keep_in, kept_in, passed_in};
+ghost use Rattle.flow_words.specs.Arguments.{feeding_in, files_in, format_in, is_given, is_set, keep_in, kept_in};
+ghost use Rattle.flow_words.specs.Arguments.{moment_in, numbered_span_in, passed_in, worded_span_in};
 ghost use Rattle.flow_words.specs.Arguments.{width_in, workers_in};
 ghost use Rattle.flow_commands.specs.Plans.{IsWide};
 
 use crate::explaining::Explanation;
 use clap::ArgMatches;
 use flow_commands::{FeedPlan, NewArchive, StartSpan, Workers};
+use flow_moments::{Moment, moment_of};
 use flow_report::{Format, Width, number_between};
 use std::alloc::{AllocError, Global};
 use std::marker::Model;
@@ -22,6 +24,11 @@ const USUAL_LIMIT: u32 = 1_048_576;
 
 /// The greatest second of a span: every flow starts before it.
 const MOST_SECOND: u64 = 4_294_967_296;
+
+/// The seconds at which a span begins and ends where nothing else is asked for.
+const FIRST: Moment = Moment::Second(0);
+
+const LAST: Moment = Moment::Second(MOST_SECOND);
 
 /// The most files that may be left.
 const MOST_KEEP: u64 = 4_294_967_295;
@@ -77,6 +84,31 @@ impl FileNames<'_> {
         ensures { result ≡ has_input self.now }
     {
         are_with_input(self.paths.as_slice())
+    }
+}
+
+/// Flows that start from one moment on and before another.
+#[derive(Clone, Copy, Debug)]
+pub struct MomentSpan {
+    pub(crate) from: Moment,
+    pub(crate) to: Moment,
+}
+
+impl MomentSpan {
+    ghost use Rattle.flow_words.specs.Arguments.{depends_on_now, span_at};
+
+    /// Whether its seconds depend on what second it is now.
+    pub(crate) fn is_relative(self) -> bool
+        ensures { result ≡ depends_on_now self }
+    {
+        self.from.is_relative() || self.to.is_relative()
+    }
+
+    /// The same as seconds, where it is now the second `now` since 1970-01-01 00:00 UTC.
+    pub(crate) fn at(self, now: u64) -> StartSpan
+        ensures { result ≡ span_at now self }
+    {
+        StartSpan::new(self.from.second_at(now), self.to.second_at(now))
     }
 }
 
@@ -163,13 +195,58 @@ fn second_in(arguments: &ArgMatches<'_>, id: &str) -> Option<u64>
     number_between(0, MOST_SECOND, arguments.get_str(id)?.as_bytes())
 }
 
-/// The span among the arguments of a command that asks for one.
-pub(crate) fn span_in(arguments: &ArgMatches<'_>) -> Option<StartSpan>
-    ensures { result ≡ span_in (rows_of (found_of arguments.now)) }
+/// The span that FROM and TO give, among the arguments of a command that asks for one.
+fn numbered_span_in(arguments: &ArgMatches<'_>) -> Option<MomentSpan>
+    ensures { result ≡ numbered_span_in (rows_of (found_of arguments.now)) }
 {
     let from = second_in(arguments, "FROM")?;
     let to = second_in(arguments, "TO")?;
-    Some(StartSpan::new(from, to))
+    Some(MomentSpan {
+        from: Moment::Second(from),
+        to: Moment::Second(to),
+    })
+}
+
+/// A moment among the arguments of a command that asks for a span, or a usual one.
+#[tactic(auto, using(crate::proofs::Reading::first_value_is))]
+fn moment_in(arguments: &ArgMatches<'_>, id: &str, usual: Moment) -> Option<Moment>
+    ensures { result ≡ moment_in id.now usual (rows_of (found_of arguments.now)) }
+{
+    match arguments.get_str(id) {
+        Some(word) => moment_of(word),
+        None => Some(usual),
+    }
+}
+
+/// Whether an argument is among a command's arguments.
+#[tactic(auto, using(crate::proofs::Reading::first_value_is))]
+fn is_given(arguments: &ArgMatches<'_>, id: &str) -> bool
+    ensures { result ≡ is_given id.now (rows_of (found_of arguments.now)) }
+{
+    arguments.get_str(id).is_some()
+}
+
+/// The span that `--since` and `--until` give, among the arguments of a command that asks for one.
+fn worded_span_in(arguments: &ArgMatches<'_>) -> Option<MomentSpan>
+    ensures { result ≡ worded_span_in (rows_of (found_of arguments.now)) }
+{
+    if is_given(arguments, "FROM") {
+        return None;
+    }
+    let from = moment_in(arguments, "SINCE", FIRST)?;
+    let to = moment_in(arguments, "UNTIL", LAST)?;
+    Some(MomentSpan { from, to })
+}
+
+/// The span among the arguments of a command that asks for one: by two numbers, or by options alone.
+pub(crate) fn span_in(arguments: &ArgMatches<'_>) -> Option<MomentSpan>
+    ensures { result ≡ span_in (rows_of (found_of arguments.now)) }
+{
+    if is_given(arguments, "SINCE") || is_given(arguments, "UNTIL") {
+        worded_span_in(arguments)
+    } else {
+        numbered_span_in(arguments)
+    }
 }
 
 /// Whether an option without a value is among a command's arguments.
@@ -245,7 +322,8 @@ pub(crate) fn feeding_in(arguments: &ArgMatches<'_>) -> Option<FeedPlan>
 {
     let keep = kept_in(arguments)?;
     let passed = passed_in(arguments)?;
-    Some(FeedPlan { keep, passed })
+    let warn = is_set(arguments, "warn");
+    Some(FeedPlan { keep, passed, warn })
 }
 
 /// The Files among the arguments of `feed`: at most 8.

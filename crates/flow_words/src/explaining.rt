@@ -5,7 +5,7 @@ ghost use Rattle.flow_words.specs.Explain.{is_refusal};
 
 use std::marker::Model;
 
-/// What is told of a refusal that a message earns, by its number from 1 to 11.
+/// The explanation of a refusal that a message earns, by its number from 1 to 11.
 fn of_messages(number: u64) -> &'static str {
     match number {
         1 => SHORT,
@@ -22,7 +22,7 @@ fn of_messages(number: u64) -> &'static str {
     }
 }
 
-/// What is told of a refusal that a File earns, by its number from 14 to 17.
+/// The explanation of a refusal that a File earns, by its number from 14 to 17.
 fn of_files(number: u64) -> &'static str {
     match number {
         14 => SUM_SPENT,
@@ -32,7 +32,7 @@ fn of_files(number: u64) -> &'static str {
     }
 }
 
-/// What is told of an archive that isn't opened or made, by its number from 20 to 27.
+/// The explanation of an archive that isn't opened or made, by its number from 20 to 27.
 fn of_openings(number: u64) -> &'static str {
     match number {
         20 => DAMAGED,
@@ -46,7 +46,7 @@ fn of_openings(number: u64) -> &'static str {
     }
 }
 
-/// What is told of a device, by its number from 30 to 32.
+/// The explanation of a device, by its number from 30 to 32.
 fn of_devices(number: u64) -> &'static str {
     match number {
         30 => FAULT,
@@ -55,7 +55,7 @@ fn of_devices(number: u64) -> &'static str {
     }
 }
 
-/// What is told of a refusal of an open archive, by its number from 40 to 49.
+/// The explanation of a refusal of an open archive, by its number from 40 to 49.
 fn of_archives(number: u64) -> &'static str {
     match number {
         40 => NO_ROOM,
@@ -71,7 +71,7 @@ fn of_archives(number: u64) -> &'static str {
     }
 }
 
-/// What is told of the refusal of this number, where there is one.
+/// The explanation of the refusal of this number, where there is one.
 fn text_of(number: u64) -> Option<&'static str>
     ensures { is_some result ≡ is_refusal number }
 {

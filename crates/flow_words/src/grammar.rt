@@ -1,4 +1,4 @@
-//! What the parser of the command line is told of the commands, and their help.
+//! What the parser of the command line is given: the commands, and their help.
 
 ghost use Rattle.std.specs.Prelude.{◌≡◌, false, IfOk};
 ghost use Rattle.clap.specs.Walk.{rule_of};
@@ -6,7 +6,7 @@ ghost use Rattle.clap.specs.Simple.{app_of, shape_of};
 ghost use Rattle.clap.specs.declared.builder.command.Command.TheViews.{out-Command as fields_of};
 ghost use Rattle.flow_words.specs.CommandLine.{check_shape, create_shape, dump_shape, explain_shape, feed_shape, flag};
 ghost use Rattle.flow_words.specs.CommandLine.{flowvault, folder_rule, keep_shape, measure_shape, needed, option};
-ghost use Rattle.flow_words.specs.CommandLine.{program, several, sized_shape, span_shape, totals_shape, width_rule};
+ghost use Rattle.flow_words.specs.CommandLine.{moments_shape, optional, program, several, sized_shape, span_shape, totals_shape, width_rule};
 ghost use Rattle.flow_words.specs.CommandLine.{with_archives, with_feeding, with_queries, with_rolling, with_streams};
 ghost use Rattle.flow_words.specs.CommandLine.{inspect_shape, kept_shape, query_shape, shell_shape};
 
@@ -17,7 +17,7 @@ use std::alloc::{AllocError, Global};
 const MEASURE_ABOUT: &str =
     "Sums the flows of the IPFIX File on standard input, by interval,\nObservation Domain and protocol";
 
-/// What is told below the arguments of `measure`.
+/// What help has below the arguments of `measure`.
 const MEASURE_HELP: &str =
     "Each line: START DOMAIN PROTOCOL FLOWS OCTETS PACKETS. START is in seconds since\n\
      1970-01-01 00:00 UTC; PROTOCOL is - where a flow has none. Nothing is written\n\
@@ -29,7 +29,7 @@ const MEASURE_HELP: &str =
 const DUMP_ABOUT: &str =
     "Writes the messages of the IPFIX File on standard input and their\ndata records, a line each";
 
-/// What is told below the options of `dump`.
+/// What help has below the options of `dump`.
 const DUMP_HELP: &str =
     "The lines: message LENGTH TIME SEQUENCE DOMAIN, then for each data record\n\
      record ID NAME=VALUE .. or options ID NAME=VALUE ..\n\
@@ -43,7 +43,7 @@ const DUMP_HELP: &str =
 const INSPECT_ABOUT: &str =
     "Counts what the IPFIX File on standard input has of each Observation\nDomain, and how many records are missing";
 
-/// What is told below the options of `inspect`.
+/// What help has below the options of `inspect`.
 const INSPECT_HELP: &str =
     "The lines, a domain each, in the order of their first messages: domain DOMAIN\n\
      messages N records N options N gaps N missing N backwards N from TIME to TIME\n\
@@ -58,7 +58,7 @@ const INSPECT_HELP: &str =
 /// What `create` does, in a line or two.
 const CREATE_ABOUT: &str = "Makes an archive in a folder that exists";
 
-/// What is told below the arguments of `create`.
+/// What help has below the arguments of `create`.
 const CREATE_HELP: &str =
     "Writes nothing on standard output. A segment takes --limit octets of messages;\n\
      old sums are made over --wide seconds, the greatest multiple of WIDTH where it\n\
@@ -70,7 +70,7 @@ const CREATE_HELP: &str =
 /// What `check` does, in a line or two.
 const CHECK_ABOUT: &str = "Opens the archive of a folder and tells how it stands";
 
-/// What is told below the arguments of `check`.
+/// What help has below the arguments of `check`.
 const CHECK_HELP: &str =
     "Writes ok POSITION CUT ROLLED SEALED: how many messages were taken in, how many\n\
      of them stand in sums alone, how many files of sums and how many sealed segments\n\
@@ -83,31 +83,36 @@ const CHECK_HELP: &str =
 const TOTALS_ABOUT: &str =
     "Sums the flows in the archive of a folder, by interval, Observation\nDomain and protocol";
 
-/// What is told below the arguments of `totals`.
+/// What help has below the arguments of `totals`.
 const TOTALS_HELP: &str =
     "Each line: START DOMAIN PROTOCOL FLOWS OCTETS PACKETS, as of measure, for the\n\
      intervals that start from FROM on and before TO. Sums over wide intervals have\n\
      the interval's width in seconds as a seventh number. The lines don't depend on\n\
-     --workers. A damaged archive is told as of check: status 5.\n\
+     --workers. --since and --until, in place of FROM and TO, take a day or a minute\n\
+     of UTC, days or hours before now, or now. A damaged archive is reported as of\n\
+     check: status 5.\n\
      \n\
-     Example: flowvault totals flows 0 4294967296";
+     Examples: flowvault totals flows 0 4294967296\n\
+     \x20         flowvault totals flows --since 2026-11-01 --until 2026-12-01";
 
 /// What `flows` does, in a line or two.
 const FLOWS_ABOUT: &str = "Writes the flows in the archive of a folder that aren't rolled";
 
-/// What is told below the arguments of `flows`.
+/// What help has below the arguments of `flows`.
 const FLOWS_HELP: &str =
     "Each line: START DOMAIN PROTOCOL OCTETS PACKETS, for the flows that start from\n\
      FROM on and before TO, in the order in which they were taken in. START is in\n\
-     seconds since 1970-01-01 00:00 UTC; PROTOCOL is - where a flow has none. A\n\
-     damaged archive is told as of check: status 5.\n\
+     seconds since 1970-01-01 00:00 UTC; PROTOCOL is - where a flow has none. --since\n\
+     and --until are those of totals. A damaged archive is reported as of check:\n\
+     status 5.\n\
      \n\
-     Example: flowvault flows flows 1700000000 1700003600";
+     Examples: flowvault flows flows 1700000000 1700003600\n\
+     \x20         flowvault flows flows --since 1h";
 
 /// What `feed` does, in a line or two.
 const FEED_ABOUT: &str = "Takes IPFIX Files into the archive of a folder";
 
-/// What is told below the arguments of `feed`.
+/// What help has below the arguments of `feed`.
 const FEED_HELP: &str =
     "The Files are taken in side by side, each as it is read: the messages of one\n\
      keep their order, those of several are interleaved. In the end a line is\n\
@@ -118,7 +123,7 @@ const FEED_HELP: &str =
      --from MESSAGES passes over what was taken in, where there is one FILE.\n\
      Meanwhile sealed segments but the newest --keep are rolled, as of roll; no more\n\
      than these are left in the end. A terminal on standard error is shown how much\n\
-     is read.\n\
+     is read, and the octet at which a File stopped; --warn shows that anywhere.\n\
      The exit status is that of the first File that stopped. An archive that can't be\n\
      opened is told on standard error before a File is read.\n\
      \n\
@@ -128,10 +133,10 @@ const FEED_HELP: &str =
 const SHELL_ABOUT: &str =
     "Answers requests about the archive of a folder, and takes Files in\nmeanwhile";
 
-/// What is told below the arguments of `shell`.
+/// What help has below the arguments of `shell`.
 const SHELL_HELP: &str =
     "Standard input has the requests, a line each. They are answered in their order:\n\
-     \x20 feed FILE       began N: this File, the Nth, is taken in from now on; 8 at once\n\
+     \x20 feed FILE       began N: this File, the Nth, is taken in; 8 at once\n\
      \x20 totals FROM TO  lines as of totals\n\
      \x20 flows FROM TO   lines as of flows\n\
      \x20 message N       the octets of the Nth message in hexadecimal digits, or none\n\
@@ -148,7 +153,7 @@ const SHELL_HELP: &str =
 /// What `roll` does, in a line or two.
 const ROLL_ABOUT: &str = "Sums the sealed segments of the archive in a folder, but the newest";
 
-/// What is told below the arguments of `roll`.
+/// What help has below the arguments of `roll`.
 const ROLL_HELP: &str = "All sealed segments but the newest KEEP become one file of sums, and are\n\
      removed: their flows stay in totals, and are no longer told by flows. Writes\n\
      rolled K: how many they were, 0 where there are none.\n\
@@ -159,7 +164,7 @@ const ROLL_HELP: &str = "All sealed segments but the newest KEEP become one file
 const MERGE_ABOUT: &str =
     "Sums the rolled files of the archive in a folder over wide intervals,\nbut the newest";
 
-/// What is told below the arguments of `merge`.
+/// What help has below the arguments of `merge`.
 const MERGE_HELP: &str = "All rolled files but the newest KEEP become one file of sums over wide\n\
      intervals, and are removed. Writes merged K: how many they were, 0 where there\n\
      are none.\n\
@@ -169,7 +174,7 @@ const MERGE_HELP: &str = "All rolled files but the newest KEEP become one file o
 /// What `explain` does, in a line or two.
 const EXPLAIN_ABOUT: &str = "Tells what a refusal means, what usually causes it, and what to do";
 
-/// What is told below the arguments of `explain`.
+/// What help has below the arguments of `explain`.
 const EXPLAIN_HELP: &str =
     "A refusal is written to standard error as 'flowvault: NUMBER NAME ..'. A\n\
      number that no refusal has is a wrong command line: status 2.\n\
@@ -179,10 +184,19 @@ const EXPLAIN_HELP: &str =
 /// What `--csv` asks for.
 const CSV: &str = "As CSV: a line of names first";
 
+/// What `--warn` asks for.
+const WARN: &str = "Says on standard error where a FILE stopped";
+
 /// What `--json` asks for.
 const JSON: &str = "As JSON, an object a line";
 
-/// What is told below the commands.
+/// What `--since` asks for.
+const SINCE: &str = "In place of FROM: a day or minute of UTC, 1d, 6h, now";
+
+/// What `--until` asks for.
+const UNTIL: &str = "In place of TO, likewise [no end]";
+
+/// What help has below the commands.
 const PROGRAM_HELP: &str = "Examples: flowvault measure 300 < FILE\n\
      \x20         flowvault create flows 300 && flowvault check flows\n\
      \n\
@@ -210,6 +224,14 @@ fn several<'a>(alloc: Global, id: &'a str, help: &'a str) -> Arg<'a>
         .required(true)
         .action(ArgAction::Append)
         .help(help)
+}
+
+/// An argument that may be there, once.
+fn optional<'a>(alloc: Global, id: &'a str, help: &'a str) -> Arg<'a>
+    ensures rule { rule_of result ≡ optional id.now }
+    ensures own { result.global ≡ false }
+{
+    Arg::new(alloc, id).action(ArgAction::Set).help(help)
 }
 
 /// An option with a value.
@@ -331,7 +353,7 @@ fn check_command<'a>(alloc: Global) -> Result<Command<'a>, AllocError>
         .arg(folder_argument(alloc))
 }
 
-/// A command that asks an archive about a span of starts, with its help.
+/// A command that asks an archive about a span of starts by numbers, with its help.
 fn span_command<'a>(
     alloc: Global,
     name: &'a str,
@@ -345,15 +367,30 @@ fn span_command<'a>(
         .about(about)
         .after_help(help)
         .arg(folder_argument(alloc))?
-        .arg(needed(
+        .arg(optional(
             alloc,
             "FROM",
             "Starts from it on: seconds since 1970-01-01 00:00 UTC",
         ))?
-        .arg(needed(alloc, "TO", "Starts before it: up to 4294967296"))
+        .arg(optional(alloc, "TO", "Starts before it: up to 4294967296"))
 }
 
-/// A command that asks an archive about a span of starts, and takes a format, with its help.
+/// The same, also by moments in their place.
+fn moments_command<'a>(
+    alloc: Global,
+    name: &'a str,
+    about: &'a str,
+    help: &'a str,
+) -> Result<Command<'a>, AllocError>
+    ensures shape { IfOk result (λ command. shape_of command ≡ moments_shape name.now) }
+    ensures own { IfOk result (λ command. (fields_of command).has_globals ≡ false) }
+{
+    span_command(alloc, name, about, help)?
+        .arg(option(alloc, "SINCE", "since", SINCE))?
+        .arg(option(alloc, "UNTIL", "until", UNTIL))
+}
+
+/// The same, and takes a format.
 fn query_command<'a>(
     alloc: Global,
     name: &'a str,
@@ -363,7 +400,7 @@ fn query_command<'a>(
     ensures shape { IfOk result (λ command. shape_of command ≡ query_shape name.now) }
     ensures own { IfOk result (λ command. (fields_of command).has_globals ≡ false) }
 {
-    span_command(alloc, name, about, help)?
+    moments_command(alloc, name, about, help)?
         .arg(flag(alloc, "csv", CSV))?
         .arg(flag(alloc, "json", JSON))
 }
@@ -381,7 +418,7 @@ fn totals_command<'a>(alloc: Global) -> Result<Command<'a>, AllocError>
     ))
 }
 
-/// The command `feed` but for its last argument.
+/// The command `feed` but for its last arguments.
 fn kept_command<'a>(alloc: Global) -> Result<Command<'a>, AllocError>
     ensures shape { IfOk result (λ command. shape_of command ≡ kept_shape) }
     ensures own { IfOk result (λ command. (fields_of command).has_globals ≡ false) }
@@ -408,12 +445,14 @@ fn feed_command<'a>(alloc: Global) -> Result<Command<'a>, AllocError>
     ensures shape { IfOk result (λ command. shape_of command ≡ feed_shape) }
     ensures own { IfOk result (λ command. (fields_of command).has_globals ≡ false) }
 {
-    kept_command(alloc)?.arg(option(
-        alloc,
-        "COUNT",
-        "from",
-        "First messages of the one FILE that are passed over [0]",
-    ))
+    kept_command(alloc)?
+        .arg(option(
+            alloc,
+            "COUNT",
+            "from",
+            "First messages of the one FILE that are passed over [0]",
+        ))?
+        .arg(flag(alloc, "warn", WARN))
 }
 
 /// The command `shell`, with its help.

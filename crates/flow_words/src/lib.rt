@@ -1,6 +1,6 @@
 //! Command lines: what their words ask for, and what a run of the program answers.
 //!
-//! What the program may count on: words ask for exactly what is said of them, or for nothing, which one line tells; a
+//! What the program may count on: words ask for exactly what is said of them, or for nothing, and one line says why; a
 //! run is that of the command that they ask for, on the input and the folder that they name, and answers its status;
 //! status 0 leaves standard error as it was.
 #![tactic(auto)]

@@ -12,14 +12,14 @@ ghost use Rattle.clap.specs.declared.error.kind.ErrorKind.TheVariants as ErrorKi
 ghost use Rattle.flow_words.specs.declared.request.LineError.TheVariants as LineError;
 
 use crate::arguments::{
-    FileNames, FolderName, explained_in, feeding_in, files_in, folder_in, format_in, keep_in,
-    kept_in, plan_in, span_in, width_in, workers_in,
+    FileNames, FolderName, MomentSpan, explained_in, feeding_in, files_in, folder_in, format_in,
+    keep_in, kept_in, plan_in, span_in, width_in, workers_in,
 };
 use crate::explaining::Explanation;
 use crate::grammar::command_line;
 use clap::error::ErrorKind;
 use clap::{ArgMatches, Error};
-use flow_commands::{FeedPlan, NewArchive, StartSpan, Workers};
+use flow_commands::{FeedPlan, NewArchive, Workers};
 use flow_report::{Format, Width};
 use std::alloc::{AllocError, Global};
 use std::convert::AsStr;
@@ -43,14 +43,14 @@ pub enum Request<'a> {
         folder: FolderName<'a>,
         plan: NewArchive,
     },
-    /// The line of what stands in the archive of a folder.
+    /// The line of what the archive of a folder has.
     Check {
         folder: FolderName<'a>,
     },
     /// Totals lines of the archive of a folder.
     Totals {
         folder: FolderName<'a>,
-        span: StartSpan,
+        span: MomentSpan,
         /// How many workers scan it; as many as there are processors where nothing is said.
         workers: Option<Workers>,
         format: Format,
@@ -58,7 +58,7 @@ pub enum Request<'a> {
     /// Lines of the flows in the archive of a folder that aren't rolled.
     Flows {
         folder: FolderName<'a>,
-        span: StartSpan,
+        span: MomentSpan,
         format: Format,
     },
     /// Files are taken into the archive of a folder.
@@ -97,10 +97,9 @@ pub enum LineError {
     Width,
     /// A number of a new archive isn't digits alone, or out of its range.
     Plan,
-    /// A second of the span of `flows` isn't digits alone, or is past 2^32.
+    /// The span of `flows` isn't two numbers, digits alone and at most 2^32, nor by moments in their place.
     Span,
-    /// A second of the span of `totals` isn't digits alone, or is past 2^32, or how many workers scan isn't digits alone,
-    /// from 1 to 64.
+    /// The same of the span of `totals`, or how many workers scan isn't digits alone, from 1 to 64.
     Totals,
     /// How many files are left isn't digits alone, or is past 2^32 - 1.
     Keep,

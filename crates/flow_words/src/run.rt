@@ -1,30 +1,32 @@
 //! One run of the program: words and an input in, lines and a status out.
 
-ghost use Rattle.std.specs.Prelude.{◌≡◌, ◌≢◌, ◌≤◌, false, OnOk, OnErr, IfOk, IfErr, IfSome, length, map, string_bytes};
+ghost use Rattle.std.specs.Prelude.{◌≡◌, ◌≢◌, ◌≤◌, ℕ, false, OnOk, OnErr, IfOk, IfErr, IfSome, length, map, string_bytes};
 ghost use Rattle.std.specs.Io.KnownBytes.{Appends, Keeps};
 ghost use Rattle.clap.specs.Values.{kind_of};
 ghost use Rattle.flow_report.specs.Refusals.{status_of};
 ghost use Rattle.flow_report.specs.Printed.{printed, line_of};
-ghost use Rattle.flow_words.specs.Printed.{kind_text, words_text};
+ghost use Rattle.flow_words.specs.Printed.{first_word, kind_text, told_lines, words_text};
 ghost use Rattle.flow_report.specs.Writing.{AppendsFront};
 ghost use Rattle.flow_commands.specs.Archives.{archive_printed, archive_status};
-ghost use Rattle.flow_commands.specs.Asking.{AreFlows, AreRows};
+ghost use Rattle.flow_commands.specs.Asking.{AreFlows, AreRows, Writes, WritesOrNot};
+ghost use Rattle.flow_commands.specs.declared.archive_refusal.ArchiveRefusal.TheVariants as refusal;
+ghost use Rattle.flow_commands.specs.declared.folder_fault.FolderFault.TheVariants as fault;
 ghost use Rattle.flow_commands.specs.Feeding.{FeedsLines, KeepsOrFeeds};
 ghost use Rattle.flow_commands.specs.Rolling.{IsJobLine};
-ghost use Rattle.flow_words.specs.Arguments.{has_input};
+ghost use Rattle.flow_words.specs.Arguments.{has_input, span_at};
 ghost use Rattle.flow_words.specs.Run.{AskEnds, CheckEnds, CreateEnds, FeedEnds, Runs, IsArchiveTold, IsHelp, IsTold};
 ghost use Rattle.flow_words.specs.Run.{ShellEnds, AreWordsLines, AreWordsTold};
 ghost use Rattle.flow_words.specs.Run.{IsRefusalTold, IsAnswered, IsShown};
 ghost use Rattle.flow_words.specs.declared.request.Request.TheVariants as asked;
 
-use crate::arguments::{FileNames, FolderName};
+use crate::arguments::{FileNames, FolderName, MomentSpan};
 use crate::explaining::Explanation;
 use crate::request::{LineError, Request, parse};
 use clap::Error;
 use clap::error::ErrorKind;
 use flow_commands::{
-    ArchiveRefusal, FeedPlan, NewArchive, Progress, StartSpan, Workers, check_in, create_in,
-    feed_in, flows_in, roll_in, totals_in,
+    ArchiveRefusal, FeedPlan, FolderFault, NewArchive, Progress, StartSpan, Workers, check_in,
+    create_in, feed_in, flows_in, roll_in, totals_in,
 };
 use flow_folder::Lockable;
 use flow_inspect::inspect;
@@ -39,6 +41,7 @@ use std::io::{Empty, Read, Write};
 use std::os::unix::fs::FileExt;
 use std::sync::Wait;
 use std::thread::Threads;
+use std::time::{Clock, SystemTime};
 
 /// The status of a run that did its work, or showed its help.
 const DONE: u8 = 0;
@@ -46,36 +49,38 @@ const DONE: u8 = 0;
 /// The status of a run whose words ask for nothing.
 const WRONG_LINE: u8 = 2;
 
-/// What is told where no memory was found.
-const NO_MEMORY: &str = "flowvault: 11 OutOfMemory\n";
+/// The line where no memory was found.
+const NO_MEMORY: &str = "flowvault: 11 OutOfMemory\nflowvault: see: flowvault explain 11\n";
 
-/// What is told of a width that isn't one.
+/// The line for a width that isn't one.
 const WRONG_WIDTH: &str =
     "flowvault: WIDTH is 1 to 86400, digits alone, as in: flowvault measure 300 < FILE\n";
 
-/// What is told of numbers that no new archive has.
+/// The line for numbers that no new archive has.
 const WRONG_PLAN: &str =
     "flowvault: WIDTH is 1 to 86400, --limit 65535 to 16777216, --wide a multiple of WIDTH up to \
      86400, all digits alone\n";
 
-/// What is told of seconds that no span has.
+/// The line for seconds that no span has.
 const WRONG_SPAN: &str =
-    "flowvault: FROM and TO are seconds since 1970-01-01 00:00 UTC, digits alone, 0 to 4294967296\n";
+    "flowvault: FROM and TO are seconds since 1970-01-01 00:00 UTC, digits alone, 0 to 4294967296; --since and \
+     --until, in their place, are as 2026-11-25, 2026-11-25T06:00, 1d, 6h or now\n";
 
-/// What is told of seconds that no span has, or of a number of workers that no scan has.
+/// The line for seconds that no span has, or of a number of workers that no scan has.
 const WRONG_TOTALS: &str =
-    "flowvault: FROM and TO are seconds since 1970-01-01 00:00 UTC, digits alone, 0 to 4294967296, --workers 1 to 64\n";
+    "flowvault: FROM and TO are seconds since 1970-01-01 00:00 UTC, digits alone, 0 to 4294967296; --since and \
+     --until, in their place, are as 2026-11-25, 2026-11-25T06:00, 1d, 6h or now; --workers is 1 to 64\n";
 
-/// What is told of a number of files that can't be left.
+/// The line for a number of files that can't be left.
 const WRONG_KEEP: &str =
     "flowvault: KEEP is how many of the newest files are left, digits alone, 0 to 4294967295\n";
 
-/// What is told of too many Files, or of a number of segments that can't be left.
+/// The line for too many Files, or of a number of segments that can't be left.
 const WRONG_FILES: &str =
     "flowvault: FILE is given 1 to 8 times, but once with --from, 0 to 281474976710655; --keep is how many of the \
      newest segments are left, 0 to 4294967295\n";
 
-/// What is told of a number that no refusal has.
+/// The line for a number that no refusal has.
 const WRONG_NUMBER: &str =
     "flowvault: no refusal has this NUMBER: they are 1 to 11, 14 to 17, 20 to 27, 30 to 32, 40 to 49\n";
 
@@ -83,14 +88,14 @@ const WRONG_NUMBER: &str =
 const WRONG_FORMATS: &str =
     "flowvault: --csv and --json are two formats: one of them is taken, not both\n";
 
-/// What is told where a command is missing.
+/// The line where a command is missing.
 const NO_COMMAND: &str = "flowvault: a command is needed: flowvault --help lists them\n";
 
-/// What is told where an argument is missing.
+/// The line where an argument is missing.
 const NO_ARGUMENT: &str =
     "flowvault: an argument is missing, as WIDTH in: flowvault measure 300 < FILE; flowvault help COMMAND tells them\n";
 
-/// What is told of any other wrong words.
+/// The line for any other wrong words.
 const WRONG_WORDS: &str =
     "flowvault: a word isn't understood; a File is read from standard input: flowvault measure 300 < FILE\n";
 
@@ -103,22 +108,41 @@ fn write_octets<W: Write>(to: &mut W, octets: &[u8]) -> Result<(), Refusal>
     Ok(())
 }
 
-/// Tells a line on standard error, or as much of it as can be written: the status tells the same.
+/// Writes a line on standard error, or as much of it as can be written: the status says the same.
 fn tell_line<E: Write>(errors: &mut E, line: &[u8])
     ensures { AppendsFront (E.contents errors.old) (E.contents errors.new) line.now }
 {
     let _ = write_octets(errors, line);
 }
 
-/// The line of a refusal.
-fn refusal_line(alloc: Global, refusal: &Refusal) -> Result<String, AllocError>
-    ensures { IfOk result (λ line. string_bytes line ≡ line_of (printed refusal.now)) }
+/// The text before its first space.
+fn first_word(text: &str) -> &str
+    ensures { result.now ≡ first_word text.now }
 {
-    format!(in alloc; "flowvault: {refusal}\n")
+    match text.split_once(' ') {
+        Some((word, _)) => word,
+        None => text,
+    }
 }
 
-/// Tells a refusal as `flowvault: NUMBER NAME ..`. A want of memory is told without any; where there is none for the
-/// line of another refusal, nothing is told.
+/// The lines of a refusal's text: it, and how to ask what its number means.
+fn told_lines(alloc: Global, text: &str) -> Result<String, AllocError>
+    ensures { IfOk result (λ lines. string_bytes lines ≡ told_lines text.now) }
+{
+    let number = first_word(text);
+    format!(in alloc; "flowvault: {text}\nflowvault: see: flowvault explain {number}\n")
+}
+
+/// The lines of a refusal.
+fn refusal_lines(alloc: Global, refusal: &Refusal) -> Result<String, AllocError>
+    ensures { IfOk result (λ lines. string_bytes lines ≡ told_lines (printed refusal.now)) }
+{
+    let text = format!(in alloc; "{refusal}")?;
+    told_lines(alloc, text.as_str())
+}
+
+/// Reports a refusal as `flowvault: NUMBER NAME ..`, and how to ask what the number means. That memory ran out is
+/// reported without any; where there is none for the lines of another refusal, nothing is.
 #[tactic(auto, using(crate::proofs::Told::nothing_told, crate::proofs::Told::line_told))]
 fn tell_refusal<E: Write>(alloc: Global, errors: &mut E, refusal: &Refusal)
     ensures { IsRefusalTold refusal.now (E.contents errors.old) (E.contents errors.new) }
@@ -127,10 +151,10 @@ fn tell_refusal<E: Write>(alloc: Global, errors: &mut E, refusal: &Refusal)
         tell_line(errors, NO_MEMORY.as_bytes());
         return;
     }
-    let Ok(line) = refusal_line(alloc, refusal) else {
+    let Ok(lines) = refusal_lines(alloc, refusal) else {
         return;
     };
-    tell_line(errors, line.as_bytes());
+    tell_line(errors, lines.as_bytes());
 }
 
 /// Tells a refusal, and answers its exit status.
@@ -144,15 +168,16 @@ fn tell<E: Write>(alloc: Global, errors: &mut E, refusal: &Refusal) -> u8
     refusal.status()
 }
 
-/// The line of a refusal of a command over an archive.
-fn archive_line(alloc: Global, refusal: &ArchiveRefusal) -> Result<String, AllocError>
-    ensures { IfOk result (λ line. string_bytes line ≡ line_of (archive_printed refusal.now)) }
+/// The lines of a refusal of a command over an archive.
+fn archive_lines(alloc: Global, refusal: &ArchiveRefusal) -> Result<String, AllocError>
+    ensures { IfOk result (λ lines. string_bytes lines ≡ told_lines (archive_printed refusal.now)) }
 {
-    format!(in alloc; "flowvault: {refusal}\n")
+    let text = format!(in alloc; "{refusal}")?;
+    told_lines(alloc, text.as_str())
 }
 
-/// Tells the refusal of a command over an archive. A want of memory is told without any; where there is none for the
-/// line of another refusal, nothing is told.
+/// Reports the refusal of a command over an archive, and how to ask what its number means. That memory ran out is
+/// reported without any; where there is none for the lines of another refusal, nothing is.
 #[tactic(auto, using(crate::proofs::Told::nothing_told_of_archive, crate::proofs::Told::line_told_of_archive))]
 fn tell_archive_refusal<E: Write>(alloc: Global, errors: &mut E, refusal: &ArchiveRefusal)
     ensures { IsArchiveTold refusal.now (E.contents errors.old) (E.contents errors.new) }
@@ -161,10 +186,10 @@ fn tell_archive_refusal<E: Write>(alloc: Global, errors: &mut E, refusal: &Archi
         tell_line(errors, NO_MEMORY.as_bytes());
         return;
     }
-    let Ok(line) = archive_line(alloc, refusal) else {
+    let Ok(lines) = archive_lines(alloc, refusal) else {
         return;
     };
-    tell_line(errors, line.as_bytes());
+    tell_line(errors, lines.as_bytes());
 }
 
 /// Tells the refusal of a command over an archive, and answers its exit status.
@@ -280,11 +305,61 @@ where
     }
 }
 
-/// Runs `totals`.
-fn run_totals<H: Files + AllocGlobal + Clone + Drop + Threads + Send + Sync, W: Write, E: Write>(
+/// The second that it is now, since 1970-01-01 00:00 UTC.
+fn second_of_now<H: Clock>(rt: &H) -> Result<u64, ArchiveRefusal>
+    ensures { IfErr result (λ e. e ≡ refusal.Folder fault.NoClock) }
+{
+    let no_clock = ArchiveRefusal::Folder(FolderFault::NoClock);
+    let Ok(now) = SystemTime::now(rt) else {
+        return Err(no_clock);
+    };
+    match now.duration_since(SystemTime::UNIX_EPOCH) {
+        Ok(since) => Ok(since.as_secs()),
+        Err(_) => Err(no_clock),
+    }
+}
+
+/// The seconds of a span; the clock is read only where one of them depends on it.
+fn seconds_of<H: Clock>(rt: &H, span: MomentSpan) -> Result<StartSpan, ArchiveRefusal>
+    ensures found { IfOk result (λ seconds. (now : ℕ) × (seconds ≡ span_at now span)) }
+    ensures refused { IfErr result (λ e. e ≡ refusal.Folder fault.NoClock) }
+{
+    let now = if span.is_relative() {
+        second_of_now(rt)?
+    } else {
+        0
+    };
+    Ok(span.at(now))
+}
+
+/// Writes the lines of `totals`.
+fn write_totals<H: Files + AllocGlobal + Clock + Clone + Drop + Threads + Send + Sync, W: Write>(
     rt: &H,
     folder: &FolderName<'_>,
-    span: &StartSpan,
+    span: MomentSpan,
+    workers: Option<Workers>,
+    format: Format,
+    output: &mut W,
+) -> Result<(), ArchiveRefusal>
+where
+    H::File: FileExt + Lockable + Send + Sync,
+    H::Dir: Send + Sync,
+    ensures written { OnOk result (Writes (AreRows format) (W.contents output.old) (W.contents output.new)) }
+    ensures kept { IfErr result (λ e. WritesOrNot (AreRows format) e (W.contents output.old) (W.contents output.new)) }
+{
+    let span = seconds_of(rt, span)?;
+    totals_in(rt, folder.path, &span, workers, format, output)
+}
+
+/// Runs `totals`.
+fn run_totals<
+    H: Files + AllocGlobal + Clock + Clone + Drop + Threads + Send + Sync,
+    W: Write,
+    E: Write,
+>(
+    rt: &H,
+    folder: &FolderName<'_>,
+    span: MomentSpan,
     workers: Option<Workers>,
     format: Format,
     output: &mut W,
@@ -299,17 +374,34 @@ where
     ensures status { result ≤ 5 }
     ensures other { result ≢ 2 }
 {
-    match totals_in(rt, folder.path, span, workers, format, output) {
+    match write_totals(rt, folder, span, workers, format, output) {
         Ok(()) => DONE,
         Err(refusal) => tell_of_archive(rt.alloc(), errors, &refusal),
     }
 }
 
-/// Runs `flows`.
-fn run_flows<H: Files + AllocGlobal + Clone + Drop, W: Write, E: Write>(
+/// Writes the lines of `flows`.
+fn write_flows<H: Files + AllocGlobal + Clock + Clone + Drop, W: Write>(
     rt: &H,
     folder: &FolderName<'_>,
-    span: &StartSpan,
+    span: MomentSpan,
+    format: Format,
+    output: &mut W,
+) -> Result<(), ArchiveRefusal>
+where
+    H::File: FileExt + Lockable,
+    ensures written { OnOk result (Writes (AreFlows format) (W.contents output.old) (W.contents output.new)) }
+    ensures kept { IfErr result (λ e. WritesOrNot (AreFlows format) e (W.contents output.old) (W.contents output.new)) }
+{
+    let span = seconds_of(rt, span)?;
+    flows_in(rt, folder.path, &span, format, output)
+}
+
+/// Runs `flows`.
+fn run_flows<H: Files + AllocGlobal + Clock + Clone + Drop, W: Write, E: Write>(
+    rt: &H,
+    folder: &FolderName<'_>,
+    span: MomentSpan,
     format: Format,
     output: &mut W,
     errors: &mut E,
@@ -322,7 +414,7 @@ where
     ensures status { result ≤ 5 }
     ensures other { result ≢ 2 }
 {
-    match flows_in(rt, folder.path, span, format, output) {
+    match write_flows(rt, folder, span, format, output) {
         Ok(()) => DONE,
         Err(refusal) => tell_of_archive(rt.alloc(), errors, &refusal),
     }
@@ -457,9 +549,9 @@ fn run_explain<W: Write, E: Write>(
     }
 }
 
-/// Runs a command, and tells a refusal on `errors` as `flowvault: NUMBER NAME ..`. It answers the exit status.
+/// Runs a command, and reports a refusal on `errors` as `flowvault: NUMBER NAME ..`. It answers the exit status.
 fn run<
-    H: Files + AllocGlobal + Clone + Drop + Threads + Wait + Send + Sync,
+    H: Files + AllocGlobal + Clock + Clone + Drop + Threads + Wait + Send + Sync,
     R: Read,
     W: Write,
     E: Write,
@@ -494,12 +586,12 @@ where
             span,
             workers,
             format,
-        } => run_totals(rt, &folder, &span, workers, format, output, errors),
+        } => run_totals(rt, &folder, span, workers, format, output, errors),
         Request::Flows {
             folder,
             span,
             format,
-        } => run_flows(rt, &folder, &span, format, output, errors),
+        } => run_flows(rt, &folder, span, format, output, errors),
         Request::Feed {
             folder,
             plan,
@@ -515,9 +607,9 @@ where
 }
 
 /// Runs one command line, whose first word is the program's name, and answers the exit status. Feeding shows its
-/// `progress`, which no clause tells of.
+/// `progress`, of which no clause speaks.
 pub fn run_line<
-    H: Files + AllocGlobal + Clone + Drop + Threads + Wait + Send + Sync,
+    H: Files + AllocGlobal + Clock + Clone + Drop + Threads + Wait + Send + Sync,
     S: AsStr,
     R: Read,
     W: Write,
@@ -596,7 +688,7 @@ fn refuse<W: Write, E: Write>(
     }
 }
 
-/// What is told of words that the parser of the command line refuses.
+/// The line for words that the parser of the command line refuses.
 fn kind_line(kind: ErrorKind) -> &'static str
     ensures { result.now ≡ line_of (kind_text kind) }
 {
@@ -637,7 +729,7 @@ fn words_lines(alloc: Global, error: &Error) -> Result<String, AllocError>
 }
 
 /// Tells why the parser of the command line refuses words. Where there is no memory for what it says of them, the line is
-/// told alone.
+/// written alone.
 fn tell_words<E: Write>(alloc: Global, errors: &mut E, error: &Error)
     ensures { AreWordsTold error.now (E.contents errors.old) (E.contents errors.new) }
 {
