@@ -9,7 +9,9 @@ use jiff_core::civil::{Date, days_in_month};
 
 /// The seconds of a minute, an hour and a day.
 const MINUTE: u64 = 60;
+
 const HOUR: u64 = 3_600;
+
 const DAY: u64 = 86_400;
 
 /// The most days or hours ago.
