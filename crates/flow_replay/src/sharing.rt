@@ -157,6 +157,20 @@ fn done<D: Disk, J: Naming, W: Wait>(
     }
 }
 
+/// What a shared archive answers to a command.
+fn answer<D: Disk, J: Naming, W: Wait>(
+    rt: &W,
+    alloc: Global,
+    shared: &SharedArchive<D, J, W>,
+    reading: &mut Reading<D, J>,
+    command: &Command,
+) -> Result<String, AllocError> {
+    match reading.asked(alloc, command)? {
+        Some(told) => Ok(told),
+        None => done(rt, alloc, shared, reading, command),
+    }
+}
+
 /// A shared archive answers lines.
 fn answer_lines<D: Disk, J: Naming, W: Wait>(
     rt: &W,
@@ -168,10 +182,7 @@ fn answer_lines<D: Disk, J: Naming, W: Wait>(
     report: &mut Report,
 ) -> Result<(), AllocError> {
     for line in lines {
-        let told = match reading.asked(alloc, &line.command)? {
-            Some(told) => told,
-            None => done(rt, alloc, shared, reading, &line.command)?,
-        };
+        let told = answer(rt, alloc, shared, reading, &line.command)?;
         report.compare(alloc, name, line, told.as_str())?;
     }
     Ok(())
