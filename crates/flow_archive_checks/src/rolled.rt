@@ -141,7 +141,8 @@ fn greatest(alloc: Global) -> Result<Rows, SumError> {
     Ok(rows)
 }
 
-/// A head has 100 octets, a row 41, and 40 without a protocol; a message holds 1,000 rows, and one more begins another.
+/// A domain begins with a message of 100 octets. Its rows follow in messages of up to 1,000 rows: 20 octets, and 41 for
+/// each row, 40 for one without a protocol.
 #[test]
 fn files_of_tables(rt: HostRuntime) -> Result<(), Fail> {
     let alloc = rt.alloc();
