@@ -25,8 +25,8 @@ use Rattle.flow_segment.proofs.Uniqueness.{same_read}
 use Rattle.flow_segment.proofs.Taking.{records_then, took_then}
 
 -- so many messages, whose records a sink took, and their greatest Export Time
-abbrev pub AreTaken : {S : Type 0} → (S → List Placed → S → Type 0) → S → S → ℕ → ℕ → List Accepted → Type 0
-AreTaken holds old now count time messages =
+abbrev pub HasTaken : {S : Type 0} → (S → List Placed → S → Type 0) → S → S → ℕ → ℕ → List Accepted → Type 0
+HasTaken holds old now count time messages =
     TookAll holds old (records_in messages) now × (count ≡ length messages) × (time ≡ greatest_time messages)
 
 max_by : (a b : ℕ) (r : Ordering) → MatchOrdering r (b < a) (b ≡ a) (a < b) → max a b ≡ cond (is_lt r) a b
@@ -62,9 +62,9 @@ PartSoFar Kind honest octets start end before now c =
     × IsOn octets c
 
 taken_more : {S : Type 0} (holds : S → List Placed → S → Type 0) (old now new : S) (count time later : ℕ)
-    (messages : List Accepted) (a : Accepted) → AreTaken holds old now count time messages
+    (messages : List Accepted) (a : Accepted) → HasTaken holds old now count time messages
     → Took holds a.message.header now a.message.records new → later ≡ a.message.header.time
-    → AreTaken holds old new (count + 1) (max time later) (messages ++ a ∷ [])
+    → HasTaken holds old new (count + 1) (max time later) (messages ++ a ∷ [])
 taken_more holds old now new count time later messages a h took is = (
   subst (λ (t : List Placed). TookAll holds old t new) (sym (records_then messages a))
       (took_then holds old now new (records_in messages) (under a.message.header a.message.records) h.0 took),
@@ -75,12 +75,12 @@ taken_more holds old now new count time later messages a h took is = (
 pub part_more : {S : Type 0} (holds : S → List Placed → S → Type 0) (first sink sink_new : S)
     (honest : Bool) (octets : List ℕ) (start end file number at count time later : ℕ)
     (more : Bool) (before now after : AllTemplates) (old new : Cursor) (message : List ℕ) → more ≡ true
-    → PartSoFar (AreTaken holds first sink count time) honest octets start end before now old → Moves old (Ok more) new
+    → PartSoFar (HasTaken holds first sink count time) honest octets start end before now old → Moves old (Ok more) new
     → (IsTrue honest → IsOn octets old → IsOn octets new × IsPartStep octets file old (Ok more) new)
     → message ≡ new.message
     → (m : RawMessage) × IsAccepted message now m after
     × (Took holds m.header sink m.records sink_new × (later ≡ m.header.time))
-    → PartSoFar (AreTaken holds first sink_new (count + 1) (max time later)) honest octets start end before after new
+    → PartSoFar (HasTaken holds first sink_new (count + 1) (max time later)) honest octets start end before after new
 part_more holds first sink sink_new honest octets start end file number at count time later false before now after old new message
     go sofar moves step same x =
     absurd cc
@@ -92,7 +92,7 @@ part_more holds first sink sink_new honest octets start end file number at count
     let b = was.0 in
     let a : Accepted = record { octets = message; message = m; after = after } in
     let kind = taken_more holds first sink sink_new count time later b.messages a b.kind x.2.0 x.2.1 in (
-      step_more (AreTaken holds first sink count time) (AreTaken holds first sink_new (count + 1) (max time later)) octets
+      step_more (HasTaken holds first sink count time) (HasTaken holds first sink_new (count + 1) (max time later)) octets
           (part_octets start end octets) start file before now after old new message m b s.1 moves.2 same x.1 kind,
       s.0,
     )
@@ -175,7 +175,7 @@ advance_told Kind honest octets start end file count before now old new OutOfMem
 
 pub count_told : {S : Type 0} (holds : S → List Placed → S → Type 0) (first sink : S) (more honest : Bool)
     (octets : List ℕ) (start end file number count time all : ℕ) (before now : AllTemplates) (old new : Cursor)
-    → more ≡ false → PartSoFar (AreTaken holds first sink count time) honest octets start end before now old
+    → more ≡ false → PartSoFar (HasTaken holds first sink count time) honest octets start end before now old
     → (IsTrue honest → IsOn octets old → IsOn octets new × IsPartStep octets file old (Ok more) new)
     → IsTrue honest → count ≢ all → number ≡ file
     → IsDamage (part_octets start end octets) before file start end all (Damaged number end)
@@ -191,7 +191,7 @@ count_told holds first sink false honest octets start end file number count time
 -- all messages, where there are as many as there are to be
 pub all_found : {S : Type 0} (holds : S → List Placed → S → Type 0) (first sink : S) (more honest : Bool)
     (octets : List ℕ) (start end file count time all : ℕ) (before now : AllTemplates) (old new : Cursor)
-    → more ≡ false → PartSoFar (AreTaken holds first sink count time) honest octets start end before now old
+    → more ≡ false → PartSoFar (HasTaken holds first sink count time) honest octets start end before now old
     → (IsTrue honest → IsOn octets old → IsOn octets new × IsPartStep octets file old (Ok more) new)
     → IsTrue honest → count ≡ all
     → (messages : List Accepted) × ArePartMessages (part_octets start end octets) before all messages
@@ -214,7 +214,7 @@ all_found holds first sink false honest octets start end file count time all bef
 -- their greatest Export Time, where the messages are told
 pub time_found : {S : Type 0} (holds : S → List Placed → S → Type 0) (first sink : S) (more honest : Bool)
     (octets : List ℕ) (start end file count time all : ℕ) (before now : AllTemplates) (old new : Cursor)
-    → more ≡ false → PartSoFar (AreTaken holds first sink count time) honest octets start end before now old
+    → more ≡ false → PartSoFar (HasTaken holds first sink count time) honest octets start end before now old
     → (IsTrue honest → IsOn octets old → IsOn octets new × IsPartStep octets file old (Ok more) new)
     → IsTrue honest → (messages : List Accepted)
     → ArePartMessages (part_octets start end octets) before all messages → time ≡ greatest_time messages

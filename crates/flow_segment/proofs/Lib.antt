@@ -10,3 +10,4 @@ pub mod Uniqueness
 pub mod Summed
 pub mod FewMessages
 pub mod FlowsFit
+pub mod Batches

@@ -5,9 +5,11 @@ ghost use Rattle.indexmap.specs.IndexMap.{spare};
 ghost use Rattle.flow_codec.specs.Fault.{IsFault};
 ghost use Rattle.flow_codec.specs.Message.{IsAccepted};
 ghost use Rattle.flow_measure.specs.History.{Accepted};
+ghost use Rattle.flow_segment.specs.Batch.{restored};
 ghost use Rattle.flow_segment.specs.Carry.{no_carry, prefix_of, AreNext, IsCarry, IsCounted, IsTaken};
 ghost use Rattle.flow_segment.specs.Carry.{IsTakenAs, TakesOnly};
 
+use crate::batch::Undo;
 use flow_codec::{
     Count, Header, MessageError, Templates, WalkError, walk_message, write_templates,
 };
@@ -100,6 +102,39 @@ impl Carry {
             due: self.due.clone()?,
             time: self.time,
         })
+    }
+
+    /// A copy of the templates.
+    pub(crate) fn copied_templates(&self) -> Result<Templates, AllocError>
+        ensures { IfOk result (λ copy. copy ≡ self.now.templates) }
+    {
+        self.templates.try_copy()
+    }
+
+    /// What it takes to put back what is carried now, as long as these templates are in force.
+    pub(crate) fn undo(&self) -> Result<Undo, AllocError>
+        ensures kept { IfOk result (λ undo. restored self.now.templates undo ≡ self.now) }
+        ensures carry { IsCarry self.now }
+    {
+        let due = self.due.clone()?;
+        let time = self.time;
+        Ok(Undo {
+            templates: None,
+            due,
+            time,
+        })
+    }
+
+    /// Puts back what was kept.
+    pub(crate) fn put_back(&mut self, mut undo: Undo)
+        requires { IsCarry (restored self.old.templates undo) }
+        ensures { self.new ≡ restored self.old.templates undo }
+    {
+        if let Some(templates) = undo.templates.take() {
+            self.templates = templates;
+        }
+        self.due = undo.due;
+        self.time = undo.time;
     }
 }
 

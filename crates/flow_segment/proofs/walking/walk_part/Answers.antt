@@ -6,7 +6,7 @@ use Rattle.flow_segment.specs.Segment.{part_octets}
 use Rattle.flow_segment.proofs.Carrying.{err_of}
 use Rattle.flow_segment.proofs.Restating.{moves_within}
 use Rattle.flow_segment.proofs.Flowing.{behind_kept, behind_more, count_within, max_is, part_more, time_found}
-use Rattle.flow_segment.proofs.Flowing.{walked_told, AreTaken, PartSoFar}
+use Rattle.flow_segment.proofs.Flowing.{walked_told, HasTaken, PartSoFar}
 use Rattle.flow_segment.proofs.Taking.{took_then}
 use Rattle.flow_segment.proofs.walking.walk_part.Goals as goal
 
@@ -20,7 +20,7 @@ returns-in_err-hand_over-clause-told g c = λ h.
     (λ e. IsDamage (part_octets part.prefix part.length (S.octets file)) c.args.templates.now (S.number file)
     part.prefix part.length part.messages e)
     c.from_residual-in_err-hand_over.ensures.1
-    (walked_told (AreTaken holds c.args.sink.now c.messages.sink c.messages.count c.messages.time)
+    (walked_told (HasTaken holds c.args.sink.now c.messages.sink c.messages.count c.messages.time)
     (λ time m. Took holds m.header c.messages.sink m.records c.hand_over.new.sink × (time ≡ m.header.time))
     (S.honest file) (S.octets file) part.prefix part.length (S.number file) c.file-file.result c.place-at.result
     part.messages c.in_ok-advance.field-0 c.args.templates.now c.messages.templates c.hand_over.new.templates
@@ -36,7 +36,7 @@ messages-preserved g c =
     let file = part.reader in
     let x = c.in_ok-hand_over.ensures.walked in
     let some = c.messages.invariant.5 in (
-      subst (λ (t : ℕ). PartSoFar (AreTaken holds c.args.sink.now c.hand_over.new.sink (c.messages.count + 1) t)
+      subst (λ (t : ℕ). PartSoFar (HasTaken holds c.args.sink.now c.hand_over.new.sink (c.messages.count + 1) t)
           (S.honest file) (S.octets file) part.prefix part.length c.args.templates.now c.hand_over.new.templates c.advance.new.cursor)
           (max_is c.messages.time c.in_ok-hand_over.field-0 ∙ sym c.max-time.ensures) (part_more holds c.args.sink.now c.messages.sink c.hand_over.new.sink (S.honest file) (S.octets file) part.prefix
           part.length (S.number file) c.file-file.result c.place-at.result c.messages.count c.messages.time c.in_ok-hand_over.field-0

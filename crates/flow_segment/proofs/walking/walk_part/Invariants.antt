@@ -1,14 +1,14 @@
 use Rattle.std.proofs.Common.{◌≡◌, ◌-◌, ◌≤◌, List}
 use Rattle.flow_codec.specs.Raw.{Placed}
 use Rattle.flow_segment.specs.PartFlows.{AreBehind, TookAll}
-use Rattle.flow_segment.proofs.Flowing.{AreTaken, PartSoFar}
+use Rattle.flow_segment.proofs.Flowing.{HasTaken, PartSoFar}
 use Rattle.flow_segment.proofs.walking.walk_part.Given as goal
 
 abbrev pub invariant-messages : goal.invariant-messages
 invariant-messages g l =
     let S = g.S.SealedFile in
     let holds = g.R.RecordSink.holds in
-    PartSoFar (AreTaken holds l.initial.sink l.sink l.count l.time) (S.honest l.part.reader) (S.octets l.part.reader)
+    PartSoFar (HasTaken holds l.initial.sink l.sink l.count l.time) (S.honest l.part.reader) (S.octets l.part.reader)
     l.part.prefix l.part.length l.initial.templates l.templates l.cursor
     × (l.cursor.end ≡ l.part.length) × (l.cursor.place ≤ l.cursor.end) × (l.faults ≡ l.initial.faults)
     × (l.count ≤ l.cursor.place) × ((records : List Placed) × TookAll holds l.initial.sink records l.sink)

@@ -1,0 +1,99 @@
+//! Messages that are taken in one behind the other: all of them, or none.
+
+ghost use Rattle.std.specs.Prelude.{◌≡◌, ◌⊎◌, OnOk, OnErr, IfErr};
+ghost use Rattle.flow_codec.specs.declared.error.MessageError.TheVariants.{OutOfMemory};
+ghost use Rattle.flow_gate.specs.Steps.{slices};
+ghost use Rattle.flow_segment.specs.Batch.{restored, AreTaken, IsFirstFault, IsReady};
+
+use crate::carry::Carry;
+use crate::defining::may_define;
+use flow_codec::{MessageError, Templates};
+use indexmap::IndexMap;
+use std::alloc::{AllocError, Global};
+
+/// What stood in front of a batch: the numbers, the Export Time, and the templates, of which a copy is made only where
+/// a message may define some. Until then those in force are those of before.
+#[derive(Drop)]
+pub(crate) struct Undo {
+    pub(crate) templates: Option<Templates>,
+    pub(crate) due: IndexMap<u32, u32>,
+    pub(crate) time: u32,
+}
+
+/// Keeps a copy of the templates in front of a message that may define some, if none is kept.
+fn keep_before(undo: &mut Undo, carry: &Carry, octets: &[u8]) -> Result<(), AllocError>
+    ensures ready { OnOk result (IsReady undo.new octets.now) }
+    ensures same { restored carry.now.templates undo.new ≡ restored carry.now.templates undo.old }
+{
+    if undo.templates.is_none() && may_define(octets) {
+        undo.templates = Some(carry.copied_templates()?);
+    }
+    Ok(())
+}
+
+/// Takes in messages, and keeps what it takes to put back what stood in front of them. After an `Err` some of them are
+/// taken in.
+fn take_each(
+    carry: &mut Carry,
+    undo: &mut Undo,
+    alloc: Global,
+    messages: &[&[u8]],
+) -> Result<(), MessageError>
+    requires { restored carry.old.templates undo.old ≡ carry.old }
+    ensures taken { OnOk result (AreTaken (slices messages.now) carry.old carry.new) }
+    ensures kept { restored carry.new.templates undo.new ≡ carry.old }
+    ensures refused { IfErr result
+        (λ e. (e ≡ OutOfMemory) ⊎ IsFirstFault (slices messages.now) carry.old.templates e) }
+{
+    for message in messages {
+        keep_before(undo, carry, message)?;
+        carry.take(alloc, message)?;
+    }
+    Ok(())
+}
+
+/// The same of messages of which the last one is taken in without keeping anything: it is refused as a whole.
+fn take_through(
+    carry: &mut Carry,
+    undo: &mut Undo,
+    alloc: Global,
+    messages: &[&[u8]],
+) -> Result<(), MessageError>
+    requires { restored carry.old.templates undo.old ≡ carry.old }
+    ensures taken { OnOk result (AreTaken (slices messages.now) carry.old carry.new) }
+    ensures kept { OnErr result (restored carry.new.templates undo.new ≡ carry.old) }
+    ensures refused { IfErr result
+        (λ e. (e ≡ OutOfMemory) ⊎ IsFirstFault (slices messages.now) carry.old.templates e) }
+{
+    let Some((last, front)) = messages.split_last() else {
+        return Ok(());
+    };
+    take_each(carry, undo, alloc, front)?;
+    carry.take(alloc, last)
+}
+
+impl Carry {
+    /// Takes in messages, each accepted behind those before it; else answers the first fault of the first one that
+    /// isn't, or `OutOfMemory` where a growth of memory was refused. After an `Err` all is as it was.
+    ///
+    /// One message costs its octets. More cost theirs, and the count of domains; where one but the last may define
+    /// templates, those in force are copied, once.
+    pub fn take_all(&mut self, alloc: Global, messages: &[&[u8]]) -> Result<(), MessageError>
+        ensures taken { OnOk result (AreTaken (slices messages.now) self.old self.new) }
+        ensures kept { OnErr result (self.new ≡ self.old) }
+        ensures refused { IfErr result
+            (λ e. (e ≡ OutOfMemory) ⊎ IsFirstFault (slices messages.now) self.old.templates e) }
+    {
+        if let [message] = messages {
+            return self.take(alloc, message);
+        }
+        let mut undo = self.undo()?;
+        match take_through(self, &mut undo, alloc, messages) {
+            Ok(()) => Ok(()),
+            Err(fault) => {
+                self.put_back(undo);
+                Err(fault)
+            }
+        }
+    }
+}
