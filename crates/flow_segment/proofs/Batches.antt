@@ -1,4 +1,4 @@
--- Messages that are taken in one behind the other.
+-- Messages that are taken in one after the other.
 use Rattle.std.proofs.Common.{◌≡◌, ◌≢◌, ◌⊎◌, inl, inr, ℕ, ◌+◌, ◌<◌, ◌≤◌, ◌^◌, Bor, List, [], ◌∷◌, ◌++◌, length}
 use Rattle.std.proofs.Common.{take, drop, get_or, refl, sym, ◌∙◌, ap, subst, arith, append_assoc, length-append, Option}
 use Rattle.std.specs.Prelude.{Some, None, is_some, not, unwrap_or, Bool, true, false, Result, Ok, Err, IfErr, OnErr}
@@ -19,10 +19,10 @@ use Rattle.flow_gate.specs.Steps.{slices}
 use Rattle.flow_measure.specs.History.{Accepted, templates_from}
 use Rattle.flow_measure.proofs.Histories.{accepted_then}
 use Rattle.flow_segment.specs.declared.batch.Undo.{Undo}
-use Rattle.flow_segment.specs.Batch.{id_of, restored, AreTaken, IsBehindSet, IsFirstFault, IsReady, LeavesTemplates}
+use Rattle.flow_segment.specs.Batch.{id_of, restored, AreTaken, IsAfterSet, IsFirstFault, IsReady, LeavesTemplates}
 use Rattle.flow_segment.specs.Carry.{Carry, carry_from, carry_with, kept_as, octets_of, IsTaken}
 
--- ---- messages behind others
+-- ---- messages after others
 
 pub templates_carried : (c : Carry) (xs : List Accepted) → (carry_from c xs).templates ≡ templates_from c.templates xs
 templates_carried c [] = refl
@@ -97,7 +97,7 @@ alone_of [] none some few = absurd (omega (arith, some))
 alone_of (m ∷ []) none some few = refl
 alone_of (m ∷ n ∷ messages) none some few = absurd (omega (arith, few))
 
--- the last one behind the others
+-- the last one after the others
 pub last_of : (messages front : List (Bor (List ℕ))) (last : Bor (List ℕ)) → messages ≡ front ++ last ∷ []
     → slices messages ≡ slices front ++ last.now ∷ []
 last_of messages front last is =
@@ -141,13 +141,13 @@ set_leaves domain before set records after is plain options = elim (cases_lt set
   | inr large ↦ (is.«data» large).1
 ]
 
--- one Set more in front
-pub sets_leave : (octets rest : List ℕ) → IsBehindSet octets rest → SetsLeave rest → SetsLeave octets
+-- one Set more before others
+pub sets_leave : (octets rest : List ℕ) → IsAfterSet octets rest → SetsLeave rest → SetsLeave octets
 sets_leave octets rest behind leave domain before [] records after are is = are.1
 sets_leave octets rest behind leave domain before (s ∷ ss) records after are is =
     let head = head_of s octets (flat_map set_octets ss) (are.3).id (are.3).fits
     (is ∙ flat_map-cons set_octets s ss) in
-    let others : rest ≡ flat_map set_octets ss = behind.behind ∙ ap (λ (n : ℕ). drop n octets) head.len ∙ head.behind in
+    let others : rest ≡ flat_map set_octets ss = behind.after ∙ ap (λ (n : ℕ). drop n octets) head.len ∙ head.behind in
     leave domain are.2 ss are.1 after are.4 others
     ∙ set_leaves domain before s are.0 are.2 are.3 (λ e. behind.plain (head.id ∙ e)) (λ e. behind.options (head.id ∙ e))
 
@@ -161,7 +161,7 @@ no_sets_leave octets none domain before (s ∷ ss) records after are is =
       length-append (set_octets s) (flat_map set_octets ss),
     ))
 
--- behind the header
+-- after the header
 pub message_leaves : (octets : List ℕ) → SetsLeave (drop 16 octets) → LeavesTemplates octets
 message_leaves octets leave before message after accepted =
     let front = accepted.0 in
@@ -171,7 +171,7 @@ message_leaves octets leave before message after accepted =
 
 -- ---- what is kept
 
--- what is kept is kept behind a message more
+-- what is kept is kept after a message more
 pub kept_on : (undo : Undo) (octets : List ℕ) (old mid new : Carry) → restored mid.templates undo ≡ old
     → IsReady undo octets → IsTaken octets mid new → restored new.templates undo ≡ old
 kept_on undo octets old mid new was (inl copy) taken =

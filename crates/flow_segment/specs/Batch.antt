@@ -1,4 +1,4 @@
--- Messages that are taken in one behind the other, and what is kept of the carry in front of them.
+-- Messages that are taken in one after the other, and what is kept of the carry before them.
 use Rattle.std.specs.Prelude.{◌≡◌, ◌≢◌, ◌⊎◌, ℕ, ◌≤◌, List, ◌∷◌, ◌++◌, length, take, drop, Some, unwrap_or}
 use Rattle.std.specs.Int.{w16, from_be_bytes}
 use Rattle.flow_codec.specs.declared.error.MessageError.{MessageError}
@@ -11,13 +11,13 @@ use Rattle.flow_measure.specs.History.{Accepted, AreAcceptedFrom, templates_from
 use Rattle.flow_segment.specs.declared.batch.Undo.{Undo}
 use Rattle.flow_segment.specs.Carry.{Carry, carry_from, kept_as, octets_of}
 
--- These octets are messages, each accepted behind those before it.
+-- These octets are messages, each accepted after those before it.
 abbrev pub AreTaken : List (List ℕ) → Carry → Carry → Type 0
 AreTaken octets old new =
     (messages : List Accepted) × (octets_of messages ≡ octets) × AreAcceptedFrom old.templates messages
     × (new ≡ carry_from old messages)
 
--- The first of these that isn't a message accepted behind those before it has this fault.
+-- The first of these that isn't a message accepted after those before it has this fault.
 abbrev pub IsFirstFault : List (List ℕ) → AllTemplates → MessageError → Type 0
 IsFirstFault octets before fault =
     (front : List Accepted) × (message : List ℕ) × (rest : List (List ℕ))
@@ -26,22 +26,22 @@ IsFirstFault octets before fault =
 
 -- ---- octets that define nothing
 
--- Accepted behind whatever templates, these octets leave them as they are.
+-- Accepted after whatever templates, these octets leave them as they are.
 abbrev pub LeavesTemplates : List ℕ → Type 0
 LeavesTemplates octets = (before : AllTemplates) → (message : RawMessage) → (after : AllTemplates)
     → IsAccepted octets before message after → after ≡ before
 
--- the ID of the Set in front of octets
+-- the ID of the Set with which octets begin
 abbrev pub id_of : List ℕ → ℕ
 id_of octets = from_be_bytes w16 (take 2 octets)
 
--- A Set that isn't of template records stands in front of octets, and these are those behind it.
-pub record IsBehindSet (octets rest : List ℕ) : Type 0 where
+-- Octets begin with a Set that isn't of template records, and these are those after it.
+pub record IsAfterSet (octets rest : List ℕ) : Type 0 where
   pub plain : id_of octets ≢ 2
   pub options : id_of octets ≢ 3
   pub least : 4 ≤ length_of octets
   pub most : length_of octets ≤ length octets
-  pub behind : rest ≡ drop (length_of octets) octets
+  pub after : rest ≡ drop (length_of octets) octets
 
 -- ---- what is kept
 
@@ -49,6 +49,6 @@ pub record IsBehindSet (octets rest : List ℕ) : Type 0 where
 abbrev pub restored : AllTemplates → Undo → Carry
 restored now undo = kept_as (unwrap_or undo.templates now) undo.due.entries undo.time
 
--- The templates in front of a message are kept, or it leaves them as they are.
+-- The templates before a message are kept, or it leaves them as they are.
 abbrev pub IsReady : Undo → List ℕ → Type 0
 IsReady undo octets = ((templates : AllTemplates) × (undo.templates ≡ Some templates)) ⊎ LeavesTemplates octets

@@ -1,4 +1,4 @@
-//! Messages that are taken in one behind the other: all of them, or none.
+//! Messages that are taken in one after the other: all of them, or none.
 
 ghost use Rattle.std.specs.Prelude.{◌≡◌, ◌⊎◌, OnOk, OnErr, IfErr};
 ghost use Rattle.flow_codec.specs.declared.error.MessageError.TheVariants.{OutOfMemory};
@@ -11,7 +11,7 @@ use flow_codec::{MessageError, Templates};
 use indexmap::IndexMap;
 use std::alloc::{AllocError, Global};
 
-/// What stood in front of a batch: the numbers, the Export Time, and the templates, of which a copy is made only where
+/// What was carried before a batch: the numbers, the Export Time, and the templates, of which a copy is made only where
 /// a message may define some. Until then those in force are those of before.
 #[derive(Drop)]
 pub(crate) struct Undo {
@@ -20,7 +20,7 @@ pub(crate) struct Undo {
     pub(crate) time: u32,
 }
 
-/// Keeps a copy of the templates in front of a message that may define some, if none is kept.
+/// Keeps a copy of the templates before a message that may define some, if none is kept.
 fn keep_before(undo: &mut Undo, carry: &Carry, octets: &[u8]) -> Result<(), AllocError>
     ensures ready { OnOk result (IsReady undo.new octets.now) }
     ensures same { restored carry.now.templates undo.new ≡ restored carry.now.templates undo.old }
@@ -31,7 +31,7 @@ fn keep_before(undo: &mut Undo, carry: &Carry, octets: &[u8]) -> Result<(), Allo
     Ok(())
 }
 
-/// Takes in messages, and keeps what it takes to put back what stood in front of them. After an `Err` some of them are
+/// Takes in messages, and keeps what it takes to put back what was carried before them. After an `Err` some of them are
 /// taken in.
 fn take_each(
     carry: &mut Carry,
@@ -73,7 +73,7 @@ fn take_through(
 }
 
 impl Carry {
-    /// Takes in messages, each accepted behind those before it; else answers the first fault of the first one that
+    /// Takes in messages, each accepted after those before it; else answers the first fault of the first one that
     /// isn't, or `OutOfMemory` where a growth of memory was refused. After an `Err` all is as it was.
     ///
     /// One message costs its octets. More cost theirs, and the count of domains; where one but the last may define

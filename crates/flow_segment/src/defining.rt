@@ -1,7 +1,7 @@
-//! Messages that define nothing, told by the headers of their Sets.
+//! Messages that define nothing, as the headers of their Sets say.
 
 ghost use Rattle.std.specs.Prelude.{◌≡◌, ◌≢◌, false, IfSome};
-ghost use Rattle.flow_segment.specs.Batch.{IsBehindSet, LeavesTemplates};
+ghost use Rattle.flow_segment.specs.Batch.{IsAfterSet, LeavesTemplates};
 
 use flow_codec::TemplateKind;
 
@@ -17,15 +17,15 @@ fn is_of_templates(id: u16) -> bool
     id == TemplateKind::Plain.set_id() || id == TemplateKind::Options.set_id()
 }
 
-/// The octets behind the Set in front of these, if it is whole and not one of template records.
-fn behind_set(octets: &[u8]) -> Option<&[u8]>
-    ensures { IfSome result (λ rest. IsBehindSet octets.now rest.now) }
+/// The octets after the Set with which these begin, if it is whole and not one of template records.
+fn after_set(octets: &[u8]) -> Option<&[u8]>
+    ensures { IfSome result (λ rest. IsAfterSet octets.now rest.now) }
 {
     if octets.len() < SET_HEADER {
         return None;
     }
-    let (id, behind) = octets.split_at(2);
-    let (length, _) = behind.split_at(2);
+    let (id, others) = octets.split_at(2);
+    let (length, _) = others.split_at(2);
     let id = u16::from_be_bytes([id[0], id[1]]);
     let length = u16::from_be_bytes([length[0], length[1]]) as usize;
     if is_of_templates(id) || length < SET_HEADER || length > octets.len() {
@@ -44,8 +44,8 @@ pub(crate) fn may_define(octets: &[u8]) -> bool
     }
     let mut rest = &octets[MESSAGE_HEADER..];
     'sets: while !rest.is_empty() {
-        match behind_set(rest) {
-            Some(behind) => rest = behind,
+        match after_set(rest) {
+            Some(after) => rest = after,
             None => return true,
         }
     }

@@ -4,7 +4,7 @@ use Rattle.flow_segment.proofs.defining.may_define.Goals as goal
 
 pub sets-preserved : goal.sets-preserved
 sets-preserved c = λ leave.
-    c.sets.invariant (sets_leave c.sets.rest.now c.in-Some.behind.now c.in-Some.ensures leave)
+    c.sets.invariant (sets_leave c.sets.rest.now c.in-Some.after.now c.in-Some.ensures leave)
 
 pub returns : goal.returns
 returns c = λ _.
