@@ -7,6 +7,7 @@ use Rattle.flow_codec.specs.declared.error.MessageError.{MessageError}
 use Rattle.flow_codec.specs.declared.error.MessageError.TheVariants as message
 use Rattle.flow_codec.specs.Templates.{AllTemplates}
 use Rattle.flow_gate.specs.Gate.{octet_sum}
+use Rattle.flow_segment.specs.Batch.{IsFirstFault}
 use Rattle.flow_segment.specs.Carry.{Carry}
 use Rattle.flow_recover.specs.State.{State}
 use Rattle.flow_recover.specs.Chain.{IsSegment}
@@ -16,7 +17,7 @@ use Rattle.flow_archive.specs.declared.refusal.ArchiveError.TheVariants.{Fault, 
 use Rattle.flow_archive.specs.declared.refusal.ArchiveError.TheVariants.{Closed}
 use Rattle.flow_archive.specs.declared.refusal.ArchiveError.TheVariants.{Damaged, SourceFault, RollBusy, NoRoll}
 use Rattle.flow_archive.specs.declared.refusal.ArchiveError.TheVariants.{RollCount, RollNotDone, Pinned, NothingToRetire}
-use Rattle.flow_archive.specs.Answers.{AnswersAppend, AnswersSeal, HasPositions, HasRoom, IsFirstFault, IsNotAdmitted}
+use Rattle.flow_archive.specs.Answers.{AnswersAppend, AnswersSeal, HasPositions, HasRoom, IsNotAdmitted}
 use Rattle.flow_archive.specs.Answers.{job_generations, IsNotFollowed}
 use Rattle.flow_archive.specs.Refusals.{refusal_of}
 

@@ -1,17 +1,13 @@
 -- What segments hand on, as messages are added to them and new ones begin.
-use Rattle.std.proofs.Common.{◌≡◌, ◌⊎◌, inl, inr, ℕ, ◌+◌, ◌*◌, ◌<◌, ◌≤◌, ◌^◌, Bor, List, [], ◌∷◌, ◌++◌, length}
-use Rattle.std.proofs.Common.{take, drop, get_or, refl, sym, ◌∙◌, ap, subst, arith, length-append, append_assoc}
+use Rattle.std.proofs.Common.{◌≡◌, ℕ, ◌+◌, ◌*◌, ◌<◌, ◌≤◌, ◌^◌, List, [], ◌∷◌, ◌++◌, length}
+use Rattle.std.proofs.Common.{refl, sym, ◌∙◌, ap, subst, arith, length-append, append_assoc}
 use Rattle.std.specs.Prelude.{Option, Some, None, unwrap_or}
 use Rattle.std.specs.List.{AllByRecursion}
-use Rattle.std.proofs.lemmas.List.{append-nil, map-append, map_more, length-map, take-append-drop}
-use Rattle.flow_codec.specs.declared.error.MessageError.{MessageError}
-use Rattle.flow_codec.specs.declared.error.MessageError.TheVariants.{OutOfMemory}
+use Rattle.std.proofs.lemmas.List.{append-nil, map-append, length-map}
 use Rattle.flow_codec.specs.Cutting.{IsCutOff}
-use Rattle.flow_codec.specs.Fault.{IsFault}
-use Rattle.flow_codec.specs.Message.{joined, IsAccepted}
+use Rattle.flow_codec.specs.Message.{joined}
 use Rattle.flow_codec.specs.Templates.{AllTemplates}
 use Rattle.flow_codec.proofs.RestatingAll.{message_cut}
-use Rattle.flow_gate.specs.Steps.{slices}
 use Rattle.flow_manifest.specs.declared.manifest.Kind.{Kind}
 use Rattle.flow_manifest.specs.declared.manifest.Kind.TheVariants.{Wide, Rolled, Sealed, Active}
 use Rattle.flow_manifest.specs.declared.manifest.Entry.{Entry}
@@ -21,22 +17,15 @@ use Rattle.flow_manifest.specs.Following.{active_of, front_of, sealed_entry}
 use Rattle.flow_manifest.proofs.Followers.{next_front}
 use Rattle.flow_measure.specs.History.{Accepted, AreAcceptedFrom, templates_from}
 use Rattle.flow_rolled.specs.Rollup.{IsRollup}
-use Rattle.flow_segment.specs.Carry.{Carry, carry_from, carry_with, no_carry, octets_of, prefix_of, restated, IsCarry}
-use Rattle.flow_segment.specs.Carry.{IsReadBack, IsTaken}
+use Rattle.flow_segment.specs.Batch.{AreTaken}
+use Rattle.flow_segment.specs.Carry.{Carry, carry_from, no_carry, octets_of, prefix_of, restated, IsCarry}
+use Rattle.flow_segment.specs.Carry.{IsReadBack}
+use Rattle.flow_segment.proofs.Batches.{carried_then, templates_carried}
 use Rattle.flow_segment.proofs.Carrying.{is_read_back}
 use Rattle.flow_recover.specs.State.{Part, State, appended, end_of, moved_on}
 use Rattle.flow_recover.specs.Chain.{ArePartsBehind, HandsOn, IsPartBehind, IsSegment}
-use Rattle.flow_archive.specs.Answers.{AreTaken, IsFirstFault}
 
 -- ---- messages behind others
-
-pub templates_carried : (c : Carry) (xs : List Accepted) → (carry_from c xs).templates ≡ templates_from c.templates xs
-templates_carried c [] = refl
-templates_carried c (x ∷ xs) = templates_carried (carry_with c x) xs
-
-pub carried_then : (c : Carry) (xs ys : List Accepted) → carry_from c (xs ++ ys) ≡ carry_from (carry_from c xs) ys
-carried_then c [] ys = refl
-carried_then c (x ∷ xs) ys = carried_then (carry_with c x) xs ys
 
 pub accepted_join : (before : AllTemplates) (xs ys : List Accepted) → AreAcceptedFrom before xs
     → AreAcceptedFrom (templates_from before xs) ys → AreAcceptedFrom before (xs ++ ys)
@@ -47,27 +36,6 @@ templates_join : (before : AllTemplates) (xs ys : List Accepted)
     → templates_from before (xs ++ ys) ≡ templates_from (templates_from before xs) ys
 templates_join before [] ys = refl
 templates_join before (x ∷ xs) ys = templates_join x.after xs ys
-
-pub none_taken : (c : Carry) → AreTaken [] c c
-none_taken c = ([], refl, tt, refl)
-
-pub taken_more : (done : List (List ℕ)) (octets : List ℕ) (old mid new : Carry) → AreTaken done old mid
-    → IsTaken octets mid new → AreTaken (done ++ octets ∷ []) old new
-taken_more done octets old mid new are one =
-    let xs = are.0 in
-    let a = one.0 in
-    let here : mid.templates ≡ templates_from old.templates xs =
-    ap (λ (c : Carry). c.templates) are.3 ∙ templates_carried old xs in (
-      xs ++ a ∷ [],
-      map-append (λ (x : Accepted). x.octets) xs (a ∷ []) ∙ ap (λ (l : List (List ℕ)). l ++ a.octets ∷ []) are.1
-          ∙ ap (λ (o : List ℕ). done ++ o ∷ []) one.1,
-      accepted_join old.templates xs (a ∷ []) are.2 (
-        subst (λ (o : List ℕ). IsAccepted o (templates_from old.templates xs) a.message a.after) (sym one.1)
-            (subst (λ (t : AllTemplates). IsAccepted octets t a.message a.after) here one.2),
-        tt,
-      ),
-      one.3 ∙ ap (λ (c : Carry). carry_with c a) are.3 ∙ sym (carried_then old xs (a ∷ [])),
-    )
 
 -- ---- a segment
 
@@ -200,35 +168,3 @@ prefix_fits c h =
     sym (length-map (restated c) (λ (x : Accepted). x.octets)) ∙ ap (λ (l : List (List ℕ)). length l) back.octets
     ∙ length-map c.templates _ in
     omega (arith, whole, joined_long [] (restated c) back.accepted, count, (h.templates).count)
-
--- ---- a batch that is taken in
-
--- the messages so far, one more, and the others
-pub one_of : (messages : List (Bor (List ℕ))) (i : ℕ) (none : Bor (List ℕ)) → i < length messages
-    → slices messages ≡ slices (take i messages) ++ (get_or messages i none).now ∷ slices (drop (i + 1) messages)
-one_of messages i none lt =
-    ap slices (sym (take-append-drop (i + 1) messages))
-    ∙ map-append (λ (m : Bor (List ℕ)). m.now) (take (i + 1) messages) (drop (i + 1) messages)
-    ∙ ap (λ (l : List (List ℕ)). l ++ slices (drop (i + 1) messages))
-    (map_more (λ (m : Bor (List ℕ)). m.now) messages i none lt)
-    ∙ append_assoc (slices (take i messages)) ((get_or messages i none).now ∷ []) (slices (drop (i + 1) messages))
-
-pub alone_of : (messages : List (Bor (List ℕ))) (none : Bor (List ℕ)) → 1 ≤ length messages → length messages < 2
-    → slices messages ≡ (get_or messages 0 none).now ∷ []
-alone_of [] none some few = absurd (omega (arith, some))
-alone_of (m ∷ []) none some few = refl
-alone_of (m ∷ n ∷ messages) none some few = absurd (omega (arith, few))
-
-pub first_fault : (octets done rest : List (List ℕ)) (message : List ℕ) (old mid : Carry) (e : MessageError)
-    → octets ≡ done ++ message ∷ rest → AreTaken done old mid
-    → (e ≡ OutOfMemory) ⊎ IsFault message mid.templates e → (e ≡ OutOfMemory) ⊎ IsFirstFault octets old.templates e
-first_fault octets done rest message old mid e is are (inl memory) = inl memory
-first_fault octets done rest message old mid e is are (inr fault) = inr (
-  are.0,
-  message,
-  rest,
-  is ∙ ap (λ (l : List (List ℕ)). l ++ message ∷ rest) (sym are.1),
-  are.2,
-  subst (λ (t : AllTemplates). IsFault message t e)
-      (ap (λ (c : Carry). c.templates) are.3 ∙ templates_carried old are.0) fault,
-)

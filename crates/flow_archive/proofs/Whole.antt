@@ -7,8 +7,8 @@ use Rattle.flow_codec.specs.Templates.{AllTemplates}
 use Rattle.flow_codec.proofs.RestatingAll.{message_cut}
 use Rattle.flow_gate.specs.Gate.{IsWhole}
 use Rattle.flow_measure.specs.History.{Accepted, AreAcceptedFrom}
+use Rattle.flow_segment.specs.Batch.{AreTaken}
 use Rattle.flow_segment.specs.Carry.{Carry, octets_of}
-use Rattle.flow_archive.specs.Answers.{AreTaken}
 
 two_octets : (a b n : ℕ) → 256 * a + b ≡ 10 → a ≡ 0
 two_octets a b n is = omega (arith, is)

@@ -2,15 +2,13 @@
 use Rattle.std.specs.Prelude.{◌≡◌, ◌≢◌, ◌⊎◌, ℕ, ◌+◌, ◌<◌, ◌≤◌, ◌^◌, Bool, true, false, IsTrue, List, [], ◌∷◌, ◌++◌}
 use Rattle.std.specs.Prelude.{length, Option, Some, None, Result, Ok, Err}
 use Rattle.flow_codec.specs.declared.error.MessageError.{MessageError}
-use Rattle.flow_codec.specs.Fault.{IsFault}
-use Rattle.flow_codec.specs.Templates.{AllTemplates}
 use Rattle.flow_gate.specs.Gate.{octet_sum}
 use Rattle.flow_gate.specs.Scan.{texts}
 use Rattle.flow_manifest.specs.declared.following.JobKind.TheVariants.{Roll, Merge}
 use Rattle.flow_manifest.specs.declared.manifest.Manifest.{Manifest}
 use Rattle.flow_manifest.specs.Following.{active_of, messages_of}
-use Rattle.flow_measure.specs.History.{Accepted, AreAcceptedFrom, templates_from}
-use Rattle.flow_segment.specs.Carry.{Carry, carry_from, octets_of, prefix_of}
+use Rattle.flow_segment.specs.Batch.{AreTaken, IsFirstFault}
+use Rattle.flow_segment.specs.Carry.{Carry, prefix_of}
 use Rattle.flow_recover.specs.State.{Job, Part, StagedFile, State, appended, moved_on}
 use Rattle.flow_recover.specs.Chain.{IsSegment}
 use Rattle.flow_archive.specs.declared.event.Answer.{Answer}
@@ -29,20 +27,7 @@ use Rattle.flow_archive.specs.declared.refusal.ArchiveError.TheVariants.{Nothing
 use Rattle.flow_archive.specs.JobAnswers.{begun, dropped, AnswersBegin, AnswersDrop, AnswersInstall, AnswersRetire}
 use Rattle.flow_archive.specs.JobAnswers.{AnswersStep, AnswersWrite, IsInstalled, IsRetired, IsStepped, IsWritten}
 
--- ---- messages behind others
-
--- These octets are messages, each accepted behind those before it.
-abbrev pub AreTaken : List (List ℕ) → Carry → Carry → Type 0
-AreTaken octets old new =
-    (messages : List Accepted) × (octets_of messages ≡ octets) × AreAcceptedFrom old.templates messages
-    × (new ≡ carry_from old messages)
-
--- The first of these that isn't a message accepted behind those before it has this fault.
-abbrev pub IsFirstFault : List (List ℕ) → AllTemplates → MessageError → Type 0
-IsFirstFault octets before fault =
-    (front : List Accepted) × (message : List ℕ) × (rest : List (List ℕ))
-    × (octets ≡ octets_of front ++ message ∷ rest) × AreAcceptedFrom before front
-    × IsFault message (templates_from before front) fault
+-- ---- messages that are not admitted
 
 -- Why these octets aren't admitted behind a carry, with room for so many octets, and numbers for so many messages: the
 -- first of the refusals 1 to 10, 40, 25 that holds, or 11.

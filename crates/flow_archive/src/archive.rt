@@ -13,7 +13,7 @@ ghost use Rattle.flow_snapshot.specs.Changes.{counts_of};
 ghost use Rattle.flow_snapshot.specs.Shelf as shelf;
 ghost use Rattle.flow_snapshot.specs.Views.{IsViewOf};
 ghost use Rattle.flow_recover.specs.Shelved.{HasHistory, shelf_of};
-ghost use Rattle.flow_recover.specs.State.{appended, reopened};
+ghost use Rattle.flow_recover.specs.State.{appended, end_of, reopened};
 ghost use Rattle.flow_recover.specs.Standing.{StandsFor};
 ghost use Rattle.flow_archive.specs.Answers.{AnswersAppend, AnswersSeal, HasRoom, IsMovedOn, position_of};
 ghost use Rattle.flow_archive.specs.Seen.{HasActive, Seen, IsStep};
@@ -28,7 +28,7 @@ use crate::taking::{admitted, put_all};
 use bytes::Bytes;
 use flow_disk::Disk;
 use flow_gate::add_batch;
-use flow_manifest::{Entry, Kind, Slots, count_of};
+use flow_manifest::{Entry, Kind, Manifest, Slots, count_of};
 use flow_segment::Carry;
 use flow_snapshot::Directory;
 use std::alloc::{AllocError, Global};
@@ -127,6 +127,34 @@ impl<D: Disk> Archive<D> {
         ensures { result ≡ count_of Rolled self.now.state.manifest.entries }
     {
         count_of(self.slots.current.entries.as_slice(), Kind::Rolled)
+    }
+
+    /// The manifest in force, whose last entry is that of the active segment.
+    pub fn manifest(&self) -> &Manifest
+        ensures { result.now ≡ self.now.state.manifest }
+    {
+        &self.slots.current
+    }
+
+    /// How many octets of the active segment's file count: the place of its closed gate.
+    pub fn end(&self) -> u64
+        ensures { result ≡ end_of self.now.state }
+    {
+        self.end
+    }
+
+    /// How many messages the active segment has.
+    pub fn active_count(&self) -> usize
+        ensures { result ≡ length self.now.state.active.messages }
+    {
+        self.messages.len()
+    }
+
+    /// How many messages it has in all, those in sums too.
+    pub fn position(&self) -> u64
+        ensures { result ≡ position_of self.now.state }
+    {
+        self.total
     }
 
     /// The job that is under way.

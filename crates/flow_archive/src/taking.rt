@@ -5,8 +5,9 @@ ghost use Rattle.std.specs.Prelude.{vec_len, vec_capacity};
 ghost use Rattle.flow_gate.specs.Gate.{octet_sum};
 ghost use Rattle.flow_gate.specs.Steps.{slices};
 ghost use Rattle.flow_codec.specs.declared.error.MessageError.{MessageError};
+ghost use Rattle.flow_segment.specs.Batch.{AreTaken, IsFirstFault};
 ghost use Rattle.flow_segment.specs.Carry.{Carry};
-ghost use Rattle.flow_archive.specs.Answers.{AreTaken, IsFirstFault, IsNotAdmitted};
+ghost use Rattle.flow_archive.specs.Answers.{IsNotAdmitted};
 ghost use Rattle.flow_archive.specs.declared.refusal.ArchiveError.TheVariants.{Message, OutOfMemory};
 
 use crate::refusal::ArchiveError;
@@ -14,23 +15,6 @@ use bytes::Bytes;
 use flow_codec::MessageError;
 use flow_segment::Carry;
 use std::alloc::{AllocError, Global};
-
-/// Takes in the messages of a batch, one behind the other; else answers the first fault of the first one that isn't
-/// accepted behind those before it, or `OutOfMemory`. After an `Err` some of them are taken in.
-pub(crate) fn take_all(
-    carry: &mut Carry,
-    alloc: Global,
-    messages: &[&[u8]],
-) -> Result<(), MessageError>
-    ensures taken { OnOk result (AreTaken (slices messages.now) carry.old carry.new) }
-    ensures refused { IfErr result
-        (λ e. (e ≡ MessageError.OutOfMemory) ⊎ IsFirstFault (slices messages.now) carry.old.templates e) }
-{
-    for message in messages {
-        carry.take(alloc, message)?;
-    }
-    Ok(())
-}
 
 /// What is carried behind the messages of a batch; else why the first of them that is refused is refused.
 fn carried(alloc: Global, carry: &Carry, messages: &[&[u8]]) -> Result<Carry, ArchiveError>
@@ -40,13 +24,12 @@ fn carried(alloc: Global, carry: &Carry, messages: &[&[u8]]) -> Result<Carry, Ar
         × (e ≡ Message fault))) }
 {
     let mut new = carry.try_copy()?;
-    take_all(&mut new, alloc, messages)?;
+    new.take_all(alloc, messages)?;
     Ok(new)
 }
 
 /// Takes in the messages of a batch, all of them or none; else answers why the first of them that is refused is
-/// refused. One message alone is taken in where the carry stands, so it costs one walk; of more a copy of the carry is
-/// made.
+/// refused.
 fn take_in(carry: &mut Carry, alloc: Global, messages: &[&[u8]]) -> Result<(), ArchiveError>
     ensures taken { OnOk result (AreTaken (slices messages.now) carry.old carry.new) }
     ensures kept { OnErr result (carry.new ≡ carry.old) }
@@ -54,11 +37,7 @@ fn take_in(carry: &mut Carry, alloc: Global, messages: &[&[u8]]) -> Result<(), A
         ⊎ ((fault : MessageError) × IsFirstFault (slices messages.now) carry.old.templates fault
         × (e ≡ Message fault))) }
 {
-    if let [message] = messages {
-        carry.take(alloc, message)?;
-    } else {
-        *carry = carried(alloc, carry, messages)?;
-    }
+    carry.take_all(alloc, messages)?;
     Ok(())
 }
 

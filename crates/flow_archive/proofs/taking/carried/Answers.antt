@@ -4,7 +4,7 @@ use Rattle.flow_codec.specs.declared.error.MessageError.TheVariants as message
 use Rattle.flow_gate.specs.Steps.{slices}
 use Rattle.flow_segment.proofs.Carrying.{err_of}
 use Rattle.flow_segment.specs.Carry.{Carry}
-use Rattle.flow_archive.specs.Answers.{IsFirstFault}
+use Rattle.flow_segment.specs.Batch.{IsFirstFault}
 use Rattle.flow_archive.specs.declared.refusal.ArchiveError.TheVariants.{Message, OutOfMemory}
 use Rattle.flow_archive.proofs.Answering.{refused_as}
 use Rattle.flow_archive.proofs.taking.carried.Goals as goal

@@ -3,7 +3,7 @@ use Rattle.std.proofs.lemmas.List.{map_more}
 use Rattle.flow_gate.specs.Gate.{octet_sum}
 use Rattle.flow_gate.specs.Steps.{slices}
 use Rattle.flow_gate.proofs.Rows.{octet_sum-append, octet_sum-push}
-use Rattle.flow_archive.proofs.Chaining.{one_of}
+use Rattle.flow_segment.proofs.Batches.{one_of}
 use Rattle.flow_shared.proofs.locked.fit_together.Goals as goal
 
 pub loop-message-preserved : goal.loop-message-preserved
