@@ -5,3 +5,4 @@ pub mod Asked
 pub mod Causes
 mod Lines
 mod Jobs
+mod FileLines

@@ -1,24 +1,14 @@
 -- What an archive has, by what an opening finds.
 use Rattle.std.proofs.Common.{◌≡◌, ◌∙◌, ap, ℕ, List}
-use Rattle.flow_manifest.specs.declared.manifest.Kind.TheVariants.{Sealed}
 use Rattle.flow_manifest.specs.declared.manifest.Manifest.{Manifest}
-use Rattle.flow_manifest.specs.Following.{count_of}
 use Rattle.flow_recover.specs.Standing.{StandsFor}
 use Rattle.flow_recover.specs.State.{Part, State, at_rest}
 use Rattle.flow_archive.specs.Answers.{position_of}
 use Rattle.flow_commands.specs.declared.checking.Standing.{Standing}
-use Rattle.flow_commands.specs.Check.{standing_of, summed_count}
-
-abbrev told_as : Manifest → ℕ → Standing
-told_as m position = record {
-  position = position;
-  cut = m.rolled;
-  rolled = summed_count m.entries;
-  sealed = count_of Sealed m.entries;
-}
+use Rattle.flow_commands.specs.Check.{standing_by, standing_of}
 
 pub stands_as : (reads : ℕ → List ℕ) (m : Manifest) (parts : List Part) (active : Part) (t : Standing) (total : ℕ)
-    → StandsFor reads (at_rest m parts active) → total ≡ position_of (at_rest m parts active) → t ≡ told_as m total
+    → StandsFor reads (at_rest m parts active) → total ≡ position_of (at_rest m parts active) → t ≡ standing_by m total
     → (s : State) × StandsFor reads s × (t ≡ standing_of s)
 stands_as reads m parts active t total stands counted is =
-    (at_rest m parts active, stands, is ∙ ap (told_as m) counted)
+    (at_rest m parts active, stands, is ∙ ap (standing_by m) counted)

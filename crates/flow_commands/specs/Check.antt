@@ -4,6 +4,7 @@ use Rattle.std.specs.Fmt.{decimal}
 use Rattle.std.specs.Io.KnownBytes.{Appends, Keeps}
 use Rattle.flow_manifest.specs.declared.manifest.Entry.{Entry}
 use Rattle.flow_manifest.specs.declared.manifest.Kind.TheVariants.{Rolled, Sealed, Wide}
+use Rattle.flow_manifest.specs.declared.manifest.Manifest.{Manifest}
 use Rattle.flow_manifest.specs.Following.{count_of}
 use Rattle.flow_recover.specs.Opening.{IsDeviceOrMemory, StandsForNone}
 use Rattle.flow_recover.specs.Standing.{StandsFor}
@@ -20,14 +21,18 @@ use Rattle.flow_report.specs.Writing.{AppendsFront}
 abbrev pub summed_count : List Entry → ℕ
 summed_count entries = count_of Rolled entries + count_of Wide entries
 
--- how many messages an archive has, how many of them are in sums alone, its files of sums and its sealed segments
-abbrev pub standing_of : State → Standing
-standing_of s = record {
-  position = position_of s;
-  cut = s.manifest.rolled;
-  rolled = summed_count s.manifest.entries;
-  sealed = count_of Sealed s.manifest.entries;
+-- how many messages an archive of this manifest has, how many of them are in sums alone, its files of sums and its
+-- sealed segments
+abbrev pub standing_by : Manifest → ℕ → Standing
+standing_by m position = record {
+  position = position;
+  cut = m.rolled;
+  rolled = summed_count m.entries;
+  sealed = count_of Sealed m.entries;
 }
+
+abbrev pub standing_of : State → Standing
+standing_of s = standing_by s.manifest (position_of s)
 
 unfoldable pub standing_line : Standing → List ℕ
 standing_line t = codes "ok" ++ 32 ∷ decimal t.position ++ 32 ∷ decimal t.cut ++ 32 ∷ decimal t.rolled ++ 32 ∷

@@ -6,3 +6,4 @@ pub mod Asking
 pub mod Rolling
 pub mod Feeding
 pub mod Warnings
+pub mod ArchiveFiles

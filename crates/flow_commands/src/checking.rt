@@ -10,12 +10,12 @@ ghost use Rattle.flow_recover.specs.Standing.{StandsFor, StandsForEither};
 ghost use Rattle.flow_recover.specs.State.{State};
 ghost use Rattle.flow_commands.specs.declared.archive_refusal.ArchiveRefusal.TheVariants as refusal;
 ghost use Rattle.flow_commands.specs.Check.{IsChecked, IsCheckRefused, KeepsOrChecks, TellsState, standing_line};
-ghost use Rattle.flow_commands.specs.Check.{standing_of, summed_count};
+ghost use Rattle.flow_commands.specs.Check.{standing_by, standing_of, summed_count};
 
 use crate::archive_refusal::ArchiveRefusal;
 use flow_disk::Disk;
 use flow_folder::{FolderDisk, Lockable};
-use flow_manifest::{Entry, Kind, count_of};
+use flow_manifest::{Entry, Kind, Manifest, count_of};
 use flow_recover::{RecoverError, recover};
 use flow_report::{Patience, push_count, write_patiently};
 use std::alloc::{AllocError, AllocGlobal, Global};
@@ -25,7 +25,7 @@ use std::os::unix::fs::FileExt;
 
 /// What an archive is found to be.
 #[derive(Drop)]
-struct Standing {
+pub(crate) struct Standing {
     /// How many messages were taken in.
     position: u64,
     /// How many of them are in sums alone.
@@ -37,6 +37,19 @@ struct Standing {
 }
 
 impl Standing {
+    /// What a manifest says, of an archive of so many messages.
+    pub(crate) fn of(manifest: &Manifest, position: u64) -> Self
+        ensures { result ≡ standing_by manifest.now position }
+    {
+        let entries = manifest.entries.as_slice();
+        Standing {
+            position,
+            cut: manifest.rolled,
+            rolled: summed_count(entries),
+            sealed: count_of(entries, Kind::Sealed) as u64,
+        }
+    }
+
     /// The line that says it.
     #[tactic(auto, unfolding(crate::specs::Check::standing_line))]
     fn push_line(&self, text: &mut Vec<u8>) -> Result<(), AllocError>
@@ -52,7 +65,7 @@ impl Standing {
     }
 
     /// The line alone.
-    fn line(&self, alloc: Global) -> Result<Vec<u8>, AllocError>
+    pub(crate) fn line(&self, alloc: Global) -> Result<Vec<u8>, AllocError>
         ensures { IfOk result (λ text. text.items ≡ standing_line self.now) }
     {
         let mut text = Vec::new(alloc);
@@ -81,14 +94,7 @@ fn find_standing<D: Disk>(alloc: Global, disk: &mut D) -> Result<Standing, Recov
     ensures cause { HasCause RecoverError.Fault (D.faults disk.old) (D.faults disk.new) result }
 {
     let found = recover(alloc, disk)?;
-    let manifest = &found.slots.current;
-    let entries = manifest.entries.as_slice();
-    Ok(Standing {
-        position: found.total,
-        cut: manifest.rolled,
-        rolled: summed_count(entries),
-        sealed: count_of(entries, Kind::Sealed) as u64,
-    })
+    Ok(Standing::of(&found.slots.current, found.total))
 }
 
 /// Opens the archive on a disk, of which nothing is frozen, and writes `ok POSITION CUT ROLLED SEALED`: how many

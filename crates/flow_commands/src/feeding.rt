@@ -1,6 +1,7 @@
 //! The command `feed`.
 
-ghost use Rattle.std.specs.Prelude.{◌≡◌, ◌≢◌, ◌≤◌, ◌<◌, ◌⊎◌, ℕ, Err, List, Option, Some, None, false, length, IsTrue, IfOk, IfErr};
+ghost use Rattle.std.specs.Prelude.{◌≡◌, ◌≢◌, ◌≤◌, ◌<◌, ◌⊎◌, ℕ, Err, List, Option, Some, None, false, length, IsTrue};
+ghost use Rattle.std.specs.Prelude.{IfOk, IfErr};
 ghost use Rattle.std.specs.Prelude.{IfSome};
 ghost use Rattle.std.specs.Io.KnownBytes.{Keeps};
 ghost use Rattle.flow_manifest.specs.Slots.{reads_of};
@@ -356,9 +357,9 @@ fn ended(first: Option<FeedStop>, refused: Option<ArchiveError>) -> Result<u8, A
 }
 
 /// Takes the Files at these paths into an archive, each by a thread of its own where one can be made, while another one
-/// rolls all sealed segments but the newest that are kept; then writes a line for each: `fed N MESSAGES`, or `stopped N MESSAGES
-/// NUMBER NAME` where message MESSAGES + 1 isn't taken. N counts from 1. It answers the status of the first File that
-/// stopped, 0 where none did.
+/// rolls all sealed segments but the newest that are kept; then writes a line for each: `fed N MESSAGES`, or `stopped N
+/// MESSAGES NUMBER NAME` where message MESSAGES + 1 isn't taken. N counts from 1. It answers the status of the first
+/// File that stopped, 0 where none did.
 ///
 /// Errors: the first refusal of the rolling, where no File stopped; 11 before a File is read, where memory for the
 /// threads is refused; 11 and 32 where a line couldn't be made or written.
@@ -455,9 +456,10 @@ where
     }
 }
 
-/// Takes Files into the archive of a folder, at most 8, side by side, and writes a line for each. The path `-` is standard
-/// input's, where `input` is given. The archive is opened before a File is read. As many of the newest sealed
-/// segments are kept as the plan says; older ones are rolled meanwhile. It answers the exit status: that of the first File that stopped.
+/// Takes Files into the archive of a folder, at most 8, side by side, and writes a line for each. The path `-` is
+/// standard input's, where `input` is given. The archive is opened before a File is read. As many of the newest sealed
+/// segments are kept as the plan says; older ones are rolled meanwhile. It answers the exit status: that of the first
+/// File that stopped.
 pub fn feed_in<
     H: Files + AllocGlobal + Clone + Drop + Threads + Wait + Send + Sync,
     S: AsStr + Sync,

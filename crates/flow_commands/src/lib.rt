@@ -8,6 +8,7 @@
 //! rolling; `roll` and `merge` are whole jobs, and write exactly how many files they summed.
 #![tactic(auto)]
 
+mod archive_files;
 mod archive_refusal;
 mod asking;
 mod checking;
@@ -22,6 +23,7 @@ mod rolling;
 mod totalling;
 mod warning;
 
+pub use archive_files::{check_files, check_files_in};
 pub use archive_refusal::ArchiveRefusal;
 pub use checking::{check, check_in};
 pub use creating::{create, create_in};

@@ -87,7 +87,8 @@ pub fn flows<D: Disk, W: Write>(
     faults: &mut Faults<D::Sealed>,
 ) -> Result<Archive<D>, Refused<D, ArchiveRefusal>>
     requires { (n : ℕ) → (D.marks disk n).frozen ≡ false }
-    // On an honest disk the lines are those of the one view of what was read, and no damage is reported once it is open.
+    // On an honest disk the lines are those of the one view of what was read, and no damage is reported once it is
+    // open.
     ensures told { IsTrue (D.honest disk) → OnOk result
         (TellsLines (flows_lines format span.now) (reads_of (D.held disk)) (W.contents output.old)
         (W.contents output.new)) }

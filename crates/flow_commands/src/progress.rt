@@ -35,16 +35,16 @@ impl<W: Write + Drop> Shown<W> {
     }
 }
 
-/// Shows on a terminal how much of the Files is read, by whichever threads, and writes warnings there, or where they are
-/// asked for. What can't be written is left out.
+/// Shows on a terminal how much of the Files is read, by whichever threads, and writes warnings there, or where they
+/// are asked for. What can't be written is left out.
 #[derive(Drop)]
 pub struct Progress<W: Write + Drop> {
     shown: Mutex<Shown<W>>,
 }
 
 impl<W: Write + Drop> Progress<W> {
-    /// Nothing is shown yet. Where `errors` is a terminal, progress and warnings are written to it; else warnings, where
-    /// they are asked for.
+    /// Nothing is shown yet. Where `errors` is a terminal, progress and warnings are written to it; else warnings,
+    /// where they are asked for.
     pub fn new(errors: Option<W>, is_terminal: bool) -> Self {
         let shown = Shown {
             errors,

@@ -11,8 +11,8 @@ use Rattle.clap.specs.Matches.{first_value, matched_of, raw_values}
 use Rattle.clap.specs.declared.parser.matches.Found.{Found}
 use Rattle.clap.proofs.WalkLemmas.{first_value-rows, raw_values-rows}
 use Rattle.flow_words.specs.declared.request.Request.{Request}
-use Rattle.flow_words.specs.declared.request.Request.TheVariants.{Check, Dump, Inspect, Explain}
-use Rattle.flow_words.specs.Arguments.{changing, create_in, explained_in, fed_in, few_of, files_in, listed_in}
+use Rattle.flow_words.specs.declared.request.Request.TheVariants.{Dump, Inspect, Explain}
+use Rattle.flow_words.specs.Arguments.{changing, checked_in, create_in, explained_in, fed_in, few_of, files_in, listed_in}
 use Rattle.flow_words.specs.Arguments.{folder_in, format_in, measured_in, queried, totalled_in}
 use Rattle.flow_words.specs.Arguments.{requested, unfed}
 
@@ -39,13 +39,13 @@ pub other_name : (name : Text) (rows : List Row) → (name ≡ codes "measure" �
     → (name ≡ codes "inspect" → ⊥) → (name ≡ codes "create" → ⊥) → (name ≡ codes "check" → ⊥)
     → queried name rows ≡ unfed name rows
 other_name name rows no_measure no_dump no_inspect no_create no_check =
-    let checked : Option Request = if bytes_eq (codes "check") name then option_map Check (folder_in rows)
+    let checked : Option Request = if bytes_eq (codes "check") name then checked_in rows
     else queried name rows in
     let created : Option Request = if bytes_eq (codes "create") name then create_in rows else checked in
     let inspected : Option Request = if bytes_eq (codes "inspect") name then option_map Inspect (format_in rows)
     else created in
     let dumped : Option Request = if bytes_eq (codes "dump") name then Some Dump else inspected in
-    passed_over (bytes_eq (codes "check") name) (option_map Check (folder_in rows)) (queried name rows)
+    passed_over (bytes_eq (codes "check") name) (checked_in rows) (queried name rows)
     (differs (codes "check") name no_check)
     ∙ passed_over (bytes_eq (codes "create") name) (create_in rows) checked (differs (codes "create") name no_create)
     ∙ passed_over (bytes_eq (codes "inspect") name) (option_map Inspect (format_in rows)) created

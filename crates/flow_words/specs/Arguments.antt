@@ -6,7 +6,8 @@ use Rattle.std.specs.Option.{option_map_or}
 use Rattle.std.specs.Str.{bytes_eq}
 use Rattle.clap.specs.Walk.{Row, Text, all_of, first_of}
 use Rattle.flow_words.specs.declared.request.Request.{Request}
-use Rattle.flow_words.specs.declared.request.Request.TheVariants.{Measure, Dump, Inspect, Create, Check, Totals, Flows}
+use Rattle.flow_words.specs.declared.request.Request.TheVariants.{Measure, Dump, Inspect, Create, Check, CheckFiles}
+use Rattle.flow_words.specs.declared.request.Request.TheVariants.{Totals, Flows}
 use Rattle.flow_words.specs.declared.request.Request.TheVariants.{Feed, Shell, Roll, Merge, Explain}
 use Rattle.flow_words.specs.Explain.{is_refusal}
 use Rattle.flow_words.specs.declared.arguments.MomentSpan.{MomentSpan}
@@ -194,6 +195,11 @@ queried name rows =
     else if bytes_eq (codes "explain") name then option_map Explain (explained_in rows)
     else changing name rows
 
+-- what `check` asks for: with its files, or without
+abbrev pub checked_in : List Row → Option Request
+checked_in rows =
+    option_map (λ folder. if is_set (codes "files") rows then CheckFiles folder else Check folder) (folder_in rows)
+
 -- what the name of a command other than `feed`, and the values of its arguments, ask for
 abbrev pub unfed : Text → List Row → Option Request
 unfed name rows =
@@ -201,7 +207,7 @@ unfed name rows =
     else if bytes_eq (codes "dump") name then Some Dump
     else if bytes_eq (codes "inspect") name then option_map Inspect (format_in rows)
     else if bytes_eq (codes "create") name then create_in rows
-    else if bytes_eq (codes "check") name then option_map Check (folder_in rows)
+    else if bytes_eq (codes "check") name then checked_in rows
     else queried name rows
 
 -- what a command's name and the values of its arguments ask for

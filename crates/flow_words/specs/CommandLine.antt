@@ -65,7 +65,7 @@ abbrev pub inspect_shape : Shape
 inspect_shape = record (new_shape (codes "inspect")) { rules = format_rules }
 
 abbrev pub check_shape : Shape
-check_shape = record (new_shape (codes "check")) { rules = folder_rule ∷ [] }
+check_shape = record (new_shape (codes "check")) { rules = folder_rule ∷ flag (codes "files") ∷ [] }
 
 -- the span of starts that `totals` and `flows` ask about, by numbers
 abbrev pub span_shape : Text → Shape

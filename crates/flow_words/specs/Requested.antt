@@ -37,7 +37,8 @@ wrong_values command = option_map_or (λ c. wrong_values_in c.0 c.1) command Wid
 abbrev pub IsOfValues : List (List ℕ) → LineError → Type 0
 IsOfValues words e = (asked words ≡ None) × (e ≡ wrong_values (subcommand_of flowvault words))
 
--- That memory ran out may be reported whatever the words; else they don't ask, and what the parser says is one of its faults of them.
+-- That memory ran out may be reported whatever the words; else they don't ask, and what the parser says is one of its
+-- faults of them.
 abbrev pub IsLineError : List (List ℕ) → LineError → Type 0
 IsLineError words OutOfMemory = ⊤
 IsLineError words Width = IsOfValues words Width

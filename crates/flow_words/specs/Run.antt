@@ -11,7 +11,8 @@ use Rattle.flow_words.specs.declared.request.LineError.{LineError}
 use Rattle.flow_words.specs.declared.request.LineError.TheVariants.{Parser, Width, Plan, Span, Keep, Files}
 use Rattle.flow_words.specs.declared.request.LineError.TheVariants.{Formats, Number, OutOfMemory, Totals as TotalsWrong}
 use Rattle.flow_words.specs.declared.request.Request.{Request}
-use Rattle.flow_words.specs.declared.request.Request.TheVariants.{Measure, Dump, Inspect, Create, Check, Totals, Flows}
+use Rattle.flow_words.specs.declared.request.Request.TheVariants.{Measure, Dump, Inspect, Create, Check, CheckFiles}
+use Rattle.flow_words.specs.declared.request.Request.TheVariants.{Totals, Flows}
 use Rattle.flow_words.specs.declared.request.Request.TheVariants.{Feed, Shell, Roll as RollAsked, Merge as MergeAsked}
 use Rattle.flow_words.specs.declared.request.Request.TheVariants.{Explain}
 use Rattle.flow_commands.specs.declared.archive_refusal.ArchiveRefusal.{ArchiveRefusal}
@@ -20,6 +21,7 @@ use Rattle.flow_commands.specs.Check.{IsChecked, KeepsOrChecks}
 use Rattle.flow_manifest.specs.declared.following.JobKind.TheVariants.{Roll, Merge}
 use Rattle.flow_commands.specs.Feeding.{FeedsLines, KeepsOrFeeds}
 use Rattle.flow_commands.specs.Rolling.{IsJobLine}
+use Rattle.flow_commands.specs.ArchiveFiles.{AreListings}
 use Rattle.flow_commands.specs.Asking.{AreFlows, AreRows, Writes, WritesOrNot}
 use Rattle.flow_words.specs.Arguments.{has_input}
 use Rattle.flow_words.specs.CommandLine.{asked}
@@ -72,7 +74,8 @@ FeedEnds count old new before after status =
 abbrev pub ShellEnds : Option (List ℕ) → Option (List ℕ) → ℕ → Type 0
 ShellEnds before after status = Keeps before after ⊎ IsEndedBy (λ e. ⊤) before after status
 
--- Text is shown on standard output, with status 0 and nothing on standard error; or it couldn't be, and that is reported.
+-- Text is shown on standard output, with status 0 and nothing on standard error; or it couldn't be, and that is
+-- reported.
 abbrev pub IsShown : Option (List ℕ) → Option (List ℕ) → ℕ → Type 0
 IsShown before after status =
     ((status ≡ 0) × Keeps before after) ⊎ ((e : Refusal) × (status ≡ status_of e) × IsRefusalTold e before after)
@@ -98,11 +101,14 @@ Runs (Inspect format) input left old new before after status =
     ⊎ ((e : Refusal) × (status ≡ status_of e) × IsRefusalTold e before after
     × IfSome input (λ octets. IsRefusedBy octets left e)
     × InspectKeepsOrFront format input old new e)
--- None of these reads standard input, but `feed` where it is one of the Files, and `shell`; and `create` writes nothing.
+-- None of these reads standard input, but `feed` where it is one of the Files, and `shell`; and `create` writes
+-- nothing.
 Runs (Create folder plan) input left old new before after status =
     Keeps input left × Keeps old new × CreateEnds before after status
 Runs (Check folder) input left old new before after status =
     Keeps input left × CheckEnds old new before after status
+Runs (CheckFiles folder) input left old new before after status =
+    Keeps input left × AskEnds AreListings old new before after status
 Runs (Totals folder span workers format) input left old new before after status =
     Keeps input left × AskEnds (AreRows format) old new before after status
 Runs (Flows folder span format) input left old new before after status =

@@ -251,7 +251,7 @@ pub(crate) fn span_in(arguments: &ArgMatches<'_>) -> Option<MomentSpan>
 
 /// Whether an option without a value is among a command's arguments.
 #[tactic(auto, using(crate::proofs::Reading::first_value_is))]
-fn is_set(arguments: &ArgMatches<'_>, id: &str) -> bool
+pub(crate) fn is_set(arguments: &ArgMatches<'_>, id: &str) -> bool
     ensures { result ≡ is_set id.now (rows_of (found_of arguments.now)) }
 {
     match arguments.get_str(id) {

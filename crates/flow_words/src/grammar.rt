@@ -6,7 +6,8 @@ ghost use Rattle.clap.specs.Simple.{app_of, shape_of};
 ghost use Rattle.clap.specs.declared.builder.command.Command.TheViews.{out-Command as fields_of};
 ghost use Rattle.flow_words.specs.CommandLine.{check_shape, create_shape, dump_shape, explain_shape, feed_shape, flag};
 ghost use Rattle.flow_words.specs.CommandLine.{flowvault, folder_rule, keep_shape, measure_shape, needed, option};
-ghost use Rattle.flow_words.specs.CommandLine.{moments_shape, optional, program, several, sized_shape, span_shape, totals_shape, width_rule};
+ghost use Rattle.flow_words.specs.CommandLine.{moments_shape, optional, program, several, sized_shape, span_shape};
+ghost use Rattle.flow_words.specs.CommandLine.{totals_shape, width_rule};
 ghost use Rattle.flow_words.specs.CommandLine.{with_archives, with_feeding, with_queries, with_rolling, with_streams};
 ghost use Rattle.flow_words.specs.CommandLine.{inspect_shape, kept_shape, query_shape, shell_shape};
 
@@ -73,9 +74,13 @@ const CHECK_ABOUT: &str = "Opens the archive of a folder and tells how it stands
 /// What help has below the arguments of `check`.
 const CHECK_HELP: &str =
     "Writes ok POSITION CUT ROLLED SEALED: how many messages were taken in, how many\n\
-     of them stand in sums alone, how many files of sums and how many sealed segments\n\
-     there are. A damaged archive is told on standard error as 20 Damaged FILE AT,\n\
-     21 Format SLOT, 22 Entries SLOT, 23 Cut SLOT or 24 NoArchive: status 5.\n\
+     of them are in sums alone, how many files of sums and how many sealed segments\n\
+     there are. With --files a line for each file follows, the oldest messages first:\n\
+     KIND FILE OCTETS MESSAGES FIRST LAST. Its kind is wide, rolled, sealed or\n\
+     active, and FIRST and LAST are the starts of the first and the last interval in\n\
+     which a flow of it starts, or - without one. A damaged archive is reported on\n\
+     standard error as 20 Damaged FILE AT, 21 Format SLOT, 22 Entries SLOT, 23 Cut\n\
+     SLOT or 24 NoArchive: status 5.\n\
      \n\
      Example: flowvault check flows";
 
@@ -183,6 +188,9 @@ const EXPLAIN_HELP: &str =
 
 /// What `--csv` asks for.
 const CSV: &str = "As CSV: a line of names first";
+
+/// What `--files` asks for.
+const FILES: &str = "List the archive's files too, each of which is read";
 
 /// What `--warn` asks for.
 const WARN: &str = "Says on standard error where a FILE stopped";
@@ -350,7 +358,8 @@ fn check_command<'a>(alloc: Global) -> Result<Command<'a>, AllocError>
     Command::new(alloc, "check")
         .about(CHECK_ABOUT)
         .after_help(CHECK_HELP)
-        .arg(folder_argument(alloc))
+        .arg(folder_argument(alloc))?
+        .arg(flag(alloc, "files", FILES))
 }
 
 /// A command that asks an archive about a span of starts by numbers, with its help.

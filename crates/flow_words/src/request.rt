@@ -5,7 +5,8 @@ ghost use Rattle.clap.specs.Values.{kind_of};
 ghost use Rattle.clap.specs.Matches.{found_of};
 ghost use Rattle.clap.specs.Walk.{rows_of};
 ghost use Rattle.clap.specs.Simple.{subcommand_rows_of};
-ghost use Rattle.flow_words.specs.Arguments.{changing, create_in, fed_alone, fed_in, queried, requested, request_in, unfed};
+ghost use Rattle.flow_words.specs.Arguments.{changing, checked_in, create_in, fed_alone, fed_in, queried, requested};
+ghost use Rattle.flow_words.specs.Arguments.{request_in, unfed};
 ghost use Rattle.flow_words.specs.CommandLine.{asked};
 ghost use Rattle.flow_words.specs.Requested.{IsLineError, wrong_values, wrong_values_in, wrong_values_of};
 ghost use Rattle.clap.specs.declared.error.kind.ErrorKind.TheVariants as ErrorKind;
@@ -13,7 +14,7 @@ ghost use Rattle.flow_words.specs.declared.request.LineError.TheVariants as Line
 
 use crate::arguments::{
     FileNames, FolderName, MomentSpan, explained_in, feeding_in, files_in, folder_in, format_in,
-    keep_in, kept_in, plan_in, span_in, width_in, workers_in,
+    is_set, keep_in, kept_in, plan_in, span_in, width_in, workers_in,
 };
 use crate::explaining::Explanation;
 use crate::grammar::command_line;
@@ -45,6 +46,10 @@ pub enum Request<'a> {
     },
     /// The line of what the archive of a folder has.
     Check {
+        folder: FolderName<'a>,
+    },
+    /// The same line, and one for each of its files.
+    CheckFiles {
         folder: FolderName<'a>,
     },
     /// Totals lines of the archive of a folder.
@@ -104,7 +109,8 @@ pub enum LineError {
     /// How many files are left isn't digits alone, or is past 2^32 - 1.
     Keep,
     /// There are more than 8 Files, or how many segments are left isn't digits alone, or is past 2^32 - 1; or how many
-    /// messages are passed isn't digits alone, or is past 2^48 - 1, or there are several Files of which some are passed.
+    /// messages are passed isn't digits alone, or is past 2^48 - 1, or there are several Files of which some are
+    /// passed.
     Files,
     /// No refusal has the number.
     Number,
@@ -132,6 +138,17 @@ fn create_in<'a>(arguments: &ArgMatches<'a>) -> Option<Request<'a>>
     let folder = folder_in(arguments)?;
     let plan = plan_in(arguments)?;
     Some(Request::Create { folder, plan })
+}
+
+/// What `check` asks for: with its files, or without.
+fn checked_in<'a>(arguments: &ArgMatches<'a>) -> Option<Request<'a>>
+    ensures { result ≡ checked_in (rows_of (found_of arguments.now)) }
+{
+    let folder = folder_in(arguments)?;
+    if is_set(arguments, "files") {
+        return Some(Request::CheckFiles { folder });
+    }
+    Some(Request::Check { folder })
 }
 
 /// What a command that changes an archive asks for, by its name and its arguments.
@@ -192,9 +209,7 @@ fn unfed<'a>(name: &str, arguments: &ArgMatches<'a>) -> Option<Request<'a>>
             format: format_in(arguments)?,
         }),
         "create" => create_in(arguments),
-        "check" => Some(Request::Check {
-            folder: folder_in(arguments)?,
-        }),
+        "check" => checked_in(arguments),
         _ => queried(name, arguments),
     }
 }

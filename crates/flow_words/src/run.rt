@@ -1,6 +1,7 @@
 //! One run of the program: words and an input in, lines and a status out.
 
-ghost use Rattle.std.specs.Prelude.{◌≡◌, ◌≢◌, ◌≤◌, ℕ, false, OnOk, OnErr, IfOk, IfErr, IfSome, length, map, string_bytes};
+ghost use Rattle.std.specs.Prelude.{◌≡◌, ◌≢◌, ◌≤◌, ℕ, false, OnOk, OnErr, IfOk, IfErr, IfSome, length, map};
+ghost use Rattle.std.specs.Prelude.{string_bytes};
 ghost use Rattle.std.specs.Io.KnownBytes.{Appends, Keeps};
 ghost use Rattle.clap.specs.Values.{kind_of};
 ghost use Rattle.flow_report.specs.Refusals.{status_of};
@@ -8,6 +9,7 @@ ghost use Rattle.flow_report.specs.Printed.{printed, line_of};
 ghost use Rattle.flow_words.specs.Printed.{first_word, kind_text, told_lines, words_text};
 ghost use Rattle.flow_report.specs.Writing.{AppendsFront};
 ghost use Rattle.flow_commands.specs.Archives.{archive_printed, archive_status};
+ghost use Rattle.flow_commands.specs.ArchiveFiles.{AreListings};
 ghost use Rattle.flow_commands.specs.Asking.{AreFlows, AreRows, Writes, WritesOrNot};
 ghost use Rattle.flow_commands.specs.declared.archive_refusal.ArchiveRefusal.TheVariants as refusal;
 ghost use Rattle.flow_commands.specs.declared.folder_fault.FolderFault.TheVariants as fault;
@@ -25,8 +27,8 @@ use crate::request::{LineError, Request, parse};
 use clap::Error;
 use clap::error::ErrorKind;
 use flow_commands::{
-    ArchiveRefusal, FeedPlan, FolderFault, NewArchive, Progress, StartSpan, Workers, check_in,
-    create_in, feed_in, flows_in, roll_in, totals_in,
+    ArchiveRefusal, FeedPlan, FolderFault, NewArchive, Progress, StartSpan, Workers,
+    check_files_in, check_in, create_in, feed_in, flows_in, roll_in, totals_in,
 };
 use flow_folder::Lockable;
 use flow_inspect::inspect;
@@ -300,6 +302,27 @@ where
     ensures other { result ≢ 2 }
 {
     match check_in(rt, folder.path, output) {
+        Ok(()) => DONE,
+        Err(refusal) => tell_of_archive(rt.alloc(), errors, &refusal),
+    }
+}
+
+/// Runs `check --files`.
+fn run_check_files<H: Files + AllocGlobal + Clone + Drop, W: Write, E: Write>(
+    rt: &H,
+    folder: &FolderName<'_>,
+    output: &mut W,
+    errors: &mut E,
+) -> u8
+where
+    H::File: FileExt + Lockable,
+    ensures runs { AskEnds AreListings (W.contents output.old) (W.contents output.new) (E.contents errors.old)
+        (E.contents errors.new) result }
+    ensures quiet { result ≡ 0 → Keeps (E.contents errors.old) (E.contents errors.new) }
+    ensures status { result ≤ 5 }
+    ensures other { result ≢ 2 }
+{
+    match check_files_in(rt, folder.path, output) {
         Ok(()) => DONE,
         Err(refusal) => tell_of_archive(rt.alloc(), errors, &refusal),
     }
@@ -581,6 +604,7 @@ where
         Request::Inspect { format } => run_inspect(rt.alloc(), format, input, output, errors),
         Request::Create { folder, plan } => run_create(rt, &folder, &plan, errors),
         Request::Check { folder } => run_check(rt, &folder, output, errors),
+        Request::CheckFiles { folder } => run_check_files(rt, &folder, output, errors),
         Request::Totals {
             folder,
             span,
@@ -728,8 +752,8 @@ fn words_lines(alloc: Global, error: &Error) -> Result<String, AllocError>
     Ok(lines)
 }
 
-/// Tells why the parser of the command line refuses words. Where there is no memory for what it says of them, the line is
-/// written alone.
+/// Writes why the parser of the command line refuses words. Where there is no memory for what it says of them, the line
+/// is written alone.
 fn tell_words<E: Write>(alloc: Global, errors: &mut E, error: &Error)
     ensures { AreWordsTold error.now (E.contents errors.old) (E.contents errors.new) }
 {
