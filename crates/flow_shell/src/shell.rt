@@ -8,7 +8,8 @@ ghost use Rattle.flow_shared.specs.Meaning.{HasView};
 ghost use Rattle.flow_recover.specs.Shelved.{shelf_of};
 ghost use Rattle.flow_shell.specs.Answers.{query_lines, KeepsBefore};
 ghost use Rattle.flow_shell.specs.Written.{IsAnswer};
-ghost use Rattle.flow_shell.specs.Written.{began_line, done_line, refused_line, IsEndedBy, IsFinished, IsRefusalWritten, IsWritten};
+ghost use Rattle.flow_shell.specs.Written.{began_line, done_line, refused_line, IsEndedBy};
+ghost use Rattle.flow_shell.specs.Written.{IsFinished, IsRefusalWritten, IsWritten};
 
 use crate::answering::{answer_check, answer_flows, answer_message, answer_totals};
 use crate::asked::{Query, ShellRequest, request_of};
@@ -472,6 +473,58 @@ where
     )
 }
 
+/// The status of requests that were answered, or why they weren't; else why the rolling was refused.
+fn ended(
+    status: Result<u8, ArchiveRefusal>,
+    refused: Option<ArchiveError>,
+) -> Result<u8, ArchiveRefusal>
+    requires { IfOk status (λ status. (status ≤ 5) × (status ≢ 2)) }
+    ensures most { IfOk result (λ status. status ≤ 5) }
+    ensures other { IfOk result (λ status. status ≢ 2) }
+{
+    let status = status?;
+    match refused {
+        Some(error) => Err(ArchiveRefusal::from(error)),
+        None => Ok(status),
+    }
+}
+
+/// Answers requests about a shared archive, by the last of these readers of it.
+fn serve_reader<
+    H: Files + AllocGlobal + Clone + Drop + Threads + Wait + Send + Sync,
+    D: Disk + Send,
+    J: Naming + Send + Sync,
+    R: Read,
+    W: Write,
+>(
+    rt: &H,
+    shared: &SharedArchive<D, J, H>,
+    limit: u32,
+    keep: u32,
+    readers: &mut Vec<ArchiveReader<D::Sealed, J>>,
+    width: u32,
+    input: &mut R,
+    output: &mut W,
+) -> Result<u8, ArchiveRefusal>
+where
+    H::File: Send + Sync,
+    H::Dir: Send + Sync,
+    D::Sealed: Send + Sync,
+    ensures most { IfOk result (λ status. status ≤ 5) }
+    ensures other { IfOk result (λ status. status ≢ 2) }
+{
+    let Some(reader) = readers.pop() else {
+        return Err(ArchiveRefusal::OutOfMemory);
+    };
+    let mut asking = Asking {
+        reader,
+        width,
+        workers: Workers::of_processors(rt),
+    };
+    let (status, refused) = serve_beside(rt, shared, limit, keep, &mut asking, input, output);
+    ended(status, refused)
+}
+
 /// Shares an archive, and answers requests about it.
 fn serve_archive<
     H: Files + AllocGlobal + Clone + Drop + Threads + Wait + Send + Sync,
@@ -503,20 +556,9 @@ where
         return Err(ArchiveRefusal::OutOfMemory);
     };
     let mut readers = readers;
-    let Some(reader) = readers.pop() else {
-        return Err(ArchiveRefusal::OutOfMemory);
-    };
-    let mut asking = Asking {
-        reader,
-        width,
-        workers: Workers::of_processors(rt),
-    };
-    let (status, refused) = serve_beside(rt, &shared, limit, keep, &mut asking, input, output);
+    let served = serve_reader(rt, &shared, limit, keep, &mut readers, width, input, output);
     let _archive = shared.end(rt);
-    match (status?, refused) {
-        (_, Some(error)) => Err(ArchiveRefusal::from(error)),
-        (status, None) => Ok(status),
-    }
+    served
 }
 
 /// Opens the archive on a disk, of which nothing is frozen, and answers requests about it.
