@@ -4,7 +4,8 @@ use Rattle.std.proofs.Common.{refl, sym, ◌∙◌, ap, subst, arith}
 use Rattle.std.specs.Prelude.{Option, Some, None, IfSome}
 use Rattle.std.specs.List.{AllByRecursion}
 use Rattle.flow_disk.specs.Disk.{Held, Marks, IsImage, AllImages, ComesOf, InFile}
-use Rattle.flow_disk.specs.Moments.{LeavesOnly}
+use Rattle.flow_disk.specs.Calls.{LeavesOnly}
+use Rattle.flow_disk.specs.declared.disk.Disk.{Ghosts}
 use Rattle.flow_disk.proofs.Calls.{comes}
 use Rattle.flow_disk.proofs.Moments.{by}
 use Rattle.flow_manifest.specs.declared.manifest.Entry.{Entry}
@@ -82,12 +83,12 @@ module _ {D : Type 0} (honest : D → Bool) (marks : D → ℕ → Marks) (held 
   back : IsTrue (honest d1) → IsTrue (honest d)
   back h1 = subst IsTrue honest_too h1
 
-  pub removed_run : (moment : D → ℕ) (left_since : D → ℕ → (ℕ → List ℕ) → Type 0) (slots : Slots)
-      (After : State → Type 0) → AllImages (held d) (IsKnown slots s)
-      → LeavesOnly moment left_since d d1 (ComesOf (held d) (InFile n IsAnything))
-      → LeavesOnly moment left_since d d1 (StandsBeforeOrAfter s After)
-  removed_run moment left_since slots After known run =
-      by moment left_since d d1 (ComesOf (held d) (InFile n IsAnything)) (StandsBeforeOrAfter s After) run
+  pub removed_run : {S X : Type 0} (g : Ghosts D S X) (slots : Slots) (After : State → Type 0)
+      → AllImages (held d) (IsKnown slots s)
+      → LeavesOnly g d d1 (ComesOf (held d) (InFile n IsAnything))
+      → LeavesOnly g d d1 (StandsBeforeOrAfter s After)
+  removed_run g slots After known run =
+      by g d d1 (ComesOf (held d) (InFile n IsAnything)) (StandsBeforeOrAfter s After) run
       (λ image came. inl (stands_for slots s image
       (unnamed_known slots s n came.0 image unnamed (known came.0 came.1) came.2)))
 

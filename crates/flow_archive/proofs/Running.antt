@@ -1,8 +1,9 @@
 -- Runs of events.
-use Rattle.std.proofs.Common.{◌≡◌, ◌⊎◌, inl, inr, ⊎_elim, ℕ, zero, suc, Bool, true, false, IsTrue, List, []}
+use Rattle.std.proofs.Common.{◌≡◌, ◌⊎◌, inl, inr, ⊎_elim, ℕ, zero, suc, true, false, IsTrue, List, []}
 use Rattle.std.proofs.Common.{◌∷◌, ◌++◌, ◌≤◌, take, drop, Result, Ok, Err, refl, sym, ◌∙◌, ap, subst, arith}
+use Rattle.flow_disk.specs.declared.disk.Disk.{Ghosts}
 use Rattle.flow_disk.specs.Cause.{HasCause, HasRisen}
-use Rattle.flow_disk.specs.Moments.{LeavesOnly}
+use Rattle.flow_disk.specs.Calls.{LeavesOnly}
 use Rattle.flow_disk.proofs.Moments.{by, one_run, started}
 use Rattle.flow_recover.specs.State.{State, reopened}
 use Rattle.flow_recover.specs.Standing.{StandsFor}
@@ -18,17 +19,17 @@ use Rattle.flow_archive.specs.Answers.{Answers, Takes}
 use Rattle.flow_archive.specs.Runs.{AreCaused, HasRefusal, IsAfter, IsRun, IsSince, Leads, StandsForSome}
 use Rattle.flow_archive.specs.Seen.{Seen, IsStep, StandsBeforeOrAfter}
 
-module _ {D : Type 0} (honest : D → Bool) (moment : D → ℕ) (left_since : D → ℕ → (ℕ → List ℕ) → Type 0) where
+module _ {D S X : Type 0} (g : Ghosts D S X) where
   -- one event more
   pub run_more : (old : Seen D) (events : List Event) (answers : List (Result Answer ArchiveError)) (mid new : Seen D)
-      (e : Event) (a : Result Answer ArchiveError) → IsRun honest moment left_since old events answers mid
-      → Answers (honest mid.disk) mid.closed mid.state e a new.state
-      → IsStep honest moment left_since mid new (Takes true mid.state e) a
-      → IsRun honest moment left_since old (events ++ e ∷ []) (answers ++ a ∷ []) new
+      (e : Event) (a : Result Answer ArchiveError) → IsRun g old events answers mid
+      → Answers (g.honest mid.disk) mid.closed mid.state e a new.state
+      → IsStep g mid new (Takes true mid.state e) a
+      → IsRun g old (events ++ e ∷ []) (answers ++ a ∷ []) new
   run_more old [] [] mid new e a run answers step = (
     new,
-    subst (λ (s : Seen D). Answers (honest s.disk) s.closed s.state e a new.state) run answers,
-    subst (λ (s : Seen D). IsStep honest moment left_since s new (Takes true s.state e) a) run step,
+    subst (λ (s : Seen D). Answers (g.honest s.disk) s.closed s.state e a new.state) run answers,
+    subst (λ (s : Seen D). IsStep g s new (Takes true s.state e) a) run step,
     refl,
   )
   run_more old [] (b ∷ answers) mid new e a run told step = absurd run
@@ -38,7 +39,7 @@ module _ {D : Type 0} (honest : D → Bool) (moment : D → ℕ) (left_since : D
 
   -- in a closed archive nothing happens
   closed_step : (old new : Seen D) (After : State → Type 0) (a : Result Answer ArchiveError)
-      → IsStep honest moment left_since old new After a → old.closed ≡ true → new ≡ old
+      → IsStep g old new After a → old.closed ≡ true → new ≡ old
   closed_step old new After (Ok done) step closed = let was = step.done.2 in absurd (cc)
   closed_step old new After (Err Fault) step closed = let was = (step.fault refl).2 in absurd (cc)
   closed_step old new After (Err (Message fault)) step closed = step.refused (λ is. cc)
@@ -59,7 +60,7 @@ module _ {D : Type 0} (honest : D → Bool) (moment : D → ℕ) (left_since : D
   closed_step old new After (Err Closed) step closed = step.refused (λ is. cc)
 
   pub closed_run : (old : Seen D) (events : List Event) (answers : List (Result Answer ArchiveError)) (new : Seen D)
-      → IsRun honest moment left_since old events answers new → old.closed ≡ true → new ≡ old
+      → IsRun g old events answers new → old.closed ≡ true → new ≡ old
   closed_run old [] [] new run closed = run
   closed_run old [] (b ∷ answers) new run closed = absurd run
   closed_run old (f ∷ events) [] new run closed = absurd run
@@ -69,20 +70,20 @@ module _ {D : Type 0} (honest : D → Bool) (moment : D → ℕ) (left_since : D
 
   -- from a moment at which all images stand for the state
   pub record IsStanding (s : Seen D) : Type 0 where
-    pub images : (image : ℕ → List ℕ) → left_since s.disk (moment s.disk) image → StandsFor image (reopened s.state)
+    pub images : (image : ℕ → List ℕ) → g.left_since s.disk (g.moment s.disk) image → StandsFor image (reopened s.state)
 
   further : (old mid new : Seen D) (e : Event) (a : Result Answer ArchiveError) (events : List Event)
       (answers : List (Result Answer ArchiveError)) → Leads old.state e a mid.state
-      → LeavesOnly moment left_since mid.disk new.disk (StandsForSome mid.state events answers)
-      → LeavesOnly moment left_since mid.disk new.disk (StandsForSome old.state (e ∷ events) (a ∷ answers))
+      → LeavesOnly g mid.disk new.disk (StandsForSome mid.state events answers)
+      → LeavesOnly g mid.disk new.disk (StandsForSome old.state (e ∷ events) (a ∷ answers))
   further old mid new e a events answers leads run =
-      by moment left_since mid.disk new.disk (StandsForSome mid.state events answers)
+      by g mid.disk new.disk (StandsForSome mid.state events answers)
       (StandsForSome old.state (e ∷ events) (a ∷ answers)) run
       (λ image some. (suc some.0, omega (arith, some.1), some.2, (mid.state, leads, some.3), some.4))
 
   -- after the step that this answer tells of, if the archive is still open
   open_step : (old mid : Seen D) (e : Event) (a : Result Answer ArchiveError)
-      → IsStep honest moment left_since old mid (Takes true old.state e) a → IsTrue (honest old.disk)
+      → IsStep g old mid (Takes true old.state e) a → IsTrue (g.honest old.disk)
       → old.closed ≡ false → (mid.closed ≡ true) ⊎ ((mid.closed ≡ false) × Leads old.state e a mid.state)
   open_step old mid e (Ok done) step h still = inr (step.done.1, step.done.0 h)
   open_step old mid e (Err Fault) step h still = inl (step.fault refl).1
@@ -138,26 +139,26 @@ module _ {D : Type 0} (honest : D → Bool) (moment : D → ℕ) (left_since : D
   -- a refusal that changed nothing
   nothing : (old mid : Seen D) (e : Event) (a : Result Answer ArchiveError) (events : List Event)
       (answers : List (Result Answer ArchiveError)) → mid ≡ old → IsStanding old
-      → LeavesOnly moment left_since old.disk mid.disk (StandsForSome old.state (e ∷ events) (a ∷ answers))
+      → LeavesOnly g old.disk mid.disk (StandsForSome old.state (e ∷ events) (a ∷ answers))
   nothing old mid e a events answers same stands =
-      subst (λ (s : Seen D). LeavesOnly moment left_since old.disk s.disk
+      subst (λ (s : Seen D). LeavesOnly g old.disk s.disk
       (StandsForSome old.state (e ∷ events) (a ∷ answers))) (sym same)
-      (started moment left_since old.disk (StandsForSome old.state (e ∷ events) (a ∷ answers))
+      (started g old.disk (StandsForSome old.state (e ∷ events) (a ∷ answers))
       (λ image left. (0, omega arith, old.state, refl, stands.images image left)))
 
   -- what a stop in the first step leaves
   first : (old mid : Seen D) (e : Event) (a : Result Answer ArchiveError) (events : List Event)
       (answers : List (Result Answer ArchiveError))
-      → IsStep honest moment left_since old mid (Takes true old.state e) a → IsTrue (honest old.disk)
+      → IsStep g old mid (Takes true old.state e) a → IsTrue (g.honest old.disk)
       → old.closed ≡ false → IsStanding old
-      → LeavesOnly moment left_since old.disk mid.disk (StandsForSome old.state (e ∷ events) (a ∷ answers))
+      → LeavesOnly g old.disk mid.disk (StandsForSome old.state (e ∷ events) (a ∷ answers))
   first old mid e (Ok done) events answers step h still stands =
-      by moment left_since old.disk mid.disk (StandsBeforeOrAfter old.state (Takes true old.state e))
+      by g old.disk mid.disk (StandsBeforeOrAfter old.state (Takes true old.state e))
       (StandsForSome old.state (e ∷ events) (Ok done ∷ answers)) (step.any_moment h still)
       (λ image either. ⊎_elim (λ before. (0, omega arith, old.state, refl, before))
       (λ done_too. (1, omega arith, done_too.0, (done_too.0, done_too.1, refl), done_too.2)) either)
   first old mid e (Err Fault) events answers step h still stands =
-      by moment left_since old.disk mid.disk (StandsBeforeOrAfter old.state (Takes true old.state e))
+      by g old.disk mid.disk (StandsBeforeOrAfter old.state (Takes true old.state e))
       (StandsForSome old.state (e ∷ events) (Err Fault ∷ answers)) (step.any_moment h still)
       (λ image either. ⊎_elim (λ before. (0, omega arith, old.state, refl, before))
       (λ done_too. (1, omega arith, done_too.0, (done_too.0, done_too.1, refl), done_too.2)) either)
@@ -196,11 +197,11 @@ module _ {D : Type 0} (honest : D → Bool) (moment : D → ℕ) (left_since : D
 
   -- each image of a moment since the first event began stands for the state after some of the events
   pub all_moments : (old : Seen D) (events : List Event) (answers : List (Result Answer ArchiveError)) (new : Seen D)
-      → IsRun honest moment left_since old events answers new → IsTrue (honest old.disk) → old.closed ≡ false
-      → IsStanding old → LeavesOnly moment left_since old.disk new.disk (StandsForSome old.state events answers)
+      → IsRun g old events answers new → IsTrue (g.honest old.disk) → old.closed ≡ false
+      → IsStanding old → LeavesOnly g old.disk new.disk (StandsForSome old.state events answers)
   all_moments old [] [] new run h still stands =
-      subst (λ (s : Seen D). LeavesOnly moment left_since old.disk s.disk (StandsForSome old.state [] [])) (sym run)
-      (started moment left_since old.disk (StandsForSome old.state [] [])
+      subst (λ (s : Seen D). LeavesOnly g old.disk s.disk (StandsForSome old.state [] [])) (sym run)
+      (started g old.disk (StandsForSome old.state [] [])
       (λ image left. (0, omega arith, old.state, refl, stands.images image left)))
   all_moments old [] (b ∷ answers) new run h still stands = absurd run
   all_moments old (e ∷ events) [] new run h still stands = absurd run
@@ -208,19 +209,19 @@ module _ {D : Type 0} (honest : D → Bool) (moment : D → ℕ) (left_since : D
       let mid = run.0 in
       let early = first old mid e a events answers run.2 h still stands in
       ⊎_elim
-      (λ closed. subst (λ (s : Seen D). LeavesOnly moment left_since old.disk s.disk
+      (λ closed. subst (λ (s : Seen D). LeavesOnly g old.disk s.disk
       (StandsForSome old.state (e ∷ events) (a ∷ answers)))
       (sym (closed_run mid events answers new run.3 closed)) early)
       (λ goes. let h1 = subst IsTrue (sym run.2.honest_too) h in
-      one_run moment left_since old.disk mid.disk new.disk (StandsForSome old.state (e ∷ events) (a ∷ answers)) early
+      one_run g old.disk mid.disk new.disk (StandsForSome old.state (e ∷ events) (a ∷ answers)) early
       (further old mid new e a events answers goes.1
       (all_moments mid events answers new run.3 h1 goes.0 (record { images = run.2.stands h1 goes.0 }))))
       (open_step old mid e a run.2 h still)
 
   split : (i : ℕ) (old : Seen D) (events : List Event) (answers : List (Result Answer ArchiveError)) (new : Seen D)
-      → IsRun honest moment left_since old events answers new
-      → (mid : Seen D) × IsRun honest moment left_since old (take i events) (take i answers) mid
-      × IsRun honest moment left_since mid (drop i events) (drop i answers) new
+      → IsRun g old events answers new
+      → (mid : Seen D) × IsRun g old (take i events) (take i answers) mid
+      × IsRun g mid (drop i events) (drop i answers) new
   split zero old events answers new run = (old, refl, run)
   split (suc i) old [] [] new run = (old, refl, run)
   split (suc i) old [] (a ∷ answers) new run = absurd run
@@ -230,11 +231,12 @@ module _ {D : Type 0} (honest : D → Bool) (moment : D → ℕ) (left_since : D
 
   -- an archive that is still open was open all along
   stood : (old : Seen D) (events : List Event) (answers : List (Result Answer ArchiveError)) (new : Seen D)
-      → IsRun honest moment left_since old events answers new → IsTrue (honest old.disk) → old.closed ≡ false
+      → IsRun g old events answers new → IsTrue (g.honest old.disk) → old.closed ≡ false
       → IsStanding old → new.closed ≡ false
-      → IsStanding new × IsAfter old.state events answers new.state × IsTrue (honest new.disk)
+      → IsStanding new × IsAfter old.state events answers new.state × IsTrue (g.honest new.disk)
   stood old [] [] new run h still stands now =
-      subst (λ (s : Seen D). IsStanding s × (s.state ≡ old.state) × IsTrue (honest s.disk)) (sym run) (stands, refl, h)
+      subst (λ (s : Seen D). IsStanding s × (s.state ≡ old.state) × IsTrue (g.honest s.disk)) (sym run)
+      (stands, refl, h)
   stood old [] (b ∷ answers) new run h still stands now = absurd run
   stood old (e ∷ events) [] new run h still stands now = absurd run
   stood old (e ∷ events) (a ∷ answers) new run h still stands now =
@@ -248,8 +250,8 @@ module _ {D : Type 0} (honest : D → Bool) (moment : D → ℕ) (left_since : D
       (open_step old mid e a run.2 h still)
 
   pub since : (i : ℕ) (old : Seen D) (events : List Event) (answers : List (Result Answer ArchiveError)) (new : Seen D)
-      → IsRun honest moment left_since old events answers new → IsTrue (honest old.disk) → old.closed ≡ false
-      → IsStanding old → IsSince honest moment left_since old new events answers i
+      → IsRun g old events answers new → IsTrue (g.honest old.disk) → old.closed ≡ false
+      → IsStanding old → IsSince g old new events answers i
   since i old events answers new run h still stands =
       let parts = split i old events answers new run in
       let there = λ (now : parts.0.closed ≡ false).

@@ -3,6 +3,7 @@ use Rattle.std.proofs.Common.{◌≡◌, inl, ℕ, ◌<◌, ◌≤◌, Bool, fal
 use Rattle.std.proofs.Common.{arith, Option, Some, None, Ok}
 use Rattle.std.specs.Prelude.{IfSome, is_some}
 use Rattle.std.specs.List.{AllByRecursion}
+use Rattle.flow_disk.specs.declared.disk.Disk.{Ghosts}
 use Rattle.flow_disk.specs.Disk.{Held, Marks, AllImages, IsDiskImage}
 use Rattle.flow_disk.proofs.Moments.{started}
 use Rattle.flow_manifest.specs.declared.manifest.Entry.{Entry}
@@ -123,18 +124,17 @@ width_some Merge m ranges = omega (arith, ranges.width_from, ranges.wide_from)
 
 -- ---- a step that doesn't call the device
 
-pub without_device : {D T : Type 0} (honest : D → Bool) (moment : D → ℕ)
-    (left_since : D → ℕ → (ℕ → List ℕ) → Type 0) (held : D → ℕ → Held) (disk : D) (before after : State)
+pub without_device : {D T S X : Type 0} (g : Ghosts D S X) (disk : D) (before after : State)
     (closed : Bool) (After : State → Type 0) (answer : T) → closed ≡ false → After after
     → reopened after ≡ reopened before
-    → (IsTrue (honest disk) → (image : ℕ → List ℕ) → left_since disk (moment disk) image
-    → IsDiskImage (held disk) image)
-    → (IsTrue (honest disk) → AllImages (held disk) (λ image. StandsFor image (reopened before)))
-    → IsStep {D = D} {T = T} honest moment left_since (record { disk = disk; state = before; closed = closed })
+    → (IsTrue (g.honest disk) → (image : ℕ → List ℕ) → g.left_since disk (g.moment disk) image
+    → IsDiskImage (g.held disk) image)
+    → (IsTrue (g.honest disk) → AllImages (g.held disk) (λ image. StandsFor image (reopened before)))
+    → IsStep {D = D} {T = T} g (record { disk = disk; state = before; closed = closed })
     (record { disk = disk; state = after; closed = closed }) After (Ok answer)
-without_device honest moment left_since held disk before after closed After answer is done same only stands = record {
+without_device g disk before after closed After answer is done same only stands = record {
   honest_too = refl;
-  any_moment = λ h _. started moment left_since disk (StandsBeforeOrAfter before After)
+  any_moment = λ h _. started g disk (StandsBeforeOrAfter before After)
       (λ image left. inl (stands h image (only h image left)));
   done = ((λ _. done), is, is);
   fault = λ never. absurd (cc);

@@ -18,12 +18,8 @@ use Rattle.flow_archive.specs.declared.event.Event.{Event}
 use Rattle.flow_archive.specs.declared.event.Event.TheVariants.{Append, AppendBatch, Seal, RollBegin, MergeBegin}
 use Rattle.flow_archive.specs.declared.event.Event.TheVariants.{RollStep, RollWrite, RollInstall, RollDrop, Retire}
 use Rattle.flow_archive.specs.declared.refusal.ArchiveError.{ArchiveError}
-use Rattle.flow_archive.specs.declared.refusal.ArchiveError.TheVariants.{Message, OutOfMemory, NumbersSpent, NotEmpty}
-use Rattle.flow_archive.specs.declared.refusal.ArchiveError.TheVariants.{Fault, NoRoom, ManifestFull, NothingToSeal}
-use Rattle.flow_archive.specs.declared.refusal.ArchiveError.TheVariants.{Closed}
-use Rattle.flow_archive.specs.declared.refusal.ArchiveError.TheVariants.{Damaged, SourceFault, RollBusy, NoRoll}
-use Rattle.flow_archive.specs.declared.refusal.ArchiveError.TheVariants.{RollCount, RollNotDone, Pinned}
-use Rattle.flow_archive.specs.declared.refusal.ArchiveError.TheVariants.{NothingToRetire}
+use Rattle.flow_archive.specs.declared.refusal.ArchiveError.TheVariants.{Message, OutOfMemory, NumbersSpent, Fault}
+use Rattle.flow_archive.specs.declared.refusal.ArchiveError.TheVariants.{NoRoom, ManifestFull, NothingToSeal, Closed}
 use Rattle.flow_archive.specs.JobAnswers.{begun, dropped, AnswersBegin, AnswersDrop, AnswersInstall, AnswersRetire}
 use Rattle.flow_archive.specs.JobAnswers.{AnswersStep, AnswersWrite, IsInstalled, IsRetired, IsStepped, IsWritten}
 
@@ -38,19 +34,7 @@ IsNotAdmitted octets carry room positions NoRoom =
 IsNotAdmitted octets carry room positions NumbersSpent =
     ((new : Carry) × AreTaken octets carry new) × (octet_sum octets ≤ room) × (positions < length octets)
 IsNotAdmitted octets carry room positions OutOfMemory = Unit {0}
-IsNotAdmitted octets carry room positions Fault = ⊥
-IsNotAdmitted octets carry room positions NotEmpty = ⊥
-IsNotAdmitted octets carry room positions (Damaged file at) = ⊥
-IsNotAdmitted octets carry room positions SourceFault = ⊥
-IsNotAdmitted octets carry room positions RollBusy = ⊥
-IsNotAdmitted octets carry room positions NoRoll = ⊥
-IsNotAdmitted octets carry room positions RollCount = ⊥
-IsNotAdmitted octets carry room positions RollNotDone = ⊥
-IsNotAdmitted octets carry room positions Pinned = ⊥
-IsNotAdmitted octets carry room positions NothingToRetire = ⊥
-IsNotAdmitted octets carry room positions ManifestFull = ⊥
-IsNotAdmitted octets carry room positions NothingToSeal = ⊥
-IsNotAdmitted octets carry room positions Closed = ⊥
+IsNotAdmitted octets carry room positions e = ⊥
 
 -- ---- numbers
 
@@ -110,17 +94,7 @@ AnswersAppend closed s octets (Err NumbersSpent) after =
     × (after ≡ s)
 AnswersAppend closed s octets (Err OutOfMemory) after = (closed ≡ false) × (after ≡ s)
 AnswersAppend closed s octets (Err Fault) after = (closed ≡ false) × MayAppend s octets × (after ≡ s)
-AnswersAppend closed s octets (Err NotEmpty) after = ⊥
-AnswersAppend closed s octets (Err (Damaged file at)) after = ⊥
-AnswersAppend closed s octets (Err SourceFault) after = ⊥
-AnswersAppend closed s octets (Err RollBusy) after = ⊥
-AnswersAppend closed s octets (Err NoRoll) after = ⊥
-AnswersAppend closed s octets (Err RollCount) after = ⊥
-AnswersAppend closed s octets (Err RollNotDone) after = ⊥
-AnswersAppend closed s octets (Err Pinned) after = ⊥
-AnswersAppend closed s octets (Err NothingToRetire) after = ⊥
-AnswersAppend closed s octets (Err ManifestFull) after = ⊥
-AnswersAppend closed s octets (Err NothingToSeal) after = ⊥
+AnswersAppend closed s octets other after = ⊥
 
 -- ---- a seal
 
@@ -146,19 +120,7 @@ IsNotFollowed m count file kept ManifestFull = (1 ≤ count) × (4096 ≤ length
 IsNotFollowed m count file kept NumbersSpent =
     (1 ≤ count) × (length m.entries < 4096) × ((2 ^ 64 ≤ file + 1) ⊎ (2 ^ 64 ≤ m.generation + 1 + kept))
 IsNotFollowed m count file kept OutOfMemory = Unit {0}
-IsNotFollowed m count file kept (Message fault) = ⊥
-IsNotFollowed m count file kept NotEmpty = ⊥
-IsNotFollowed m count file kept (Damaged n at) = ⊥
-IsNotFollowed m count file kept SourceFault = ⊥
-IsNotFollowed m count file kept RollBusy = ⊥
-IsNotFollowed m count file kept NoRoll = ⊥
-IsNotFollowed m count file kept RollCount = ⊥
-IsNotFollowed m count file kept RollNotDone = ⊥
-IsNotFollowed m count file kept Pinned = ⊥
-IsNotFollowed m count file kept NothingToRetire = ⊥
-IsNotFollowed m count file kept Fault = ⊥
-IsNotFollowed m count file kept NoRoom = ⊥
-IsNotFollowed m count file kept Closed = ⊥
+IsNotFollowed m count file kept e = ⊥
 
 -- nothing speaks against a seal
 pub record MaySeal (s : State) : Type 0 where
@@ -180,17 +142,7 @@ AnswersSeal honest closed s (Err NumbersSpent) after =
     (closed ≡ false) × (s.active.messages ≢ []) × (length s.manifest.entries < 4096) × (HasNumbers s → ⊥) × (after ≡ s)
 AnswersSeal honest closed s (Err OutOfMemory) after = (closed ≡ false) × (after ≡ s)
 AnswersSeal honest closed s (Err Fault) after = (closed ≡ false) × MaySeal s × (after ≡ s)
-AnswersSeal honest closed s (Err (Message fault)) after = ⊥
-AnswersSeal honest closed s (Err NoRoom) after = ⊥
-AnswersSeal honest closed s (Err NotEmpty) after = ⊥
-AnswersSeal honest closed s (Err (Damaged file at)) after = ⊥
-AnswersSeal honest closed s (Err SourceFault) after = ⊥
-AnswersSeal honest closed s (Err RollBusy) after = ⊥
-AnswersSeal honest closed s (Err NoRoll) after = ⊥
-AnswersSeal honest closed s (Err RollCount) after = ⊥
-AnswersSeal honest closed s (Err RollNotDone) after = ⊥
-AnswersSeal honest closed s (Err Pinned) after = ⊥
-AnswersSeal honest closed s (Err NothingToRetire) after = ⊥
+AnswersSeal honest closed s other after = ⊥
 
 -- ---- events
 

@@ -1,17 +1,13 @@
 -- How an archive begins: it is made on a disk without files, or opened.
-use Rattle.std.specs.Prelude.{◌≡◌, ℕ, ◌*◌, ◌/◌, Bool, true, IsTrue, List, Result, Ok, Err}
-use Rattle.flow_disk.specs.Disk.{Held, Marks, IsDiskImage, Stays}
-use Rattle.flow_disk.specs.Moments.{LeavesOnly}
+use Rattle.std.specs.Prelude.{◌≡◌, ℕ, ◌*◌, ◌/◌, true, IsTrue, List, Result, Ok, Err}
+use Rattle.flow_disk.specs.declared.disk.Disk.{Ghosts}
+use Rattle.flow_disk.specs.Disk.{Marks, IsDiskImage, Stays}
+use Rattle.flow_disk.specs.Calls.{LeavesOnly}
 use Rattle.flow_manifest.specs.declared.slots.Slot.TheVariants.{First}
 use Rattle.flow_manifest.specs.declared.slots.Slots.{Slots}
 use Rattle.flow_recover.specs.State.{first_manifest}
 use Rattle.flow_archive.specs.declared.refusal.ArchiveError.{ArchiveError}
-use Rattle.flow_archive.specs.declared.refusal.ArchiveError.TheVariants.{Message, OutOfMemory, NumbersSpent, NotEmpty}
-use Rattle.flow_archive.specs.declared.refusal.ArchiveError.TheVariants.{Fault, NoRoom, ManifestFull, NothingToSeal}
-use Rattle.flow_archive.specs.declared.refusal.ArchiveError.TheVariants.{Closed}
-use Rattle.flow_archive.specs.declared.refusal.ArchiveError.TheVariants.{Damaged, SourceFault, RollBusy, NoRoll}
-use Rattle.flow_archive.specs.declared.refusal.ArchiveError.TheVariants.{RollCount, RollNotDone, Pinned}
-use Rattle.flow_archive.specs.declared.refusal.ArchiveError.TheVariants.{NothingToRetire}
+use Rattle.flow_archive.specs.declared.refusal.ArchiveError.TheVariants.{OutOfMemory, NotEmpty, Fault}
 use Rattle.flow_archive.specs.declared.refusal.Refused.{Refused}
 use Rattle.flow_archive.specs.Seen.{Seen}
 
@@ -43,33 +39,15 @@ abbrev pub HasFiles : (ℕ → Marks) → Type 0
 HasFiles marks = (n : ℕ) × ((marks n).listed ≡ true)
 
 -- The disk is as it was, and a stop at any moment leaves what a stop could leave before.
-pub record IsUntouched {D : Type 0} (honest : D → Bool) (moment : D → ℕ)
-    (left_since : D → ℕ → (ℕ → List ℕ) → Type 0) (marks : D → ℕ → Marks) (held : D → ℕ → Held) (old new : D)
-    : Type 0 where
-  pub marks_stay : Stays (marks old) (marks new)
-  pub held_stays : IsTrue (honest old) → Stays (held old) (held new)
-  pub any_moment : IsTrue (honest old) → LeavesOnly moment left_since old new (IsDiskImage (held old))
+pub record IsUntouched {D S X : Type 0} (g : Ghosts D S X) (old new : D) : Type 0 where
+  pub marks_stay : Stays (g.marks old) (g.marks new)
+  pub held_stays : IsTrue (g.honest old) → Stays (g.held old) (g.held new)
+  pub any_moment : IsTrue (g.honest old) → LeavesOnly g old new (IsDiskImage (g.held old))
 
 -- Why no archive was made: the disk has files; or memory was refused, before the first write. Both leave the disk as it
 -- was. After a fault its files may hold anything.
-abbrev pub IsNotMade : {D : Type 0} → (D → Bool) → (D → ℕ) → (D → ℕ → (ℕ → List ℕ) → Type 0) → (D → ℕ → Marks)
-    → (D → ℕ → Held) → D → D → ArchiveError → Type 0
-IsNotMade honest moment left_since marks held old new NotEmpty =
-    (IsTrue (honest old) → HasFiles (marks old)) × IsUntouched honest moment left_since marks held old new
-IsNotMade honest moment left_since marks held old new OutOfMemory =
-    IsUntouched honest moment left_since marks held old new
-IsNotMade honest moment left_since marks held old new Fault = Unit {0}
-IsNotMade honest moment left_since marks held old new (Message fault) = ⊥
-IsNotMade honest moment left_since marks held old new NumbersSpent = ⊥
-IsNotMade honest moment left_since marks held old new NoRoom = ⊥
-IsNotMade honest moment left_since marks held old new (Damaged file at) = ⊥
-IsNotMade honest moment left_since marks held old new SourceFault = ⊥
-IsNotMade honest moment left_since marks held old new RollBusy = ⊥
-IsNotMade honest moment left_since marks held old new NoRoll = ⊥
-IsNotMade honest moment left_since marks held old new RollCount = ⊥
-IsNotMade honest moment left_since marks held old new RollNotDone = ⊥
-IsNotMade honest moment left_since marks held old new Pinned = ⊥
-IsNotMade honest moment left_since marks held old new NothingToRetire = ⊥
-IsNotMade honest moment left_since marks held old new ManifestFull = ⊥
-IsNotMade honest moment left_since marks held old new NothingToSeal = ⊥
-IsNotMade honest moment left_since marks held old new Closed = ⊥
+abbrev pub IsNotMade : {D S X : Type 0} → Ghosts D S X → D → D → ArchiveError → Type 0
+IsNotMade g old new NotEmpty = (IsTrue (g.honest old) → HasFiles (g.marks old)) × IsUntouched g old new
+IsNotMade g old new OutOfMemory = IsUntouched g old new
+IsNotMade g old new Fault = Unit {0}
+IsNotMade g old new e = ⊥

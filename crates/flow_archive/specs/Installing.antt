@@ -21,12 +21,7 @@ use Rattle.flow_recover.specs.Standing.{IsKnown}
 use Rattle.flow_archive.specs.declared.event.Answer.{Answer}
 use Rattle.flow_archive.specs.declared.event.Answer.TheVariants.{Installed, Merged}
 use Rattle.flow_archive.specs.declared.refusal.ArchiveError.{ArchiveError}
-use Rattle.flow_archive.specs.declared.refusal.ArchiveError.TheVariants.{Message, OutOfMemory, NumbersSpent, NotEmpty}
-use Rattle.flow_archive.specs.declared.refusal.ArchiveError.TheVariants.{Fault, NoRoom, ManifestFull, NothingToSeal}
-use Rattle.flow_archive.specs.declared.refusal.ArchiveError.TheVariants.{Closed}
-use Rattle.flow_archive.specs.declared.refusal.ArchiveError.TheVariants.{Damaged, SourceFault, RollBusy, NoRoll}
-use Rattle.flow_archive.specs.declared.refusal.ArchiveError.TheVariants.{RollCount, RollNotDone, Pinned}
-use Rattle.flow_archive.specs.declared.refusal.ArchiveError.TheVariants.{NothingToRetire}
+use Rattle.flow_archive.specs.declared.refusal.ArchiveError.TheVariants.{OutOfMemory, NoRoll, RollNotDone}
 use Rattle.flow_archive.specs.Owned.{Frozen, IsAlone, IsHeldAs}
 use Rattle.flow_archive.specs.UnderWay.{staged_file, Made, Rolling}
 
@@ -85,20 +80,7 @@ abbrev pub IsNotInstalled : Option Rolling → ArchiveError → Type 0
 IsNotInstalled job NoRoll = job ≡ None
 IsNotInstalled job RollNotDone = (r : Rolling) × (job ≡ Some r) × (r.staged ≡ None)
 IsNotInstalled job OutOfMemory = (r : Rolling) × (f : Made) × (job ≡ Some r) × (r.staged ≡ Some f)
-IsNotInstalled job (Message fault) = ⊥
-IsNotInstalled job NumbersSpent = ⊥
-IsNotInstalled job NotEmpty = ⊥
-IsNotInstalled job (Damaged file at) = ⊥
-IsNotInstalled job SourceFault = ⊥
-IsNotInstalled job Fault = ⊥
-IsNotInstalled job NoRoom = ⊥
-IsNotInstalled job ManifestFull = ⊥
-IsNotInstalled job NothingToSeal = ⊥
-IsNotInstalled job RollBusy = ⊥
-IsNotInstalled job RollCount = ⊥
-IsNotInstalled job Pinned = ⊥
-IsNotInstalled job NothingToRetire = ⊥
-IsNotInstalled job Closed = ⊥
+IsNotInstalled job e = ⊥
 
 -- ---- the file of a job
 

@@ -12,9 +12,7 @@ use Rattle.flow_recover.specs.Jobs.{replaced, replaced_parts, source_parts, widt
 use Rattle.flow_archive.specs.declared.event.Answer.{Answer}
 use Rattle.flow_archive.specs.declared.event.Answer.TheVariants.{Installed, Merged}
 use Rattle.flow_archive.specs.declared.refusal.ArchiveError.{ArchiveError}
-use Rattle.flow_archive.specs.declared.refusal.ArchiveError.TheVariants.{Message, OutOfMemory, NumbersSpent, NotEmpty}
-use Rattle.flow_archive.specs.declared.refusal.ArchiveError.TheVariants.{Fault, NoRoom, ManifestFull, NothingToSeal}
-use Rattle.flow_archive.specs.declared.refusal.ArchiveError.TheVariants.{Closed}
+use Rattle.flow_archive.specs.declared.refusal.ArchiveError.TheVariants.{OutOfMemory, NumbersSpent, Fault, Closed}
 use Rattle.flow_archive.specs.declared.refusal.ArchiveError.TheVariants.{Damaged, SourceFault, RollBusy, NoRoll}
 use Rattle.flow_archive.specs.declared.refusal.ArchiveError.TheVariants.{RollCount, RollNotDone, Pinned}
 use Rattle.flow_archive.specs.declared.refusal.ArchiveError.TheVariants.{NothingToRetire}
@@ -38,20 +36,7 @@ AnswersBegin closed s kind count (Err Closed) after = (closed ≡ true) × (afte
 AnswersBegin closed s kind count (Err RollBusy) after = (closed ≡ false) × (s.job ≢ None) × (after ≡ s)
 AnswersBegin closed s kind count (Err RollCount) after =
     (closed ≡ false) × (s.job ≡ None) × (HasSources s kind count → ⊥) × (after ≡ s)
-AnswersBegin closed s kind count (Err (Message fault)) after = ⊥
-AnswersBegin closed s kind count (Err OutOfMemory) after = ⊥
-AnswersBegin closed s kind count (Err NumbersSpent) after = ⊥
-AnswersBegin closed s kind count (Err NotEmpty) after = ⊥
-AnswersBegin closed s kind count (Err Fault) after = ⊥
-AnswersBegin closed s kind count (Err NoRoom) after = ⊥
-AnswersBegin closed s kind count (Err ManifestFull) after = ⊥
-AnswersBegin closed s kind count (Err NothingToSeal) after = ⊥
-AnswersBegin closed s kind count (Err (Damaged file at)) after = ⊥
-AnswersBegin closed s kind count (Err SourceFault) after = ⊥
-AnswersBegin closed s kind count (Err NoRoll) after = ⊥
-AnswersBegin closed s kind count (Err RollNotDone) after = ⊥
-AnswersBegin closed s kind count (Err Pinned) after = ⊥
-AnswersBegin closed s kind count (Err NothingToRetire) after = ⊥
+AnswersBegin closed s kind count other after = ⊥
 
 -- ---- one source more is read
 
@@ -109,18 +94,7 @@ AnswersStep honest closed s (Err SourceFault) after =
     (closed ≡ false) × HasJob s (λ job. 1 ≤ left_of job) × (after ≡ s)
 AnswersStep honest closed s (Err OutOfMemory) after =
     (closed ≡ false) × HasJob s (λ job. 1 ≤ left_of job) × (after ≡ s)
-AnswersStep honest closed s (Err (Message fault)) after = ⊥
-AnswersStep honest closed s (Err NumbersSpent) after = ⊥
-AnswersStep honest closed s (Err NotEmpty) after = ⊥
-AnswersStep honest closed s (Err Fault) after = ⊥
-AnswersStep honest closed s (Err NoRoom) after = ⊥
-AnswersStep honest closed s (Err ManifestFull) after = ⊥
-AnswersStep honest closed s (Err NothingToSeal) after = ⊥
-AnswersStep honest closed s (Err RollBusy) after = ⊥
-AnswersStep honest closed s (Err RollCount) after = ⊥
-AnswersStep honest closed s (Err RollNotDone) after = ⊥
-AnswersStep honest closed s (Err Pinned) after = ⊥
-AnswersStep honest closed s (Err NothingToRetire) after = ⊥
+AnswersStep honest closed s other after = ⊥
 
 -- ---- the file is made
 
@@ -171,17 +145,7 @@ AnswersWrite honest closed s (Err NumbersSpent) after =
     × (after ≡ s)
 AnswersWrite honest closed s (Err OutOfMemory) after = (closed ≡ false) × HasJob s (MayWrite s) × (after ≡ s)
 AnswersWrite honest closed s (Err Fault) after = (closed ≡ false) × HasJob s (MayWrite s) × (after ≡ s)
-AnswersWrite honest closed s (Err (Message fault)) after = ⊥
-AnswersWrite honest closed s (Err NotEmpty) after = ⊥
-AnswersWrite honest closed s (Err NoRoom) after = ⊥
-AnswersWrite honest closed s (Err ManifestFull) after = ⊥
-AnswersWrite honest closed s (Err NothingToSeal) after = ⊥
-AnswersWrite honest closed s (Err (Damaged file at)) after = ⊥
-AnswersWrite honest closed s (Err SourceFault) after = ⊥
-AnswersWrite honest closed s (Err RollBusy) after = ⊥
-AnswersWrite honest closed s (Err RollCount) after = ⊥
-AnswersWrite honest closed s (Err Pinned) after = ⊥
-AnswersWrite honest closed s (Err NothingToRetire) after = ⊥
+AnswersWrite honest closed s other after = ⊥
 
 -- ---- the file takes the place of its sources
 
@@ -211,18 +175,7 @@ AnswersInstall honest closed s (Err RollNotDone) after =
 AnswersInstall honest closed s (Err OutOfMemory) after =
     (closed ≡ false) × HasJob s (λ job. job.staged ≢ None) × (after ≡ s)
 AnswersInstall honest closed s (Err Fault) after = (closed ≡ false) × HasJob s (λ job. job.staged ≢ None) × (after ≡ s)
-AnswersInstall honest closed s (Err (Message fault)) after = ⊥
-AnswersInstall honest closed s (Err NumbersSpent) after = ⊥
-AnswersInstall honest closed s (Err NotEmpty) after = ⊥
-AnswersInstall honest closed s (Err NoRoom) after = ⊥
-AnswersInstall honest closed s (Err ManifestFull) after = ⊥
-AnswersInstall honest closed s (Err NothingToSeal) after = ⊥
-AnswersInstall honest closed s (Err (Damaged file at)) after = ⊥
-AnswersInstall honest closed s (Err SourceFault) after = ⊥
-AnswersInstall honest closed s (Err RollBusy) after = ⊥
-AnswersInstall honest closed s (Err RollCount) after = ⊥
-AnswersInstall honest closed s (Err Pinned) after = ⊥
-AnswersInstall honest closed s (Err NothingToRetire) after = ⊥
+AnswersInstall honest closed s other after = ⊥
 
 -- ---- the job is given up
 
@@ -242,20 +195,7 @@ AnswersDrop closed s (Err Closed) after = (closed ≡ true) × (after ≡ s)
 AnswersDrop closed s (Err NoRoll) after = (closed ≡ false) × (s.job ≡ None) × (after ≡ s)
 AnswersDrop closed s (Err Fault) after =
     (closed ≡ false) × HasJob s (λ job. job.staged ≢ None) × (after ≡ dropped s)
-AnswersDrop closed s (Err (Message fault)) after = ⊥
-AnswersDrop closed s (Err OutOfMemory) after = ⊥
-AnswersDrop closed s (Err NumbersSpent) after = ⊥
-AnswersDrop closed s (Err NotEmpty) after = ⊥
-AnswersDrop closed s (Err NoRoom) after = ⊥
-AnswersDrop closed s (Err ManifestFull) after = ⊥
-AnswersDrop closed s (Err NothingToSeal) after = ⊥
-AnswersDrop closed s (Err (Damaged file at)) after = ⊥
-AnswersDrop closed s (Err SourceFault) after = ⊥
-AnswersDrop closed s (Err RollBusy) after = ⊥
-AnswersDrop closed s (Err RollCount) after = ⊥
-AnswersDrop closed s (Err RollNotDone) after = ⊥
-AnswersDrop closed s (Err Pinned) after = ⊥
-AnswersDrop closed s (Err NothingToRetire) after = ⊥
+AnswersDrop closed s other after = ⊥
 
 -- ---- a removal
 
@@ -271,16 +211,4 @@ AnswersRetire closed s (Err Closed) after = (closed ≡ true) × (after ≡ s)
 AnswersRetire closed s (Err NothingToRetire) after = (closed ≡ false) × (s.waiting ≡ []) × (after ≡ s)
 AnswersRetire closed s (Err Pinned) after = (closed ≡ false) × (s.waiting ≢ []) × (s.shared ≡ true) × (after ≡ s)
 AnswersRetire closed s (Err Fault) after = (closed ≡ false) × ((file : ℕ) × IsRetired s file after)
-AnswersRetire closed s (Err (Message fault)) after = ⊥
-AnswersRetire closed s (Err OutOfMemory) after = ⊥
-AnswersRetire closed s (Err NumbersSpent) after = ⊥
-AnswersRetire closed s (Err NotEmpty) after = ⊥
-AnswersRetire closed s (Err NoRoom) after = ⊥
-AnswersRetire closed s (Err ManifestFull) after = ⊥
-AnswersRetire closed s (Err NothingToSeal) after = ⊥
-AnswersRetire closed s (Err (Damaged file at)) after = ⊥
-AnswersRetire closed s (Err SourceFault) after = ⊥
-AnswersRetire closed s (Err RollBusy) after = ⊥
-AnswersRetire closed s (Err NoRoll) after = ⊥
-AnswersRetire closed s (Err RollCount) after = ⊥
-AnswersRetire closed s (Err RollNotDone) after = ⊥
+AnswersRetire closed s other after = ⊥

@@ -1,7 +1,8 @@
 -- Lists of events.
-use Rattle.std.specs.Prelude.{◌≡◌, ◌⊎◌, ℕ, ◌≤◌, Bool, true, false, List, [], ◌∷◌, length, take, drop, Result, Ok, Err}
+use Rattle.std.specs.Prelude.{◌≡◌, ◌⊎◌, ℕ, ◌≤◌, true, false, List, [], ◌∷◌, length, take, drop, Result, Ok, Err}
+use Rattle.flow_disk.specs.declared.disk.Disk.{Ghosts}
 use Rattle.flow_disk.specs.Cause.{HasRisen}
-use Rattle.flow_disk.specs.Moments.{LeavesOnly}
+use Rattle.flow_disk.specs.Calls.{LeavesOnly}
 use Rattle.flow_recover.specs.State.{State, reopened}
 use Rattle.flow_recover.specs.Standing.{StandsFor}
 use Rattle.flow_archive.specs.declared.event.Answer.{Answer}
@@ -61,15 +62,15 @@ IsAfter s (event ∷ events) (answer ∷ answers) after =
     (next : State) × Leads s event answer next × IsAfter next events answers after
 
 -- these events with these answers, one step each
-abbrev pub IsRun : {D : Type 0} → (D → Bool) → (D → ℕ) → (D → ℕ → (ℕ → List ℕ) → Type 0) → Seen D → List Event
+abbrev pub IsRun : {D S X : Type 0} → Ghosts D S X → Seen D → List Event
     → List (Result Answer ArchiveError) → Seen D → Type 0
-IsRun honest moment left_since old [] [] new = new ≡ old
-IsRun honest moment left_since old [] (answer ∷ answers) new = ⊥
-IsRun honest moment left_since old (event ∷ events) [] new = ⊥
-IsRun {D} honest moment left_since old (event ∷ events) (answer ∷ answers) new =
-    (mid : Seen D) × Answers (honest old.disk) old.closed old.state event answer mid.state
-    × IsStep honest moment left_since old mid (Takes true old.state event) answer
-    × IsRun honest moment left_since mid events answers new
+IsRun g old [] [] new = new ≡ old
+IsRun g old [] (answer ∷ answers) new = ⊥
+IsRun g old (event ∷ events) [] new = ⊥
+IsRun {D} g old (event ∷ events) (answer ∷ answers) new =
+    (mid : Seen D) × Answers (g.honest old.disk) old.closed old.state event answer mid.state
+    × IsStep g old mid (Takes true old.state event) answer
+    × IsRun g mid events answers new
 
 -- the state after some front of the events
 abbrev pub StandsForSome : State → List Event → List (Result Answer ArchiveError) → (ℕ → List ℕ) → Type 0
@@ -79,14 +80,14 @@ StandsForSome s events answers image =
 
 -- The archive before event i (from 0), and what a stop leaves from then on. Where it was closed by then, nothing
 -- happens any more.
-pub record IsSince {D : Type 0} (honest : D → Bool) (moment : D → ℕ) (left_since : D → ℕ → (ℕ → List ℕ) → Type 0)
-    (old new : Seen D) (events : List Event) (answers : List (Result Answer ArchiveError)) (i : ℕ) : Type 0 where
+pub record IsSince {D S X : Type 0} (g : Ghosts D S X) (old new : Seen D) (events : List Event)
+    (answers : List (Result Answer ArchiveError)) (i : ℕ) : Type 0 where
   pub mid : Seen D
-  pub run_before : IsRun honest moment left_since old (take i events) (take i answers) mid
-  pub run_after : IsRun honest moment left_since mid (drop i events) (drop i answers) new
+  pub run_before : IsRun g old (take i events) (take i answers) mid
+  pub run_after : IsRun g mid (drop i events) (drop i answers) new
   pub closed_too : mid.closed ≡ true → new ≡ mid
   pub reached : mid.closed ≡ false → IsAfter old.state (take i events) (take i answers) mid.state
-  pub any_moment : mid.closed ≡ false → LeavesOnly moment left_since mid.disk new.disk
+  pub any_moment : mid.closed ≡ false → LeavesOnly g mid.disk new.disk
       (StandsForSome mid.state (drop i events) (drop i answers))
 
 -- ---- failures

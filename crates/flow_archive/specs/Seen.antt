@@ -2,8 +2,9 @@
 use Rattle.std.specs.Prelude.{◌≡◌, ◌≢◌, ◌⊎◌, ℕ, Bool, true, false, IsTrue, List, Result, OnOk, IfErr}
 use Rattle.std.specs.Prelude.{IsErrOf}
 use Rattle.std.specs.List.{AllByRecursion}
+use Rattle.flow_disk.specs.declared.disk.Disk.{Ghosts}
 use Rattle.flow_disk.specs.Disk.{Held, Marks}
-use Rattle.flow_disk.specs.Moments.{LeavesOnly}
+use Rattle.flow_disk.specs.Calls.{LeavesOnly}
 use Rattle.flow_manifest.specs.declared.manifest.Entry.{Entry}
 use Rattle.flow_manifest.specs.declared.manifest.Manifest.{Manifest}
 use Rattle.flow_manifest.specs.declared.slots.Slots.{Slots}
@@ -76,19 +77,19 @@ StandsBeforeOrAfter before After image =
     StandsFor image (reopened before) ⊎ ((after : State) × After after × StandsFor image (reopened after))
 
 -- One step of an archive, by an event that makes of its state what has `After`. In a closed one nothing happens.
-pub record IsStep {D T : Type 0} (honest : D → Bool) (moment : D → ℕ) (left_since : D → ℕ → (ℕ → List ℕ) → Type 0)
-    (old new : Seen D) (After : State → Type 0) (result : Result T ArchiveError) : Type 0 where
-  pub honest_too : honest new.disk ≡ honest old.disk
+pub record IsStep {D T S X : Type 0} (g : Ghosts D S X) (old new : Seen D) (After : State → Type 0)
+    (result : Result T ArchiveError) : Type 0 where
+  pub honest_too : g.honest new.disk ≡ g.honest old.disk
   -- A stop at any moment since the event began leaves the state before it or the one after it.
-  pub any_moment : IsTrue (honest old.disk) → old.closed ≡ false
-      → LeavesOnly moment left_since old.disk new.disk (StandsBeforeOrAfter old.state After)
+  pub any_moment : IsTrue (g.honest old.disk) → old.closed ≡ false
+      → LeavesOnly g old.disk new.disk (StandsBeforeOrAfter old.state After)
   -- At Ok it is the one after it.
-  pub done : OnOk result ((IsTrue (honest old.disk) → After new.state) × (new.closed ≡ false) × (old.closed ≡ false))
+  pub done : OnOk result ((IsTrue (g.honest old.disk) → After new.state) × (new.closed ≡ false) × (old.closed ≡ false))
   -- After a fault of the device the archive is closed, with the state before or the one after.
   pub fault : IsErrOf result Fault
       → ((new.state ≡ old.state) ⊎ After new.state) × (new.closed ≡ true) × (old.closed ≡ false)
   -- While it is open, each image stands for its state.
-  pub stands : IsTrue (honest new.disk) → new.closed ≡ false → (image : ℕ → List ℕ)
-      → left_since new.disk (moment new.disk) image → StandsFor image (reopened new.state)
+  pub stands : IsTrue (g.honest new.disk) → new.closed ≡ false → (image : ℕ → List ℕ)
+      → g.left_since new.disk (g.moment new.disk) image → StandsFor image (reopened new.state)
   -- Every other refusal leaves all as it was.
   pub refused : IfErr result (λ e. e ≢ Fault → new ≡ old)

@@ -2,12 +2,7 @@
 use Rattle.std.specs.Prelude.{◌≡◌, ◌⊎◌, ℕ, ◌+◌, ◌<◌, ◌≤◌, ◌^◌, List, Option, Some, None}
 use Rattle.flow_rolled.specs.Rollup.{IsRollup}
 use Rattle.flow_archive.specs.declared.refusal.ArchiveError.{ArchiveError}
-use Rattle.flow_archive.specs.declared.refusal.ArchiveError.TheVariants.{Message, OutOfMemory, NumbersSpent, NotEmpty}
-use Rattle.flow_archive.specs.declared.refusal.ArchiveError.TheVariants.{Fault, NoRoom, ManifestFull, NothingToSeal}
-use Rattle.flow_archive.specs.declared.refusal.ArchiveError.TheVariants.{Closed}
-use Rattle.flow_archive.specs.declared.refusal.ArchiveError.TheVariants.{Damaged, SourceFault, RollBusy, NoRoll}
-use Rattle.flow_archive.specs.declared.refusal.ArchiveError.TheVariants.{RollCount, RollNotDone, Pinned}
-use Rattle.flow_archive.specs.declared.refusal.ArchiveError.TheVariants.{NothingToRetire}
+use Rattle.flow_archive.specs.declared.refusal.ArchiveError.TheVariants.{OutOfMemory, NumbersSpent, NoRoll, RollNotDone}
 use Rattle.flow_archive.specs.UnderWay.{Made, Rolling}
 
 -- All sources are read, and there is a number for the file, and one for the manifest that will name it.
@@ -29,19 +24,7 @@ IsNotMade job next generation RollNotDone = (r : Rolling) × (job ≡ Some r) ×
 IsNotMade job next generation NumbersSpent =
     (r : Rolling) × (job ≡ Some r) × (r.sources ≤ r.read) × ((2 ^ 64 ≤ next + 1) ⊎ (2 ^ 64 ≤ generation + 1))
 IsNotMade job next generation OutOfMemory = (r : Rolling) × (job ≡ Some r) × MayMake next generation r
-IsNotMade job next generation (Message fault) = ⊥
-IsNotMade job next generation NotEmpty = ⊥
-IsNotMade job next generation (Damaged file at) = ⊥
-IsNotMade job next generation SourceFault = ⊥
-IsNotMade job next generation Fault = ⊥
-IsNotMade job next generation NoRoom = ⊥
-IsNotMade job next generation ManifestFull = ⊥
-IsNotMade job next generation NothingToSeal = ⊥
-IsNotMade job next generation RollBusy = ⊥
-IsNotMade job next generation RollCount = ⊥
-IsNotMade job next generation Pinned = ⊥
-IsNotMade job next generation NothingToRetire = ⊥
-IsNotMade job next generation Closed = ⊥
+IsNotMade job next generation e = ⊥
 
 -- a job with the file that it has made
 abbrev pub with_made : Made → Option Rolling → Option Rolling

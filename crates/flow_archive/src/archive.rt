@@ -199,7 +199,7 @@ impl<D: Disk> Archive<D> {
     /// two syncs, whatever templates are in force.
     pub fn append(&mut self, alloc: Global, message: &[u8]) -> Result<u64, ArchiveError>
         ensures answers { AnswersAppend self.old.closed self.old.state (message.now ∷ []) result self.new.state }
-        ensures step { IsStep D.honest D.moment D.left_since self.old self.new
+        ensures step { IsStep D.Disk self.old self.new
             (λ after. after ≡ appended self.old.state (message.now ∷ [])) result }
         ensures cause { HasCause ArchiveError.Fault (D.faults self.old.disk) (D.faults self.new.disk) result }
     {
@@ -214,7 +214,7 @@ impl<D: Disk> Archive<D> {
         requires some { 1 ≤ length messages.now }
         requires few { length messages.now ≤ 64 }
         ensures answers { AnswersAppend self.old.closed self.old.state (slices messages.now) result self.new.state }
-        ensures step { IsStep D.honest D.moment D.left_since self.old self.new
+        ensures step { IsStep D.Disk self.old self.new
             (λ after. after ≡ appended self.old.state (slices messages.now)) result }
         ensures cause { HasCause ArchiveError.Fault (D.faults self.old.disk) (D.faults self.new.disk) result }
     {
@@ -246,8 +246,7 @@ impl<D: Disk> Archive<D> {
     /// NumbersSpent; and 11 OutOfMemory, which changes nothing either. After 30 Fault the archive is closed.
     pub fn seal(&mut self, alloc: Global) -> Result<u64, ArchiveError>
         ensures answers { AnswersSeal (D.honest self.old.disk) self.old.closed self.old.state result self.new.state }
-        ensures step { IsStep D.honest D.moment D.left_since self.old self.new
-            (λ after. IsMovedOn true self.old.state after) result }
+        ensures step { IsStep D.Disk self.old self.new (λ after. IsMovedOn true self.old.state after) result }
         ensures cause { HasCause ArchiveError.Fault (D.faults self.old.disk) (D.faults self.new.disk) result }
     {
         if self.closed {

@@ -64,8 +64,7 @@ impl<D: Disk> Archive<D> {
         ensures stands { IsTrue (D.honest disk) → IfOk result (λ a. AllImages (D.held a.disk)
             (λ image. StandsFor image (empty_state width (widest width) limit))) }
         ensures was_empty { IsTrue (D.honest disk) → OnOk result (HasFiles (D.marks disk) → ⊥) }
-        ensures refused { IfErr result
-            (λ r. IsNotMade D.honest D.moment D.left_since D.marks D.held disk r.disk r.error) }
+        ensures refused { IfErr result (λ r. IsNotMade D.Disk disk r.disk r.error) }
         ensures thawed { IfErr result (λ r. (n : ℕ) → (D.marks r.disk n).frozen ≡ false) }
         ensures cause { HasCause ArchiveError.Fault (D.faults disk) (D.faults (disk_of result)) (answer_of result) }
     {
@@ -92,8 +91,7 @@ impl<D: Disk> Archive<D> {
         ensures stands { IsTrue (D.honest disk) → IfOk result (λ a. AllImages (D.held a.disk)
             (λ image. StandsFor image (empty_state width wide limit))) }
         ensures was_empty { IsTrue (D.honest disk) → OnOk result (HasFiles (D.marks disk) → ⊥) }
-        ensures refused { IfErr result
-            (λ r. IsNotMade D.honest D.moment D.left_since D.marks D.held disk r.disk r.error) }
+        ensures refused { IfErr result (λ r. IsNotMade D.Disk disk r.disk r.error) }
         ensures thawed { IfErr result (λ r. (n : ℕ) → (D.marks r.disk n).frozen ≡ false) }
         ensures cause { HasCause ArchiveError.Fault (D.faults disk) (D.faults (disk_of result)) (answer_of result) }
     {
@@ -150,7 +148,7 @@ fn begin<D: Disk>(
     ensures known { IsTrue (D.honest disk.old) → OnOk result
         (AllImages (D.held disk.new) (IsKnown (first_slots width wide limit) (empty_state width wide limit))) }
     ensures was_empty { IsTrue (D.honest disk.old) → OnOk result (HasFiles (D.marks disk.old) → ⊥) }
-    ensures refused { IfErr result (IsNotMade D.honest D.moment D.left_since D.marks D.held disk.old disk.new) }
+    ensures refused { IfErr result (IsNotMade D.Disk disk.old disk.new) }
     ensures cause { HasCause ArchiveError.Fault (D.faults disk.old) (D.faults disk.new) result }
 {
     let files = disk.files(alloc)?;

@@ -2,7 +2,7 @@
 
 ghost use Rattle.std.specs.Prelude.{◌≡◌, ℕ, true, false, IsTrue, All, IfOk, IfErr, MatchResult};
 ghost use Rattle.flow_disk.specs.Cause.{HasCause};
-ghost use Rattle.flow_disk.specs.Moments.{LeavesOnly};
+ghost use Rattle.flow_disk.specs.Calls.{LeavesOnly};
 ghost use Rattle.flow_gate.specs.Scan.{texts};
 ghost use Rattle.flow_gate.specs.Steps.{slices};
 ghost use Rattle.flow_archive.specs.Answers.{Answers, Takes};
@@ -36,8 +36,7 @@ pub fn take_event<D: Disk>(
     requires { IsEvent event.now }
     ensures answers { Answers (D.honest archive.old.disk) archive.old.closed archive.old.state event.now result
         archive.new.state }
-    ensures step { IsStep D.honest D.moment D.left_since archive.old archive.new
-        (Takes true archive.old.state event.now) result }
+    ensures step { IsStep D.Disk archive.old archive.new (Takes true archive.old.state event.now) result }
     ensures cause { HasCause ArchiveError.Fault (D.faults archive.old.disk) (D.faults archive.new.disk) result }
     ensures unread { HasCause ArchiveError.SourceFault faults.old faults.new result }
 {
@@ -95,8 +94,7 @@ pub fn run<D: Disk>(
     faults: &mut Faults<D::Sealed>,
 ) -> Result<Vec<Result<Answer, ArchiveError>>, AllocError>
     requires { All IsEvent events.now }
-    ensures run { IfOk result (λ answers. IsRun D.honest D.moment D.left_since archive.old events.now answers.items
-        archive.new) }
+    ensures run { IfOk result (λ answers. IsRun D.Disk archive.old events.now answers.items archive.new) }
     ensures kept { IfErr result (λ _. archive.new ≡ archive.old) }
 
     // Where no answer is 30 Fault no call of the device failed, and where one is one has; of reads likewise.
@@ -107,13 +105,12 @@ pub fn run<D: Disk>(
 
     // A stop at any moment leaves the archive after some front of the events.
     ensures any_moment { IsTrue (D.honest archive.old.disk) → archive.old.closed ≡ false
-        → IfOk result (λ answers. LeavesOnly D.moment D.left_since archive.old.disk archive.new.disk
+        → IfOk result (λ answers. LeavesOnly D.Disk archive.old.disk archive.new.disk
         (StandsForSome archive.old.state events.now answers.items)) }
 
     // And so from each event on.
     ensures since { IsTrue (D.honest archive.old.disk) → archive.old.closed ≡ false
-        → IfOk result (λ answers. (i : ℕ) → IsSince D.honest D.moment D.left_since archive.old archive.new events.now
-        answers.items i) }
+        → IfOk result (λ answers. (i : ℕ) → IsSince D.Disk archive.old archive.new events.now answers.items i) }
 {
     // Its contract tells what all images stand for at the start.
     let _closed = archive.is_closed();

@@ -2,7 +2,7 @@
 
 ghost use Rattle.std.specs.Prelude.{◌≡◌, ◌≢◌, ℕ, ◌<◌, ◌≤◌, true, false, IsTrue, OnOk};
 ghost use Rattle.flow_disk.specs.Disk.{AllImages};
-ghost use Rattle.flow_disk.specs.Moments.{LeavesOnly};
+ghost use Rattle.flow_disk.specs.Calls.{LeavesOnly};
 ghost use Rattle.flow_disk.specs.Cause.{FailsOnlyByFault};
 ghost use Rattle.flow_manifest.specs.declared.following.JobKind.{JobKind};
 ghost use Rattle.flow_manifest.specs.declared.slots.Slots.{Slots};
@@ -35,9 +35,10 @@ pub(crate) fn install<D: Disk>(
     ensures cause { FailsOnlyByFault (D.faults disk.old) (D.faults disk.new) result }
 
     // A stop at any moment leaves the archive before the install or the one after it.
-    ensures any_moment { IsTrue (D.honest disk.old) → (slots : Slots) (kind : JobKind) (count : ℕ) (file : StagedFile)
-        (state : State) → IsInstall (D.held disk.old) slots slot body.now kind count file state
-        → LeavesOnly D.moment D.left_since disk.old disk.new
+    ensures any_moment { IsTrue (D.honest disk.old)
+        → (slots : Slots) (kind : JobKind) (count : ℕ) (file : StagedFile) (state : State)
+        → IsInstall (D.held disk.old) slots slot body.now kind count file state
+        → LeavesOnly D.Disk disk.old disk.new
         (StandsForEither (reopened state) (reopened (replaced state kind count file))) }
     // Afterwards it is the one after it.
     ensures after { IsTrue (D.honest disk.old) → (slots : Slots) (kind : JobKind) (count : ℕ) (file : StagedFile)

@@ -32,8 +32,7 @@ impl<D: Disk> Archive<D> {
     pub fn roll_begin(&mut self, alloc: Global, count: u32) -> Result<(), ArchiveError>
         ensures answers { AnswersBegin self.old.closed self.old.state Roll count result self.new.state }
         ensures disk { self.new.disk ≡ self.old.disk }
-        ensures step { IsStep D.honest D.moment D.left_since self.old self.new
-            (λ after. after ≡ begun self.old.state Roll count) result }
+        ensures step { IsStep D.Disk self.old self.new (λ after. after ≡ begun self.old.state Roll count) result }
         ensures cause { HasCause ArchiveError.Fault (D.faults self.old.disk) (D.faults self.new.disk) result }
     {
         self.begin(alloc, JobKind::Roll, count)
@@ -43,8 +42,7 @@ impl<D: Disk> Archive<D> {
     pub fn merge_begin(&mut self, alloc: Global, count: u32) -> Result<(), ArchiveError>
         ensures answers { AnswersBegin self.old.closed self.old.state Merge count result self.new.state }
         ensures disk { self.new.disk ≡ self.old.disk }
-        ensures step { IsStep D.honest D.moment D.left_since self.old self.new
-            (λ after. after ≡ begun self.old.state Merge count) result }
+        ensures step { IsStep D.Disk self.old self.new (λ after. after ≡ begun self.old.state Merge count) result }
         ensures cause { HasCause ArchiveError.Fault (D.faults self.old.disk) (D.faults self.new.disk) result }
     {
         self.begin(alloc, JobKind::Merge, count)
@@ -62,8 +60,7 @@ impl<D: Disk> Archive<D> {
     ) -> Result<u32, ArchiveError>
         ensures answers { AnswersStep (D.honest self.old.disk) self.old.closed self.old.state result self.new.state }
         ensures disk { self.new.disk ≡ self.old.disk }
-        ensures step { IsStep D.honest D.moment D.left_since self.old self.new
-            (λ after. IsStepped self.old.state after) result }
+        ensures step { IsStep D.Disk self.old self.new (λ after. IsStepped self.old.state after) result }
         ensures unread { HasCause ArchiveError.SourceFault faults.old faults.new result }
         // On an honest disk 20 never comes where the archive has a history within the limits.
         ensures fits { IsTrue (D.honest self.old.disk) → (h : History) → HasHistory self.old.state h → IsWithinLimits h
@@ -98,8 +95,7 @@ impl<D: Disk> Archive<D> {
     pub fn roll_drop(&mut self) -> Result<(), ArchiveError>
         ensures answers { AnswersDrop self.old.closed self.old.state result self.new.state }
         ensures removed { OnOk result (IsStagedGone (D.marks self.new.disk) self.old.state) }
-        ensures step { IsStep D.honest D.moment D.left_since self.old self.new
-            (λ after. after ≡ dropped self.old.state) result }
+        ensures step { IsStep D.Disk self.old self.new (λ after. after ≡ dropped self.old.state) result }
         ensures cause { HasCause ArchiveError.Fault (D.faults self.old.disk) (D.faults self.new.disk) result }
     {
         if self.closed {
@@ -124,8 +120,7 @@ impl<D: Disk> Archive<D> {
     fn begin(&mut self, alloc: Global, kind: JobKind, count: u32) -> Result<(), ArchiveError>
         ensures answers { AnswersBegin self.old.closed self.old.state kind count result self.new.state }
         ensures disk { self.new.disk ≡ self.old.disk }
-        ensures step { IsStep D.honest D.moment D.left_since self.old self.new
-            (λ after. after ≡ begun self.old.state kind count) result }
+        ensures step { IsStep D.Disk self.old self.new (λ after. after ≡ begun self.old.state kind count) result }
         ensures cause { HasCause ArchiveError.Fault (D.faults self.old.disk) (D.faults self.new.disk) result }
     {
         if self.closed {

@@ -2,7 +2,7 @@
 
 ghost use Rattle.std.specs.Prelude.{◌≡◌, ◌≢◌, ℕ, ◌+◌, ◌<◌, ◌≤◌, true, false, IsTrue, length, OnOk, IfOk};
 ghost use Rattle.flow_disk.specs.Disk.{AllImages};
-ghost use Rattle.flow_disk.specs.Moments.{LeavesOnly};
+ghost use Rattle.flow_disk.specs.Calls.{LeavesOnly};
 ghost use Rattle.flow_disk.specs.Cause.{FailsOnlyByFault};
 ghost use Rattle.flow_manifest.specs.declared.slots.Slots.{Slots};
 ghost use Rattle.flow_manifest.specs.Following.{active_of, sealed_entry};
@@ -51,7 +51,7 @@ pub(crate) fn move_on<D: Disk>(
     // A stop at any moment leaves the archive before the seal or the one after it.
     ensures any_moment { IsTrue (D.honest disk.old) → (slots : Slots) (state : State)
         → IsMove (D.held disk.old) slots active end next slot is_open prefix.now body.now state
-        → LeavesOnly D.moment D.left_since disk.old disk.new
+        → LeavesOnly D.Disk disk.old disk.new
         (StandsForEither (reopened state) (reopened (moved_on state prefix.now))) }
     // Afterwards it is the one after it, and the sealed file holds the segment that was active.
     ensures after { IsTrue (D.honest disk.old) → (slots : Slots) (state : State)

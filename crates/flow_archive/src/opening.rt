@@ -3,7 +3,7 @@
 ghost use Rattle.std.specs.Prelude.{◌≡◌, ◌⊎◌, ℕ, Bool, List, true, false, IsTrue, IfOk, IfErr, IsErrOf, length};
 ghost use Rattle.std.specs.List.{AllByRecursion};
 ghost use Rattle.flow_disk.specs.Disk.{AllImages, IsWithin};
-ghost use Rattle.flow_disk.specs.Moments.{LeavesOnly};
+ghost use Rattle.flow_disk.specs.Calls.{LeavesOnly};
 ghost use Rattle.flow_disk.specs.Cause.{HasCause};
 ghost use Rattle.flow_gate.specs.Scan.{texts};
 ghost use Rattle.flow_manifest.specs.declared.slots.Slot.{Slot};
@@ -44,7 +44,7 @@ impl<D: Disk> Archive<D> {
         ensures told { IsTrue (D.honest disk)
             → IfErr result (λ r. IsDeviceOrMemory r.error ⊎ StandsForNone (reads_of (D.held disk))) }
         ensures any_moment { IsTrue (D.honest disk) → (s t : State) → AllImages (D.held disk) (StandsForEither s t)
-            → LeavesOnly D.moment D.left_since disk (disk_of result) (StandsForEither s t) }
+            → LeavesOnly D.Disk disk (disk_of result) (StandsForEither s t) }
         // The files that its manifest names end exactly where they are to: on every disk, and on an honest one in all
         // that a stop may leave. They are listed, and on an honest disk no other file is.
         ensures cut { IfOk result

@@ -18,7 +18,7 @@ impl<D: Disk> Archive<D> {
         ensures answers { AnswersRetire self.old.closed self.old.state result self.new.state }
         // At Ok the disk lists it no more.
         ensures removed { IfOk result (λ file. (D.marks self.new.disk file).listed ≡ false) }
-        ensures step { IsStep D.honest D.moment D.left_since self.old self.new
+        ensures step { IsStep D.Disk self.old self.new
             (λ after. (file : ℕ) × IsRetired self.old.state file after) result }
         ensures cause { HasCause ArchiveError.Fault (D.faults self.old.disk) (D.faults self.new.disk) result }
     {

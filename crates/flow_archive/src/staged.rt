@@ -26,8 +26,7 @@ impl<D: Disk> Archive<D> {
     /// either. After 30 Fault the archive is closed.
     pub fn roll_write(&mut self, alloc: Global) -> Result<(), ArchiveError>
         ensures answers { AnswersWrite (D.honest self.old.disk) self.old.closed self.old.state result self.new.state }
-        ensures step { IsStep D.honest D.moment D.left_since self.old self.new
-            (λ after. IsWritten true self.old.state after) result }
+        ensures step { IsStep D.Disk self.old self.new (λ after. IsWritten true self.old.state after) result }
         ensures cause { HasCause ArchiveError.Fault (D.faults self.old.disk) (D.faults self.new.disk) result }
     {
         if self.closed {
@@ -56,8 +55,7 @@ impl<D: Disk> Archive<D> {
     /// Fault the archive is closed.
     pub fn roll_install(&mut self, alloc: Global) -> Result<Answer, ArchiveError>
         ensures answers { AnswersInstall (D.honest self.old.disk) self.old.closed self.old.state result self.new.state }
-        ensures step { IsStep D.honest D.moment D.left_since self.old self.new
-            (λ after. IsInstalled true self.old.state after) result }
+        ensures step { IsStep D.Disk self.old self.new (λ after. IsInstalled true self.old.state after) result }
         ensures cause { HasCause ArchiveError.Fault (D.faults self.old.disk) (D.faults self.new.disk) result }
     {
         if self.closed {

@@ -1,8 +1,8 @@
 //! The file that a job makes, before a manifest names it.
 
 ghost use Rattle.std.specs.Prelude.{◌≡◌, ◌≢◌, ℕ, true, false, IsTrue, length, OnOk, IfOk};
-ghost use Rattle.flow_disk.specs.Disk.{AllImages, ComesOf, InFile};
-ghost use Rattle.flow_disk.specs.Moments.{LeavesOnly};
+ghost use Rattle.flow_disk.specs.Disk.{InFile};
+ghost use Rattle.flow_disk.specs.Calls.{StopsBy, EndsBy};
 ghost use Rattle.flow_disk.specs.Cause.{FailsOnlyByFault};
 ghost use Rattle.flow_segment.specs.Steps.{Becomes, IsAnything};
 
@@ -23,12 +23,10 @@ pub(crate) fn stage<D: Disk>(disk: &mut D, file: u64, octets: &[u8]) -> Result<D
 
     // On an honest one: the other files are as they were, and this one is these octets.
     ensures octets { IsTrue (D.honest disk.old) → IfOk result (λ part. D.Sealed.octets part ≡ octets.now) }
-    ensures after { IsTrue (D.honest disk.old)
-        → OnOk result (AllImages (D.held disk.new) (ComesOf (D.held disk.old) (InFile file (Becomes octets.now)))) }
+    ensures after { EndsBy D.Disk disk.old disk.new result (InFile file (Becomes octets.now)) }
 
     // A stop at any moment leaves the other files as they were.
-    ensures any_moment { IsTrue (D.honest disk.old) → LeavesOnly D.moment D.left_since disk.old disk.new
-        (ComesOf (D.held disk.old) (InFile file IsAnything)) }
+    ensures any_moment { StopsBy D.Disk disk.old disk.new (InFile file IsAnything) }
 {
     disk.write_at(file, 0, octets)?;
     disk.cut(file, octets.len() as u64)?;

@@ -2,6 +2,7 @@
 use Rattle.std.specs.Prelude.{◌≡◌, ◌⊎◌, ℕ, Bool, IsTrue, List, [], ◌∷◌, ◌++◌, Option, Result, Ok, Err, IsErrAnd, codes}
 use Rattle.std.specs.Fmt.{decimal}
 use Rattle.std.specs.Io.KnownBytes.{Appends, Keeps}
+use Rattle.flow_disk.specs.declared.disk.Disk.{Ghosts}
 use Rattle.flow_manifest.specs.declared.following.JobKind.{JobKind}
 use Rattle.flow_manifest.specs.declared.following.JobKind.TheVariants.{Roll, Merge}
 use Rattle.flow_disk.specs.Cause.{HasCause}
@@ -50,12 +51,11 @@ TellsJob kind (Ok count) old new (Err (Folder why)) = ⊥
 
 -- The files of an archive but the newest were summed as one job, and this was written of it. After Ok no call of the
 -- disk failed; where the answer is 30 Fault one has.
-pub record IsRolled {D : Type 0} (honest : D → Bool) (moment : D → ℕ) (left_since : D → ℕ → (ℕ → List ℕ) → Type 0)
-    (faults : D → ℕ) (kind : JobKind) (keep : ℕ) (before after : Seen D) (old new : Option (List ℕ))
-    (result : Result (Unit {0}) ArchiveRefusal) : Type 0 where
+pub record IsRolled {D S X : Type 0} (g : Ghosts D S X) (kind : JobKind) (keep : ℕ) (before after : Seen D)
+    (old new : Option (List ℕ)) (result : Result (Unit {0}) ArchiveRefusal) : Type 0 where
   pub told : Result ℕ ArchiveError
-  pub job : IsJobRun honest moment left_since before after kind (files_over kind keep before.state) told
-  pub cause : IsCaused event.Fault (faults before.disk) (faults after.disk) told
+  pub job : IsJobRun g before after kind (files_over kind keep before.state) told
+  pub cause : IsCaused event.Fault (g.faults before.disk) (g.faults after.disk) told
   pub tells : TellsJob kind told old new result
 
 -- ---- of the archive on a disk
@@ -66,29 +66,26 @@ done_of (Ok archive) = Ok tt
 done_of (Err refused) = Err refused.error
 
 -- The archive that was read was rolled or merged, and this was written of it: as it was opened, and as it was then.
-pub record IsRolledOn {D : Type 0} (honest : D → Bool) (moment : D → ℕ)
-    (left_since : D → ℕ → (ℕ → List ℕ) → Type 0) (faults : D → ℕ) (held : D → ℕ → Held) (kind : JobKind) (keep : ℕ)
-    (disk : D) (old new : Option (List ℕ)) (result : Result (Seen D) (Refused D ArchiveRefusal)) : Type 0 where
+pub record IsRolledOn {D S X : Type 0} (g : Ghosts D S X) (kind : JobKind) (keep : ℕ) (disk : D)
+    (old new : Option (List ℕ)) (result : Result (Seen D) (Refused D ArchiveRefusal)) : Type 0 where
   pub opened : Seen D
-  pub read : IsTrue (honest disk) → StandsFor (reads_of (held disk)) opened.state
-  pub still : faults opened.disk ≡ faults disk
+  pub read : IsTrue (g.honest disk) → StandsFor (reads_of (g.held disk)) opened.state
+  pub still : g.faults opened.disk ≡ g.faults disk
   pub rolled : Seen D
   pub disk_is : rolled.disk ≡ disk_of result
-  pub done : IsRolled honest moment left_since faults kind keep opened rolled old new (done_of result)
+  pub done : IsRolled g kind keep opened rolled old new (done_of result)
 
 -- No archive was opened, for this reason, and nothing was written.
-pub record IsNotRolled {D : Type 0} (honest : D → Bool) (faults : D → ℕ) (held : D → ℕ → Held) (disk : D)
-    (old new : Option (List ℕ)) (refused : Refused D ArchiveRefusal) : Type 0 where
+pub record IsNotRolled {D S X : Type 0} (g : Ghosts D S X) (disk : D) (old new : Option (List ℕ))
+    (refused : Refused D ArchiveRefusal) : Type 0 where
   pub reason : RecoverError
   pub error_is : refused.error ≡ of_opening reason
-  pub told : IsTrue (honest disk) → IsUnopened (reads_of (held disk)) reason
-  pub cause : HasCause {T = Unit {0}} opening.Fault (faults disk) (faults refused.disk) (Err reason)
+  pub told : IsTrue (g.honest disk) → IsUnopened (reads_of (g.held disk)) reason
+  pub cause : HasCause {T = Unit {0}} opening.Fault (g.faults disk) (g.faults refused.disk) (Err reason)
   pub kept : Keeps old new
 
 -- either of both
-abbrev pub RollsOn : {D : Type 0} → (D → Bool) → (D → ℕ) → (D → ℕ → (ℕ → List ℕ) → Type 0) → (D → ℕ)
-    → (D → ℕ → Held) → JobKind → ℕ → D → Option (List ℕ) → Option (List ℕ)
+abbrev pub RollsOn : {D S X : Type 0} → Ghosts D S X → JobKind → ℕ → D → Option (List ℕ) → Option (List ℕ)
     → Result (Seen D) (Refused D ArchiveRefusal) → Type 0
-RollsOn honest moment left_since faults held kind keep disk old new result =
-    IsRolledOn honest moment left_since faults held kind keep disk old new result
-    ⊎ IsErrAnd result (IsNotRolled honest faults held disk old new)
+RollsOn g kind keep disk old new result =
+    IsRolledOn g kind keep disk old new result ⊎ IsErrAnd result (IsNotRolled g disk old new)

@@ -3,7 +3,7 @@
 ghost use Rattle.std.specs.Prelude.{◌≡◌, ◌⊎◌, ◌++◌, ℕ, false, IsTrue, OnOk, IfOk, IfErr};
 ghost use Rattle.flow_disk.specs.Cause.{HasCause};
 ghost use Rattle.flow_disk.specs.Disk.{AllImages};
-ghost use Rattle.flow_disk.specs.Moments.{LeavesOnly};
+ghost use Rattle.flow_disk.specs.Calls.{LeavesOnly};
 ghost use Rattle.flow_manifest.specs.Slots.{reads_of};
 ghost use Rattle.flow_recover.specs.Opening.{IsDeviceOrMemory, StandsForNone};
 ghost use Rattle.flow_recover.specs.Standing.{StandsFor, StandsForEither};
@@ -90,7 +90,7 @@ fn find_standing<D: Disk>(alloc: Global, disk: &mut D) -> Result<Standing, Recov
     ensures told { IsTrue (D.honest disk.old)
         → IfErr result (λ e. IsDeviceOrMemory e ⊎ StandsForNone (reads_of (D.held disk.old))) }
     ensures any_moment { IsTrue (D.honest disk.old) → (a b : State) → AllImages (D.held disk.old) (StandsForEither a b)
-        → LeavesOnly D.moment D.left_since disk.old disk.new (StandsForEither a b) }
+        → LeavesOnly D.Disk disk.old disk.new (StandsForEither a b) }
     ensures cause { HasCause RecoverError.Fault (D.faults disk.old) (D.faults disk.new) result }
 {
     let found = recover(alloc, disk)?;
@@ -111,7 +111,7 @@ pub fn check<D: Disk, W: Write>(
     ensures refused { IsTrue (D.honest disk.old) → IfErr result
         (IsCheckRefused (reads_of (D.held disk.old)) (W.contents output.old) (W.contents output.new)) }
     ensures any_moment { IsTrue (D.honest disk.old) → (a b : State) → AllImages (D.held disk.old) (StandsForEither a b)
-        → LeavesOnly D.moment D.left_since disk.old disk.new (StandsForEither a b) }
+        → LeavesOnly D.Disk disk.old disk.new (StandsForEither a b) }
     // And whatever the disk:
     ensures written { OnOk result (IsChecked (W.contents output.old) (W.contents output.new)) }
     ensures kept { IfErr result (λ e. KeepsOrChecks e (W.contents output.old) (W.contents output.new)) }

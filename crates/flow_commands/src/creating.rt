@@ -29,8 +29,7 @@ pub fn create<D: Disk>(
     ensures stands { IsTrue (D.honest disk) → IfOk result (λ a. AllImages (D.held a.disk)
         (λ image. StandsFor image (first_state plan.now))) }
     ensures was_empty { IsTrue (D.honest disk) → OnOk result (HasFiles (D.marks disk) → ⊥) }
-    ensures refused { IfErr result
-        (λ r. IsNotMade D.honest D.moment D.left_since D.marks D.held disk r.disk r.error) }
+    ensures refused { IfErr result (λ r. IsNotMade D.Disk disk r.disk r.error) }
     ensures cause { HasCause ArchiveError.Fault (D.faults disk) (D.faults (disk_of result)) (answer_of result) }
 {
     match plan.wide() {

@@ -64,8 +64,7 @@ pub fn roll<D: Disk, W: Write>(
     keep: u32,
     output: &mut W,
 ) -> Result<(), ArchiveRefusal>
-    ensures { IsRolled D.honest D.moment D.left_since D.faults kind keep archive.old archive.new
-        (W.contents output.old) (W.contents output.new) result }
+    ensures { IsRolled D.Disk kind keep archive.old archive.new (W.contents output.old) (W.contents output.new) result }
 {
     match run_job(archive, alloc, kind, keep, &mut Faults::new()) {
         Ok(count) => tell_job(alloc, kind, count, output),
@@ -83,8 +82,7 @@ pub fn roll_on<D: Disk, W: Write>(
     output: &mut W,
 ) -> Result<Archive<D>, Refused<D, ArchiveRefusal>>
     requires { (n : ℕ) → (D.marks disk n).frozen ≡ false }
-    ensures told { RollsOn D.honest D.moment D.left_since D.faults D.held kind keep disk (W.contents output.old)
-        (W.contents output.new) result }
+    ensures told { RollsOn D.Disk kind keep disk (W.contents output.old) (W.contents output.new) result }
     ensures written { OnOk result (Writes (IsJobLine kind) (W.contents output.old) (W.contents output.new)) }
     ensures kept { IfErr result
         (λ r. WritesOrNot (IsJobLine kind) r.error (W.contents output.old) (W.contents output.new)) }

@@ -1,7 +1,9 @@
 -- A run of device calls on one file.
 use Rattle.std.proofs.Common.{◌≡◌, ◌≢◌, ℕ, List, refl, sym, ◌∙◌, subst}
 use Rattle.flow_disk.specs.Disk.{Held, IsImage, IsDiskImage, AllImages, ComesOf, InFile, changed}
-use Rattle.flow_disk.specs.Moments.{Elapses, LeavesOnly}
+use Rattle.flow_disk.specs.declared.disk.Disk.{Ghosts}
+use Rattle.flow_disk.specs.Calls.{LeavesOnly}
+use Rattle.flow_disk.specs.Moments.{Elapses}
 use Rattle.flow_disk.proofs.Images.{with_image, image_here, image_there, with_image_is, changed_here, changed_there}
 use Rattle.flow_disk.proofs.Moments.{started, goes_on}
 
@@ -32,37 +34,38 @@ comes old new file Q others here image is = (
     outside : (n : ℕ) → n ≢ file → image n ≡ before n
     outside n differs = sym (image_there image file from.0 n differs)
 
-module _ {D : Type 0} (moment : D → ℕ) (left_since : D → ℕ → (ℕ → List ℕ) → Type 0) (held : D → ℕ → Held) where
+module _ {D S X : Type 0} (g : Ghosts D S X) where
   -- before the first call
   pub starts : (old : D) (file : ℕ) (Q : List ℕ → List ℕ → Type 0)
-      → ((image : ℕ → List ℕ) → left_since old (moment old) image → IsDiskImage (held old) image)
-      → ((a : List ℕ) → IsImage (held old file) a → Q a a)
-      → LeavesOnly moment left_since old old (ComesOf (held old) (InFile file Q))
-  starts old file Q only_now same = started moment left_since old (ComesOf (held old) (InFile file Q))
-      (λ image left. comes (held old) (held old) file Q (λ n differs. refl) (λ b is. (b, is, same b is)) image
+      → ((image : ℕ → List ℕ) → g.left_since old (g.moment old) image → IsDiskImage (g.held old) image)
+      → ((a : List ℕ) → IsImage (g.held old file) a → Q a a)
+      → LeavesOnly g old old (ComesOf (g.held old) (InFile file Q))
+  starts old file Q only_now same = started g old (ComesOf (g.held old) (InFile file Q))
+      (λ image left. comes (g.held old) (g.held old) file Q (λ n differs. refl) (λ b is. (b, is, same b is)) image
       (only_now image left))
 
   -- a call on the file, inside which it may be left as one of the images of `to`
   pub changes : (old mid new : D) (file : ℕ) (Q : List ℕ → List ℕ → Type 0) (to : Held)
-      → LeavesOnly moment left_since old mid (ComesOf (held old) (InFile file Q))
-      → ((n : ℕ) → n ≢ file → held mid n ≡ held old n)
-      → Elapses (moment mid) (moment new) (left_since mid) (left_since new) (changed (held mid) file to)
-      → ((b : List ℕ) → IsImage to b → (a : List ℕ) × IsImage (held old file) a × Q a b)
-      → LeavesOnly moment left_since old new (ComesOf (held old) (InFile file Q))
+      → LeavesOnly g old mid (ComesOf (g.held old) (InFile file Q))
+      → ((n : ℕ) → n ≢ file → g.held mid n ≡ g.held old n)
+      → Elapses (g.moment mid) (g.moment new) (g.left_since mid) (g.left_since new) (changed (g.held mid) file to)
+      → ((b : List ℕ) → IsImage to b → (a : List ℕ) × IsImage (g.held old file) a × Q a b)
+      → LeavesOnly g old new (ComesOf (g.held old) (InFile file Q))
   changes old mid new file Q to so_far others time here =
-      goes_on moment left_since old mid new (ComesOf (held old) (InFile file Q))
-      (changed (held mid) file to) so_far time
-      (comes (held old) (changed (held mid) file to) file Q (λ n differs. changed_there (held mid) file to n differs
+      goes_on g old mid new (ComesOf (g.held old) (InFile file Q))
+      (changed (g.held mid) file to) so_far time
+      (comes (g.held old) (changed (g.held mid) file to) file Q
+      (λ n differs. changed_there (g.held mid) file to n differs
       ∙ others n differs)
-      (λ b is. here b (subst (λ (f : Held). IsImage f b) (changed_here (held mid) file to) is)))
+      (λ b is. here b (subst (λ (f : Held). IsImage f b) (changed_here (g.held mid) file to) is)))
 
   -- a call inside which nothing changes
   pub stays : (old mid new : D) (file : ℕ) (Q : List ℕ → List ℕ → Type 0)
-      → LeavesOnly moment left_since old mid (ComesOf (held old) (InFile file Q))
-      → ((n : ℕ) → n ≢ file → held mid n ≡ held old n)
-      → Elapses (moment mid) (moment new) (left_since mid) (left_since new) (held mid)
-      → ((b : List ℕ) → IsImage (held mid file) b → (a : List ℕ) × IsImage (held old file) a × Q a b)
-      → LeavesOnly moment left_since old new (ComesOf (held old) (InFile file Q))
+      → LeavesOnly g old mid (ComesOf (g.held old) (InFile file Q))
+      → ((n : ℕ) → n ≢ file → g.held mid n ≡ g.held old n)
+      → Elapses (g.moment mid) (g.moment new) (g.left_since mid) (g.left_since new) (g.held mid)
+      → ((b : List ℕ) → IsImage (g.held mid file) b → (a : List ℕ) × IsImage (g.held old file) a × Q a b)
+      → LeavesOnly g old new (ComesOf (g.held old) (InFile file Q))
   stays old mid new file Q so_far others time here =
-      goes_on moment left_since old mid new (ComesOf (held old) (InFile file Q)) (held mid) so_far time
-      (comes (held old) (held mid) file Q others here)
+      goes_on g old mid new (ComesOf (g.held old) (InFile file Q)) (g.held mid) so_far time
+      (comes (g.held old) (g.held mid) file Q others here)

@@ -1,25 +1,26 @@
 -- Laws that hold of every honest disk, whatever the device.
-use Rattle.std.specs.Prelude.{◌≡◌, ℕ, ◌<◌, ◌≤◌, Bool, false, IsTrue, List, [], ◌∷◌, length, take, get_or}
+use Rattle.std.specs.Prelude.{◌≡◌, ℕ, ◌<◌, ◌≤◌, false, IsTrue, List, [], ◌∷◌, length, take, get_or}
 use Rattle.flow_disk.specs.Disk.{Held, IsImage, ComesOf, touched_at, loosened_at, put_at}
-use Rattle.flow_disk.specs.Moments.{Elapses, Covers, LeavesOnly}
+use Rattle.flow_disk.specs.declared.disk.Disk.{Ghosts}
+use Rattle.flow_disk.specs.Calls.{LeavesOnly}
+use Rattle.flow_disk.specs.Moments.{Elapses, Covers}
 
 -- Two runs compose: where a stop in the first leaves what comes by one step, and a stop in the second what comes of
 -- that by another, a stop in both together leaves what comes by either or by both.
-abbrev pub RunsCompose : {D : Type 0} → (D → Bool) → (D → ℕ) → (D → ℕ → (ℕ → List ℕ) → Type 0) → (D → ℕ → Held)
+abbrev pub RunsCompose : {D S X : Type 0} → Ghosts D S X
     → (first second whole : (ℕ → List ℕ) → (ℕ → List ℕ) → Type 0) → Type 0
-RunsCompose {D} honest moment left_since held first second whole = (old middle new : D) → IsTrue (honest middle)
-    → LeavesOnly moment left_since old middle (ComesOf (held old) first)
-    → LeavesOnly moment left_since middle new (ComesOf (held middle) second)
+RunsCompose {D} g first second whole = (old middle new : D) → IsTrue (g.honest middle)
+    → LeavesOnly g old middle (ComesOf (g.held old) first)
+    → LeavesOnly g middle new (ComesOf (g.held middle) second)
     → ((a b : ℕ → List ℕ) → first a b → whole a b)
     → ((a b c : ℕ → List ℕ) → first a b → second b c → whole a c)
-    → LeavesOnly moment left_since old new (ComesOf (held old) whole)
+    → LeavesOnly g old new (ComesOf (g.held old) whole)
 
 -- A call inside which a stop leaves the images there were is among the moments too.
-abbrev pub QuietCallsCovered : {D : Type 0} → (D → Bool) → (D → ℕ) → (D → ℕ → (ℕ → List ℕ) → Type 0) → (D → ℕ → Held)
-    → Type 0
-QuietCallsCovered {D} honest moment left_since held = (old new : D) → IsTrue (honest old)
-    → Elapses (moment old) (moment new) (left_since old) (left_since new) (held old)
-    → Covers (moment old) (left_since new) (held old)
+abbrev pub QuietCallsCovered : {D S X : Type 0} → Ghosts D S X → Type 0
+QuietCallsCovered {D} g = (old new : D) → IsTrue (g.honest old)
+    → Elapses (g.moment old) (g.moment new) (g.left_since old) (g.left_since new) (g.held old)
+    → Covers (g.moment old) (g.left_since new) (g.held old)
 
 -- a file with one image, what it reads as
 pub record IsAlone (file : Held) : Type 0 where

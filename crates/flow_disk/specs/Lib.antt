@@ -1,3 +1,4 @@
+pub mod Calls
 pub mod Cause
 pub mod Disk
 pub mod Files

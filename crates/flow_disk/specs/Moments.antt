@@ -15,11 +15,3 @@ Passes moment left_since old new during = Elapses (moment old) (moment new) (lef
 -- A stop inside the call is among the moments: it might have left each image of `during`.
 abbrev pub Covers : ℕ → (ℕ → (ℕ → List ℕ) → Type 0) → (ℕ → Held) → Type 0
 Covers before since during = (t : ℕ) (image : ℕ → List ℕ) → t ≤ before → IsDiskImage during image → since t image
-
--- A stop at any moment since old leaves what has P.
-pub record LeavesOnly {D : Type 0} (moment : D → ℕ) (left_since : D → ℕ → (ℕ → List ℕ)
-    → Type 0) (old new : D) (P : (ℕ → List ℕ) → Type 0) : Type 0 where
-  pub later : moment old ≤ moment new
-  pub each : (image : ℕ → List ℕ) → left_since new (moment old) image → P image
-  -- for a run that began earlier
-  pub before : (t : ℕ) (image : ℕ → List ℕ) → t ≤ moment old → left_since new t image → left_since old t image ⊎ P image

@@ -14,12 +14,12 @@ pub trait Step {
 /// What a stop may leave of two runs of calls, one behind the other, follows from what it may leave of each, whatever
 /// the steps are.
 pub fn law_of_runs<D: Disk, F: Step, S: Step, W: Step>(_disk: &D)
-    ensures { RunsCompose D.honest D.moment D.left_since D.held F.leads S.leads W.leads }
+    ensures { RunsCompose D.Disk F.leads S.leads W.leads }
 {}
 
 /// Every call is among the moments, also one that changes nothing.
 pub fn law_of_quiet_calls<D: Disk>(_disk: &D)
-    ensures { QuietCallsCovered D.honest D.moment D.left_since D.held }
+    ensures { QuietCallsCovered D.Disk }
 {}
 
 /// What a stop may leave of one file after a write, a cut or the write of one octet.

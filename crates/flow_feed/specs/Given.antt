@@ -1,6 +1,7 @@
 -- Batches of messages that an appender was given, and what it took of them.
 use Rattle.std.specs.Prelude.{◌≡◌, ℕ, ◌<◌, nat_lt, Bool, true, false, ◌&&◌, List, [], ◌∷◌, ◌++◌, length, Option, Some}
 use Rattle.std.specs.Prelude.{None, Result, Ok, Err, IfErr}
+use Rattle.flow_disk.specs.declared.disk.Disk.{Ghosts}
 use Rattle.flow_disk.specs.Cause.{HasCause}
 use Rattle.flow_gate.specs.Gate.{octet_sum}
 use Rattle.flow_snapshot.specs.Changes.{Change}
@@ -111,11 +112,10 @@ pub record HasTaken {S : Type 0} (appends : S → S → List (List ℕ) → Resu
 -- Messages that the value under the lock was given: what its append makes of the archive, and of the steps that readers
 -- are shown. No room is reported only where no segment has room for all of them, and a fault exactly where the device
 -- failed.
-pub record IsGivenLocked {D : Type 0} (honest : D → Bool) (moment : D → ℕ)
-    (left_since : D → ℕ → (ℕ → List ℕ) → Type 0) (faults : D → ℕ) (old new : Held D) (messages : List (List ℕ))
+pub record IsGivenLocked {D S X : Type 0} (g : Ghosts D S X) (old new : Held D) (messages : List (List ℕ))
     (result : Result ℕ ArchiveError) : Type 0 where
   pub steps : List Change
-  pub appends : Appends honest moment left_since old.core new.core messages result steps
+  pub appends : Appends g old.core new.core messages result steps
   pub steps_are : all_of new ≡ all_of old ++ steps
   pub room : IfErr result (λ e. e ≡ NoRoom → old.core.state.manifest.limit < octet_sum messages)
-  pub cause : HasCause Fault (faults old.core.disk) (faults new.core.disk) result
+  pub cause : HasCause Fault (g.faults old.core.disk) (g.faults new.core.disk) result

@@ -28,7 +28,7 @@ pub trait Appender {
 impl<D: Disk, J: Naming, W: Wait> Appender for Locked<D, J, W> {
     ghost use Rattle.flow_feed.specs.Given.{IsGivenLocked};
 
-    ghost appends = { λ old new messages result. IsGivenLocked D.honest D.moment D.left_since D.faults old new messages
+    ghost appends = { λ old new messages result. IsGivenLocked D.Disk old new messages
         result };
 
     fn append_batch(&mut self, alloc: Global, messages: &[&[u8]]) -> Result<u64, ArchiveError> {

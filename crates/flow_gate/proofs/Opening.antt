@@ -3,8 +3,10 @@ use Rattle.std.proofs.Common.{◌≡◌, ◌≢◌, inl, inr, ⊎_elim, ℕ, ◌
 use Rattle.std.proofs.Common.{subst, arith, length-set}
 use Rattle.std.proofs.lemmas.List.{take-set-le, get_or-set_same, get_or-set_other}
 use Rattle.std.proofs.lemmas.Bool.{cases_eq}
+use Rattle.flow_disk.specs.declared.disk.Disk.{Ghosts}
 use Rattle.flow_disk.specs.Disk.{Held, IsImage, IsDiskImage, ComesOf, InFile, changed, touched_at, settled_at, put_at}
-use Rattle.flow_disk.specs.Moments.{Elapses, LeavesOnly}
+use Rattle.flow_disk.specs.Moments.{Elapses}
+use Rattle.flow_disk.specs.Calls.{LeavesOnly}
 use Rattle.flow_disk.proofs.Calls.{starts, changes, stays}
 use Rattle.flow_disk.specs.Laws.{IsAlone}
 use Rattle.flow_disk.proofs.Images.{one_octet, set_is_put, settled_one}
@@ -87,27 +89,27 @@ module _ (file : Held) (end : ℕ) (messages : List (List ℕ)) (alone : IsAlone
   )
 
 -- the calls of `open_gate`, one behind the other
-module _ {D : Type 0} (moment : D → ℕ) (left_since : D → ℕ → (ℕ → List ℕ) → Type 0) (held : D → ℕ
-    → Held) (start : D) (file end : ℕ) (messages : List (List ℕ))
-    (alone : IsAlone (held start file)) (placed : IsPlaced (held start file).reads end messages)
-    (only_now : (image : ℕ → List ℕ) → left_since start (moment start) image → IsDiskImage (held start) image) where
-  abbrev Opens : D → Type 0
-  Opens now = LeavesOnly moment left_since start now (ComesOf (held start) (InFile file (MayAdd end messages)))
+module _ {D S X : Type 0} (g : Ghosts D S X) (start : D) (file end : ℕ) (messages : List (List ℕ))
+    (alone : IsAlone (g.held start file)) (placed : IsPlaced (g.held start file).reads end messages)
+    (only_now : (image : ℕ → List ℕ) → g.left_since start (g.moment start) image → IsDiskImage (g.held start) image)
+  where
+    abbrev Opens : D → Type 0
+    Opens now = LeavesOnly g start now (ComesOf (g.held start) (InFile file (MayAdd end messages)))
 
-  pub inside_write : (mid : D) (reads : List ℕ)
-      → Elapses (moment start) (moment mid) (left_since start) (left_since mid)
-      (changed (held start) file (touched_at (held start file) (end + 1) 1 reads)) → Opens mid
-  inside_write mid reads time =
-      changes moment left_since held start start mid file (MayAdd end messages)
-      (touched_at (held start file) (end + 1) 1 reads)
-      (starts moment left_since held start file (MayAdd end messages) only_now (λ a is. may_add_same end messages a))
-      (λ n differs. refl) time (while_opened (held start file) end messages alone placed reads)
+    pub inside_write : (mid : D) (reads : List ℕ)
+        → Elapses (g.moment start) (g.moment mid) (g.left_since start) (g.left_since mid)
+        (changed (g.held start) file (touched_at (g.held start file) (end + 1) 1 reads)) → Opens mid
+    inside_write mid reads time =
+        changes g start start mid file (MayAdd end messages)
+        (touched_at (g.held start file) (end + 1) 1 reads)
+        (starts g start file (MayAdd end messages) only_now (λ a is. may_add_same end messages a))
+        (λ n differs. refl) time (while_opened (g.held start file) end messages alone placed reads)
 
-  pub inside_sync : (mid new : D) (reads : List ℕ) → Opens mid
-      → held mid file ≡ touched_at (held start file) (end + 1) 1 reads
-      → ((n : ℕ) → n ≢ file → held mid n ≡ held start n)
-      → Elapses (moment mid) (moment new) (left_since mid) (left_since new) (held mid) → Opens new
-  inside_sync mid new reads so_far wrote others time =
-      stays moment left_since held start mid new file (MayAdd end messages) so_far others time
-      (λ image is. while_opened (held start file) end messages alone placed reads image
-      (subst (λ (f : Held). IsImage f image) wrote is))
+    pub inside_sync : (mid new : D) (reads : List ℕ) → Opens mid
+        → g.held mid file ≡ touched_at (g.held start file) (end + 1) 1 reads
+        → ((n : ℕ) → n ≢ file → g.held mid n ≡ g.held start n)
+        → Elapses (g.moment mid) (g.moment new) (g.left_since mid) (g.left_since new) (g.held mid) → Opens new
+    inside_sync mid new reads so_far wrote others time =
+        stays g start mid new file (MayAdd end messages) so_far others time
+        (λ image is. while_opened (g.held start file) end messages alone placed reads image
+        (subst (λ (f : Held). IsImage f image) wrote is))

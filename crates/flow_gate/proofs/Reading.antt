@@ -5,8 +5,10 @@ use Rattle.std.proofs.lemmas.List.{get_or-drop, drop-drop}
 use Rattle.std.proofs.lemmas.List.Elements.{All-nil, All-cons}
 use Rattle.std.specs.List.{All}
 use Rattle.std.specs.Prelude.{Result, Ok, Err, IfOk, IfErr}
+use Rattle.flow_disk.specs.declared.disk.Disk.{Ghosts}
 use Rattle.flow_disk.specs.Disk.{Held, IsImage, IsDiskImage, Stays}
-use Rattle.flow_disk.specs.Moments.{Elapses, LeavesOnly}
+use Rattle.flow_disk.specs.Moments.{Elapses}
+use Rattle.flow_disk.specs.Calls.{LeavesOnly}
 use Rattle.flow_disk.proofs.Moments.{started, goes_on}
 use Rattle.flow_gate.specs.declared.tail.Tail.{Tail}
 use Rattle.flow_gate.specs.declared.tail.ScanError.{ScanError}
@@ -151,19 +153,18 @@ whole_in octets from (Ok tail) is = let gated = is.gated in whole_row octets 0 (
 whole_in octets from (Err e) is = tt
 
 -- two looks at the disk
-module _ {D : Type 0} (moment : D → ℕ) (left_since : D → ℕ → (ℕ → List ℕ) → Type 0) (held : D → ℕ
-    → Held) (start mid : D)
-    (only_now : (image : ℕ → List ℕ) → left_since start (moment start) image → IsDiskImage (held start) image)
-    (first : Elapses (moment start) (moment mid) (left_since start) (left_since mid) (held start)) where
-  pub looked : LeavesOnly moment left_since start mid (IsDiskImage (held start))
-  looked = goes_on moment left_since start start mid (IsDiskImage (held start)) (held start)
-      (started moment left_since start (IsDiskImage (held start)) only_now) first (λ image is. is)
+module _ {D S X : Type 0} (g : Ghosts D S X) (start mid : D)
+    (only_now : (image : ℕ → List ℕ) → g.left_since start (g.moment start) image → IsDiskImage (g.held start) image)
+    (first : Elapses (g.moment start) (g.moment mid) (g.left_since start) (g.left_since mid) (g.held start)) where
+  pub looked : LeavesOnly g start mid (IsDiskImage (g.held start))
+  looked = goes_on g start start mid (IsDiskImage (g.held start)) (g.held start)
+      (started g start (IsDiskImage (g.held start)) only_now) first (λ image is. is)
 
-  pub looked_again : (new : D) → Stays (held start) (held mid)
-      → Elapses (moment mid) (moment new) (left_since mid) (left_since new) (held mid)
-      → LeavesOnly moment left_since start new (IsDiskImage (held start))
+  pub looked_again : (new : D) → Stays (g.held start) (g.held mid)
+      → Elapses (g.moment mid) (g.moment new) (g.left_since mid) (g.left_since new) (g.held mid)
+      → LeavesOnly g start new (IsDiskImage (g.held start))
   looked_again new same second =
-      goes_on moment left_since start mid new (IsDiskImage (held start)) (held mid) looked second
+      goes_on g start mid new (IsDiskImage (g.held start)) (g.held mid) looked second
       (λ image is n. subst (λ (f : Held). IsImage f (image n)) (same n) (is n))
 
 named_of : (octets : List ℕ) (file from : ℕ) (e : ScanError) → IsToldRead octets file from e → IsNamed file from e

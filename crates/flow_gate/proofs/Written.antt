@@ -1,5 +1,6 @@
 -- What a file reads as once a batch is written.
-use Rattle.std.proofs.Common.{zero, suc, Bor, ◌≡◌, ◌≢◌, ◌⊎◌, ⊎_elim, ℕ, ◌+◌, ◌-◌, ◌<◌, ◌≤◌, List, [], ◌∷◌, ◌++◌, length}
+use Rattle.std.proofs.Common.{zero, suc, Bor, ◌≡◌, ◌≢◌, ◌⊎◌, inl, inr, ⊎_elim, ℕ, ◌+◌, ◌-◌, ◌<◌, ◌≤◌, List, [], ◌∷◌}
+use Rattle.std.proofs.Common.{◌++◌, length}
 use Rattle.std.proofs.Common.{get_or, take, drop, refl, sym, ◌∙◌, ap, subst, arith, append_assoc, length-append}
 use Rattle.std.proofs.Common.{length-drop}
 use Rattle.std.proofs.lemmas.List.{length-take-le, take_at, drop_at, take_rest, get_or_at, get_or_append_left}
@@ -58,6 +59,13 @@ none (octet ∷ octets) empty = absurd (omega (arith, empty))
 -- the first message is written from its third octet on, each other one whole
 pub record IsNext (end at kept : ℕ) : Type 0 where
   pub next : ((at ≡ end) × (kept ≡ 2)) ⊎ ((end + 16 ≤ at) × (kept ≡ 0))
+
+pub next_first : (end at kept : ℕ) → at ≡ end → kept ≡ 2 → IsNext end at kept
+next_first end at kept here two = record { next = inl (here, two) }
+
+pub next_later : (end at kept : ℕ) → (at ≡ end → ⊥) → (at ≡ end) ⊎ (end + 16 ≤ at) → kept ≡ 0 → IsNext end at kept
+next_later end at kept not first none =
+    record { next = inr (⊎_elim (λ same. absurd (not same)) (λ later. later) first, none) }
 
 first_part : (front part message : List ℕ) → front ≡ [] → part ≡ drop 2 message
     → drop 2 front ++ part ≡ drop 2 (front ++ message)

@@ -2,8 +2,7 @@
 ghost use Rattle.std.specs.Prelude.{◌≡◌, ◌≢◌, ℕ, ◌+◌, ◌≤◌, max, false, true, IsTrue, List, [], ◌∷◌, length, OnOk};
 ghost use Rattle.std.specs.List.{All};
 ghost use Rattle.flow_disk.specs.Disk.{IsImage, AllImages, ComesOf, InFile};
-ghost use Rattle.flow_disk.specs.Moments.{LeavesOnly};
-ghost use Rattle.flow_disk.specs.Cause.{FailsOnlyByFault};
+ghost use Rattle.flow_disk.specs.Calls.{LeavesOnly, StopsBy, EndsBy, SettlesFile};
 ghost use Rattle.flow_gate.specs.Gate.{IsWhole, IsClosedAt, IsPlaced, octet_sum, opened};
 ghost use Rattle.flow_gate.specs.Steps.{KeepsLists, Places, MayAdd, Adds, slices, put_batch};
 
@@ -27,30 +26,20 @@ pub fn place_batch<D: Disk>(
         → IsClosedAt image end }
 
     // On every disk.
-    ensures honest { D.honest disk.new ≡ D.honest disk.old }
-    ensures clock { D.moment disk.old ≤ D.moment disk.new }
-    ensures other_marks { (n : ℕ) → n ≢ file → D.marks disk.new n ≡ D.marks disk.old n }
-    ensures thawed { (D.marks disk.new file).frozen ≡ false }
-    ensures settled { OnOk result ((D.marks disk.new file).settled ≡ true) }
-    ensures listed { OnOk result ((D.marks disk.new file).listed ≡ true) }
-    ensures size { OnOk result
-        ((D.marks disk.new file).size ≡ max (D.marks disk.old file).size (end + octet_sum (slices messages.now) + 2)) }
-    ensures cause { FailsOnlyByFault (D.faults disk.old) (D.faults disk.new) result }
+    ensures call { SettlesFile D.Disk disk.old disk.new file
+        (max (D.marks disk.old file).size (end + octet_sum (slices messages.now) + 2)) result }
 
     // On an honest one: what the file reads as, and that each of its images holds the lists that were there, with the
     // batch behind their gate.
-    ensures other_files { IsTrue (D.honest disk.old) → (n : ℕ) → n ≢ file → D.held disk.new n ≡ D.held disk.old n }
     ensures octets { IsTrue (D.honest disk.old)
         → OnOk result ((D.held disk.new file).reads ≡ put_batch (D.held disk.old file).reads end
         (slices messages.now)) }
     ensures placed { IsTrue (D.honest disk.old)
         → OnOk result (IsPlaced (D.held disk.new file).reads end (slices messages.now)) }
-    ensures after { IsTrue (D.honest disk.old) → OnOk result
-        (AllImages (D.held disk.new) (ComesOf (D.held disk.old) (InFile file (Places end (slices messages.now))))) }
+    ensures after { EndsBy D.Disk disk.old disk.new result (InFile file (Places end (slices messages.now))) }
 
     // A stop at any moment leaves the lists that were there.
-    ensures any_moment { IsTrue (D.honest disk.old) → LeavesOnly D.moment D.left_since disk.old disk.new
-        (ComesOf (D.held disk.old) (InFile file (KeepsLists end))) }
+    ensures any_moment { StopsBy D.Disk disk.old disk.new (InFile file (KeepsLists end)) }
 {
     let mut at = end;
     for message in messages {
@@ -72,26 +61,16 @@ pub fn place<D: Disk>(disk: &mut D, file: u64, end: u64, message: &[u8]) -> Resu
         → IsClosedAt image end }
 
     // On every disk.
-    ensures honest { D.honest disk.new ≡ D.honest disk.old }
-    ensures clock { D.moment disk.old ≤ D.moment disk.new }
-    ensures other_marks { (n : ℕ) → n ≢ file → D.marks disk.new n ≡ D.marks disk.old n }
-    ensures thawed { (D.marks disk.new file).frozen ≡ false }
-    ensures settled { OnOk result ((D.marks disk.new file).settled ≡ true) }
-    ensures listed { OnOk result ((D.marks disk.new file).listed ≡ true) }
-    ensures size { OnOk result
-        ((D.marks disk.new file).size ≡ max (D.marks disk.old file).size (end + length message.now + 2)) }
-    ensures cause { FailsOnlyByFault (D.faults disk.old) (D.faults disk.new) result }
+    ensures call { SettlesFile D.Disk disk.old disk.new file
+        (max (D.marks disk.old file).size (end + length message.now + 2)) result }
 
     // On an honest one.
-    ensures other_files { IsTrue (D.honest disk.old) → (n : ℕ) → n ≢ file → D.held disk.new n ≡ D.held disk.old n }
     ensures octets { IsTrue (D.honest disk.old)
         → OnOk result ((D.held disk.new file).reads ≡ put_batch (D.held disk.old file).reads end (message.now ∷ [])) }
     ensures placed { IsTrue (D.honest disk.old)
         → OnOk result (IsPlaced (D.held disk.new file).reads end (message.now ∷ [])) }
-    ensures after { IsTrue (D.honest disk.old) → OnOk result
-        (AllImages (D.held disk.new) (ComesOf (D.held disk.old) (InFile file (Places end (message.now ∷ []))))) }
-    ensures any_moment { IsTrue (D.honest disk.old) → LeavesOnly D.moment D.left_since disk.old disk.new
-        (ComesOf (D.held disk.old) (InFile file (KeepsLists end))) }
+    ensures after { EndsBy D.Disk disk.old disk.new result (InFile file (Places end (message.now ∷ []))) }
+    ensures any_moment { StopsBy D.Disk disk.old disk.new (InFile file (KeepsLists end)) }
 {
     place_batch(disk, file, end, &[message])
 }
@@ -106,18 +85,10 @@ pub fn open_gate<D: Disk>(disk: &mut D, file: u64, end: u64) -> Result<(), DiskE
         → (messages : List (List ℕ)) × IsPlaced (D.held disk.old file).reads end messages }
 
     // On every disk.
-    ensures honest { D.honest disk.new ≡ D.honest disk.old }
-    ensures clock { D.moment disk.old ≤ D.moment disk.new }
-    ensures other_marks { (n : ℕ) → n ≢ file → D.marks disk.new n ≡ D.marks disk.old n }
-    ensures thawed { (D.marks disk.new file).frozen ≡ false }
-    ensures settled { OnOk result ((D.marks disk.new file).settled ≡ true) }
-    ensures listed { OnOk result ((D.marks disk.new file).listed ≡ true) }
-    ensures size { OnOk result ((D.marks disk.new file).size ≡ (D.marks disk.old file).size) }
-    ensures cause { FailsOnlyByFault (D.faults disk.old) (D.faults disk.new) result }
+    ensures call { SettlesFile D.Disk disk.old disk.new file (D.marks disk.old file).size result }
 
     // On an honest one: what the file reads as, and that each of its images holds the lists that were there, with all
     // messages of the batch.
-    ensures other_files { IsTrue (D.honest disk.old) → (n : ℕ) → n ≢ file → D.held disk.new n ≡ D.held disk.old n }
     ensures octets { IsTrue (D.honest disk.old)
         → OnOk result ((D.held disk.new file).reads ≡ opened (D.held disk.old file).reads end) }
     ensures after { IsTrue (D.honest disk.old) → (messages : List (List ℕ))
@@ -127,8 +98,7 @@ pub fn open_gate<D: Disk>(disk: &mut D, file: u64, end: u64) -> Result<(), DiskE
     // A stop at any moment leaves the lists that were there, with all messages of the batch or with none.
     ensures any_moment { IsTrue (D.honest disk.old) → (messages : List (List ℕ))
         → IsPlaced (D.held disk.old file).reads end messages
-        → LeavesOnly D.moment D.left_since disk.old disk.new
-        (ComesOf (D.held disk.old) (InFile file (MayAdd end messages))) }
+        → LeavesOnly D.Disk disk.old disk.new (ComesOf (D.held disk.old) (InFile file (MayAdd end messages))) }
 {
     disk.write_at(file, end + 1, &[10])?;
     disk.sync(file)?;

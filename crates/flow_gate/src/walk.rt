@@ -1,8 +1,8 @@
 // The walk over a file's messages.
 ghost use Rattle.std.specs.Prelude.{◌≡◌, ◌≢◌, ℕ, ◌+◌, ◌^◌, ◌<◌, ◌≤◌, IsTrue, List, length, IfOk, IfErr};
 ghost use Rattle.std.specs.List.{All};
-ghost use Rattle.flow_disk.specs.Disk.{IsDiskImage, Stays};
-ghost use Rattle.flow_disk.specs.Moments.{LeavesOnly};
+ghost use Rattle.flow_disk.specs.Disk.{IsDiskImage};
+ghost use Rattle.flow_disk.specs.Calls.{LeavesOnly, OnlyReads};
 ghost use Rattle.flow_disk.specs.Cause.{HasCause};
 ghost use Rattle.flow_gate.specs.Gate.{IsWhole, IsGated, IsDamaged, octet_sum};
 ghost use Rattle.flow_gate.specs.Scan.{IsFoundAt, IsTail, IsTold, IsTailRead, IsToldRead, IsGiven, IsRefused, IsNamed};
@@ -18,12 +18,7 @@ use std::alloc::Global;
 /// `from`. A fault is told exactly where the disk's count of failures rose.
 pub fn scan<D: Disk>(alloc: Global, disk: &mut D, file: u64, from: u64) -> Result<Tail, ScanError>
     // On every disk.
-    ensures honest { D.honest disk.new ≡ D.honest disk.old }
-    ensures clock { D.moment disk.old ≤ D.moment disk.new }
-    ensures other_marks { (n : ℕ) → n ≢ file → D.marks disk.new n ≡ D.marks disk.old n }
-    ensures settled { (D.marks disk.new file).settled ≡ (D.marks disk.old file).settled }
-    ensures frozen { (D.marks disk.new file).frozen ≡ (D.marks disk.old file).frozen }
-    ensures listed { (D.marks disk.new file).listed ≡ (D.marks disk.old file).listed }
+    ensures reads { OnlyReads D.Disk disk.old disk.new file }
     ensures size { IfOk result (λ tail. tail.end + 2 ≤ (D.marks disk.new file).size) }
     ensures ends { IfOk result (λ tail. tail.end ≡ from + octet_sum (texts tail.messages.items)) }
     ensures whole { IfOk result (λ tail. All IsWhole (texts tail.messages.items)) }
@@ -31,7 +26,6 @@ pub fn scan<D: Disk>(alloc: Global, disk: &mut D, file: u64, from: u64) -> Resul
     ensures cause { HasCause ScanError.Fault (D.faults disk.old) (D.faults disk.new) result }
 
     // On an honest one.
-    ensures held { IsTrue (D.honest disk.old) → Stays (D.held disk.old) (D.held disk.new) }
     ensures found { IsTrue (D.honest disk.old)
         → IfOk result (λ tail. IsTail (D.held disk.old file).reads from tail.end tail.messages.items) }
     ensures damaged { IsTrue (D.honest disk.old) → IfErr result (λ e. IsTold (D.held disk.old file).reads file from e) }
@@ -40,7 +34,7 @@ pub fn scan<D: Disk>(alloc: Global, disk: &mut D, file: u64, from: u64) -> Resul
     ensures refused { IsTrue (D.honest disk.old) → (at : ℕ) → IsDamaged (D.held disk.old file).reads from at
         → IsRefused file at result }
     ensures any_moment { IsTrue (D.honest disk.old)
-        → LeavesOnly D.moment D.left_since disk.old disk.new (IsDiskImage (D.held disk.old)) }
+        → LeavesOnly D.Disk disk.old disk.new (IsDiskImage (D.held disk.old)) }
 {
     let size = disk.length(file)?;
     if from > size {

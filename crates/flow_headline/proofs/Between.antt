@@ -1,9 +1,10 @@
 -- What a stop leaves that comes while events run.
-use Rattle.std.proofs.Common.{◌≡◌, ◌≢◌, ⊎_elim, ℕ, zero, suc, ◌<◌, ◌≤◌, Bool, true, false, IsTrue, List, [], ◌∷◌}
+use Rattle.std.proofs.Common.{◌≡◌, ◌≢◌, ⊎_elim, ℕ, zero, suc, ◌<◌, ◌≤◌, true, false, IsTrue, List, [], ◌∷◌}
 use Rattle.std.proofs.Common.{length, take, drop, Result, Err, refl, sym, ◌∙◌, ap, subst, arith}
 use Rattle.std.specs.Prelude.{IsErr}
 use Rattle.std.specs.List.{AllByRecursion}
-use Rattle.flow_disk.specs.Moments.{LeavesOnly}
+use Rattle.flow_disk.specs.declared.disk.Disk.{Ghosts}
+use Rattle.flow_disk.specs.Calls.{LeavesOnly}
 use Rattle.flow_disk.proofs.Moments.{by, one_run, started}
 use Rattle.flow_measure.specs.History.{History}
 use Rattle.flow_recover.specs.State.{State, reopened}
@@ -87,15 +88,15 @@ take_fewer (suc i) zero xs le = absurd (omega (arith, le))
 take_fewer (suc i) (suc j) [] le = refl
 take_fewer (suc i) (suc j) (x ∷ xs) le = ap (λ ys. x ∷ ys) (take_fewer i j xs (omega (arith, le)))
 
-module _ {D : Type 0} (honest : D → Bool) (moment : D → ℕ) (left_since : D → ℕ → (ℕ → List ℕ) → Type 0) where
+module _ {D S X : Type 0} (disk : Ghosts D S X) where
   abbrev pub IsHere : Seen D → Type 0
-  IsHere s = IsStanding honest moment left_since s
+  IsHere s = IsStanding disk s
 
   abbrev pub Ran : Seen D → List Event → List (Result Answer ArchiveError) → Seen D → Type 0
-  Ran old events answers new = IsRun honest moment left_since old events answers new
+  Ran old events answers new = IsRun disk old events answers new
 
   abbrev pub Leaves : Seen D → Seen D → ((ℕ → List ℕ) → Type 0) → Type 0
-  Leaves old new P = LeavesOnly moment left_since old.disk new.disk P
+  Leaves old new P = LeavesOnly disk old.disk new.disk P
 
   split : (i : ℕ) (old : Seen D) (events : List Event) (answers : List (Result Answer ArchiveError)) (new : Seen D)
       → Ran old events answers new → (mid : Seen D) × Ran old (take i events) (take i answers) mid
@@ -108,8 +109,8 @@ module _ {D : Type 0} (honest : D → Bool) (moment : D → ℕ) (left_since : D
       let rest = split i run.0 events answers new run.3 in (rest.0, (run.0, run.1, run.2, rest.1), rest.2)
 
   pub honest_after : (old : Seen D) (events : List Event) (answers : List (Result Answer ArchiveError)) (new : Seen D)
-      → Ran old events answers new → honest new.disk ≡ honest old.disk
-  honest_after old [] [] new run = ap (λ (s : Seen D). honest s.disk) run
+      → Ran old events answers new → disk.honest new.disk ≡ disk.honest old.disk
+  honest_after old [] [] new run = ap (λ (s : Seen D). disk.honest s.disk) run
   honest_after old [] (a ∷ answers) new run = absurd run
   honest_after old (e ∷ events) [] new run = absurd run
   honest_after old (e ∷ events) (a ∷ answers) new run =
@@ -118,7 +119,7 @@ module _ {D : Type 0} (honest : D → Bool) (moment : D → ℕ) (left_since : D
   -- one event is in it
   first_in : (begun : ℕ) (old mid : Seen D) (next : State) (e : Event) (a : Result Answer ArchiveError)
       (events : List Event) (answers : List (Result Answer ArchiveError)) (image : ℕ → List ℕ)
-      → Answers (honest old.disk) old.closed old.state e a mid.state → Leads old.state e a next → IsHere old
+      → Answers (disk.honest old.disk) old.closed old.state e a mid.state → Leads old.state e a next → IsHere old
       → AllByRecursion (λ (r : Result Answer ArchiveError). IsErr r) (drop 1 (take begun (a ∷ answers)))
       → StandsFor image (reopened next) → IsImageIn begun old.state (e ∷ events) (a ∷ answers) image
   first_in begun old mid next e a events answers image told leads here refused stands =
@@ -132,14 +133,15 @@ module _ {D : Type 0} (honest : D → Bool) (moment : D → ℕ) (left_since : D
         acknowledged = refused;
         one = one_first a answers;
         history = λ g has. more_then g _ [] next next
-            (event_adds (honest old.disk) old.closed old.state next mid.state e a g sound told leads has)
+            (event_adds (disk.honest old.disk) old.closed old.state next mid.state e a g sound told leads has)
             (λ f given. same_history next next f refl given);
       }
 
   -- one event more, in front of those that are in it
   more_in : (begun one_begun : ℕ) (old mid : Seen D) (e : Event) (a : Result Answer ArchiveError) (events : List Event)
       (answers : List (Result Answer ArchiveError)) (image : ℕ → List ℕ)
-      → Answers (honest old.disk) old.closed old.state e a mid.state → Leads old.state e a mid.state → a ≢ Err Fault
+      → Answers (disk.honest old.disk) old.closed old.state e a mid.state → Leads old.state e a mid.state
+      → a ≢ Err Fault
       → IsHere old
       → ((n : ℕ) → AllByRecursion (λ (r : Result Answer ArchiveError). IsErr r) (drop n (take begun answers))
       → AllByRecursion (λ (r : Result Answer ArchiveError). IsErr r) (drop (suc n) (take one_begun (a ∷ answers))))
@@ -156,14 +158,14 @@ module _ {D : Type 0} (honest : D → Bool) (moment : D → ℕ) (left_since : D
         one = one_more a answers rest.taken other rest.one;
         history = λ h has. more_then h _ (all_added (take rest.taken events) (take rest.taken answers))
             mid.state rest.after
-            (event_adds (honest old.disk) old.closed old.state mid.state mid.state e a h sound told leads has)
+            (event_adds (disk.honest old.disk) old.closed old.state mid.state mid.state e a h sound told leads has)
             rest.history;
       }
 
   -- what a stop leaves within the first event
   some_in : (old mid : Seen D) (e : Event) (a : Result Answer ArchiveError) (events : List Event)
       (answers : List (Result Answer ArchiveError)) (image : ℕ → List ℕ)
-      → Answers (honest old.disk) old.closed old.state e a mid.state → IsHere old
+      → Answers (disk.honest old.disk) old.closed old.state e a mid.state → IsHere old
       → StandsForSome old.state (e ∷ []) (a ∷ []) image → IsImageIn 0 old.state (e ∷ events) (a ∷ answers) image
   some_in old mid e a events answers image told here (zero, few, after, same, stands) =
       none_in 0 old.state (e ∷ events) (a ∷ answers) image tt
@@ -175,31 +177,31 @@ module _ {D : Type 0} (honest : D → Bool) (moment : D → ℕ) (left_since : D
       absurd (omega (arith, few))
 
   first_event : (old mid : Seen D) (e : Event) (a : Result Answer ArchiveError) (events : List Event)
-      (answers : List (Result Answer ArchiveError)) → Answers (honest old.disk) old.closed old.state e a mid.state
-      → IsStep honest moment left_since old mid (Takes true old.state e) a → IsTrue (honest old.disk)
+      (answers : List (Result Answer ArchiveError)) → Answers (disk.honest old.disk) old.closed old.state e a mid.state
+      → IsStep disk old mid (Takes true old.state e) a → IsTrue (disk.honest old.disk)
       → old.closed ≡ false → IsHere old
       → Leaves old mid (IsImageIn 0 old.state (e ∷ events) (a ∷ answers))
   first_event old mid e a events answers told step h still here =
-      by moment left_since old.disk mid.disk (StandsForSome old.state (e ∷ []) (a ∷ []))
+      by disk old.disk mid.disk (StandsForSome old.state (e ∷ []) (a ∷ []))
       (IsImageIn 0 old.state (e ∷ events) (a ∷ answers))
-      (all_moments honest moment left_since old (e ∷ []) (a ∷ []) mid (mid, told, step, refl) h still
+      (all_moments disk old (e ∷ []) (a ∷ []) mid (mid, told, step, refl) h still
       (record { images = here.images }))
       (λ image some. some_in old mid e a events answers image told here some)
 
-  module _ (some : (d : D) → IsTrue (honest d) → (image : ℕ → List ℕ) × left_since d (moment d) image)
-      (earlier : (d : D) (t : ℕ) (image : ℕ → List ℕ) → IsTrue (honest d) → t ≤ moment d
-      → left_since d (moment d) image → left_since d t image) where
+  module _ (some : (d : D) → IsTrue (disk.honest d) → (image : ℕ → List ℕ) × disk.left_since d (disk.moment d) image)
+      (earlier : (d : D) (t : ℕ) (image : ℕ → List ℕ) → IsTrue (disk.honest d) → t ≤ disk.moment d
+      → disk.left_since d (disk.moment d) image → disk.left_since d t image) where
     here_after : (old mid : Seen D) (e : Event) (a : Result Answer ArchiveError)
-        → IsStep honest moment left_since old mid (Takes true old.state e) a → IsTrue (honest mid.disk)
+        → IsStep disk old mid (Takes true old.state e) a → IsTrue (disk.honest mid.disk)
         → mid.closed ≡ false → IsHere mid
     here_after old mid e a step h still = record { images = step.stands h still; some = some mid.disk h }
 
     any_moment : (old : Seen D) (events : List Event) (answers : List (Result Answer ArchiveError)) (new : Seen D)
-        → Ran old events answers new → IsTrue (honest old.disk) → old.closed ≡ false → IsHere old
+        → Ran old events answers new → IsTrue (disk.honest old.disk) → old.closed ≡ false → IsHere old
         → Leaves old new (IsImageIn 0 old.state events answers)
     any_moment old [] [] new run h still here =
         subst (λ (s : Seen D). Leaves old s (IsImageIn 0 old.state [] [])) (sym run)
-        (started moment left_since old.disk (IsImageIn 0 old.state [] [])
+        (started disk old.disk (IsImageIn 0 old.state [] [])
         (λ image left. none_in 0 old.state [] [] image tt (here.images image left)))
     any_moment old [] (b ∷ answers) new run h still here = absurd run
     any_moment old (e ∷ events) [] new run h still here = absurd run
@@ -209,11 +211,11 @@ module _ {D : Type 0} (honest : D → Bool) (moment : D → ℕ) (left_since : D
         ⊎_elim
         (λ fault. let closed = (run.2.fault fault).1 in
         subst (λ (s : Seen D). Leaves old s (IsImageIn 0 old.state (e ∷ events) (a ∷ answers)))
-        (sym (closed_run honest moment left_since mid events answers new run.3 closed)) first)
-        (λ other. let goes = goes_on honest moment left_since old mid e a run.2 h still other in
+        (sym (closed_run disk mid events answers new run.3 closed)) first)
+        (λ other. let goes = goes_on disk old mid e a run.2 h still other in
         let h1 = subst IsTrue (sym run.2.honest_too) h in
-        one_run moment left_since old.disk mid.disk new.disk (IsImageIn 0 old.state (e ∷ events) (a ∷ answers)) first
-        (by moment left_since mid.disk new.disk (IsImageIn 0 mid.state events answers)
+        one_run disk old.disk mid.disk new.disk (IsImageIn 0 old.state (e ∷ events) (a ∷ answers)) first
+        (by disk mid.disk new.disk (IsImageIn 0 mid.state events answers)
         (IsImageIn 0 old.state (e ∷ events) (a ∷ answers))
         (any_moment mid events answers new run.3 h1 goes.0 (here_after old mid e a run.2 h1 goes.0))
         (λ image rest. more_in 0 0 old mid e a events answers image run.1 goes.1 other here
@@ -222,19 +224,19 @@ module _ {D : Type 0} (honest : D → Bool) (moment : D → ℕ) (left_since : D
 
     -- the device failed under the first event
     fault_in : (i : ℕ) (old mid : Seen D) (e : Event) (events : List Event) (answers : List (Result Answer ArchiveError))
-        → Answers (honest old.disk) old.closed old.state e (Err Fault) mid.state
-        → IsStep {T = Answer} honest moment left_since old mid (Takes true old.state e) (Err Fault)
-        → IsTrue (honest old.disk) → old.closed ≡ false → IsHere old
+        → Answers (disk.honest old.disk) old.closed old.state e (Err Fault) mid.state
+        → IsStep {T = Answer} disk old mid (Takes true old.state e) (Err Fault)
+        → IsTrue (disk.honest old.disk) → old.closed ≡ false → IsHere old
         → AllByRecursion (λ (a : Result Answer ArchiveError). a ≡ Err Closed) answers
         → Leaves mid mid (IsImageIn (suc i) old.state (e ∷ events) (Err Fault ∷ answers))
     fault_in i old mid e events answers told step h still here closed =
         let run_of = step.any_moment h still in
         let refused = all_refused_first i answers (all_refused answers closed) in
-        started moment left_since mid.disk (IsImageIn (suc i) old.state (e ∷ events) (Err Fault ∷ answers))
+        started disk mid.disk (IsImageIn (suc i) old.state (e ∷ events) (Err Fault ∷ answers))
         (λ image left. ⊎_elim
         (λ before. none_in (suc i) old.state (e ∷ events) (Err Fault ∷ answers) image (refl, refused) before)
         (λ under. first_in (suc i) old mid under.0 e (Err Fault) events answers image told under.1 here refused under.2)
-        (run_of.each image (earlier mid.disk (moment old.disk) image (subst IsTrue (sym step.honest_too) h)
+        (run_of.each image (earlier mid.disk (disk.moment old.disk) image (subst IsTrue (sym step.honest_too) h)
         run_of.later left)))
 
     -- the archive before event i, and what a stop leaves from then on
@@ -244,28 +246,28 @@ module _ {D : Type 0} (honest : D → Bool) (moment : D → ℕ) (left_since : D
 
     at_fault : (i : ℕ) (old mid new : Seen D) (e : Event) (events : List Event)
         (answers : List (Result Answer ArchiveError))
-        → Answers (honest old.disk) old.closed old.state e (Err Fault) mid.state
-        → IsStep {T = Answer} honest moment left_since old mid (Takes true old.state e) (Err Fault)
-        → Ran mid events answers new → IsTrue (honest old.disk) → old.closed ≡ false → IsHere old
+        → Answers (disk.honest old.disk) old.closed old.state e (Err Fault) mid.state
+        → IsStep {T = Answer} disk old mid (Takes true old.state e) (Err Fault)
+        → Ran mid events answers new → IsTrue (disk.honest old.disk) → old.closed ≡ false → IsHere old
         → IsFrom (suc i) old (e ∷ events) (Err Fault ∷ answers) new
     at_fault i old mid new e events answers told step run h still here =
         let closed = (step.fault refl).1 in
         let parts = split i mid events answers new run in
         let P = IsImageIn (suc i) old.state (e ∷ events) (Err Fault ∷ answers) in
         let first = fault_in i old mid e events answers told step h still here
-        (closed_answers honest moment left_since mid events answers new run closed) in
+        (closed_answers disk mid events answers new run closed) in
         let last : Leaves mid new P = subst (λ (s : Seen D). Leaves mid s P)
-        (sym (closed_run honest moment left_since mid events answers new run closed)) first in (
+        (sym (closed_run disk mid events answers new run closed)) first in (
           parts.0,
           (mid, told, step, parts.1),
           parts.2,
           subst (λ (s : Seen D). Leaves s new P)
-              (sym (closed_run honest moment left_since mid (take i events) (take i answers) parts.0 parts.1 closed))
+              (sym (closed_run disk mid (take i events) (take i answers) parts.0 parts.1 closed))
               last,
         )
 
     from_event : (i : ℕ) (old : Seen D) (events : List Event) (answers : List (Result Answer ArchiveError))
-        (new : Seen D) → Ran old events answers new → IsTrue (honest old.disk) → old.closed ≡ false → IsHere old
+        (new : Seen D) → Ran old events answers new → IsTrue (disk.honest old.disk) → old.closed ≡ false → IsHere old
         → IsFrom i old events answers new
     from_event zero old events answers new run h still here =
         (old, refl, run, any_moment old events answers new run h still here)
@@ -274,7 +276,7 @@ module _ {D : Type 0} (honest : D → Bool) (moment : D → ℕ) (left_since : D
       refl,
       run,
       subst (λ (s : Seen D). Leaves old s (IsImageIn (suc i) old.state [] [])) (sym run)
-          (started moment left_since old.disk (IsImageIn (suc i) old.state [] [])
+          (started disk old.disk (IsImageIn (suc i) old.state [] [])
           (λ image left. none_in (suc i) old.state [] [] image tt (here.images image left))),
     )
     from_event (suc i) old [] (b ∷ answers) new run h still here = absurd run
@@ -283,17 +285,17 @@ module _ {D : Type 0} (honest : D → Bool) (moment : D → ℕ) (left_since : D
         let mid = run.0 in
         ⊎_elim
         (λ fault. subst (λ (r : Result Answer ArchiveError).
-        Answers (honest old.disk) old.closed old.state e r mid.state
-        → IsStep honest moment left_since old mid (Takes true old.state e) r
+        Answers (disk.honest old.disk) old.closed old.state e r mid.state
+        → IsStep disk old mid (Takes true old.state e) r
         → IsFrom (suc i) old (e ∷ events) (r ∷ answers) new) (sym fault)
         (λ told step. at_fault i old mid new e events answers told step run.3 h still here) run.1 run.2)
-        (λ other. let goes = goes_on honest moment left_since old mid e a run.2 h still other in
+        (λ other. let goes = goes_on disk old mid e a run.2 h still other in
         let h1 = subst IsTrue (sym run.2.honest_too) h in
         let rest = from_event i mid events answers new run.3 h1 goes.0 (here_after old mid e a run.2 h1 goes.0) in (
           rest.0,
           (mid, run.1, run.2, rest.1),
           rest.2,
-          by moment left_since (rest.0).disk new.disk (IsImageIn i mid.state events answers)
+          by disk (rest.0).disk new.disk (IsImageIn i mid.state events answers)
               (IsImageIn (suc i) old.state (e ∷ events) (a ∷ answers)) rest.3
               (λ image found. more_in i (suc i) old mid e a events answers image run.1 goes.1 other here
               (λ n refused. refused) found),
@@ -301,8 +303,9 @@ module _ {D : Type 0} (honest : D → Bool) (moment : D → ℕ) (left_since : D
         (fault_or a)
 
     pub stops_between : (i j : ℕ) (old : Seen D) (events : List Event) (answers : List (Result Answer ArchiveError))
-        (new : Seen D) → i ≤ j → Ran old events answers new → IsTrue (honest old.disk) → old.closed ≡ false → IsHere old
-        → StopsBetween honest moment left_since old new events answers i j
+        (new : Seen D) → i ≤ j → Ran old events answers new → IsTrue (disk.honest old.disk) → old.closed ≡ false
+        → IsHere old
+        → StopsBetween disk old new events answers i j
     stops_between i j old events answers new le run h still here =
         let parts = split j old events answers new run in
         let late = parts.0 in
@@ -315,7 +318,7 @@ module _ {D : Type 0} (honest : D → Bool) (moment : D → ℕ) (left_since : D
               (take_fewer i j answers le) found.1);
           run_between = found.2;
           run_after = parts.2;
-          leaves = by moment left_since (found.0).disk late.disk (IsImageIn i old.state (take j events) (take j answers))
+          leaves = by disk (found.0).disk late.disk (IsImageIn i old.state (take j events) (take j answers))
               (λ image. (left : State) × IsPrefix old.state (take j events) (take j answers) i left
               × StandsFor image left) found.3
               (λ image is. prefix_of i old.state (take j events) (take j answers) image is);

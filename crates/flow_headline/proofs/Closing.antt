@@ -3,6 +3,7 @@ use Rattle.std.proofs.Common.{◌≡◌, ℕ, Bool, true, false, List, [], ◌�
 use Rattle.std.proofs.lemmas.Bool.{false≢true}
 use Rattle.std.specs.Prelude.{IsErr}
 use Rattle.std.specs.List.{AllByRecursion}
+use Rattle.flow_disk.specs.declared.disk.Disk.{Ghosts}
 use Rattle.flow_gate.specs.Scan.{texts}
 use Rattle.flow_manifest.specs.declared.following.JobKind.{JobKind}
 use Rattle.flow_manifest.specs.declared.following.JobKind.TheVariants.{Roll, Merge}
@@ -226,23 +227,23 @@ all_refused [] closed = tt
 all_refused (a ∷ answers) closed =
     (subst (λ (r : Result Answer ArchiveError). IsErr r) (sym closed.0) refl, all_refused answers closed.1)
 
-module _ {D : Type 0} (honest : D → Bool) (moment : D → ℕ) (left_since : D → ℕ → (ℕ → List ℕ) → Type 0) where
+module _ {D S X : Type 0} (g : Ghosts D S X) where
   pub closed_answers : (old : Seen D) (events : List Event) (answers : List (Result Answer ArchiveError)) (new : Seen D)
-      → IsRun honest moment left_since old events answers new → old.closed ≡ true
+      → IsRun g old events answers new → old.closed ≡ true
       → AllByRecursion (λ (a : Result Answer ArchiveError). a ≡ Err Closed) answers
   closed_answers old [] [] new run closed = tt
   closed_answers old [] (b ∷ answers) new run closed = absurd run
   closed_answers old (e ∷ events) [] new run closed = absurd run
   closed_answers old (e ∷ events) (a ∷ answers) new run closed =
       let same : run.0 ≡ old =
-      closed_run honest moment left_since old (e ∷ []) (a ∷ []) run.0 (run.0, run.1, run.2, refl) closed in (
-        closed_answer (honest old.disk) old.state run.0.state e a
-            (subst (λ (b : Bool). Answers (honest old.disk) b old.state e a run.0.state) closed run.1),
+      closed_run g old (e ∷ []) (a ∷ []) run.0 (run.0, run.1, run.2, refl) closed in (
+        closed_answer (g.honest old.disk) old.state run.0.state e a
+            (subst (λ (b : Bool). Answers (g.honest old.disk) b old.state e a run.0.state) closed run.1),
         closed_answers run.0 events answers new run.3 (ap (λ (s : Seen D). s.closed) same ∙ closed),
       )
 
   pub ends_at_fault : (old : Seen D) (events : List Event) (answers : List (Result Answer ArchiveError)) (new : Seen D)
-      → IsRun honest moment left_since old events answers new → EndsAtFault answers
+      → IsRun g old events answers new → EndsAtFault answers
   ends_at_fault old [] [] new run = tt
   ends_at_fault old [] (b ∷ answers) new run = absurd run
   ends_at_fault old (e ∷ events) [] new run = absurd run

@@ -1,8 +1,9 @@
 -- What an image of the last moment of a run stands for.
-use Rattle.std.proofs.Common.{◌≡◌, ◌≢◌, ◌⊎◌, inl, inr, ⊎_elim, ℕ, zero, suc, ◌<◌, ◌≤◌, Bool, true, false, IsTrue}
+use Rattle.std.proofs.Common.{◌≡◌, ◌≢◌, ◌⊎◌, inl, inr, ⊎_elim, ℕ, zero, suc, ◌<◌, ◌≤◌, true, false, IsTrue}
 use Rattle.std.proofs.Common.{List, [], ◌∷◌, length, take, drop, Result, Ok, Err, refl, sym, ◌∙◌, ap, subst, arith}
 use Rattle.std.specs.Prelude.{IsErr}
 use Rattle.std.specs.List.{AllByRecursion}
+use Rattle.flow_disk.specs.declared.disk.Disk.{Ghosts}
 use Rattle.flow_measure.specs.History.{History}
 use Rattle.flow_recover.specs.State.{State, reopened}
 use Rattle.flow_recover.specs.Shelved.{HasHistory}
@@ -84,21 +85,22 @@ pub one_more : (a : Result Answer ArchiveError) (answers : List (Result Answer A
 one_more a answers taken other rest zero lt = tt
 one_more a answers taken other rest (suc k) lt = (other, rest k (omega (arith, lt)))
 
-module _ {D : Type 0} (honest : D → Bool) (moment : D → ℕ) (left_since : D → ℕ → (ℕ → List ℕ) → Type 0) where
+module _ {D S X : Type 0} (disk : Ghosts D S X) where
   -- all that a stop would leave now stands for the state, and there is such an image
   pub record IsStanding (s : Seen D) : Type 0 where
-    pub images : (image : ℕ → List ℕ) → left_since s.disk (moment s.disk) image → StandsFor image (reopened s.state)
-    pub some : (image : ℕ → List ℕ) × left_since s.disk (moment s.disk) image
+    pub images : (image : ℕ → List ℕ) → disk.left_since s.disk (disk.moment s.disk) image
+        → StandsFor image (reopened s.state)
+    pub some : (image : ℕ → List ℕ) × disk.left_since s.disk (disk.moment s.disk) image
 
   -- a stop at any moment so far might have left this
   abbrev IsLeft : (ℕ → List ℕ) → Seen D → Type 0
-  IsLeft image s = (t : ℕ) → t ≤ moment s.disk → left_since s.disk t image
+  IsLeft image s = (t : ℕ) → t ≤ disk.moment s.disk → disk.left_since s.disk t image
 
   stays : (old mid : Seen D) → mid ≡ old → old.closed ≡ false → (mid.closed ≡ false) × (mid.state ≡ old.state)
   stays old mid same still = (ap (λ (s : Seen D). s.closed) same ∙ still, ap (λ (s : Seen D). s.state) same)
 
   pub goes_on : (old mid : Seen D) (e : Event) (a : Result Answer ArchiveError)
-      → IsStep honest moment left_since old mid (Takes true old.state e) a → IsTrue (honest old.disk)
+      → IsStep disk old mid (Takes true old.state e) a → IsTrue (disk.honest old.disk)
       → old.closed ≡ false → a ≢ Err Fault → (mid.closed ≡ false) × Leads old.state e a mid.state
   goes_on old mid e (Ok done) step h still other = (step.done.1, step.done.0 h)
   goes_on old mid e (Err Fault) step h still other = absurd (other refl)
@@ -121,16 +123,16 @@ module _ {D : Type 0} (honest : D → Bool) (moment : D → ℕ) (left_since : D
 
   -- the device failed under this event
   at_fault : (old mid new : Seen D) (e : Event) (events : List Event) (answers : List (Result Answer ArchiveError))
-      (image : ℕ → List ℕ) → Answers (honest old.disk) old.closed old.state e (Err Fault) mid.state
-      → IsStep {T = Answer} honest moment left_since old mid (Takes true old.state e) (Err Fault)
-      → IsRun honest moment left_since mid events answers new → IsTrue (honest old.disk) → old.closed ≡ false
+      (image : ℕ → List ℕ) → Answers (disk.honest old.disk) old.closed old.state e (Err Fault) mid.state
+      → IsStep {T = Answer} disk old mid (Takes true old.state e) (Err Fault)
+      → IsRun disk mid events answers new → IsTrue (disk.honest old.disk) → old.closed ≡ false
       → IsStanding old → IsLeft image new → IsImageOf old.state (e ∷ events) (Err Fault ∷ answers) image
   at_fault old mid new e events answers image told step run h still stands left =
       let closed = (step.fault refl).1 in
-      let same : new ≡ mid = closed_run honest moment left_since mid events answers new run closed in
+      let same : new ≡ mid = closed_run disk mid events answers new run closed in
       let there : IsLeft image mid = subst (λ (s : Seen D). IsLeft image s) same left in
       let run_of = step.any_moment h still in
-      let refused = all_refused answers (closed_answers honest moment left_since mid events answers new run closed) in
+      let refused = all_refused answers (closed_answers disk mid events answers new run closed) in
       let sound = sound_of stands.some.0 old.state (stands.images stands.some.0 stands.some.1) in
       ⊎_elim
       (λ before. record {
@@ -152,15 +154,17 @@ module _ {D : Type 0} (honest : D → Bool) (moment : D → ℕ) (left_since : D
         acknowledged = refused;
         one = one_first (Err Fault) answers;
         history = λ g has. more_then g _ [] under.0 under.0
-            (event_adds (honest old.disk) old.closed old.state under.0 mid.state e (Err Fault) g sound told under.1 has)
+            (event_adds (disk.honest old.disk) old.closed old.state under.0 mid.state e
+            (Err Fault) g sound told under.1 has)
             (λ f given. same_history under.0 under.0 f refl given);
       })
-      (run_of.each image (there (moment old.disk) run_of.later))
+      (run_of.each image (there (disk.moment old.disk) run_of.later))
 
   -- one event more in front
   one_more_event : (old mid : Seen D) (e : Event) (a : Result Answer ArchiveError) (events : List Event)
       (answers : List (Result Answer ArchiveError)) (image : ℕ → List ℕ)
-      → Answers (honest old.disk) old.closed old.state e a mid.state → Leads old.state e a mid.state → a ≢ Err Fault
+      → Answers (disk.honest old.disk) old.closed old.state e a mid.state → Leads old.state e a mid.state
+      → a ≢ Err Fault
       → IsStanding old → IsImageOf mid.state events answers image → IsImageOf old.state (e ∷ events) (a ∷ answers) image
   one_more_event old mid e a events answers image told leads other stands rest =
       let sound = sound_of stands.some.0 old.state (stands.images stands.some.0 stands.some.1) in
@@ -174,22 +178,23 @@ module _ {D : Type 0} (honest : D → Bool) (moment : D → ℕ) (left_since : D
         one = one_more a answers rest.taken other rest.one;
         history = λ h has. more_then h _ (all_added (take rest.taken events) (take rest.taken answers))
             mid.state rest.after
-            (event_adds (honest old.disk) old.closed old.state mid.state mid.state e a h sound told leads has)
+            (event_adds (disk.honest old.disk) old.closed old.state mid.state mid.state e a h sound told leads has)
             rest.history;
       }
 
-  module _ (some : (d : D) → IsTrue (honest d) → (image : ℕ → List ℕ) × left_since d (moment d) image) where
+  module _ (some : (d : D) → IsTrue (disk.honest d) → (image : ℕ → List ℕ)
+      × disk.left_since d (disk.moment d) image) where
     pub image_of_run : (old : Seen D) (events : List Event) (answers : List (Result Answer ArchiveError))
-        (new : Seen D) (image : ℕ → List ℕ) → IsRun honest moment left_since old events answers new
-        → IsTrue (honest old.disk) → old.closed ≡ false → IsStanding old → IsLeft image new
+        (new : Seen D) (image : ℕ → List ℕ) → IsRun disk old events answers new
+        → IsTrue (disk.honest old.disk) → old.closed ≡ false → IsStanding old → IsLeft image new
         → IsImageOf old.state events answers image
     image_of_run old [] [] new image run h still stands left = record {
       taken = 0;
       within = omega arith;
       after = old.state;
       prefix = refl;
-      stands = stands.images image (subst (λ (s : Seen D). left_since s.disk (moment s.disk) image) run
-          (left (moment new.disk) (omega arith)));
+      stands = stands.images image (subst (λ (s : Seen D). disk.left_since s.disk (disk.moment s.disk) image) run
+          (left (disk.moment new.disk) (omega arith)));
       acknowledged = tt;
       one = λ k lt. absurd (omega (arith, lt));
       history = λ h has. same_history old.state old.state h refl has;
@@ -200,8 +205,8 @@ module _ {D : Type 0} (honest : D → Bool) (moment : D → ℕ) (left_since : D
         let mid = run.0 in
         ⊎_elim
         (λ fault. subst (λ (r : Result Answer ArchiveError).
-        Answers (honest old.disk) old.closed old.state e r mid.state
-        → IsStep honest moment left_since old mid (Takes true old.state e) r
+        Answers (disk.honest old.disk) old.closed old.state e r mid.state
+        → IsStep disk old mid (Takes true old.state e) r
         → IsImageOf old.state (e ∷ events) (r ∷ answers) image) (sym fault)
         (λ told step. at_fault old mid new e events answers image told step run.3 h still stands left) run.1 run.2)
         (λ other. let goes = goes_on old mid e a run.2 h still other in

@@ -16,7 +16,7 @@ use Rattle.flow_archive.specs.declared.event.Event.{Event}
 use Rattle.flow_archive.specs.declared.refusal.ArchiveError.{ArchiveError}
 use Rattle.flow_archive.specs.Seen.{Seen}
 use Rattle.flow_headline.specs.Front.{IsFront}
-use Rattle.flow_headline.specs.Machine.{Fused, IsFusedRun, IsStoppedRun}
+use Rattle.flow_headline.specs.Machine.{fused_disk, Fused, IsFusedRun, IsStoppedRun}
 use Rattle.flow_headline.proofs.Fronts.{front_of, image_of_run}
 
 -- what it reads as is an image of it
@@ -38,8 +38,7 @@ pub left_by_stop : (old new : Seen Fused) (events : List Event) (answers : List 
     × StandsFor (reads_of (held_of (story_of after))) left
 left_by_stop old new events answers choice after run still stands fits image story =
     let reads = reads_of (held_of (story_of after)) in
-    let found = image_of_run (λ (disk : Fused). true) (λ disk. moment_of disk.disk) (λ disk. left_of disk.disk)
-    some_image old events answers new reads run refl still
+    let found = image_of_run fused_disk some_image old events answers new reads run refl still
     (record {
       images = λ one left. stands one (now_alone (story_of old.disk.disk) one left);
       some = some_image old.disk refl;

@@ -1,8 +1,9 @@
 -- What a stop leaves of a list of events.
-use Rattle.std.specs.Prelude.{◌≡◌, ◌≢◌, ℕ, ◌<◌, ◌≤◌, Bool, List, [], ◌∷◌, ◌++◌, length, take, drop, Result, Ok, Err}
+use Rattle.std.specs.Prelude.{◌≡◌, ◌≢◌, ℕ, ◌<◌, ◌≤◌, List, [], ◌∷◌, ◌++◌, length, take, drop, Result, Ok, Err}
 use Rattle.std.specs.Prelude.{IsErr}
 use Rattle.std.specs.List.{AllByRecursion}
-use Rattle.flow_disk.specs.Moments.{LeavesOnly}
+use Rattle.flow_disk.specs.declared.disk.Disk.{Ghosts}
+use Rattle.flow_disk.specs.Calls.{LeavesOnly}
 use Rattle.flow_gate.specs.Scan.{texts}
 use Rattle.flow_measure.specs.History.{Accepted, History}
 use Rattle.flow_measure.specs.Query.{totals_between, totals_in_view}
@@ -126,12 +127,12 @@ pub record IsPrefix (s : State) (events : List Event) (answers : List (Result An
 
 -- Of a run of events, each counted from 0: a stop at any moment from the one on at which event i begins, and before
 -- event j begins, leaves a prefix of the first j events, with all that were acknowledged of the first i.
-pub record StopsBetween {D : Type 0} (honest : D → Bool) (moment : D → ℕ) (left_since : D → ℕ → (ℕ → List ℕ) → Type 0)
-    (old new : Seen D) (events : List Event) (answers : List (Result Answer ArchiveError)) (i j : ℕ) : Type 0 where
+pub record StopsBetween {D S X : Type 0} (g : Ghosts D S X) (old new : Seen D) (events : List Event)
+    (answers : List (Result Answer ArchiveError)) (i j : ℕ) : Type 0 where
   pub early : Seen D
   pub late : Seen D
-  pub run_before : IsRun honest moment left_since old (take i events) (take i answers) early
-  pub run_between : IsRun honest moment left_since early (drop i (take j events)) (drop i (take j answers)) late
-  pub run_after : IsRun honest moment left_since late (drop j events) (drop j answers) new
-  pub leaves : LeavesOnly moment left_since early.disk late.disk (λ image. (left : State)
+  pub run_before : IsRun g old (take i events) (take i answers) early
+  pub run_between : IsRun g early (drop i (take j events)) (drop i (take j answers)) late
+  pub run_after : IsRun g late (drop j events) (drop j answers) new
+  pub leaves : LeavesOnly g early.disk late.disk (λ image. (left : State)
       × IsPrefix old.state (take j events) (take j answers) i left × StandsFor image left)

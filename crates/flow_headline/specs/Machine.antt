@@ -1,11 +1,15 @@
 -- A machine that is stopped: a run of events on a disk in memory, and what the stop leaves of the disk.
-use Rattle.std.specs.Prelude.{◌≡◌, ⊤, ℕ, true, List, Result}
+use Rattle.std.specs.Prelude.{◌≡◌, ⊤, ℕ, ◌+◌, true, List, Result}
 use Rattle.std.specs.declared.convert.Infallible.{Infallible}
+use Rattle.flow_disk.specs.declared.disk.Disk.{Ghosts}
+use Rattle.flow_memory_disk.specs.declared.bad_reads.BadRead.{BadRead}
+use Rattle.flow_memory_disk.specs.declared.bad_reads.FusedFile.{FusedFile}
 use Rattle.flow_memory_disk.specs.declared.choice.Choice.{Choice}
 use Rattle.flow_memory_disk.specs.declared.disk.MemoryDisk.{MemoryDisk}
 use Rattle.flow_memory_disk.specs.declared.failing.FailingDisk.{FailingDisk}
 use Rattle.flow_memory_disk.specs.declared.sealed.MemorySealed.{MemorySealed}
 use Rattle.flow_memory_disk.specs.declared.when.Fuse.{Fuse}
+use Rattle.flow_memory_disk.specs.Calls.{held_of}
 use Rattle.flow_memory_disk.specs.Memory.{story_of, moment_of, left_of}
 use Rattle.flow_memory_disk.specs.Stopped.{stopped}
 use Rattle.flow_memory_disk.specs.Stopping.{CanCrash}
@@ -33,9 +37,20 @@ use Rattle.flow_headline.specs.Front.{IsFront, grown}
 abbrev pub Fused : Type 0
 Fused = FailingDisk MemoryDisk Fuse MemorySealed Infallible
 
+-- What such a disk keeps. It is honest, and tells what the disk in it does.
+abbrev pub fused_disk : Ghosts Fused (FusedFile MemorySealed Infallible) BadRead
+fused_disk = record {
+  honest = λ disk. true;
+  marks = λ disk. (story_of disk.disk).marks;
+  held = λ disk. held_of (story_of disk.disk);
+  moment = λ disk. moment_of disk.disk;
+  left_since = λ disk. left_of disk.disk;
+  faults = λ disk. disk.failed + disk.disk.faults;
+}
+
 -- these events with these answers, on such a disk
 abbrev pub IsFusedRun : Seen Fused → List Event → List (Result Answer ArchiveError) → Seen Fused → Type 0
-IsFusedRun = IsRun (λ disk. true) (λ disk. moment_of disk.disk) (λ disk. left_of disk.disk)
+IsFusedRun = IsRun fused_disk
 
 -- The machine ran the events, with these answers, and was stopped. What the stop left by this choice stands for this
 -- state.

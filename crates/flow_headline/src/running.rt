@@ -2,7 +2,7 @@
 
 ghost use Rattle.std.specs.Prelude.{◌≡◌, ◌≤◌, ℕ, false, All, IfErr, IfOk, IsTrue, MatchResult};
 ghost use Rattle.flow_disk.specs.Disk.{AllImages};
-ghost use Rattle.flow_disk.specs.Moments.{LeavesOnly};
+ghost use Rattle.flow_disk.specs.Calls.{LeavesOnly};
 ghost use Rattle.flow_recover.specs.State.{State};
 ghost use Rattle.flow_recover.specs.Standing.{StandsFor};
 ghost use Rattle.flow_archive.specs.Runs.{AreCaused, IsEvent, IsRun, IsSince, StandsForSome};
@@ -22,8 +22,7 @@ pub fn run_on_disk<D: Disk>(
 ) -> Result<Vec<Result<Answer, ArchiveError>>, AllocError>
     requires { All IsEvent events.now }
     // All events ran, each once, with these answers.
-    ensures run { IfOk result (λ answers. IsRun D.honest D.moment D.left_since archive.old events.now answers.items
-        archive.new) }
+    ensures run { IfOk result (λ answers. IsRun D.Disk archive.old events.now answers.items archive.new) }
     ensures kept { IfErr result (λ _. archive.new ≡ archive.old) }
     // Where no answer is 30 Fault no call of the device failed, and where one is one has; of reads of sources likewise.
     ensures cause { IfOk result (λ answers. AreCaused ArchiveError.Fault (D.faults archive.old.disk)
@@ -31,16 +30,15 @@ pub fn run_on_disk<D: Disk>(
     ensures unread { MatchResult result (λ answers. AreCaused ArchiveError.SourceFault faults.old faults.new
         answers.items) (λ _. faults.new ≡ faults.old) }
     ensures any_moment { IsTrue (D.honest archive.old.disk) → archive.old.closed ≡ false
-        → IfOk result (λ answers. LeavesOnly D.moment D.left_since archive.old.disk archive.new.disk
+        → IfOk result (λ answers. LeavesOnly D.Disk archive.old.disk archive.new.disk
         (StandsForSome archive.old.state events.now answers.items)) }
     ensures since { IsTrue (D.honest archive.old.disk) → archive.old.closed ≡ false
-        → IfOk result (λ answers. (i : ℕ) → IsSince D.honest D.moment D.left_since archive.old archive.new events.now
-        answers.items i) }
+        → IfOk result (λ answers. (i : ℕ) → IsSince D.Disk archive.old archive.new events.now answers.items i) }
     // A stop at any moment, since event i began and before event j does, leaves a prefix of the first j events, with all
     // that were acknowledged of the first i: so all that were before the stop, and at most the one under way besides.
     ensures between { IsTrue (D.honest archive.old.disk) → archive.old.closed ≡ false
-        → IfOk result (λ answers. (i j : ℕ) → i ≤ j → StopsBetween D.honest D.moment D.left_since archive.old
-        archive.new events.now answers.items i j) }
+        → IfOk result (λ answers. (i j : ℕ) → i ≤ j
+        → StopsBetween D.Disk archive.old archive.new events.now answers.items i j) }
     // A stop after all events leaves a prefix of them, with all that were acknowledged.
     ensures left { IsTrue (D.honest archive.old.disk) → archive.old.closed ≡ false
         → IfOk result (λ answers. AllImages (D.held archive.new.disk) (λ image. (left : State)

@@ -1,9 +1,10 @@
 -- Which manifest is in force while one slot changes.
 use Rattle.std.proofs.Common.{◌≡◌, ◌≢◌, ◌⊎◌, inl, inr, ⊎_elim, ℕ, ◌+◌, true, false, List, ◌∷◌, drop, get_or, refl, sym}
 use Rattle.std.proofs.Common.{◌∙◌, ap, subst, arith}
+use Rattle.flow_disk.specs.declared.disk.Disk.{Ghosts}
 use Rattle.flow_disk.specs.Disk.{Held, IsDiskImage, AllImages, ComesOf, InFile}
 use Rattle.flow_disk.specs.Laws.{IsAlone}
-use Rattle.flow_disk.specs.Moments.{LeavesOnly}
+use Rattle.flow_disk.specs.Calls.{LeavesOnly}
 use Rattle.flow_disk.proofs.Moments.{by}
 use Rattle.flow_manifest.specs.declared.manifest.Manifest.{Manifest}
 use Rattle.flow_manifest.specs.declared.slots.Slot.{Slot}
@@ -126,24 +127,24 @@ old_or_new slots m a b are step = ⊎_elim
 
 -- ---- the same over a disk whose two slots are settled
 
-module _ {D : Type 0} (moment : D → ℕ) (left_since : D → ℕ → (ℕ → List ℕ) → Type 0) (held : D → ℕ
-    → Held) (old new : D) (slots : Slots) (file : ℕ) (there : file ≡ file_of (other slots.current_slot))
-    (current : IsAlone (held old (file_of slots.current_slot)))
-    (beside : IsAlone (held old (file_of (other slots.current_slot)))) where
-  module _ (told : AreSlots slots (reads_of (held old))) where
-    agrees : (image : ℕ → List ℕ) → IsDiskImage (held old) image → AreSlots slots image
-    agrees image is = same_slots slots (reads_of (held old)) image told
+module _ {D S X : Type 0} (g : Ghosts D S X) (old new : D) (slots : Slots) (file : ℕ)
+    (there : file ≡ file_of (other slots.current_slot))
+    (current : IsAlone (g.held old (file_of slots.current_slot)))
+    (beside : IsAlone (g.held old (file_of (other slots.current_slot)))) where
+  module _ (told : AreSlots slots (reads_of (g.held old))) where
+    agrees : (image : ℕ → List ℕ) → IsDiskImage (g.held old) image → AreSlots slots image
+    agrees image is = same_slots slots (reads_of (g.held old)) image told
         (current.alone _ (is (file_of slots.current_slot))) (beside.alone _ (is (file_of (other slots.current_slot))))
 
-    pub current_stays : LeavesOnly moment left_since old new (ComesOf (held old) (InFile file MayClose))
-        → LeavesOnly moment left_since old new (λ image. IsInForce image slots.current)
-    current_stays run = by moment left_since old new (ComesOf (held old) (InFile file MayClose))
+    pub current_stays : LeavesOnly g old new (ComesOf (g.held old) (InFile file MayClose))
+        → LeavesOnly g old new (λ image. IsInForce image slots.current)
+    current_stays run = by g old new (ComesOf (g.held old) (InFile file MayClose))
         (λ image. IsInForce image slots.current) run
         (λ image comes. still_in_force slots comes.0 image (agrees comes.0 comes.1)
         (subst (λ (n : ℕ). InFile n MayClose comes.0 image) there comes.2))
 
-    module _ (body : List ℕ) (after : AllImages (held new) (ComesOf (held old) (InFile file (IsPrepared body))))
-        (image : ℕ → List ℕ) (is : IsDiskImage (held new) image) where
+    module _ (body : List ℕ) (after : AllImages (g.held new) (ComesOf (g.held old) (InFile file (IsPrepared body))))
+        (image : ℕ → List ℕ) (is : IsDiskImage (g.held new) image) where
       abbrev pub before : ℕ → List ℕ
       before = (after image is).0
 
@@ -158,22 +159,22 @@ module _ {D : Type 0} (moment : D → ℕ) (left_since : D → ℕ → (ℕ → 
       ready_then m valid follows body_is =
           prepared_ready slots m body before image (agrees before (after image is).1) step valid follows body_is
 
-  module _ (m : Manifest) (ready : IsReady slots m (reads_of (held old))) where
-    still_ready : (image : ℕ → List ℕ) → IsDiskImage (held old) image → IsReady slots m image
+  module _ (m : Manifest) (ready : IsReady slots m (reads_of (g.held old))) where
+    still_ready : (image : ℕ → List ℕ) → IsDiskImage (g.held old) image → IsReady slots m image
     still_ready image is =
-        same_ready slots m (reads_of (held old)) image ready (current.alone _ (is (file_of slots.current_slot)))
+        same_ready slots m (reads_of (g.held old)) image ready (current.alone _ (is (file_of slots.current_slot)))
         (beside.alone _ (is (file_of (other slots.current_slot))))
 
-    pub current_or_this : LeavesOnly moment left_since old new (ComesOf (held old) (InFile file MayOpen))
-        → LeavesOnly moment left_since old new (λ image. IsInForce image slots.current ⊎ IsInForce image m)
+    pub current_or_this : LeavesOnly g old new (ComesOf (g.held old) (InFile file MayOpen))
+        → LeavesOnly g old new (λ image. IsInForce image slots.current ⊎ IsInForce image m)
     current_or_this run =
-        by moment left_since old new (ComesOf (held old) (InFile file MayOpen)) (λ image. IsInForce image slots.current
+        by g old new (ComesOf (g.held old) (InFile file MayOpen)) (λ image. IsInForce image slots.current
         ⊎ IsInForce image m) run
         (λ image comes. old_or_new slots m comes.0 image (still_ready comes.0 comes.1)
         (subst (λ (n : ℕ). InFile n MayOpen comes.0 image) there comes.2))
 
-    pub swapped_then : AllImages (held new) (ComesOf (held old) (InFile file Opens))
-        → AllImages (held new)
+    pub swapped_then : AllImages (g.held new) (ComesOf (g.held old) (InFile file Opens))
+        → AllImages (g.held new)
         (AreSlots (record { current = m; current_slot = other slots.current_slot; other_open = true }))
     swapped_then after image is = let comes = after image is in
         new_slots slots m comes.0 image (still_ready comes.0 comes.1)

@@ -2,6 +2,7 @@
 
 ghost use Rattle.std.specs.Prelude.{◌≡◌, ◌≢◌, ℕ, ◌+◌, ◌<◌, ◌≤◌, List, ◌∷◌, Bool, true, false, IsTrue, length, OnOk};
 ghost use Rattle.flow_disk.specs.Disk.{IsImage, AllImages};
+ghost use Rattle.flow_disk.specs.Calls.{SettlesFile};
 ghost use Rattle.flow_disk.specs.Cause.{FailsOnlyByFault};
 ghost use Rattle.flow_manifest.specs.declared.manifest.Manifest.{Manifest};
 ghost use Rattle.flow_manifest.specs.declared.slots.Slot.{Slot};
@@ -43,19 +44,11 @@ pub fn create_slots<D: Disk>(disk: &mut D, first: &[u8], older: &[u8]) -> Result
 fn write_slot<D: Disk>(disk: &mut D, file: u64, body: &[u8]) -> Result<(), DiskError>
     requires thawed { (D.marks disk.old file).frozen ≡ false }
 
-    ensures honest { D.honest disk.new ≡ D.honest disk.old }
-    ensures clock { D.moment disk.old ≤ D.moment disk.new }
-    ensures other_marks { (n : ℕ) → n ≢ file → D.marks disk.new n ≡ D.marks disk.old n }
-    ensures thawed { (D.marks disk.new file).frozen ≡ false }
-    ensures settled { OnOk result ((D.marks disk.new file).settled ≡ true) }
-    ensures listed { OnOk result ((D.marks disk.new file).listed ≡ true) }
-    ensures size { OnOk result ((D.marks disk.new file).size ≡ 1 + length body.now) }
-    ensures other_files { IsTrue (D.honest disk.old) → (n : ℕ) → n ≢ file → D.held disk.new n ≡ D.held disk.old n }
+    ensures call { SettlesFile D.Disk disk.old disk.new file (1 + length body.now) result }
 
     // Afterwards the slot is an open gate and the body.
     ensures after { IsTrue (D.honest disk.old)
         → OnOk result ((octets : List ℕ) → IsImage (D.held disk.new file) octets → octets ≡ open_gate ∷ body.now) }
-    ensures cause { FailsOnlyByFault (D.faults disk.old) (D.faults disk.new) result }
 {
     disk.write_at(file, 0, &[OPEN])?;
     disk.write_at(file, GATE_LENGTH, body)?;

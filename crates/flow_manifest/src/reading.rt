@@ -3,7 +3,7 @@
 ghost use Rattle.std.specs.Prelude.{◌≡◌, ◌≢◌, ◌⊎◌, ◌↔◌, ℕ, ◌≤◌, List, true, IsTrue, OnOk, IfOk, IfErr, length, take};
 ghost use Rattle.std.specs.Prelude.{vec_len};
 ghost use Rattle.flow_disk.specs.Disk.{IsDiskImage, AllImages, Stays};
-ghost use Rattle.flow_disk.specs.Moments.{LeavesOnly};
+ghost use Rattle.flow_disk.specs.Calls.{LeavesOnly, OnlyReads};
 ghost use Rattle.flow_disk.specs.Cause.{HasCause};
 ghost use Rattle.flow_manifest.specs.Manifest.{IsValidManifest};
 ghost use Rattle.flow_manifest.specs.declared.slots.Slot.{Slot};
@@ -39,7 +39,7 @@ pub fn read_slots<D: Disk>(alloc: Global, disk: &mut D) -> Result<Slots, OpenErr
     // On an honest one: nothing changes.
     ensures held { IsTrue (D.honest disk.old) → Stays (D.held disk.old) (D.held disk.new) }
     ensures any_moment { IsTrue (D.honest disk.old)
-        → LeavesOnly D.moment D.left_since disk.old disk.new (IsDiskImage (D.held disk.old)) }
+        → LeavesOnly D.Disk disk.old disk.new (IsDiskImage (D.held disk.old)) }
 
     // The slots that are read are as the answer says.
     ensures found { IsTrue (D.honest disk.old) → IfOk result (λ slots. AreSlots slots (reads_of (D.held disk.old))) }
@@ -64,18 +64,12 @@ const ENOUGH: u64 = 131_124;
 
 /// The octets of a slot, as many as show whether it holds a manifest.
 fn slot_octets<D: Disk>(alloc: Global, disk: &mut D, file: u64) -> Result<Vec<u8>, OpenError>
-    ensures honest { D.honest disk.new ≡ D.honest disk.old }
-    ensures clock { D.moment disk.old ≤ D.moment disk.new }
-    ensures other_marks { (n : ℕ) → n ≢ file → D.marks disk.new n ≡ D.marks disk.old n }
-    ensures settled { (D.marks disk.new file).settled ≡ (D.marks disk.old file).settled }
-    ensures frozen { (D.marks disk.new file).frozen ≡ (D.marks disk.old file).frozen }
-    ensures listed { (D.marks disk.new file).listed ≡ (D.marks disk.old file).listed }
+    ensures reads { OnlyReads D.Disk disk.old disk.new file }
     ensures size { IfOk result (λ octets. vec_len octets ≤ (D.marks disk.new file).size) }
     ensures octets { IsTrue (D.honest disk.old)
         → IfOk result (λ octets. octets.items ≡ take enough (D.held disk.old file).reads) }
-    ensures held { IsTrue (D.honest disk.old) → Stays (D.held disk.old) (D.held disk.new) }
     ensures any_moment { IsTrue (D.honest disk.old)
-        → LeavesOnly D.moment D.left_since disk.old disk.new (IsDiskImage (D.held disk.old)) }
+        → LeavesOnly D.Disk disk.old disk.new (IsDiskImage (D.held disk.old)) }
     ensures refused { IfErr result (λ e. (e ≡ OpenError.OutOfMemory) ⊎ (e ≡ OpenError.Fault)) }
     ensures cause { HasCause OpenError.Fault (D.faults disk.old) (D.faults disk.new) result }
 {

@@ -1,9 +1,8 @@
 //! The two slots, and which of them counts.
 
 ghost use Rattle.std.specs.Prelude.{◌≡◌, ◌≢◌, ◌⊎◌, ℕ, ◌+◌, ◌≤◌, List, Bool, true, false, IsTrue, length, OnOk, OnErr};
-ghost use Rattle.flow_disk.specs.Disk.{AllImages, ComesOf, InFile};
-ghost use Rattle.flow_disk.specs.Moments.{LeavesOnly};
-ghost use Rattle.flow_disk.specs.Cause.{FailsOnlyByFault};
+ghost use Rattle.flow_disk.specs.Disk.{AllImages, InFile};
+ghost use Rattle.flow_disk.specs.Calls.{LeavesOnly, StopsBy, EndsBy, SettlesFile};
 ghost use Rattle.flow_manifest.specs.declared.manifest.Manifest.{Manifest};
 ghost use Rattle.flow_manifest.specs.Manifest.{IsValidManifest, manifest_octets};
 ghost use Rattle.flow_manifest.specs.Slots.{file_of, other, reads_of, AreSlots, IsReady, IsInForce, MayClose};
@@ -66,23 +65,14 @@ pub fn prepare<D: Disk>(disk: &mut D, slots: &mut Slots, body: &[u8]) -> Result<
     requires settled_current { (D.marks disk.old (file_of slots.old.current_slot)).settled ≡ true }
     requires told { IsTrue (D.honest disk.old) → AreSlots slots.old (reads_of (D.held disk.old)) }
 
-    ensures honest { D.honest disk.new ≡ D.honest disk.old }
-    ensures clock { D.moment disk.old ≤ D.moment disk.new }
-    ensures other_marks { (n : ℕ) → n ≢ file_of (other slots.old.current_slot)
-        → D.marks disk.new n ≡ D.marks disk.old n }
-    ensures thawed { (D.marks disk.new (file_of (other slots.old.current_slot))).frozen ≡ false }
-    ensures settled { OnOk result ((D.marks disk.new (file_of (other slots.old.current_slot))).settled ≡ true) }
-    ensures listed { OnOk result ((D.marks disk.new (file_of (other slots.old.current_slot))).listed ≡ true) }
-    ensures size { OnOk result
-        ((D.marks disk.new (file_of (other slots.old.current_slot))).size ≡ 1 + length body.now) }
-    ensures other_files { IsTrue (D.honest disk.old) → (n : ℕ) → n ≢ file_of (other slots.old.current_slot)
-        → D.held disk.new n ≡ D.held disk.old n }
+    ensures call { SettlesFile D.Disk disk.old disk.new (file_of (other slots.old.current_slot))
+        (1 + length body.now) result }
     ensures ok { OnOk result (slots.new ≡ record slots.old { other_open = false }) }
     ensures err { OnErr result (slots.new ≡ slots.old) }
 
     // A stop at any moment leaves the current manifest in force.
     ensures in_force { IsTrue (D.honest disk.old)
-        → LeavesOnly D.moment D.left_since disk.old disk.new (λ image. IsInForce image slots.old.current) }
+        → LeavesOnly D.Disk disk.old disk.new (λ image. IsInForce image slots.old.current) }
 
     // Afterwards the slots are as `slots` says, and a manifest with this body that follows the current one is ready.
     ensures told { IsTrue (D.honest disk.old) → OnOk result (AllImages (D.held disk.new) (AreSlots slots.new)) }
@@ -91,12 +81,9 @@ pub fn prepare<D: Disk>(disk: &mut D, slots: &mut Slots, body: &[u8]) -> Result<
         → OnOk result (IsReady slots.new m (reads_of (D.held disk.new))) }
 
     // The same, of one slot alone.
-    ensures any_moment { IsTrue (D.honest disk.old) → LeavesOnly D.moment D.left_since disk.old disk.new
-        (ComesOf (D.held disk.old) (InFile (file_of (other slots.old.current_slot)) MayClose)) }
-    ensures after { IsTrue (D.honest disk.old)
-        → OnOk result (AllImages (D.held disk.new)
-        (ComesOf (D.held disk.old) (InFile (file_of (other slots.old.current_slot)) (IsPrepared body.now)))) }
-    ensures cause { FailsOnlyByFault (D.faults disk.old) (D.faults disk.new) result }
+    ensures any_moment { StopsBy D.Disk disk.old disk.new (InFile (file_of (other slots.old.current_slot)) MayClose) }
+    ensures after { EndsBy D.Disk disk.old disk.new result
+        (InFile (file_of (other slots.old.current_slot)) (IsPrepared body.now)) }
 {
     let file = slots.current_slot.other().file();
     prepare_slot(disk, file, slots.other_open, body)?;
@@ -115,26 +102,15 @@ pub fn commit<D: Disk>(disk: &mut D, slots: &mut Slots, manifest: Manifest) -> R
     requires settled_current { (D.marks disk.old (file_of slots.old.current_slot)).settled ≡ true }
     requires ready { IsTrue (D.honest disk.old) → IsReady slots.old manifest (reads_of (D.held disk.old)) }
 
-    ensures honest { D.honest disk.new ≡ D.honest disk.old }
-    ensures clock { D.moment disk.old ≤ D.moment disk.new }
-    ensures other_marks { (n : ℕ) → n ≢ file_of (other slots.old.current_slot)
-        → D.marks disk.new n ≡ D.marks disk.old n }
-    ensures thawed { (D.marks disk.new (file_of (other slots.old.current_slot))).frozen ≡ false }
-    ensures settled { OnOk result ((D.marks disk.new (file_of (other slots.old.current_slot))).settled ≡ true) }
-    ensures listed { OnOk result ((D.marks disk.new (file_of (other slots.old.current_slot))).listed ≡ true) }
-    ensures size { OnOk result
-        ((D.marks disk.new (file_of (other slots.old.current_slot))).size
-        ≡ (D.marks disk.old (file_of (other slots.old.current_slot))).size) }
-    ensures other_files { IsTrue (D.honest disk.old) → (n : ℕ) → n ≢ file_of (other slots.old.current_slot)
-        → D.held disk.new n ≡ D.held disk.old n }
+    ensures call { SettlesFile D.Disk disk.old disk.new (file_of (other slots.old.current_slot))
+        (D.marks disk.old (file_of (other slots.old.current_slot))).size result }
     ensures ok { OnOk result (slots.new
         ≡ record { current = manifest; current_slot = other slots.old.current_slot; other_open = true }) }
     ensures err { OnErr result (slots.new ≡ slots.old) }
 
     // A stop at any moment leaves the current manifest in force, or this one.
     ensures in_force { IsTrue (D.honest disk.old)
-        → LeavesOnly D.moment D.left_since disk.old disk.new (λ image. IsInForce image slots.old.current
-        ⊎ IsInForce image manifest) }
+        → LeavesOnly D.Disk disk.old disk.new (λ image. IsInForce image slots.old.current ⊎ IsInForce image manifest) }
 
     // Afterwards this one is in force, and the slots are as `slots` says.
     ensures told { IsTrue (D.honest disk.old) → OnOk result (AllImages (D.held disk.new) (AreSlots slots.new)) }
@@ -142,12 +118,8 @@ pub fn commit<D: Disk>(disk: &mut D, slots: &mut Slots, manifest: Manifest) -> R
         → OnOk result (AllImages (D.held disk.new) (λ image. IsInForce image manifest)) }
 
     // The same, of one slot alone.
-    ensures any_moment { IsTrue (D.honest disk.old) → LeavesOnly D.moment D.left_since disk.old disk.new
-        (ComesOf (D.held disk.old) (InFile (file_of (other slots.old.current_slot)) MayOpen)) }
-    ensures after { IsTrue (D.honest disk.old)
-        → OnOk result (AllImages (D.held disk.new)
-        (ComesOf (D.held disk.old) (InFile (file_of (other slots.old.current_slot)) Opens))) }
-    ensures cause { FailsOnlyByFault (D.faults disk.old) (D.faults disk.new) result }
+    ensures any_moment { StopsBy D.Disk disk.old disk.new (InFile (file_of (other slots.old.current_slot)) MayOpen) }
+    ensures after { EndsBy D.Disk disk.old disk.new result (InFile (file_of (other slots.old.current_slot)) Opens) }
 {
     let slot = slots.current_slot.other();
     let file = slot.file();

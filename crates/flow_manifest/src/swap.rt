@@ -1,9 +1,8 @@
 //! The steps of a swap, each on the slot that isn't in force.
 
 ghost use Rattle.std.specs.Prelude.{◌≡◌, ◌≢◌, ℕ, ◌+◌, ◌≤◌, Bool, true, false, IsTrue, length, OnOk};
-ghost use Rattle.flow_disk.specs.Disk.{AllImages, ComesOf, InFile};
-ghost use Rattle.flow_disk.specs.Moments.{LeavesOnly};
-ghost use Rattle.flow_disk.specs.Cause.{FailsOnlyByFault};
+ghost use Rattle.flow_disk.specs.Disk.{InFile};
+ghost use Rattle.flow_disk.specs.Calls.{StopsBy, EndsBy, ChangesFile, SettlesFile};
 ghost use Rattle.flow_manifest.specs.Slots.{HasGate, HasSomeGate, SetsGate, IsClosed, MayClose, Closes, KeepsGate};
 ghost use Rattle.flow_manifest.specs.Slots.{HasBody, IsPrepared, MayOpen, Opens};
 
@@ -24,23 +23,13 @@ fn write_gate<D: Disk>(disk: &mut D, file: u64, gate: u8) -> Result<(), DiskErro
     requires thawed { (D.marks disk.old file).frozen ≡ false }
     requires settled { (D.marks disk.old file).settled ≡ true }
 
-    ensures honest { D.honest disk.new ≡ D.honest disk.old }
-    ensures clock { D.moment disk.old ≤ D.moment disk.new }
-    ensures other_marks { (n : ℕ) → n ≢ file → D.marks disk.new n ≡ D.marks disk.old n }
-    ensures thawed { (D.marks disk.new file).frozen ≡ false }
-    ensures settled { OnOk result ((D.marks disk.new file).settled ≡ true) }
-    ensures listed { OnOk result ((D.marks disk.new file).listed ≡ true) }
-    ensures size { OnOk result ((D.marks disk.new file).size ≡ (D.marks disk.old file).size) }
-    ensures other_files { IsTrue (D.honest disk.old) → (n : ℕ) → n ≢ file → D.held disk.new n ≡ D.held disk.old n }
+    ensures call { SettlesFile D.Disk disk.old disk.new file (D.marks disk.old file).size result }
 
     // A stop at any moment leaves some gate.
-    ensures any_moment { IsTrue (D.honest disk.old) → LeavesOnly D.moment D.left_since disk.old disk.new
-        (ComesOf (D.held disk.old) (InFile file HasSomeGate)) }
+    ensures any_moment { StopsBy D.Disk disk.old disk.new (InFile file HasSomeGate) }
 
     // Afterwards it is this one.
-    ensures after { IsTrue (D.honest disk.old)
-        → OnOk result (AllImages (D.held disk.new) (ComesOf (D.held disk.old) (InFile file (SetsGate gate)))) }
-    ensures cause { FailsOnlyByFault (D.faults disk.old) (D.faults disk.new) result }
+    ensures after { EndsBy D.Disk disk.old disk.new result (InFile file (SetsGate gate)) }
 {
     disk.write_at(file, 0, &[gate])?;
     disk.sync(file)
@@ -53,22 +42,15 @@ pub(crate) fn close_slot<D: Disk>(disk: &mut D, file: u64, was_open: bool) -> Re
     requires settled { (D.marks disk.old file).settled ≡ true }
     requires gate { IsTrue (D.honest disk.old) → HasGate was_open (D.held disk.old file).reads }
 
-    ensures honest { D.honest disk.new ≡ D.honest disk.old }
-    ensures clock { D.moment disk.old ≤ D.moment disk.new }
-    ensures other_marks { (n : ℕ) → n ≢ file → D.marks disk.new n ≡ D.marks disk.old n }
-    ensures thawed { (D.marks disk.new file).frozen ≡ false }
+    ensures call { ChangesFile D.Disk disk.old disk.new file result }
     ensures settled { OnOk result ((D.marks disk.new file).settled ≡ true) }
     ensures size { OnOk result ((D.marks disk.new file).size ≡ (D.marks disk.old file).size) }
-    ensures other_files { IsTrue (D.honest disk.old) → (n : ℕ) → n ≢ file → D.held disk.new n ≡ D.held disk.old n }
 
     // A stop at any moment leaves the slot as it was, or closed.
-    ensures any_moment { IsTrue (D.honest disk.old) → LeavesOnly D.moment D.left_since disk.old disk.new
-        (ComesOf (D.held disk.old) (InFile file MayClose)) }
+    ensures any_moment { StopsBy D.Disk disk.old disk.new (InFile file MayClose) }
 
     // Afterwards it is closed.
-    ensures after { IsTrue (D.honest disk.old)
-        → OnOk result (AllImages (D.held disk.new) (ComesOf (D.held disk.old) (InFile file (Closes was_open)))) }
-    ensures cause { FailsOnlyByFault (D.faults disk.old) (D.faults disk.new) result }
+    ensures after { EndsBy D.Disk disk.old disk.new result (InFile file (Closes was_open)) }
 {
     if !was_open {
         return Ok(());
@@ -82,23 +64,13 @@ pub(crate) fn write_body<D: Disk>(disk: &mut D, file: u64, body: &[u8]) -> Resul
     requires thawed { (D.marks disk.old file).frozen ≡ false }
     requires settled { (D.marks disk.old file).settled ≡ true }
 
-    ensures honest { D.honest disk.new ≡ D.honest disk.old }
-    ensures clock { D.moment disk.old ≤ D.moment disk.new }
-    ensures other_marks { (n : ℕ) → n ≢ file → D.marks disk.new n ≡ D.marks disk.old n }
-    ensures thawed { (D.marks disk.new file).frozen ≡ false }
-    ensures settled { OnOk result ((D.marks disk.new file).settled ≡ true) }
-    ensures listed { OnOk result ((D.marks disk.new file).listed ≡ true) }
-    ensures size { OnOk result ((D.marks disk.new file).size ≡ 1 + length body.now) }
-    ensures other_files { IsTrue (D.honest disk.old) → (n : ℕ) → n ≢ file → D.held disk.new n ≡ D.held disk.old n }
+    ensures call { SettlesFile D.Disk disk.old disk.new file (1 + length body.now) result }
 
     // A stop at any moment leaves the gate.
-    ensures any_moment { IsTrue (D.honest disk.old) → LeavesOnly D.moment D.left_since disk.old disk.new
-        (ComesOf (D.held disk.old) (InFile file KeepsGate)) }
+    ensures any_moment { StopsBy D.Disk disk.old disk.new (InFile file KeepsGate) }
 
     // Afterwards the slot is its gate and the body.
-    ensures after { IsTrue (D.honest disk.old)
-        → OnOk result (AllImages (D.held disk.new) (ComesOf (D.held disk.old) (InFile file (HasBody body.now)))) }
-    ensures cause { FailsOnlyByFault (D.faults disk.old) (D.faults disk.new) result }
+    ensures after { EndsBy D.Disk disk.old disk.new result (InFile file (HasBody body.now)) }
 {
     disk.write_at(file, GATE_LENGTH, body)?;
     disk.cut(file, GATE_LENGTH + body.len() as u64)?;
@@ -118,23 +90,13 @@ pub fn prepare_slot<D: Disk>(
     requires settled { (D.marks disk.old file).settled ≡ true }
     requires gate { IsTrue (D.honest disk.old) → HasGate was_open (D.held disk.old file).reads }
 
-    ensures honest { D.honest disk.new ≡ D.honest disk.old }
-    ensures clock { D.moment disk.old ≤ D.moment disk.new }
-    ensures other_marks { (n : ℕ) → n ≢ file → D.marks disk.new n ≡ D.marks disk.old n }
-    ensures thawed { (D.marks disk.new file).frozen ≡ false }
-    ensures settled { OnOk result ((D.marks disk.new file).settled ≡ true) }
-    ensures listed { OnOk result ((D.marks disk.new file).listed ≡ true) }
-    ensures size { OnOk result ((D.marks disk.new file).size ≡ 1 + length body.now) }
-    ensures other_files { IsTrue (D.honest disk.old) → (n : ℕ) → n ≢ file → D.held disk.new n ≡ D.held disk.old n }
+    ensures call { SettlesFile D.Disk disk.old disk.new file (1 + length body.now) result }
 
     // A stop at any moment leaves the slot as it was, or closed.
-    ensures any_moment { IsTrue (D.honest disk.old) → LeavesOnly D.moment D.left_since disk.old disk.new
-        (ComesOf (D.held disk.old) (InFile file MayClose)) }
+    ensures any_moment { StopsBy D.Disk disk.old disk.new (InFile file MayClose) }
 
     // Afterwards the body stands alone behind a closed gate.
-    ensures after { IsTrue (D.honest disk.old)
-        → OnOk result (AllImages (D.held disk.new) (ComesOf (D.held disk.old) (InFile file (IsPrepared body.now)))) }
-    ensures cause { FailsOnlyByFault (D.faults disk.old) (D.faults disk.new) result }
+    ensures after { EndsBy D.Disk disk.old disk.new result (InFile file (IsPrepared body.now)) }
 {
     close_slot(disk, file, was_open)?;
     write_body(disk, file, body)
@@ -147,23 +109,13 @@ pub fn open_slot<D: Disk>(disk: &mut D, file: u64) -> Result<(), DiskError>
     requires settled { (D.marks disk.old file).settled ≡ true }
     requires gate { IsTrue (D.honest disk.old) → IsClosed (D.held disk.old file).reads }
 
-    ensures honest { D.honest disk.new ≡ D.honest disk.old }
-    ensures clock { D.moment disk.old ≤ D.moment disk.new }
-    ensures other_marks { (n : ℕ) → n ≢ file → D.marks disk.new n ≡ D.marks disk.old n }
-    ensures thawed { (D.marks disk.new file).frozen ≡ false }
-    ensures settled { OnOk result ((D.marks disk.new file).settled ≡ true) }
-    ensures listed { OnOk result ((D.marks disk.new file).listed ≡ true) }
-    ensures size { OnOk result ((D.marks disk.new file).size ≡ (D.marks disk.old file).size) }
-    ensures other_files { IsTrue (D.honest disk.old) → (n : ℕ) → n ≢ file → D.held disk.new n ≡ D.held disk.old n }
+    ensures call { SettlesFile D.Disk disk.old disk.new file (D.marks disk.old file).size result }
 
     // A stop at any moment leaves the slot closed, or open with what stood behind the gate.
-    ensures any_moment { IsTrue (D.honest disk.old) → LeavesOnly D.moment D.left_since disk.old disk.new
-        (ComesOf (D.held disk.old) (InFile file MayOpen)) }
+    ensures any_moment { StopsBy D.Disk disk.old disk.new (InFile file MayOpen) }
 
     // Afterwards it is open.
-    ensures after { IsTrue (D.honest disk.old)
-        → OnOk result (AllImages (D.held disk.new) (ComesOf (D.held disk.old) (InFile file Opens))) }
-    ensures cause { FailsOnlyByFault (D.faults disk.old) (D.faults disk.new) result }
+    ensures after { EndsBy D.Disk disk.old disk.new result (InFile file Opens) }
 {
     write_gate(disk, file, OPEN)
 }

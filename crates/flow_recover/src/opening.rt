@@ -5,7 +5,7 @@ ghost use Rattle.std.specs.Prelude.{List, map};
 ghost use Rattle.std.specs.Prelude.{OnOk, IfOk, IfErr, IsErrOf};
 ghost use Rattle.std.specs.List.{AllByRecursion};
 ghost use Rattle.flow_disk.specs.Disk.{AllImages, IsDiskImage, IsWithin};
-ghost use Rattle.flow_disk.specs.Moments.{LeavesOnly};
+ghost use Rattle.flow_disk.specs.Calls.{LeavesOnly};
 ghost use Rattle.flow_disk.specs.Cause.{HasCause};
 ghost use Rattle.flow_manifest.specs.declared.slots.Slot.{Slot};
 ghost use Rattle.flow_manifest.specs.Manifest.{IsValidManifest};
@@ -86,7 +86,7 @@ pub fn recover<D: Disk>(alloc: Global, disk: &mut D) -> Result<Recovered<D>, Rec
     ensures kept { IsTrue (D.honest disk.old) → (IsErrOf result RecoverError.Fault → ⊥)
         → (slot : Slot) → (D.held disk.new (file_of slot)).reads ≡ (D.held disk.old (file_of slot)).reads }
     ensures any_moment { IsTrue (D.honest disk.old) → (a b : State) → AllImages (D.held disk.old) (StandsForEither a b)
-        → LeavesOnly D.moment D.left_since disk.old disk.new (StandsForEither a b) }
+        → LeavesOnly D.Disk disk.old disk.new (StandsForEither a b) }
 {
     let Found { slots, last, files } = find(alloc, disk)?;
     let parts = tidy(alloc, disk, &slots.current, last, files.end)?;
@@ -123,7 +123,7 @@ fn find<D: Disk>(alloc: Global, disk: &mut D) -> Result<Found, RecoverError>
     // On an honest one.
     ensures narrows { IsTrue (D.honest disk.old) → AllImages (D.held disk.new) (IsDiskImage (D.held disk.old)) }
     ensures any_moment { IsTrue (D.honest disk.old)
-        → LeavesOnly D.moment D.left_since disk.old disk.new (IsDiskImage (D.held disk.old)) }
+        → LeavesOnly D.Disk disk.old disk.new (IsDiskImage (D.held disk.old)) }
     ensures reads { IsTrue (D.honest disk.old)
         → OnOk result ((n : ℕ) → (D.held disk.new n).reads ≡ (D.held disk.old n).reads) }
     ensures kept { IsTrue (D.honest disk.old) → IfErr result (λ e. e ≢ RecoverError.Fault

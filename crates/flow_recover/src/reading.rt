@@ -3,8 +3,8 @@
 ghost use Rattle.std.specs.Prelude.{◌≡◌, ◌≢◌, ℕ, ◌+◌, ◌^◌, ◌<◌, ◌≤◌, map, true, false, IsTrue, List, length, OnOk};
 ghost use Rattle.std.specs.Prelude.{IfOk, IfErr, IfSome, IfNone, Option, None};
 ghost use Rattle.std.specs.List.{All, AllByRecursion, sum_by};
-ghost use Rattle.flow_disk.specs.Disk.{IsDiskImage, AllImages, Stays};
-ghost use Rattle.flow_disk.specs.Moments.{LeavesOnly};
+ghost use Rattle.flow_disk.specs.Disk.{IsDiskImage, Stays};
+ghost use Rattle.flow_disk.specs.Calls.{LeavesOnly};
 ghost use Rattle.flow_gate.specs.Gate.{IsWhole, octet_sum, IsRow, IsMessageAt};
 ghost use Rattle.flow_gate.specs.Scan.{texts};
 ghost use Rattle.flow_manifest.specs.declared.manifest.Entry.{Entry};
@@ -67,8 +67,8 @@ pub(crate) fn read_files<D: Disk>(
 
     // On an honest one: what the files hold, where they hold an archive's.
     ensures held { IsTrue (D.honest disk.old) → Stays (D.held disk.old) (D.held disk.new) }
-    ensures any_moment { IsTrue (D.honest disk.old) → LeavesOnly D.moment D.left_since disk.old disk.new
-        (IsDiskImage (D.held disk.old)) }
+    ensures any_moment { IsTrue (D.honest disk.old)
+        → LeavesOnly D.Disk disk.old disk.new (IsDiskImage (D.held disk.old)) }
     ensures found { IsTrue (D.honest disk.old) → IfOk result (λ f. (parts : List Part)
         × HoldsFiles (reads_of (D.held disk.old)) (at_rest manifest.now parts (part_of f.active))
         × HandsOn (at_rest manifest.now parts (part_of f.active)) f.carry) }
@@ -130,8 +130,8 @@ fn read_active<D: Disk>(
     ensures whole { IfOk result (λ r. All IsWhole (part_of r.0).messages) }
     ensures cause { HasCause RecoverError.Fault (D.faults disk.old) (D.faults disk.new) result }
     ensures held { IsTrue (D.honest disk.old) → Stays (D.held disk.old) (D.held disk.new) }
-    ensures any_moment { IsTrue (D.honest disk.old) → LeavesOnly D.moment D.left_since disk.old disk.new
-        (IsDiskImage (D.held disk.old)) }
+    ensures any_moment { IsTrue (D.honest disk.old)
+        → LeavesOnly D.Disk disk.old disk.new (IsDiskImage (D.held disk.old)) }
     ensures found { IsTrue (D.honest disk.old) → IfOk result (λ r. IsActiveAt (D.held disk.old last.file).reads last
         (part_of r.0)) }
     ensures refused { IsTrue (D.honest disk.old) → (p : Part) → IsActiveAt (D.held disk.old last.file).reads last p
@@ -168,8 +168,8 @@ fn read_entries<D: Disk>(
     ensures slots { (n : ℕ) → n < 3 → D.marks disk.new n ≡ D.marks disk.old n }
     ensures cause { HasCause RecoverError.Fault (D.faults disk.old) (D.faults disk.new) result }
     ensures held { IsTrue (D.honest disk.old) → Stays (D.held disk.old) (D.held disk.new) }
-    ensures any_moment { IsTrue (D.honest disk.old) → LeavesOnly D.moment D.left_since disk.old disk.new
-        (IsDiskImage (D.held disk.old)) }
+    ensures any_moment { IsTrue (D.honest disk.old)
+        → LeavesOnly D.Disk disk.old disk.new (IsDiskImage (D.held disk.old)) }
     ensures found { IsTrue (D.honest disk.old) → IfOk result (λ called. (parts : List Part) × (after : Option Carry)
         × PartsStand (reads_of (D.held disk.old)) entries.now parts
         × ArePartsBehind manifest.now None entries.now parts after × IsHeldBehind after called) }
@@ -202,8 +202,8 @@ fn read_part<D: Disk>(
     ensures slots { (n : ℕ) → n < 3 → D.marks disk.new n ≡ D.marks disk.old n }
     ensures cause { HasCause RecoverError.Fault (D.faults disk.old) (D.faults disk.new) result }
     ensures held { IsTrue (D.honest disk.old) → Stays (D.held disk.old) (D.held disk.new) }
-    ensures any_moment { IsTrue (D.honest disk.old) → LeavesOnly D.moment D.left_since disk.old disk.new
-        (IsDiskImage (D.held disk.old)) }
+    ensures any_moment { IsTrue (D.honest disk.old)
+        → LeavesOnly D.Disk disk.old disk.new (IsDiskImage (D.held disk.old)) }
     ensures found { IsTrue (D.honest disk.old) → (before : Option Carry) → IsHeldBehind before called
         → IfOk result (λ next. (p : Part) × (after : Option Carry)
         × StandsAs entry.kind (D.held disk.old entry.file).reads entry p

@@ -3,7 +3,7 @@
 ghost use Rattle.std.specs.Prelude.{◌≡◌, ◌≢◌, ◌⊎◌, ℕ, ◌≤◌, true, false, IsTrue, List, length, OnOk, IfOk, IfErr};
 ghost use Rattle.std.specs.List.{AllByRecursion};
 ghost use Rattle.flow_disk.specs.Disk.{IsDiskImage, AllImages};
-ghost use Rattle.flow_disk.specs.Moments.{LeavesOnly};
+ghost use Rattle.flow_disk.specs.Calls.{LeavesOnly};
 ghost use Rattle.flow_disk.specs.Cause.{FailsOnlyByFault, HasCause};
 ghost use Rattle.flow_manifest.specs.declared.slots.Slot.{Slot};
 ghost use Rattle.flow_manifest.specs.Manifest.{IsValidManifest};
@@ -29,7 +29,7 @@ pub(crate) fn settle<D: Disk>(disk: &mut D, file: u64) -> Result<(), DiskError>
         → OnOk result ((n : ℕ) → (D.held disk.new n).reads ≡ (D.held disk.old n).reads) }
     ensures narrows { IsTrue (D.honest disk.old) → AllImages (D.held disk.new) (IsDiskImage (D.held disk.old)) }
     ensures any_moment { IsTrue (D.honest disk.old)
-        → LeavesOnly D.moment D.left_since disk.old disk.new (IsDiskImage (D.held disk.old)) }
+        → LeavesOnly D.Disk disk.old disk.new (IsDiskImage (D.held disk.old)) }
     ensures cause { FailsOnlyByFault (D.faults disk.old) (D.faults disk.new) result }
 {
     disk.sync(file)?;
@@ -46,7 +46,7 @@ pub(crate) fn settle_slots<D: Disk>(disk: &mut D) -> Result<(), DiskError>
         → OnOk result ((n : ℕ) → (D.held disk.new n).reads ≡ (D.held disk.old n).reads) }
     ensures narrows { IsTrue (D.honest disk.old) → AllImages (D.held disk.new) (IsDiskImage (D.held disk.old)) }
     ensures any_moment { IsTrue (D.honest disk.old)
-        → LeavesOnly D.moment D.left_since disk.old disk.new (IsDiskImage (D.held disk.old)) }
+        → LeavesOnly D.Disk disk.old disk.new (IsDiskImage (D.held disk.old)) }
     ensures cause { FailsOnlyByFault (D.faults disk.old) (D.faults disk.new) result }
 {
     settle(disk, 1)?;
@@ -67,7 +67,7 @@ pub(crate) fn settle_entries<D: Disk>(disk: &mut D, entries: &[Entry]) -> Result
         → OnOk result ((n : ℕ) → (D.held disk.new n).reads ≡ (D.held disk.old n).reads) }
     ensures narrows { IsTrue (D.honest disk.old) → AllImages (D.held disk.new) (IsDiskImage (D.held disk.old)) }
     ensures any_moment { IsTrue (D.honest disk.old)
-        → LeavesOnly D.moment D.left_since disk.old disk.new (IsDiskImage (D.held disk.old)) }
+        → LeavesOnly D.Disk disk.old disk.new (IsDiskImage (D.held disk.old)) }
     ensures cause { FailsOnlyByFault (D.faults disk.old) (D.faults disk.new) result }
 {
     'entries: for entry in entries {
@@ -93,7 +93,7 @@ pub(crate) fn settle_all<D: Disk>(alloc: Global, disk: &mut D) -> Result<Slots, 
         → (n : ℕ) → (D.held disk.new n).reads ≡ (D.held disk.old n).reads) }
     ensures narrows { IsTrue (D.honest disk.old) → AllImages (D.held disk.new) (IsDiskImage (D.held disk.old)) }
     ensures any_moment { IsTrue (D.honest disk.old)
-        → LeavesOnly D.moment D.left_since disk.old disk.new (IsDiskImage (D.held disk.old)) }
+        → LeavesOnly D.Disk disk.old disk.new (IsDiskImage (D.held disk.old)) }
     ensures found { IsTrue (D.honest disk.old) → IfOk result (λ slots. AreSlots slots (reads_of (D.held disk.new))) }
     ensures told { IsTrue (D.honest disk.old)
         → IfErr result (λ e. IsDeviceOrMemory e ⊎ StandsForNone (reads_of (D.held disk.old))) }

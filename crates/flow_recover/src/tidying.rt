@@ -4,9 +4,9 @@
 ghost use Rattle.std.specs.Prelude.{◌≡◌, ◌≢◌, ◌⊎◌, ℕ, ◌+◌, ◌^◌, ◌<◌, ◌≤◌, ◌==◌, true, false, IsTrue, List, length, map};
 ghost use Rattle.std.specs.Prelude.{OnOk, IfOk, IfErr};
 ghost use Rattle.std.specs.List.{list_any, AllByRecursion};
-ghost use Rattle.flow_disk.specs.Disk.{AllImages, ComesOf, InFile};
-ghost use Rattle.flow_disk.specs.Moments.{LeavesOnly};
-ghost use Rattle.flow_disk.specs.Cause.{FailsOnlyByFault, HasCause};
+ghost use Rattle.flow_disk.specs.Disk.{AllImages, InFile};
+ghost use Rattle.flow_disk.specs.Calls.{LeavesOnly, StopsBy};
+ghost use Rattle.flow_disk.specs.Cause.{HasCause};
 ghost use Rattle.flow_manifest.specs.declared.slots.Slot.{Slot};
 ghost use Rattle.flow_manifest.specs.declared.slots.Slots.{Slots};
 ghost use Rattle.flow_manifest.specs.Slots.{file_of};
@@ -35,8 +35,7 @@ pub(crate) fn cut_file<D: Disk>(disk: &mut D, file: u64, length: u64) -> Result<
     ensures size { OnOk result ((D.marks disk.new file).size ≡ length) }
     ensures listed { OnOk result ((D.marks disk.new file).listed ≡ true) }
     ensures other_files { IsTrue (D.honest disk.old) → (n : ℕ) → n ≢ file → D.held disk.new n ≡ D.held disk.old n }
-    ensures any_moment { IsTrue (D.honest disk.old) → LeavesOnly D.moment D.left_since disk.old disk.new
-        (ComesOf (D.held disk.old) (InFile file (KeepsFront length))) }
+    ensures any_moment { StopsBy D.Disk disk.old disk.new (InFile file (KeepsFront length)) }
     ensures refused { IsTrue (D.honest disk.old) → length ≤ (D.marks disk.old file).size
         → IfErr result IsDeviceOrMemory }
     ensures cause { HasCause RecoverError.Fault (D.faults disk.old) (D.faults disk.new) result }
@@ -55,8 +54,7 @@ fn freeze_one<D: Disk>(disk: &mut D, entry: Entry) -> Result<D::Sealed, RecoverE
     requires settled { (D.marks disk.old entry.file).settled ≡ true }
     ensures honest { D.honest disk.new ≡ D.honest disk.old }
     ensures other_marks { (n : ℕ) → n ≢ entry.file → D.marks disk.new n ≡ D.marks disk.old n }
-    ensures any_moment { IsTrue (D.honest disk.old) → LeavesOnly D.moment D.left_since disk.old disk.new
-        (ComesOf (D.held disk.old) (InFile entry.file (KeepsFront entry.length))) }
+    ensures any_moment { StopsBy D.Disk disk.old disk.new (InFile entry.file (KeepsFront entry.length)) }
     ensures other_files { IsTrue (D.honest disk.old)
         → (n : ℕ) → n ≢ entry.file → D.held disk.new n ≡ D.held disk.old n }
     ensures octets { IsTrue (D.honest disk.old) → IfOk result (λ part. D.Sealed.octets part ≡
@@ -87,8 +85,7 @@ pub(crate) fn freeze_files<D: Disk>(
     ensures other_marks { (n : ℕ) → AllByRecursion (λ e. e.file ≢ n) entries.now
         → D.marks disk.new n ≡ D.marks disk.old n }
     ensures any_moment { IsTrue (D.honest disk.old) → (slots : Slots) (s : State) → front_of s.manifest ≡ entries.now
-        → AllImages (D.held disk.old) (IsKnown slots s)
-        → LeavesOnly D.moment D.left_since disk.old disk.new (IsKnown slots s) }
+        → AllImages (D.held disk.old) (IsKnown slots s) → LeavesOnly D.Disk disk.old disk.new (IsKnown slots s) }
     ensures other_files { IsTrue (D.honest disk.old) → (n : ℕ) → AllByRecursion (λ e. e.file ≢ n) entries.now
         → D.held disk.new n ≡ D.held disk.old n }
     ensures all { IfOk result (λ parts. length parts.items ≡ length entries.now) }
@@ -138,8 +135,7 @@ fn remove_one<D: Disk>(disk: &mut D, manifest: &Manifest, file: u64) -> Result<(
     ensures removed { OnOk result (is_file_of manifest.now file ≡ false → (D.marks disk.new file).listed ≡ false) }
     ensures named { IsTrue (D.honest disk.old) → (n : ℕ) → is_file_of manifest.now n ≡ true
         → D.held disk.new n ≡ D.held disk.old n }
-    ensures any_moment { IsTrue (D.honest disk.old) → LeavesOnly D.moment D.left_since disk.old disk.new
-        (ComesOf (D.held disk.old) (SameNamed manifest.now)) }
+    ensures any_moment { StopsBy D.Disk disk.old disk.new (SameNamed manifest.now) }
     ensures cause { HasCause DiskError.Fault (D.faults disk.old) (D.faults disk.new) result }
 {
     if is_named(manifest, file) {
@@ -163,8 +159,7 @@ pub(crate) fn remove_unnamed<D: Disk>(
         → OnOk result ((n : ℕ) → is_file_of manifest.now n ≡ false → (D.marks disk.new n).listed ≡ false) }
     ensures named { IsTrue (D.honest disk.old) → (n : ℕ) → is_file_of manifest.now n ≡ true
         → D.held disk.new n ≡ D.held disk.old n }
-    ensures any_moment { IsTrue (D.honest disk.old) → LeavesOnly D.moment D.left_since disk.old disk.new
-        (ComesOf (D.held disk.old) (SameNamed manifest.now)) }
+    ensures any_moment { StopsBy D.Disk disk.old disk.new (SameNamed manifest.now) }
     ensures cause { HasCause DiskError.Fault (D.faults disk.old) (D.faults disk.new) result }
 {
     let files = disk.files(alloc)?;
@@ -198,7 +193,7 @@ pub(crate) fn tidy<D: Disk>(
         → OnOk result ((n : ℕ) → is_file_of manifest.now n ≡ false → (D.marks disk.new n).listed ≡ false) }
     ensures any_moment { IsTrue (D.honest disk.old) → (slots : Slots) (s : State) → s.manifest ≡ manifest.now
         → end_of s ≡ end → AllImages (D.held disk.old) (IsKnown slots s)
-        → LeavesOnly D.moment D.left_since disk.old disk.new (IsKnown slots s) }
+        → LeavesOnly D.Disk disk.old disk.new (IsKnown slots s) }
     ensures all { IfOk result (λ parts. length parts.items ≡ length (front_of manifest.now)) }
     ensures files { IfOk result (λ parts. AreFilesOf D.Sealed.number D.Sealed.size D.Sealed.honest (D.honest disk.new)
         (front_of manifest.now) parts.items) }

@@ -1,53 +1,54 @@
 -- The calls that make a segment's file, one behind the other.
-use Rattle.std.proofs.Common.{◌≡◌, ◌≢◌, ℕ, ◌+◌, Bool, IsTrue, List, ◌++◌, length, take, drop, refl, sym, ◌∙◌}
+use Rattle.std.proofs.Common.{◌≡◌, ◌≢◌, ℕ, ◌+◌, IsTrue, List, ◌++◌, length, take, drop, refl, sym, ◌∙◌}
 use Rattle.std.proofs.Common.{ap, subst, arith, length-append}
 use Rattle.std.proofs.lemmas.List.{take_at}
+use Rattle.flow_disk.specs.declared.disk.Disk.{Ghosts}
 use Rattle.flow_disk.specs.Disk.{Held, IsImage, IsDiskImage, ComesOf, InFile, changed, put_at}
-use Rattle.flow_disk.specs.Moments.{Elapses, LeavesOnly}
+use Rattle.flow_disk.specs.Moments.{Passes}
+use Rattle.flow_disk.specs.Calls.{LeavesOnly}
 use Rattle.flow_disk.proofs.Calls.{starts, changes, stays}
 use Rattle.flow_segment.specs.Steps.{trailer, IsAnything}
 
-module _ {D : Type 0} (honest : D → Bool) (moment : D → ℕ) (left_since : D → ℕ → (ℕ → List ℕ) → Type 0)
-    (held : D → ℕ → Held) (start : D) (file : ℕ)
-    (reads_image : IsImage (held start file) (held start file).reads) where
-  -- So far a stop leaves the other files as they were, and they are.
-  pub record LeavesOthers (now : D) : Type 0 where
-    pub run : LeavesOnly moment left_since start now (ComesOf (held start) (InFile file IsAnything))
-    pub others : (n : ℕ) → n ≢ file → held now n ≡ held start n
-    pub still_honest : IsTrue (honest now)
+-- So far a stop leaves the other files as they were, and they are.
+pub record LeavesOthers {D S X : Type 0} (g : Ghosts D S X) (start : D) (file : ℕ) (now : D) : Type 0 where
+  pub honest : IsTrue (g.honest now)
+  pub image : IsImage (g.held start file) (g.held start file).reads
+  pub run : LeavesOnly g start now (ComesOf (g.held start) (InFile file IsAnything))
+  pub others : (n : ℕ) → n ≢ file → g.held now n ≡ g.held start n
 
-  anything : (octets : List ℕ) → (before : List ℕ) × IsImage (held start file) before × IsAnything before octets
-  anything octets = ((held start file).reads, reads_image, tt)
-
-  pub begun : ((image : ℕ → List ℕ) → left_since start (moment start) image → IsDiskImage (held start) image)
-      → IsTrue (honest start) → LeavesOthers start
-  begun only_now h = record {
-    run = starts moment left_since held start file IsAnything only_now (λ octets is. tt);
+module _ {D S X : Type 0} {g : Ghosts D S X} {start : D} {file : ℕ} where
+  pub begun : IsTrue (g.honest start) → IsImage (g.held start file) (g.held start file).reads
+      → ((image : ℕ → List ℕ) → g.left_since start (g.moment start) image → IsDiskImage (g.held start) image)
+      → LeavesOthers g start file start
+  begun h image only_now = record {
+    honest = h;
+    image = image;
+    run = starts g start file IsAnything only_now (λ octets is. tt);
     others = λ n differs. refl;
-    still_honest = h;
   }
 
   -- a call that changes the file
-  pub changed_by : (mid new : D) (to : Held) → LeavesOthers mid → honest new ≡ honest mid
-      → (IsTrue (honest mid)
-      → Elapses (moment mid) (moment new) (left_since mid) (left_since new) (changed (held mid) file to))
-      → (IsTrue (honest mid) → (n : ℕ) → n ≢ file → held new n ≡ held mid n) → LeavesOthers new
-  changed_by mid new to so_far same time others = record {
-    run = changes moment left_since held start mid new file IsAnything to so_far.run so_far.others
-        (time so_far.still_honest) (λ octets is. anything octets);
-    others = λ n differs. others so_far.still_honest n differs ∙ so_far.others n differs;
-    still_honest = subst IsTrue (sym same) so_far.still_honest;
+  pub changed_by : {mid new : D} (to : Held) → LeavesOthers g start file mid → g.honest new ≡ g.honest mid
+      → (IsTrue (g.honest mid) → Passes g.moment g.left_since mid new (changed (g.held mid) file to))
+      → (IsTrue (g.honest mid) → (n : ℕ) → n ≢ file → g.held new n ≡ g.held mid n) → LeavesOthers g start file new
+  changed_by {mid} {new} to so_far same time others = record {
+    honest = subst IsTrue (sym same) so_far.honest;
+    image = so_far.image;
+    run = changes g start mid new file IsAnything to so_far.run so_far.others (time so_far.honest)
+        (λ octets is. ((g.held start file).reads, so_far.image, tt));
+    others = λ n differs. others so_far.honest n differs ∙ so_far.others n differs;
   }
 
   -- a call inside which nothing changes
-  pub settled_by : (mid new : D) → LeavesOthers mid → honest new ≡ honest mid
-      → (IsTrue (honest mid) → Elapses (moment mid) (moment new) (left_since mid) (left_since new) (held mid))
-      → (IsTrue (honest mid) → (n : ℕ) → n ≢ file → held new n ≡ held mid n) → LeavesOthers new
-  settled_by mid new so_far same time others = record {
-    run = stays moment left_since held start mid new file IsAnything so_far.run so_far.others
-        (time so_far.still_honest) (λ octets is. anything octets);
-    others = λ n differs. others so_far.still_honest n differs ∙ so_far.others n differs;
-    still_honest = subst IsTrue (sym same) so_far.still_honest;
+  pub settled_by : {mid new : D} → LeavesOthers g start file mid → g.honest new ≡ g.honest mid
+      → (IsTrue (g.honest mid) → Passes g.moment g.left_since mid new (g.held mid))
+      → (IsTrue (g.honest mid) → (n : ℕ) → n ≢ file → g.held new n ≡ g.held mid n) → LeavesOthers g start file new
+  settled_by {mid} {new} so_far same time others = record {
+    honest = subst IsTrue (sym same) so_far.honest;
+    image = so_far.image;
+    run = stays g start mid new file IsAnything so_far.run so_far.others (time so_far.honest)
+        (λ octets is. ((g.held start file).reads, so_far.image, tt));
+    others = λ n differs. others so_far.honest n differs ∙ so_far.others n differs;
   }
 
 -- ---- what is written

@@ -42,8 +42,7 @@ IsHeld file old (Ok false) new = (old.place ≡ old.end) × (new ≡ standing_at
 IsHeld file old (Err (Damaged f at)) new =
     (f ≡ file) × (at ≡ old.place) × ((fault : FileError) × IsFileFault old.place old.ahead fault)
     × (new ≡ standing_at old old.ahead)
-IsHeld file old (Err Fault) new = ⊥
-IsHeld file old (Err OutOfMemory) new = ⊥
+IsHeld file old (Err e) new = ⊥
 
 -- How far a step goes, whatever the octets: by those of a message, at most to the part's end.
 abbrev pub Moves : Cursor → Result Bool ScanError → Cursor → Type 0

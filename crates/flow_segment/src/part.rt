@@ -4,7 +4,7 @@ ghost use Rattle.std.specs.Prelude.{◌≡◌, ◌⊎◌, ◌+◌, ◌-◌, ◌�
 ghost use Rattle.std.specs.Prelude.{IfErr, IsErrOf, vec_len, ◌<◌};
 ghost use Rattle.flow_disk.specs.Cause.{HasCause};
 ghost use Rattle.flow_disk.specs.Disk.{IsDiskImage, Stays};
-ghost use Rattle.flow_disk.specs.Moments.{LeavesOnly};
+ghost use Rattle.flow_disk.specs.Calls.{LeavesOnly};
 ghost use Rattle.flow_codec.specs.Cutting.{length_of};
 ghost use Rattle.flow_segment.specs.Part.{before_message, standing_at, Holds, IsReady, IsHeld, IsOn, IsPartStep, Moves};
 
@@ -216,7 +216,7 @@ pub fn advance_on<D: Disk>(
         → IsOn (D.held disk.old file).reads cursor.new
         × IsPartStep (D.held disk.old file).reads file cursor.old result cursor.new }
     ensures any_moment { IsTrue (D.honest disk.old)
-        → LeavesOnly D.moment D.left_since disk.old disk.new (IsDiskImage (D.held disk.old)) }
+        → LeavesOnly D.Disk disk.old disk.new (IsDiskImage (D.held disk.old)) }
 {
     if cursor.is_short() {
         let piece = disk.read(alloc, file, cursor.place(), cursor.wanted())?;

@@ -1,7 +1,8 @@
 -- An append, behind a seal.
-use Rattle.std.proofs.Common.{◌≡◌, ◌⊎◌, ⊎_elim, ℕ, Bool, List, [], ◌++◌, Result, Ok, Err, refl, sym, ap, ◌∙◌, subst}
+use Rattle.std.proofs.Common.{◌≡◌, ◌⊎◌, ⊎_elim, ℕ, List, [], ◌++◌, Result, Ok, Err, refl, sym, ap, ◌∙◌, subst}
 use Rattle.std.proofs.Common.{append_assoc, ◌≢◌, ◌≤◌, ◌<◌, [], ◌∷◌, arith}
 use Rattle.std.specs.Prelude.{IfErr}
+use Rattle.flow_disk.specs.declared.disk.Disk.{Ghosts}
 use Rattle.flow_gate.specs.Gate.{octet_sum}
 use Rattle.flow_segment.specs.Carry.{prefix_of}
 use Rattle.flow_snapshot.specs.Changes.{Change}
@@ -12,25 +13,26 @@ use Rattle.flow_archive.specs.Answers.{AnswersAppend, AnswersSeal, HasRoom}
 use Rattle.flow_archive.specs.Seen.{Seen}
 use Rattle.flow_shared.specs.Calls.{added_by, by, AppendsOnce, AppendsSealed, IsAppend, IsClosedBy, IsRefusedBefore, IsSeal}
 
-module _ {D : Type 0} (honest : D → Bool) (moment : D → ℕ) (left_since : D → ℕ → (ℕ → List ℕ) → Type 0) where
+module _ {D S Y : Type 0} (g : Ghosts D S Y) where
   -- no room is a refusal that leaves all as it was
   pub no_room : (old mid : Seen D) (messages : List (List ℕ))
-      → IsAppend honest moment left_since old mid messages (Err NoRoom) ⊎ IsRefusedBefore {X = ℕ} old mid (Err NoRoom)
-      → (mid ≡ old) × IsAppend honest moment left_since old old messages (Err NoRoom)
+      → IsAppend g old mid messages (Err NoRoom) ⊎ IsRefusedBefore {X = ℕ} old mid (Err NoRoom)
+      → (mid ≡ old) × IsAppend g old old messages (Err NoRoom)
   no_room old mid messages called = ⊎_elim
-      (λ (a : IsAppend honest moment left_since old mid messages (Err NoRoom)).
+      (λ (a : IsAppend g old mid messages (Err NoRoom)).
       let same : mid ≡ old = a.step.refused (λ x. cc) in
-      (same, subst (λ (x : Seen D). IsAppend honest moment left_since old x messages (Err NoRoom)) same a))
+      (same, subst (λ (x : Seen D). IsAppend g old x messages (Err NoRoom)) same a))
       (λ (r : IsRefusedBefore {X = ℕ} old mid (Err NoRoom)). absurd (⊎_elim (λ c. cc) (λ c. cc) r.told))
       called
 
   pub sealed_then : (old mid new : Seen D) (messages : List (List ℕ)) (file : ℕ) (result : Result ℕ ArchiveError)
       (all0 all1 all2 : List Change)
-      → IsSeal honest moment left_since old mid (Ok file) ⊎ IsRefusedBefore {X = ℕ} old mid (Ok file)
-      → (steps : List Change) × IsClosedBy (honest old.disk) old.state mid.state (Ok file) steps × (all1 ≡ all0 ++ steps)
-      → AppendsOnce honest moment left_since mid new messages result (added_by messages result)
+      → IsSeal g old mid (Ok file) ⊎ IsRefusedBefore {X = ℕ} old mid (Ok file)
+      → (steps : List Change) × IsClosedBy (g.honest old.disk) old.state mid.state (Ok file) steps
+      × (all1 ≡ all0 ++ steps)
+      → AppendsOnce g mid new messages result (added_by messages result)
       → all2 ≡ all1 ++ added_by messages result
-      → (steps : List Change) × AppendsSealed honest moment left_since old new messages result steps
+      → (steps : List Change) × AppendsSealed g old new messages result steps
       × (all2 ≡ all0 ++ steps)
   sealed_then old mid new messages file result all0 all1 all2 call steps once grown =
       let more = added_by messages result in (
@@ -46,10 +48,10 @@ module _ {D : Type 0} (honest : D → Bool) (moment : D → ℕ) (left_since : D
       )
 
   pub seal_refused : (old new : Seen D) (messages : List (List ℕ)) (error : ArchiveError) (all0 all1 : List Change)
-      → IsSeal honest moment left_since old new (Err error) ⊎ IsRefusedBefore {X = ℕ} old new (Err error)
-      → (steps : List Change) × IsClosedBy (honest old.disk) old.state new.state (Err error) steps
+      → IsSeal g old new (Err error) ⊎ IsRefusedBefore {X = ℕ} old new (Err error)
+      → (steps : List Change) × IsClosedBy (g.honest old.disk) old.state new.state (Err error) steps
       × (all1 ≡ all0 ++ steps)
-      → (steps : List Change) × AppendsSealed honest moment left_since old new messages (Err error) steps
+      → (steps : List Change) × AppendsSealed g old new messages (Err error) steps
       × (all1 ≡ all0 ++ steps)
   seal_refused old new messages error all0 all1 call steps = (
     steps.0,
@@ -67,18 +69,18 @@ module _ {D : Type 0} (honest : D → Bool) (moment : D → ℕ) (left_since : D
 
   -- a seal isn't refused for want of room
   pub seal_has_room : (old new : Seen D) (error : ArchiveError)
-      → IsSeal honest moment left_since old new (Err error) ⊎ IsRefusedBefore {X = ℕ} old new (Err error)
+      → IsSeal g old new (Err error) ⊎ IsRefusedBefore {X = ℕ} old new (Err error)
       → error ≢ NoRoom
   seal_has_room old new error call is = ⊎_elim
-      (λ (a : IsSeal honest moment left_since old new (Err error)).
-      subst (λ (e : ArchiveError). AnswersSeal (honest old.disk) old.closed old.state (Err e) new.state) is a.answers)
+      (λ (a : IsSeal g old new (Err error)).
+      subst (λ (e : ArchiveError). AnswersSeal (g.honest old.disk) old.closed old.state (Err e) new.state) is a.answers)
       (λ (r : IsRefusedBefore {X = ℕ} old new (Err error)). absurd (⊎_elim (λ c. cc) (λ c. cc) r.told))
       call
 
   -- after a seal there is room for what a segment has room for
   room_after : (old mid new : Seen D) (messages : List (List ℕ)) (file : ℕ) (error : ArchiveError)
-      → IsSeal honest moment left_since old mid (Ok file)
-      → IsAppend honest moment left_since mid new messages (Err error)
+      → IsSeal g old mid (Ok file)
+      → IsAppend g mid new messages (Err error)
       → octet_sum messages ≤ old.state.manifest.limit → error ≢ NoRoom
   room_after old mid new messages file error seal append fit is =
       let moved = seal.answers.2 in
@@ -90,13 +92,13 @@ module _ {D : Type 0} (honest : D → Bool) (moment : D → ℕ) (left_since : D
 
   pub fits_after : {X : Type 0} (part : X → ℕ) (old mid new : Seen D) (messages : List (List ℕ)) (file : ℕ)
       (result : Result X ArchiveError) (steps : List Change)
-      → IsSeal honest moment left_since old mid (Ok file) ⊎ IsRefusedBefore {X = ℕ} old mid (Ok file)
-      → AppendsOnce honest moment left_since mid new messages (by part result) steps
+      → IsSeal g old mid (Ok file) ⊎ IsRefusedBefore {X = ℕ} old mid (Ok file)
+      → AppendsOnce g mid new messages (by part result) steps
       → octet_sum messages ≤ old.state.manifest.limit → IfErr result (λ error. error ≢ NoRoom)
   fits_after part old mid new messages file (Ok x) steps sealed once fit = tt
   fits_after part old mid new messages file (Err error) steps sealed once fit = ⊎_elim
-      (λ (seal : IsSeal honest moment left_since old mid (Ok file)). ⊎_elim
-      (λ (append : IsAppend honest moment left_since mid new messages (Err error)).
+      (λ (seal : IsSeal g old mid (Ok file)). ⊎_elim
+      (λ (append : IsAppend g mid new messages (Err error)).
       room_after old mid new messages file error seal append fit)
       (λ (r : IsRefusedBefore {X = ℕ} mid new (Err error)) is. absurd (⊎_elim (λ c. cc) (λ c. cc) r.told))
       once.0)

@@ -181,8 +181,8 @@ where
     fn add(&mut self, alloc: Global, messages: &[&[u8]]) -> Result<u64, ArchiveError>
         requires some { 1 ≤ length messages.now }
         requires few { length messages.now ≤ 64 }
-        ensures calls { AppendsOnce D.honest D.moment D.left_since self.old.core self.new.core
-            (slices messages.now) result (added_by (slices messages.now) result) }
+        ensures calls { AppendsOnce D.Disk self.old.core self.new.core (slices messages.now) result
+            (added_by (slices messages.now) result) }
         ensures steps { all_of self.new ≡ all_of self.old ++ added_by (slices messages.now) result }
         ensures position { IfOk result (λ n. n ≡ position_of (shelf_of self.new.core.state)) }
         ensures cause { HasCause ArchiveError.Fault (D.faults self.old.core.disk) (D.faults self.new.core.disk) result }
@@ -215,9 +215,8 @@ where
     fn once(&mut self, alloc: Global, messages: &[&[u8]]) -> Result<Receipt<J>, ArchiveError>
         requires some { 1 ≤ length messages.now }
         requires few { length messages.now ≤ 64 }
-        ensures calls { AppendsOnce D.honest D.moment D.left_since self.old.core self.new.core
-            (slices messages.now) (by (λ r. r.position) result)
-            (added_by (slices messages.now) (by (λ r. r.position) result)) }
+        ensures calls { AppendsOnce D.Disk self.old.core self.new.core (slices messages.now)
+            (by (λ r. r.position) result) (added_by (slices messages.now) (by (λ r. r.position) result)) }
         ensures steps { all_of self.new ≡ all_of self.old
             ++ added_by (slices messages.now) (by (λ r. r.position) result) }
         ensures told { IfOk result (λ r. r.told ≡ self.new.told) }
@@ -241,8 +240,9 @@ where
     ) -> Result<Receipt<J>, ArchiveError>
         requires some { 1 ≤ length messages.now }
         requires few { length messages.now ≤ 64 }
-        ensures calls { (steps : List Change) × Appends D.honest D.moment D.left_since self.old.core self.new.core
-            (slices messages.now) (by (λ r. r.position) result) steps × (all_of self.new ≡ all_of self.old ++ steps) }
+        ensures calls { (steps : List Change)
+            × Appends D.Disk self.old.core self.new.core (slices messages.now) (by (λ r. r.position) result) steps
+            × (all_of self.new ≡ all_of self.old ++ steps) }
         ensures told { IfOk result (λ r. r.told ≡ self.new.told) }
         ensures shown { IfOk result (λ r. IsTrue r.shown ↔ ((self.new.pending ≡ []) × (self.new.backlog ≡ []))) }
         ensures own { IfOk result (λ r. IsTrue r.shown
@@ -275,8 +275,9 @@ where
         requires some { 1 ≤ length messages.now }
         requires few { length messages.now ≤ 64 }
         requires fit { octet_sum (slices messages.now) ≤ self.old.core.state.manifest.limit }
-        ensures calls { (steps : List Change) × AppendsSealed D.honest D.moment D.left_since self.old.core self.new.core
-            (slices messages.now) (by (λ r. r.position) result) steps × (all_of self.new ≡ all_of self.old ++ steps) }
+        ensures calls { (steps : List Change)
+            × AppendsSealed D.Disk self.old.core self.new.core (slices messages.now) (by (λ r. r.position) result) steps
+            × (all_of self.new ≡ all_of self.old ++ steps) }
         ensures told { IfOk result (λ r. r.told ≡ self.new.told) }
         ensures shown { IfOk result (λ r. IsTrue r.shown ↔ ((self.new.pending ≡ []) × (self.new.backlog ≡ []))) }
         ensures own { IfOk result (λ r. IsTrue r.shown
@@ -292,8 +293,9 @@ where
 
     /// Adds one message: a batch of one.
     pub fn append(&mut self, alloc: Global, message: &[u8]) -> Result<Receipt<J>, ArchiveError>
-        ensures calls { (steps : List Change) × Appends D.honest D.moment D.left_since self.old.core self.new.core
-            (message.now ∷ []) (by (λ r. r.position) result) steps × (all_of self.new ≡ all_of self.old ++ steps) }
+        ensures calls { (steps : List Change)
+            × Appends D.Disk self.old.core self.new.core (message.now ∷ []) (by (λ r. r.position) result) steps
+            × (all_of self.new ≡ all_of self.old ++ steps) }
         ensures told { IfOk result (λ r. r.told ≡ self.new.told) }
         ensures shown { IfOk result (λ r. IsTrue r.shown ↔ ((self.new.pending ≡ []) × (self.new.backlog ≡ []))) }
         ensures own { IfOk result (λ r. IsTrue r.shown → HasOwn J.opening r.told (message.now ∷ []) r.position) }
@@ -306,7 +308,7 @@ where
 
     /// Seals, and leaves its step in the backlog.
     fn close(&mut self, alloc: Global) -> Result<u64, ArchiveError>
-        ensures call { IsSeal D.honest D.moment D.left_since self.old.core self.new.core result
+        ensures call { IsSeal D.Disk self.old.core self.new.core result
             ⊎ IsRefusedBefore self.old.core self.new.core result }
         ensures steps { (steps : List Change) × IsClosedBy (D.honest self.old.core.disk) self.old.core.state
             self.new.core.state result steps × (all_of self.new ≡ all_of self.old ++ steps) }
@@ -320,7 +322,7 @@ where
 
     /// Seals the active segment, shows it to readers, and answers the number of the sealed file.
     pub fn seal(&mut self, alloc: Global) -> Result<u64, ArchiveError>
-        ensures call { IsSeal D.honest D.moment D.left_since self.old.core self.new.core result
+        ensures call { IsSeal D.Disk self.old.core self.new.core result
             ⊎ IsRefusedBefore self.old.core self.new.core result }
         ensures steps { (steps : List Change) × IsClosedBy (D.honest self.old.core.disk) self.old.core.state
             self.new.core.state result steps × (all_of self.new ≡ all_of self.old ++ steps) }
@@ -339,8 +341,8 @@ where
         keep: u32,
         faults: &mut Faults<D::Sealed>,
     ) -> Result<Turn, ArchiveError>
-        ensures turn { IsTurn D.honest D.moment D.left_since self.old.core self.new.core
-            (due kind keep self.old.core.state) result ⊎ IsRefusedBefore self.old.core self.new.core result }
+        ensures turn { IsTurn D.Disk self.old.core self.new.core (due kind keep self.old.core.state) result
+            ⊎ IsRefusedBefore self.old.core self.new.core result }
         ensures steps { (steps : List Change) × IsTurnedBy result steps × (all_of self.new ≡ all_of self.old ++ steps) }
         ensures cause { HasCause ArchiveError.Fault (D.faults self.old.core.disk) (D.faults self.new.core.disk) result }
         ensures unread { HasCause ArchiveError.SourceFault faults.old faults.new result }
@@ -360,8 +362,8 @@ where
         keep: u32,
         faults: &mut Faults<D::Sealed>,
     ) -> Result<Turn, ArchiveError>
-        ensures turn { IsTurn D.honest D.moment D.left_since self.old.core self.new.core
-            (due Roll keep self.old.core.state) result ⊎ IsRefusedBefore self.old.core self.new.core result }
+        ensures turn { IsTurn D.Disk self.old.core self.new.core (due Roll keep self.old.core.state) result
+            ⊎ IsRefusedBefore self.old.core self.new.core result }
         ensures steps { (steps : List Change) × IsTurnedBy result steps × (all_of self.new ≡ all_of self.old ++ steps) }
         ensures cause { HasCause ArchiveError.Fault (D.faults self.old.core.disk) (D.faults self.new.core.disk) result }
         ensures unread { HasCause ArchiveError.SourceFault faults.old faults.new result }
@@ -379,8 +381,8 @@ where
         keep: u32,
         faults: &mut Faults<D::Sealed>,
     ) -> Result<Turn, ArchiveError>
-        ensures turn { IsTurn D.honest D.moment D.left_since self.old.core self.new.core
-            (due Merge keep self.old.core.state) result ⊎ IsRefusedBefore self.old.core self.new.core result }
+        ensures turn { IsTurn D.Disk self.old.core self.new.core (due Merge keep self.old.core.state) result
+            ⊎ IsRefusedBefore self.old.core self.new.core result }
         ensures steps { (steps : List Change) × IsTurnedBy result steps × (all_of self.new ≡ all_of self.old ++ steps) }
         ensures cause { HasCause ArchiveError.Fault (D.faults self.old.core.disk) (D.faults self.new.core.disk) result }
         ensures unread { HasCause ArchiveError.SourceFault faults.old faults.new result }

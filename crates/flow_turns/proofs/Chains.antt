@@ -6,6 +6,7 @@ use Rattle.std.proofs.lemmas.List.{length-replicate, take_at}
 use Rattle.std.specs.Prelude.{if◌then◌else◌, ◌==◌}
 use Rattle.std.specs.List.{AllByRecursion}
 use Rattle.std.specs.Result.{IsOk}
+use Rattle.flow_disk.specs.declared.disk.Disk.{Ghosts}
 use Rattle.flow_manifest.specs.declared.following.JobKind.{JobKind}
 use Rattle.flow_manifest.specs.Following.{count_of, source_of}
 use Rattle.flow_recover.specs.State.{State}
@@ -117,21 +118,20 @@ pub record IsSummed (honest : Bool) (s : State) (kind : JobKind) (count : ℕ) (
   pub few : count ≤ count_of (source_of kind) s.manifest.entries
   pub has : HasSums honest s kind count after
 
-module _ {D : Type 0} (honest : D → Bool) (moment : D → ℕ) (left_since : D → ℕ → (ℕ → List ℕ) → Type 0)
-    (Passes : Result Answer ArchiveError → Type 0) where
+module _ {D S X : Type 0} (g : Ghosts D S X) (Passes : Result Answer ArchiveError → Type 0) where
   -- an event with an answer that passes
   pub record IsTaken (old : Seen D) (e : Event) (new : Seen D) : Type 0 where
     pub answer : Result Answer ArchiveError
     pub passes : Passes answer
-    pub answers : Answers (honest old.disk) old.closed old.state e answer new.state
-    pub step : IsStep honest moment left_since old new (Takes true old.state e) answer
+    pub answers : Answers (g.honest old.disk) old.closed old.state e answer new.state
+    pub step : IsStep g old new (Takes true old.state e) answer
 
   abbrev pub IsChain : Seen D → List Event → Seen D → Type 0
   IsChain old [] new = new ≡ old
   IsChain old (e ∷ es) new = (mid : Seen D) × IsTaken old e mid × IsChain mid es new
 
   pub chain_of : (es : List Event) (answers : List (Result Answer ArchiveError)) (old new : Seen D)
-      → IsRun honest moment left_since old es answers new → AllByRecursion Passes answers → IsChain old es new
+      → IsRun g old es answers new → AllByRecursion Passes answers → IsChain old es new
   chain_of [] [] old new run passed = run
   chain_of [] (a ∷ answers) old new run passed = absurd run
   chain_of (e ∷ es) [] old new run passed = absurd run
@@ -142,7 +142,7 @@ module _ {D : Type 0} (honest : D → Bool) (moment : D → ℕ) (left_since : D
   )
 
   pub run_of : (es : List Event) (old new : Seen D) → IsChain old es new → (answers : List (Result Answer ArchiveError))
-      × IsRun honest moment left_since old es answers new × AllByRecursion Passes answers
+      × IsRun g old es answers new × AllByRecursion Passes answers
   run_of [] old new chain = ([], chain, tt)
   run_of (e ∷ es) old new (mid, took, chain) =
       let others = run_of es mid new chain in
@@ -163,16 +163,16 @@ module _ {D : Type 0} (honest : D → Bool) (moment : D → ℕ) (left_since : D
     -- all steps
     pub all_steps : (s : State) (kind : JobKind) (count n read : ℕ) → n + read ≡ count → (old new : Seen D)
         → old.state ≡ with_read s kind count read → IsChain old (replicate n RollStep) new
-        → (new.state ≡ with_read s kind count count) × (honest new.disk ≡ honest old.disk)
+        → (new.state ≡ with_read s kind count count) × (g.honest new.disk ≡ g.honest old.disk)
     all_steps s kind count zero read left old new is same = (
       ap (λ (x : Seen D). x.state) same ∙ is
           ∙ ap (λ (n : ℕ). with_read s kind count n) (let e : read ≡ count = omega (arith, left) in e),
-      ap (λ (x : Seen D). honest x.disk) same,
+      ap (λ (x : Seen D). g.honest x.disk) same,
     )
     all_steps s kind count (suc n) read left old new is (mid, took, chain) =
-        let here = subst (λ (x : State). Answers (honest old.disk) old.closed x RollStep took.answer mid.state) is
+        let here = subst (λ (x : State). Answers (g.honest old.disk) old.closed x RollStep took.answer mid.state) is
         took.answers in
-        let next = after_step (honest old.disk) old.closed s mid.state kind count read took.answer
+        let next = after_step (g.honest old.disk) old.closed s mid.state kind count read took.answer
         (passed took.answer took.passes) here in
         let more : min (read + 1) count ≡ read + 1 = omega (arith, left) in
         let others = all_steps s kind count n (read + 1) (omega (arith, left)) mid new
@@ -182,13 +182,13 @@ module _ {D : Type 0} (honest : D → Bool) (moment : D → ℕ) (left_since : D
     -- the file is made and installed
     all_made : (s : State) (kind : JobKind) (count : ℕ) (old new : Seen D)
         → old.state ≡ with_read s kind count count → IsChain old (RollWrite ∷ RollInstall ∷ []) new
-        → HasSums (honest old.disk) s kind count new.state × (honest new.disk ≡ honest old.disk)
+        → HasSums (g.honest old.disk) s kind count new.state × (g.honest new.disk ≡ g.honest old.disk)
     all_made s kind count old new is (first, writes, (second, installs, end)) =
-        let made = after_write (honest old.disk) old.closed s first.state kind count writes.answer
-        (passed writes.answer writes.passes) (subst (λ (x : State). Answers (honest old.disk) old.closed x RollWrite
+        let made = after_write (g.honest old.disk) old.closed s first.state kind count writes.answer
+        (passed writes.answer writes.passes) (subst (λ (x : State). Answers (g.honest old.disk) old.closed x RollWrite
         writes.answer first.state) is writes.answers) in
-        let placed = after_install (honest first.disk) first.closed s second.state kind count made.octets
-        installs.answer (passed installs.answer installs.passes) (subst (λ (x : State). Answers (honest first.disk)
+        let placed = after_install (g.honest first.disk) first.closed s second.state kind count made.octets
+        installs.answer (passed installs.answer installs.passes) (subst (λ (x : State). Answers (g.honest first.disk)
         first.closed x RollInstall installs.answer second.state) made.is installs.answers) in (
           record {
             octets = made.octets;
@@ -198,18 +198,18 @@ module _ {D : Type 0} (honest : D → Bool) (moment : D → ℕ) (left_since : D
             is = subst (λ (x : State). x ≡ with_sums s kind count made.octets placed.read)
                 (sym (ap (λ (x : Seen D). x.state) end)) placed.is;
           },
-          ap (λ (x : Seen D). honest x.disk) end ∙ installs.step.honest_too ∙ writes.step.honest_too,
+          ap (λ (x : Seen D). g.honest x.disk) end ∙ installs.step.honest_too ∙ writes.step.honest_too,
         )
 
     -- up to the install
     pub all_summed : (old new : Seen D) (kind : JobKind) (count : ℕ) → IsChain old (summing kind count) new
-        → IsSummed (honest old.disk) old.state kind count new.state × (honest new.disk ≡ honest old.disk)
+        → IsSummed (g.honest old.disk) old.state kind count new.state × (g.honest new.disk ≡ g.honest old.disk)
     all_summed old new kind count (first, begins, chain) =
-        let begun = after_begin (honest old.disk) old.closed old.state first.state kind count begins.answer
+        let begun = after_begin (g.honest old.disk) old.closed old.state first.state kind count begins.answer
         (passed begins.answer begins.passes) begins.answers in
         let apart = parted (replicate count RollStep) (RollWrite ∷ RollInstall ∷ []) first new chain in
         let steps = all_steps old.state kind count count 0 (omega arith) first apart.0 begun.is apart.1 in
-        let same : honest apart.0.disk ≡ honest old.disk = steps.1 ∙ begins.step.honest_too in
+        let same : g.honest apart.0.disk ≡ g.honest old.disk = steps.1 ∙ begins.step.honest_too in
         let made = all_made old.state kind count apart.0 new steps.0 apart.2 in (
           record {
             free = begun.free;
@@ -238,7 +238,7 @@ module _ {D : Type 0} (honest : D → Bool) (moment : D → ℕ) (left_since : D
     }
     all_removed (suc n) old new (mid, took, chain) =
         one_more n old mid new took (all_removed n mid new chain)
-        (after_removal (honest old.disk) old.closed old.state mid.state took.answer
+        (after_removal (g.honest old.disk) old.closed old.state mid.state took.answer
         (passed took.answer took.passes) took.answers)
       where
         one_more : (n : ℕ) (old mid new : Seen D) (took : IsTaken old Retire mid) → AreRemoved mid.state n new.state

@@ -1,9 +1,10 @@
 -- Turns without a refusal take the events of a job.
-use Rattle.std.proofs.Common.{◌≡◌, ◌∙◌, ℕ, zero, suc, ◌+◌, ◌≤◌, min, Bool, List, [], ◌∷◌}
+use Rattle.std.proofs.Common.{◌≡◌, ◌∙◌, ℕ, zero, suc, ◌+◌, ◌≤◌, min, List, [], ◌∷◌}
 use Rattle.std.proofs.Common.{length, replicate, Option, Some, None, Result}
 use Rattle.std.proofs.Common.{refl, ap, subst, arith}
 use Rattle.std.specs.List.{AllByRecursion}
 use Rattle.std.specs.Result.{IsOk}
+use Rattle.flow_disk.specs.declared.disk.Disk.{Ghosts}
 use Rattle.flow_manifest.specs.declared.following.JobKind.{JobKind}
 use Rattle.flow_manifest.specs.Manifest.{IsValidManifest}
 use Rattle.flow_recover.specs.State.{State}
@@ -24,19 +25,18 @@ use Rattle.flow_turns.proofs.Passing.{IsOkWherePassed, IsPassed}
 use Rattle.flow_turns.proofs.Turning.{due_first, due_install, due_step, due_write}
 use Rattle.flow_turns.proofs.Replacements.{none_over, replacement}
 
-module _ {D : Type 0} (honest : D → Bool) (moment : D → ℕ) (left_since : D → ℕ → (ℕ → List ℕ) → Type 0)
-    (kind : JobKind) (keep : ℕ) where
+module _ {D S X : Type 0} (g : Ghosts D S X) (kind : JobKind) (keep : ℕ) where
   abbrev pub Took : (Result Answer ArchiveError → Type 0) → Seen D → Event → Seen D → Type 0
-  Took = IsTaken honest moment left_since
+  Took = IsTaken g
 
   abbrev pub Chain : (Result Answer ArchiveError → Type 0) → Seen D → List Event → Seen D → Type 0
-  Chain = IsChain honest moment left_since
+  Chain = IsChain g
 
   -- so many turns, none of them refused
   pub record Turns (count : ℕ) (old new : Seen D) : Type 0 where
     pub told : List (Result Turn ArchiveError)
     pub long : length told ≡ count
-    pub are : AreTurns honest moment left_since kind keep old told new
+    pub are : AreTurns g kind keep old told new
     pub ok : AllByRecursion IsOk told
 
   -- the first of them takes the event that is due
@@ -46,7 +46,7 @@ module _ {D : Type 0} (honest : D → Bool) (moment : D → ℕ) (left_since : D
     pub others : Turns count mid new
 
   one_turn : (old mid : Seen D) (e : Event) (told : Result Turn ArchiveError)
-      → IsTurn honest moment left_since old mid (Some e) told → IsOk told → Took IsPassed old e mid
+      → IsTurn g old mid (Some e) told → IsOk told → Took IsPassed old e mid
   one_turn old mid e told (answer, answers, step, same) ok = record {
     answer = answer;
     passes = turn_passed e answer (subst IsOk same ok);
@@ -55,13 +55,13 @@ module _ {D : Type 0} (honest : D → Bool) (moment : D → ℕ) (left_since : D
   }
 
   first_turn : (count : ℕ) (old new : Seen D) (e : Event) (told : List (Result Turn ArchiveError))
-      → length told ≡ suc count → AreTurns honest moment left_since kind keep old told new → AllByRecursion IsOk told
+      → length told ≡ suc count → AreTurns g kind keep old told new → AllByRecursion IsOk told
       → due kind keep old.state ≡ Some e → First count old e new
   first_turn count old new e [] long are ok is = absurd (omega (arith, long))
   first_turn count old new e (t ∷ told) long (mid, turn, are) ok is = record {
     mid = mid;
     took = one_turn old mid e t
-        (subst (λ (x : Option Event). IsTurn honest moment left_since old mid x t) is turn) ok.0;
+        (subst (λ (x : Option Event). IsTurn g old mid x t) is turn) ok.0;
     others = record { told = told; long = omega (arith, long); are = are; ok = ok.1 };
   }
 
@@ -73,7 +73,7 @@ module _ {D : Type 0} (honest : D → Bool) (moment : D → ℕ) (left_since : D
   taken_ok : (old mid : Seen D) (e : Event) → IsOkWherePassed e → Took IsPassed old e mid → Took IsOk old e mid
   taken_ok old mid e is took = record {
     answer = took.answer;
-    passes = is (honest old.disk) old.closed old.state mid.state took.answer took.passes took.answers;
+    passes = is (g.honest old.disk) old.closed old.state mid.state took.answer took.passes took.answers;
     answers = took.answers;
     step = took.step;
   }
@@ -96,7 +96,7 @@ module _ {D : Type 0} (honest : D → Bool) (moment : D → ℕ) (left_since : D
   no_turns old new turns = none turns.told turns.long turns.are
     where
       none : (told : List (Result Turn ArchiveError)) → length told ≡ 0
-          → AreTurns honest moment left_since kind keep old told new → new ≡ old
+          → AreTurns g kind keep old told new → new ≡ old
       none [] long are = are
       none (t ∷ told) long are = absurd (omega (arith, long))
 
@@ -120,8 +120,8 @@ module _ {D : Type 0} (honest : D → Bool) (moment : D → ℕ) (left_since : D
       let first = first_of_all (n + more) all old new RollStep turns (omega (arith, sum))
       (ap (λ (x : State). due kind keep x) is ∙ due_step kind of keep count read s (omega (arith, left))) in
       let took = first.took in
-      let next = after_step (honest old.disk) old.closed s first.mid.state of count read took.answer took.passes
-      (subst (λ (x : State). Answers (honest old.disk) old.closed x RollStep took.answer first.mid.state) is
+      let next = after_step (g.honest old.disk) old.closed s first.mid.state of count read took.answer took.passes
+      (subst (λ (x : State). Answers (g.honest old.disk) old.closed x RollStep took.answer first.mid.state) is
       took.answers) in
       let further : min (read + 1) count ≡ read + 1 = omega (arith, left) in
       let rest = step_turns s of count n (read + 1) more (n + more) (omega (arith, left)) refl first.mid new
@@ -162,8 +162,8 @@ module _ {D : Type 0} (honest : D → Bool) (moment : D → ℕ) (left_since : D
   made_turns s of count more old new is turns =
       let first = first_of_all (more + 1) (more + 2) old new RollWrite turns (omega arith)
       (ap (λ (x : State). due kind keep x) is ∙ due_write kind of keep count s) in
-      let made = after_write (honest old.disk) old.closed s first.mid.state of count first.took.answer
-      first.took.passes (subst (λ (x : State). Answers (honest old.disk) old.closed x RollWrite first.took.answer
+      let made = after_write (g.honest old.disk) old.closed s first.mid.state of count first.took.answer
+      first.took.passes (subst (λ (x : State). Answers (g.honest old.disk) old.closed x RollWrite first.took.answer
       first.mid.state) is first.took.answers) in
       let second = install_turn s of count more made.octets first.mid new made.is first.others in
       made_by more old first.mid second.mid new first.took second.took second.others
@@ -183,14 +183,14 @@ module _ {D : Type 0} (honest : D → Bool) (moment : D → ℕ) (left_since : D
     last_job : (more : ℕ) (mid new : Seen D) → Chain IsOk old (summing kind count) mid → Turns more mid new
         → Summing count more old new
     last_job more mid new chain others =
-        let summed = (all_summed honest moment left_since IsOk ok_passed old mid kind count chain).0 in
-        let replaced = replacement (honest old.disk) old.state mid.state kind count 0 valid mid.state summed refl in
+        let summed = (all_summed g IsOk ok_passed old mid kind count chain).0 in
+        let replaced = replacement (g.honest old.disk) old.state mid.state kind count 0 valid mid.state summed refl in
         record {
           mid = mid;
           chain = chain;
           others = others;
           free = replaced.no_job;
-          none = none_over (honest old.disk) kind count 0 old.state mid.state replaced valid keep is some;
+          none = none_over (g.honest old.disk) kind count 0 old.state mid.state replaced valid keep is some;
         }
 
     pub summing_turns : (more : ℕ) (new : Seen D) → old.state.job ≡ None → Turns (count + (more + 2) + 1) old new
@@ -198,7 +198,7 @@ module _ {D : Type 0} (honest : D → Bool) (moment : D → ℕ) (left_since : D
     summing_turns more new free turns =
         let first = first_of_all (count + (more + 2)) (count + (more + 2) + 1) old new (begun_by kind count) turns
         (omega arith) (due_first kind keep count old.state free is some) in
-        let begun = after_begin (honest old.disk) old.closed old.state first.mid.state kind count first.took.answer
+        let begun = after_begin (g.honest old.disk) old.closed old.state first.mid.state kind count first.took.answer
         first.took.passes first.took.answers in
         let steps = step_turns old.state kind count count 0 (more + 2) (count + (more + 2)) (omega arith) refl first.mid
         new begun.is first.others in
@@ -206,6 +206,6 @@ module _ {D : Type 0} (honest : D → Bool) (moment : D → ℕ) (left_since : D
         last_job more made.mid new (
           first.mid,
           taken_ok old first.mid (begun_by kind count) (ok_begin kind count) first.took,
-          joined honest moment left_since IsOk (replicate count RollStep) (RollWrite ∷ RollInstall ∷ []) first.mid
+          joined g IsOk (replicate count RollStep) (RollWrite ∷ RollInstall ∷ []) first.mid
               steps.mid made.mid steps.chain made.chain,
         ) made.others

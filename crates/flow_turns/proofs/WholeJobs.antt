@@ -1,10 +1,11 @@
 -- Whole jobs.
-use Rattle.std.proofs.Common.{◌≡◌, ◌⊎◌, inl, inr, ◌∙◌, ℕ, ◌≤◌, Bool, false, List, [], ◌++◌, length, drop, map}
+use Rattle.std.proofs.Common.{◌≡◌, ◌⊎◌, inl, inr, ◌∙◌, ℕ, ◌≤◌, false, List, [], ◌++◌, length, drop, map}
 use Rattle.std.proofs.Common.{replicate}
 use Rattle.std.proofs.Common.{⊎_elim, min, zero, suc, ◌∷◌, Result, refl, sym, ap, subst, arith, length-append}
 use Rattle.std.proofs.lemmas.List.{length-map}
 use Rattle.std.specs.List.{AllByRecursion}
 use Rattle.std.specs.Result.{IsOk}
+use Rattle.flow_disk.specs.declared.disk.Disk.{Ghosts}
 use Rattle.flow_manifest.specs.declared.following.JobKind.{JobKind}
 use Rattle.flow_manifest.specs.declared.manifest.Entry.{Entry}
 use Rattle.flow_manifest.specs.Following.{count_of, source_of, sources_of}
@@ -23,13 +24,13 @@ use Rattle.flow_turns.proofs.Chains.{IsChain}
 use Rattle.flow_turns.proofs.Passing.{ok_passed, told_passed, IsPassed}
 use Rattle.flow_turns.proofs.Replacements.{all_kept, none_left, replacement, so_many}
 
-module _ {D : Type 0} (honest : D → Bool) (moment : D → ℕ) (left_since : D → ℕ → (ℕ → List ℕ) → Type 0) where
+module _ {D S X : Type 0} (g : Ghosts D S X) where
   -- a job whose answers pass
   record IsWhole (Passes : Result Answer ArchiveError → Type 0) (old new : Seen D) (kind : JobKind) (count : ℕ)
       : Type 0 where
     pub removed : ℕ
     pub most : removed ≤ count
-    pub replaced : IsReplacement (honest old.disk) kind count removed old.state new.state
+    pub replaced : IsReplacement (g.honest old.disk) kind count removed old.state new.state
     pub alone : old.state.shared ≡ false → removed ≡ count
     pub taken : ((a : Result Answer ArchiveError) → Passes a → IsOk a) → removed ≡ count
     pub none : old.state.waiting ≡ [] → removed ≡ count → new.state.waiting ≡ []
@@ -38,16 +39,17 @@ module _ {D : Type 0} (honest : D → Bool) (moment : D → ℕ) (left_since : D
       (passed : (a : Result Answer ArchiveError) → Passes a → IsPassed a) (old new : Seen D) (kind : JobKind)
       (count : ℕ) (answers : List (Result Answer ArchiveError))
       → IsValidManifest old.state.manifest → 1 ≤ count
-      → IsRun honest moment left_since old (job_events kind count) answers new → AllByRecursion Passes answers
+      → IsRun g old (job_events kind count) answers new → AllByRecursion Passes answers
       → IsWhole Passes old new kind count
   whole Passes passed old new kind count answers valid some run all =
-      let chain = chain_of honest moment left_since Passes (job_events kind count) answers old new run all in
-      let two = parted honest moment left_since Passes (summing kind count) (replicate count Retire) old new
-      (subst (λ (es : List Event). IsChain honest moment left_since Passes old es new) (job_parts kind count some)
+      let chain = chain_of g Passes (job_events kind count) answers old new run all in
+      let two = parted g Passes (summing kind count) (replicate count Retire) old new
+      (subst (λ (es : List Event). IsChain g Passes old es new) (job_parts kind count some)
       chain) in
-      let summed = (all_summed honest moment left_since Passes passed old two.0 kind count two.1).0 in
-      let rest = all_removed honest moment left_since Passes passed count two.0 new two.2 in
-      let replaced = replacement (honest old.disk) old.state new.state kind count rest.removed valid two.0.state summed
+      let summed = (all_summed g Passes passed old two.0 kind count two.1).0 in
+      let rest = all_removed g Passes passed count two.0 new two.2 in
+      let replaced = replacement (g.honest old.disk) old.state new.state kind count rest.removed valid two.0.state
+      summed
       rest.is in
       let many = so_many old.state.manifest valid kind count summed.few in
       let files = map (λ (e : Entry). e.file) (sources_of kind count old.state.manifest.entries) in
@@ -73,34 +75,34 @@ module _ {D : Type 0} (honest : D → Bool) (moment : D → ℕ) (left_since : D
             ∙ none_left old.state kind count many none;
       }
 
-  pub installed : JobInstalled honest moment left_since
+  pub installed : JobInstalled g
   installed old new kind count answers valid some run all =
-      let chain = chain_of honest moment left_since IsOk (summing kind count) answers old new
-      (subst (λ (es : List Event). IsRun honest moment left_since old es answers new) (first_events kind count some)
+      let chain = chain_of g IsOk (summing kind count) answers old new
+      (subst (λ (es : List Event). IsRun g old es answers new) (first_events kind count some)
       run) all in
-      let summed = (all_summed honest moment left_since IsOk ok_passed old new kind count chain).0 in
-      replacement (honest old.disk) old.state new.state kind count 0 valid new.state summed refl
+      let summed = (all_summed g IsOk ok_passed old new kind count chain).0 in
+      replacement (g.honest old.disk) old.state new.state kind count 0 valid new.state summed refl
 
-  pub whole_job : WholeJob honest moment left_since
+  pub whole_job : WholeJob g
   whole_job old new kind count answers valid some run all =
       let is = whole IsOk ok_passed old new kind count answers valid some run all in
       let as_many = is.taken (λ a ok. ok) in (
-        subst (λ (n : ℕ). IsReplacement (honest old.disk) kind count n old.state new.state) as_many is.replaced,
+        subst (λ (n : ℕ). IsReplacement (g.honest old.disk) kind count n old.state new.state) as_many is.replaced,
         λ none. is.none none as_many,
       )
 
   no_events : (old new : Seen D) (kind : JobKind) (count : ℕ) (answers : List (Result Answer ArchiveError))
-      → IsRun honest moment left_since old (job_events kind count) answers new → count ≡ 0 → new ≡ old
+      → IsRun g old (job_events kind count) answers new → count ≡ 0 → new ≡ old
   no_events old new kind count answers run none =
       let nothing : job_events kind count ≡ [] = ap (λ (n : ℕ). job_events kind n) none in
-      (chain_of honest moment left_since (λ _. Unit {0}) [] answers old new (subst (λ (es : List Event).
-      IsRun honest moment left_since old es answers new) nothing run) (any_all answers))
+      (chain_of g (λ _. Unit {0}) [] answers old new (subst (λ (es : List Event).
+      IsRun g old es answers new) nothing run) (any_all answers))
     where
       any_all : (answers : List (Result Answer ArchiveError)) → AllByRecursion (λ _. Unit {0}) answers
       any_all [] = tt
       any_all (a ∷ others) = (tt, any_all others)
 
-  pub answered : JobAnswered honest moment left_since
+  pub answered : JobAnswered g
   answered old new kind count summed valid (inl (answers, run, tells)) =
       let passed = told_passed count summed answers (sym tells) in (
         passed.0,
@@ -115,14 +117,15 @@ module _ {D : Type 0} (honest : D → Bool) (moment : D → ℕ) (left_since : D
       )
   answered old new kind count summed valid (inr (refused, same)) = absurd (cc)
 
-  pub keeps : JobKeeps honest moment left_since
+  pub keeps : JobKeeps g
   keeps old new kind keep summed valid run =
       let is = answered old new kind (files_over kind keep old.state) summed valid run in
       ⊎_elim
       (λ none. ap (λ (x : Seen D). count_of (source_of kind) x.state.manifest.entries) (is.1 none)
       ∙ no_more none)
       (λ some. let more = is.2 some in
-      all_kept (honest old.disk) kind (files_over kind keep old.state) more.0 old.state new.state more.2 valid keep refl
+      all_kept (g.honest old.disk) kind
+      (files_over kind keep old.state) more.0 old.state new.state more.2 valid keep refl
       some)
       (none_or_some (files_over kind keep old.state))
     where

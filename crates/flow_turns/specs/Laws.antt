@@ -3,6 +3,7 @@ use Rattle.std.specs.Prelude.{◌≡◌, ◌≢◌, ℕ, ◌+◌, ◌*◌, ◌<�
 use Rattle.std.specs.Prelude.{take, drop, map, Some, None, Result, Ok}
 use Rattle.std.specs.List.{slice_get, AllByRecursion}
 use Rattle.std.specs.Result.{IsOk}
+use Rattle.flow_disk.specs.declared.disk.Disk.{Ghosts}
 use Rattle.flow_manifest.specs.declared.following.JobKind.{JobKind}
 use Rattle.flow_manifest.specs.declared.following.JobKind.TheVariants.{Roll, Merge}
 use Rattle.flow_manifest.specs.declared.manifest.Entry.{Entry}
@@ -74,49 +75,49 @@ pub record IsReplacement (honest : Bool) (kind : JobKind) (count removed : ℕ) 
 
 -- The events of a job over so many files up to its install, all of them taken, put one file in their place. No file is
 -- removed yet.
-abbrev pub JobInstalled : {D : Type 0} → (D → Bool) → (D → ℕ) → (D → ℕ → (ℕ → List ℕ) → Type 0) → Type 0
-JobInstalled {D} honest moment left_since = (old new : Seen D) (kind : JobKind) (count : ℕ)
+abbrev pub JobInstalled : {D S X : Type 0} → Ghosts D S X → Type 0
+JobInstalled {D} g = (old new : Seen D) (kind : JobKind) (count : ℕ)
     (answers : List (Result Answer ArchiveError)) → IsValidManifest old.state.manifest → 1 ≤ count
-    → IsRun honest moment left_since old (take (count + 3) (job_events kind count)) answers new
-    → AllByRecursion IsOk answers → IsReplacement (honest old.disk) kind count 0 old.state new.state
+    → IsRun g old (take (count + 3) (job_events kind count)) answers new
+    → AllByRecursion IsOk answers → IsReplacement (g.honest old.disk) kind count 0 old.state new.state
 
 -- All events of a job over so many files, all of them taken, remove as many files besides, the first that wait. So
 -- where none waited before, none waits then.
-abbrev pub WholeJob : {D : Type 0} → (D → Bool) → (D → ℕ) → (D → ℕ → (ℕ → List ℕ) → Type 0) → Type 0
-WholeJob {D} honest moment left_since = (old new : Seen D) (kind : JobKind) (count : ℕ)
+abbrev pub WholeJob : {D S X : Type 0} → Ghosts D S X → Type 0
+WholeJob {D} g = (old new : Seen D) (kind : JobKind) (count : ℕ)
     (answers : List (Result Answer ArchiveError)) → IsValidManifest old.state.manifest → 1 ≤ count
-    → IsRun honest moment left_since old (job_events kind count) answers new → AllByRecursion IsOk answers
-    → IsReplacement (honest old.disk) kind count count old.state new.state
+    → IsRun g old (job_events kind count) answers new → AllByRecursion IsOk answers
+    → IsReplacement (g.honest old.disk) kind count count old.state new.state
     × (old.state.waiting ≡ [] → new.state.waiting ≡ [])
 
 -- A job that answers Ok answers how many files it was over. With none, nothing has changed; else one file is in their
 -- place. Files that readers have too may still wait for their removal: of an archive that isn't shared as many are
 -- removed as were summed.
-abbrev pub JobAnswered : {D : Type 0} → (D → Bool) → (D → ℕ) → (D → ℕ → (ℕ → List ℕ) → Type 0) → Type 0
-JobAnswered {D} honest moment left_since = (old new : Seen D) (kind : JobKind) (count summed : ℕ)
-    → IsValidManifest old.state.manifest → IsJobRun honest moment left_since old new kind count (Ok summed)
+abbrev pub JobAnswered : {D S X : Type 0} → Ghosts D S X → Type 0
+JobAnswered {D} g = (old new : Seen D) (kind : JobKind) (count summed : ℕ)
+    → IsValidManifest old.state.manifest → IsJobRun g old new kind count (Ok summed)
     → (summed ≡ count) × (count ≡ 0 → new ≡ old) × (1 ≤ count → (removed : ℕ) × (removed ≤ count)
-    × IsReplacement (honest old.disk) kind count removed old.state new.state
+    × IsReplacement (g.honest old.disk) kind count removed old.state new.state
     × (old.state.shared ≡ false → (removed ≡ count) × (old.state.waiting ≡ [] → new.state.waiting ≡ [])))
 
 -- A job over all files of its kind but the newest `keep` that answers Ok leaves `keep` of the kind, or all where there
 -- were fewer.
-abbrev pub JobKeeps : {D : Type 0} → (D → Bool) → (D → ℕ) → (D → ℕ → (ℕ → List ℕ) → Type 0) → Type 0
-JobKeeps {D} honest moment left_since = (old new : Seen D) (kind : JobKind) (keep summed : ℕ)
+abbrev pub JobKeeps : {D S X : Type 0} → Ghosts D S X → Type 0
+JobKeeps {D} g = (old new : Seen D) (kind : JobKind) (keep summed : ℕ)
     → IsValidManifest old.state.manifest
-    → IsJobRun honest moment left_since old new kind (files_over kind keep old.state) (Ok summed)
+    → IsJobRun g old new kind (files_over kind keep old.state) (Ok summed)
     → count_of (source_of kind) new.state.manifest.entries
     ≡ min keep (count_of (source_of kind) old.state.manifest.entries)
 
 -- ---- turns
 
 -- Turns of jobs of this kind, one after the other, with their answers: each takes the event that is due.
-abbrev pub AreTurns : {D : Type 0} → (D → Bool) → (D → ℕ) → (D → ℕ → (ℕ → List ℕ) → Type 0) → JobKind → ℕ → Seen D
+abbrev pub AreTurns : {D S X : Type 0} → Ghosts D S X → JobKind → ℕ → Seen D
     → List (Result Turn ArchiveError) → Seen D → Type 0
-AreTurns honest moment left_since kind keep old [] new = new ≡ old
-AreTurns {D} honest moment left_since kind keep old (turn ∷ turns) new =
-    (mid : Seen D) × IsTurn honest moment left_since old mid (due kind keep old.state) turn
-    × AreTurns honest moment left_since kind keep mid turns new
+AreTurns g kind keep old [] new = new ≡ old
+AreTurns {D} g kind keep old (turn ∷ turns) new =
+    (mid : Seen D) × IsTurn g old mid (due kind keep old.state) turn
+    × AreTurns g kind keep mid turns new
 
 -- The events of a job that turns take: no turn of merging removes a file.
 abbrev pub turn_events : JobKind → ℕ → List Event
@@ -125,29 +126,29 @@ turn_events Merge count = take (count + 3) (job_events Merge count)
 
 -- Without a job, and with files to sum, the events of one job over them are due in turn: after so many of them, all of
 -- them taken, the next one.
-abbrev pub DueInTurn : {D : Type 0} → (D → Bool) → (D → ℕ) → (D → ℕ → (ℕ → List ℕ) → Type 0) → Type 0
-DueInTurn {D} honest moment left_since = (old mid : Seen D) (kind : JobKind) (keep count i : ℕ)
+abbrev pub DueInTurn : {D S X : Type 0} → Ghosts D S X → Type 0
+DueInTurn {D} g = (old mid : Seen D) (kind : JobKind) (keep count i : ℕ)
     (answers : List (Result Answer ArchiveError)) → IsValidManifest old.state.manifest → old.state.job ≡ None
     → count ≡ files_over kind keep old.state → 1 ≤ count → i < length (turn_events kind count)
-    → IsRun honest moment left_since old (take i (turn_events kind count)) answers mid → AllByRecursion IsOk answers
+    → IsRun g old (take i (turn_events kind count)) answers mid → AllByRecursion IsOk answers
     → due kind keep mid.state ≡ slice_get (turn_events kind count) i
 
 -- Without a job, and with files to sum, the next turns, three more than files, take the events of one job over them up
 -- to its install, if none of them is refused. Then no other job is due.
-abbrev pub TurnsOfAJob : {D : Type 0} → (D → Bool) → (D → ℕ) → (D → ℕ → (ℕ → List ℕ) → Type 0) → Type 0
-TurnsOfAJob {D} honest moment left_since = (old new : Seen D) (kind : JobKind) (keep count : ℕ)
+abbrev pub TurnsOfAJob : {D S X : Type 0} → Ghosts D S X → Type 0
+TurnsOfAJob {D} g = (old new : Seen D) (kind : JobKind) (keep count : ℕ)
     (turns : List (Result Turn ArchiveError)) → IsValidManifest old.state.manifest → old.state.job ≡ None
     → count ≡ files_over kind keep old.state → 1 ≤ count → length turns ≡ count + 3
-    → AreTurns honest moment left_since kind keep old turns new → AllByRecursion IsOk turns
+    → AreTurns g kind keep old turns new → AllByRecursion IsOk turns
     → ((answers : List (Result Answer ArchiveError))
-    × IsRun honest moment left_since old (take (count + 3) (job_events kind count)) answers new
+    × IsRun g old (take (count + 3) (job_events kind count)) answers new
     × AllByRecursion IsOk answers) × (due kind keep new.state ≡ removal_by kind)
 
 -- Of turns of rolling as many more as there are files take its removals: all of them are a whole job. Then a removal is
 -- due.
-abbrev pub TurnsOfARoll : {D : Type 0} → (D → Bool) → (D → ℕ) → (D → ℕ → (ℕ → List ℕ) → Type 0) → Type 0
-TurnsOfARoll {D} honest moment left_since = (old new : Seen D) (keep count : ℕ)
+abbrev pub TurnsOfARoll : {D S X : Type 0} → Ghosts D S X → Type 0
+TurnsOfARoll {D} g = (old new : Seen D) (keep count : ℕ)
     (turns : List (Result Turn ArchiveError)) → IsValidManifest old.state.manifest → old.state.job ≡ None
     → count ≡ files_over Roll keep old.state → 1 ≤ count → length turns ≡ 2 * count + 3
-    → AreTurns honest moment left_since Roll keep old turns new → AllByRecursion IsOk turns
-    → IsJobRun honest moment left_since old new Roll count (Ok count) × (due Roll keep new.state ≡ Some Retire)
+    → AreTurns g Roll keep old turns new → AllByRecursion IsOk turns
+    → IsJobRun g old new Roll count (Ok count) × (due Roll keep new.state ≡ Some Retire)

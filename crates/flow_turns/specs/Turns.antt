@@ -2,6 +2,7 @@
 use Rattle.std.specs.Prelude.{◌≡◌, ◌⊎◌, ℕ, zero, suc, ◌-◌, Bool, true, false, List, [], ◌∷◌, ◌++◌, min, replicate, ◌==◌}
 use Rattle.std.specs.Prelude.{if◌then◌else◌}
 use Rattle.std.specs.Prelude.{Option, Some, None, Result, Ok, Err, OnOk, IsErrOf, ◌≤◌}
+use Rattle.flow_disk.specs.declared.disk.Disk.{Ghosts}
 use Rattle.flow_disk.specs.Cause.{HasRisen}
 use Rattle.flow_manifest.specs.declared.following.JobKind.{JobKind}
 use Rattle.flow_manifest.specs.declared.following.JobKind.TheVariants.{Roll, Merge}
@@ -132,12 +133,11 @@ idle_told false = Ok turn.Idle
 idle_told true = Err Closed
 
 -- A turn is the event that is due, as an archive takes it, and tells of its answer.
-abbrev pub IsTurn : {D : Type 0} → (D → Bool) → (D → ℕ) → (D → ℕ → (ℕ → List ℕ) → Type 0) → Seen D → Seen D
-    → Option Event → Result Turn ArchiveError → Type 0
-IsTurn honest moment left_since old new None result = (new ≡ old) × (result ≡ idle_told old.closed)
-IsTurn honest moment left_since old new (Some event) result =
-    (answer : Result Answer ArchiveError) × Answers (honest old.disk) old.closed old.state event answer new.state
-    × IsStep honest moment left_since old new (Takes true old.state event) answer × (result ≡ turn_told event answer)
+abbrev pub IsTurn : {D S X : Type 0} → Ghosts D S X → Seen D → Seen D → Option Event → Result Turn ArchiveError → Type 0
+IsTurn g old new None result = (new ≡ old) × (result ≡ idle_told old.closed)
+IsTurn g old new (Some event) result =
+    (answer : Result Answer ArchiveError) × Answers (g.honest old.disk) old.closed old.state event answer new.state
+    × IsStep g old new (Takes true old.state event) answer × (result ≡ turn_told event answer)
 
 -- ---- whole jobs
 
@@ -176,11 +176,10 @@ told_behind (Ok count) (Err error) = told_or (refusal_but_removal error) (Ok cou
 
 -- The archive took the events of a job over so many files, and told of them; or there was no memory for that, and all
 -- is as it was.
-abbrev pub IsJobRun : {D : Type 0} → (D → Bool) → (D → ℕ) → (D → ℕ → (ℕ → List ℕ) → Type 0) → Seen D → Seen D
-    → JobKind → ℕ → Result ℕ ArchiveError → Type 0
-IsJobRun honest moment left_since old new kind count result =
+abbrev pub IsJobRun : {D S X : Type 0} → Ghosts D S X → Seen D → Seen D → JobKind → ℕ → Result ℕ ArchiveError → Type 0
+IsJobRun g old new kind count result =
     ((answers : List (Result Answer ArchiveError))
-    × IsRun honest moment left_since old (job_events kind count) answers new × (result ≡ job_told count answers))
+    × IsRun g old (job_events kind count) answers new × (result ≡ job_told count answers))
     ⊎ ((result ≡ Err OutOfMemory) × (new ≡ old))
 
 -- Where Ok is told the count of failures is as it was; where this refusal is told it has risen. Behind another refusal

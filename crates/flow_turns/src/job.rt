@@ -72,8 +72,8 @@ fn take_job<D: Disk>(
     faults: &mut Faults<D::Sealed>,
 ) -> Result<u32, ArchiveError>
     requires { All IsEvent events.now }
-    ensures job { (answers : List (Answered Reply Refusal)) × IsRun D.honest D.moment D.left_since archive.old
-        events.now answers archive.new × (result ≡ job_told count answers) }
+    ensures job { (answers : List (Answered Reply Refusal)) × IsRun D.Disk archive.old events.now answers archive.new
+        × (result ≡ job_told count answers) }
     ensures cause { IsCaused ArchiveError.Fault (D.faults archive.old.disk) (D.faults archive.new.disk) result }
     ensures unread { IsCaused ArchiveError.SourceFault faults.old faults.new result }
 {
@@ -97,8 +97,7 @@ pub fn run_job<D: Disk>(
     keep: u32,
     faults: &mut Faults<D::Sealed>,
 ) -> Result<u32, ArchiveError>
-    ensures job { IsJobRun D.honest D.moment D.left_since archive.old archive.new kind
-        (files_over kind keep archive.old.state) result }
+    ensures job { IsJobRun D.Disk archive.old archive.new kind (files_over kind keep archive.old.state) result }
     ensures cause { IsCaused ArchiveError.Fault (D.faults archive.old.disk) (D.faults archive.new.disk) result }
     ensures unread { IsCaused ArchiveError.SourceFault faults.old faults.new result }
 {

@@ -8,16 +8,16 @@ use flow_disk::Disk;
 /// A job without a refusal, in an archive whose manifest is a valid one, as each archive's is: one file is in place of
 /// the oldest of its kind, with as many messages in all, and no job is left.
 pub fn whole_job<D: Disk>(_disk: &D)
-    ensures installed { JobInstalled D.honest D.moment D.left_since }
-    ensures whole { WholeJob D.honest D.moment D.left_since }
-    ensures answered { JobAnswered D.honest D.moment D.left_since }
-    ensures keeps { JobKeeps D.honest D.moment D.left_since }
+    ensures installed { JobInstalled D.Disk }
+    ensures whole { WholeJob D.Disk }
+    ensures answered { JobAnswered D.Disk }
+    ensures keeps { JobKeeps D.Disk }
 {}
 
 /// The events of one job over all files but the newest are due in turn. Turns without a refusal take them, and no other
 /// job is due then.
 pub fn turns_of_a_job<D: Disk>(_disk: &D)
-    ensures due { DueInTurn D.honest D.moment D.left_since }
-    ensures turns { TurnsOfAJob D.honest D.moment D.left_since }
-    ensures roll { TurnsOfARoll D.honest D.moment D.left_since }
+    ensures due { DueInTurn D.Disk }
+    ensures turns { TurnsOfAJob D.Disk }
+    ensures roll { TurnsOfARoll D.Disk }
 {}

@@ -112,8 +112,7 @@ fn make_turn<D: Disk>(
     keep: u32,
     faults: &mut Faults<D::Sealed>,
 ) -> Result<Turn, ArchiveError>
-    ensures turn { IsTurn D.honest D.moment D.left_since archive.old archive.new
-        (due kind keep archive.old.state) result }
+    ensures turn { IsTurn D.Disk archive.old archive.new (due kind keep archive.old.state) result }
     ensures cause { HasCause ArchiveError.Fault (D.faults archive.old.disk) (D.faults archive.new.disk) result }
     ensures unread { HasCause ArchiveError.SourceFault faults.old faults.new result }
 {
@@ -138,8 +137,7 @@ pub fn roll_turn<D: Disk>(
     keep: u32,
     faults: &mut Faults<D::Sealed>,
 ) -> Result<Turn, ArchiveError>
-    ensures turn { IsTurn D.honest D.moment D.left_since archive.old archive.new
-        (due Roll keep archive.old.state) result }
+    ensures turn { IsTurn D.Disk archive.old archive.new (due Roll keep archive.old.state) result }
     ensures cause { HasCause ArchiveError.Fault (D.faults archive.old.disk) (D.faults archive.new.disk) result }
     ensures unread { HasCause ArchiveError.SourceFault faults.old faults.new result }
 {
@@ -154,8 +152,7 @@ pub fn merge_turn<D: Disk>(
     keep: u32,
     faults: &mut Faults<D::Sealed>,
 ) -> Result<Turn, ArchiveError>
-    ensures turn { IsTurn D.honest D.moment D.left_since archive.old archive.new
-        (due Merge keep archive.old.state) result }
+    ensures turn { IsTurn D.Disk archive.old archive.new (due Merge keep archive.old.state) result }
     ensures cause { HasCause ArchiveError.Fault (D.faults archive.old.disk) (D.faults archive.new.disk) result }
     ensures unread { HasCause ArchiveError.SourceFault faults.old faults.new result }
 {

@@ -2,7 +2,8 @@ use Rattle.std.proofs.Common.{◌≡◌, ◌≤◌, ◌↔◌, ℕ, Bool, true, 
 use Rattle.std.proofs.Common.{subst, arith, rules, vec_len}
 use Rattle.std.specs.Prelude.{Contains, eqb}
 use Rattle.std.proofs.lemmas.Bool.{eqb-false}
-use Rattle.flow_disk.specs.Disk.{Held, Marks, IsDiskImage, Stays}
+use Rattle.flow_disk.specs.declared.disk.Disk.{Ghosts}
+use Rattle.flow_disk.specs.Disk.{Marks, IsDiskImage, Stays}
 use Rattle.flow_disk.specs.Moments.{Passes}
 use Rattle.flow_disk.specs.declared.error.DiskError.{DiskError}
 use Rattle.flow_disk.specs.declared.error.DiskError.TheVariants as disk
@@ -14,26 +15,25 @@ use Rattle.flow_archive.specs.declared.refusal.ArchiveError.TheVariants as refus
 use Rattle.flow_archive.proofs.creating.begin.Goals as goal
 
 -- a call in which nothing changes
-untouched : {D : Type 0} (honest : D → Bool) (moment : D → ℕ) (left_since : D → ℕ → (ℕ → List ℕ) → Type 0)
-    (marks : D → ℕ → Marks) (held : D → ℕ → Held) (old new : D) → Stays (marks old) (marks new)
-    → (IsTrue (honest old) → Stays (held old) (held new))
-    → (IsTrue (honest old) → Passes moment left_since old new (held old))
-    → (IsTrue (honest old) → (image : ℕ → List ℕ) → left_since old (moment old) image → IsDiskImage (held old) image)
-    → IsUntouched honest moment left_since marks held old new
-untouched honest moment left_since marks held old new marks_same held_same time only = record {
+untouched : {D S X : Type 0} (g : Ghosts D S X) (old new : D) → Stays (g.marks old) (g.marks new)
+    → (IsTrue (g.honest old) → Stays (g.held old) (g.held new))
+    → (IsTrue (g.honest old) → Passes g.moment g.left_since old new (g.held old))
+    → (IsTrue (g.honest old) → (image : ℕ → List ℕ) → g.left_since old (g.moment old) image
+    → IsDiskImage (g.held old) image)
+    → IsUntouched g old new
+untouched g old new marks_same held_same time only = record {
   marks_stay = marks_same;
   held_stays = held_same;
-  any_moment = λ h. goes_on moment left_since old old new (IsDiskImage (held old)) (held old)
-      (started moment left_since old (IsDiskImage (held old)) (only h)) (time h) (λ image is. is);
+  any_moment = λ h. goes_on g old old new (IsDiskImage (g.held old)) (g.held old)
+      (started g old (IsDiskImage (g.held old)) (only h)) (time h) (λ image is. is);
 }
 
 -- a refusal of the disk, before anything changed
-told : {D : Type 0} (honest : D → Bool) (moment : D → ℕ) (left_since : D → ℕ → (ℕ → List ℕ) → Type 0)
-    (marks : D → ℕ → Marks) (held : D → ℕ → Held) (old new : D) (e : DiskError)
-    → IsUntouched honest moment left_since marks held old new
-    → IsNotMade honest moment left_since marks held old new (of_disk e)
-told honest moment left_since marks held old new disk.Fault same = tt
-told honest moment left_since marks held old new disk.OutOfMemory same = same
+told : {D S X : Type 0} (g : Ghosts D S X) (old new : D) (e : DiskError)
+    → IsUntouched g old new
+    → IsNotMade g old new (of_disk e)
+told g old new disk.Fault same = tt
+told g old new disk.OutOfMemory same = same
 
 some_file : (files : List ℕ) (marks : ℕ → Marks) → ((n : ℕ) → Contains files n ↔ ((marks n).listed ≡ true))
     → 1 ≤ length files → HasFiles marks
@@ -51,9 +51,9 @@ returns-in_err-files-clause-refused g c =
     let d0 = c.args.disk.now in
     let d1 = c.files.new.self in
     passed_on c.from_residual.result (of_disk (c.in_err-files.field-0).0)
-    (IsNotMade D.honest D.moment D.left_since D.marks D.held d0 d1) c.from_residual.ensures.1
-    (told D.honest D.moment D.left_since D.marks D.held d0 d1 (c.in_err-files.field-0).0
-    (untouched D.honest D.moment D.left_since D.marks D.held d0 d1 c.files.ensures.marks c.files.ensures.held
+    (IsNotMade D d0 d1) c.from_residual.ensures.1
+    (told D d0 d1 (c.in_err-files.field-0).0
+    (untouched D d0 d1 c.files.ensures.marks c.files.ensures.held
     c.files.ensures.time (λ h image left. g.met.D.Disk.only_now d0 image h left)))
 
 pub returns-then-not-is_empty-clause-refused : goal.returns-then-not-is_empty-clause-refused
@@ -67,7 +67,7 @@ returns-then-not-is_empty-clause-refused g c =
     c.is_empty.ensures c.if-not-is_empty.true in (
       (λ h. let has = some_file files.items (D.marks d1) (c.in_ok-files.ensures.listed h) some in
           (has.0, sym (ap (λ (k : Marks). k.listed) (c.files.ensures.marks has.0)) ∙ has.1)),
-      untouched D.honest D.moment D.left_since D.marks D.held d0 d1 c.files.ensures.marks c.files.ensures.held
+      untouched D d0 d1 c.files.ensures.marks c.files.ensures.held
           c.files.ensures.time (λ h image left. g.met.D.Disk.only_now d0 image h left),
     )
 
@@ -77,8 +77,8 @@ returns-in_err-first-clause-refused g c =
     let d0 = c.args.disk.now in
     let d1 = c.files.new.self in
     passed_on c.from_residual-in_err-first.result refusal.OutOfMemory
-    (IsNotMade D.honest D.moment D.left_since D.marks D.held d0 d1) c.from_residual-in_err-first.ensures.1
-    (untouched D.honest D.moment D.left_since D.marks D.held d0 d1 c.files.ensures.marks c.files.ensures.held
+    (IsNotMade D d0 d1) c.from_residual-in_err-first.ensures.1
+    (untouched D d0 d1 c.files.ensures.marks c.files.ensures.held
     c.files.ensures.time (λ h image left. g.met.D.Disk.only_now d0 image h left))
 
 pub returns-clause-known : goal.returns-clause-known

@@ -23,14 +23,14 @@ thawed_slots old new others here all n = ⊎_elim (λ one. ap (λ (k : ℕ). (ne
 pub returns-in_err-make_segment-clause-thawed : goal.returns-in_err-make_segment-clause-thawed
 returns-in_err-make_segment-clause-thawed g c n =
     let D = g.D.Disk in
-    thawed_one (D.marks c.args.disk.now) (D.marks c.make_segment.new.disk) 3 c.make_segment.ensures.other_marks
-    c.make_segment.ensures.thawed c.requires.thawed n
+    thawed_one (D.marks c.args.disk.now) (D.marks c.make_segment.new.disk) 3 c.make_segment.ensures.call.other_marks
+    c.make_segment.ensures.call.thawed c.requires.thawed n
 
 pub returns-in_err-create_slots-clause-thawed : goal.returns-in_err-create_slots-clause-thawed
 returns-in_err-create_slots-clause-thawed g c n =
     let D = g.D.Disk in
     let before = thawed_one (D.marks c.args.disk.now) (D.marks c.make_segment.new.disk) 3
-    c.make_segment.ensures.other_marks c.make_segment.ensures.thawed c.requires.thawed in
+    c.make_segment.ensures.call.other_marks c.make_segment.ensures.call.thawed c.requires.thawed in
     thawed_slots (D.marks c.make_segment.new.disk) (D.marks c.create_slots.new.disk) c.create_slots.ensures.other_marks
     c.create_slots.ensures.thawed before n
 
@@ -38,7 +38,7 @@ pub returns-clause-thawed : goal.returns-clause-thawed
 returns-clause-thawed g c n =
     let D = g.D.Disk in
     let before = thawed_one (D.marks c.args.disk.now) (D.marks c.make_segment.new.disk) 3
-    c.make_segment.ensures.other_marks c.make_segment.ensures.thawed c.requires.thawed in
+    c.make_segment.ensures.call.other_marks c.make_segment.ensures.call.thawed c.requires.thawed in
     thawed_slots (D.marks c.make_segment.new.disk) (D.marks c.create_slots.new.disk) c.create_slots.ensures.other_marks
     c.create_slots.ensures.thawed before n
 
@@ -48,7 +48,7 @@ returns-clause-ready g c =
     let d1 = c.make_segment.new.disk in
     let d2 = c.create_slots.new.disk in
     let before = thawed_one (D.marks c.args.disk.now) (D.marks d1) 3
-    c.make_segment.ensures.other_marks c.make_segment.ensures.thawed c.requires.thawed in
+    c.make_segment.ensures.call.other_marks c.make_segment.ensures.call.thawed c.requires.thawed in
     let thawed = thawed_slots (D.marks d1) (D.marks d2) c.create_slots.ensures.other_marks
     c.create_slots.ensures.thawed before in
     let same : D.marks d2 3 ≡ D.marks d1 3 =
@@ -57,8 +57,8 @@ returns-clause-ready g c =
       slot_room = c.in_ok-create_slots.ensures.room;
       slot_settled = c.in_ok-create_slots.ensures.settled;
       slot_thawed = c.create_slots.ensures.thawed;
-      room = omega (arith, ap (λ (k : Marks). k.size) same, c.in_ok-make_segment.ensures.size);
-      settled = ap (λ (k : Marks). k.settled) same ∙ c.in_ok-make_segment.ensures.settled;
+      room = omega (arith, ap (λ (k : Marks). k.size) same, c.in_ok-make_segment.ensures.call.size);
+      settled = ap (λ (k : Marks). k.settled) same ∙ c.in_ok-make_segment.ensures.call.settled;
       thawed = λ n which. thawed n;
     }
 
@@ -67,11 +67,11 @@ returns-clause-known g c h width wide limit valid valid_older first_is older_is 
     let D = g.D.Disk in
     let d1 = c.make_segment.new.disk in
     let d2 = c.create_slots.new.disk in
-    let h1 = subst IsTrue (sym c.make_segment.ensures.honest) h in
+    let h1 = subst IsTrue (sym c.make_segment.ensures.call.honest) h in
     let held : D.held d2 3 ≡ D.held d1 3 =
     c.create_slots.ensures.other_files h1 3 (λ is. omega (arith, is)) (λ is. omega (arith, is)) in
     let three : image 3 ≡ 0 ∷ 0 ∷ [] =
-    g.met.D.Disk.settled_alone d1 3 (image 3) h1 c.in_ok-make_segment.ensures.settled
+    g.met.D.Disk.settled_alone d1 3 (image 3) h1 c.in_ok-make_segment.ensures.call.settled
     (subst (λ (f : Held). IsImage f (image 3)) held (is 3)) ∙ c.in_ok-make_segment.ensures.octets h in
     known_empty width wide limit image three
     (c.in_ok-create_slots.ensures.told h1 (first_manifest 1 width wide limit) (first_manifest 0 width wide limit) valid

@@ -13,16 +13,16 @@ events-preserved g c =
     let D = g.D.Disk in
     let e = c.event-item.result in
     let i = c.events.event-index in
-    let more = run_more D.honest D.moment D.left_since c.args.archive.now (take i c.args.events.now)
+    let more = run_more D c.args.archive.now (take i c.args.events.now)
     c.events.answers.items c.events.archive c.take_event-answer.new.archive e c.take_event-answer.result
     c.events.invariant.run c.take_event-answer.ensures.answers c.take_event-answer.ensures.step in
     let taken : take (i + 1) c.args.events.now ≡ take i c.args.events.now ++ e ∷ [] =
     take_more c.args.events.now i e (omega arith)
     ∙ ap (λ (x : Event). take i c.args.events.now ++ x ∷ []) (sym c.event-item.is) in
     record {
-      run = subst (λ (l : List Event). IsRun D.honest D.moment D.left_since c.args.archive.now l
+      run = subst (λ (l : List Event). IsRun D c.args.archive.now l
           c.push_reserved.new.self.items c.take_event-answer.new.archive) (sym taken)
-          (subst (λ (l : List (Result Answer ArchiveError)). IsRun D.honest D.moment D.left_since c.args.archive.now
+          (subst (λ (l : List (Result Answer ArchiveError)). IsRun D c.args.archive.now
           (take i c.args.events.now ++ e ∷ []) l c.take_event-answer.new.archive)
           (sym c.push_reserved.ensures.items) more);
       cause = subst (λ (l : List (Result Answer ArchiveError)). AreCaused refusal.Fault
@@ -42,9 +42,9 @@ returns-clause-any_moment g c h still =
     let D = g.D.Disk in
     let all : take c.events.event-index c.args.events.now ≡ c.args.events.now =
     take_all c.events.event-index c.args.events.now (omega arith) in
-    let run = subst (λ (l : List Event). IsRun D.honest D.moment D.left_since c.args.archive.now l
+    let run = subst (λ (l : List Event). IsRun D c.args.archive.now l
     c.events.answers.items c.events.archive) all c.events.invariant.run in
-    all_moments D.honest D.moment D.left_since c.args.archive.now c.args.events.now c.events.answers.items
+    all_moments D c.args.archive.now c.args.events.now c.events.answers.items
     c.events.archive run h still
     (record {
       images = λ image left. c.is_closed-closed.ensures.stands h still image
@@ -56,9 +56,9 @@ returns-clause-since g c h still i =
     let D = g.D.Disk in
     let all : take c.events.event-index c.args.events.now ≡ c.args.events.now =
     take_all c.events.event-index c.args.events.now (omega arith) in
-    let run = subst (λ (l : List Event). IsRun D.honest D.moment D.left_since c.args.archive.now l
+    let run = subst (λ (l : List Event). IsRun D c.args.archive.now l
     c.events.answers.items c.events.archive) all c.events.invariant.run in
-    since D.honest D.moment D.left_since i c.args.archive.now c.args.events.now c.events.answers.items c.events.archive
+    since D i c.args.archive.now c.args.events.now c.events.answers.items c.events.archive
     run h still
     (record {
       images = λ image left. c.is_closed-closed.ensures.stands h still image

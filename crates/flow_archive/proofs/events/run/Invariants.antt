@@ -6,7 +6,7 @@ use Rattle.flow_archive.proofs.events.run.Given as goal
 
 abbrev pub invariant-events : goal.invariant-events
 invariant-events g l = record {
-  run : IsRun g.D.Disk.honest g.D.Disk.moment g.D.Disk.left_since l.fn.archive (take l.event-index l.events)
+  run : IsRun g.D.Disk l.fn.archive (take l.event-index l.events)
       l.answers.items l.archive;
   cause : AreCaused ArchiveError.Fault (g.D.Disk.faults l.fn.archive.disk) (g.D.Disk.faults l.archive.disk)
       l.answers.items;

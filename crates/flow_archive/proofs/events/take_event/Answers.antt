@@ -28,7 +28,7 @@ pub returns-in_err-octets-in-AppendBatch-clause-step : goal.returns-in_err-octet
 returns-in_err-octets-in-AppendBatch-clause-step g c =
     let D = g.D.Disk in
     let archive = c.args.archive.now in
-    refused_by D.honest D.moment D.left_since D.held archive archive _ OutOfMemory _
+    refused_by D archive archive _ OutOfMemory _
     c.from_residual-in_err-octets-in-AppendBatch.ensures.1 refl (λ is. cc)
     (λ h image left. g.met.D.Disk.only_now archive.disk image h left)
     (λ h still. c.is_closed.ensures.stands h still)
@@ -38,7 +38,7 @@ returns-in_ok-position-in-Append-clause-step g c =
     let D = g.D.Disk in
     let archive = c.args.archive.now in
     let message = c.in-Append.message in
-    told D.honest D.moment D.left_since archive c.append_batch.new.self
+    told D archive c.append_batch.new.self
     (λ s. s ≡ appended archive.state (slices (c.as_slice.result ∷ []))) (Takes true archive.state c.args.event.now)
     c.in_ok-position-in-Append.position (Position c.in_ok-position-in-Append.position)
     (λ s is. subst (λ (e : Event). Takes true archive.state e s) (sym c.in-Append.is)
@@ -50,7 +50,7 @@ returns-in_ok-position-in-AppendBatch-clause-step g c =
     let D = g.D.Disk in
     let archive = c.args.archive.now in
     let messages = c.in-AppendBatch.messages in
-    told D.honest D.moment D.left_since archive c.append_batch-in-AppendBatch.new.self
+    told D archive c.append_batch-in-AppendBatch.new.self
     (λ s. s ≡ appended archive.state (slices c.as_slice-in-AppendBatch-2.result.now))
     (Takes true archive.state c.args.event.now)
     c.in_ok-position-in-AppendBatch.position (Position c.in_ok-position-in-AppendBatch.position)
@@ -64,7 +64,7 @@ pub returns-in_ok-file-in-Seal-clause-step : goal.returns-in_ok-file-in-Seal-cla
 returns-in_ok-file-in-Seal-clause-step g c =
     let D = g.D.Disk in
     let archive = c.args.archive.now in
-    told D.honest D.moment D.left_since archive c.seal.new.self (λ s. IsMovedOn true archive.state s)
+    told D archive c.seal.new.self (λ s. IsMovedOn true archive.state s)
     (Takes true archive.state c.args.event.now) c.in_ok-file-in-Seal.file (Sealed c.in_ok-file-in-Seal.file)
     (λ s is. subst (λ (e : Event). Takes true archive.state e s) (sym c.in-Seal.is) is)
     c.in_ok-file-in-Seal.ensures.step
@@ -80,7 +80,7 @@ pub returns-in_err-position-in-AppendBatch-clause-step : goal.returns-in_err-pos
 returns-in_err-position-in-AppendBatch-clause-step g c =
     let D = g.D.Disk in
     let archive = c.args.archive.now in
-    told_refused {T = ℕ} D.honest D.moment D.left_since archive c.append_batch-in-AppendBatch.new.self
+    told_refused {T = ℕ} D archive c.append_batch-in-AppendBatch.new.self
     (λ s. s ≡ appended archive.state (slices c.as_slice-in-AppendBatch-2.result.now))
     (Takes true archive.state c.args.event.now) c.in_err-position-in-AppendBatch.field-0.0
     c.from_residual-in_err-position-in-AppendBatch.result
@@ -95,7 +95,7 @@ pub returns-in-RollInstall-clause-step : goal.returns-in-RollInstall-clause-step
 returns-in-RollInstall-clause-step g c =
     let D = g.D.Disk in
     let archive = c.args.archive.now in
-    told_as_it_is D.honest D.moment D.left_since archive c.roll_install.new.self (λ s. IsInstalled true archive.state s)
+    told_as_it_is D archive c.roll_install.new.self (λ s. IsInstalled true archive.state s)
     (Takes true archive.state c.args.event.now) c.roll_install.result
     (λ s is. subst (λ (e : Event). Takes true archive.state e s) (sym c.in-RollInstall.is) is)
     c.roll_install.ensures.step

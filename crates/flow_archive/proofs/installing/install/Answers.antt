@@ -14,7 +14,7 @@ pub open_slot-requires-clause-gate : goal.open_slot-requires-clause-gate
 open_slot-requires-clause-gate g c h =
     let D = g.D.Disk in
     let d1 = c.prepare_slot.new.disk in
-    let h0 = subst IsTrue c.prepare_slot.ensures.honest h in
+    let h0 = subst IsTrue c.prepare_slot.ensures.call.honest h in
     let came = c.in_ok-prepare_slot.ensures.after h0 (λ n. (D.held d1 n).reads)
     (λ n. g.met.D.Disk.reads_image d1 n h) in
     let step = came.2 in
@@ -30,7 +30,7 @@ returns-in_err-prepare_slot-clause-any_moment g c h slots kind count file s m =
     let M = IsMade f slots c.args.slot body kind count file s m in
     let ready : AllImages f M =
     λ image is. ready_to f slots c.args.slot body kind count file s m image (m.known image is) (m.staged image is) in
-    comes_by D.moment D.left_since D.held d0 c.prepare_slot.new.disk M Q (InFile c.args.slot MayClose) ready
+    comes_by D d0 c.prepare_slot.new.disk M Q (InFile c.args.slot MayClose) ready
     (c.prepare_slot.ensures.any_moment h) (preparing f slots c.args.slot body kind count file s m)
 
 pub returns-in_err-open_slot-clause-any_moment : goal.returns-in_err-open_slot-clause-any_moment
@@ -44,13 +44,13 @@ returns-in_err-open_slot-clause-any_moment g c h slots kind count file s m =
     let ready : AllImages f M =
     λ image is. ready_to f slots c.args.slot body kind count file s m image (m.known image is) (m.staged image is) in
     let d1 = c.prepare_slot.new.disk in
-    let r1 = comes_by D.moment D.left_since D.held d0 d1 M Q (InFile c.args.slot MayClose) ready
+    let r1 = comes_by D d0 d1 M Q (InFile c.args.slot MayClose) ready
     (c.prepare_slot.ensures.any_moment h) (preparing f slots c.args.slot body kind count file s m) in
-    let h1 = subst IsTrue (sym c.prepare_slot.ensures.honest) h in
+    let h1 = subst IsTrue (sym c.prepare_slot.ensures.call.honest) h in
     let A = IsAllPrepared f slots c.args.slot body kind count file s m in
-    let a1 = arrive D.moment D.left_since D.held d0 d1 M A (InFile c.args.slot (IsPrepared body)) ready
+    let a1 = arrive D d0 d1 M A (InFile c.args.slot (IsPrepared body)) ready
     (c.in_ok-prepare_slot.ensures.after h) (prepared f slots c.args.slot body kind count file s m) in
-    advance D.moment D.left_since D.held d0 d1 c.open_slot.new.disk Q A (InFile c.args.slot MayOpen) r1 a1
+    advance D d0 d1 c.open_slot.new.disk Q A (InFile c.args.slot MayOpen) r1 a1
     (c.open_slot.ensures.any_moment h1) (turning f slots c.args.slot body kind count file s m)
 
 pub returns-clause-any_moment : goal.returns-clause-any_moment
@@ -64,13 +64,13 @@ returns-clause-any_moment g c h slots kind count file s m =
     let ready : AllImages f M =
     λ image is. ready_to f slots c.args.slot body kind count file s m image (m.known image is) (m.staged image is) in
     let d1 = c.prepare_slot.new.disk in
-    let r1 = comes_by D.moment D.left_since D.held d0 d1 M Q (InFile c.args.slot MayClose) ready
+    let r1 = comes_by D d0 d1 M Q (InFile c.args.slot MayClose) ready
     (c.prepare_slot.ensures.any_moment h) (preparing f slots c.args.slot body kind count file s m) in
-    let h1 = subst IsTrue (sym c.prepare_slot.ensures.honest) h in
+    let h1 = subst IsTrue (sym c.prepare_slot.ensures.call.honest) h in
     let A = IsAllPrepared f slots c.args.slot body kind count file s m in
-    let a1 = arrive D.moment D.left_since D.held d0 d1 M A (InFile c.args.slot (IsPrepared body)) ready
+    let a1 = arrive D d0 d1 M A (InFile c.args.slot (IsPrepared body)) ready
     (c.in_ok-prepare_slot.ensures.after h) (prepared f slots c.args.slot body kind count file s m) in
-    advance D.moment D.left_since D.held d0 d1 c.open_slot.new.disk Q A (InFile c.args.slot MayOpen) r1 a1
+    advance D d0 d1 c.open_slot.new.disk Q A (InFile c.args.slot MayOpen) r1 a1
     (c.open_slot.ensures.any_moment h1) (turning f slots c.args.slot body kind count file s m)
 
 pub returns-clause-after : goal.returns-clause-after
@@ -83,10 +83,10 @@ returns-clause-after g c h slots kind count file s m =
     let ready : AllImages f M =
     λ image is. ready_to f slots c.args.slot body kind count file s m image (m.known image is) (m.staged image is) in
     let d1 = c.prepare_slot.new.disk in
-    let h1 = subst IsTrue (sym c.prepare_slot.ensures.honest) h in
+    let h1 = subst IsTrue (sym c.prepare_slot.ensures.call.honest) h in
     let A = IsAllPrepared f slots c.args.slot body kind count file s m in
-    let a1 = arrive D.moment D.left_since D.held d0 d1 M A (InFile c.args.slot (IsPrepared body)) ready
+    let a1 = arrive D d0 d1 M A (InFile c.args.slot (IsPrepared body)) ready
     (c.in_ok-prepare_slot.ensures.after h) (prepared f slots c.args.slot body kind count file s m) in
     let N = IsKnown (slots_after f slots c.args.slot body kind count file s m) (replaced s kind count file) in
-    arrive D.moment D.left_since D.held d1 c.open_slot.new.disk A N (InFile c.args.slot Opens) a1
+    arrive D d1 c.open_slot.new.disk A N (InFile c.args.slot Opens) a1
     (c.in_ok-open_slot.ensures.after h1) (turned f slots c.args.slot body kind count file s m)

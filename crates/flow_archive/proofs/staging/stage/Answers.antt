@@ -13,8 +13,8 @@ returns-in_err-write_at-clause-any_moment g c h =
     let d0 = c.args.disk.now in
     let f = c.args.file in
     let at_all = g.met.D.Disk.reads_image d0 f h in
-    let none = begun D.honest D.moment D.left_since D.held d0 f at_all (λ image. g.met.D.Disk.only_now d0 image h) h in
-    (changed_by D.honest D.moment D.left_since D.held d0 f at_all d0 c.write_at.new.self _ none
+    let none = begun h at_all (λ image. g.met.D.Disk.only_now d0 image h) in
+    (changed_by _ none
     c.write_at.ensures.honest c.write_at.ensures.time (λ t. (c.write_at.ensures.held t).others)).run
 
 pub returns-in_err-cut-clause-any_moment : goal.returns-in_err-cut-clause-any_moment
@@ -23,10 +23,10 @@ returns-in_err-cut-clause-any_moment g c h =
     let d0 = c.args.disk.now in
     let f = c.args.file in
     let at_all = g.met.D.Disk.reads_image d0 f h in
-    let none = begun D.honest D.moment D.left_since D.held d0 f at_all (λ image. g.met.D.Disk.only_now d0 image h) h in
-    let one = changed_by D.honest D.moment D.left_since D.held d0 f at_all d0 c.write_at.new.self _ none
+    let none = begun h at_all (λ image. g.met.D.Disk.only_now d0 image h) in
+    let one = changed_by _ none
     c.write_at.ensures.honest c.write_at.ensures.time (λ t. (c.write_at.ensures.held t).others) in
-    (changed_by D.honest D.moment D.left_since D.held d0 f at_all c.write_at.new.self c.cut.new.self _ one
+    (changed_by _ one
     c.cut.ensures.honest c.cut.ensures.time (λ t. (c.cut.ensures.held t).others)).run
 
 pub returns-in_err-sync-clause-any_moment : goal.returns-in_err-sync-clause-any_moment
@@ -35,12 +35,12 @@ returns-in_err-sync-clause-any_moment g c h =
     let d0 = c.args.disk.now in
     let f = c.args.file in
     let at_all = g.met.D.Disk.reads_image d0 f h in
-    let none = begun D.honest D.moment D.left_since D.held d0 f at_all (λ image. g.met.D.Disk.only_now d0 image h) h in
-    let one = changed_by D.honest D.moment D.left_since D.held d0 f at_all d0 c.write_at.new.self _ none
+    let none = begun h at_all (λ image. g.met.D.Disk.only_now d0 image h) in
+    let one = changed_by _ none
     c.write_at.ensures.honest c.write_at.ensures.time (λ t. (c.write_at.ensures.held t).others) in
-    let two = changed_by D.honest D.moment D.left_since D.held d0 f at_all c.write_at.new.self c.cut.new.self _ one
+    let two = changed_by _ one
     c.cut.ensures.honest c.cut.ensures.time (λ t. (c.cut.ensures.held t).others) in
-    (settled_by D.honest D.moment D.left_since D.held d0 f at_all c.cut.new.self c.sync.new.self two
+    (settled_by two
     c.sync.ensures.honest c.sync.ensures.time (λ t. (c.sync.ensures.held t).others)).run
 
 pub returns-in_err-part-clause-any_moment : goal.returns-in_err-part-clause-any_moment
@@ -49,14 +49,14 @@ returns-in_err-part-clause-any_moment g c h =
     let d0 = c.args.disk.now in
     let f = c.args.file in
     let at_all = g.met.D.Disk.reads_image d0 f h in
-    let none = begun D.honest D.moment D.left_since D.held d0 f at_all (λ image. g.met.D.Disk.only_now d0 image h) h in
-    let one = changed_by D.honest D.moment D.left_since D.held d0 f at_all d0 c.write_at.new.self _ none
+    let none = begun h at_all (λ image. g.met.D.Disk.only_now d0 image h) in
+    let one = changed_by _ none
     c.write_at.ensures.honest c.write_at.ensures.time (λ t. (c.write_at.ensures.held t).others) in
-    let two = changed_by D.honest D.moment D.left_since D.held d0 f at_all c.write_at.new.self c.cut.new.self _ one
+    let two = changed_by _ one
     c.cut.ensures.honest c.cut.ensures.time (λ t. (c.cut.ensures.held t).others) in
-    let three = settled_by D.honest D.moment D.left_since D.held d0 f at_all c.cut.new.self c.sync.new.self two
+    let three = settled_by two
     c.sync.ensures.honest c.sync.ensures.time (λ t. (c.sync.ensures.held t).others) in
-    (settled_by D.honest D.moment D.left_since D.held d0 f at_all c.sync.new.self c.freeze.new.self three
+    (settled_by three
     c.freeze.ensures.honest c.freeze.ensures.time (λ t n differs. c.freeze.ensures.held t n)).run
 
 pub returns-clause-any_moment : goal.returns-clause-any_moment
@@ -65,14 +65,14 @@ returns-clause-any_moment g c h =
     let d0 = c.args.disk.now in
     let f = c.args.file in
     let at_all = g.met.D.Disk.reads_image d0 f h in
-    let none = begun D.honest D.moment D.left_since D.held d0 f at_all (λ image. g.met.D.Disk.only_now d0 image h) h in
-    let one = changed_by D.honest D.moment D.left_since D.held d0 f at_all d0 c.write_at.new.self _ none
+    let none = begun h at_all (λ image. g.met.D.Disk.only_now d0 image h) in
+    let one = changed_by _ none
     c.write_at.ensures.honest c.write_at.ensures.time (λ t. (c.write_at.ensures.held t).others) in
-    let two = changed_by D.honest D.moment D.left_since D.held d0 f at_all c.write_at.new.self c.cut.new.self _ one
+    let two = changed_by _ one
     c.cut.ensures.honest c.cut.ensures.time (λ t. (c.cut.ensures.held t).others) in
-    let three = settled_by D.honest D.moment D.left_since D.held d0 f at_all c.cut.new.self c.sync.new.self two
+    let three = settled_by two
     c.sync.ensures.honest c.sync.ensures.time (λ t. (c.sync.ensures.held t).others) in
-    (settled_by D.honest D.moment D.left_since D.held d0 f at_all c.sync.new.self c.freeze.new.self three
+    (settled_by three
     c.freeze.ensures.honest c.freeze.ensures.time (λ t n differs. c.freeze.ensures.held t n)).run
 
 pub returns-clause-octets : goal.returns-clause-octets

@@ -18,7 +18,7 @@ returns-in_err-write_at-clause-any_moment g c h messages placed =
           λ image is. g.met.D.Disk.settled_alone d file image h c.requires.settled is;
     } in
     let only_now = λ (image : ℕ → List ℕ). g.met.D.Disk.only_now d image h in
-    inside_write D.moment D.left_since D.held d file c.args.end messages alone placed only_now c.write_at.new.self _
+    inside_write D d file c.args.end messages alone placed only_now c.write_at.new.self _
     (c.write_at.ensures.time h)
 
 pub returns-in_err-sync-clause-any_moment : goal.returns-in_err-sync-clause-any_moment
@@ -33,11 +33,11 @@ returns-in_err-sync-clause-any_moment g c h messages placed =
           λ image is. g.met.D.Disk.settled_alone d file image h c.requires.settled is;
     } in
     let only_now = λ (image : ℕ → List ℕ). g.met.D.Disk.only_now d image h in
-    let written = inside_write D.moment D.left_since D.held d file c.args.end messages alone placed only_now
+    let written = inside_write D d file c.args.end messages alone placed only_now
     c.write_at.new.self _ (c.write_at.ensures.time h) in
     let wrote = c.in_ok-write_at.ensures.held h in
     let h1 = subst IsTrue (sym c.write_at.ensures.honest) h in
-    inside_sync D.moment D.left_since D.held d file c.args.end messages alone placed only_now c.write_at.new.self
+    inside_sync D d file c.args.end messages alone placed only_now c.write_at.new.self
     c.sync.new.self _ written wrote.done wrote.others (c.sync.ensures.time h1)
 
 pub returns-clause-any_moment : goal.returns-clause-any_moment
@@ -52,11 +52,11 @@ returns-clause-any_moment g c h messages placed =
           λ image is. g.met.D.Disk.settled_alone d file image h c.requires.settled is;
     } in
     let only_now = λ (image : ℕ → List ℕ). g.met.D.Disk.only_now d image h in
-    let written = inside_write D.moment D.left_since D.held d file c.args.end messages alone placed only_now
+    let written = inside_write D d file c.args.end messages alone placed only_now
     c.write_at.new.self _ (c.write_at.ensures.time h) in
     let wrote = c.in_ok-write_at.ensures.held h in
     let h1 = subst IsTrue (sym c.write_at.ensures.honest) h in
-    inside_sync D.moment D.left_since D.held d file c.args.end messages alone placed only_now c.write_at.new.self
+    inside_sync D d file c.args.end messages alone placed only_now c.write_at.new.self
     c.sync.new.self _ written wrote.done wrote.others (c.sync.ensures.time h1)
 
 pub returns-clause-after : goal.returns-clause-after

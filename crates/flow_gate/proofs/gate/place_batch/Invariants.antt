@@ -15,7 +15,7 @@ invariant-loop-message g l = let D = g.D.Disk in record {
   other_marks : (n : ℕ) → n ≢ l.file → D.marks l.disk n ≡ D.marks l.fn.disk n;
   thawed : (D.marks l.disk l.file).frozen ≡ false;
   size : (D.marks l.disk l.file).size ≡ max (D.marks l.fn.disk l.file).size l.at;
-  under_way : IsTrue (D.honest l.fn.disk) → IsUnderWay D.moment D.left_since D.held l.fn.disk l.file l.end l.disk;
+  under_way : IsTrue (D.honest l.fn.disk) → IsUnderWay D l.fn.disk l.file l.end l.disk;
   reads : IsTrue (D.honest l.fn.disk)
       → (D.held l.disk l.file).reads ≡ put_behind (D.held l.fn.disk l.file).reads l.end
       (slices (take l.message-index l.messages));

@@ -100,5 +100,5 @@ returns-clause-any_moment g c h =
     let d = c.args.disk.now in
     let mid = c.length.new.self in
     let h1 = subst IsTrue (sym c.length.ensures.honest) h in
-    looked_again D.moment D.left_since D.held d mid (λ image left. g.met.D.Disk.only_now d image h left)
+    looked_again D d mid (λ image left. g.met.D.Disk.only_now d image h left)
     (c.length.ensures.time h) c.read.new.self (c.length.ensures.held h) (c.read.ensures.time h1)

@@ -5,7 +5,7 @@ use Rattle.flow_memory_disk.specs.Calls.{held_of}
 use Rattle.flow_memory_disk.specs.Memory.{story_of}
 use Rattle.flow_memory_disk.specs.Stopped.{stopped}
 use Rattle.flow_memory_disk.specs.Stopping.{CanCrash}
-use Rattle.flow_headline.specs.Machine.{Fused}
+use Rattle.flow_headline.specs.Machine.{fused_disk, Fused}
 use Rattle.flow_headline.proofs.Closing.{ends_at_fault}
 use Rattle.flow_headline.proofs.Stopping.{left_by_stop}
 use Rattle.flow_headline.proofs.reopening.run_and_stop.Goals as goal
@@ -32,5 +32,5 @@ returns-in-Some-clause-left c =
 
 pub returns-in-Some-clause-behind : goal.returns-in-Some-clause-behind
 returns-in-Some-clause-behind c =
-    ends_at_fault _ _ _ c.args.archive c.args.events.now c.in_ok-answers.answers.items c.run_all.new.archive
+    ends_at_fault fused_disk c.args.archive c.args.events.now c.in_ok-answers.answers.items c.run_all.new.archive
     c.in_ok-answers.ensures

@@ -10,7 +10,7 @@ pub returns-clause-between : goal.returns-clause-between
 returns-clause-between g c h still i j le =
     let D = g.D.Disk in
     let met = g.met.D.Disk in
-    stops_between D.honest D.moment D.left_since
+    stops_between D
     (λ d honest. (
       reads_of (D.held d),
       met.counts_now d (D.moment d) (reads_of (D.held d)) honest (omega arith)
@@ -34,7 +34,7 @@ pub returns-clause-left : goal.returns-clause-left
 returns-clause-left g c h still image is =
     let D = g.D.Disk in
     let met = g.met.D.Disk in
-    let found = image_of_run D.honest D.moment D.left_since
+    let found = image_of_run D
     (λ d honest. (
       reads_of (D.held d),
       met.counts_now d (D.moment d) (reads_of (D.held d)) honest (omega arith)
@@ -52,7 +52,7 @@ returns-clause-left g c h still image is =
             (λ n. met.reads_image c.args.archive.now.disk n h),
       );
     })
-    (λ t le. met.counts_now c.run.new.archive.disk t image (subst IsTrue (sym (honest_after D.honest D.moment D.left_since
+    (λ t le. met.counts_now c.run.new.archive.disk t image (subst IsTrue (sym (honest_after D
     c.args.archive.now c.args.events.now c.in_ok-answers.answers.items c.run.new.archive c.in_ok-answers.ensures.run)) h)
     le is) in (
       reopened found.after,
@@ -62,5 +62,5 @@ returns-clause-left g c h still image is =
 
 pub returns-clause-behind : goal.returns-clause-behind
 returns-clause-behind g c =
-    ends_at_fault _ _ _ c.args.archive.now c.args.events.now c.in_ok-answers.answers.items c.run.new.archive
+    ends_at_fault g.D.Disk c.args.archive.now c.args.events.now c.in_ok-answers.answers.items c.run.new.archive
     c.in_ok-answers.ensures.run

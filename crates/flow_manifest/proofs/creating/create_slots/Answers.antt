@@ -36,10 +36,11 @@ returns-clause-told g c h m n valid valid_older lt is_first is_older =
     let new = c.write_slot-2.new.disk in
     let first = c.args.first.now in
     let older = c.args.older.now in
-    let h1 = subst IsTrue (sym c.write_slot.ensures.honest) h in
+    let h1 = subst IsTrue (sym c.write_slot.ensures.call.honest) h in
     let two : IsOnly (D.held new 2) (open_gate ∷ older) =
     λ octets is. c.in_ok-write_slot.ensures.after h octets
-    (subst (λ (f : Held). IsImage f octets) (c.write_slot-2.ensures.other_files h1 2 (λ same. absurd (omega arith))) is) in
+    (subst (λ (f : Held). IsImage f octets) (c.write_slot-2.ensures.call.other_files h1 2
+    (λ same. absurd (omega arith))) is) in
     on_ok_by c.write_slot-2.result (IsOnly (D.held new 1) (open_gate ∷ first))
     (AllImages (D.held new) (AreSlots (created_slots m)))
     (created (D.held new) m n first older valid valid_older lt is_first is_older two)

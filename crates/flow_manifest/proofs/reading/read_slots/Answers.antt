@@ -27,7 +27,7 @@ returns-clause-room g c =
       gates.0,
       c.deref.ensures.len,
       c.in_ok-first.ensures.size,
-      ap (λ (m : Marks). m.size) (c.slot_octets-2.ensures.other_marks 1 (λ is. omega arith)),
+      ap (λ (m : Marks). m.size) (c.slot_octets-2.ensures.reads.other_marks 1 (λ is. omega arith)),
     ))
     (omega (arith, gates.1, c.deref-2.ensures.len, c.in_ok-second.ensures.size)))
     c.slots_of.ensures.gates
@@ -36,89 +36,91 @@ pub returns-in_err-first-clause-settled : goal.returns-in_err-first-clause-settl
 returns-in_err-first-clause-settled g c =
     let D = g.D.Disk in
     part_kept (λ m. m.settled) (D.marks c.args.disk.now) (D.marks c.slot_octets.new.disk) 1
-    c.slot_octets.ensures.other_marks c.slot_octets.ensures.settled
+    c.slot_octets.ensures.reads.other_marks c.slot_octets.ensures.reads.settled
 
 pub returns-in_err-second-clause-settled : goal.returns-in_err-second-clause-settled
 returns-in_err-second-clause-settled g c n =
     let D = g.D.Disk in
     let mid = D.marks c.slot_octets.new.disk in
-    part_kept (λ m. m.settled) mid (D.marks c.slot_octets-2.new.disk) 2 c.slot_octets-2.ensures.other_marks
-    c.slot_octets-2.ensures.settled n
-    ∙ part_kept (λ m. m.settled) (D.marks c.args.disk.now) mid 1 c.slot_octets.ensures.other_marks
-    c.slot_octets.ensures.settled n
+    part_kept (λ m. m.settled) mid (D.marks c.slot_octets-2.new.disk) 2 c.slot_octets-2.ensures.reads.other_marks
+    c.slot_octets-2.ensures.reads.settled n
+    ∙ part_kept (λ m. m.settled) (D.marks c.args.disk.now) mid 1 c.slot_octets.ensures.reads.other_marks
+    c.slot_octets.ensures.reads.settled n
 
 pub returns-clause-settled : goal.returns-clause-settled
 returns-clause-settled g c n =
     let D = g.D.Disk in
     let mid = D.marks c.slot_octets.new.disk in
-    part_kept (λ m. m.settled) mid (D.marks c.slot_octets-2.new.disk) 2 c.slot_octets-2.ensures.other_marks
-    c.slot_octets-2.ensures.settled n
-    ∙ part_kept (λ m. m.settled) (D.marks c.args.disk.now) mid 1 c.slot_octets.ensures.other_marks
-    c.slot_octets.ensures.settled n
+    part_kept (λ m. m.settled) mid (D.marks c.slot_octets-2.new.disk) 2 c.slot_octets-2.ensures.reads.other_marks
+    c.slot_octets-2.ensures.reads.settled n
+    ∙ part_kept (λ m. m.settled) (D.marks c.args.disk.now) mid 1 c.slot_octets.ensures.reads.other_marks
+    c.slot_octets.ensures.reads.settled n
 
 pub returns-in_err-first-clause-frozen : goal.returns-in_err-first-clause-frozen
 returns-in_err-first-clause-frozen g c =
     let D = g.D.Disk in
     part_kept (λ m. m.frozen) (D.marks c.args.disk.now) (D.marks c.slot_octets.new.disk) 1
-    c.slot_octets.ensures.other_marks c.slot_octets.ensures.frozen
+    c.slot_octets.ensures.reads.other_marks c.slot_octets.ensures.reads.frozen
 
 pub returns-in_err-second-clause-frozen : goal.returns-in_err-second-clause-frozen
 returns-in_err-second-clause-frozen g c n =
     let D = g.D.Disk in
     let mid = D.marks c.slot_octets.new.disk in
-    part_kept (λ m. m.frozen) mid (D.marks c.slot_octets-2.new.disk) 2 c.slot_octets-2.ensures.other_marks
-    c.slot_octets-2.ensures.frozen n
-    ∙ part_kept (λ m. m.frozen) (D.marks c.args.disk.now) mid 1 c.slot_octets.ensures.other_marks
-    c.slot_octets.ensures.frozen n
+    part_kept (λ m. m.frozen) mid (D.marks c.slot_octets-2.new.disk) 2 c.slot_octets-2.ensures.reads.other_marks
+    c.slot_octets-2.ensures.reads.frozen n
+    ∙ part_kept (λ m. m.frozen) (D.marks c.args.disk.now) mid 1 c.slot_octets.ensures.reads.other_marks
+    c.slot_octets.ensures.reads.frozen n
 
 pub returns-clause-frozen : goal.returns-clause-frozen
 returns-clause-frozen g c n =
     let D = g.D.Disk in
     let mid = D.marks c.slot_octets.new.disk in
-    part_kept (λ m. m.frozen) mid (D.marks c.slot_octets-2.new.disk) 2 c.slot_octets-2.ensures.other_marks
-    c.slot_octets-2.ensures.frozen n
-    ∙ part_kept (λ m. m.frozen) (D.marks c.args.disk.now) mid 1 c.slot_octets.ensures.other_marks
-    c.slot_octets.ensures.frozen n
+    part_kept (λ m. m.frozen) mid (D.marks c.slot_octets-2.new.disk) 2 c.slot_octets-2.ensures.reads.other_marks
+    c.slot_octets-2.ensures.reads.frozen n
+    ∙ part_kept (λ m. m.frozen) (D.marks c.args.disk.now) mid 1 c.slot_octets.ensures.reads.other_marks
+    c.slot_octets.ensures.reads.frozen n
 
 pub returns-in_err-first-clause-listed : goal.returns-in_err-first-clause-listed
 returns-in_err-first-clause-listed g c =
     let D = g.D.Disk in
     part_kept (λ m. m.listed) (D.marks c.args.disk.now) (D.marks c.slot_octets.new.disk) 1
-    c.slot_octets.ensures.other_marks c.slot_octets.ensures.listed
+    c.slot_octets.ensures.reads.other_marks c.slot_octets.ensures.reads.listed
 
 pub returns-in_err-second-clause-listed : goal.returns-in_err-second-clause-listed
 returns-in_err-second-clause-listed g c n =
     let D = g.D.Disk in
     let mid = D.marks c.slot_octets.new.disk in
-    part_kept (λ m. m.listed) mid (D.marks c.slot_octets-2.new.disk) 2 c.slot_octets-2.ensures.other_marks
-    c.slot_octets-2.ensures.listed n
-    ∙ part_kept (λ m. m.listed) (D.marks c.args.disk.now) mid 1 c.slot_octets.ensures.other_marks
-    c.slot_octets.ensures.listed n
+    part_kept (λ m. m.listed) mid (D.marks c.slot_octets-2.new.disk) 2 c.slot_octets-2.ensures.reads.other_marks
+    c.slot_octets-2.ensures.reads.listed n
+    ∙ part_kept (λ m. m.listed) (D.marks c.args.disk.now) mid 1 c.slot_octets.ensures.reads.other_marks
+    c.slot_octets.ensures.reads.listed n
 
 pub returns-clause-listed : goal.returns-clause-listed
 returns-clause-listed g c n =
     let D = g.D.Disk in
     let mid = D.marks c.slot_octets.new.disk in
-    part_kept (λ m. m.listed) mid (D.marks c.slot_octets-2.new.disk) 2 c.slot_octets-2.ensures.other_marks
-    c.slot_octets-2.ensures.listed n
-    ∙ part_kept (λ m. m.listed) (D.marks c.args.disk.now) mid 1 c.slot_octets.ensures.other_marks
-    c.slot_octets.ensures.listed n
+    part_kept (λ m. m.listed) mid (D.marks c.slot_octets-2.new.disk) 2 c.slot_octets-2.ensures.reads.other_marks
+    c.slot_octets-2.ensures.reads.listed n
+    ∙ part_kept (λ m. m.listed) (D.marks c.args.disk.now) mid 1 c.slot_octets.ensures.reads.other_marks
+    c.slot_octets.ensures.reads.listed n
 
 pub returns-in_err-second-clause-other_marks : goal.returns-in_err-second-clause-other_marks
-returns-in_err-second-clause-other_marks g c n one two = c.slot_octets-2.ensures.other_marks n two
-    ∙ c.slot_octets.ensures.other_marks n one
+returns-in_err-second-clause-other_marks g c n one two = c.slot_octets-2.ensures.reads.other_marks n two
+    ∙ c.slot_octets.ensures.reads.other_marks n one
 
 pub returns-in_err-second-clause-held : goal.returns-in_err-second-clause-held
-returns-in_err-second-clause-held g c h n = c.slot_octets-2.ensures.held (subst IsTrue (sym c.slot_octets.ensures.honest) h) n
-    ∙ c.slot_octets.ensures.held h n
+returns-in_err-second-clause-held g c h n = c.slot_octets-2.ensures.reads.held
+    (subst IsTrue (sym c.slot_octets.ensures.reads.honest) h) n
+    ∙ c.slot_octets.ensures.reads.held h n
 
 pub returns-clause-other_marks : goal.returns-clause-other_marks
-returns-clause-other_marks g c n one two = c.slot_octets-2.ensures.other_marks n two
-    ∙ c.slot_octets.ensures.other_marks n one
+returns-clause-other_marks g c n one two = c.slot_octets-2.ensures.reads.other_marks n two
+    ∙ c.slot_octets.ensures.reads.other_marks n one
 
 pub returns-clause-held : goal.returns-clause-held
-returns-clause-held g c h n = c.slot_octets-2.ensures.held (subst IsTrue (sym c.slot_octets.ensures.honest) h) n
-    ∙ c.slot_octets.ensures.held h n
+returns-clause-held g c h n = c.slot_octets-2.ensures.reads.held
+    (subst IsTrue (sym c.slot_octets.ensures.reads.honest) h) n
+    ∙ c.slot_octets.ensures.reads.held h n
 
 pub returns-in_err-second-clause-any_moment : goal.returns-in_err-second-clause-any_moment
 returns-in_err-second-clause-any_moment g c h =
@@ -126,10 +128,10 @@ returns-in_err-second-clause-any_moment g c h =
     let d = c.args.disk.now in
     let mid = c.slot_octets.new.disk in
     let new = c.slot_octets-2.new.disk in
-    let h1 = subst IsTrue (sym c.slot_octets.ensures.honest) h in
-    let stays = c.slot_octets.ensures.held h in
-    one_run D.moment D.left_since d mid new (IsDiskImage (D.held d)) (c.slot_octets.ensures.any_moment h)
-    (by D.moment D.left_since mid new (IsDiskImage (D.held mid)) (IsDiskImage (D.held d))
+    let h1 = subst IsTrue (sym c.slot_octets.ensures.reads.honest) h in
+    let stays = c.slot_octets.ensures.reads.held h in
+    one_run D d mid new (IsDiskImage (D.held d)) (c.slot_octets.ensures.any_moment h)
+    (by D mid new (IsDiskImage (D.held mid)) (IsDiskImage (D.held d))
     (c.slot_octets-2.ensures.any_moment h1)
     (λ image is n. subst (λ (f : Held). IsImage f (image n)) (stays n) (is n)))
 
@@ -139,10 +141,10 @@ returns-clause-any_moment g c h =
     let d = c.args.disk.now in
     let mid = c.slot_octets.new.disk in
     let new = c.slot_octets-2.new.disk in
-    let h1 = subst IsTrue (sym c.slot_octets.ensures.honest) h in
-    let stays = c.slot_octets.ensures.held h in
-    one_run D.moment D.left_since d mid new (IsDiskImage (D.held d)) (c.slot_octets.ensures.any_moment h)
-    (by D.moment D.left_since mid new (IsDiskImage (D.held mid)) (IsDiskImage (D.held d))
+    let h1 = subst IsTrue (sym c.slot_octets.ensures.reads.honest) h in
+    let stays = c.slot_octets.ensures.reads.held h in
+    one_run D d mid new (IsDiskImage (D.held d)) (c.slot_octets.ensures.any_moment h)
+    (by D mid new (IsDiskImage (D.held mid)) (IsDiskImage (D.held d))
     (c.slot_octets-2.ensures.any_moment h1)
     (λ image is n. subst (λ (f : Held). IsImage f (image n)) (stays n) (is n)))
 
@@ -151,12 +153,12 @@ returns-clause-found g c h =
     let D = g.D.Disk in
     let d = c.args.disk.now in
     let mid = c.slot_octets.new.disk in
-    let h1 = subst IsTrue (sym c.slot_octets.ensures.honest) h in
+    let h1 = subst IsTrue (sym c.slot_octets.ensures.reads.honest) h in
     let one : take enough (D.held d 1).reads ≡ c.deref.result.now =
     sym (c.deref.ensures.value ∙ c.in_ok-first.ensures.octets h) in
     let two : take enough (D.held d 2).reads ≡ c.deref-2.result.now =
     sym (c.deref-2.ensures.value ∙ c.in_ok-second.ensures.octets h1
-    ∙ ap (λ (f : Held). take enough f.reads) (c.slot_octets.ensures.held h 2)) in
+    ∙ ap (λ (f : Held). take enough f.reads) (c.slot_octets.ensures.reads.held h 2)) in
     if_ok_by c.slots_of.result _ (λ slots. AreSlots slots (reads_of (D.held d)))
     (λ slots are. slots_whole slots (reads_of (D.held d)) (are (λ n. take enough (D.held d n).reads) one two))
     c.slots_of.ensures.found
@@ -167,14 +169,14 @@ returns-clause-in_force g c h settled_1 settled_2 =
     let d = c.args.disk.now in
     let mid = c.slot_octets.new.disk in
     let new = c.slot_octets-2.new.disk in
-    let h1 = subst IsTrue (sym c.slot_octets.ensures.honest) h in
+    let h1 = subst IsTrue (sym c.slot_octets.ensures.reads.honest) h in
     let one : take enough (D.held d 1).reads ≡ c.deref.result.now =
     sym (c.deref.ensures.value ∙ c.in_ok-first.ensures.octets h) in
     let two : take enough (D.held d 2).reads ≡ c.deref-2.result.now =
     sym (c.deref-2.ensures.value ∙ c.in_ok-second.ensures.octets h1
-    ∙ ap (λ (f : Held). take enough f.reads) (c.slot_octets.ensures.held h 2)) in
-    let same : (n : ℕ) → D.held new n ≡ D.held d n = λ n. c.slot_octets-2.ensures.held h1 n
-    ∙ c.slot_octets.ensures.held h n in
+    ∙ ap (λ (f : Held). take enough f.reads) (c.slot_octets.ensures.reads.held h 2)) in
+    let same : (n : ℕ) → D.held new n ≡ D.held d n = λ n. c.slot_octets-2.ensures.reads.held h1 n
+    ∙ c.slot_octets.ensures.reads.held h n in
     let read : (image : ℕ → List ℕ) → IsDiskImage (D.held new) image → (slot : Slot)
     → image (file_of slot) ≡ (D.held d (file_of slot)).reads = λ image is.
     each_slot (λ n. image n ≡ (D.held d n).reads)
@@ -195,12 +197,12 @@ pub returns-clause-fault : goal.returns-clause-fault
 returns-clause-fault g c h =
     let D = g.D.Disk in
     let d = c.args.disk.now in
-    let h1 = subst IsTrue (sym c.slot_octets.ensures.honest) h in
+    let h1 = subst IsTrue (sym c.slot_octets.ensures.reads.honest) h in
     let one : take enough (D.held d 1).reads ≡ c.deref.result.now =
     sym (c.deref.ensures.value ∙ c.in_ok-first.ensures.octets h) in
     let two : take enough (D.held d 2).reads ≡ c.deref-2.result.now =
     sym (c.deref-2.ensures.value ∙ c.in_ok-second.ensures.octets h1
-    ∙ ap (λ (f : Held). take enough f.reads) (c.slot_octets.ensures.held h 2)) in
+    ∙ ap (λ (f : Held). take enough f.reads) (c.slot_octets.ensures.reads.held h 2)) in
     if_err_by c.slots_of.result _ (λ e. (e ≡ opening.OutOfMemory) ⊎ (e ≡ opening.Fault)
     ⊎ IsOpenFault (reads_of (D.held d)) e)
     (λ e told. ⊎_elim (λ memory. inl memory)

@@ -16,7 +16,7 @@ read-requires g c = within c.in_ok-count.count _ c.min.result c.min.ensures c.in
 pub returns-in_err-count-clause-any_moment : goal.returns-in_err-count-clause-any_moment
 returns-in_err-count-clause-any_moment g c h =
     let D = g.D.Disk in
-    looked D.moment D.left_since D.held c.args.disk.now c.length.new.self
+    looked D c.args.disk.now c.length.new.self
     (λ image. g.met.D.Disk.only_now c.args.disk.now image h) (c.length.ensures.time h)
 
 pub returns-in_err-octets-clause-any_moment : goal.returns-in_err-octets-clause-any_moment
@@ -24,8 +24,8 @@ returns-in_err-octets-clause-any_moment g c h =
     let D = g.D.Disk in
     let d = c.args.disk.now in
     let mid = c.length.new.self in
-    looked_again D.moment D.left_since D.held d mid c.read.new.self
-    (looked D.moment D.left_since D.held d mid (λ image. g.met.D.Disk.only_now d image h) (c.length.ensures.time h))
+    looked_again D d mid c.read.new.self
+    (looked D d mid (λ image. g.met.D.Disk.only_now d image h) (c.length.ensures.time h))
     (c.length.ensures.held h) (c.read.ensures.time (subst IsTrue (sym c.length.ensures.honest) h))
 
 pub returns-clause-any_moment : goal.returns-clause-any_moment
@@ -33,8 +33,8 @@ returns-clause-any_moment g c h =
     let D = g.D.Disk in
     let d = c.args.disk.now in
     let mid = c.length.new.self in
-    looked_again D.moment D.left_since D.held d mid c.read.new.self
-    (looked D.moment D.left_since D.held d mid (λ image. g.met.D.Disk.only_now d image h) (c.length.ensures.time h))
+    looked_again D d mid c.read.new.self
+    (looked D d mid (λ image. g.met.D.Disk.only_now d image h) (c.length.ensures.time h))
     (c.length.ensures.held h) (c.read.ensures.time (subst IsTrue (sym c.length.ensures.honest) h))
 
 pub returns-clause-cause : goal.returns-clause-cause

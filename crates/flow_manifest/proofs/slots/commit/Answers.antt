@@ -8,7 +8,7 @@ pub returns-in_err-open_slot-clause-in_force : goal.returns-in_err-open_slot-cla
 returns-in_err-open_slot-clause-in_force g c h =
     let D = g.D.Disk in
     let d = c.args.disk.now in
-    current_or_this D.moment D.left_since D.held d c.open_slot.new.disk c.args.slots.now c.file-file.result
+    current_or_this D d c.open_slot.new.disk c.args.slots.now c.file-file.result
     (c.file-file.ensures ∙ ap file_of c.other-slot.ensures)
     (record {
       reads = g.met.D.Disk.reads_image d _ h;
@@ -26,7 +26,7 @@ pub returns-clause-in_force : goal.returns-clause-in_force
 returns-clause-in_force g c h =
     let D = g.D.Disk in
     let d = c.args.disk.now in
-    current_or_this D.moment D.left_since D.held d c.open_slot.new.disk c.args.slots.now c.file-file.result
+    current_or_this D d c.open_slot.new.disk c.args.slots.now c.file-file.result
     (c.file-file.ensures ∙ ap file_of c.other-slot.ensures)
     (record {
       reads = g.met.D.Disk.reads_image d _ h;
@@ -45,7 +45,7 @@ returns-clause-told g c h image is =
     let D = g.D.Disk in
     let d = c.args.disk.now in
     let slots = c.args.slots.now in
-    let now = swapped_then D.moment D.left_since D.held d c.open_slot.new.disk slots c.file-file.result
+    let now = swapped_then D d c.open_slot.new.disk slots c.file-file.result
     (c.file-file.ensures ∙ ap file_of c.other-slot.ensures)
     (record {
       reads = g.met.D.Disk.reads_image d _ h;

@@ -7,7 +7,7 @@ pub returns-in_err-prepare_slot-clause-in_force : goal.returns-in_err-prepare_sl
 returns-in_err-prepare_slot-clause-in_force g c h =
     let D = g.D.Disk in
     let d = c.args.disk.now in
-    current_stays D.moment D.left_since D.held d c.prepare_slot.new.disk c.args.slots.now c.file-file.result
+    current_stays D d c.prepare_slot.new.disk c.args.slots.now c.file-file.result
     (c.file-file.ensures ∙ ap file_of c.other.ensures)
     (record {
       reads = g.met.D.Disk.reads_image d _ h;
@@ -25,7 +25,7 @@ pub returns-clause-in_force : goal.returns-clause-in_force
 returns-clause-in_force g c h =
     let D = g.D.Disk in
     let d = c.args.disk.now in
-    current_stays D.moment D.left_since D.held d c.prepare_slot.new.disk c.args.slots.now c.file-file.result
+    current_stays D d c.prepare_slot.new.disk c.args.slots.now c.file-file.result
     (c.file-file.ensures ∙ ap file_of c.other.ensures)
     (record {
       reads = g.met.D.Disk.reads_image d _ h;
@@ -43,7 +43,7 @@ pub returns-clause-told : goal.returns-clause-told
 returns-clause-told g c h =
     let D = g.D.Disk in
     let d = c.args.disk.now in
-    slots_then D.moment D.left_since D.held d c.prepare_slot.new.disk c.args.slots.now c.file-file.result
+    slots_then D d c.prepare_slot.new.disk c.args.slots.now c.file-file.result
     (c.file-file.ensures ∙ ap file_of c.other.ensures)
     (record {
       reads = g.met.D.Disk.reads_image d _ h;
@@ -62,8 +62,8 @@ returns-clause-ready g c h =
     let D = g.D.Disk in
     let d = c.args.disk.now in
     let new = c.prepare_slot.new.disk in
-    let h1 = subst IsTrue (sym c.prepare_slot.ensures.honest) h in
-    ready_then D.moment D.left_since D.held d new c.args.slots.now c.file-file.result (c.file-file.ensures
+    let h1 = subst IsTrue (sym c.prepare_slot.ensures.call.honest) h in
+    ready_then D d new c.args.slots.now c.file-file.result (c.file-file.ensures
     ∙ ap file_of c.other.ensures)
     (record {
       reads = g.met.D.Disk.reads_image d _ h;

@@ -14,7 +14,7 @@ returns-clause-any_moment g c h =
     let some : 1 ≤ length (D.held d file).reads = omega (arith, c.requires.room, g.met.D.Disk.has_size d file h) in
     let was : IsOpen (D.held d file).reads =
     subst (λ (o : Bool). HasGate o (D.held d file).reads) c.if-not-was_open.false (c.requires.gate h) in
-    run_in_words D.moment D.left_since D.held d c.write_gate.new.disk file HasSomeGate MayClose
+    run_in_words D d c.write_gate.new.disk file HasSomeGate MayClose
     (λ a b is. may_close (D.held d file).reads a b
     (g.met.D.Disk.settled_alone d file a h c.requires.settled is) some was) (c.write_gate.ensures.any_moment h)
 
@@ -26,14 +26,14 @@ returns-clause-after g c h =
     let new = c.write_gate.new.disk in
     on_ok_by c.write_gate.result (AllImages (D.held new) (ComesOf (D.held d) (InFile file (SetsGate 0))))
     (AllImages (D.held new) (ComesOf (D.held d) (InFile file (Closes c.args.was_open))))
-    (after_in_words D.moment D.left_since D.held d new file (SetsGate 0) (Closes c.args.was_open)
+    (after_in_words D d new file (SetsGate 0) (Closes c.args.was_open)
     (λ a b is sets. subst (λ (o : Bool). Closes o a b) (sym c.if-not-was_open.false) sets))
     (c.write_gate.ensures.after h)
 
 pub returns-then-not-was_open-clause-any_moment : goal.returns-then-not-was_open-clause-any_moment
 returns-then-not-was_open-clause-any_moment g c h =
     let D = g.D.Disk in
-    starts D.moment D.left_since D.held c.args.disk.now c.args.file MayClose
+    starts D c.args.disk.now c.args.file MayClose
     (λ image. g.met.D.Disk.only_now c.args.disk.now image h) (λ a is. inl refl)
 
 pub returns-then-not-was_open-clause-after : goal.returns-then-not-was_open-clause-after

@@ -18,7 +18,7 @@ returns-in_err-write_at-clause-any_moment g c h =
           λ image. g.met.D.Disk.settled_alone d file image h c.requires.settled;
     } in
     let some : 1 ≤ length (D.held d file).reads = omega (arith, c.requires.room, g.met.D.Disk.has_size d file h) in
-    gate_write D.moment D.left_since D.held d file one some
+    gate_write D d file one some
     (λ image. g.met.D.Disk.only_now d image h) c.write_at.new.self _ (c.write_at.ensures.time h)
 
 pub returns-clause-any_moment : goal.returns-clause-any_moment
@@ -34,7 +34,7 @@ returns-clause-any_moment g c h =
     } in
     let some : 1 ≤ length (D.held d file).reads = omega (arith, c.requires.room, g.met.D.Disk.has_size d file h) in
     let wrote = c.in_ok-write_at.ensures.held h in
-    gate_run D.moment D.left_since D.held d file one some
+    gate_run D d file one some
     (λ image. g.met.D.Disk.only_now d image h) c.write_at.new.self c.sync.new.self _ _
     (c.write_at.ensures.time h) wrote.done wrote.others
     (c.sync.ensures.time (subst IsTrue (sym c.write_at.ensures.honest) h))
@@ -56,6 +56,6 @@ returns-clause-after g c h =
     let new = c.sync.new.self in
     on_ok_by c.sync.result (D.held new file ≡ settled_at (D.held c.write_at.new.self file).reads)
     (AllImages (D.held new) (ComesOf (D.held d) (InFile file (SetsGate c.args.gate))))
-    (λ done. gate_after D.moment D.left_since D.held d file one some c.args.gate c.write_at.new.self new wrote.done
+    (λ done. gate_after D d file one some c.args.gate c.write_at.new.self new wrote.done
     wrote.others done synced.others)
     synced.done

@@ -65,7 +65,7 @@ returns-clause-any_moment g c h =
     let d2 = c.read_files.new.disk in
     let P = IsDiskImage (D.held d0) in
     let h1 = subst IsTrue (sym c.settle_all.ensures.honest) h in
-    one_run D.moment D.left_since d0 d1 d2 P (c.settle_all.ensures.any_moment h) (by D.moment D.left_since d1 d2
+    one_run D d0 d1 d2 P (c.settle_all.ensures.any_moment h) (by D d1 d2
     (IsDiskImage (D.held d1)) P (c.read_files.ensures.any_moment h1) (c.settle_all.ensures.narrows h))
 
 pub returns-in_err-files-clause-any_moment : goal.returns-in_err-files-clause-any_moment
@@ -76,7 +76,7 @@ returns-in_err-files-clause-any_moment g c h =
     let d2 = c.read_files.new.disk in
     let P = IsDiskImage (D.held d0) in
     let h1 = subst IsTrue (sym c.settle_all.ensures.honest) h in
-    one_run D.moment D.left_since d0 d1 d2 P (c.settle_all.ensures.any_moment h) (by D.moment D.left_since d1 d2
+    one_run D d0 d1 d2 P (c.settle_all.ensures.any_moment h) (by D d1 d2
     (IsDiskImage (D.held d1)) P (c.read_files.ensures.any_moment h1) (c.settle_all.ensures.narrows h))
 
 pub returns-in_err-files-clause-told : goal.returns-in_err-files-clause-told

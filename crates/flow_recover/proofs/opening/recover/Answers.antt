@@ -102,7 +102,7 @@ pub returns-in_err-slots-clause-any_moment : goal.returns-in_err-slots-clause-an
 returns-in_err-slots-clause-any_moment g c h a b all =
     let D = g.D.Disk in
     let d0 = c.args.disk.now in
-    by D.moment D.left_since d0 c.find.new.disk (IsDiskImage (D.held d0)) (StandsForEither a b)
+    by D d0 c.find.new.disk (IsDiskImage (D.held d0)) (StandsForEither a b)
     (c.find.ensures.any_moment h) all
 
 pub returns-in_err-parts-clause-told : goal.returns-in_err-parts-clause-told
@@ -132,10 +132,10 @@ returns-in_err-parts-clause-any_moment g c h a b all =
     let read = c.in_ok-slots.ensures.read h in
     let s = at_rest slots.current read.0 (part_of c.in_ok-slots.field-0.files.active) in
     let counted = c.in_ok-slots.ensures.counted read.0 in
-    let first = by D.moment D.left_since d0 d1 (IsDiskImage (D.held d0)) P (c.find.ensures.any_moment h) all in
+    let first = by D d0 d1 (IsDiskImage (D.held d0)) P (c.find.ensures.any_moment h) all in
     let which = known_either (D.held d0) (D.held d1) slots a b s c.in_ok-slots.field-0.files.carry refl read.1
     (λ n. g.met.D.Disk.reads_image d1 n h1) (c.find.ensures.narrows h) all in
-    one_run D.moment D.left_since d0 d1 d2 P first (by D.moment D.left_since d1 d2 (IsKnown slots s) P
+    one_run D d0 d1 d2 P first (by D d1 d2 (IsKnown slots s) P
     (c.tidy.ensures.any_moment h1 slots s refl (sym counted.end_is) read.1.known)
     (λ image known. either_known image slots a b s refl which known))
 
@@ -151,10 +151,10 @@ returns-clause-any_moment g c h a b all =
     let read = c.in_ok-slots.ensures.read h in
     let s = at_rest slots.current read.0 (part_of c.in_ok-slots.field-0.files.active) in
     let counted = c.in_ok-slots.ensures.counted read.0 in
-    let first = by D.moment D.left_since d0 d1 (IsDiskImage (D.held d0)) P (c.find.ensures.any_moment h) all in
+    let first = by D d0 d1 (IsDiskImage (D.held d0)) P (c.find.ensures.any_moment h) all in
     let which = known_either (D.held d0) (D.held d1) slots a b s c.in_ok-slots.field-0.files.carry refl read.1
     (λ n. g.met.D.Disk.reads_image d1 n h1) (c.find.ensures.narrows h) all in
-    one_run D.moment D.left_since d0 d1 d2 P first (by D.moment D.left_since d1 d2 (IsKnown slots s) P
+    one_run D d0 d1 d2 P first (by D d1 d2 (IsKnown slots s) P
     (c.tidy.ensures.any_moment h1 slots s refl (sym counted.end_is) read.1.known)
     (λ image known. either_known image slots a b s refl which known))
 
@@ -190,7 +190,7 @@ returns-clause-recovered g c =
           record { force = (slots, refl, there.slots_are); files = there.holds; at_rest = refl };
       known = λ h2. let h1 = back h2 in
           let run = c.tidy.ensures.any_moment h1 slots s refl (sym counted.end_is) (is h1).known in
-          now_all D.moment D.left_since D.held d1 d2 (IsKnown slots s) run (λ image left. g.met.D.Disk.counts_now d2
+          now_all D d1 d2 (IsKnown slots s) run (λ image left. g.met.D.Disk.counts_now d2
           (D.moment d1) image h2 run.later left);
       frozen_stand = λ h2. let h1 = back h2 in c.in_ok-parts.ensures.parts h1 slots s refl (is h1).known;
     }

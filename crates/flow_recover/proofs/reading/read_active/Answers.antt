@@ -8,16 +8,16 @@ pub returns-in_err-size-clause-any_moment : goal.returns-in_err-size-clause-any_
 returns-in_err-size-clause-any_moment g c h =
     let D = g.D.Disk in
     let d0 = c.args.disk.now in
-    goes_on D.moment D.left_since d0 d0 c.length.new.self (IsDiskImage (D.held d0)) (D.held d0)
-    (started D.moment D.left_since d0 (IsDiskImage (D.held d0)) (λ image left. g.met.D.Disk.only_now d0 image h left))
+    goes_on D d0 d0 c.length.new.self (IsDiskImage (D.held d0)) (D.held d0)
+    (started D d0 (IsDiskImage (D.held d0)) (λ image left. g.met.D.Disk.only_now d0 image h left))
     (c.length.ensures.time h) (λ image is. is)
 
 pub returns-then-start-size-clause-any_moment : goal.returns-then-start-size-clause-any_moment
 returns-then-start-size-clause-any_moment g c h =
     let D = g.D.Disk in
     let d0 = c.args.disk.now in
-    goes_on D.moment D.left_since d0 d0 c.length.new.self (IsDiskImage (D.held d0)) (D.held d0)
-    (started D.moment D.left_since d0 (IsDiskImage (D.held d0)) (λ image left. g.met.D.Disk.only_now d0 image h left))
+    goes_on D d0 d0 c.length.new.self (IsDiskImage (D.held d0)) (D.held d0)
+    (started D d0 (IsDiskImage (D.held d0)) (λ image left. g.met.D.Disk.only_now d0 image h left))
     (c.length.ensures.time h) (λ image is. is)
 
 pub returns-in_err-tail-clause-any_moment : goal.returns-in_err-tail-clause-any_moment
@@ -27,11 +27,11 @@ returns-in_err-tail-clause-any_moment g c h =
     let d1 = c.length.new.self in
     let d2 = c.scan.new.disk in
     let P = IsDiskImage (D.held d0) in
-    let run1 = goes_on D.moment D.left_since d0 d0 d1 P (D.held d0)
-    (started D.moment D.left_since d0 P (λ image left. g.met.D.Disk.only_now d0 image h left))
+    let run1 = goes_on D d0 d0 d1 P (D.held d0)
+    (started D d0 P (λ image left. g.met.D.Disk.only_now d0 image h left))
     (c.length.ensures.time h) (λ image is. is) in
     let h1 = subst IsTrue (sym c.length.ensures.honest) h in
-    one_run D.moment D.left_since d0 d1 d2 P run1 (by D.moment D.left_since d1 d2 (IsDiskImage (D.held d1)) P
+    one_run D d0 d1 d2 P run1 (by D d1 d2 (IsDiskImage (D.held d1)) P
     (c.scan.ensures.any_moment h1) (λ image is n. subst (λ (f : Held). IsImage f (image n)) (c.length.ensures.held h n)
     (is n)))
 
@@ -42,16 +42,16 @@ returns-in_err-prefix-clause-any_moment g c h =
     let d1 = c.length.new.self in
     let d2 = c.scan.new.disk in
     let P = IsDiskImage (D.held d0) in
-    let run1 = goes_on D.moment D.left_since d0 d0 d1 P (D.held d0)
-    (started D.moment D.left_since d0 P (λ image left. g.met.D.Disk.only_now d0 image h left))
+    let run1 = goes_on D d0 d0 d1 P (D.held d0)
+    (started D d0 P (λ image left. g.met.D.Disk.only_now d0 image h left))
     (c.length.ensures.time h) (λ image is. is) in
     let h1 = subst IsTrue (sym c.length.ensures.honest) h in
-    let run2 = one_run D.moment D.left_since d0 d1 d2 P run1 (by D.moment D.left_since d1 d2 (IsDiskImage (D.held d1)) P
+    let run2 = one_run D d0 d1 d2 P run1 (by D d1 d2 (IsDiskImage (D.held d1)) P
     (c.scan.ensures.any_moment h1) (λ image is n. subst (λ (f : Held). IsImage f (image n)) (c.length.ensures.held h n)
     (is n))) in
-    let h2 = subst IsTrue (sym c.scan.ensures.honest) h1 in
-    goes_on D.moment D.left_since d0 d2 c.read.new.self P (D.held d2) run2 (c.read.ensures.time h2) (λ image is n.
-    subst (λ (f : Held). IsImage f (image n)) (c.scan.ensures.held h1 n ∙ c.length.ensures.held h n) (is n))
+    let h2 = subst IsTrue (sym c.scan.ensures.reads.honest) h1 in
+    goes_on D d0 d2 c.read.new.self P (D.held d2) run2 (c.read.ensures.time h2) (λ image is n.
+    subst (λ (f : Held). IsImage f (image n)) (c.scan.ensures.reads.held h1 n ∙ c.length.ensures.held h n) (is n))
 
 pub returns-clause-any_moment : goal.returns-clause-any_moment
 returns-clause-any_moment g c h =
@@ -60,16 +60,16 @@ returns-clause-any_moment g c h =
     let d1 = c.length.new.self in
     let d2 = c.scan.new.disk in
     let P = IsDiskImage (D.held d0) in
-    let run1 = goes_on D.moment D.left_since d0 d0 d1 P (D.held d0)
-    (started D.moment D.left_since d0 P (λ image left. g.met.D.Disk.only_now d0 image h left))
+    let run1 = goes_on D d0 d0 d1 P (D.held d0)
+    (started D d0 P (λ image left. g.met.D.Disk.only_now d0 image h left))
     (c.length.ensures.time h) (λ image is. is) in
     let h1 = subst IsTrue (sym c.length.ensures.honest) h in
-    let run2 = one_run D.moment D.left_since d0 d1 d2 P run1 (by D.moment D.left_since d1 d2 (IsDiskImage (D.held d1)) P
+    let run2 = one_run D d0 d1 d2 P run1 (by D d1 d2 (IsDiskImage (D.held d1)) P
     (c.scan.ensures.any_moment h1) (λ image is n. subst (λ (f : Held). IsImage f (image n)) (c.length.ensures.held h n)
     (is n))) in
-    let h2 = subst IsTrue (sym c.scan.ensures.honest) h1 in
-    goes_on D.moment D.left_since d0 d2 c.read.new.self P (D.held d2) run2 (c.read.ensures.time h2) (λ image is n.
-    subst (λ (f : Held). IsImage f (image n)) (c.scan.ensures.held h1 n ∙ c.length.ensures.held h n) (is n))
+    let h2 = subst IsTrue (sym c.scan.ensures.reads.honest) h1 in
+    goes_on D d0 d2 c.read.new.self P (D.held d2) run2 (c.read.ensures.time h2) (λ image is n.
+    subst (λ (f : Held). IsImage f (image n)) (c.scan.ensures.reads.held h1 n ∙ c.length.ensures.held h n) (is n))
 
 pub returns-then-start-size-clause-refused : goal.returns-then-start-size-clause-refused
 returns-then-start-size-clause-refused g c h p at =

@@ -27,7 +27,7 @@ entries-init g c =
       slots = λ n below. refl;
       faults = refl;
       held = λ h n. refl;
-      run = λ h. started D.moment D.left_since d0 (IsDiskImage (D.held d0))
+      run = λ h. started D d0 (IsDiskImage (D.held d0))
           (λ image left. g.met.D.Disk.only_now d0 image h left);
       found = λ h. ([], None, tt, refl, tt);
     }
@@ -44,7 +44,7 @@ returns-in_err-called-clause-any_moment g c h =
     let d2 = c.read_part.new.disk in
     let was = c.entries.invariant in
     let h1 = subst IsTrue (sym was.honest) h in
-    one_run D.moment D.left_since d0 d1 d2 (IsDiskImage (D.held d0)) (was.run h) (by D.moment D.left_since d1 d2
+    one_run D d0 d1 d2 (IsDiskImage (D.held d0)) (was.run h) (by D d1 d2
     (IsDiskImage (D.held d1)) (IsDiskImage (D.held d0)) (c.read_part.ensures.any_moment h1)
     (λ image is n. subst (λ (f : Held). IsImage f (image n)) (was.held h n) (is n)))
 
@@ -86,8 +86,8 @@ entries-preserved g c =
       faults = c.in_ok-called.ensures.cause.done ∙ was.faults;
       held = λ h n. let h1 = subst IsTrue (sym was.honest) h in c.read_part.ensures.held h1 n ∙ was.held h n;
       run = λ h. let h1 = subst IsTrue (sym was.honest) h in
-          one_run D.moment D.left_since d0 d1 d2 (IsDiskImage (D.held d0)) (was.run h)
-          (by D.moment D.left_since d1 d2 (IsDiskImage (D.held d1)) (IsDiskImage (D.held d0))
+          one_run D d0 d1 d2 (IsDiskImage (D.held d0)) (was.run h)
+          (by D d1 d2 (IsDiskImage (D.held d1)) (IsDiskImage (D.held d0))
           (c.read_part.ensures.any_moment h1)
           (λ image is n. subst (λ (f : Held). IsImage f (image n)) (was.held h n) (is n)));
       found = λ h. let h1 = subst IsTrue (sym was.honest) h in

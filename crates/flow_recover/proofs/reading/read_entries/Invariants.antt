@@ -1,6 +1,6 @@
 use Rattle.std.proofs.Common.{◌≡◌, ℕ, ◌<◌, IsTrue, List, take, None, Option}
 use Rattle.flow_disk.specs.Disk.{IsDiskImage, Stays}
-use Rattle.flow_disk.specs.Moments.{LeavesOnly}
+use Rattle.flow_disk.specs.Calls.{LeavesOnly}
 use Rattle.flow_manifest.specs.Slots.{reads_of}
 use Rattle.flow_recover.specs.Chain.{ArePartsBehind}
 use Rattle.flow_recover.specs.Reading.{IsHeldBehind}
@@ -18,7 +18,7 @@ invariant-entries g l = let D = g.D.Disk in record {
   slots : (n : ℕ) → n < 3 → D.marks l.disk n ≡ D.marks l.fn.disk n;
   faults : D.faults l.disk ≡ D.faults l.fn.disk;
   held : IsTrue (D.honest l.fn.disk) → Stays (D.held l.fn.disk) (D.held l.disk);
-  run : IsTrue (D.honest l.fn.disk) → LeavesOnly D.moment D.left_since l.fn.disk l.disk (IsDiskImage
+  run : IsTrue (D.honest l.fn.disk) → LeavesOnly D l.fn.disk l.disk (IsDiskImage
       (D.held l.fn.disk));
   found : IsTrue (D.honest l.fn.disk) → (parts : List Part) × (before : Option Carry)
       × PartsStand (reads_of (D.held l.fn.disk)) (take l.entry-index l.entries) parts

@@ -46,8 +46,8 @@ returns-then-end-limit-clause-any_moment g c h =
     (l : List Entry). take (length l - 1) l) c.as_slice-entries.ensures in
     let active = part_of c.in_ok-active.active in
     let h1 = subst IsTrue (sym c.read_entries.ensures.honest) h in
-    one_run D.moment D.left_since d0 d1 d2 (IsDiskImage (D.held d0)) (c.read_entries.ensures.any_moment h)
-    (by D.moment D.left_since d1 d2 (IsDiskImage (D.held d1)) (IsDiskImage (D.held d0))
+    one_run D d0 d1 d2 (IsDiskImage (D.held d0)) (c.read_entries.ensures.any_moment h)
+    (by D d1 d2 (IsDiskImage (D.held d1)) (IsDiskImage (D.held d0))
     (c.read_active.ensures.any_moment h1)
     (λ image is n. subst (λ (f : Held). IsImage f (image n)) (c.read_entries.ensures.held h n) (is n)))
 
@@ -64,8 +64,8 @@ returns-in_default-clause-any_moment g c h =
     (l : List Entry). take (length l - 1) l) c.as_slice-entries.ensures in
     let active = part_of c.in_ok-active.active in
     let h1 = subst IsTrue (sym c.read_entries.ensures.honest) h in
-    one_run D.moment D.left_since d0 d1 d2 (IsDiskImage (D.held d0)) (c.read_entries.ensures.any_moment h)
-    (by D.moment D.left_since d1 d2 (IsDiskImage (D.held d1)) (IsDiskImage (D.held d0))
+    one_run D d0 d1 d2 (IsDiskImage (D.held d0)) (c.read_entries.ensures.any_moment h)
+    (by D d1 d2 (IsDiskImage (D.held d1)) (IsDiskImage (D.held d0))
     (c.read_active.ensures.any_moment h1)
     (λ image is n. subst (λ (f : Held). IsImage f (image n)) (c.read_entries.ensures.held h n) (is n)))
 
@@ -82,8 +82,8 @@ returns-clause-any_moment g c h =
     (l : List Entry). take (length l - 1) l) c.as_slice-entries.ensures in
     let active = part_of c.in_ok-active.active in
     let h1 = subst IsTrue (sym c.read_entries.ensures.honest) h in
-    one_run D.moment D.left_since d0 d1 d2 (IsDiskImage (D.held d0)) (c.read_entries.ensures.any_moment h)
-    (by D.moment D.left_since d1 d2 (IsDiskImage (D.held d1)) (IsDiskImage (D.held d0))
+    one_run D d0 d1 d2 (IsDiskImage (D.held d0)) (c.read_entries.ensures.any_moment h)
+    (by D d1 d2 (IsDiskImage (D.held d1)) (IsDiskImage (D.held d0))
     (c.read_active.ensures.any_moment h1)
     (λ image is n. subst (λ (f : Held). IsImage f (image n)) (c.read_entries.ensures.held h n) (is n)))
 
@@ -259,8 +259,8 @@ returns-in_err-carry-clause-any_moment g c h =
     let d1 = c.read_entries.new.disk in
     let d2 = c.read_active.new.disk in
     let h1 = subst IsTrue (sym c.read_entries.ensures.honest) h in
-    one_run D.moment D.left_since d0 d1 d2 (IsDiskImage (D.held d0)) (c.read_entries.ensures.any_moment h)
-    (by D.moment D.left_since d1 d2 (IsDiskImage (D.held d1)) (IsDiskImage (D.held d0))
+    one_run D d0 d1 d2 (IsDiskImage (D.held d0)) (c.read_entries.ensures.any_moment h)
+    (by D d1 d2 (IsDiskImage (D.held d1)) (IsDiskImage (D.held d0))
     (c.read_active.ensures.any_moment h1)
     (λ image is n. subst (λ (f : Held). IsImage f (image n)) (c.read_entries.ensures.held h n) (is n)))
 
@@ -305,7 +305,7 @@ returns-in_err-active-clause-any_moment g c h =
     let d1 = c.read_entries.new.disk in
     let d2 = c.read_active.new.disk in
     let h1 = subst IsTrue (sym c.read_entries.ensures.honest) h in
-    one_run D.moment D.left_since d0 d1 d2 (IsDiskImage (D.held d0)) (c.read_entries.ensures.any_moment h)
-    (by D.moment D.left_since d1 d2 (IsDiskImage (D.held d1)) (IsDiskImage (D.held d0))
+    one_run D d0 d1 d2 (IsDiskImage (D.held d0)) (c.read_entries.ensures.any_moment h)
+    (by D d1 d2 (IsDiskImage (D.held d1)) (IsDiskImage (D.held d0))
     (c.read_active.ensures.any_moment h1)
     (λ image is n. subst (λ (f : Held). IsImage f (image n)) (c.read_entries.ensures.held h n) (is n)))

@@ -10,7 +10,7 @@ returns-in_err-sync-clause-any_moment g c h =
     let D = g.D.Disk in
     let d = c.args.disk.now in
     let P = IsDiskImage (D.held d) in
-    goes_on D.moment D.left_since d d c.sync.new.self P (D.held d) (started D.moment D.left_since d P
+    goes_on D d d c.sync.new.self P (D.held d) (started D d P
     (λ image left. g.met.D.Disk.only_now d image h left)) (c.sync.ensures.time h) (λ image is. is)
 
 pub returns-clause-any_moment : goal.returns-clause-any_moment
@@ -18,7 +18,7 @@ returns-clause-any_moment g c h =
     let D = g.D.Disk in
     let d = c.args.disk.now in
     let P = IsDiskImage (D.held d) in
-    goes_on D.moment D.left_since d d c.sync.new.self P (D.held d) (started D.moment D.left_since d P
+    goes_on D d d c.sync.new.self P (D.held d) (started D d P
     (λ image left. g.met.D.Disk.only_now d image h left)) (c.sync.ensures.time h) (λ image is. is)
 
 pub returns-clause-narrows : goal.returns-clause-narrows

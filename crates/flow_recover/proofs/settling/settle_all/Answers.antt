@@ -37,8 +37,8 @@ returns-in_err-slots-clause-any_moment g c h =
     let P = IsDiskImage (D.held d0) in
     let h1 = subst IsTrue (sym c.settle_slots.ensures.honest) h in
     let same = c.read_slots.ensures.held h1 in
-    let run2 = one_run D.moment D.left_since d0 d1 d2 P (c.settle_slots.ensures.any_moment h)
-    (by D.moment D.left_since d1 d2 (IsDiskImage (D.held d1)) P (c.read_slots.ensures.any_moment h1)
+    let run2 = one_run D d0 d1 d2 P (c.settle_slots.ensures.any_moment h)
+    (by D d1 d2 (IsDiskImage (D.held d1)) P (c.read_slots.ensures.any_moment h1)
     (c.settle_slots.ensures.narrows h)) in
     run2
 
@@ -64,15 +64,15 @@ returns-in_err-settle_entries-clause-any_moment g c h =
     let P = IsDiskImage (D.held d0) in
     let h1 = subst IsTrue (sym c.settle_slots.ensures.honest) h in
     let same = c.read_slots.ensures.held h1 in
-    let run2 = one_run D.moment D.left_since d0 d1 d2 P (c.settle_slots.ensures.any_moment h)
-    (by D.moment D.left_since d1 d2 (IsDiskImage (D.held d1)) P (c.read_slots.ensures.any_moment h1)
+    let run2 = one_run D d0 d1 d2 P (c.settle_slots.ensures.any_moment h)
+    (by D d1 d2 (IsDiskImage (D.held d1)) P (c.read_slots.ensures.any_moment h1)
     (c.settle_slots.ensures.narrows h)) in
     let h2 = subst IsTrue (sym c.read_slots.ensures.honest) h1 in
     let d3 = c.settle_entries.new.disk in
     let back : (image : ℕ → List ℕ) → IsDiskImage (D.held d2) image
     → P image = λ image is. c.settle_slots.ensures.narrows h image (λ n. subst (λ (f : Held). IsImage f (image n))
     (same n) (is n)) in
-    let run3 = one_run D.moment D.left_since d0 d2 d3 P run2 (by D.moment D.left_since d2 d3 (IsDiskImage
+    let run3 = one_run D d0 d2 d3 P run2 (by D d2 d3 (IsDiskImage
     (D.held d2)) P (c.settle_entries.ensures.any_moment h2) back) in
     run3
 
@@ -85,15 +85,15 @@ returns-clause-any_moment g c h =
     let P = IsDiskImage (D.held d0) in
     let h1 = subst IsTrue (sym c.settle_slots.ensures.honest) h in
     let same = c.read_slots.ensures.held h1 in
-    let run2 = one_run D.moment D.left_since d0 d1 d2 P (c.settle_slots.ensures.any_moment h)
-    (by D.moment D.left_since d1 d2 (IsDiskImage (D.held d1)) P (c.read_slots.ensures.any_moment h1)
+    let run2 = one_run D d0 d1 d2 P (c.settle_slots.ensures.any_moment h)
+    (by D d1 d2 (IsDiskImage (D.held d1)) P (c.read_slots.ensures.any_moment h1)
     (c.settle_slots.ensures.narrows h)) in
     let h2 = subst IsTrue (sym c.read_slots.ensures.honest) h1 in
     let d3 = c.settle_entries.new.disk in
     let back : (image : ℕ → List ℕ) → IsDiskImage (D.held d2) image
     → P image = λ image is. c.settle_slots.ensures.narrows h image (λ n. subst (λ (f : Held). IsImage f (image n))
     (same n) (is n)) in
-    let run3 = one_run D.moment D.left_since d0 d2 d3 P run2 (by D.moment D.left_since d2 d3 (IsDiskImage
+    let run3 = one_run D d0 d2 d3 P run2 (by D d2 d3 (IsDiskImage
     (D.held d2)) P (c.settle_entries.ensures.any_moment h2) back) in
     run3
 

@@ -21,7 +21,7 @@ entries-init g c =
       listed = tt;
       still = λ n was. was;
       narrows = λ h image is. is;
-      run = λ h. started D.moment D.left_since d0 (IsDiskImage (D.held d0))
+      run = λ h. started D d0 (IsDiskImage (D.held d0))
           (λ image left. g.met.D.Disk.only_now d0 image h left);
       reads = λ h n. refl;
       faults = refl;
@@ -65,7 +65,7 @@ entries-preserved g c =
       narrows = λ h image is. let h1 = subst IsTrue (sym was.honest) h in was.narrows h image
           (c.settle.ensures.narrows h1 image is);
       run = λ h. let h1 = subst IsTrue (sym was.honest) h in
-          one_run D.moment D.left_since d0 d1 d2 P (was.run h) (by D.moment D.left_since d1 d2 (IsDiskImage
+          one_run D d0 d1 d2 P (was.run h) (by D d1 d2 (IsDiskImage
           (D.held d1)) P (c.settle.ensures.any_moment h1) (was.narrows h));
       reads = λ h n. let h1 = subst IsTrue (sym was.honest) h in c.in_ok-settle.ensures.reads h1 n ∙ was.reads h n;
       faults = c.in_ok-settle.ensures.cause.done ∙ was.faults;
@@ -80,7 +80,7 @@ returns-in_err-settle-clause-any_moment g c h =
     let was = c.entries.invariant in
     let P = IsDiskImage (D.held d0) in
     let h1 = subst IsTrue (sym was.honest) h in
-    one_run D.moment D.left_since d0 d1 d2 P (was.run h) (by D.moment D.left_since d1 d2 (IsDiskImage (D.held d1)) P
+    one_run D d0 d1 d2 P (was.run h) (by D d1 d2 (IsDiskImage (D.held d1)) P
     (c.settle.ensures.any_moment h1) (was.narrows h))
 
 pub returns-in_err-settle-clause-narrows : goal.returns-in_err-settle-clause-narrows

@@ -12,7 +12,7 @@ returns-in_err-settle-2-clause-any_moment g c h =
     let d2 = c.settle-2.new.disk in
     let P = IsDiskImage (D.held d0) in
     let h1 = subst IsTrue (sym c.settle.ensures.honest) h in
-    one_run D.moment D.left_since d0 d1 d2 P (c.settle.ensures.any_moment h) (by D.moment D.left_since d1 d2
+    one_run D d0 d1 d2 P (c.settle.ensures.any_moment h) (by D d1 d2
     (IsDiskImage (D.held d1)) P (c.settle-2.ensures.any_moment h1) (c.settle.ensures.narrows h))
 
 pub returns-clause-any_moment : goal.returns-clause-any_moment
@@ -23,7 +23,7 @@ returns-clause-any_moment g c h =
     let d2 = c.settle-2.new.disk in
     let P = IsDiskImage (D.held d0) in
     let h1 = subst IsTrue (sym c.settle.ensures.honest) h in
-    one_run D.moment D.left_since d0 d1 d2 P (c.settle.ensures.any_moment h) (by D.moment D.left_since d1 d2
+    one_run D d0 d1 d2 P (c.settle.ensures.any_moment h) (by D d1 d2
     (IsDiskImage (D.held d1)) P (c.settle-2.ensures.any_moment h1) (c.settle.ensures.narrows h))
 
 pub returns-in_err-settle-2-clause-narrows : goal.returns-in_err-settle-2-clause-narrows

@@ -13,9 +13,9 @@ returns-in_err-size-clause-any_moment g c h =
     let f = c.args.file in
     let Q = KeepsFront c.args.length in
     let d1 = c.length.new.self in
-    let run0 = starts D.moment D.left_since D.held d0 f Q (λ image left. g.met.D.Disk.only_now d0 image h left)
+    let run0 = starts D d0 f Q (λ image left. g.met.D.Disk.only_now d0 image h left)
     (λ b is. keeps_same c.args.length b) in
-    let run1 = stays D.moment D.left_since D.held d0 d0 d1 f Q run0 (λ n differs. refl) (c.length.ensures.time h)
+    let run1 = stays D d0 d0 d1 f Q run0 (λ n differs. refl) (c.length.ensures.time h)
     (λ b is. (b, is, keeps_same c.args.length b)) in
     run1
 
@@ -26,9 +26,9 @@ returns-then-length-size-clause-any_moment g c h =
     let f = c.args.file in
     let Q = KeepsFront c.args.length in
     let d1 = c.length.new.self in
-    let run0 = starts D.moment D.left_since D.held d0 f Q (λ image left. g.met.D.Disk.only_now d0 image h left)
+    let run0 = starts D d0 f Q (λ image left. g.met.D.Disk.only_now d0 image h left)
     (λ b is. keeps_same c.args.length b) in
-    let run1 = stays D.moment D.left_since D.held d0 d0 d1 f Q run0 (λ n differs. refl) (c.length.ensures.time h)
+    let run1 = stays D d0 d0 d1 f Q run0 (λ n differs. refl) (c.length.ensures.time h)
     (λ b is. (b, is, keeps_same c.args.length b)) in
     run1
 
@@ -39,12 +39,12 @@ returns-in_err-seal_tail-clause-any_moment g c h =
     let f = c.args.file in
     let Q = KeepsFront c.args.length in
     let d1 = c.length.new.self in
-    let run0 = starts D.moment D.left_since D.held d0 f Q (λ image left. g.met.D.Disk.only_now d0 image h left)
+    let run0 = starts D d0 f Q (λ image left. g.met.D.Disk.only_now d0 image h left)
     (λ b is. keeps_same c.args.length b) in
-    let run1 = stays D.moment D.left_since D.held d0 d0 d1 f Q run0 (λ n differs. refl) (c.length.ensures.time h)
+    let run1 = stays D d0 d0 d1 f Q run0 (λ n differs. refl) (c.length.ensures.time h)
     (λ b is. (b, is, keeps_same c.args.length b)) in
     let h1 = subst IsTrue (sym c.length.ensures.honest) h in
-    both D.moment D.left_since D.held d0 d1 c.seal_tail.new.disk (InFile f Q) (InFile f Q) (InFile f Q) run1
+    both D d0 d1 c.seal_tail.new.disk (InFile f Q) (InFile f Q) (InFile f Q) run1
     (c.seal_tail.ensures.any_moment h1)
     (λ image is. g.met.D.Disk.counts_now d1 (D.moment d0) image h1 run1.later is) (λ a b step. step)
     (λ a b x one two. record {
@@ -60,12 +60,12 @@ returns-clause-any_moment g c h =
     let f = c.args.file in
     let Q = KeepsFront c.args.length in
     let d1 = c.length.new.self in
-    let run0 = starts D.moment D.left_since D.held d0 f Q (λ image left. g.met.D.Disk.only_now d0 image h left)
+    let run0 = starts D d0 f Q (λ image left. g.met.D.Disk.only_now d0 image h left)
     (λ b is. keeps_same c.args.length b) in
-    let run1 = stays D.moment D.left_since D.held d0 d0 d1 f Q run0 (λ n differs. refl) (c.length.ensures.time h)
+    let run1 = stays D d0 d0 d1 f Q run0 (λ n differs. refl) (c.length.ensures.time h)
     (λ b is. (b, is, keeps_same c.args.length b)) in
     let h1 = subst IsTrue (sym c.length.ensures.honest) h in
-    both D.moment D.left_since D.held d0 d1 c.seal_tail.new.disk (InFile f Q) (InFile f Q) (InFile f Q) run1
+    both D d0 d1 c.seal_tail.new.disk (InFile f Q) (InFile f Q) (InFile f Q) run1
     (c.seal_tail.ensures.any_moment h1)
     (λ image is. g.met.D.Disk.counts_now d1 (D.moment d0) image h1 run1.later is) (λ a b step. step)
     (λ a b x one two. record {
@@ -81,12 +81,14 @@ pub returns-then-length-size-clause-other_files : goal.returns-then-length-size-
 returns-then-length-size-clause-other_files g c h n differs = c.length.ensures.held h n
 
 pub returns-in_err-seal_tail-clause-other_files : goal.returns-in_err-seal_tail-clause-other_files
-returns-in_err-seal_tail-clause-other_files g c h n differs = c.seal_tail.ensures.other_files (subst IsTrue (sym c.length.ensures.honest)
+returns-in_err-seal_tail-clause-other_files g c h n differs = c.seal_tail.ensures.call.other_files
+    (subst IsTrue (sym c.length.ensures.honest)
     h) n differs ∙ c.length.ensures.held h n
 
 pub returns-clause-other_files : goal.returns-clause-other_files
-returns-clause-other_files g c h n differs = c.seal_tail.ensures.other_files (subst IsTrue (sym c.length.ensures.honest)
+returns-clause-other_files g c h n differs = c.seal_tail.ensures.call.other_files
+    (subst IsTrue (sym c.length.ensures.honest)
     h) n differs ∙ c.length.ensures.held h n
 
 pub returns-clause-listed : goal.returns-clause-listed
-returns-clause-listed g c = c.in_ok-seal_tail.ensures.listed
+returns-clause-listed g c = c.in_ok-seal_tail.ensures.call.listed

@@ -5,7 +5,7 @@ use Rattle.std.specs.List.{AllByRecursion}
 use Rattle.std.proofs.lemmas.Bool.{cases_eq}
 use Rattle.std.proofs.lemmas.List.{map-append, take_more, take_all}
 use Rattle.flow_disk.specs.Disk.{Marks, AllImages, InFile}
-use Rattle.flow_disk.specs.Moments.{LeavesOnly}
+use Rattle.flow_disk.specs.Calls.{LeavesOnly}
 use Rattle.flow_disk.proofs.Moments.{started, advance, now_all}
 use Rattle.flow_manifest.specs.declared.manifest.Entry.{Entry}
 use Rattle.flow_manifest.specs.declared.slots.Slots.{Slots}
@@ -31,7 +31,7 @@ entries-init g c =
     record {
       honest = refl;
       others = λ n apart. refl;
-      run = λ h slots s front all. started D.moment D.left_since d0 (IsKnown slots s) (λ image left. all image
+      run = λ h slots s front all. started D d0 (IsKnown slots s) (λ image left. all image
           (g.met.D.Disk.only_now d0 image h left));
       frozen = λ h slots s front all. let none : c.in-Ok.parts.items ≡ [] = search rules in subst
           (λ l. FrozenStand g.D.Sealed.SealedFile.octets [] [] l) (sym none) tt;
@@ -101,13 +101,13 @@ returns-in_err-part-clause-any_moment g c h slots s front all =
     let same : D.marks d1 e.file ≡ D.marks d0 e.file = was.others e.file (own_before es i c.requires.own lt) in
     let d2 = c.freeze_one.new.disk in
     let more : IsTrue (D.honest d0) → (slots : Slots) (s : State) → front_of s.manifest ≡ es → AllImages (D.held d0)
-    (IsKnown slots s) → LeavesOnly D.moment D.left_since d0 d2 (IsKnown slots s) =
+    (IsKnown slots s) → LeavesOnly D d0 d2 (IsKnown slots s) =
     (λ h slots s front all.
     let h1 = subst IsTrue (sym was.honest) h in
     let run1 = was.run h slots s front all in
-    let known1 = now_all D.moment D.left_since D.held d0 d1 (IsKnown slots s) run1
+    let known1 = now_all D d0 d1 (IsKnown slots s) run1
     (λ image is. g.met.D.Disk.counts_now d1 (D.moment d0) image h1 run1.later is) in
-    advance D.moment D.left_since D.held d0 d1 d2 (IsKnown slots s) (IsKnown slots s) (InFile e.file
+    advance D d0 d1 d2 (IsKnown slots s) (IsKnown slots s) (InFile e.file
     (KeepsFront e.length)) run1 known1 (c.freeze_one.ensures.any_moment h1)
     (λ a b known step. cutting_one slots s i a b (subst (λ (l : List Entry). i < length l) (sym front) lt)
     (subst HaveOwnFiles (sym front) c.requires.own) known
@@ -145,13 +145,13 @@ entries-preserved g c =
     let same : D.marks d1 e.file ≡ D.marks d0 e.file = was.others e.file (own_before es i c.requires.own lt) in
     let d2 = c.freeze_one.new.disk in
     let more : IsTrue (D.honest d0) → (slots : Slots) (s : State) → front_of s.manifest ≡ es → AllImages (D.held d0)
-    (IsKnown slots s) → LeavesOnly D.moment D.left_since d0 d2 (IsKnown slots s) =
+    (IsKnown slots s) → LeavesOnly D d0 d2 (IsKnown slots s) =
     (λ h slots s front all.
     let h1 = subst IsTrue (sym was.honest) h in
     let run1 = was.run h slots s front all in
-    let known1 = now_all D.moment D.left_since D.held d0 d1 (IsKnown slots s) run1
+    let known1 = now_all D d0 d1 (IsKnown slots s) run1
     (λ image is. g.met.D.Disk.counts_now d1 (D.moment d0) image h1 run1.later is) in
-    advance D.moment D.left_since D.held d0 d1 d2 (IsKnown slots s) (IsKnown slots s) (InFile e.file
+    advance D d0 d1 d2 (IsKnown slots s) (IsKnown slots s) (InFile e.file
     (KeepsFront e.length)) run1 known1 (c.freeze_one.ensures.any_moment h1)
     (λ a b known step. cutting_one slots s i a b (subst (λ (l : List Entry). i < length l) (sym front) lt)
     (subst HaveOwnFiles (sym front) c.requires.own) known
@@ -172,7 +172,7 @@ entries-preserved g c =
           let h1 = subst IsTrue (sym was.honest) h in
           let h2 = subst IsTrue (sym c.freeze_one.ensures.honest) h1 in
           let run2 = more h slots s front all in
-          let known = now_all D.moment D.left_since D.held d0 d2 (IsKnown slots s) run2
+          let known = now_all D d0 d2 (IsKnown slots s) run2
           (λ image is. g.met.D.Disk.counts_now d2 (D.moment d0) image h2 run2.later is) (λ n. (D.held d2 n).reads)
           (λ n. g.met.D.Disk.reads_image d2 n h2) in
           let stand : PartsStand (λ n. (D.held d2 n).reads) es s.parts = subst (λ (l : List Entry). PartsStand (λ n.
@@ -247,7 +247,7 @@ pub returns-in_default-clause-any_moment : goal.returns-in_default-clause-any_mo
 returns-in_default-clause-any_moment g c h slots s front all =
     let D = g.D.Disk in
     let d0 = c.args.disk.now in
-    started D.moment D.left_since d0 (IsKnown slots s) (λ image left. all image (g.met.D.Disk.only_now d0 image h left))
+    started D d0 (IsKnown slots s) (λ image left. all image (g.met.D.Disk.only_now d0 image h left))
 
 pub returns-clause-files : goal.returns-clause-files
 returns-clause-files g c =

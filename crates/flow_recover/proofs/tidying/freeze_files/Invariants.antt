@@ -2,7 +2,7 @@ use Rattle.std.proofs.Common.{◌≡◌, ◌≢◌, ℕ, ◌≤◌, true, IsTrue
 use Rattle.std.specs.Prelude.{vec_capacity}
 use Rattle.std.specs.List.{AllByRecursion}
 use Rattle.flow_disk.specs.Disk.{AllImages}
-use Rattle.flow_disk.specs.Moments.{LeavesOnly}
+use Rattle.flow_disk.specs.Calls.{LeavesOnly}
 use Rattle.flow_manifest.specs.declared.manifest.Entry.{Entry}
 use Rattle.flow_manifest.specs.declared.slots.Slots.{Slots}
 use Rattle.flow_recover.specs.State.{State}
@@ -18,7 +18,7 @@ invariant-entries g l = let D = g.D.Disk in record {
   others : (n : ℕ) → AllByRecursion (λ (e : Entry). e.file ≢ n) (take l.entry-index l.entries)
       → D.marks l.disk n ≡ D.marks l.fn.disk n;
   run : IsTrue (D.honest l.fn.disk) → (slots : Slots) (s : State) → front_of s.manifest ≡ l.entries → AllImages
-      (D.held l.fn.disk) (IsKnown slots s) → LeavesOnly D.moment D.left_since l.fn.disk l.disk (IsKnown slots s);
+      (D.held l.fn.disk) (IsKnown slots s) → LeavesOnly D l.fn.disk l.disk (IsKnown slots s);
   frozen : IsTrue (D.honest l.fn.disk) → (slots : Slots) (s : State) → front_of s.manifest ≡ l.entries → AllImages
       (D.held l.fn.disk) (IsKnown slots s)
       → FrozenStand g.D.Sealed.SealedFile.octets (take l.entry-index l.entries)

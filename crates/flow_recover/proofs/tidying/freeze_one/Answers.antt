@@ -14,7 +14,7 @@ returns-in_err-part-clause-any_moment g c h =
     let d1 = c.cut_file.new.disk in
     let run1 = c.cut_file.ensures.any_moment h in
     let h1 = subst IsTrue (sym c.cut_file.ensures.honest) h in
-    goes_on D.moment D.left_since d0 d1 c.freeze.new.self (ComesOf (D.held d0) (InFile f
+    goes_on D d0 d1 c.freeze.new.self (ComesOf (D.held d0) (InFile f
     (KeepsFront c.args.entry.length))) (D.held d1) run1 (c.freeze.ensures.time h1)
     (λ image is. run1.each image (g.met.D.Disk.counts_now d1 (D.moment d0) image h1 run1.later is))
 
@@ -26,7 +26,7 @@ returns-clause-any_moment g c h =
     let d1 = c.cut_file.new.disk in
     let run1 = c.cut_file.ensures.any_moment h in
     let h1 = subst IsTrue (sym c.cut_file.ensures.honest) h in
-    goes_on D.moment D.left_since d0 d1 c.freeze.new.self (ComesOf (D.held d0) (InFile f
+    goes_on D d0 d1 c.freeze.new.self (ComesOf (D.held d0) (InFile f
     (KeepsFront c.args.entry.length))) (D.held d1) run1 (c.freeze.ensures.time h1)
     (λ image is. run1.each image (g.met.D.Disk.counts_now d1 (D.moment d0) image h1 run1.later is))
 

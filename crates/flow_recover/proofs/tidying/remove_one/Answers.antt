@@ -10,7 +10,7 @@ pub returns-then-is_named-clause-any_moment : goal.returns-then-is_named-clause-
 returns-then-is_named-clause-any_moment g c h =
     let D = g.D.Disk in
     let d0 = c.args.disk.now in
-    started D.moment D.left_since d0 (ComesOf (D.held d0) (SameNamed c.args.manifest.now)) (λ image left.
+    started D d0 (ComesOf (D.held d0) (SameNamed c.args.manifest.now)) (λ image left.
     (image, g.met.D.Disk.only_now d0 image h left, λ n named. refl))
 
 pub returns-in_err-remove-clause-any_moment : goal.returns-in_err-remove-clause-any_moment
@@ -20,12 +20,12 @@ returns-in_err-remove-clause-any_moment g c h =
     let d1 = c.remove.new.self in
     let f = c.args.file in
     let m = c.args.manifest.now in
-    let run0 = starts D.moment D.left_since D.held d0 f IsAnything
+    let run0 = starts D d0 f IsAnything
     (λ image left. g.met.D.Disk.only_now d0 image h left) (λ octets is. tt) in
-    let run1 = changes D.moment D.left_since D.held d0 d0 d1 f IsAnything _ run0 (λ k differs. refl)
+    let run1 = changes D d0 d0 d1 f IsAnything _ run0 (λ k differs. refl)
     (c.remove.ensures.time h) (λ octets is. ((D.held d0 f).reads, g.met.D.Disk.reads_image d0 f h, tt)) in
     let unnamed : is_file_of m f ≡ false = search rules in
-    by D.moment D.left_since d0 d1 (ComesOf (D.held d0) (InFile f IsAnything)) (ComesOf (D.held d0) (SameNamed m)) run1
+    by D d0 d1 (ComesOf (D.held d0) (InFile f IsAnything)) (ComesOf (D.held d0) (SameNamed m)) run1
     (λ image came. (came.0, came.1, λ n named. came.2.others n (λ is. let same = ap (is_file_of m) is in absurd (cc))))
 
 pub returns-clause-any_moment : goal.returns-clause-any_moment
@@ -35,12 +35,12 @@ returns-clause-any_moment g c h =
     let d1 = c.remove.new.self in
     let f = c.args.file in
     let m = c.args.manifest.now in
-    let run0 = starts D.moment D.left_since D.held d0 f IsAnything
+    let run0 = starts D d0 f IsAnything
     (λ image left. g.met.D.Disk.only_now d0 image h left) (λ octets is. tt) in
-    let run1 = changes D.moment D.left_since D.held d0 d0 d1 f IsAnything _ run0 (λ k differs. refl)
+    let run1 = changes D d0 d0 d1 f IsAnything _ run0 (λ k differs. refl)
     (c.remove.ensures.time h) (λ octets is. ((D.held d0 f).reads, g.met.D.Disk.reads_image d0 f h, tt)) in
     let unnamed : is_file_of m f ≡ false = search rules in
-    by D.moment D.left_since d0 d1 (ComesOf (D.held d0) (InFile f IsAnything)) (ComesOf (D.held d0) (SameNamed m)) run1
+    by D d0 d1 (ComesOf (D.held d0) (InFile f IsAnything)) (ComesOf (D.held d0) (SameNamed m)) run1
     (λ image came. (came.0, came.1, λ n named. came.2.others n (λ is. let same = ap (is_file_of m) is in absurd (cc))))
 
 pub returns-then-is_named-clause-removed : goal.returns-then-is_named-clause-removed

@@ -157,9 +157,9 @@ returns-in_err-cut_file-clause-any_moment g c h slots s man end_is all =
     let run1 = c.freeze_files.ensures.any_moment h slots s (ap front_of man ∙ sym slice) all in
     let d2 = c.cut_file.new.disk in
     let h1 = subst IsTrue (sym c.freeze_files.ensures.honest) h in
-    let known1 = now_all D.moment D.left_since D.held d0 d1 P run1 (λ image is. g.met.D.Disk.counts_now d1
+    let known1 = now_all D d0 d1 P run1 (λ image is. g.met.D.Disk.counts_now d1
     (D.moment d0) image h1 run1.later is) in
-    let run2 = advance D.moment D.left_since D.held d0 d1 d2 P P (InFile last.file (KeepsFront
+    let run2 = advance D d0 d1 d2 P P (InFile last.file (KeepsFront
     (c.args.end + 2))) run1 known1 (c.cut_file.ensures.any_moment h1)
     (λ a b known step. trimming slots s last.file c.args.end a b (ap (λ (k : Manifest). (active_of k).file) man
     ∙ sym file) end_is known step) in
@@ -183,17 +183,17 @@ returns-in_err-remove_unnamed-clause-any_moment g c h slots s man end_is all =
     let run1 = c.freeze_files.ensures.any_moment h slots s (ap front_of man ∙ sym slice) all in
     let d2 = c.cut_file.new.disk in
     let h1 = subst IsTrue (sym c.freeze_files.ensures.honest) h in
-    let known1 = now_all D.moment D.left_since D.held d0 d1 P run1 (λ image is. g.met.D.Disk.counts_now d1
+    let known1 = now_all D d0 d1 P run1 (λ image is. g.met.D.Disk.counts_now d1
     (D.moment d0) image h1 run1.later is) in
-    let run2 = advance D.moment D.left_since D.held d0 d1 d2 P P (InFile last.file (KeepsFront
+    let run2 = advance D d0 d1 d2 P P (InFile last.file (KeepsFront
     (c.args.end + 2))) run1 known1 (c.cut_file.ensures.any_moment h1)
     (λ a b known step. trimming slots s last.file c.args.end a b (ap (λ (k : Manifest). (active_of k).file) man
     ∙ sym file) end_is known step) in
     let d3 = c.remove_unnamed.new.disk in
     let h2 = subst IsTrue (sym c.cut_file.ensures.honest) h1 in
-    let known2 = now_all D.moment D.left_since D.held d0 d2 P run2 (λ image is. g.met.D.Disk.counts_now d2
+    let known2 = now_all D d0 d2 P run2 (λ image is. g.met.D.Disk.counts_now d2
     (D.moment d0) image h2 run2.later is) in
-    let run3 = advance D.moment D.left_since D.held d0 d2 d3 P P (SameNamed m) run2 known2
+    let run3 = advance D d0 d2 d3 P P (SameNamed m) run2 known2
     (c.remove_unnamed.ensures.any_moment h2)
     (λ a b known same. removing slots s a b known (subst (λ (k : Manifest). SameNamed k a b) (sym man) same)) in
     run3
@@ -216,17 +216,17 @@ returns-clause-any_moment g c h slots s man end_is all =
     let run1 = c.freeze_files.ensures.any_moment h slots s (ap front_of man ∙ sym slice) all in
     let d2 = c.cut_file.new.disk in
     let h1 = subst IsTrue (sym c.freeze_files.ensures.honest) h in
-    let known1 = now_all D.moment D.left_since D.held d0 d1 P run1 (λ image is. g.met.D.Disk.counts_now d1
+    let known1 = now_all D d0 d1 P run1 (λ image is. g.met.D.Disk.counts_now d1
     (D.moment d0) image h1 run1.later is) in
-    let run2 = advance D.moment D.left_since D.held d0 d1 d2 P P (InFile last.file (KeepsFront
+    let run2 = advance D d0 d1 d2 P P (InFile last.file (KeepsFront
     (c.args.end + 2))) run1 known1 (c.cut_file.ensures.any_moment h1)
     (λ a b known step. trimming slots s last.file c.args.end a b (ap (λ (k : Manifest). (active_of k).file) man
     ∙ sym file) end_is known step) in
     let d3 = c.remove_unnamed.new.disk in
     let h2 = subst IsTrue (sym c.cut_file.ensures.honest) h1 in
-    let known2 = now_all D.moment D.left_since D.held d0 d2 P run2 (λ image is. g.met.D.Disk.counts_now d2
+    let known2 = now_all D d0 d2 P run2 (λ image is. g.met.D.Disk.counts_now d2
     (D.moment d0) image h2 run2.later is) in
-    let run3 = advance D.moment D.left_since D.held d0 d2 d3 P P (SameNamed m) run2 known2
+    let run3 = advance D d0 d2 d3 P P (SameNamed m) run2 known2
     (c.remove_unnamed.ensures.any_moment h2)
     (λ a b known same. removing slots s a b known (subst (λ (k : Manifest). SameNamed k a b) (sym man) same)) in
     run3

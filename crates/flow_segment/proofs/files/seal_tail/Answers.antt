@@ -19,7 +19,7 @@ returns-in_err-cut-clause-any_moment g c h =
     } in
     let room : c.args.length ≤ length (D.held d0 f).reads =
     omega (arith, g.met.D.Disk.has_size d0 f h, c.requires.room) in
-    inside_cut D.moment D.left_since D.held d0 f c.args.length alone room (g.met.D.Disk.fast_within d0 f h)
+    inside_cut D d0 f c.args.length alone room (g.met.D.Disk.fast_within d0 f h)
     (λ image. g.met.D.Disk.only_now d0 image h) c.cut.new.self (c.cut.ensures.time h)
 
 pub returns-in_err-sync-clause-any_moment : goal.returns-in_err-sync-clause-any_moment
@@ -36,10 +36,10 @@ returns-in_err-sync-clause-any_moment g c h =
     omega (arith, g.met.D.Disk.has_size d0 f h, c.requires.room) in
     let whole = g.met.D.Disk.fast_within d0 f h in
     let now = λ (image : ℕ → List ℕ). g.met.D.Disk.only_now d0 image h in
-    let so_far = inside_cut D.moment D.left_since D.held d0 f c.args.length alone room whole now c.cut.new.self
+    let so_far = inside_cut D d0 f c.args.length alone room whole now c.cut.new.self
     (c.cut.ensures.time h) in
     let done = c.in_ok-cut.ensures.held h in
-    inside_sync D.moment D.left_since D.held d0 f c.args.length alone room whole now c.cut.new.self c.sync.new.self _
+    inside_sync D d0 f c.args.length alone room whole now c.cut.new.self c.sync.new.self _
     so_far done.done done.others (c.sync.ensures.time (subst IsTrue (sym c.cut.ensures.honest) h))
 
 pub returns-clause-any_moment : goal.returns-clause-any_moment
@@ -56,10 +56,10 @@ returns-clause-any_moment g c h =
     omega (arith, g.met.D.Disk.has_size d0 f h, c.requires.room) in
     let whole = g.met.D.Disk.fast_within d0 f h in
     let now = λ (image : ℕ → List ℕ). g.met.D.Disk.only_now d0 image h in
-    let so_far = inside_cut D.moment D.left_since D.held d0 f c.args.length alone room whole now c.cut.new.self
+    let so_far = inside_cut D d0 f c.args.length alone room whole now c.cut.new.self
     (c.cut.ensures.time h) in
     let done = c.in_ok-cut.ensures.held h in
-    inside_sync D.moment D.left_since D.held d0 f c.args.length alone room whole now c.cut.new.self c.sync.new.self _
+    inside_sync D d0 f c.args.length alone room whole now c.cut.new.self c.sync.new.self _
     so_far done.done done.others (c.sync.ensures.time (subst IsTrue (sym c.cut.ensures.honest) h))
 
 pub returns-clause-octets : goal.returns-clause-octets

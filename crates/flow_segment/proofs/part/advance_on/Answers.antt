@@ -10,8 +10,8 @@ returns-in_err-piece-clause-any_moment g c h =
     let D = g.D.Disk in
     let d0 = c.args.disk.now in
     let P = IsDiskImage (D.held d0) in
-    goes_on D.moment D.left_since d0 d0 c.read.new.self P (D.held d0)
-    (started D.moment D.left_since d0 P (λ image left. g.met.D.Disk.only_now d0 image h left))
+    goes_on D d0 d0 c.read.new.self P (D.held d0)
+    (started D d0 P (λ image left. g.met.D.Disk.only_now d0 image h left))
     (c.read.ensures.time h) (λ image is. is)
 
 pub returns-clause-any_moment : goal.returns-clause-any_moment
@@ -19,10 +19,10 @@ returns-clause-any_moment g c h =
     let D = g.D.Disk in
     let d0 = c.args.disk.now in
     let P = IsDiskImage (D.held d0) in
-    let start = started D.moment D.left_since d0 P (λ image left. g.met.D.Disk.only_now d0 image h left) in
+    let start = started D d0 P (λ image left. g.met.D.Disk.only_now d0 image h left) in
     elim c.if-is_short.branch [
       | then-is_short+in_ok-piece w ↦ rw w.disk-is
-          (goes_on D.moment D.left_since d0 d0 w.read.new.self P (D.held d0) start (w.read.ensures.time h)
+          (goes_on D d0 d0 w.read.new.self P (D.held d0) start (w.read.ensures.time h)
           (λ image is. is))
       | else-is_short w ↦ rw w.disk-is start
     ]

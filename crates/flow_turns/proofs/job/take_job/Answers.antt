@@ -18,7 +18,7 @@ events-preserved g c =
     let answer = c.take_event-answer.result in
     let old = c.args.archive.now in
     let new = c.take_event-answer.new.archive in
-    let more = run_more D.honest D.moment D.left_since old (take i c.args.events.now) so_far.0 c.events.archive new e
+    let more = run_more D old (take i c.args.events.now) so_far.0 c.events.archive new e
     answer so_far.1 c.take_event-answer.ensures.answers c.take_event-answer.ensures.step in
     let taken : take (i + 1) c.args.events.now ≡ take i c.args.events.now ++ e ∷ [] =
     take_more c.args.events.now i e (omega arith)
@@ -27,7 +27,7 @@ events-preserved g c =
     record {
       run = (
         so_far.0 ++ answer ∷ [],
-        subst (λ (l : List Event). IsRun D.honest D.moment D.left_since old l (so_far.0 ++ answer ∷ []) new) (sym taken)
+        subst (λ (l : List Event). IsRun D old l (so_far.0 ++ answer ∷ []) new) (sym taken)
             more,
         told ∙ ap (λ (r : Result ℕ ArchiveError). told_behind r answer) so_far.2
             ∙ sym (job_told_then c.args.count so_far.0 answer),

@@ -42,7 +42,7 @@ pub returns-in_default-clause-step : goal.returns-in_default-clause-step
 returns-in_default-clause-step g c =
     let D = g.D.Disk in
     let inside = c.self.inside in
-    rw (← c.self.view_is) (refused D.honest D.moment D.left_since D.held _ _ _ refusal.OutOfMemory
+    rw (← c.self.view_is) (refused D _ _ _ refusal.OutOfMemory
     (ap (λ (l : List (List ℕ)). record {
       disk = inside.disk;
       state = state_in (work_in inside.next inside.job inside.waiting.items) inside.shared inside.slots.current inside.files.items inside.prefix l;
@@ -79,7 +79,7 @@ returns-in_err-batch-clause-step g c =
     let inside = c.self.inside in
     let m = inside.slots.current in
     let e = c.in_err-batch.field-0.0 in
-    rw (← c.self.view_is) (refused_by D.honest D.moment D.left_since D.held _ _ _ e _ c.from_residual.ensures.1
+    rw (← c.self.view_is) (refused_by D _ _ _ e _ c.from_residual.ensures.1
     (ap (λ (l : List (List ℕ)). record {
       disk = inside.disk;
       state = state_in (work_in inside.next inside.job inside.waiting.items) inside.shared m inside.files.items inside.prefix l;
@@ -161,10 +161,10 @@ returns-in-Err-clause-step g c =
     let few : inside.total + length ms < 2 ^ 48 =
     omega (arith, c.in_ok-batch.ensures.positions, long, counted.total_is, counted.within.all) in
     let within = within_more s inside.last inside.end inside.total ms counted fits few in
-    rw (← c.self.view_is) (failed D.honest D.moment D.left_since _ _ _ c.add_batch.ensures.honest
-    (λ h. by D.moment D.left_since d d1 (StandsForEither (reopened s) (reopened (appended s ms)))
+    rw (← c.self.view_is) (failed D _ _ _ c.add_batch.ensures.call.honest
+    (λ h. by D d d1 (StandsForEither (reopened s) (reopened (appended s ms)))
     (StandsBeforeOrAfter s (λ after. after ≡ appended s ms))
-    (comes_by D.moment D.left_since D.held d d1 (IsKnown inside.slots s)
+    (comes_by D d d1 (IsKnown inside.slots s)
     (StandsForEither (reopened s) (reopened (appended s ms))) (InFile inside.last.file (MayAdd inside.end ms))
     (still.kept.known h) (c.add_batch.ensures.any_moment h)
     (adding inside.slots s inside.last.file inside.end ms file_is (sym counted.end_is) within
@@ -203,7 +203,7 @@ invariant_of-self-in-Ok-add_batch g c =
     let some : 16 ≤ octet_sum ms =
     some_octets ms (all_whole ms inside.carry c.admitted.new.carry taken) (omega (arith, c.requires.some, long)) in
     let size : inside.end + octet_sum ms + 2 ≤ (D.marks d1 inside.last.file).size =
-    omega (arith, c.in-Ok-add_batch.ensures.size) in
+    omega (arith, c.in-Ok-add_batch.ensures.call.size) in
     let now = counted_more s inside.last inside.end inside.total ms counted fits few some in
     let S : List (List ℕ) → State = λ messages.
     state_in (work_in inside.next inside.job inside.waiting.items) inside.shared m inside.files.items inside.prefix messages in
@@ -217,34 +217,35 @@ invariant_of-self-in-Ok-add_batch g c =
     let made : P (inside.messages.items ++ ms) (inside.end + octet_sum ms) (inside.total + length ms) = (
       record {
         counted = now;
-        files_are = subst (λ (h : Bool). AreHeldAs h (front_of m) inside.files.items) (sym c.add_batch.ensures.honest)
+        files_are = subst (λ (h : Bool). AreHeldAs h (front_of m) inside.files.items)
+            (sym c.add_batch.ensures.call.honest)
             (c.self.invariant.0).files_are;
-        stand = λ h1. (c.self.invariant.0).stand (subst IsTrue c.add_batch.ensures.honest h1);
+        stand = λ h1. (c.self.invariant.0).stand (subst IsTrue c.add_batch.ensures.call.honest h1);
         still_open = λ _. record {
           kept = record {
             counted = now;
             ready = ready_more (D.marks d) (D.marks d1) inside.last.file inside.next inside.end (octet_sum ms)
                 (omega (arith, file_is, are.active.file_from)) (omega (arith, file_is, are.active.file_below, counted.next))
-                still.kept.ready c.add_batch.ensures.other_marks size c.in-Ok-add_batch.ensures.settled
-                c.add_batch.ensures.thawed;
-            known = λ h1. let h = subst IsTrue c.add_batch.ensures.honest h1 in
-                arrive D.moment D.left_since D.held d d1 (IsKnown inside.slots s) (IsKnown inside.slots (appended s ms))
+                still.kept.ready c.add_batch.ensures.call.other_marks size c.in-Ok-add_batch.ensures.call.settled
+                c.add_batch.ensures.call.thawed;
+            known = λ h1. let h = subst IsTrue c.add_batch.ensures.call.honest h1 in
+                arrive D d d1 (IsKnown inside.slots s) (IsKnown inside.slots (appended s ms))
                 (InFile inside.last.file (Adds inside.end ms)) (still.kept.known h) (c.in-Ok-add_batch.ensures.after h)
                 (added inside.slots s inside.last.file inside.end ms file_is (sym counted.end_is) within
                 (c.admitted.new.carry, hands_more s ms inside.carry c.admitted.new.carry (still.hands_on h) taken));
           };
           segment = segment_more s.active ms inside.carry c.admitted.new.carry still.segment taken;
           hands_on = λ h1. hands_more s ms inside.carry c.admitted.new.carry
-              (still.hands_on (subst IsTrue c.add_batch.ensures.honest h1)) taken;
+              (still.hands_on (subst IsTrue c.add_batch.ensures.call.honest h1)) taken;
           frozen = frozen_too m (D.marks d) (D.marks d1) counted.valid
-              (λ n from below not_active. c.add_batch.ensures.other_marks n (λ is. not_active (is ∙ sym file_is)))
+              (λ n from below not_active. c.add_batch.ensures.call.other_marks n (λ is. not_active (is ∙ sym file_is)))
               still.frozen;
         };
       },
       goes_on s (record { front = inside.prefix; messages = inside.messages.items ++ ms }) inside.shared D.honest D.marks
-          D.held d d1 inside.closed inside.closed c.add_batch.ensures.honest (λ is. is)
-          (λ _ n is. c.add_batch.ensures.other_marks n (apart n is))
-          (λ _ h n is. c.add_batch.ensures.other_files h n (apart n is)) work (c.self.invariant.1),
+          D.held d d1 inside.closed inside.closed c.add_batch.ensures.call.honest (λ is. is)
+          (λ _ n is. c.add_batch.ensures.call.other_marks n (apart n is))
+          (λ _ h n is. c.add_batch.ensures.call.other_files h n (apart n is)) work (c.self.invariant.1),
       c.self.invariant.2,
     ) in
     subst (λ (n : ℕ). P c.put_all.new.kept.items (inside.end + n) (inside.total + length c.args.messages.now))
@@ -315,10 +316,10 @@ returns-in-Ok-add_batch-clause-step g c =
     let pushed : c.put_all.new.kept.items ≡ inside.messages.items ++ ms = c.put_all.ensures
     ∙ ap (λ (l : List (List ℕ)). l ++ batch.copies.items) c.reserve.ensures.items
     ∙ ap (λ (l : List (List ℕ)). inside.messages.items ++ l) c.in_ok-batch.ensures.copies in
-    rw (← c.self.view_is) (acknowledged D.honest D.moment D.left_since _ _ _ _ c.add_batch.ensures.honest
-    (λ h. by D.moment D.left_since d d1 (StandsForEither (reopened s) (reopened (appended s ms)))
+    rw (← c.self.view_is) (acknowledged D _ _ _ _ c.add_batch.ensures.call.honest
+    (λ h. by D d d1 (StandsForEither (reopened s) (reopened (appended s ms)))
     (StandsBeforeOrAfter s (λ after. after ≡ appended s ms))
-    (comes_by D.moment D.left_since D.held d d1 (IsKnown inside.slots s)
+    (comes_by D d d1 (IsKnown inside.slots s)
     (StandsForEither (reopened s) (reopened (appended s ms))) (InFile inside.last.file (MayAdd inside.end ms))
     (still.kept.known h) (c.add_batch.ensures.any_moment h)
     (adding inside.slots s inside.last.file inside.end ms file_is (sym counted.end_is) within
@@ -367,16 +368,16 @@ invariant_of-self-in-Err-add_batch g c =
     × HasOwnFiles inside.shared inside.files.items work) (sym c.reserve.ensures.items) (
       failed_archive D.honest D.marks D.held inside.disk d1 inside.slots inside.last inside.end
           inside.total inside.carry c.admitted.new.carry inside.files.items (S inside.messages.items) inside.closed
-          c.self.invariant.0 c.add_batch.ensures.honest,
+          c.self.invariant.0 c.add_batch.ensures.call.honest,
       goes_on (S inside.messages.items) (record { front = inside.prefix; messages = inside.messages.items }) inside.shared
-          D.honest D.marks D.held inside.disk d1 inside.closed true c.add_batch.ensures.honest (λ is. absurd (cc))
+          D.honest D.marks D.held inside.disk d1 inside.closed true c.add_batch.ensures.call.honest (λ is. absurd (cc))
           (λ is. absurd (cc)) (λ is. absurd (cc)) work (c.self.invariant.1),
       c.self.invariant.2,
     )
 
 pub returns-in-Err-clause-cause : goal.returns-in-Err-clause-cause
 returns-in-Err-clause-cause g c =
-    let why = c.in-Err.ensures.cause in
+    let why = c.in-Err.ensures.call.cause in
     rw (← c.self.view_is) (record {
       later = why.later;
       done = tt;

@@ -21,7 +21,7 @@ pub returns-then-is_some-clause-step : goal.returns-then-is_some-clause-step
 returns-then-is_some-clause-step g c =
     let D = g.D.Disk in
     let inside = c.self.inside in
-    rw (← c.self.view_is) (refused D.honest D.moment D.left_since D.held _ _ _ refusal.RollBusy refl (λ is. cc)
+    rw (← c.self.view_is) (refused D _ _ _ refusal.RollBusy refl (λ is. cc)
     (λ h image left. g.met.D.Disk.only_now inside.disk image h left)
     (λ h still image is. stands_for inside.slots _ image ((c.self.invariant.0.still_open still).kept.known h image is)))
 
@@ -47,7 +47,7 @@ pub returns-then-count-eq0-clause-step : goal.returns-then-count-eq0-clause-step
 returns-then-count-eq0-clause-step g c =
     let D = g.D.Disk in
     let inside = c.self.inside in
-    rw (← c.self.view_is) (refused D.honest D.moment D.left_since D.held _ _ _ refusal.RollCount refl (λ is. cc)
+    rw (← c.self.view_is) (refused D _ _ _ refusal.RollCount refl (λ is. cc)
     (λ h image left. g.met.D.Disk.only_now inside.disk image h left)
     (λ h still image is. stands_for inside.slots _ image ((c.self.invariant.0.still_open still).kept.known h image is)))
 
@@ -103,7 +103,7 @@ returns-clause-step g c =
     let D = g.D.Disk in
     let inside = c.self.inside in
     let s = state_of inside in
-    rw (← c.self.view_is) (without_device D.honest D.moment D.left_since D.held inside.disk s
+    rw (← c.self.view_is) (without_device D inside.disk s
     (with_rolling inside (Some c.new.result)) inside.closed (λ after. after ≡ begun s c.args.kind c.args.count) tt
     c.if-self.false (ap (λ (r : Rolling). with_rolling inside (Some r)) c.new.ensures) refl
     (λ h image left. g.met.D.Disk.only_now inside.disk image h left)

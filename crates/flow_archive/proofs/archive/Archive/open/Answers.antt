@@ -2,7 +2,7 @@ use Rattle.std.proofs.Common.{◌≡◌, ◌⊎◌, inl, inr, ⊎_elim, ℕ, tru
 use Rattle.std.proofs.Common.{ap, subst, arith}
 use Rattle.std.specs.Prelude.{Result, Ok, Err}
 use Rattle.flow_disk.specs.Disk.{AllImages, IsWithin}
-use Rattle.flow_disk.specs.Moments.{LeavesOnly}
+use Rattle.flow_disk.specs.Calls.{LeavesOnly}
 use Rattle.flow_disk.specs.Cause.{HasCause}
 use Rattle.flow_manifest.specs.declared.manifest.Manifest.{Manifest}
 use Rattle.flow_manifest.specs.Slots.{file_of, reads_of}
@@ -70,7 +70,7 @@ returns-in-Ok-clause-told g c h = if_err c.resumed.result (λ r. r.error ≡ ref
 pub returns-in-Ok-clause-any_moment : goal.returns-in-Ok-clause-any_moment
 returns-in-Ok-clause-any_moment g c h s t all =
     let D = g.D.Disk in
-    subst (λ (x : g.row.D.Denot). LeavesOnly D.moment D.left_since c.args.disk x (StandsForEither s t))
+    subst (λ (x : g.row.D.Denot). LeavesOnly D c.args.disk x (StandsForEither s t))
     (sym c.resumed.ensures.disk) (c.recover.ensures.any_moment h s t all)
 
 pub returns-in-Ok-clause-honest : goal.returns-in-Ok-clause-honest

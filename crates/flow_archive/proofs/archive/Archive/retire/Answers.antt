@@ -29,7 +29,7 @@ pub returns-then-is_empty-clause-step : goal.returns-then-is_empty-clause-step
 returns-then-is_empty-clause-step g c =
     let D = g.D.Disk in
     let inside = c.self.inside in
-    rw (← c.self.view_is) (refused D.honest D.moment D.left_since D.held _ _ _ refusal.NothingToRetire refl (λ is. cc)
+    rw (← c.self.view_is) (refused D _ _ _ refusal.NothingToRetire refl (λ is. cc)
     (λ h image left. g.met.D.Disk.only_now inside.disk image h left)
     (λ h still image is. stands_for inside.slots _ image (((c.self.invariant.0).still_open still).kept.known h image is)))
 
@@ -97,14 +97,14 @@ returns-in-Ok-retire-clause-step g c =
     (c.self.invariant.1).waiting in
     let unnamed : IsUnnamed s n = subst (IsUnnamed s) (sym c.in-Ok.ensures.done) all.0.unnamed in
     let known = ((c.self.invariant.0).still_open c.if-self.false).kept.known in
-    rw (← c.self.view_is) (acknowledged D.honest D.moment D.left_since _ _ _ _ c.retire.ensures.honest
+    rw (← c.self.view_is) (acknowledged D _ _ _ _ c.retire.ensures.honest
     (λ h.
     let at_all = g.met.D.Disk.reads_image d n h in
-    let none = begun D.honest D.moment D.left_since D.held d n at_all (λ image. g.met.D.Disk.only_now d image h) h in
-    let run = (changed_by D.honest D.moment D.left_since D.held d n at_all d d1 _ none c.retire.ensures.honest
+    let none = begun h at_all (λ image. g.met.D.Disk.only_now d image h) in
+    let run = (changed_by _ none c.retire.ensures.honest
     c.retire.ensures.time (λ t. (c.retire.ensures.held t).others)).run in
     removed_run D.honest D.marks D.held d d1 s n unnamed c.retire.ensures.honest c.retire.ensures.marks.others
-    (λ t. (c.retire.ensures.held t).others) (λ t. g.met.D.Disk.reads_image d n t) D.moment D.left_since inside.slots
+    (λ t. (c.retire.ensures.held t).others) (λ t. g.met.D.Disk.reads_image d n t) D inside.slots
     _ (known h) run)
     (λ h. (f.entry.file, (numbers_of rest, ap numbers_of c.take_oldest-oldest.ensures.items, refl)))
     c.if-self.false c.if-self.false
@@ -140,14 +140,14 @@ returns-in-Err-retire-clause-step g c =
     (c.self.invariant.1).waiting in
     let unnamed : IsUnnamed s n = subst (IsUnnamed s) (sym c.in-Ok.ensures.done) all.0.unnamed in
     let known = ((c.self.invariant.0).still_open c.if-self.false).kept.known in
-    rw (← c.self.view_is) (failed_either D.honest D.moment D.left_since _ _ _ c.retire.ensures.honest
+    rw (← c.self.view_is) (failed_either D _ _ _ c.retire.ensures.honest
     (λ h.
     let at_all = g.met.D.Disk.reads_image d n h in
-    let none = begun D.honest D.moment D.left_since D.held d n at_all (λ image. g.met.D.Disk.only_now d image h) h in
-    let run = (changed_by D.honest D.moment D.left_since D.held d n at_all d d1 _ none c.retire.ensures.honest
+    let none = begun h at_all (λ image. g.met.D.Disk.only_now d image h) in
+    let run = (changed_by _ none c.retire.ensures.honest
     c.retire.ensures.time (λ t. (c.retire.ensures.held t).others)).run in
     removed_run D.honest D.marks D.held d d1 s n unnamed c.retire.ensures.honest c.retire.ensures.marks.others
-    (λ t. (c.retire.ensures.held t).others) (λ t. g.met.D.Disk.reads_image d n t) D.moment D.left_since inside.slots
+    (λ t. (c.retire.ensures.held t).others) (λ t. g.met.D.Disk.reads_image d n t) D inside.slots
     _ (known h) run)
     (inr (f.entry.file, (numbers_of rest, ap numbers_of c.take_oldest-oldest.ensures.items, refl))) refl c.if-self.false)
 
@@ -182,7 +182,7 @@ returns-in-Err-clause-step g c =
     ∙ sym c.take_oldest-oldest.ensures.items in
     let S : List Frozen → State = state_of D.honest D.marks D.held inside.slots inside.last inside.end inside.total
     inside.carry inside.files.items inside.prefix inside.messages.items inside.next inside.job inside.shared in
-    rw (← c.self.view_is) (refused D.honest D.moment D.left_since D.held _ _ _ refusal.Pinned
+    rw (← c.self.view_is) (refused D _ _ _ refusal.Pinned
     (ap (λ (l : List Frozen). record { disk = inside.disk; state = S l; closed = inside.closed }) back) (λ is. cc)
     (λ h image left. g.met.D.Disk.only_now inside.disk image h left)
     (λ h still image is. stands_for inside.slots _ image (((c.self.invariant.0).still_open still).kept.known h image is)))

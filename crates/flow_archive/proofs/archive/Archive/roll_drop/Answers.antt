@@ -1,6 +1,6 @@
 use Rattle.std.proofs.Common.{◌≡◌, inr, true, refl, sym, ◌∙◌, ap, subst, Option, Some, None}
 use Rattle.flow_disk.specs.Disk.{Marks}
-use Rattle.flow_disk.specs.Moments.{LeavesOnly}
+use Rattle.flow_disk.specs.Calls.{LeavesOnly}
 use Rattle.flow_segment.proofs.Making.{begun, changed_by}
 use Rattle.flow_recover.specs.State.{State}
 use Rattle.flow_archive.specs.declared.refusal.ArchiveError.TheVariants as refusal
@@ -24,7 +24,7 @@ returns-in_default-clause-step g c =
     inside.files.items inside.prefix inside.messages.items inside.next inside.shared inside.waiting.items in
     let gone = c.take.ensures.after in
     let same = gone ∙ sym (sym c.take.ensures.value ∙ c.in_default.is) in
-    rw (← c.self.view_is) (refused D.honest D.moment D.left_since D.held _ _ _ refusal.NoRoll
+    rw (← c.self.view_is) (refused D _ _ _ refusal.NoRoll
     (ap (λ (o : Option Rolling). record { disk = d; state = at o; closed = inside.closed }) same) (λ is. cc)
     (λ h image left. g.met.D.Disk.only_now d image h left)
     (λ h still image is. stands_for inside.slots _ image ((c.self.invariant.0.still_open still).kept.known h image is)))
@@ -59,7 +59,7 @@ returns-in_default-into_file-clause-step g c =
     inside.carry
     inside.files.items inside.prefix inside.messages.items inside.next inside.shared inside.waiting.items in
     let gone = c.take.ensures.after in
-    rw (← c.self.view_is) (without_device D.honest D.moment D.left_since D.held d (at inside.job) (at c.take.new.self)
+    rw (← c.self.view_is) (without_device D d (at inside.job) (at c.take.new.self)
     inside.closed (λ after. after ≡ dropped (at inside.job)) tt c.if-self.false (ap at gone) refl
     (λ h image left. g.met.D.Disk.only_now d image h left)
     (λ h image is. stands_for inside.slots _ image
@@ -140,19 +140,19 @@ returns-in-Ok-clause-step g c =
     let d1 = c.retire.new.self in
     let made : j.staged ≡ Some f = sym c.into_file.ensures
     ∙ ap (made_in S.number S.size S.honest S.octets) c.in-Some-into_file.is in
-    rw (← c.self.view_is) (acknowledged D.honest D.moment D.left_since _ _ _ _ c.retire.ensures.honest
+    rw (← c.self.view_is) (acknowledged D _ _ _ _ c.retire.ensures.honest
     (λ h.
     let at_all = g.met.D.Disk.reads_image d n h in
-    let none = begun D.honest D.moment D.left_since D.held d n at_all (λ image. g.met.D.Disk.only_now d image h) h in
-    let run = (changed_by D.honest D.moment D.left_since D.held d n at_all d d1 _ none c.retire.ensures.honest
+    let none = begun h at_all (λ image. g.met.D.Disk.only_now d image h) in
+    let run = (changed_by _ none c.retire.ensures.honest
     c.retire.ensures.time (λ t. (c.retire.ensures.held t).others)).run in
-    subst (λ (o : Option Rolling). LeavesOnly D.moment D.left_since d d1
+    subst (λ (o : Option Rolling). LeavesOnly D d d1
     (StandsBeforeOrAfter (at o) (λ after. after ≡ dropped (at o)))) (sym job_was)
     (removed_run D.honest D.marks D.held d d1 (at (Some j)) n (unnamed D.honest D.marks D.held inside.slots inside.last
     inside.end inside.total inside.carry
     inside.files.items inside.prefix inside.messages.items inside.next inside.shared inside.waiting.items
     d inside.closed j f made was) c.retire.ensures.honest c.retire.ensures.marks.others
-    (λ t. (c.retire.ensures.held t).others) (λ t. g.met.D.Disk.reads_image d n t) D.moment D.left_since inside.slots
+    (λ t. (c.retire.ensures.held t).others) (λ t. g.met.D.Disk.reads_image d n t) D inside.slots
     _ ((was.0.still_open c.if-self.false).kept.known h) run))
     (λ h. ap at gone) c.if-self.false c.if-self.false
     (λ h1 image left. stands_for inside.slots _ image
@@ -205,19 +205,19 @@ returns-in-Err-clause-step g c =
     let d1 = c.retire.new.self in
     let made : j.staged ≡ Some f = sym c.into_file.ensures
     ∙ ap (made_in S.number S.size S.honest S.octets) c.in-Some-into_file.is in
-    rw (← c.self.view_is) (failed_either D.honest D.moment D.left_since _ _ _ c.retire.ensures.honest
+    rw (← c.self.view_is) (failed_either D _ _ _ c.retire.ensures.honest
     (λ h.
     let at_all = g.met.D.Disk.reads_image d n h in
-    let none = begun D.honest D.moment D.left_since D.held d n at_all (λ image. g.met.D.Disk.only_now d image h) h in
-    let run = (changed_by D.honest D.moment D.left_since D.held d n at_all d d1 _ none c.retire.ensures.honest
+    let none = begun h at_all (λ image. g.met.D.Disk.only_now d image h) in
+    let run = (changed_by _ none c.retire.ensures.honest
     c.retire.ensures.time (λ t. (c.retire.ensures.held t).others)).run in
-    subst (λ (o : Option Rolling). LeavesOnly D.moment D.left_since d d1
+    subst (λ (o : Option Rolling). LeavesOnly D d d1
     (StandsBeforeOrAfter (at o) (λ after. after ≡ dropped (at o)))) (sym job_was)
     (removed_run D.honest D.marks D.held d d1 (at (Some j)) n (unnamed D.honest D.marks D.held inside.slots inside.last
     inside.end inside.total inside.carry
     inside.files.items inside.prefix inside.messages.items inside.next inside.shared inside.waiting.items
     d inside.closed j f made was) c.retire.ensures.honest c.retire.ensures.marks.others
-    (λ t. (c.retire.ensures.held t).others) (λ t. g.met.D.Disk.reads_image d n t) D.moment D.left_since inside.slots
+    (λ t. (c.retire.ensures.held t).others) (λ t. g.met.D.Disk.reads_image d n t) D inside.slots
     _ ((was.0.still_open c.if-self.false).kept.known h) run))
     (inr (ap at gone)) refl c.if-self.false)
 

@@ -49,7 +49,7 @@ returns-in_err-made-clause-step g c =
     let D = g.D.Disk in
     let inside = c.self.inside in
     let e = c.in_err-made.field-0.0 in
-    rw (← c.self.view_is) (refused_by D.honest D.moment D.left_since D.held _ _ _ e _ c.from_residual.ensures.1 refl
+    rw (← c.self.view_is) (refused_by D _ _ _ e _ c.from_residual.ensures.1 refl
     (λ same. subst (IsNotInstalled inside.job) same c.in_err-made.ensures.refused)
     (λ h image left. g.met.D.Disk.only_now inside.disk image h left)
     (λ h still image is. stands_for inside.slots _ image (((c.self.invariant.0).still_open still).kept.known h image is)))
@@ -121,7 +121,7 @@ returns-in_default-clause-step g c =
     let D = g.D.Disk in
     let inside = c.self.inside in
     let m = inside.slots.current in
-    rw (← c.self.view_is) (refused D.honest D.moment D.left_since D.held _ _ _ refusal.OutOfMemory
+    rw (← c.self.view_is) (refused D _ _ _ refusal.OutOfMemory
     (ap (λ (l : List Frozen). record {
       disk = inside.disk;
       state = state_in (work_in inside.next inside.job l) inside.shared m inside.files.items inside.prefix inside.messages.items;
@@ -233,8 +233,8 @@ returns-in-Err-clause-step g c =
     (omega (arith, staged.all)) h (staged.made h) in
     let kept_waiting : c.make_room.new.waiting.items ≡ inside.waiting.items = c.make_room.ensures.same in
     let d1 = c.install.new.disk in
-    rw (← c.self.view_is) (failed D.honest D.moment D.left_since _ _ _ c.install.ensures.honest
-    (λ h. by D.moment D.left_since d d1 (StandsForEither (reopened s) (reopened after))
+    rw (← c.self.view_is) (failed D _ _ _ c.install.ensures.honest
+    (λ h. by D d d1 (StandsForEither (reopened s) (reopened after))
     (StandsBeforeOrAfter s (λ x. IsInstalled true s x))
     (c.install.ensures.any_moment h inside.slots r.kind r.sources (staged_file f) s (ready h))
     (λ image either. ⊎_elim (λ before. inl before) (λ later. inr (
@@ -506,8 +506,8 @@ returns-in-Ok-install-clause-step g c =
     let now_is = now_state ∙ then_is D.honest D.marks D.held work inside.shared d d1 inside.slots inside.last inside.end
     inside.total inside.carry files inside.prefix inside.messages.items r.kind r.sources f part counted.valid
     rolling.few all part_held in
-    rw (← c.self.view_is) (acknowledged D.honest D.moment D.left_since _ _ _ _ c.install.ensures.honest
-    (λ h. by D.moment D.left_since d d1 (StandsForEither (reopened s) (reopened after))
+    rw (← c.self.view_is) (acknowledged D _ _ _ _ c.install.ensures.honest
+    (λ h. by D d d1 (StandsForEither (reopened s) (reopened after))
     (StandsBeforeOrAfter s (λ x. IsInstalled true s x))
     (c.install.ensures.any_moment h inside.slots r.kind r.sources (staged_file f) s (ready h))
     (λ image either. ⊎_elim (λ before. inl before) (λ later. inr (

@@ -23,7 +23,7 @@ pub returns-in_default-clause-step : goal.returns-in_default-clause-step
 returns-in_default-clause-step g c =
     let D = g.D.Disk in
     let inside = c.self.inside in
-    rw (← c.self.view_is) (refused D.honest D.moment D.left_since D.held _ _ _ refusal.NoRoll refl (λ is. cc)
+    rw (← c.self.view_is) (refused D _ _ _ refusal.NoRoll refl (λ is. cc)
     (λ h image left. g.met.D.Disk.only_now inside.disk image h left)
     (λ h still image is. stands_for inside.slots _ image ((c.self.invariant.0.still_open still).kept.known h image is)))
 
@@ -52,7 +52,7 @@ returns-then-job-clause-step g c =
     let sources_is = ap (λ (r : Rolling). r.sources) c.job.view_is in
     let end : j.read ≡ j.sources = sym read_is ∙ c.if-job.true ∙ sources_is in
     let told = at_end s j job_is end in
-    rw (← c.self.view_is) (without_device D.honest D.moment D.left_since D.held d s (W j) inside.closed
+    rw (← c.self.view_is) (without_device D d s (W j) inside.closed
     (λ after. IsStepped s after) 0 c.if-self.false (told.0, told.1, told.2.1) refl
     (λ h image left. g.met.D.Disk.only_now d image h left)
     (λ h image is. stands_for inside.slots _ image
@@ -195,7 +195,7 @@ returns-in-Err-clause-step g c =
     let kept : new ≡ j = c.in-Err.ensures.kept in
     let same : W new ≡ s = ap (λ (r : Rolling). W r) kept
     ∙ ap (λ (o : Option Rolling). with_rolling inside o) (sym c.in-Some.is) in
-    rw (← c.self.view_is) (refused D.honest D.moment D.left_since D.held _ _ _ c.of_source.result
+    rw (← c.self.view_is) (refused D _ _ _ c.of_source.result
     (ap (λ (x : State). record { disk = d; state = x; closed = inside.closed }) same)
     (λ is. not_closing c.number-oldest.result c.number-next.result c.in-Err.e (sym c.of_source.ensures ∙ is))
     (λ h image left. g.met.D.Disk.only_now d image h left)
@@ -269,7 +269,7 @@ returns-clause-step g c =
     let lt : j.read < j.sources = omega (arith, c.if-job.false, rolling.read, read_is, sources_is) in
     let new : Rolling = c.take_source.new.job in
     let told = one_less s j new job_is lt c.in-Ok.ensures.taken in
-    rw (← c.self.view_is) (without_device D.honest D.moment D.left_since D.held d s (W new) inside.closed
+    rw (← c.self.view_is) (without_device D d s (W new) inside.closed
     (λ after. IsStepped s after) _ c.if-self.false (told.0, told.1, told.2.1) refl
     (λ h image left. g.met.D.Disk.only_now d image h left)
     (λ h image is. stands_for inside.slots _ image

@@ -44,8 +44,8 @@ returns-then-generations_kept-gt0-clause-step g c =
     let d = inside.disk in
     let s = state_of inside in
     let still = (c.self.invariant.0).still_open c.if-self.false in
-    rw (← c.self.view_is) (acknowledged D.honest D.moment D.left_since _ _ _ _ refl
-    (λ h. started D.moment D.left_since d (StandsBeforeOrAfter s (λ x. IsWritten true s x))
+    rw (← c.self.view_is) (acknowledged D _ _ _ _ refl
+    (λ h. started D d (StandsBeforeOrAfter s (λ x. IsWritten true s x))
     (λ image left. inl (stands_for inside.slots s image (still.kept.known h image (g.met.D.Disk.only_now d image h left)))))
     (λ h. is_written_before true (D.honest d) s inside.job refl
     ((c.self.invariant.1).job) (omega (arith, c.if-generations_kept-gt0.true, c.generations_kept.ensures)))
@@ -70,7 +70,7 @@ returns-in_err-octets-clause-step g c =
     let inside = c.self.inside in
     let m = inside.slots.current in
     let e = c.in_err-octets.field-0.0 in
-    rw (← c.self.view_is) (refused_by D.honest D.moment D.left_since D.held _ _ _ e _ c.from_residual.ensures.1 refl
+    rw (← c.self.view_is) (refused_by D _ _ _ e _ c.from_residual.ensures.1 refl
     (λ same. subst (IsNotMade inside.job inside.next m.generation) same c.in_err-octets.ensures.refused)
     (λ h image left. g.met.D.Disk.only_now inside.disk image h left)
     (λ h still image is. stands_for inside.slots _ image (((c.self.invariant.0).still_open still).kept.known h image is)))
@@ -224,8 +224,8 @@ returns-in-Ok-clause-step g c =
     × (rollup.time ≡ r.time)) (sym (octets_is h ∙ c.as_slice.ensures.value)) (made.3, made.4) in
     let rolling : IsRolling (D.honest d) s r = subst (λ (j : Option Rolling). IfSome j (IsRolling (D.honest d) s)) made.1
     (c.self.invariant.1).job in
-    rw (← c.self.view_is) (acknowledged D.honest D.moment D.left_since _ _ _ _ c.stage.ensures.honest
-    (λ h. by D.moment D.left_since d d1 (ComesOf (D.held d) (InFile inside.next IsAnything))
+    rw (← c.self.view_is) (acknowledged D _ _ _ _ c.stage.ensures.honest
+    (λ h. by D d d1 (ComesOf (D.held d) (InFile inside.next IsAnything))
     (StandsBeforeOrAfter s (λ x. IsWritten true s x)) (c.stage.ensures.any_moment h)
     (λ image came. inl (stands_for inside.slots s image
     (beside (D.held d) inside.slots s inside.next IsAnything counted.next (still.kept.known h) image came))))
@@ -282,8 +282,8 @@ returns-clause-step g c =
     let still = (c.self.invariant.0).still_open c.if-self.false in
     let counted = (c.self.invariant.0).counted in
     let d1 = c.stage.new.disk in
-    rw (← c.self.view_is) (failed D.honest D.moment D.left_since _ _ _ c.stage.ensures.honest
-    (λ h. by D.moment D.left_since d d1 (ComesOf (D.held d) (InFile inside.next IsAnything))
+    rw (← c.self.view_is) (failed D _ _ _ c.stage.ensures.honest
+    (λ h. by D d d1 (ComesOf (D.held d) (InFile inside.next IsAnything))
     (StandsBeforeOrAfter s (λ x. IsWritten true s x)) (c.stage.ensures.any_moment h)
     (λ image came. inl (stands_for inside.slots s image
     (beside (D.held d) inside.slots s inside.next IsAnything counted.next (still.kept.known h) image came))))

@@ -54,7 +54,7 @@ returns-in_err-next-clause-step g c =
     let D = g.D.Disk in
     let inside = c.self.inside in
     let e = c.in_err-next.field-0.0 in
-    rw (← c.self.view_is) (refused_by D.honest D.moment D.left_since D.held _ _ _ e _ c.from_residual.ensures.1 refl
+    rw (← c.self.view_is) (refused_by D _ _ _ e _ c.from_residual.ensures.1 refl
     (λ same. subst (IsNotFollowed inside.slots.current c.len-count.result inside.next c.generations_kept-kept.result) same c.in_err-next.ensures.refused)
     (λ h image left. g.met.D.Disk.only_now inside.disk image h left)
     (λ h still image is. stands_for inside.slots _ image (((c.self.invariant.0).still_open still).kept.known h image is)))
@@ -63,7 +63,7 @@ pub returns-in_default-clause-step : goal.returns-in_default-clause-step
 returns-in_default-clause-step g c =
     let D = g.D.Disk in
     let inside = c.self.inside in
-    rw (← c.self.view_is) (refused D.honest D.moment D.left_since D.held _ _ _ refusal.OutOfMemory
+    rw (← c.self.view_is) (refused D _ _ _ refusal.OutOfMemory
     (ap (λ (l : List Frozen). record {
       disk = inside.disk;
       state = state_in (work_in inside.next inside.job inside.waiting.items) inside.shared inside.slots.current l inside.prefix inside.messages.items;
@@ -195,8 +195,8 @@ returns-in-Err-clause-step g c =
           ∙ ap (λ (l : List ℕ). manifest_octets (moved_on s l).manifest) (sym kept_prefix);
       known = still.kept.known h;
     } in
-    rw (← c.self.view_is) (failed D.honest D.moment D.left_since _ _ _ c.move_on.ensures.honest
-    (λ h. by D.moment D.left_since d d1 (StandsForEither (reopened s) (reopened (moved_on s given)))
+    rw (← c.self.view_is) (failed D _ _ _ c.move_on.ensures.honest
+    (λ h. by D d d1 (StandsForEither (reopened s) (reopened (moved_on s given)))
     (StandsBeforeOrAfter s (λ x. IsMovedOn true s x)) (c.move_on.ensures.any_moment h inside.slots s (move h))
     (λ image either. ⊎_elim (λ before. inl before)
     (λ later. inr (
@@ -507,8 +507,8 @@ returns-in-Ok-move_on-clause-step g c =
     new_files
     ∙ ap (λ (l : List ℕ). state_in (work_in (inside.next + 1) inside.job inside.waiting.items) inside.shared after.manifest (files ++ part ∷ []) l c.new.result.items) new_prefix
     ∙ ap (λ (l : List (List ℕ)). state_in (work_in (inside.next + 1) inside.job inside.waiting.items) inside.shared after.manifest (files ++ part ∷ []) prefix l) new_messages in
-    rw (← c.self.view_is) (acknowledged D.honest D.moment D.left_since _ _ _ _ c.move_on.ensures.honest
-    (λ h. by D.moment D.left_since d d1 (StandsForEither (reopened s) (reopened (moved_on s given)))
+    rw (← c.self.view_is) (acknowledged D _ _ _ _ c.move_on.ensures.honest
+    (λ h. by D d d1 (StandsForEither (reopened s) (reopened (moved_on s given)))
     (StandsBeforeOrAfter s (λ x. IsMovedOn true s x)) (c.move_on.ensures.any_moment h inside.slots s (move h))
     (λ image either. ⊎_elim (λ before. inl before)
     (λ later. inr (

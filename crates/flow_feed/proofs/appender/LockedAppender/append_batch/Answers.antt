@@ -9,7 +9,7 @@ returns-in_err-receipt g c =
     let D = g.D.Disk in
     let given = c.in_err-receipt.ensures in
     refused_as c.from_residual.result c.in_err-receipt.field-0.0
-    (λ r. IsGivenLocked D.honest D.moment D.left_since D.faults c.args.self.now c.append_batch.new.self
+    (λ r. IsGivenLocked D c.args.self.now c.append_batch.new.self
     (slices c.args.messages.now) r) c.from_residual.ensures.1 (record {
       steps = given.calls.0;
       appends = given.calls.1;

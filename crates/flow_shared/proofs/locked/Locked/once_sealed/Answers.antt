@@ -8,7 +8,7 @@ use Rattle.flow_shared.proofs.locked.Locked.once_sealed.Goals as goal
 pub returns-in-Ok-clause-calls : goal.returns-in-Ok-clause-calls
 returns-in-Ok-clause-calls g c =
     let D = g.D.Disk in
-    sealed_then D.honest D.moment D.left_since c.args.self.now.core c.seal.new.self.core c.once.new.self.core
+    sealed_then D c.args.self.now.core c.seal.new.self.core c.once.new.self.core
     (slices c.args.messages.now) c.in-Ok.field-0 (by (λ r. r.position) c.once.result) (all_of c.args.self.now)
     (all_of c.seal.new.self) (all_of c.once.new.self) c.in-Ok.ensures.call c.in-Ok.ensures.steps c.once.ensures.calls
     c.once.ensures.steps
@@ -16,13 +16,13 @@ returns-in-Ok-clause-calls g c =
 pub returns-in-Err-clause-calls : goal.returns-in-Err-clause-calls
 returns-in-Err-clause-calls g c =
     let D = g.D.Disk in
-    seal_refused D.honest D.moment D.left_since c.args.self.now.core c.seal.new.self.core (slices c.args.messages.now)
+    seal_refused D c.args.self.now.core c.seal.new.self.core (slices c.args.messages.now)
     c.in-Err.error (all_of c.args.self.now) (all_of c.seal.new.self) c.in-Err.ensures.call c.in-Err.ensures.steps
 
 pub returns-in-Ok-clause-room : goal.returns-in-Ok-clause-room
 returns-in-Ok-clause-room g c =
     let D = g.D.Disk in
-    fits_after D.honest D.moment D.left_since (λ r. r.position) c.args.self.now.core c.seal.new.self.core
+    fits_after D (λ r. r.position) c.args.self.now.core c.seal.new.self.core
     c.once.new.self.core (slices c.args.messages.now) c.in-Ok.field-0 c.once.result
     (added_by (slices c.args.messages.now) (by (λ r. r.position) c.once.result)) c.in-Ok.ensures.call
     c.once.ensures.calls c.requires.fit
@@ -30,5 +30,5 @@ returns-in-Ok-clause-room g c =
 pub returns-in-Err-clause-room : goal.returns-in-Err-clause-room
 returns-in-Err-clause-room g c =
     let D = g.D.Disk in
-    seal_has_room D.honest D.moment D.left_since c.args.self.now.core c.seal.new.self.core c.in-Err.error
+    seal_has_room D c.args.self.now.core c.seal.new.self.core c.in-Err.error
     c.in-Err.ensures.call
