@@ -25,15 +25,15 @@ use std::os::unix::fs::FileExt;
 
 /// What an archive is found to be.
 #[derive(Drop)]
-pub(crate) struct Standing {
+pub struct Standing {
     /// How many messages were taken in.
-    position: u64,
+    pub position: u64,
     /// How many of them are in sums alone.
-    cut: u64,
+    pub cut: u64,
     /// How many files of sums there are, over wide intervals or not.
-    rolled: u64,
+    pub rolled: u64,
     /// How many sealed segments there are.
-    sealed: u64,
+    pub sealed: u64,
 }
 
 impl Standing {
@@ -64,8 +64,8 @@ impl Standing {
         Ok(())
     }
 
-    /// The line alone.
-    pub(crate) fn line(&self, alloc: Global) -> Result<Vec<u8>, AllocError>
+    /// The line alone: `ok POSITION CUT ROLLED SEALED`, with its line feed.
+    pub fn line(&self, alloc: Global) -> Result<Vec<u8>, AllocError>
         ensures { IfOk result (λ text. text.items ≡ standing_line self.now) }
     {
         let mut text = Vec::new(alloc);

@@ -25,7 +25,7 @@ mod warning;
 
 pub use archive_files::{check_files, check_files_in};
 pub use archive_refusal::ArchiveRefusal;
-pub use checking::{check, check_in};
+pub use checking::{Standing, check, check_in};
 pub use creating::{create, create_in};
 pub use feed_line::fed_line;
 pub use feeding::{feed_in, feed_stream, unopened};

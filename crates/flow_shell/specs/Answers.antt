@@ -1,6 +1,5 @@
 -- What requests are answered by the files that a reader is shown.
-use Rattle.std.specs.Prelude.{◌≡◌, ⊤, ℕ, min, List, [], ◌∷◌, ◌++◌, Option, Some, None, codes}
-use Rattle.std.specs.Fmt.{decimal}
+use Rattle.std.specs.Prelude.{◌≡◌, ⊤, ℕ, ◌+◌, min, List, [], ◌∷◌, ◌++◌, length, Option, Some, None, codes}
 use Rattle.std.specs.Io.KnownBytes.{Keeps}
 use Rattle.hex.specs.Hex.{encode_lower}
 use Rattle.flow_measure.specs.History.{History}
@@ -11,7 +10,9 @@ use Rattle.flow_snapshot.specs.Shelf.{Shelf, cut_of, position_of}
 use Rattle.flow_shared.specs.Meaning.{history_behind}
 use Rattle.flow_shared.specs.Told.{after}
 use Rattle.flow_commands.specs.Asking.{IsBeforeWriting as IsArchiveBeforeWriting, WritesOrNot}
+use Rattle.flow_commands.specs.Check.{standing_line}
 use Rattle.flow_commands.specs.declared.archive_refusal.ArchiveRefusal.TheVariants.{Write}
+use Rattle.flow_commands.specs.declared.checking.Standing.{Standing}
 use Rattle.flow_report.specs.ArchiveLines.{flows_text, rows_text}
 use Rattle.flow_report.specs.declared.format.Format.TheVariants.{Lines}
 use Rattle.flow_shell.specs.declared.asked.Query.{Query}
@@ -31,12 +32,18 @@ digits_text (Some octets) = encode_lower octets
 abbrev pub message_line : Option (List ℕ) → List ℕ
 message_line message = digits_text message ++ 10 ∷ []
 
--- ok POSITION CUT: how many messages were taken in, and how many of them are in sums alone; counts stop at 2^64 - 1
-unfoldable pub check_line : ℕ → ℕ → List ℕ
-check_line position cut = codes "ok" ++ 32 ∷ decimal position ++ 32 ∷ decimal cut ++ 10 ∷ []
+-- What `check` writes of these files: how many messages were taken in, how many of them are in sums alone, how many
+-- files of sums and sealed segments there are. Counts stop at 2^64 - 1.
+abbrev pub standing_in : Shelf → Standing
+standing_in s = record {
+  position = min (position_of s) 18446744073709551615;
+  cut = min (cut_of s) 18446744073709551615;
+  rolled = min (length s.merged + length s.rolled) 18446744073709551615;
+  sealed = length s.sealed;
+}
 
 abbrev pub checked_line : Shelf → List ℕ
-checked_line s = check_line (min (position_of s) 18446744073709551615) (min (cut_of s) 18446744073709551615)
+checked_line s = standing_line (standing_in s)
 
 -- a prefix of such lines, where writing failed; else nothing
 abbrev pub WritesOrRefuses : (List ℕ → Type 0) → ShellRefusal → Option (List ℕ) → Option (List ℕ) → Type 0
@@ -48,7 +55,7 @@ abbrev pub AreDigits : List ℕ → Type 0
 AreDigits text = (message : Option (List ℕ)) × (text ≡ message_line message)
 
 abbrev pub IsCheckLine : List ℕ → Type 0
-IsCheckLine text = (position : ℕ) × (cut : ℕ) × (text ≡ check_line position cut)
+IsCheckLine text = (t : Standing) × (text ≡ standing_line t)
 
 -- a refusal before anything is written
 abbrev pub IsBeforeWriting : ShellRefusal → Type 0

@@ -10,15 +10,16 @@ ghost use Rattle.flow_shared.specs.Meaning.{HasView};
 ghost use Rattle.flow_shared.specs.Told.{after};
 ghost use Rattle.flow_snapshot.specs.Told.{octets_in};
 ghost use Rattle.flow_commands.specs.Asking.{AreFlows, AreRows, Writes};
-ghost use Rattle.flow_shell.specs.Answers.{checked_line, check_line, message_line, view_after, AreDigits, IsCheckLine};
+ghost use Rattle.flow_shell.specs.Answers.{checked_line, message_line, standing_in, view_after, AreDigits, IsCheckLine};
 ghost use Rattle.flow_shell.specs.Answers.{IsBeforeWriting, WritesOrRefuses};
 
 use crate::refusal::ShellRefusal;
-use flow_commands::{StartSpan, Workers, ask_rows};
+use flow_commands::{Standing, StartSpan, Workers, ask_rows};
 use flow_disk::{Faults, SealedFile};
 use flow_measure::{Flow, Row};
-use flow_report::{Format, Patience, push_count, write_flows, write_patiently, write_rows};
+use flow_report::{Format, Patience, write_flows, write_patiently, write_rows};
 use flow_shared::{ArchiveReader, Naming};
+use flow_snapshot::Snapshot;
 use std::alloc::{AllocError, Global};
 use std::io::Write;
 use std::thread::Threads;
@@ -150,20 +151,19 @@ pub fn answer_message<S: SealedFile, J: Naming, W: Write>(
     Ok(())
 }
 
-/// The line that says how many messages there are.
-#[tactic(auto, unfolding(crate::specs::Answers::check_line))]
-fn line_of_counts(alloc: Global, position: u64, cut: u64) -> Result<Vec<u8>, AllocError>
-    ensures { IfOk result (λ text. text.items ≡ check_line position cut) }
+/// What the files of a snapshot are.
+fn standing_in<S: SealedFile>(snapshot: &Snapshot<S>) -> Standing
+    ensures { result ≡ standing_in snapshot.now.shelf }
 {
-    let mut text = Vec::new(alloc);
-    text.extend_from_slice("ok".as_bytes())?;
-    push_count(&mut text, position)?;
-    push_count(&mut text, cut)?;
-    text.push(b'\n')?;
-    Ok(text)
+    Standing {
+        position: snapshot.position(),
+        cut: snapshot.cut(),
+        rolled: snapshot.summed_files(),
+        sealed: snapshot.sealed_files(),
+    }
 }
 
-/// The line that says how many messages the reader is shown.
+/// The line that says what the reader is shown.
 fn find_counts<S: SealedFile, J: Naming>(
     alloc: Global,
     reader: &mut ArchiveReader<S, J>,
@@ -173,12 +173,12 @@ fn find_counts<S: SealedFile, J: Naming>(
     ensures unwritten { IfErr result (λ e. IsBeforeWriting e) }
 {
     let snapshot = reader.snapshot()?;
-    let line = line_of_counts(alloc, snapshot.position(), snapshot.cut())?;
+    let line = standing_in(&snapshot).line(alloc)?;
     Ok(line)
 }
 
-/// Writes `ok POSITION CUT`: how many messages were taken in, and how many of them are in sums alone, after the steps that
-/// the reader is shown.
+/// Writes `ok POSITION CUT ROLLED SEALED`: how many messages were taken in, how many of them are in sums alone, how many
+/// files of sums and sealed segments there are, after the steps that the reader is shown.
 pub fn answer_check<S: SealedFile, J: Naming, W: Write>(
     alloc: Global,
     reader: &mut ArchiveReader<S, J>,

@@ -1,6 +1,6 @@
 //! A snapshot, and what is asked of it.
 
-ghost use Rattle.std.specs.Prelude.{◌≡◌, ◌<◌, ℕ, length, min, IfOk, IsTrue, List, OnOk};
+ghost use Rattle.std.specs.Prelude.{◌≡◌, ◌+◌, ◌<◌, ℕ, length, min, IfOk, IsTrue, List, OnOk};
 ghost use Rattle.std.specs.FinMap.{FinMap};
 ghost use Rattle.flow_codec.specs.Templates.{AllTemplates};
 ghost use Rattle.flow_disk.specs.Cause.{HasCause};
@@ -94,6 +94,21 @@ impl<S: SealedFile> Snapshot<S> {
         let sealed = sealed_count(self.files.sealed.as_slice());
         let active = self.files.active.len() as u64;
         self.cut().saturating_add(sealed).saturating_add(active)
+    }
+
+    /// How many files of sums there are, over wide intervals or not.
+    pub fn summed_files(&self) -> u64
+        ensures { result ≡ min (length self.now.shelf.merged + length self.now.shelf.rolled) 18446744073709551615 }
+    {
+        let wide = self.files.merged.len() as u64;
+        wide.saturating_add(self.files.rolled.len() as u64)
+    }
+
+    /// How many sealed segments there are.
+    pub fn sealed_files(&self) -> u64
+        ensures { result ≡ length self.now.shelf.sealed }
+    {
+        self.files.sealed.len() as u64
     }
 
     /// The templates in force in front of the first kept message.

@@ -145,7 +145,7 @@ const SHELL_HELP: &str =
      \x20 totals FROM TO  lines as of totals\n\
      \x20 flows FROM TO   lines as of flows\n\
      \x20 message N       the octets of the Nth message in hexadecimal digits, or none\n\
-     \x20 check           ok POSITION CUT, as of check\n\
+     \x20 check           ok POSITION CUT ROLLED SEALED, as of check\n\
      \x20 keep N          the newest N sealed segments aren't rolled from now on\n\
      \x20 wait            answered when all Files have ended\n\
      \x20 quit            answered last: Files end with what was read of them\n\
