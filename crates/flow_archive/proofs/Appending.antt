@@ -206,7 +206,7 @@ is_history messages here rows k =
       multiple = mod_self rows.width;
     }
 
--- a history with an accepted message behind it is one
+-- a history with an accepted message after it is one
 pub goes_on : (position : ℕ) (octets : List ℕ) (old new : History) → IsAppended position octets old new → IsHistory old
     → IsHistory new
 goes_on position octets old new (a, e, is, same, at) h = subst IsHistory (sym same) (record {

@@ -1,4 +1,4 @@
--- What segments hand on, as messages are added to them and new ones begin.
+-- What segments pass on, as messages are added to them and new ones begin.
 use Rattle.std.proofs.Common.{◌≡◌, ℕ, ◌+◌, ◌*◌, ◌<◌, ◌≤◌, ◌^◌, List, [], ◌∷◌, ◌++◌, length}
 use Rattle.std.proofs.Common.{refl, sym, ◌∙◌, ap, subst, arith, length-append, append_assoc}
 use Rattle.std.specs.Prelude.{Option, Some, None, unwrap_or}
@@ -25,7 +25,7 @@ use Rattle.flow_segment.proofs.Carrying.{is_read_back}
 use Rattle.flow_recover.specs.State.{Part, State, appended, end_of, moved_on}
 use Rattle.flow_recover.specs.Chain.{ArePartsBehind, HandsOn, IsPartBehind, IsSegment}
 
--- ---- messages behind others
+-- ---- messages after others
 
 pub accepted_join : (before : AllTemplates) (xs ys : List Accepted) → AreAcceptedFrom before xs
     → AreAcceptedFrom (templates_from before xs) ys → AreAcceptedFrom before (xs ++ ys)
@@ -71,7 +71,7 @@ cut_each : (before : AllTemplates) (xs : List Accepted) → AreAcceptedFrom befo
 cut_each before [] h = tt
 cut_each before (x ∷ xs) h = (message_cut x.octets before x.message x.after h.0.0, cut_each x.after xs h.1)
 
--- the one that a segment calls for
+-- a segment without messages, with the prefix of a carry, passes that carry on
 pub segment_called : (c : Carry) → IsCarry c → IsSegment (record { front = prefix_of c; messages = [] }) c
 segment_called c h = record {
   prefix = restated c;

@@ -93,7 +93,7 @@ newest_wide files f rs r newest is =
     (ap (λ (k : Kind). flat_map of (take newest.place files) ++ wide_in k f) (sym newest.kind_is)
     ∙ sym (last_of of kinds.Wide (λ x. no_wide x.entry.kind x) files f newest) ∙ is)).1
 
--- ---- the messages in front of the active segment's
+-- ---- the messages before the active segment's
 
 abbrev pub before_active : Shelf → ℕ
 before_active s = cut_of s + length (messages_in s.sealed)

@@ -56,7 +56,7 @@ first_valid generation width wide limit small ranges = record {
   all = omega arith;
 }
 
--- what no messages hand on
+-- what no messages pass on
 pub no_segment : IsSegment (record { front = []; messages = [] }) (no_carry 0)
 no_segment = record {
   prefix = [];

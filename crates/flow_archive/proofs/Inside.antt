@@ -32,7 +32,7 @@ pub the_staged : (honest : Bool) (s : State) (r : Rolling) (f : Made) → r.stag
     → IsStaged honest s r f
 the_staged honest s r f is rolling = subst (λ (x : Option Made). IfSome x (IsStaged honest s r)) is rolling.staged
 
--- its file stands on the disk
+-- its file is on the disk
 pub made_there : {D : Type 0} (honest : D → Bool) (marks : D → ℕ → Marks) (held : D → ℕ → Held) (d : D)
     (job : Option Rolling) (r : Rolling) (f : Made) → job ≡ Some r → r.staged ≡ Some f
     → IfSome job (λ x. IfSome x.staged (IsOnDisk honest marks held d)) → IsOnDisk honest marks held d f
@@ -49,7 +49,7 @@ first_place m r list kind from is all same =
     is ∙ ap (count_before (source_of kind)) all ∙ ap (λ (k : JobKind). count_before (source_of k) m.entries) same in
     omega (arith, at)
 
--- where its next source stands
+-- the place of its next source
 pub next_place : (m : Manifest) (r : Rolling) (list : List Entry) (kind : JobKind) (from read : ℕ)
     → from ≡ count_before (source_of kind) list → list ≡ m.entries → kind ≡ r.kind → read ≡ r.read
     → from + read ≡ count_before (source_of r.kind) m.entries + r.read

@@ -1,4 +1,4 @@
--- An archive behind an install: a file of sums in place of its sources.
+-- An archive after an install: a file of sums in place of its sources.
 use Rattle.std.proofs.Common.{◌≡◌, ◌≢◌, inr, inl, ⊎_elim, ℕ, zero, suc, ◌+◌, ◌<◌, ◌≤◌, Bool, true, false, IsTrue, List, []}
 use Rattle.std.proofs.Common.{◌∷◌, ◌++◌, length, map, take, drop, refl, sym, ◌∙◌, ap, subst, arith, length-append}
 use Rattle.std.proofs.Common.{Err, Option, None, Some}

@@ -1,4 +1,4 @@
--- Elements that leave the front of a list, and where entries stand.
+-- First elements that leave a list, and the places of entries.
 use Rattle.std.proofs.Common.{◌≡◌, ℕ, ◌+◌, ◌<◌, List, [], ◌∷◌, ◌++◌, length, take, drop, get_or, refl, subst, sym, ◌∙◌, ap, arith}
 use Rattle.std.specs.Prelude.{◌==◌, cond, nat_lt, Bool}
 use Rattle.std.proofs.lemmas.Bool.Decides.{nat_tests}
@@ -32,7 +32,7 @@ module _ {X : Type 0} (xs : List X) (i : ℕ) (x : X) (rest : List X) (at : drop
 abbrev counted : Bool → ℕ
 counted test = cond test 1 0
 
--- in front of the sealed ones stand the wide and the rolled ones
+-- before the sealed ones are the wide and the rolled ones
 pub before_sealed : (es : List Entry) → count_of Wide es + count_of Rolled es ≡ count_before Sealed es
 before_sealed [] = refl
 before_sealed (e ∷ es) =
@@ -52,7 +52,7 @@ seam : {X : Type 0} (xs ys : List X) (x d : X) → get_or (xs ++ x ∷ ys) (leng
 seam [] ys x d = refl
 seam (y ∷ xs) ys x d = seam xs ys x d
 
--- what stands behind so many
+-- what comes after so many
 pub stands_behind : {X : Type 0} (xs ys : List X) (x d : X) (n : ℕ) → length xs ≡ n
     → get_or (xs ++ x ∷ ys) n d ≡ x
 stands_behind xs ys x d n long = subst (λ (k : ℕ). get_or (xs ++ x ∷ ys) k d ≡ x) long (seam xs ys x d)

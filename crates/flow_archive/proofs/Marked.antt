@@ -1,4 +1,4 @@
--- Behind an answer stands what its mark names.
+-- After an answer the archive has what its mark names.
 use Rattle.std.proofs.Common.{◌≡◌, ◌≢◌, ℕ, ◌+◌, ◌-◌, ◌≤◌, Bool, List, [], ◌∷◌, ◌++◌, length, take, drop}
 use Rattle.std.proofs.Common.{refl, sym, ap, ◌∙◌, subst, arith, Some, Ok}
 use Rattle.std.specs.List.{AllByRecursion}

@@ -62,7 +62,7 @@ honest_at (x ∷ xs) (suc i) d lt all =
 -- ---- files that were found
 
 module _ {S : Type 0} (number size : S → ℕ) (is_honest : S → Bool) (octets : S → List ℕ) (honest : Bool) where
-  -- one of them, and those behind it
+  -- one of them, and those after it
   pub record IsNext (entries : List Entry) (n : ℕ) (none : Entry) (x : S) (rest : List S) : Type 0 where
     pub below : n < length entries
     pub named : IsFileOf number size is_honest honest (get_or entries n none) x

@@ -56,7 +56,7 @@ differ_before [] ys n differ = tt
 differ_before (x ∷ xs) ys n differ =
     ((λ same. all_at (λ o. o ≢ x) xs ys n differ.0 (sym same)), differ_before xs ys n differ.1)
 
--- ---- what an image stands for
+-- ---- what an image represents
 
 pub unnamed_known : (slots : Slots) (s : State) (n : ℕ) (a b : ℕ → List ℕ) → IsUnnamed s n → IsKnown slots s a
     → InFile n IsAnything a b → IsKnown slots s b

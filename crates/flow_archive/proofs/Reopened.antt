@@ -25,7 +25,7 @@ use Rattle.flow_archive.specs.UnderWay.{no_work}
 use Rattle.flow_archive.specs.Seen.{IsArchive, state_in}
 use Rattle.flow_archive.proofs.Parting.{one_sealed}
 
--- a file is taken for the part that it stands as
+-- a file is taken for the part that it holds
 one_part : (kind : Kind) (octets : List ℕ) (e : Entry) (p : Part) → StandsAs kind octets e p
     → part_at kind e octets ≡ p
 one_part Wide octets e p is = ap (λ (l : List ℕ). record { front = l; messages = [] }) is.front
@@ -99,7 +99,7 @@ all_held number size is_honest octets honest (e ∷ entries) (x ∷ files) are =
   all_held number size is_honest octets honest entries files are.1,
 )
 
--- the entries in front of the active one may be those of frozen files
+-- the entries before the active one may be those of frozen files
 may_be : (limit next : ℕ) (kind : Kind) (e : Entry) → HasShape limit kind e → rank kind < 3 → MayBeFrozen kind e
 may_be limit next Wide e shape below = shape.0
 may_be limit next Rolled e shape below = shape.0
@@ -172,6 +172,6 @@ module _ {D S : Type 0} (honest : D → Bool) (marks : D → ℕ → Marks) (hel
         };
       }
 
-  -- what was read stands for it
+  -- what was read represents it
   pub found_read : Found → IsTrue (honest disk) → StandsFor reads found_state
   found_read found h = subst (λ (x : State). StandsFor reads x) (sym (state_same found h)) (found.read h)

@@ -68,7 +68,7 @@ module _ {D S X : Type 0} (g : Ghosts D S X) where
       let same = closed_step old run.0 (Takes true old.state f) b run.2 closed in
       closed_run run.0 events answers new run.3 (ap (λ (s : Seen D). s.closed) same ∙ closed) ∙ same
 
-  -- from a moment at which all images stand for the state
+  -- from a moment at which each image represents the state
   pub record IsStanding (s : Seen D) : Type 0 where
     pub images : (image : ℕ → List ℕ) → g.left_since s.disk (g.moment s.disk) image → StandsFor image (reopened s.state)
 
@@ -81,7 +81,7 @@ module _ {D S X : Type 0} (g : Ghosts D S X) where
       (StandsForSome old.state (e ∷ events) (a ∷ answers)) run
       (λ image some. (suc some.0, omega (arith, some.1), some.2, (mid.state, leads, some.3), some.4))
 
-  -- after the step that this answer tells of, if the archive is still open
+  -- after the step with this answer, if the archive is still open
   open_step : (old mid : Seen D) (e : Event) (a : Result Answer ArchiveError)
       → IsStep g old mid (Takes true old.state e) a → IsTrue (g.honest old.disk)
       → old.closed ≡ false → (mid.closed ≡ true) ⊎ ((mid.closed ≡ false) × Leads old.state e a mid.state)
@@ -195,7 +195,7 @@ module _ {D S X : Type 0} (g : Ghosts D S X) where
   first old mid e (Err Closed) events answers step h still stands =
       nothing old mid e (Err Closed) events answers (step.refused (λ is. cc)) stands
 
-  -- each image of a moment since the first event began stands for the state after some of the events
+  -- each image of a moment since the first event began represents the state after some of the events
   pub all_moments : (old : Seen D) (events : List Event) (answers : List (Result Answer ArchiveError)) (new : Seen D)
       → IsRun g old events answers new → IsTrue (g.honest old.disk) → old.closed ≡ false
       → IsStanding old → LeavesOnly g old.disk new.disk (StandsForSome old.state events answers)

@@ -26,7 +26,7 @@ segment_taken : (e : Entry) (f : Frozen) → f.entry ≡ e
     → shelved.segment_of e (part_at Sealed e f.octets) ≡ segment_of f
 segment_taken e f named = ap (λ (x : Entry). segment_of (record f { entry = x })) (sym named)
 
--- a file in front of others
+-- a file put before others
 abbrev pub with_first : Kind → Frozen → Shelf → Shelf
 with_first kind f s = record s {
   merged = wide_in kind f ++ s.merged;

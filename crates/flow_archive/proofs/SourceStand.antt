@@ -1,4 +1,4 @@
--- Where the next source of a job stands, and the job once it has taken it.
+-- The place of a job's next source, and the job once it has taken it.
 use Rattle.std.proofs.Common.{◌≡◌, ℕ, zero, suc, ◌+◌, ◌-◌, ◌<◌, ◌≤◌, ◌^◌, Bool, true, false, IsTrue, List, [], ◌∷◌}
 use Rattle.std.proofs.Common.{◌++◌, inl, inr, length}
 use Rattle.std.proofs.Common.{map, take, drop, get_or, refl, sym, ap, subst, ◌∙◌, arith, Option, Some, None, Result, Err}
@@ -120,7 +120,7 @@ module _ (s : State) (valid : IsValidManifest s.manifest) (kind : JobKind) (coun
   abbrev place : ℕ
   place = count_before (source_of kind) m.entries
 
-  -- it stands in front of the active file
+  -- it is before the active file
   pub below : place + read < length (front_of m)
   below = omega (arith, behind_short m valid kind count few, front_long m valid, lt)
 

@@ -48,7 +48,7 @@ use Rattle.flow_archive.specs.declared.sources.SourceError.TheVariants.{Fault}
 use Rattle.flow_archive.specs.Sources.{of_disk, of_part, of_rows, of_scan, IsFileRefusal, IsFileSum, IsSegmentRefusal}
 use Rattle.flow_archive.specs.Sources.{IsSegmentSum, IsSummed}
 
--- ---- what stands in the file
+-- ---- what the file holds
 
 pub restated_there : (octets : List ℕ) (prefix : ℕ) (e : Entry) (p : Part) (carry : Carry) → prefix ≡ e.prefix
     → IsSealedAt octets e p → (g : IsSegment p carry)
@@ -98,7 +98,7 @@ pub err_is : (answer : Result Source SourceError) (e : SourceError) → IsErrAnd
 err_is (Ok source) e never = absurd never
 err_is (Err x) e is = ap Err is
 
--- a refusal of a call below, told as one of these
+-- a refusal of a call below as one of these
 pub passed_on : {E F T U : Type 0} (fault : E) (told : F) (e : E) (f : F) (start before now : ℕ)
     (answer : Result U F) → HasCause {T = T} fault before now (Err e) → before ≡ start → IsErrAnd answer (λ x. x ≡ f)
     → (f ≡ told → e ≡ fault) → (e ≡ fault → f ≡ told) → HasCause told start now answer
@@ -123,13 +123,13 @@ rows_fault rows.SumSpent is = absurd (cc)
 rows_fault rows.Fault is = refl
 rows_fault rows.OutOfMemory is = absurd (cc)
 
--- a refusal that is told of no octets
+-- a refusal of the disk, whatever the octets
 pub not_read : (sums : Table) (time : ℕ) (e : DiskError) (answer : Result Source SourceError)
     → answer ≡ Err (of_disk e) → IsSummed sums time answer
 not_read sums time disk.Fault answer is = subst (IsSummed sums time) (sym is) tt
 not_read sums time disk.OutOfMemory answer is = subst (IsSummed sums time) (sym is) tt
 
--- templates aren't told as damaged
+-- restated templates aren't reported as damaged
 pub not_restated : (all : AllTemplates) (sums : Table) (time : ℕ) (e : ScanError) (answer : Result Source SourceError)
     → AreTemplatesGiven all (Err e) → answer ≡ Err (of_scan e) → IsSummed sums time answer
 not_restated all sums time (scan.Damaged file at) answer never is = absurd never

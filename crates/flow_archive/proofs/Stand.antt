@@ -1,4 +1,4 @@
--- What changes of an image do to what it stands for.
+-- What changes of an image do to what it represents.
 use Rattle.std.proofs.Common.{◌≡◌, ◌≢◌, ◌⊎◌, inl, inr, ⊎_elim, ℕ, ◌<◌, ◌≤◌, true, List, [], ◌∷◌, ◌++◌, take}
 use Rattle.std.proofs.Common.{refl, sym, ◌∙◌, ap, subst, arith}
 use Rattle.std.specs.List.{AllByRecursion}
@@ -120,7 +120,7 @@ elsewhere slots s file Q a b far known step =
       files = files_below s a b are known.files (λ n from below. step.others n (λ is. omega (arith, is, far, below)));
     }
 
--- the files in front of the active one stay frozen
+-- the files before the active one stay frozen
 pub frozen_too : (m : Manifest) (old new : ℕ → Marks) → IsValidManifest m
     → ((n : ℕ) → 3 ≤ n → n < m.next → n ≢ (active_of m).file → new n ≡ old n) → AreFrozen old (front_of m)
     → AreFrozen new (front_of m)
@@ -232,7 +232,7 @@ part_cut Sealed count a b e p le keeps is = record {
 }
 part_cut Active count a b e p le keeps is = is
 
--- one file is cut behind what counts of it, wherever it is named
+-- one file is cut after what counts of it, wherever it is named
 pub cutting : (slots : Slots) (s : State) (file count : ℕ) (a b : ℕ → List ℕ) → 3 ≤ file
     → file ≢ (active_of s.manifest).file
     → AllByRecursion (λ e. (e.file ≢ file) ⊎ (e.length ≤ count)) (front_of s.manifest) → IsKnown slots s a

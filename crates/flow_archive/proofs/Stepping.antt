@@ -87,7 +87,7 @@ pub failed : {D T S X : Type 0} (g : Ghosts D S X)
 failed {D} {T} g old new After honest_too run state still was =
     failed_either {D = D} {T = T} g old new After honest_too run (inl state) still was
 
--- an answer, told as that of an event
+-- an answer as that of an event
 pub told : {D T U S X : Type 0} (g : Ghosts D S X)
     (old new : Seen D) (A B : State → Type 0) (x : T) (y : U) → ((s : State) → A s → B s)
     → IsStep {D = D} {T = T} g old new A (Ok x)

@@ -28,7 +28,7 @@ module _ (on_disk : ℕ → Held) (slots : Slots) (slot : ℕ) (body : List ℕ)
   abbrev pub Either : (ℕ → List ℕ) → Type 0
   Either image = StandsForEither (reopened s) (reopened after) image
 
-  -- the file stands ready
+  -- the file is ready
   pub record IsMade (image : ℕ → List ℕ) : Type 0 where
     pub known : IsKnown slots s image
     pub made : IsStagedAt (image file.file) file

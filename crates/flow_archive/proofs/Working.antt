@@ -164,7 +164,7 @@ module _ (m : Manifest) (valid : IsValidManifest m) (end count file prefix : ℕ
 
 module _ (s : State) (valid : IsValidManifest s.manifest) (prefix : List ℕ) (part : Part)
     (many : length s.parts ≡ length (front_of s.manifest)) where
-  -- the state behind it, whatever its new part is
+  -- the state after it, whatever its new part is
   abbrev pub then : State
   then = record (moved_on s prefix) { parts = s.parts ++ part ∷ [] }
 

@@ -97,7 +97,7 @@ module _ (s : State) (next : ℕ) (job : Option Job) (waiting : List ℕ) where
         };
   }
 
--- ---- one more file stands beside those that are named
+-- ---- one more file beside those that are named
 
 -- no file is named that has this number
 pub far_from : (s : State) → IsValidManifest s.manifest → (n : ℕ) → s.manifest.next ≤ n
@@ -247,7 +247,7 @@ own_written s r f waiting files marks closed shared none file waits own = record
 
 -- ---- what is answered
 
--- a job, as the state tells it
+-- a job, as the state has it
 abbrev pub told : Rolling → Job
 told r = record { kind = r.kind; sources = r.sources; read = r.read; staged = staged_in r.staged }
 

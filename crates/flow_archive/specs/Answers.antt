@@ -25,7 +25,7 @@ use Rattle.flow_archive.specs.JobAnswers.{AnswersStep, AnswersWrite, IsInstalled
 
 -- ---- messages that are not admitted
 
--- Why these octets aren't admitted behind a carry, with room for so many octets, and numbers for so many messages: the
+-- Why these octets aren't admitted after a carry, with room for so many octets, and numbers for so many messages: the
 -- first of the refusals 1 to 10, 40, 25 that holds, or 11.
 abbrev pub IsNotAdmitted : List (List ℕ) → Carry → ℕ → ℕ → ArchiveError → Type 0
 IsNotAdmitted octets carry room positions (Message fault) = IsFirstFault octets carry.templates fault
@@ -65,7 +65,7 @@ HasNumbers s = (s.next + 1 < 2 ^ 64) × (s.manifest.generation + 1 + job_generat
 
 -- ---- an append
 
--- the messages are accepted behind those of the active segment,
+-- the messages are accepted after those of the active segment,
 abbrev pub AreAccepted : State → List (List ℕ) → Type 0
 AreAccepted s octets = (old : Carry) × (new : Carry) × IsSegment s.active old × AreTaken octets old new
 
@@ -98,7 +98,7 @@ AnswersAppend closed s octets other after = ⊥
 
 -- ---- a seal
 
--- The active segment is sealed, and a new one has the prefix that it calls for. On a disk that isn't honest the sealed
+-- The active segment is sealed, and a new one has the prefix that it determines. On a disk that isn't honest the sealed
 -- file may hold anything.
 abbrev pub IsMovedOn : Bool → State → State → Type 0
 IsMovedOn honest s after =

@@ -13,7 +13,7 @@ use Rattle.flow_archive.specs.Seen.{Seen}
 
 -- ---- a disk that is taken
 
--- the disk behind a call that takes one: the archive's, or the one that is given back
+-- the disk after a call that takes one: the archive's, or the one that is given back
 abbrev pub disk_of : {D E : Type 0} → Result (Seen D) (Refused D E) → D
 disk_of (Ok archive) = archive.disk
 disk_of (Err refused) = refused.disk

@@ -25,8 +25,8 @@ use Rattle.flow_archive.specs.declared.refusal.ArchiveError.TheVariants.{OutOfMe
 use Rattle.flow_archive.specs.Owned.{Frozen, IsAlone, IsHeldAs}
 use Rattle.flow_archive.specs.UnderWay.{staged_file, Made, Rolling}
 
--- These numbers are those of an archive in which this file, of sums by the width of its job, stands ready to take the
--- place of so many sources, and the body is that of the manifest that says so.
+-- These numbers are those of an archive in which this file, of sums by the width of its job, is ready to take the place
+-- of so many sources, and the body is that of the manifest that says so.
 pub record IsInstall (files : ℕ → Held) (slots : Slots) (slot : ℕ) (body : List ℕ) (kind : JobKind) (count : ℕ)
     (file : StagedFile) (s : State) : Type 0 where
   pub slot_is : file_of (other slots.current_slot) ≡ slot
@@ -54,7 +54,7 @@ pub record MayInstall (m : Manifest) (next : ℕ) (r : Rolling) (f : Made) : Typ
   pub unnamed : AllByRecursion (λ e. e.file ≢ f.file) m.entries
   pub later : m.next ≤ next
 
--- the cut that a job has moved, by the manifest behind the install
+-- the cut that a job has moved, by the manifest after the install
 abbrev pub cut_in : JobKind → Manifest → Answer
 cut_in Roll m = Installed m.rolled
 cut_in Merge m = Merged m.second

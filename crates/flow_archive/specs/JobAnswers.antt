@@ -115,7 +115,7 @@ pub record MayWrite (s : State) (job : Job) : Type 0 where
   pub none : job.staged ≡ None
   pub numbers : HasStagedNumbers s
 
--- The file stands beside the others, and no manifest names it yet. On a disk that isn't honest it may hold anything.
+-- The file is beside the others, and no manifest names it yet. On a disk that isn't honest it may hold anything.
 abbrev pub with_staged : State → Job → List ℕ → State
 with_staged s job octets =
     record s {
@@ -154,7 +154,7 @@ abbrev pub cut_moved : JobKind → State → Answer
 cut_moved Roll after = Installed after.manifest.rolled
 cut_moved Merge after = Merged after.manifest.second
 
--- The file stands in place of its sources, and is of their sums. On a disk that isn't honest it may hold anything.
+-- The file takes the place of its sources, and holds their sums. On a disk that isn't honest it may hold anything.
 abbrev pub IsInstalled : Bool → State → State → Type 0
 IsInstalled honest s after = HasJob s (λ job. (staged : StagedFile) × (octets : List ℕ) × (job.staged ≡ Some staged)
     × HasSources s job.kind job.sources
@@ -163,7 +163,7 @@ IsInstalled honest s after = HasJob s (λ job. (staged : StagedFile) × (octets 
       parts = replaced_parts job.kind job.sources octets s.manifest.entries s.parts;
     }))
 
--- The file stands in place of its sources, which wait for their removal; or the first of the refusals 49, 44, 46 that
+-- The file takes the place of its sources, which wait for their removal; or the first of the refusals 49, 44, 46 that
 -- holds: a number for its manifest is kept. In place of an Ok it may be 11, or 30.
 abbrev pub AnswersInstall : Bool → Bool → State → Result Answer ArchiveError → State → Type 0
 AnswersInstall honest closed s (Ok answer) after =

@@ -34,12 +34,12 @@ made_change Merge file count = joined file count
 
 -- ---- where it may be asked for
 
--- The newest file of a kind: no entry behind its own is of that kind.
+-- The newest file of a kind: no entry after its own is of that kind.
 abbrev pub IsNewest : Kind → ℕ → List Entry → Type 0
 IsNewest kind file entries = (older : List Entry) × (e : Entry) × (newer : List Entry)
     × (entries ≡ older ++ e ∷ newer) × (e.kind ≡ kind) × (e.file ≡ file) × AllByRecursion (λ x. x.kind ≢ kind) newer
 
--- Its messages stand in the active segment, or its file is the newest of its kind.
+-- Its messages are in the active segment, or its file is the newest of its kind.
 abbrev pub HasMark : State → Mark → Type 0
 HasMark s (Added first last) = (messages_of s.manifest.entries < first) × (first ≤ last)
     × (last ≤ messages_of s.manifest.entries + length s.active.messages)
@@ -49,7 +49,7 @@ HasMark s (Merged file count) = IsNewest kind.Wide file s.manifest.entries
 
 -- ---- what it says
 
--- of these messages, which stand behind so many others, those with the numbers from the first to the last one
+-- of these messages, which come after so many others, those with the numbers from the first to the last one
 abbrev pub numbered : ℕ → List (List ℕ) → ℕ → ℕ → List (List ℕ)
 numbered before messages first last = take (last + 1 - first) (drop (first - 1 - before) messages)
 
@@ -68,7 +68,7 @@ abbrev pub HasKind : Kind → List Frozen → Type 0
 HasKind kind files =
     (place : ℕ) × (place < length files) × ((none : Frozen) → (get_or files place none).entry.kind ≡ kind)
 
--- the newest of these files of a kind, and where it stands
+-- the newest of these files of a kind, and its place
 pub record IsNewestOf (kind : Kind) (files : List Frozen) (file : Frozen) : Type 0 where
   pub place : ℕ
   pub below : place < length files

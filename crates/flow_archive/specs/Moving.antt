@@ -9,7 +9,7 @@ use Rattle.flow_recover.specs.State.{State, end_of, moved_on}
 use Rattle.flow_recover.specs.Chain.{IsChained}
 use Rattle.flow_recover.specs.Standing.{IsKnown}
 
--- These numbers are those of an archive that seals its active segment, which calls for this prefix, and the body is
+-- These numbers are those of an archive that seals its active segment, which determines this prefix, and the body is
 -- that of its next manifest.
 pub record IsMove (files : ℕ → Held) (slots : Slots) (active end next slot : ℕ) (is_open : Bool) (prefix body : List ℕ)
     (s : State) : Type 0 where

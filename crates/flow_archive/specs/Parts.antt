@@ -7,8 +7,8 @@ use Rattle.flow_segment.specs.Segment.{part_octets}
 use Rattle.flow_snapshot.specs.Files.{cut_into}
 use Rattle.flow_recover.specs.State.{Part}
 
--- A segment is its prefix and its messages, cut off as a directory cuts them; in a rolled or wide file all counts as its
--- front. On a disk that isn't honest a file may hold anything, and this is what it is taken for.
+-- A segment is its prefix and its messages, cut off as a directory cuts them; a rolled or wide file is all `front`. On
+-- a disk that isn't honest a file may hold anything, and this is what it is taken for.
 abbrev pub part_at : Kind → Entry → List ℕ → Part
 part_at Wide entry octets = record { front = take entry.length octets; messages = [] }
 part_at Rolled entry octets = record { front = take entry.length octets; messages = [] }

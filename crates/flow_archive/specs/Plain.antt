@@ -1,4 +1,4 @@
--- What a plain archive stands for, and what its calls answer.
+-- The history of a plain archive, and what its calls answer.
 use Rattle.std.specs.Prelude.{◌≡◌, ℕ, ◌*◌, ◌-◌, ◌<◌, ◌≤◌, ◌^◌, List, [], ◌∷◌, ◌++◌, length}
 use Rattle.std.specs.List.{AllByRecursion}
 use Rattle.flow_codec.specs.declared.error.MessageError.{MessageError}
@@ -13,7 +13,7 @@ use Rattle.flow_measure.specs.Sums.{Table, table_of}
 use Rattle.flow_archive.specs.declared.error.PlainError.{PlainError}
 use Rattle.flow_archive.specs.declared.error.PlainError.TheVariants.{Message, NumbersSpent, OutOfMemory}
 
--- ---- what it stands for
+-- ---- its history
 
 -- an archive without messages: nothing is cut off, and all sums have one width
 abbrev pub no_messages : ℕ → History
@@ -25,7 +25,7 @@ with_message a h = record h { all = h.all ++ a ∷ [] }
 abbrev pub history_of : ℕ → List (List ℕ) → History
 history_of width messages = record (no_messages width) { all = read_from [] messages }
 
--- Each of these messages is accepted. Beside them stand the templates after them and the sums of all their flows.
+-- Each of these messages is accepted; beside them are the templates after them and the sums of all their flows.
 pub record IsKept (messages : List (List ℕ)) (here : AllTemplates) (rows : Table) : Type 0 where
   pub read : length (read_from [] messages) ≡ length messages
   pub accepted : AreAcceptedFrom [] (read_from [] messages)
@@ -38,13 +38,13 @@ pub record IsKept (messages : List (List ℕ)) (here : AllTemplates) (rows : Tab
 
 -- ---- what an append answers
 
--- the octets are an accepted message behind those of the history, which now ends with it and has so many
+-- the octets are an accepted message after those of the history, which now ends with it and has so many
 abbrev pub IsAppended : ℕ → List ℕ → History → History → Type 0
 IsAppended position octets old new =
     (a : Accepted) × (a.octets ≡ octets) × IsAccepted octets (templates_of old.all) a.message a.after
     × (new ≡ with_message a old) × (position ≡ length new.all)
 
--- what a refusal says of octets behind a history
+-- what a refusal says of octets after a history
 abbrev pub IsRefusal : PlainError → List ℕ → History → Type 0
 IsRefusal (Message fault) octets h = IsFault octets (templates_of h.all) fault
 IsRefusal NumbersSpent octets h =

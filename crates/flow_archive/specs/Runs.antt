@@ -72,7 +72,7 @@ IsRun {D} g old (event ∷ events) (answer ∷ answers) new =
     × IsStep g old mid (Takes true old.state event) answer
     × IsRun g mid events answers new
 
--- the state after some front of the events
+-- the image represents the state after some prefix of the events
 abbrev pub StandsForSome : State → List Event → List (Result Answer ArchiveError) → (ℕ → List ℕ) → Type 0
 StandsForSome s events answers image =
     (m : ℕ) × (m ≤ length events) × (after : State) × IsAfter s (take m events) (take m answers) after
@@ -97,7 +97,7 @@ abbrev pub HasRefusal : {T : Type 0} → ArchiveError → List (Result T Archive
 HasRefusal error [] = ⊥
 HasRefusal error (answer ∷ answers) = (answer ≡ Err error) ⊎ HasRefusal error answers
 
--- Where one of these answers is this fault the count of failures has risen, and where none is it is as it was.
+-- The count of failures has risen where one of these answers is this fault; else it is as it was.
 pub record AreCaused {T : Type 0} (fault : ArchiveError) (before now : ℕ) (answers : List (Result T ArchiveError))
     : Type 0 where
   pub later : before ≤ now

@@ -29,7 +29,7 @@ pub record Seen (D : Type 0) : Type 0 where
 
 -- ---- what an archive keeps
 
--- what it stands for
+-- the state that it represents
 abbrev pub state_in : Work → Bool → Manifest → List Frozen → List ℕ → List (List ℕ) → State
 state_in work shared m files prefix messages =
     record (at_rest m (parts_at octets_in (front_of m) files) (record { front = prefix; messages = messages })) {
@@ -88,7 +88,7 @@ pub record IsStep {D T S X : Type 0} (g : Ghosts D S X) (old new : Seen D) (Afte
   -- After a fault of the device the archive is closed, with the state before or the one after.
   pub fault : IsErrOf result Fault
       → ((new.state ≡ old.state) ⊎ After new.state) × (new.closed ≡ true) × (old.closed ≡ false)
-  -- While it is open, each image stands for its state.
+  -- While it is open, each image represents its state.
   pub stands : IsTrue (g.honest new.disk) → new.closed ≡ false → (image : ℕ → List ℕ)
       → g.left_since new.disk (g.moment new.disk) image → StandsFor image (reopened new.state)
   -- Every other refusal leaves all as it was.

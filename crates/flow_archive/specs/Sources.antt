@@ -43,7 +43,7 @@ IsJobTime Merge parts time = time ≡ fold max 0 (map (λ p. export_time p.front
 
 -- ---- a source that is read
 
--- the refusals of the readers below, told of a source
+-- the refusals of the readers below as those of a source
 abbrev pub of_disk : DiskError → SourceError
 of_disk disk.Fault = Fault
 of_disk disk.OutOfMemory = OutOfMemory

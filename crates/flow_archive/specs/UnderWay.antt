@@ -13,7 +13,7 @@ use Rattle.flow_archive.specs.declared.rolling.JobStatus.{JobStatus}
 use Rattle.flow_archive.specs.Owned.{Frozen, IsAlone}
 use Rattle.flow_archive.specs.Sources.{IsJobTime}
 
--- so many of these octets, with zeros behind them where they are fewer
+-- so many of these octets, followed by zeros where they are fewer
 abbrev pub sized : ℕ → List ℕ → List ℕ
 sized count octets = take count (octets ++ replicate count 0)
 
@@ -91,7 +91,7 @@ job_numbers (Some job) = number_in job.staged
 abbrev pub unnamed_in : Work → List ℕ
 unnamed_in work = job_numbers (job_in work.job) ++ numbers_of work.waiting
 
--- how a job stands, as it is told
+-- the status of a job, as it is answered
 abbrev pub staged_number : Option StagedFile → Option ℕ
 staged_number None = None
 staged_number (Some staged) = Some staged.file
@@ -133,7 +133,7 @@ pub record IsRolling (honest : Bool) (s : State) (r : Rolling) : Type 0 where
   pub time : IsTrue honest → IsJobTime r.kind (take r.read (source_parts r.kind r.sources s)) r.time
   pub staged : IfSome r.staged (IsStaged honest s r)
 
--- The staged file stands on the disk, and is frozen.
+-- The staged file is on the disk, and is frozen.
 pub record IsOnDisk {D : Type 0} (honest : D → Bool) (marks : D → ℕ → Marks) (held : D → ℕ → Held) (disk : D)
     (f : Made) : Type 0 where
   pub frozen : (marks disk f.file).frozen ≡ true

@@ -82,7 +82,7 @@ impl<D: Disk> Archive<D> {
     /// Whether a fault of the device has closed it: it takes no more changes, and is to be given up and opened again.
     pub fn is_closed(&self) -> bool
         ensures closed { result ≡ self.now.closed }
-        // While it is open, all that a stop would leave stands for its state.
+        // While it is open, each image represents its state.
         ensures stands { IsTrue (D.honest self.now.disk) → self.now.closed ≡ false
             → AllImages (D.held self.now.disk) (λ image. StandsFor image (reopened self.now.state)) }
         // On every disk, open or not, its manifest is a valid one.
@@ -164,9 +164,9 @@ impl<D: Disk> Archive<D> {
         status(&self.job)
     }
 
-    /// Its files, shared: what there is now, for readers, which learn of later steps one by one. From now on the
-    /// archive is shared, also where memory is refused, which changes nothing else. No octets are copied, and nothing
-    /// is read. A closed archive has one too.
+    /// Its files as they are now, shared, for readers, which learn of later steps one by one. From now on the archive
+    /// is shared, also where memory is refused, which changes nothing else. No octets are copied, and nothing is read.
+    /// A closed archive has one too.
     pub fn directory(&mut self, alloc: Global) -> Result<Directory<D::Sealed>, AllocError>
         ensures disk { self.new.disk ≡ self.old.disk }
         ensures closed { self.new.closed ≡ self.old.closed }
@@ -208,7 +208,7 @@ impl<D: Disk> Archive<D> {
 
     /// Adds messages, from 1 to 64, all of them or none, and answers the number of the last one. At Ok they are on the
     /// disk. Refusals, the first that holds: 49 Closed; 1 to 10, the first fault of the first message that isn't
-    /// accepted behind those before it; 40 NoRoom; 25 NumbersSpent; and 11 OutOfMemory, which changes nothing either.
+    /// accepted after those before it; 40 NoRoom; 25 NumbersSpent; and 11 OutOfMemory, which changes nothing either.
     /// After 30 Fault the archive is closed.
     pub fn append_batch(&mut self, alloc: Global, messages: &[&[u8]]) -> Result<u64, ArchiveError>
         requires some { 1 ≤ length messages.now }
@@ -241,7 +241,7 @@ impl<D: Disk> Archive<D> {
         }
     }
 
-    /// Makes the active segment a sealed one, begins a new one with the prefix that it calls for, and answers the
+    /// Seals the active segment, begins a new one with the prefix that the sealed one determines, and answers the
     /// number of the sealed file. Refusals, the first that holds: 49 Closed; 42 NothingToSeal; 41 ManifestFull; 25
     /// NumbersSpent; and 11 OutOfMemory, which changes nothing either. After 30 Fault the archive is closed.
     pub fn seal(&mut self, alloc: Global) -> Result<u64, ArchiveError>

@@ -97,13 +97,13 @@ pub fn run<D: Disk>(
     ensures run { IfOk result (λ answers. IsRun D.Disk archive.old events.now answers.items archive.new) }
     ensures kept { IfErr result (λ _. archive.new ≡ archive.old) }
 
-    // Where no answer is 30 Fault no call of the device failed, and where one is one has; of reads likewise.
+    // Some answer is `Fault` exactly where a call of the device failed, and `SourceFault` exactly where a read did.
     ensures cause { IfOk result (λ answers. AreCaused ArchiveError.Fault (D.faults archive.old.disk)
         (D.faults archive.new.disk) answers.items) }
     ensures unread { MatchResult result (λ answers. AreCaused ArchiveError.SourceFault faults.old faults.new
         answers.items) (λ _. faults.new ≡ faults.old) }
 
-    // A stop at any moment leaves the archive after some front of the events.
+    // A stop at any moment leaves the archive after some prefix of the events.
     ensures any_moment { IsTrue (D.honest archive.old.disk) → archive.old.closed ≡ false
         → IfOk result (λ answers. LeavesOnly D.Disk archive.old.disk archive.new.disk
         (StandsForSome archive.old.state events.now answers.items)) }
@@ -112,7 +112,7 @@ pub fn run<D: Disk>(
     ensures since { IsTrue (D.honest archive.old.disk) → archive.old.closed ≡ false
         → IfOk result (λ answers. (i : ℕ) → IsSince D.Disk archive.old archive.new events.now answers.items i) }
 {
-    // Its contract tells what all images stand for at the start.
+    // Its contract says what each image represents at the start.
     let _closed = archive.is_closed();
     let mut answers = Vec::with_capacity(alloc, events.len())?;
     'events: for event in events {

@@ -6,14 +6,14 @@
 //! messages. No sum ever passes its type.
 //!
 //! An `Archive` is one over a disk. `create` makes one without messages, on a disk without files. `open` finds the
-//! state for which what the disk reads stands: after a stop one of the two that it may have left, and while it opens
-//! each image stands for one of them; it refuses for other reasons than the device and memory only where that is none.
-//! Each append, batch or seal is answered by the first refusal that holds, or taken. A stop at any moment, inside
-//! device calls too, leaves what stands for the archive before the event or after it: after Ok after it, after a
-//! refusal but 30 before it. After 30 the archive is closed: no call changes anything any more. `run` takes lists of
-//! events, of which a stop leaves some front. `directory` hands out the files that there are, shared: on an honest disk
-//! its shelf is that of the archive's state, so that a snapshot of it answers for each history that the archive has.
-//! `step` tells each later step: on an honest disk it is the change that was made.
+//! state that what the disk reads represents: after a stop one of the two that it may have left, and while it opens
+//! each image represents one of them; it refuses for other reasons than the device and memory only where what the disk
+//! reads represents none. Each append, batch or seal is answered by the first refusal that holds, or taken. A stop at
+//! any moment, inside device calls too, leaves what represents the archive before the event or after it: after Ok the
+//! one after it, after a refusal but 30 the one before it. After 30 the archive is closed: no call changes anything any
+//! more. `run` takes lists of events, of which a stop leaves some prefix. `directory` answers the archive's files,
+//! shared: on an honest disk its shelf is that of the archive's state, so that a snapshot of it answers for each
+//! history that the archive has. `step` answers each later step: on an honest disk it is the change that was made.
 //!
 //! A job (`roll_begin`, `merge_begin`) sums the oldest sealed segments, or rolled files: `roll_step` reads one of them,
 //! `roll_write` makes one file of their sums, `roll_install` puts it in their place, and `roll_drop` gives the job up.

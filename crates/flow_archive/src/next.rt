@@ -26,9 +26,9 @@ pub(crate) struct Next {
     pub(crate) body: Vec<u8>,
 }
 
-/// The prefix that a segment calls for that ends at `end` and has `count` messages, and the manifest after its seal;
-/// else the first of the refusals 42, 41, 25 that holds, or 11. The next segment has this file, and so many generations
-/// are kept for another manifest.
+/// The prefix of the segment after the active one, which ends at `end` and has `count` messages, and the manifest after
+/// its seal; else the first of the refusals 42, 41, 25 that holds, or 11. The next segment is in `file`, and so many
+/// generations are kept for another manifest.
 pub(crate) fn next_segment(
     alloc: Global,
     now: &Manifest,

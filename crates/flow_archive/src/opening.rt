@@ -27,14 +27,14 @@ use std::alloc::{AllocError, Global};
 impl<D: Disk> Archive<D> {
     /// Opens the archive on a disk, of which nothing is frozen.
     ///
-    /// Refusals, with the disk: 20 Damaged, 21 Format, 22 Entries, 23 Cut and 24 NoArchive where what is read stands
-    /// for no archive; 30 Fault and 11 OutOfMemory. Whatever is answered, a stop at any moment leaves what stands for
-    /// the archive that stood there. Files of a disk that is given back may be frozen.
+    /// Refusals, with the disk: 20 Damaged, 21 Format, 22 Entries, 23 Cut and 24 NoArchive where what is read
+    /// represents no archive; 30 Fault and 11 OutOfMemory. Whatever is answered, a stop at any moment leaves what
+    /// represents the archive that the disk held. Files of a disk that is given back may be frozen.
     pub fn open(alloc: Global, disk: D) -> Result<Archive<D>, Refused<D, RecoverError>>
         requires thawed { (n : ℕ) → (D.marks disk n).frozen ≡ false }
         ensures honest { D.honest (disk_of result) ≡ D.honest disk }
         ensures opened { IfOk result (λ a. (a.closed ≡ false) × (a.state ≡ reopened a.state)) }
-        // What was read stands for its state, and so does all that a stop may leave from now on.
+        // What was read represents its state, and so does each image from now on.
         ensures read { IsTrue (D.honest disk) → IfOk result (λ a. StandsFor (reads_of (D.held disk)) a.state) }
         ensures stands { IsTrue (D.honest disk)
             → IfOk result (λ a. AllImages (D.held a.disk) (λ image. StandsFor image a.state)) }
@@ -55,8 +55,8 @@ impl<D: Disk> Archive<D> {
             → (D.marks a.disk n).listed ≡ true) }
         ensures removed { IsTrue (D.honest disk) → IfOk result (λ a. (n : ℕ)
             → is_file_of a.state.manifest n ≡ false → (D.marks a.disk n).listed ≡ false) }
-        // The slots are only settled: whatever is answered, a stop may leave no more of them than before, and unless
-        // the device failed they read as before.
+        // The slots are only settled: whatever is answered, each image of a slot was one before, and unless the device
+        // failed they read as before.
         ensures slots { IsTrue (D.honest disk) → (slot : Slot)
             → IsWithin (D.held (disk_of result) (file_of slot)) (D.held disk (file_of slot)) }
         ensures kept { IsTrue (D.honest disk) → (IsErrOf (answer_of result) RecoverError.Fault → ⊥)
@@ -128,7 +128,7 @@ pub(crate) fn resumed<D: Disk>(
     ensures at_rest { IfOk result (λ a. a.state ≡ reopened a.state) }
     ensures counted { IfOk result
         (λ a. (a.state.manifest ≡ found.slots.current) × (end_of a.state ≡ found.end)) }
-    // Where what was read stood for the state that was found, it stands for this one.
+    // Where what was read represented the state that was found, it represents this one.
     ensures read { (reads : ℕ → List ℕ) → IsRecovered D.honest D.marks D.held D.Sealed.octets D.Sealed.number
         D.Sealed.size D.Sealed.honest reads disk found.slots found.last found.end found.total (part_of found.active)
         found.carry found.parts.items

@@ -244,7 +244,7 @@ impl<S: SealedFile> FrozenFile<S> {
         FrozenFile { held }
     }
 
-    /// Puts the file behind those of its kind, with one more owner. It is refused where the file isn't shared.
+    /// Appends the file to those of its kind, with one more owner. It is refused where the file isn't shared.
     fn list(&self, files: &mut Files<S>) -> Result<(), AllocError>
         ensures merged { OnOk result (map rollup_of (shared files.new.merged.items)
             ≡ map rollup_of (shared files.old.merged.items) ++ wide_in self.now.entry.kind self.now) }

@@ -51,7 +51,7 @@ impl PlainArchive {
         }
     }
 
-    /// Takes in a message that is accepted behind those before it, and answers its number, from 1 on.
+    /// Takes in a message that is accepted after those before it, and answers its number, from 1 on.
     /// After an `Err` the archive is as it was. A message's own fault is answered before `NumbersSpent`.
     pub fn append(&mut self, octets: &[u8]) -> Result<u64, PlainError>
         // The history has the message at its end, accepted under the templates of those before it; its number is the
@@ -61,7 +61,7 @@ impl PlainArchive {
         // memory runs out.
         ensures refused { IfErr result (λ e. IsRefusal e octets.now self.old) }
         ensures kept { IfErr result (λ _. self.new ≡ self.old) }
-        // Whatever the answer, what is there afterwards is a history.
+        // Whatever the answer, the archive afterwards is a history.
         ensures history { IsHistory self.new }
     {
         let alloc = *self.messages.allocator();

@@ -55,7 +55,7 @@ fn take_oldest<S: SealedFile>(files: &mut Vec<FrozenFile<S>>) -> FrozenFile<S>
     files.remove(0)
 }
 
-/// A file in front of the others. It takes no memory.
+/// Puts a file before the others. It takes no memory.
 fn put_back<S: SealedFile>(files: &mut Vec<FrozenFile<S>>, file: FrozenFile<S>)
     requires { vec_len files.old < vec_capacity files.old }
     ensures { files.new.items ≡ file ∷ files.old.items }

@@ -1,4 +1,4 @@
-//! What an install writes, and where its files stand afterwards.
+//! What an install writes, and the lists of files after it.
 
 ghost use Rattle.std.specs.Prelude.{◌≡◌, ◌+◌, ◌≤◌, OnOk, IfOk, IfErr, IfSome, [], ◌∷◌, ◌++◌, None, take, drop};
 ghost use Rattle.std.specs.Prelude.{vec_len, vec_capacity};
@@ -25,7 +25,7 @@ pub(crate) struct Replacement {
     pub(crate) body: Vec<u8>,
     /// The entry of the file.
     pub(crate) entry: Entry,
-    /// How many entries stand before it.
+    /// How many entries are before it.
     pub(crate) place: usize,
     /// How many files it replaces.
     pub(crate) sources: usize,
@@ -84,7 +84,7 @@ fn cut_moved(kind: JobKind, manifest: &Manifest) -> Answer
     }
 }
 
-/// The file of a job, which is given up.
+/// Takes a job's file, and ends the job.
 pub(crate) fn made_file<S: SealedFile>(job: &mut Option<Rolling<S>>, entry: Entry) -> FrozenFile<S>
     requires { IsMadeFor job.old entry }
     ensures none { job.new ≡ None }
@@ -98,7 +98,7 @@ pub(crate) fn made_file<S: SealedFile>(job: &mut Option<Rolling<S>>, entry: Entr
     FrozenFile::named(file, entry)
 }
 
-/// A list without files that has room for all of these, where there is room for so many more that wait.
+/// Makes room for so many more waiting files, and answers an empty list with room for all of `files`.
 pub(crate) fn make_room<S: SealedFile>(
     alloc: Global,
     files: &Vec<FrozenFile<S>>,
@@ -140,7 +140,7 @@ pub(crate) fn exchange<S: SealedFile>(
     move_some(&mut rest, files, all - place - sources);
 }
 
-/// Moves so many files, where there is room.
+/// Moves so many files to the end of a list that has room for them.
 fn move_some<S: SealedFile>(
     from: &mut IntoIter<FrozenFile<S>>,
     to: &mut Vec<FrozenFile<S>>,

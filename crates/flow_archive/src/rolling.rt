@@ -83,7 +83,7 @@ pub(crate) fn width_made(kind: JobKind, manifest: &Manifest) -> u32
     }
 }
 
-/// How many entries stand before those of a job's sources.
+/// How many entries are before those of a job's sources.
 pub(crate) fn sources_from(kind: JobKind, entries: &[Entry]) -> usize
     ensures { result ≡ count_before (source_of kind) entries.now }
 {
@@ -107,7 +107,7 @@ pub struct JobStatus {
     pub staged: Option<u64>,
 }
 
-/// How a job stands.
+/// The status of a job.
 pub(crate) fn status<S: SealedFile>(job: &Option<Rolling<S>>) -> Option<JobStatus>
     ensures { result ≡ status_of (job_in job.now) }
 {

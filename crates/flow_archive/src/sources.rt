@@ -137,7 +137,7 @@ pub(crate) fn sum_segment<S: SealedFile>(
         (IsSegmentRefusal (part_octets 0 part.now.prefix (S.octets part.now.reader))
         (part_octets part.now.prefix part.now.length (S.octets part.now.reader)) (S.number part.now.reader)
         part.now.prefix part.now.length part.now.messages) }
-    // On an honest disk: where a segment of accepted messages stands there, the sums are those of its flows, and the
+    // On an honest disk: where the file holds a segment of accepted messages, the sums are those of its flows, and the
     // greatest Export Time is that of its messages.
     ensures given { IsTrue (S.honest part.now.reader) → (entry : Entry) (p : Part) (carry : Carry)
         → part.now.prefix ≡ entry.prefix → part.now.length ≡ entry.length → part.now.messages ≡ entry.messages
@@ -166,7 +166,7 @@ pub(crate) fn sum_file<S: SealedFile>(
     // On an honest disk, damaged or not: the sums of a file that was read whole; or why it has none.
     ensures found { IsTrue part.now.honest
         → MatchResult result (IsFileSum width wide part.now.octets) (IsFileRefusal width wide part.now.octets) }
-    // On an honest disk: where it is the rolled file of these sums.
+    // On an honest disk: of the rolled file of a table, that table's sums over intervals of `wide`.
     ensures given { IsTrue part.now.honest → (table : Table) → IsRollup width part.now.octets table
         → IsSummed (widened wide table) (export_time part.now.octets) result }
 {

@@ -16,7 +16,7 @@ use flow_codec::MessageError;
 use flow_segment::Carry;
 use std::alloc::{AllocError, Global};
 
-/// What is carried behind the messages of a batch; else why the first of them that is refused is refused.
+/// The carry after the messages of a batch; else the first fault of the first of them that isn't accepted, or 11.
 fn carried(alloc: Global, carry: &Carry, messages: &[&[u8]]) -> Result<Carry, ArchiveError>
     ensures taken { IfOk result (λ new. AreTaken (slices messages.now) carry.now new) }
     ensures refused { IfErr result (λ e. (e ≡ OutOfMemory)
@@ -28,8 +28,8 @@ fn carried(alloc: Global, carry: &Carry, messages: &[&[u8]]) -> Result<Carry, Ar
     Ok(new)
 }
 
-/// Takes in the messages of a batch, all of them or none; else answers why the first of them that is refused is
-/// refused.
+/// Takes in the messages of a batch, all of them or none; else answers the first fault of the first of them that isn't
+/// accepted, or 11.
 fn take_in(carry: &mut Carry, alloc: Global, messages: &[&[u8]]) -> Result<(), ArchiveError>
     ensures taken { OnOk result (AreTaken (slices messages.now) carry.old carry.new) }
     ensures kept { OnErr result (carry.new ≡ carry.old) }
@@ -64,8 +64,8 @@ pub(crate) struct Batch {
     pub(crate) count: u64,
 }
 
-/// A batch that is taken in behind a carry, with room for so many octets and numbers for so many messages; else the
-/// first of the refusals 1 to 10, 40, 25 that holds, or 11, and the carry is as it was.
+/// Takes in a batch after a carry, with room for so many octets and numbers for so many messages; else the first of the
+/// refusals 1 to 10, 40, 25 that holds, or 11, and the carry is as it was.
 pub(crate) fn admitted(
     alloc: Global,
     carry: &mut Carry,
@@ -119,7 +119,7 @@ pub(crate) fn copies_of(alloc: Global, messages: &[&[u8]]) -> Result<Vec<Bytes>,
     Ok(copies)
 }
 
-/// Puts messages behind those kept, where there is room.
+/// Appends messages to those kept, which have room for them.
 pub(crate) fn put_all(kept: &mut Vec<Bytes>, copies: Vec<Bytes>)
     requires { vec_len kept.old + vec_len copies ≤ vec_capacity kept.old }
     ensures { kept.new.items ≡ kept.old.items ++ copies.items }

@@ -1,4 +1,4 @@
-//! What readers are told of a step.
+//! The steps of an archive, for its readers.
 
 ghost use Rattle.std.specs.Prelude.{◌≡◌, ◌≢◌, ◌+◌, ◌-◌, ◌<◌, ◌≤◌, ℕ, Bool, true, IsTrue, List, IfOk, length, map};
 ghost use Rattle.std.specs.Prelude.{get_or, vec_len};
@@ -34,7 +34,7 @@ use std::sync::Arc;
 impl<D: Disk> Archive<D> {
     /// The step that a mark names, with its content, for directories: messages of the active segment, or the newest
     /// file of a kind, shared. From now on the archive is shared, also where memory is refused, which changes nothing
-    /// else. No octets are copied, and nothing is read. A closed archive tells its steps too.
+    /// else. No octets are copied, and nothing is read. A closed archive answers its steps too.
     pub fn step(&mut self, alloc: Global, mark: Mark) -> Result<Step<D::Sealed>, AllocError>
         requires { HasMark self.old.state mark }
         ensures disk { self.new.disk ≡ self.old.disk }
@@ -43,7 +43,7 @@ impl<D: Disk> Archive<D> {
         // On every disk it has what its mark says.
         ensures marked { IfOk result (λ step. IsMarked self.old.state mark (change_of step)) }
         // It is the change of this mark that made the archive's files what they are, but for messages that were added
-        // behind it.
+        // after it.
         ensures told { (before : Shelf) (change : Change) (later : List (List ℕ))
             → mark ≡ mark_of before change → shelf_of self.old.state ≡ applied (applied before change) (added later)
             → IfOk result (λ step. change_of step ≡ change) }
@@ -56,8 +56,8 @@ impl<D: Disk> Archive<D> {
     }
 }
 
-/// Behind the call that makes a step its mark may be asked for: behind an append or a batch with the numbers of its
-/// messages, behind a seal with the sealed file, behind an install with the file that the job had made and the count of
+/// After the call that makes a step its mark may be asked for: after an append or a batch with the numbers of its
+/// messages, after a seal with the sealed file, after an install with the file that the job had made and the count of
 /// its sources.
 pub fn marks_of_answers()
     ensures appended { (closed : Bool) (s after : State) (octets : List (List ℕ)) (position : ℕ) → 1 ≤ length octets
@@ -91,8 +91,8 @@ pub fn shelves_of_answers()
         × (shelf_of after ≡ applied (shelf_of s) (made_change job.kind rollup job.sources)) }
 {}
 
-/// The step that a mark names, of these files and an active segment with this prefix and these messages, which stand
-/// behind so many others.
+/// The step that a mark names, of these files and an active segment with this prefix and these messages, which come
+/// after `before` others.
 fn named<S: SealedFile>(
     alloc: Global,
     files: &mut Vec<FrozenFile<S>>,
@@ -172,7 +172,7 @@ fn newest_sums<S: SealedFile>(
     files[place].sums()
 }
 
-/// Where the newest file of a kind stands.
+/// The place of the newest file of a kind.
 fn newest<S: SealedFile>(files: &[FrozenFile<S>], kind: Kind) -> usize
     requires { HasKind kind files.now }
     ensures below { result < length files.now }

@@ -53,7 +53,7 @@ pub(crate) fn rows_text(alloc: Global, rows: &[Row]) -> Result<String, AllocErro
     Ok(texts)
 }
 
-/// The span that words tell, or all seconds.
+/// The span that words give, or all seconds.
 pub(crate) fn span_of(words: &[&str]) -> Result<(u64, u64), Fail> {
     match words {
         [from, to] => Ok((number(from)?, number(to)?)),

@@ -122,7 +122,7 @@ fn damage(
     Ok((one_by_one(alloc, &part).err(), at_once(alloc, &part).err()))
 }
 
-/// Calls the laws of what is handed on and of what is read.
+/// Calls the laws of the carry after a segment and of the messages that are read.
 fn laws() {
     handed_on();
     read_to_the_end();

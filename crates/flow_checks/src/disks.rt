@@ -175,7 +175,7 @@ fn is_retired(alloc: Global, calls: usize) -> Result<bool, DiskError> {
     }
 }
 
-/// Of a disk that lies what is told of files that aren't there may be a lie.
+/// What a disk that lies answers of files that don't exist may be a lie.
 #[test]
 fn each_change_of_a_disk_with_no_room(rt: HostRuntime) -> Result<(), Fail> {
     let alloc = rt.alloc();

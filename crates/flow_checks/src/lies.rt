@@ -1,4 +1,4 @@
-// A disk that lies: how often, of what is read, of its list of files and of lengths.
+// How often a disk lies: of octets that are read, of its list of files, and of lengths.
 ghost use Rattle.std.specs.Prelude.{◌≡◌, ◌<◌, ◌≤◌, false, true, OnOk, IfOk};
 
 use crate::calls::memory;
@@ -47,7 +47,8 @@ fn is_true(alloc: Global, seed: u64) -> Result<bool, DiskError> {
     Ok(is_read_frozen(alloc, &mut disk)? && is_read)
 }
 
-/// How many octets a disk tells of file 7, of five octets; none where it tells so many that 64 more are a fault.
+/// The length that a disk answers of file 7, which has five octets; none where it is so great that 64 octets more are a
+/// fault.
 fn told_of_five<D: Disk>(disk: &mut D) -> Result<Option<u64>, DiskError>
     requires { (D.marks disk.old 7).frozen ≡ false }
 {
@@ -60,7 +61,7 @@ fn told_of_five<D: Disk>(disk: &mut D) -> Result<Option<u64>, DiskError>
     }
 }
 
-/// Where less than five octets are told, the truth, more and too much.
+/// The kind of that length: 0 where it is less than five, 1 the truth, 2 more, 3 too great for 64 octets more.
 fn kind_of(alloc: Global, seed: u64) -> Result<usize, DiskError>
     ensures { IfOk result (λ kind. kind < 4) }
 {
@@ -73,7 +74,7 @@ fn kind_of(alloc: Global, seed: u64) -> Result<usize, DiskError>
     })
 }
 
-/// How often each of these is told of 200 files of five octets.
+/// How often each kind is answered of 200 files of five octets.
 fn kinds(alloc: Global) -> Result<[u64; 4], Fail> {
     let mut told = [0u64; 4];
     for seed in 0..200 {

@@ -1,5 +1,5 @@
--- Any octets divide in one way into messages, each cut off by its own header, and octets behind them that are none or
--- have one fault.
+-- Any octets divide in one way into messages, each cut off by its own header, and a rest that is empty or has one
+-- fault.
 use Rattle.std.proofs.Common.{◌≡◌, ◌≢◌, ◌⊎◌, inl, inr, ℕ, zero, suc, ◌+◌, ◌<◌, ◌≤◌, Bool, true, false, cond, ltb, eqb}
 use Rattle.std.proofs.Common.{List, [], ◌∷◌, ◌++◌, length, take, drop, refl, sym, ap, subst, ◌∙◌, append_assoc, arith}
 use Rattle.std.proofs.Common.{Result, Ok, Err, IfErr}
@@ -18,7 +18,7 @@ use Rattle.flow_codec.specs.Message.{joined}
 use Rattle.flow_codec.specs.Cutting.{version_of, length_of, IsCutOff, IsFileFault, IsDivided, IsLast, HasOneDivision}
 use Rattle.flow_codec.specs.Cutting.{spans_from}
 
--- ---- the header of a front
+-- ---- the header of the first message
 
 pub version_of-append : (a b : List ℕ) → 16 ≤ length a → version_of (a ++ b) ≡ version_of a
 version_of-append a b long = ap (λ (xs : List ℕ). from_be_bytes w16 xs) (take-append-le 2 a b (omega arith))
@@ -102,7 +102,7 @@ none_has_no_fault at rest fault empty bad =
     let none : length rest ≡ 0 = ap (λ (xs : List ℕ). length xs) empty in
     omega arith
 
--- what stands behind the messages doesn't hang on its place
+-- whether the octets after the messages are a rest doesn't depend on their place
 pub last_anywhere : (at to : ℕ) (rest : List ℕ) → IsLast at rest → IsLast to rest
 last_anywhere at to rest (inl none) = inl none
 last_anywhere at to rest (inr (fault, bad)) = inr (by bad)
@@ -115,7 +115,7 @@ last_anywhere at to rest (inr (fault, bad)) = inr (by bad)
 
 -- ---- one division
 
--- octets behind the last message don't begin with one
+-- the octets after the last message don't begin with one
 pub no_more : (at : ℕ) (rest message more : List ℕ) → IsLast at rest → IsCutOff message → rest ≡ message ++ more → ⊥
 no_more at rest message more (inl empty) cut parts =
     let none : length (message ++ more) ≡ 0 = ap (λ (xs : List ℕ). length xs) (sym parts ∙ empty) in
@@ -243,7 +243,7 @@ has_one_division octets =
 
 -- ---- the loop that takes one message after the other
 
--- messages so far, the spans of these, and the place behind them
+-- messages so far, their spans, and the place after them
 pub record Walked (octets : List ℕ) (at : ℕ) (spans : List Span) : Type 0 where
   pub parts : List (List ℕ)
   pub each : AllByRecursion IsCutOff parts
@@ -318,7 +318,7 @@ pub walked_place : (octets : List ℕ) (at : ℕ) (spans : List Span) → (here 
     → length (joined here.parts) ≡ at
 walked_place octets at spans here = ap (λ (xs : List ℕ). length xs) here.front ∙ length-take-le at octets here.within
 
--- where the octets behind the messages so far have a fault, the messages end there
+-- where the octets after the messages so far have a fault, the messages end there
 pub walked_fault : (octets : List ℕ) (at : ℕ) (spans : List Span) (fault : FileError) → Walked octets at spans
     → IsFileFault at (drop at octets) fault
     → (parts : List (List ℕ)) × (rest : List ℕ) × IsDivided octets parts rest
@@ -330,7 +330,7 @@ walked_fault octets at spans fault here bad = (
   subst (λ (n : ℕ). IsFileFault n (drop at octets) fault) (sym (walked_place octets at spans here)) bad,
 )
 
--- what a call answers where the octets behind the messages so far have a fault
+-- what a call answers where the octets after the messages so far have a fault
 pub refused_by : {T : Type 0} (octets : List ℕ) (at : ℕ) (spans : List Span) (fault : FileError)
     (answer : Result T FileError) → Walked octets at spans → IsFileFault at (drop at octets) fault
     → IsErrAnd answer (λ e. e ≡ fault)

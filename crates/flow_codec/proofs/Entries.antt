@@ -180,7 +180,7 @@ module _ {V : Type 0} (k : ℕ) where
     | inr w ↦ let more = rw w at e in holds-found P xs v all.1 more
   ]
 
--- an entry of two lists, one behind the other
+-- an entry of two lists, one after the other
 pub lookup_append : {V : Type 0} (k : ℕ) (es fs : List (ℕ × V))
     → found k (es ++ fs) ≡ option_or (found k es) (found k fs)
 lookup_append k [] fs = refl

@@ -90,7 +90,7 @@ octets_then at a b octets =
           ]
     ]
 
--- a field of variable length behind three length octets, at once
+-- a field of variable length after three length octets, at once
 pub counted_long : (at : ℕ) (octets : List ℕ) (n : ℕ) (rest : List ℕ) (len : ℕ) (after : List ℕ) → octets ≡ n ∷ rest
     → 255 ≤ n → number_at (RecordCut at) w16 rest ≡ Ok (len, after)
     → counted_at at octets ≡ octets_at at (3 + len) octets
@@ -123,7 +123,7 @@ each_same : (r : Result (List ℕ × List ℕ) MessageError) (f g : List ℕ →
 each_same (Ok x) f g same = ap (behind x.0) (same x.1)
 each_same (Err d) f g same = refl
 
--- two readings one after the other, and more behind them
+-- two readings one after the other, and more after them
 in_turn : (r : Result (List ℕ × List ℕ) MessageError) (f g : List ℕ → Result (List ℕ × List ℕ) MessageError)
     → ((r >>= each f) >>= each g) ≡ (r >>= each (λ octets. f octets >>= each g))
 in_turn (Ok x) f g = by (f x.1)

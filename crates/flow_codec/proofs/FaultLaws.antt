@@ -140,7 +140,7 @@ header_fault_again octets d fits (inr (inr (long, len, rest, parts, below, diffe
 
 -- ---- the Sets
 
--- a Set that is wrong, behind a whole front
+-- a Set that is wrong, after the header and whole Sets
 abbrev IsBehindFront : List ℕ → AllTemplates → MessageError → Type 0
 IsBehindFront octets before d =
     (header : Header) × (records : List RawRecord) × (here : AllTemplates) × (at : ℕ) × (tail : List ℕ)

@@ -34,7 +34,7 @@ octets_again at value rest =
     le-ltb _ _ (omega (arith, length-append value rest)) in
     rw (long, take_at value rest (length value) refl, drop_at value rest (length value) refl) refl
 
--- a field of its length stands in front of these octets
+-- these octets begin with a field of its length
 abbrev pub TakesField : ℕ → List ℕ → List ℕ × List ℕ → Type 0
 TakesField len octets x = (octets ≡ x.0 ++ x.1) × (value : List ℕ) × IsField len x.0 value
 
@@ -115,7 +115,7 @@ long_value : (n : ℕ) (octets : List ℕ) → from_be_bytes w16 (take 2 octets)
     → counted_of (255 ∷ octets) ≡ (take n (drop 2 octets), drop n (drop 2 octets))
 long_value n octets e = rw e refl
 
--- the value of a field that stands in front
+-- the value of the field that octets begin with
 pub value_again : (len : ℕ) (octets value rest : List ℕ) → IsField len octets value
     → value_of len (octets ++ rest) ≡ (value, rest)
 value_again len octets value rest (inl (fixed, same, is)) =
@@ -228,7 +228,7 @@ pub fields_fit : (fs : List (ElementId × ℕ)) (octets : List ℕ) (xs : List F
     → AreFields fs octets (fields_in fs octets)
 fields_fit fs octets xs h = subst (AreFields fs octets) (fields_are fs octets xs h) h
 
--- one whole record stands in front of octets
+-- octets begin with at most one whole record of a definition
 pub extent_unique : (fs : List (ElementId × ℕ)) (octets rest others back : List ℕ) (xs ys : List Field)
     → AreFields fs octets xs → AreFields fs others ys → octets ++ rest ≡ others ++ back → octets ≡ others
 extent_unique fs octets rest others back xs ys p q same =

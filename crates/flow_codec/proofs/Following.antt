@@ -16,7 +16,7 @@ use Rattle.flow_codec.specs.Cutting.{IsCutOff, IsFileFault}
 use Rattle.flow_codec.specs.File.{AreAccepted, Ending, whole, broken, refused, EndsIn, AcceptedFront}
 use Rattle.flow_codec.specs.Stream.{Progress, IsStop, IsStep}
 
--- these octets begin with these messages, accepted in turn, and `rest` stands behind them, at the place `at`
+-- these octets begin with these messages, accepted in turn, and `rest` follows them, at the place `at`
 pub record Followed (octets : List ℕ) (at : ℕ) (rest : List ℕ) (messages : List RawMessage)
     (after : AllTemplates) : Type 0 where
   pub parts : List (List ℕ)
@@ -24,7 +24,7 @@ pub record Followed (octets : List ℕ) (at : ℕ) (rest : List ℕ) (messages :
   pub accepted : AreAccepted [] parts messages after
   pub place : at ≡ length (joined parts)
 
--- the same of a reader whose octets may be known: it stood at `start`, and has `left` now
+-- the same of a reader whose octets may be known: it began with `start`, and has `left` now
 abbrev pub Follows : Option (List ℕ) → Option (List ℕ) → ℕ → List RawMessage → AllTemplates → Type 0
 Follows start left at messages after =
     IfSome start (λ octets. (rest : List ℕ) × (left ≡ Some rest) × Followed octets at rest messages after)

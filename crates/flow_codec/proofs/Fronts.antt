@@ -1,4 +1,4 @@
--- Any octets have one accepted front: the messages that are accepted in turn, and what ends them.
+-- Any octets have one accepted prefix: the messages that are accepted in turn, and what ends them.
 use Rattle.std.proofs.Common.{◌≡◌, inl, inr, ℕ, ◌+◌, List, [], ◌∷◌, ◌++◌, length, refl, sym, ap, subst, ◌∙◌}
 use Rattle.std.proofs.Common.{append_assoc, arith}
 use Rattle.std.specs.List.{AllByRecursion}
@@ -17,7 +17,7 @@ use Rattle.flow_codec.proofs.FaultLaws.{never_both}
 use Rattle.flow_codec.proofs.Dividing.{no_more, one_message, one_fault, none_has_no_fault, last_anywhere}
 use Rattle.flow_codec.proofs.Dividing.{has_one_division}
 
--- the octets of a front, and those behind it
+-- a prefix of octets is octets, and so is the rest
 front_bytes : (a b : List ℕ) → IsBytes (a ++ b) → IsBytes a
 front_bytes a b fits =
     subst (λ (xs : List ℕ). IsBytes xs) (take_at a b (length a) refl) (IsBytes-take (length a) (a ++ b) fits)
@@ -124,7 +124,7 @@ one_ending here at rest (refused d) (refused e) fits (message, more, parts, cut,
     let whole_fits : IsBytes (message ++ more) = subst (λ (xs : List ℕ). IsBytes xs) parts fits in
     ap (λ (f : MessageError). refused f) (one_refusal here message d e (front_bytes message more whole_fits) bad same)
 
--- a front doesn't end where a message is accepted
+-- an accepted prefix doesn't end where a message is accepted
 goes_further : (here next : AllTemplates) (at : ℕ) (rest message more : List ℕ) (m : RawMessage) (ending : Ending)
     → IsBytes rest → EndsIn here at rest ending → IsCutOff message → IsAccepted message here m next
     → rest ≡ message ++ more → ⊥

@@ -1,4 +1,4 @@
--- Changes of entries, one after the other, and what is told of them beside the entries.
+-- Changes of entries, one after the other, and what an overlay records of them.
 use Rattle.std.proofs.Common.{◌≡◌, ℕ, zero, suc, ◌+◌, ◌^◌, ◌<◌, ◌≤◌, Bool, true, false, cond, eqb, List, [], ◌∷◌}
 use Rattle.std.proofs.Common.{◌++◌, length, take, get_or, Option, Some, None, refl, sym, ap, subst, ◌∙◌, arith, inl}
 use Rattle.std.proofs.Common.{inr, add-one}
@@ -92,7 +92,7 @@ place_take id changes i change lt is =
     ap (last_place id) (front_take changes i change lt is) ∙ place_push id (take i changes) change
     ∙ ap (λ (n : ℕ). cond (nat_eq change.0 id) (Some n) (last_place id (take i changes))) long
 
--- what knows the places, and that of one more change, knows the last ones still
+-- a map of the last places that takes the place of one more change still has the last ones
 pub knows_more : (old new : ℕ → Option ℕ) (changes : List (ℕ × Option Layout)) (id : ℕ) (change : Option Layout)
     → ((q : ℕ) → old q ≡ last_place q changes)
     → ((q : ℕ) → new q ≡ cond (nat_eq id q) (Some (length changes)) (old q)) → (q : ℕ)
@@ -133,7 +133,7 @@ last_some id changes place d some =
       cc (slice_get-get_or changes place d within, h.1, h.2),
     )
 
--- what is there already is not changed
+-- a change to the definition that is there already changes nothing
 pub nothing_changed : (entries : List (ℕ × Layout)) (id : ℕ) (change : Option Layout) → found id entries ≡ change
     → entries ≡ change_by entries id change
 nothing_changed entries id None none = sym (remove-absent id entries none)
@@ -210,7 +210,7 @@ none_sized [] = refl
 none_sized (e ∷ es) = not_zero (entries_size (e ∷ es)) (omega (arith, positive e.1, of_cons e es))
     ∙ sym (not_zero (length (e ∷ es)) (omega arith))
 
--- ---- what is told of the changes
+-- ---- what an overlay records of the changes
 
 module _ (base : List (ℕ × Layout)) (o new : Overlay) (h : IsOver base o) (id : ℕ) (change : Option Layout)
     (cleared : new.cleared ≡ o.cleared) (log : new.log ≡ o.log ++ (id, change) ∷ []) where

@@ -10,7 +10,7 @@ use Rattle.flow_codec.specs.declared.plan.Step.{Step}
 use Rattle.flow_codec.specs.declared.plan.Step.TheVariants.{Skip, Fixed, Variable}
 use Rattle.flow_codec.specs.Plan.{role_of, is_counted, step_of, fixed_step, steps_of, skip_of, skipped, before_steps}
 
--- steps behind a skip that is still gap
+-- steps after a skip that isn't among them yet, if there is one
 abbrev pub skipping : Option ℕ → List Step → List Step
 skipping None steps = steps
 skipping (Some count) steps = skipped count steps

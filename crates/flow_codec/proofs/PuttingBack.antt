@@ -40,7 +40,7 @@ module _ (d : ℕ) (all : AllTemplates) (once : IsOnce all) where
   twice : without d (without d all) ≡ without d all
   twice = remove-absent d (without d all) gone
 
-  -- what is in force in a domain is what was put back there
+  -- the definitions in force in a domain are those that were put back there
   pub put_found : (left : Bool) (here : DomainTemplates) → definitions_of d (put_back d left here all) ≡ here
   put_found left here = elim (by_bool (is_empty here)) [
     | inl w ↦ away left w
@@ -76,7 +76,7 @@ module _ (d : ℕ) (all : AllTemplates) (once : IsOnce all) where
   taken_out left here now new w same is = is ∙ sym (put_none left here w) ∙ ap (put_back d left here) same
 
   module _ (kind : TemplateKind) (change : TemplateRecord) where
-    -- over definitions that stand
+    -- over a domain that has definitions
     over : (base : AllTemplates) (here : DomainTemplates) → is_empty here ≡ false
         → applied d kind change (with_domain d here base) ≡ with_domain d (changed kind change here) base
     over base here some =
@@ -131,7 +131,7 @@ unchanged d all h = by (found d all) refl
         let holds = holds-found d IsDomain all here h.domains e in
         rw holds.some (insert-present d all here e)
 
--- What is put in the place of a domain's definitions for a while is of no account.
+-- Definitions that are in the place of a domain's for a while don't matter.
 pub instead : (d : ℕ) (left : Bool) (here other : DomainTemplates) (all : AllTemplates)
     → put_back d left here (with_entry all d other) ≡ put_back d left here all
 instead d true here other all = ap (λ (t : AllTemplates). with_domain d here t) (remove-insert d all other)

@@ -104,7 +104,7 @@ field_fault_again at len tail (inr (variable, inr (inr (inr (n, more, parts, bel
 
 -- ---- one record
 
--- a field of the record that stands first in these octets is cut
+-- a field of the record that these octets begin with is cut
 abbrev pub IsCutIn : List (ElementId × ℕ) → List ℕ → Type 0
 IsCutIn fs octets =
     (front : List (ElementId × ℕ)) × (f : ElementId × ℕ) × (back : List (ElementId × ℕ)) × (fs ≡ front ++ f ∷ back)

@@ -59,7 +59,7 @@ records_take (suc n) end id layout octets xs fits le some e =
     one : List ℕ → RawRecord
     one octets = raw id layout octets
 
--- Reading goes on behind whole records, whatever follows them. Both what is read and the first cut record follow from
+-- Reading goes on after whole records, whatever follows them. Both what is read and the first cut record follow from
 -- this.
 abbrev pub with_records : List RawRecord → Result (List RawRecord) MessageError → Result (List RawRecord) MessageError
 with_records front read = read >>= λ xs. Ok (front ++ xs)

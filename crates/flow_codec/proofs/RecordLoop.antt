@@ -35,7 +35,7 @@ module _ {S E : Type 0} (holds : S → List Placed → S → Type 0) (refuses : 
   abbrev pub Taken : S → List RawRecord → Type 0
   Taken now records = Took holds header old records now × (length records ≤ length octets)
 
-  -- the sink took the records so far, which are the front of all, and reading goes on at `rest`, with enough steps left
+  -- the sink took the records so far, which are the first of all, and reading goes on at `rest`, with enough steps left
   pub record GoesOn (now : S) (rest : List ℕ) : Type 0 where
     pub front : List RawRecord
     pub took : Took holds header old front now

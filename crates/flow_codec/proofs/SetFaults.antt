@@ -30,14 +30,14 @@ use Rattle.flow_codec.proofs.SetLaws.{content_takes}
 
 -- ---- inside a Set
 
--- the template record that is wrong, behind whole ones
+-- the template record that is wrong, after whole ones
 abbrev pub AtTemplate : ℕ → ℕ → ℕ → AllTemplates → List ℕ → MessageError → Type 0
 AtTemplate end domain id before text d =
     (kind : TemplateKind) × (id ≡ set_id kind) × (rs : List (List ℕ)) × (bad : List ℕ) × (next : AllTemplates)
     × (text ≡ joined rs ++ bad) × AreTemplates domain kind before rs next × (IsEnd bad → ⊥)
     × IsTemplateFault kind (end - length bad) bad d
 
--- the data record that is cut, behind whole ones
+-- the data record that is cut, after whole ones
 abbrev pub AtRecord : ℕ → ℕ → ℕ → AllTemplates → List ℕ → MessageError → Type 0
 AtRecord end domain id before text d =
     (256 ≤ id) × (layout : Layout) × (definition_of id (definitions_of domain before) ≡ Some layout)
@@ -326,7 +326,7 @@ record_content end domain before set layout xs large found hold cut = elim (by_k
       ∙ rw (test, found, inner) refl
 ]
 
--- the Set that stands first is wrong
+-- the first Set is wrong
 pub set_fault_again : (n end domain : ℕ) (before : AllTemplates) (octets : List ℕ) (d : MessageError) → IsBytes octets
     → length octets ≤ n → length octets ≤ end → IsSetFault domain before (end - length octets) octets d
     → sets_at n end domain before octets ≡ Err d

@@ -125,7 +125,7 @@ by_kind id = elim (by_bool (eqb id 2)) [
   ]
 ]
 
--- ---- what stands in a Set
+-- ---- the content of a Set
 
 -- the records and the rest of a Set of this ID
 pub record Divides (domain : ℕ) (before : AllTemplates) (id : ℕ) (text : List ℕ) (records : List RawRecord)
@@ -318,7 +318,7 @@ before_front a b (Ok x) = let f : List RawRecord → Result (List RawRecord × A
     λ rs. Ok (rs, x.1) in ap f (sym (append_assoc a b x.0))
 before_front a b (Err f) = refl
 
--- Reading goes on behind a whole front, whatever follows it. Both what is read and the first fault follow from this.
+-- Reading goes on after whole Sets, whatever follows them. Both what is read and the first fault follow from this.
 pub sets_go_on : (n end domain : ℕ) (here : AllTemplates) (sets : List Division) (records : List RawRecord)
     (next : AllTemplates) (tail : List ℕ) → AreSets domain here sets records next → length (all_octets sets ++ tail) ≤ n
     → (m : ℕ) × (length tail ≤ m)

@@ -33,7 +33,7 @@ none_left octets b e f = eqb-true _ _ (sym e ∙ f)
 module _ {S E : Type 0} (holds : S → List Placed → S → Type 0) (refuses : S → List Placed → Placed → E
     → Type 0) (header : Header) (old : S) (end domain : ℕ) (octets : List ℕ)
     (total : Result (List RawRecord × AllTemplates) MessageError) where
-  -- the sink took the records so far, which are the front of all, and reading goes on at `rest`, with enough steps left
+  -- the sink took the records so far, which are the first of all, and reading goes on at `rest`, with enough steps left
   pub record GoesOn (now : S) (all : AllTemplates) (rest : List ℕ) : Type 0 where
     pub front : List RawRecord
     pub took : Took holds header old front now
@@ -106,7 +106,7 @@ module _ {S E : Type 0} (holds : S → List Placed → S → Type 0) (refuses : 
         is_refused e why = refused_then holds header refuses old now h.front (length octets)
             (length content) e h.took why (omega (arith, h.few))
 
-        -- a fault or a refusal of what stands in the Set is one of the whole
+        -- a fault or a refusal in the Set's content is one of the whole
         pub stops : (e : WalkError E)
             → Feeds {X = Unit {0}} (λ _. Unit {0}) (IsRefused holds refuses header now (length content)) (λ _. all)
             (Err e) (content_at (end - length after) domain id all content)

@@ -20,7 +20,7 @@ use Rattle.flow_codec.proofs.Steps.{by_bool}
 use Rattle.std.proofs.lemmas.Bool.Decides.{nat_tests}
 use Rattle.flow_codec.proofs.Entries.{same, without, found, with_entry, once_insert, once_remove, remove-absent}
 
--- the slot behind an empty or another one
+-- the slot after an empty or another one
 behind : (o : Option ℕ) (i : ℕ) → option_map suc o ≡ Some i → (j : ℕ) × (o ≡ Some j) × (i ≡ suc j)
 behind None i e = absurd cc
 behind (Some j) i e = (j, refl, cc)
@@ -33,7 +33,7 @@ apart_back : (k q : ℕ) → nat_eq k q ≡ false → nat_eq q k ≡ false
 apart_back k q e = grind (arith, nat_tests)
 
 module _ {V : Type 0} (k : ℕ) where
-  -- ---- what stands in a slot
+  -- ---- the entry in a slot
 
   slot_at : (ss : List (Option (ℕ × V))) (o : Option (ℕ × V)) (i j : ℕ) (v : V) → i ≡ suc j
       → slice_get ss j ≡ Some (Some (k, v)) → slice_get (o ∷ ss) i ≡ Some (Some (k, v))
@@ -151,7 +151,7 @@ module _ {V : Type 0} (k : ℕ) where
     | inr w ↦ rw w (place-push-other q ss v (apart_back k q w))
   ]
 
-  -- what stands in a slot is found under its number
+  -- the entry in a slot is found under its number
   pub stands : (ss : List (Option (ℕ × V))) (i : ℕ) (v : V) → IsOnce (standing ss) → slice_get ss i ≡ Some (Some (k, v))
       → found k (standing ss) ≡ Some v
   stands [] i v once is = absurd cc
@@ -331,14 +331,14 @@ step-some ss i o e lt is some =
     let here : get_or ss i o ≡ Some e = sym is ∙ some in
     rw (add-one, drop-cons ss i o lt, here) refl
 
--- no entry stands exactly where the map is empty
+-- there are no entries where no number has a place
 pub nothing-stands : {V : Type 0} (ss : List (Option (ℕ × V))) → ((q : ℕ) → place_of q ss ≡ None) → standing ss ≡ []
 nothing-stands [] h = refl
 nothing-stands (None ∷ ss) h = nothing-stands ss (λ q. no_behind (place_of q ss) (h q))
 nothing-stands (Some x ∷ ss) h = let first = h x.0 in let is = rw (same x.0) at first in absurd cc
 
 module _ {V : Type 0} where
-  -- of a list with each number once, what stands before an entry has not its number
+  -- in a list with each number once, the entries before one don't have its number
   pub front-lacks : (front : List (ℕ × V)) (e : ℕ × V) (rest : List (ℕ × V)) → IsOnce (front ++ e ∷ rest)
       → found e.0 front ≡ None
   front-lacks [] e rest once = refl
@@ -408,7 +408,7 @@ empty-is ss es false h t = elim (by_bool (eqb (length (standing ss)) 0)) [
 pub less_room : (n : ℕ) (table : SlotTable) → HasRoom (suc n) table → HasRoom n table
 less_room n table h = record { slots = omega (arith, h.slots); places = omega (arith, h.places) }
 
--- where nothing stands, nothing is found
+-- in an empty list nothing is found
 pub none_found : {V : Type 0} (id : ℕ) (es : List (ℕ × V)) → true ≡ eqb (length es) 0 → None ≡ lookup (nat_eq id) es
 none_found id [] e = refl
 none_found id (x ∷ xs) e = absurd (cc (e ∙ eqb-suc-zero (length xs)))

@@ -1,4 +1,4 @@
--- What the steps of a plan tell of a whole record is what its fields tell.
+-- The values that the steps of a plan find in a whole record are those of its fields.
 use Rattle.std.proofs.Common.{◌≡◌, ℕ, true, false, eqb, List, [], ◌∷◌, ◌++◌, length, Option, Some, None, refl, sym, ap}
 use Rattle.std.proofs.Common.{subst, ◌∙◌, eq-eqb, inl, inr, ◌⊎◌}
 use Rattle.std.proofs.lemmas.Bool.{ne_eqb}
@@ -15,7 +15,7 @@ use Rattle.flow_codec.specs.Plan.{values_by}
 use Rattle.flow_codec.proofs.Steps.{by_bool}
 use Rattle.flow_codec.proofs.FieldLaws.{value_again, fields_are}
 
--- skips that meet are one
+-- adjacent skips become one
 before-is : (step : Step) (steps : List Step) (octets : List ℕ)
     → values_by (before_steps step steps) octets ≡ values_by (step ∷ steps) octets
 unfolding values_by
@@ -26,7 +26,7 @@ before-is (Skip count) (Variable role ∷ steps) octets = refl
 before-is (Fixed role len) steps octets = refl
 before-is (Variable role) steps octets = refl
 
--- the step over a field whose octets stand in front
+-- the step over a field, whose octets come first
 fixed-is : (role : Option Role) (len : ℕ) (steps : List Step) (value rest : List ℕ) → length value ≡ len
     → values_by (fixed_step role len ∷ steps) (value ++ rest) ≡ counting role value ++ values_by steps rest
 unfolding values_by

@@ -9,7 +9,7 @@ use Rattle.flow_codec.specs.Extent.{step_at, extent_by}
 use Rattle.flow_codec.proofs.Steps.{Fails-of}
 use Rattle.flow_codec.proofs.Extents.{step_parts, behind_behind}
 
--- what was passed over is the front of the octets, and stepping goes on at `rest`
+-- the octets passed over are a prefix of all, and stepping goes on at `rest`
 pub record GoesOn (at : ℕ) (steps : List Step) (i : ℕ) (rest octets : List ℕ) : Type 0 where
   pub front : List ℕ
   pub parts : octets ≡ front ++ rest

@@ -7,7 +7,7 @@ use Rattle.flow_codec.specs.declared.error.MessageError.TheVariants.{TemplateId,
 use Rattle.flow_codec.specs.declared.error.MessageError.TheVariants.{DomainsFull, OutOfMemory}
 use Rattle.flow_codec.specs.Reading.{◌>>=◌, Fails}
 
--- what was read before, and what is still read
+-- a list read before, put before the one that is still read
 abbrev pub with_front : {A B : Type 0} → List A → Result (List A × B) MessageError → Result (List A × B) MessageError
 with_front front read = read >>= λ x. Ok (front ++ x.0, x.1)
 
@@ -44,7 +44,7 @@ pub guard_ok : {A : Type 0} (b : Bool) (d : MessageError) (x y : A) → cond b (
 guard_ok true d x y e = absurd cc
 guard_ok false d x y e = (refl, cc)
 
--- where a chain of steps fails: at the first, or behind it
+-- where a chain of steps fails: at the first, or after it
 pub bind_err : {A B : Type 0} (r : Result A MessageError) (f : A → Result B MessageError) (d : MessageError)
     → (r >>= f) ≡ Err d → (r ≡ Err d) ⊎ ((x : A) × (r ≡ Ok x) × (f x ≡ Err d))
 bind_err (Ok x) f d e = inr (x, refl, e)
@@ -82,7 +82,7 @@ pub past_err : {A : Type 0} (b : Bool) (d : MessageError) (r : Result A MessageE
 past_err true d r f e = inl (refl, cc)
 past_err false d r f e = inr (refl, e)
 
--- a chain of steps in front of more steps
+-- a chain of steps before more steps
 pub bind-bind : {A B C : Type 0} (r : Result A MessageError) (f : A → Result B MessageError) (g : B
     → Result C MessageError) → ((r >>= f) >>= g) ≡ (r >>= λ x. f x >>= g)
 bind-bind (Ok x) f g = refl

@@ -1,4 +1,4 @@
--- What the octets that were read say of those that stood next.
+-- What the octets that were read say of the octets that came next.
 use Rattle.std.proofs.Common.{◌≡◌, inl, inr, ℕ, ◌+◌, ◌-◌, ◌<◌, ◌≤◌, List, [], ◌++◌, length, take, drop, slice_range}
 use Rattle.std.proofs.Common.{Option}
 use Rattle.std.proofs.Common.{None, Some, IfSome, Err, refl, sym, ap, subst, ◌∙◌, append_assoc, take-append-drop, arith}
@@ -37,7 +37,7 @@ refused_more at header more fault long bad = inr (inl (omega (arith, length-appe
       low.2,
     )
 
--- a header that is refused, whatever stands behind it
+-- a header that is refused, whatever follows it
 pub refused_next : (at : ℕ) (old new : Option (List ℕ)) (header : List ℕ) (fault : FileError) → 16 ≤ length header
     → Consumes old new header → IsHeaderRefused at header fault → IsFaultNext at old fault
 refused_next at None new header fault long took bad = (header, inr (inl (long, bad)), tt)
@@ -51,16 +51,16 @@ message_next None new message cut took = (message, [], cut, tt)
 message_next (Some xs) None message cut took = absurd took
 message_next (Some xs) (Some ys) message cut took = (message, ys, cut, took)
 
--- ---- what stands next in front of the input
+-- ---- the next octets, before those left in the input
 
--- what is held stands next, where it is known what does
+-- the held octets are the next ones, where those are known
 pub held_next : (old left : Option (List ℕ)) (held : List ℕ) → Keeps old (prepend_known held left)
     → Consumes old left held
 held_next None left held kept = tt
 held_next (Some xs) None held kept = kept
 held_next (Some xs) (Some ys) held kept = sym kept
 
--- its front is what a step gives
+-- a step gives the first of the held octets
 pub taken_next : (old left : Option (List ℕ)) (held : List ℕ) (n : ℕ) → Keeps old (prepend_known held left)
     → Consumes old (prepend_known (drop n held) left) (take n held)
 taken_next None left held n kept = tt
@@ -69,7 +69,7 @@ taken_next (Some xs) (Some ys) held n kept =
     sym kept ∙ ap (λ (l : List ℕ). l ++ ys) (sym (take-append-drop n held))
     ∙ append_assoc (take n held) (drop n held) ys
 
--- what ends the search for a message is what reading stops by
+-- the error that ends the search for a message is the one that reading stops by
 pub stops_at : (count at : ℕ) (ahead front : List ℕ) (left new : Option (List ℕ)) (held : List ℕ) (e : StreamError)
     → front ≡ ahead → IsFound at (prepend_known front left) (Err e) held new
     → IsStop count at (prepend_known ahead left) e
@@ -80,7 +80,7 @@ stops_at count at ahead front left new held NumbersSpent same found = absurd fou
 
 -- ---- the window
 
--- octets that were read behind a place fill the room from there on
+-- octets that are read from a place on fill the room from there on
 pub put_size : (xs ys : List ℕ) (end : ℕ) → end ≤ length xs → length ys ≡ length xs - end
     → length (put_mid end (length xs - end) xs ys) ≡ length xs
 put_size xs ys end within fits =

@@ -22,7 +22,7 @@ module _ {S : Type 0} (holds : S → List Placed → S → Type 0) (header : Hea
       (second start (before ++ under header a) (first start before h))
 
   module _ {E : Type 0} (refuses : S → List Placed → Placed → E → Type 0) where
-    -- a refusal behind records that were taken
+    -- a refusal after records that were taken
     pub refused_then : (s m : S) (a : List RawRecord) (most more : ℕ) (e : E) → Took holds header s a m
         → IsRefused holds refuses header m more e → length a + more ≤ most → IsRefused holds refuses header s most e
     refused_then s m a most more e first h le = (

@@ -99,7 +99,7 @@ specifiers_fault at (suc n) octets d fits e =
           ]
     ]
 
--- a number is read where its octets are there
+-- a number is read where there are enough octets
 pub has : (cut : MessageError) (w : Width) (octets : List ℕ) → byte_len w ≤ length octets
     → number_at cut w octets ≡ Ok (from_be_bytes w (take (byte_len w) octets), drop (byte_len w) octets)
 has cut w octets le = let e : ltb (length octets) (byte_len w) ≡ false = le-ltb _ _ le in rw e refl

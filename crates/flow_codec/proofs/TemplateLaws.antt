@@ -190,7 +190,7 @@ template_takes kind at octets x fits e =
     let all = Takes-then octets (to_be_bytes w16 a.0.0) a.0.1 (to_be_bytes w16 b.0.0 ++ c.text) x.1 t0.0 more in
     (subst (λ (t : List ℕ). Takes octets t x.1) c.whole all, c.is)
 
--- the ID and the Field Count in front of a template record
+-- the ID and the Field Count that a template record begins with
 pub record IsHeaded (kind : TemplateKind) (change : TemplateRecord) : Type 0 where
   pub id : ℕ
   pub count : ℕ

@@ -83,7 +83,7 @@ no_fault before octets m after (TemplatesFull domain) h is = let e = sym (messag
     ∙ h in absurd cc
 no_fault before octets m after DomainsFull h is = let e = sym (message_again before octets m after is) ∙ h in absurd cc
 
--- what is no message has its first fault
+-- octets that are no message have their first fault
 pub has_fault : (before : AllTemplates) (octets : List ℕ) (e : MessageError) → IsBytes octets
     → Fails e (message_at before octets) → (e ≡ OutOfMemory) ⊎ IsFault octets before e
 has_fault before octets OutOfMemory fits h = inl refl

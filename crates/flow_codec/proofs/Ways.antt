@@ -1,4 +1,4 @@
--- What the way of a plan tells of its fields.
+-- What the way of a plan says of its fields.
 use Rattle.std.proofs.Common.{◌≡◌, ℕ, Bool, true, false, cond, List, refl, sym, ap, ◌∙◌}
 use Rattle.flow_elements.specs.declared.element.ElementId.{ElementId}
 use Rattle.flow_codec.specs.declared.plan.Step.{Step}

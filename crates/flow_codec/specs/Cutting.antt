@@ -7,7 +7,7 @@ use Rattle.flow_codec.specs.declared.file.FileError.TheVariants.{Cut, Version, L
 use Rattle.flow_codec.specs.declared.file.Span.{Span}
 use Rattle.flow_codec.specs.Message.{joined}
 
--- the version in front of octets, and the Length behind it
+-- the Version that octets begin with, and the Length after it
 abbrev pub version_of : List ℕ → ℕ
 version_of octets = from_be_bytes w16 (take 2 octets)
 
@@ -39,16 +39,16 @@ abbrev pub spans_from : ℕ → List (List ℕ) → List Span
 spans_from at [] = []
 spans_from at (message ∷ more) = record { at = at; length = length message } ∷ spans_from (at + length message) more
 
--- messages, each cut off by its own header, and the octets behind the last of them
+-- messages, each cut off by its own header, and the octets after the last of them
 pub record IsDivided (octets : List ℕ) (parts : List (List ℕ)) (rest : List ℕ) : Type 0 where
   pub whole : octets ≡ joined parts ++ rest
   pub each : AllByRecursion IsCutOff parts
 
--- Octets end as a File's do behind its messages: there are none, or the first of them has a fault.
+-- The octets after the messages of a File: there are none, or they have a fault.
 abbrev pub IsLast : ℕ → List ℕ → Type 0
 IsLast at rest = (rest ≡ []) ⊎ ((fault : FileError) × IsFileFault at rest fault)
 
--- No octets are a message and have a fault at once, and they have one fault at most.
+-- Octets divide in one way into messages and a rest. The rest is empty and has no fault, or it has one fault.
 pub record HasOneDivision (octets : List ℕ) : Type 0 where
   pub parts : List (List ℕ)
   pub rest : List ℕ

@@ -3,7 +3,7 @@ use Rattle.std.specs.Prelude.{◌≡◌, ℕ, List, [], ◌∷◌, Option, Some,
 use Rattle.std.specs.Map.{lookup}
 use Rattle.flow_codec.specs.Layout.{Layout, definition_size}
 
--- no key is there twice
+-- no key is listed twice
 abbrev pub IsOnce : {V : Type 0} → List (ℕ × V) → Type 0
 IsOnce [] = Unit {0}
 IsOnce (e ∷ es) = (lookup (nat_eq e.0) es ≡ None) × IsOnce es

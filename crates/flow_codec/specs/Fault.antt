@@ -1,5 +1,5 @@
--- The first fault of octets that aren't an accepted message: it stands in the header, or behind a whole front, or is a
--- limit.
+-- The first fault of octets that aren't an accepted message: it is in the header, or after the header and whole Sets,
+-- or is a limit.
 use Rattle.std.specs.Prelude.{◌≡◌, ◌≢◌, ℕ, ◌+◌, ◌<◌, ◌≤◌, ◌^◌, ◌⊎◌, List, [], ◌∷◌, ◌++◌, length, take, Some}
 use Rattle.std.specs.Prelude.{slice_index_or}
 use Rattle.std.specs.List.{AllByRecursion}
@@ -29,16 +29,16 @@ IsHeaderFault octets fault =
     × (octets ≡ to_be_bytes w16 10 ++ to_be_bytes w16 len ++ rest) × (len < 2 ^ 16) × (len ≢ length octets)
     × (fault ≡ Length))
 
--- a specifier that the octets end in
+-- a field specifier that passes the end of the octets
 abbrev pub IsCutSpecifier : List ℕ → Type 0
 IsCutSpecifier octets = (length octets < 4) ⊎ ((32768 ≤ from_be_bytes w16 (take 2 octets)) × (length octets < 8))
 
--- the scope fields that a record of this kind and Field Count may tell
+-- the Scope Field Counts that a template record of this kind and Field Count may have
 abbrev pub IsScopeOf : TemplateKind → ℕ → ℕ → Type 0
 IsScopeOf Plain scope count = scope ≡ 0
 IsScopeOf Options scope count = (0 < scope) × (scope ≤ count) × (scope < 2 ^ 16)
 
--- what is wrong behind the ID and the Field Count of a definition
+-- what is wrong after the ID and the Field Count of a definition
 abbrev pub IsDefinitionFault : TemplateKind → ℕ → ℕ → List ℕ → MessageError → Type 0
 IsDefinitionFault kind at count rest fault =
     ((kind ≡ Options) × (length rest < 2) × (fault ≡ TemplateCut at))
@@ -49,7 +49,7 @@ IsDefinitionFault kind at count rest fault =
     × AllByRecursion IsSpecifier layout.fields × (length layout.fields < count) × IsCutSpecifier tail
     × (fault ≡ TemplateCut at))
 
--- what is wrong with the template record that stands first in these octets, which end their Set
+-- what is wrong with the template record that these octets begin with; they end where their Set ends
 abbrev pub IsTemplateFault : TemplateKind → ℕ → List ℕ → MessageError → Type 0
 IsTemplateFault kind at octets fault =
     (id : ℕ) × (count : ℕ) × (rest : List ℕ) × (octets ≡ to_be_bytes w16 id ++ to_be_bytes w16 count ++ rest)

@@ -7,7 +7,7 @@ use Rattle.flow_codec.specs.declared.message.Field.{Field}
 
 -- ---- as a relation
 
--- the octets of one field: of fixed length, or behind its length in one octet or in three
+-- the octets of one field: its value of fixed length, or its value after the length in one octet or three
 abbrev pub IsField : ℕ → List ℕ → List ℕ → Type 0
 IsField len octets value =
     ((len ≢ 65535) × (octets ≡ value) × (length value ≡ len))
@@ -24,13 +24,13 @@ AreFields (f ∷ fs) octets (x ∷ xs) = (first : List ℕ) × (more : List ℕ)
 
 -- ---- as a function of the octets of a whole record
 
--- what stands behind a length in one octet, or in three
+-- the octets that a length in one octet or three counts, and the octets after them
 abbrev pub counted_of : List ℕ → List ℕ × List ℕ
 counted_of [] = ([], [])
 counted_of (n ∷ rest) = if nat_lt n 255 then (take n rest, drop n rest) else
     (take (from_be_bytes w16 (take 2 rest)) (drop 2 rest), drop (from_be_bytes w16 (take 2 rest)) (drop 2 rest))
 
--- the value of the first field, and the octets behind it
+-- the value of the first field, and the octets after it
 abbrev pub value_of : ℕ → List ℕ → List ℕ × List ℕ
 value_of len octets = if len == 65535 then counted_of octets else (take len octets, drop len octets)
 

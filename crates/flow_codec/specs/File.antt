@@ -29,7 +29,7 @@ AreAccepted before (o ∷ os) [] after = ⊥
 AreAccepted before (o ∷ os) (m ∷ ms) after = (next : AllTemplates) × IsCutOff o × IsAccepted o before m next
     × AreAccepted next os ms after
 
--- what stands behind the accepted front of a File: nothing, a fault of the File, or a message that is refused
+-- what follows the accepted prefix of a File: nothing, a fault of the File, or a message that is refused
 pub data Ending : Type 0 where
   whole : Ending
   broken : FileError → Ending
@@ -50,11 +50,11 @@ pub record AcceptedFrom (before : AllTemplates) (at : ℕ) (octets : List ℕ) (
   pub accepted : AreAccepted before parts messages after
   pub end : EndsIn after (at + length (joined parts)) rest ending
 
--- the accepted front of a File: the most messages from its first octet on that are accepted in turn, and what ends it
+-- the accepted prefix of a File: the most messages from its first octet on that are accepted in turn, and what ends it
 abbrev pub AcceptedFront : List ℕ → List RawMessage → AllTemplates → Ending → Type 0
 AcceptedFront octets messages after ending = AcceptedFrom [] 0 octets messages after ending
 
--- any octets have an accepted front from these templates on, and only one
+-- octets have exactly one accepted prefix from these templates on
 pub record HasOneFront (before : AllTemplates) (at : ℕ) (octets : List ℕ) : Type 0 where
   pub messages : List RawMessage
   pub after : AllTemplates

@@ -32,7 +32,7 @@ IsPadding layout rest = (smallest layout ≡ 0) ⊎ (length rest < smallest layo
 
 -- ---- template records
 
--- template records one after the other, in these octets each, and what is in force after them
+-- template records one after the other, in these octets each, and the templates in force after them
 abbrev pub AreTemplates : ℕ → TemplateKind → AllTemplates → List (List ℕ) → AllTemplates → Type 0
 AreTemplates domain kind before [] after = after ≡ before
 AreTemplates domain kind before (r ∷ rs) after =
@@ -45,7 +45,7 @@ IsEnd rest = (length rest < 4) ⊎ ((more : List ℕ) × (rest ≡ 0 ∷ 0 ∷ m
 
 -- ---- Sets
 
--- a Set as it divides: its records, each in its octets, and the rest
+-- a Set divided into its records, each in its octets, and the rest
 pub record Division : Type 0 where
   pub id : ℕ
   pub records : List (List ℕ)
@@ -65,7 +65,7 @@ abbrev pub IsData : ℕ → Option Layout → Division → List RawRecord → Ty
 IsData id None set records = (set.records ≡ []) × (records ≡ [])
 IsData id (Some layout) set records = AreRecords id layout set.records records × IsPadding layout set.rest
 
--- by the Set's ID
+-- what a Set holds, by its ID
 pub record IsSet (domain : ℕ) (before : AllTemplates) (set : Division) (records : List RawRecord)
     (after : AllTemplates) : Type 0 where
   pub id : set.id < 2 ^ 16
@@ -95,7 +95,7 @@ pub record HeaderFits (h : Header) : Type 0 where
   pub sequence : h.sequence < 2 ^ 32
   pub domain : h.domain < 2 ^ 32
 
--- the octets begin with this header, whose Length is theirs, and these Sets, and `tail` follows at the place `at`
+-- the octets are this header, whose Length counts them all, then Sets, then `tail` at the place `at`
 pub record Front (octets : List ℕ) (before : AllTemplates) (header : Header) (records : List RawRecord)
     (here : AllTemplates) (at : ℕ) (tail : List ℕ) : Type 0 where
   pub sets : List Division

@@ -1,4 +1,4 @@
--- What a definition's plan tells of each record before it is read.
+-- What a definition's plan says of each record before it is read.
 use Rattle.std.specs.Prelude.{ℕ, ◌+◌, Bool, List, [], ◌∷◌, ◌++◌, length, take, drop, Option, Some, None, ◌&&◌, ◌==◌}
 use Rattle.std.specs.Prelude.{nat_le, nat_lt, sum_by, option_map, if◌then◌else◌}
 use Rattle.std.specs.List.{flat_map, list_all}
@@ -65,14 +65,14 @@ abbrev pub skip_of : Option ℕ → List Step
 skip_of None = []
 skip_of (Some count) = Skip count ∷ []
 
--- fixed octets that count for nothing, in front of steps
+-- a skip of octets before steps
 abbrev pub skipped : ℕ → List Step → List Step
 skipped count [] = Skip count ∷ []
 skipped count (Skip more ∷ steps) = Skip (count + more) ∷ steps
 skipped count (Fixed role len ∷ steps) = Skip count ∷ Fixed role len ∷ steps
 skipped count (Variable role ∷ steps) = Skip count ∷ Variable role ∷ steps
 
--- a step in front of steps: skips that meet are one
+-- a step before steps: adjacent skips become one
 abbrev pub before_steps : Step → List Step → List Step
 before_steps (Skip count) steps = skipped count steps
 before_steps (Fixed role len) steps = Fixed role len ∷ steps
@@ -96,7 +96,7 @@ steps_of (f ∷ fs) = before_steps (step_of f.0 f.1) (steps_of fs)
 abbrev pub counts_as : Role → ElementId × ℕ → Bool
 counts_as role f = is_none f.0.enterprise && (f.0.number == number_of role && is_counted role f.1)
 
--- a place with so many octets more before it
+-- a place with `count` more octets before it
 abbrev pub behind : ℕ → Place → Place
 behind count place = record { at = count + place.at; len = place.len }
 
@@ -142,7 +142,7 @@ plan_of fields = record {
   way = if are_fixed fields then ByPlaces (places_of fields) else BySteps (steps_of fields);
 }
 
--- ---- what the steps tell of a record
+-- ---- the values that the steps find in a record
 
 unfoldable pub values_by : List Step → List ℕ → List (Role × List ℕ)
 values_by [] octets = []

@@ -21,7 +21,7 @@ abbrev pub template_set : TemplateKind → List (ℕ × Layout) → List Divisio
 template_set kind [] = []
 template_set kind (e ∷ es) = record { id = set_id kind; records = records_of kind (e ∷ es); rest = [] } ∷ []
 
--- Templates first, Options Templates behind them
+-- Templates first, Options Templates after them
 abbrev pub template_sets : DomainTemplates → List Division
 template_sets here = template_set Plain here.templates ++ template_set Options here.options
 
@@ -38,7 +38,7 @@ prefix_header time due e = record {
 abbrev pub prefix_message : ℕ → ℕ → ℕ × DomainTemplates → List ℕ
 prefix_message time due e = header_octets (prefix_header time due e) ++ flat_map set_octets (template_sets e.1)
 
--- what it is: no data records
+-- that message as it is read: no data records
 abbrev pub prefix_read : ℕ → ℕ → ℕ × DomainTemplates → RawMessage
 prefix_read time due e = record { header = prefix_header time due e; records = [] }
 
@@ -57,7 +57,7 @@ prefix_octets time due all = joined (prefix_messages time due all)
 abbrev pub prefix_reads : ℕ → List (ℕ × ℕ) → AllTemplates → List RawMessage
 prefix_reads time due all = map (λ e. prefix_read time (due_in due e.0) e) all
 
--- numbers that a header has room for
+-- numbers that fit in a header
 abbrev pub AreDomains : AllTemplates → Type 0
 AreDomains all = AllByRecursion (λ e. e.0 < 2 ^ 32) all
 

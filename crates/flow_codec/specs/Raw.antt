@@ -5,7 +5,7 @@ use Rattle.flow_codec.specs.declared.message.Field.{Field}
 use Rattle.flow_codec.specs.Layout.{Layout}
 use Rattle.flow_codec.specs.Fields.{AreFields}
 
--- a data record: the ID and the definition that it stands under, and its octets
+-- a data record: the ID and the definition of its template, and its octets
 pub record RawRecord : Type 0 where
   pub id : ℕ
   pub layout : Layout
@@ -29,8 +29,8 @@ Placed = Header × RawRecord
 abbrev pub under : Header → List RawRecord → List Placed
 under header records = map (λ r. (header, r)) records
 
--- A sink took these records of a message: whatever it had taken before, from some state on, it has taken them behind
--- it.
+-- A sink took these records of a message: whatever it had taken before, from some state on, it has taken these after
+-- that.
 abbrev pub Took : {S : Type 0} → (S → List Placed → S → Type 0) → Header → S → List RawRecord → S → Type 0
 Took {S} holds header old records new = (start : S) (before : List Placed) → holds start before old
     → holds start (before ++ under header records) new

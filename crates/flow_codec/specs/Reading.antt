@@ -23,7 +23,7 @@ abbrev pub ◌>>=◌ : {A B : Type 0} → Result A MessageError → (A → Resul
 (Ok x) >>= f = f x
 (Err e) >>= f = Err e
 
--- ---- what a function answers beside what reading gives
+-- ---- what a function answers, compared with what reading gives
 
 -- This fault is the one that reading meets, unless memory ran out.
 abbrev pub Fails : {Y : Type 0} → MessageError → Result Y MessageError → Type 0
@@ -44,7 +44,7 @@ abbrev pub Gives : {X Y : Type 0} → (X → Y) → Result X MessageError → Re
 Gives view (Ok x) read = read ≡ Ok (view x)
 Gives view (Err e) read = Fails e read
 
--- A sink refused a record, behind fewer than `most` records of this message that it took.
+-- A sink refused a record, after it took fewer than `most` records of this message.
 abbrev pub IsRefused : {S E : Type 0} → (S → List Placed → S → Type 0) → (S → List Placed → Placed → E → Type 0)
     → Header → S → ℕ → E → Type 0
 IsRefused {S} holds refuses header old most e =
@@ -93,7 +93,7 @@ abbrev pub octets_at : ℕ → ℕ → List ℕ → Result (List ℕ × List ℕ
 octets_at at len octets =
     if nat_lt (length octets) len then Err (RecordCut at) else Ok (take len octets, drop len octets)
 
--- the octets in front, with more of them before
+-- what reading gives, with more octets before those that it read
 abbrev pub behind : List ℕ → Result (List ℕ × List ℕ) MessageError → Result (List ℕ × List ℕ) MessageError
 behind front read = read >>= λ x. Ok (front ++ x.0, x.1)
 
@@ -129,7 +129,7 @@ records_of end id layout octets = if smallest layout ==
 
 -- ---- template records
 
--- behind an element's number and its Field Length, an enterprise number where the bit says so
+-- after an element's number and its Field Length: an enterprise number where the Enterprise bit is set
 abbrev pub element_at : ℕ → ℕ → ℕ → List ℕ → Result ((ElementId × ℕ) × List ℕ) MessageError
 element_at at number len octets =
     if nat_lt number 32768 then Ok ((record { enterprise = None; number = number }, len), octets) else do
@@ -155,14 +155,14 @@ scope_at Plain at count octets = Ok (0, octets)
 scope_at Options at count octets = number_at (TemplateCut at) w16 octets >>= λ scope. if scope.0 ==
     0 || nat_lt count scope.0 then Err (ScopeCount at) else Ok scope
 
--- behind the ID and the Field Count of a definition
+-- a definition, after its ID and its Field Count
 abbrev pub definition_at : TemplateKind → ℕ → ℕ → ℕ → List ℕ → Result (TemplateRecord × List ℕ) MessageError
 definition_at kind at id count octets = do
   scope ← scope_at kind at count octets
   fields ← specifiers_at at count scope.1
   Ok (Define id (record { options = is_options kind; scope = scope.0; fields = fields.0 }), fields.1)
 
--- behind an ID and a Field Count
+-- a template record, after its ID and its Field Count
 abbrev pub change_at : TemplateKind → ℕ → ℕ → ℕ → List ℕ → Result (TemplateRecord × List ℕ) MessageError
 change_at kind at id count octets =
     if id == set_id kind && count == 0 then Ok (WithdrawAll, octets) else
@@ -196,7 +196,7 @@ data_at end id (Some layout) octets = records_of end id layout octets
 abbrev pub kind_of : ℕ → Option TemplateKind
 kind_of id = if id == 2 then Some Plain else if id == 3 then Some Options else None
 
--- what stands in a Set that ends at `end` and has this ID
+-- the data records of a Set that ends at `end` and has this ID, which isn't that of template records
 abbrev pub other_at : ℕ → ℕ → ℕ → AllTemplates → List ℕ → Result (List RawRecord × AllTemplates) MessageError
 other_at end domain id all octets =
     if nat_lt id 256 then Ok ([], all) else (data_at end id (definition_of id (definitions_of domain all)) octets >>=
@@ -211,7 +211,7 @@ content_by None end domain id all octets = other_at end domain id all octets
 unfoldable pub content_at : ℕ → ℕ → ℕ → AllTemplates → List ℕ → Result (List RawRecord × AllTemplates) MessageError
 content_at end domain id all octets = content_by (kind_of id) end domain id all octets
 
--- the Set at `at`: its ID, what stands in it, and the octets after it
+-- the Set at `at`: its ID, its content, and the octets after it
 unfoldable pub set_at : ℕ → List ℕ → Result (ℕ × List ℕ × List ℕ) MessageError
 set_at at octets = do
   id ← number_at (SetLength at) w16 octets
@@ -232,7 +232,7 @@ sets_at (suc n) end domain all octets = if length octets == 0 then Ok ([], all) 
 
 -- ---- the message
 
--- behind the Length, which has to be that of all octets
+-- the header after its Length, which has to count all octets
 abbrev pub behind_length : List ℕ → ℕ → List ℕ → Result (Header × List ℕ) MessageError
 behind_length octets len rest = if len == length octets then (do
   time ← number_at Short w32 rest

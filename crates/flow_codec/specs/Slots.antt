@@ -40,7 +40,7 @@ pub record HasRoom (n : ℕ) (table : SlotTable) : Type 0 where
   pub slots : vec_len table.slots + n ≤ vec_capacity table.slots
   pub places : n ≤ spare table.places
 
--- what changes begin with: another table, where there is one
+-- the table that changes begin with: `fresh`, where there is one
 abbrev pub begun : Option (Box SlotTable) → SlotTable → SlotTable
 begun None table = table
 begun (Some fresh) table = box_value fresh
@@ -53,7 +53,7 @@ pub record IsReady (entries : List (ℕ × Layout)) (n : ℕ) (table : SlotTable
 
 -- ---- changes of entries
 
--- a definition that is put under an ID, or what is there taken out
+-- a definition put under an ID, or the one there taken out
 abbrev pub change_by : List (ℕ × Layout) → ℕ → Option Layout → List (ℕ × Layout)
 change_by entries id None = shift_remove_entry (nat_eq id) entries
 change_by entries id (Some layout) = insert_entry nat_eq entries id layout

@@ -11,8 +11,8 @@ use Rattle.flow_codec.specs.declared.patient.ReadFailed.{ReadFailed}
 use Rattle.flow_codec.specs.declared.window.Window.{Window}
 use Rattle.flow_codec.specs.Cutting.{IsCutOff, IsHeaderRefused, IsFileFault}
 
--- How far a File was read: the octets that are left, where they are known, the message that is held, the messages that
--- were given and the place behind them, and what reading stopped by.
+-- How far a File was read: the octets that are left, where they are known, the message that is held, the count of
+-- messages given and the place after them, and why reading stopped.
 pub record Progress : Type 0 where
   pub rest : Option (List ℕ)
   pub message : List ℕ
@@ -20,16 +20,16 @@ pub record Progress : Type 0 where
   pub at : ℕ
   pub stopped : Option StreamError
 
--- the octets that stand next at the place `at`, which are the known ones where any are known, have this fault
+-- the next octets, at the place `at`, have this fault; they are the known ones, where they are known
 abbrev pub IsFaultNext : ℕ → Option (List ℕ) → FileError → Type 0
 IsFaultNext at known fault = (rest : List ℕ) × IsFileFault at rest fault × IfSome known (λ xs. xs ≡ rest)
 
--- a message stands next, whole
+-- the next octets begin with a whole message
 abbrev pub IsMessageNext : Option (List ℕ) → Type 0
 IsMessageNext known = (message : List ℕ) × (more : List ℕ) × IsCutOff message
     × IfSome known (λ xs. xs ≡ message ++ more)
 
--- what reading stops by, behind `count` messages up to the place `at`
+-- why reading stops, after `count` messages up to the place `at`
 abbrev pub IsStop : ℕ → ℕ → Option (List ℕ) → StreamError → Type 0
 IsStop count at known (File fault) = IsFaultNext at known fault
 IsStop count at known (Read failed) = ⊤
@@ -53,8 +53,8 @@ IsStep old (Err e) new =
 abbrev pub held : Window → List ℕ
 held w = slice_range w.octets.items w.start w.end
 
--- What a reader of a File holds: the octets that were read and stand behind the message that is held, that message, the
--- messages that were given and the place behind them, and what reading stopped by.
+-- What a reader of a File holds: the octets read after the message that is held, that message, the count of messages
+-- given and the place after them, and why reading stopped.
 pub record Held : Type 0 where
   pub ahead : List ℕ
   pub message : List ℕ
@@ -62,7 +62,7 @@ pub record Held : Type 0 where
   pub at : ℕ
   pub stopped : Option StreamError
 
--- how far the File was read whose input has these octets left, where they are known
+-- how far a File was read: its input has these octets left, where they are known
 abbrev pub progress : Held → Option (List ℕ) → Progress
 progress reader left = record {
   rest = prepend_known reader.ahead left;
@@ -72,18 +72,18 @@ progress reader left = record {
   stopped = reader.stopped;
 }
 
--- no message stands whole in octets that were read: there are none, or they end before the message does
+-- octets that were read hold no whole message: there are none, or they end before their message does
 abbrev pub IsUnfinished : ℕ → List ℕ → Type 0
 IsUnfinished at octets = (octets ≡ []) ⊎ IsFileFault at octets (Cut at)
 
--- Where reading failed nothing that was read is lost, and no message stands whole in what is held.
+-- Where reading failed, no octets that were read are lost, and those that are held hold no whole message.
 abbrev pub StopsWithin : Held → Option (List ℕ) → StreamError → Held → Option (List ℕ) → Type 0
 StopsWithin old left (Read failed) new after = old.stopped ≡ None
     → Keeps (prepend_known old.ahead left) (prepend_known new.ahead after) × IsUnfinished old.at new.ahead
 StopsWithin old left (File fault) new after = ⊤
 StopsWithin old left NumbersSpent new after = ⊤
 
--- Octets are read behind those that are held, or the input is at its end, or reading failed.
+-- Octets are read after those that are held, or the input is at its end, or reading failed.
 abbrev pub IsRefilled : List ℕ → Option (List ℕ) → Result Bool ReadFailed → List ℕ → Option (List ℕ) → Type 0
 IsRefilled old left (Ok true) new after =
     (read : List ℕ) × (0 < length read) × (new ≡ old ++ read) × Consumes left after read
@@ -102,8 +102,8 @@ IsReadNext at octets =
     ((n : ℕ) × (n ≤ length octets) × IsCutOff (take n octets))
     ⊎ ((fault : FileError) × (16 ≤ length octets) × IsHeaderRefused at octets fault)
 
--- Whether a message stands whole in what is held, behind reads where more was wanted. `old` and `new` are the octets
--- that stand next, where they are known.
+-- Whether the held octets begin with a whole message, after reads where more octets were needed. `old` and `new` are
+-- the next octets before and after that, where they are known.
 abbrev pub IsFound : ℕ → Option (List ℕ) → Result (Option ℕ) StreamError → List ℕ → Option (List ℕ) → Type 0
 IsFound at old (Ok (Some n)) octets new = (n ≤ length octets) × IsCutOff (take n octets) × Keeps old new
 IsFound at old (Ok None) octets new = (octets ≡ []) × IsAtEnd old × IsAtEnd new

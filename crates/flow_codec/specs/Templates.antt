@@ -20,7 +20,7 @@ AllTemplates = List (ℕ × DomainTemplates)
 abbrev pub no_definitions : DomainTemplates
 no_definitions = record { templates = []; options = [] }
 
--- what is in force in a domain
+-- the definitions in force in a domain
 abbrev pub definitions_of : ℕ → AllTemplates → DomainTemplates
 definitions_of domain all = unwrap_or (lookup (nat_eq domain) all) no_definitions
 

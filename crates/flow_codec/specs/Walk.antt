@@ -29,7 +29,7 @@ IsWalkOf holds refuses most now old new (Err (Message e)) m after = e ≡ OutOfM
 IsWalkOf holds refuses most now old new (Err (Sink e)) m after =
     (header : Header) × IsRefused holds refuses header old most e
 
--- Why a walk stops: at the first fault, for want of memory, or because the sink refused a record.
+-- Why a walk stops: the first fault, memory that was refused, or a record that the sink refused.
 abbrev pub IsStopped : {S E : Type 0} → (S → List Placed → S → Type 0) → (S → List Placed → Placed → E → Type 0)
     → List ℕ → AllTemplates → S → WalkError E → Type 0
 IsStopped holds refuses octets before old (Message e) = (e ≡ OutOfMemory) ⊎ IsFault octets before e
@@ -41,7 +41,7 @@ abbrev pub IsJudgementOf : Result Header MessageError → RawMessage → Type 0
 IsJudgementOf (Ok header) m = header ≡ m.header
 IsJudgementOf (Err e) m = e ≡ OutOfMemory
 
--- A fault stays what it is, and a sink that refuses for want of memory alone gives OutOfMemory.
+-- A fault stays as it is; the refusal of a sink that only runs out of memory becomes OutOfMemory.
 abbrev pub IsFaultOf : {E : Type 0} → WalkError E → MessageError → Type 0
 IsFaultOf (Message fault) e = e ≡ fault
 IsFaultOf (Sink refusal) e = e ≡ OutOfMemory

@@ -1,4 +1,4 @@
--- What is in force while a message is read: the templates from before it, with what it changed in its own domain.
+-- The templates in force while a message is read: those from before it, with its changes in its own domain.
 use Rattle.std.specs.Prelude.{◌≡◌, ℕ, suc, ◌+◌, ◌*◌, ◌≤◌, ◌^◌, Bool, List, [], ◌∷◌, Option, Some, None, nat_eq, length}
 use Rattle.std.specs.Prelude.{⊤}
 use Rattle.std.specs.Prelude.{IfSome, unwrap_or, if◌then◌else◌}
@@ -16,7 +16,7 @@ use Rattle.flow_codec.specs.Slots.{made, started}
 use Rattle.flow_codec.specs.Entries.{IsOnce, entries_size}
 use Rattle.flow_codec.specs.Templates.{AllTemplates, definitions_of, with_domain}
 
--- the domain's definitions in their place, or at the end where the domain once was without any
+-- the domain's definitions in their place, or at the end where it was without any before one of the template records
 abbrev pub put_back : ℕ → Bool → DomainTemplates → AllTemplates → AllTemplates
 put_back domain left here all =
     if left then with_domain domain here (shift_remove_entry (nat_eq domain) all) else with_domain domain here all
@@ -44,7 +44,8 @@ abbrev pub KnowsLast : {S : Type 0} → Option (Box (HashMap ℕ ℕ S)) → Lis
 KnowsLast own changes =
     IfSome own (λ map. (id : ℕ) → get nat_eq (box_value map) id ≡ last_place id changes)
 
--- What is told of the changes is right: the last change of each ID, and the octets of all template records after them.
+-- What an overlay records of its changes is right: the last change of each ID, and the octets of all template records
+-- after them.
 pub record IsOver (base : List (ℕ × Layout)) (o : Overlay) : Type 0 where
   pub once : IsOnce (overlaid base o)
   pub found : (id : ℕ) → lookup (nat_eq id) (overlaid base o) ≡ unwrap_or (last_change id o.log)

@@ -70,7 +70,7 @@ impl Definitions {
         self.table.get(id)
     }
 
-    /// Puts the template records that give these definitions behind octets, in order.
+    /// Appends the template records of these definitions to octets, in order.
     pub(crate) fn put_records(
         &self,
         octets: &mut Vec<u8>,
@@ -93,8 +93,8 @@ impl Definitions {
     }
 }
 
-/// Makes what a message changed in both lists of a domain, and takes the changes out. All memory is taken before
-/// anything changes, so an `Err` changes nothing in the lists.
+/// Applies a message's changes to both lists of a domain, and takes them out of the overlays. All memory is taken
+/// first, so an `Err` changes nothing in the lists.
 pub(crate) fn make_changes(
     templates: &mut Definitions,
     options: &mut Definitions,

@@ -16,7 +16,7 @@ use crate::walk::walk_message;
 use flow_elements::{ElementId, Items};
 use std::alloc::{AllocError, Global};
 
-/// The first `count` octets, or all where there are fewer, and those behind them.
+/// The first `count` octets, or all where there are fewer, and those after them.
 fn split_up_to(octets: &[u8], count: usize) -> (&[u8], &[u8])
     ensures front { result.0.now ≡ take count octets.now }
     ensures back { result.1.now ≡ drop count octets.now }
@@ -27,7 +27,7 @@ fn split_up_to(octets: &[u8], count: usize) -> (&[u8], &[u8])
     octets.split_at(count)
 }
 
-/// What stands behind a length in one octet or in three, and the octets behind it.
+/// The octets that a length in one octet or three counts, and the octets after them.
 fn split_counted(octets: &[u8]) -> (&[u8], &[u8])
     ensures value { result.0.now ≡ (counted_of octets.now).0 }
     ensures rest { result.1.now ≡ (counted_of octets.now).1 }
@@ -46,9 +46,9 @@ fn split_counted(octets: &[u8]) -> (&[u8], &[u8])
     split_up_to(after, u16::from_be_bytes([len[0], len[1]]) as usize)
 }
 
-/// The value of the field in front of a record's octets, by its Field Length, and the octets behind it (RFC 7011,
-/// sections 3.4.3 and 7). A Field Length of 65535 is variable: then the length octets, one or three, are left out of
-/// the value. Nothing is copied; where the octets are too few, the value has those that are there.
+/// The value of the field that octets of a record begin with, by its Field Length, and the octets after it (RFC 7011,
+/// sections 3.4.3 and 7). A Field Length of 65535 means variable length: the length octets, one or three, are left out
+/// of the value. Nothing is copied; where the octets are too few, the value is shorter.
 pub fn split_field(len: u16, octets: &[u8]) -> (&[u8], &[u8])
     ensures value { result.0.now ≡ (value_of len octets.now).0 }
     ensures rest { result.1.now ≡ (value_of len octets.now).1 }
@@ -80,7 +80,7 @@ fn fields_of(
     Ok(Items::from_vec(fields))
 }
 
-/// Takes data records in fields.
+/// A sink that builds data records in fields.
 #[derive(Drop)]
 struct Records {
     alloc: Global,
@@ -116,8 +116,8 @@ impl RecordSink for Records {
 
 /// Reads a message in fields, and takes its templates in. An `Err` leaves the templates as they were.
 ///
-/// It builds every field. A hostile message has many fields of no octets: what accepts, counts or measures messages
-/// walks them.
+/// It builds every field. A hostile message has many fields of no octets, so accepting, counting and measuring walk the
+/// message instead.
 pub fn read_message(
     templates: &mut Templates,
     alloc: Global,

@@ -60,7 +60,7 @@ impl<T: Drop> From<AllocFailed<T>> for FileError {
     }
 }
 
-/// Where a message stands in a File, in octets.
+/// The place and the length of a message in a File, in octets.
 #[derive(Clone, Copy, Debug, PartialEq, Eq)]
 pub struct Span {
     pub at: u64,
@@ -72,11 +72,11 @@ pub fn split_file(alloc: Global, octets: &[u8]) -> Result<Items<Span>, FileError
     // The spans are those of messages that fill the octets.
     ensures found { IfOk result (λ spans. (parts : List (List ℕ)) × IsDivided octets.now parts []
         × (spans ≡ spans_from 0 parts)) }
-    // Other octets are refused by their first fault, behind messages.
+    // Other octets are refused by the first fault after their messages.
     ensures fault { IfErr result (λ e. (e ≡ OutOfMemory)
         ⊎ ((parts : List (List ℕ)) × (rest : List ℕ) × IsDivided octets.now parts rest
         × IsFileFault (length (joined parts)) rest e)) }
-    // Whatever messages fill the octets, theirs are the spans that are answered.
+    // If messages fill the octets, the answer is their spans, unless memory runs out.
     ensures only { (parts : List (List ℕ)) → IsDivided octets.now parts []
         → MatchResult result (λ spans. spans ≡ spans_from 0 parts) (λ e. e ≡ OutOfMemory) }
 {
@@ -93,14 +93,14 @@ pub fn split_file(alloc: Global, octets: &[u8]) -> Result<Items<Span>, FileError
     Ok(Items::from_vec(spans))
 }
 
-/// Any octets divide in one way into messages, each cut off by its own header, and octets behind them that are none or
-/// have one fault. They have one accepted front, whatever templates are in force before it.
+/// Any octets divide in one way into messages, each cut off by its own header, and a rest that is empty or has one
+/// fault. They have one accepted prefix, whatever templates are in force before it.
 pub fn one_front()
     ensures divided { (octets : List ℕ) → HasOneDivision octets }
     ensures accepted { (before : AllTemplates) (octets : List ℕ) → IsOctets octets → HasOneFront before 0 octets }
 {}
 
-/// The Length in the header of a message (RFC 7011, section 3.1), with that of the header itself. `at` is its place in
+/// The Length in a message header (RFC 7011, section 3.1), which counts the header's octets too. `at` is its place in
 /// the File.
 pub(crate) fn length_in(at: u64, header: &[u8]) -> Result<usize, FileError>
     requires { 16 ≤ length header.now }

@@ -3,7 +3,7 @@
 ghost use Rattle.std.specs.Prelude.{◌≡◌};
 ghost use Rattle.flow_codec.specs.Layout.{set_id, is_options};
 
-/// Which Sets a template record stands in.
+/// The kind of a template record, by the Sets that hold it.
 #[derive(Clone, Copy, Debug, PartialEq, Eq)]
 pub enum TemplateKind {
     /// A Template Record, in a Set of ID 2.

@@ -35,8 +35,8 @@ pub fn one_answer()
         → IsAccepted octets before m after → AreTemplatesInForce after }
 {}
 
-/// The octets of a whole record divide into fields in one way, which `fields_in` gives, and only one whole record
-/// stands in front of octets.
+/// The octets of a whole record divide into fields in one way, which `fields_in` gives, and octets begin with at most
+/// one whole record of a definition.
 pub fn one_division()
     ensures fields { (layout : Layout) (octets : List ℕ) → IsWhole layout octets
         → AreFields layout.fields octets (fields_in layout.fields octets) }
@@ -46,7 +46,7 @@ pub fn one_division()
         → IsWhole layout others → octets ++ rest ≡ others ++ back → octets ≡ others }
 {}
 
-/// A message has fewer than 65,536 octets, one at least for each data record behind its header, and changes the
+/// A message has fewer than 65,536 octets, at least one for each data record after its header, and changes the
 /// templates of its own domain alone.
 pub fn message_bounds()
     ensures size { (octets : List ℕ) (before after : AllTemplates) (m : RawMessage) → IsAccepted octets before m after
@@ -58,7 +58,8 @@ pub fn message_bounds()
         → definitions_of other after ≡ definitions_of other before }
 {}
 
-/// What a template record changes, where no domain and no ID of its domain is there twice, as they never are.
+/// What a template record changes, where no domain and no ID of its domain is listed twice, as holds of templates in
+/// force.
 pub fn template_changes()
     // What is defined is in force, and other IDs are as before.
     ensures defined { (domain id : ℕ) (kind : TemplateKind) (layout : Layout) (all : AllTemplates) → IsOnce all

@@ -16,7 +16,7 @@ use crate::templates::Definition;
 use std::alloc::{AllocError, Global};
 use std::collections::HashMap;
 
-/// So many changes are looked through for the last one of an ID. Where there are more, a map has it.
+/// Up to so many changes are looked through for the last one of an ID. Where there are more, a map has it.
 const FEW: usize = 8;
 
 /// The changes in order. The last one of an ID counts, before the list itself. A definition that was taken out is
@@ -43,7 +43,7 @@ fn size_in(definition: Option<&Definition>) -> usize
     }
 }
 
-/// Whether what is there under an ID is what a change is to leave there.
+/// Whether the definition under an ID is already the one that a change leaves.
 fn is_so(here: Option<&Definition>, change: Option<&Definition>) -> bool
     ensures { IsTrue result → option_copied here.entry ≡ option_copied change.entry }
 {
@@ -81,7 +81,7 @@ fn places_of(
     Ok(own)
 }
 
-/// Takes note of a change of an ID that is to follow those of `log`. After an `Err` the map is of no use.
+/// Notes a change of an ID that will follow those in `log`. After an `Err` the map is of no use.
 fn note(
     own: &mut Option<Box<HashMap<u16, usize>>>,
     alloc: Global,
@@ -147,7 +147,7 @@ impl Overlay {
         }
     }
 
-    /// Whether no definition is left: each has a template record of some octets.
+    /// Whether no definition is left: the template record of each has octets.
     pub(crate) fn is_empty(&self) -> bool
         ensures { (base : List (ℕ × Layout)) → IsOver base self.now
             → result ≡ (length (overlaid base self.now) == 0) }
@@ -155,7 +155,7 @@ impl Overlay {
         self.size == 0
     }
 
-    /// Puts a definition under an ID, or takes out what is there. No change is noted where that is so already. After an
+    /// Puts a definition under an ID, or takes out the one there. No change is noted where that is so already. After an
     /// `Err` the changes are of no use.
     pub(crate) fn change(
         &mut self,
@@ -180,7 +180,7 @@ impl Overlay {
         Ok(())
     }
 
-    /// Takes out what is there under an ID. After an `Err` the changes are of no use.
+    /// Takes out the definition under an ID. After an `Err` the changes are of no use.
     #[tactic(auto, using(crate::proofs::OverlayLaws::nothing_taken))]
     pub(crate) fn take(
         &mut self,

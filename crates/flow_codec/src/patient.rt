@@ -1,4 +1,4 @@
-//! Reading that bears interrupted calls.
+//! Reading that tries again after interrupted calls.
 
 ghost use Rattle.std.specs.Prelude.{Some, codes, ◌≡◌, ◌≤◌, length, IfOk};
 ghost use Rattle.std.specs.Io.KnownBytes.{ReadConsumes};
@@ -7,7 +7,7 @@ use std::error::Error;
 use std::fmt;
 use std::io::{ErrorKind, Read};
 
-/// The interrupted call at which a reader is given up.
+/// The count of interrupted calls at which a reader gives up.
 const MAX_INTERRUPTS: u32 = 1_000_000;
 
 /// Reading failed, or was interrupted 1,000,000 times over the reader's life. Only this module makes one, where that
@@ -27,15 +27,15 @@ impl fmt::Display for ReadFailed {
 
 impl Error for ReadFailed {}
 
-/// The interrupted calls that a reader still bears.
+/// How many interrupted calls a reader has left.
 #[derive(Drop)]
 pub(crate) struct Patience {
-    /// The one that gives up among them.
+    /// Counts the one that gives up.
     left: u32,
 }
 
 impl Patience {
-    /// That of a whole life: the 1,000,000th interrupted call gives up.
+    /// For a reader's whole life: the 1,000,000th interrupted call gives up.
     pub(crate) fn new() -> Self
         ensures { result.left ≡ 1000000 }
     {

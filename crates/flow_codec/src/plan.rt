@@ -40,7 +40,7 @@ pub struct Place {
     pub len: u16,
 }
 
-/// Where the numbers of a record of fixed lengths stand: of each role the first field that counts.
+/// The places of the numbers in a record of fixed lengths: for each role, the first field that counts.
 #[derive(Clone, Copy, Debug, PartialEq, Eq)]
 pub struct Places {
     pub octets: Option<Place>,
@@ -61,9 +61,9 @@ pub struct Plan {
 /// How each record of a definition is stepped over.
 #[derive(Debug, Drop)]
 pub enum Way {
-    /// No field is of variable length: where the numbers stand. Each record has the octets of the smallest.
+    /// No field is of variable length: the places of the numbers. Each record is as long as the smallest.
     ByPlaces(Places),
-    /// Step by step: no step but the skips is one of no octets, and no two skips are neighbours.
+    /// Step by step: only a skip may pass over no octets, and no two skips are adjacent.
     BySteps(ShortList<Step>),
 }
 
@@ -112,7 +112,7 @@ impl Places {
         }
     }
 
-    /// Takes the place of a field, if the field counts and is the first of its role.
+    /// Notes the place of a field, if the field counts and is the first of its role.
     fn note(&mut self, id: &ElementId, place: Place)
         ensures { self.new ≡ noted (role_of id.now) place self.old }
     {
@@ -146,7 +146,7 @@ fn step_of(id: &ElementId, len: u16) -> Step
     }
 }
 
-/// Puts a skip of these octets behind the steps.
+/// Appends a skip of these octets to the steps, where there are any.
 fn push_skip(
     alloc: Global,
     steps: &mut ShortList<Step>,

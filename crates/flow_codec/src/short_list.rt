@@ -9,7 +9,7 @@ use std::fmt::Debug;
 use std::marker::Model;
 use std::mem::replace;
 
-/// Items that get their memory at once, where there is more than one.
+/// How many items the first memory has room for, where there is more than one.
 const FEW: usize = 4;
 
 /// A list that keeps a single item in place, and takes memory for more. Contracts see it as the list of its items.
@@ -54,7 +54,7 @@ impl<T: Drop> ShortList<T> {
         }
     }
 
-    /// No items, with memory for so many where that is more than one.
+    /// No items, with memory for `count` where that is more than one.
     pub(crate) fn with_capacity(alloc: Global, count: usize) -> Result<Self, AllocError>
         ensures { IfOk result (λ list. list ≡ []) }
     {
@@ -73,7 +73,7 @@ impl<T: Drop> ShortList<T> {
         replace(self, ShortList::new())
     }
 
-    /// Puts an item behind the others. After an `Err` the list is of no use.
+    /// Puts an item at the end. After an `Err` the list is of no use.
     pub(crate) fn push(&mut self, alloc: Global, item: T) -> Result<(), AllocError>
         ensures { OnOk result (self.new ≡ self.old ++ item ∷ []) }
     {
@@ -104,7 +104,7 @@ impl<T> ShortList<T> {
     }
 }
 
-/// The items with one more behind them.
+/// The items with one more at the end.
 fn with_item<T: Drop>(alloc: Global, kept: Kept<T>, item: T) -> Result<Kept<T>, AllocError>
     ensures { IfOk result (λ more. listed more ≡ listed kept ++ item ∷ []) }
 {

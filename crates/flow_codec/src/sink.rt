@@ -1,4 +1,4 @@
-//! What a message's data records are handed to.
+//! Sinks, which take a message's data records.
 
 ghost use Rattle.std.specs.Prelude.{◌++◌, ◌∷◌, [], List, OnOk, IfErr};
 ghost use Rattle.flow_codec.specs.Raw.{Placed, RawRecord, raw, IsWhole};
@@ -16,7 +16,7 @@ pub trait RecordSink {
     // From the first state on, the sink has taken these records, and is now in the second.
     ghost holds: { Self → List Placed → Self → Type 0 };
 
-    // From that state on and behind these records, this one is refused so.
+    // From that state on, after these records, this record is refused with this error.
     ghost refuses: { Self → List Placed → Placed → Self.Error → Type 0 };
 
     /// Takes a whole record of a message with this header. After an `Err` the sink is of no use.

@@ -24,7 +24,8 @@ use std::collections::HashMap;
 pub(crate) struct SlotTable {
     slots: Vec<Option<(u16, Definition)>>,
     places: HashMap<u16, usize>,
-    /// The places of IDs that were put lately, each where its ID may be remembered. It is looked at before it is used.
+    /// The places of IDs that were put lately, each at the index that `recent_slot` gives. A place is checked before it
+    /// is used.
     recent: [usize; RECENT],
 }
 
@@ -61,7 +62,7 @@ impl SlotTable {
         self.places.is_empty()
     }
 
-    /// The definition under an ID. It is first looked for at a place where it may be.
+    /// The definition under an ID, looked for first at the place that is remembered.
     pub(crate) fn get(&self, id: u16) -> Option<&Definition>
         requires { IsTable self.now }
         ensures { option_copied result ≡ lookup (nat_eq id) (entries_of self.now) }
@@ -90,7 +91,7 @@ impl SlotTable {
         }
     }
 
-    /// An ID that is there keeps its place; a new one goes to the end.
+    /// Puts a definition under an ID. An ID of the table keeps its place; a new one goes to the end.
     fn put(&mut self, id: u16, definition: Definition)
         requires slots { IsTable self.old }
         requires room { HasRoom 1 self.old }
@@ -122,7 +123,7 @@ impl SlotTable {
         }
     }
 
-    /// Puts a definition under an ID, or takes out what is there.
+    /// Puts a definition under an ID, or takes out the one there.
     fn change(&mut self, id: u16, change: Option<Definition>)
         requires slots { IsTable self.old }
         requires room { HasRoom 1 self.old }
@@ -151,7 +152,7 @@ impl SlotTable {
         Ok(copy)
     }
 
-    /// Puts the template records that give these definitions behind octets, in order.
+    /// Appends the template records of these definitions to octets, in order.
     pub(crate) fn put_records(
         &self,
         octets: &mut Vec<u8>,
@@ -204,7 +205,7 @@ impl SlotTable {
         Ok(())
     }
 
-    /// Takes the memory for `count` changes: it gives the table that they begin with where that isn't this one.
+    /// Takes the memory for `count` changes, and answers the table that they begin with, where that isn't this one.
     pub(crate) fn prepare(
         &mut self,
         cleared: bool,
@@ -225,7 +226,7 @@ impl SlotTable {
         Ok(None)
     }
 
-    /// Puts `fresh` in the place of this table, where there is one.
+    /// Replaces this table by `fresh`, where there is one.
     fn begin(&mut self, fresh: Option<Box<SlotTable>>)
         ensures { self.new ≡ begun fresh self.old }
     {
@@ -259,7 +260,7 @@ impl SlotTable {
         }
     }
 
-    /// Makes changes in what `prepare` gave for them.
+    /// Makes changes in the table that `prepare` made ready for them.
     pub(crate) fn finish(
         &mut self,
         fresh: Option<Box<SlotTable>>,
@@ -275,7 +276,7 @@ impl SlotTable {
     }
 }
 
-/// Where the place of an ID may be remembered.
+/// The index in `recent` for the place of an ID.
 fn recent_slot(id: u16) -> usize
     ensures { result < 32 }
 {

@@ -23,9 +23,9 @@ const MOST_MESSAGES: u64 = 0xffff_ffff_ffff;
 /// Why reading a File stopped.
 #[derive(Clone, Copy, Debug, PartialEq, Eq)]
 pub enum StreamError {
-    /// What stands behind the messages that were read is no message.
+    /// The octets after the messages that were read are no message.
     File(FileError),
-    /// Reading failed, so it is unknown what stands behind the messages that were read.
+    /// Reading failed, so the octets after the messages that were read are unknown.
     Read(ReadFailed),
     /// One more message than 2^48 - 1.
     NumbersSpent,
@@ -65,7 +65,7 @@ impl From<ReadFailed> for StreamError {
 /// once, where it is made.
 #[derive(Drop)]
 pub struct MessageReader {
-    /// The message that is held, and what was read behind it.
+    /// The message that is held, and the octets read after it.
     window: Window,
     /// The octets of the message that is held, 0 where there is none.
     size: usize,
@@ -93,7 +93,7 @@ impl Model for MessageReader {
 }
 
 impl MessageReader {
-    /// A reader of the File that begins where the input of its first call stands.
+    /// A reader of the File that begins at the position of its first call's input.
     pub fn new(alloc: Global) -> Result<Self, AllocError>
         ensures { IfOk result (λ reader. reader ≡ record {
           ahead = [];
@@ -113,7 +113,7 @@ impl MessageReader {
     }
 
     /// Reads the next message and holds it; `false` at the File's end. After an error it answers that error from then
-    /// on. Each call of one reader is given the same input, which stands behind all that was read.
+    /// on. Each call of one reader is given the same input, at its position after all octets that were read.
     pub fn advance<R: Read>(&mut self, input: &mut R) -> Result<bool, StreamError>
         ensures step { IsStep (progress self.old (R.remaining input.old)) result
             (progress self.new (R.remaining input.new)) }
@@ -144,8 +144,8 @@ impl MessageReader {
         }
     }
 
-    /// Whether what follows the message that is held is read already: a whole message, or a header that is refused. The
-    /// next step then reads nothing from its input, unless an error was answered before.
+    /// Whether the octets that were read after the held message begin with a whole message, or with a header that is
+    /// refused. The next step then reads nothing from its input.
     pub fn has_read_next(&self) -> bool
         ensures { MatchBool result (IsReadNext self.now.at self.now.ahead) (IsUnfinished self.now.at self.now.ahead) }
     {
@@ -171,7 +171,7 @@ impl MessageReader {
         self.count
     }
 
-    /// The place behind the messages that were read, in octets from the File's first.
+    /// The place after the messages that were read, in octets from the File's first.
     pub fn at(&self) -> u64
         ensures value { result ≡ self.now.at }
         ensures most { result ≤ 65535 * self.now.count }
@@ -180,8 +180,8 @@ impl MessageReader {
     }
 }
 
-/// The length of the message that octets begin with, or None where more octets are wanted to tell or to hold it. `at`
-/// is their place in the File.
+/// The length of the message that octets begin with, or None where they end before it does. `at` is their place in the
+/// File.
 fn whole_front(at: u64, octets: &[u8]) -> Result<Option<usize>, FileError>
     ensures front { IsWholeFront at octets.now result }
     ensures most { IfOk result (λ o. IfSome o (λ n. n < 65536)) }
@@ -197,8 +197,8 @@ fn whole_front(at: u64, octets: &[u8]) -> Result<Option<usize>, FileError>
     Ok(Some(length))
 }
 
-/// Reads until a message stands whole in front of the window, and answers its length; None at the end of the input.
-/// `at` is its place in the File.
+/// Reads until the window begins with a whole message, and answers its length; None at the end of the input. `at` is
+/// its place in the File.
 fn find_message<R: Read>(
     window: &mut Window,
     input: &mut R,

@@ -12,7 +12,7 @@ use crate::templates::{Definition, TemplateRecord};
 use flow_elements::ElementId;
 use std::alloc::Global;
 
-/// The bit of an element's number that an enterprise number follows.
+/// The Enterprise bit of an element's number: an enterprise number follows.
 const ENTERPRISE_BIT: u16 = 32768;
 
 /// The least ID of a template.
@@ -28,7 +28,7 @@ pub(crate) fn is_ended(octets: &[u8]) -> bool
     octets.len() < 4 || u16::from_be_bytes([octets[0], octets[1]]) == 0
 }
 
-/// A field specifier of the template record at `at`, and the octets behind it.
+/// A field specifier of the template record at `at`, and the octets after it.
 #[tactic(auto, unfolding(crate::specs::Reading::specifier_at))]
 fn specifier_of(at: usize, octets: &[u8]) -> Result<((ElementId, u16), &[u8]), MessageError>
     ensures exact { Gives (λ x. (x.0, x.1.now)) result (specifier_at at octets.now) }
@@ -52,7 +52,7 @@ fn specifier_of(at: usize, octets: &[u8]) -> Result<((ElementId, u16), &[u8]), M
     Ok(((id, len), rest))
 }
 
-/// The field specifiers of the template record at `at`, and the octets behind them.
+/// The field specifiers of the template record at `at`, and the octets after them.
 fn specifiers_of(
     alloc: Global,
     at: usize,
@@ -74,7 +74,7 @@ fn specifiers_of(
     Ok((specifiers, rest))
 }
 
-/// The Scope Field Count of an Options Template Record, and the octets behind it. A Template Record has none.
+/// The Scope Field Count of an Options Template Record, and the octets after it. A Template Record has none.
 fn scope_of(
     kind: TemplateKind,
     at: usize,
@@ -94,7 +94,7 @@ fn scope_of(
     Ok((scope, rest))
 }
 
-/// The template record at `at`, and the octets behind it.
+/// The template record at `at`, and the octets after it.
 #[tactic(auto, unfolding(crate::specs::Reading::template_at))]
 pub(crate) fn template_of(
     alloc: Global,

@@ -220,7 +220,7 @@ impl DomainTemplates {
         })
     }
 
-    /// Makes what a message changed, and takes it out of `changed`. An `Err` changes nothing in the definitions.
+    /// Applies a message's changes, and takes them out of `changed`. An `Err` changes nothing in the definitions.
     fn make(&mut self, changed: &mut Changed) -> Result<(), AllocError>
         requires over { AreOver self.old changed.old }
         requires size { domain_size (changed_in self.old changed.old) ≤ 60000 }
@@ -298,7 +298,7 @@ impl Templates {
         })
     }
 
-    /// What is in force in a domain.
+    /// The definitions in force in a domain.
     pub(crate) fn here(&self, domain: u32) -> &DomainTemplates
         ensures { result.now ≡ definitions_of domain self.now }
     {
@@ -315,16 +315,16 @@ impl Templates {
         self.domains.len() >= MOST_DOMAINS && self.domains.get(&domain).is_none()
     }
 
-    /// The templates keep what holds of them after every message. A call says so to proofs, and does nothing.
+    /// The templates keep their invariant. A call states that for proofs, and does nothing.
     pub(crate) fn are_in_force(&self)
         ensures { AreTemplatesInForce self.now }
     {
         let _ = &self.domains;
     }
 
-    /// Makes what a message changed in its domain, which goes to the end of the list where it once was without
-    /// definitions, and takes the changes out of `changed`. All memory is taken before anything changes, so an `Err`
-    /// changes nothing in the templates.
+    /// Applies a message's changes to its domain, and takes them out of `changed`. The domain goes to the end of the
+    /// list where it was without definitions before one of them. All memory is taken first, so an `Err` changes nothing
+    /// in the templates.
     pub(crate) fn take_in(
         &mut self,
         alloc: Global,
@@ -345,7 +345,7 @@ impl Templates {
         }
     }
 
-    /// Makes what a message changed in its domain as `take_in` does, also where the domain has no place, or leaves it.
+    /// The same as `take_in`, also where the domain has no place in the list, or leaves it.
     fn take_in_elsewhere(
         &mut self,
         alloc: Global,
@@ -373,7 +373,7 @@ impl Templates {
     }
 }
 
-/// Puts definitions under a domain: those that were there before. There is room for its entry.
+/// Puts definitions under a domain, and answers those that it had. There is room for its entry.
 fn replaced(
     domains: &mut IndexMap<u32, DomainTemplates>,
     domain: u32,
@@ -388,7 +388,7 @@ fn replaced(
     replaced.unwrap()
 }
 
-/// Takes out what is in force in a domain, and leaves its place. There is room for its entry.
+/// Takes out the definitions of a domain, and leaves an empty entry in its place. There is room for that entry.
 fn taken_out(
     domains: &mut IndexMap<u32, DomainTemplates>,
     alloc: Global,
@@ -405,7 +405,7 @@ fn taken_out(
     }
 }
 
-/// Puts back what is in force in a domain, at the end of the list where `last` says so.
+/// Puts back the definitions of a domain, at the end of the list where `last` is set. A domain without any leaves it.
 fn put_back(
     domains: &mut IndexMap<u32, DomainTemplates>,
     domain: u32,

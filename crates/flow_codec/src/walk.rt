@@ -38,7 +38,7 @@ fn octets_at(at: usize, len: usize, octets: &[u8]) -> Result<(&[u8], &[u8]), Mes
 }
 
 /// The octets of a field of variable length with its length octets, in the record at `at` (RFC 7011, section 7), and
-/// those behind it.
+/// those after it.
 #[tactic(auto, unfolding(crate::specs::Reading::counted_at))]
 fn counted_of(at: usize, octets: &[u8]) -> Result<(&[u8], &[u8]), MessageError>
     ensures { Gives (λ x. (x.0.now, x.1.now)) result (counted_at at octets.now) }
@@ -54,7 +54,7 @@ fn counted_of(at: usize, octets: &[u8]) -> Result<(&[u8], &[u8]), MessageError>
     octets_at(at, 3 + len as usize, octets)
 }
 
-/// The octets that one step passes over in the record at `at`, and those behind them.
+/// The octets that one step passes over in the record at `at`, and those after them.
 fn step_over<'a>(
     at: usize,
     step: &Step,
@@ -69,7 +69,7 @@ fn step_over<'a>(
     }
 }
 
-/// The octets that these steps pass over in the record at `at`, and those behind them.
+/// The octets that these steps pass over in the record at `at`, and those after them.
 fn stepped_over<'a>(
     at: usize,
     steps: &[Step],
@@ -85,7 +85,7 @@ fn stepped_over<'a>(
     Ok(octets.split_at(octets.len() - rest.len()))
 }
 
-/// The octets of the whole record at `at`, and those behind it.
+/// The octets of the whole record at `at`, and those after it.
 fn extent_of<'a>(
     at: usize,
     definition: &Definition,
@@ -188,7 +188,7 @@ fn content_of<S: RecordSink>(
     }
 }
 
-/// The Set at `at`: its ID, what stands in it, and the octets behind it.
+/// The Set at `at`: its ID, its content, and the octets after it.
 #[tactic(auto, unfolding(crate::specs::Reading::set_at))]
 fn set_of(at: usize, octets: &[u8]) -> Result<(u16, &[u8], &[u8]), MessageError>
     ensures exact { Gives (λ x. (x.0, x.1.now, x.2.now)) result (set_at at octets.now) }
@@ -244,7 +244,7 @@ fn sets_of<S: RecordSink>(
     Ok(())
 }
 
-/// The header of a message that these octets are, and the octets behind it.
+/// The header of a message of all these octets, and the octets after the header.
 #[tactic(auto, unfolding(crate::specs::Reading::header_at))]
 fn header_of(octets: &[u8]) -> Result<(Header, &[u8]), MessageError>
     ensures exact { Gives (λ x. (x.0, x.1.now)) result (header_at octets.now) }
@@ -317,8 +317,8 @@ fn message_of<S: RecordSink>(
 /// Hands a message's data records to a sink, in order, and takes its templates in. An `Err` leaves the templates as
 /// they were.
 ///
-/// It takes time in proportion to the message's octets, whatever templates are in force; growth of memory and what is
-/// withdrawn are paid once.
+/// It takes time in proportion to the message's octets, whatever templates are in force; each growth of memory and each
+/// withdrawn definition is paid for once.
 pub fn walk_message<S: RecordSink>(
     templates: &mut Templates,
     alloc: Global,
@@ -338,10 +338,10 @@ pub fn walk_message<S: RecordSink>(
     message_of(templates, alloc, octets, sink)
 }
 
-/// Whether the octets are a message under these templates: its header, and no change.
+/// Whether the octets are an accepted message under these templates: answers its header, and changes nothing.
 ///
-/// It takes time in proportion to the message's octets, whatever templates are in force; growth of memory and what is
-/// withdrawn are paid once.
+/// It takes time in proportion to the message's octets, whatever templates are in force; each growth of memory and each
+/// withdrawn definition is paid for once.
 pub fn judge_message(
     templates: &Templates,
     alloc: Global,

@@ -52,7 +52,7 @@ impl Window {
         self.start += count;
     }
 
-    /// Moves the octets that are held to the front, where there is no room behind them.
+    /// Moves the held octets to the start of the memory, where there is no room after them.
     fn make_room(&mut self)
         requires { length (held self.old) < 65536 }
         ensures kept { held self.new ≡ held self.old }
@@ -66,8 +66,8 @@ impl Window {
         }
     }
 
-    /// Reads more octets behind those that are held, with one read where it isn't interrupted; `false` at the end of
-    /// the input.
+    /// Reads more octets after those that are held, with one read unless it is interrupted; `false` at the end of the
+    /// input.
     pub(crate) fn refill<R: Read>(&mut self, input: &mut R) -> Result<bool, ReadFailed>
         requires { length (held self.old) < 65536 }
         ensures { IsRefilled (held self.old) (R.remaining input.old) result (held self.new)

@@ -1,5 +1,5 @@
 //! The templates while a message is read. What its template records change in its own domain is kept beside the
-//! templates and made in them as the last step, so that a refusal leaves them as they were and no message copies a
+//! templates and applied to them as the last step, so that a refusal leaves them as they were and no message copies a
 //! domain.
 
 ghost use Rattle.std.specs.Prelude.{◌≡◌, ◌≤◌, ◌||◌, List, true, false, length, nat_lt, OnOk, OnErr, IfOk};
@@ -143,7 +143,7 @@ pub(crate) fn find_in<'a>(
     }
 }
 
-/// Begins with no change in a domain where `here` is in force, where nothing is changed yet.
+/// Begins with no change in a domain where `here` is in force, unless changes have begun.
 fn begin(before: &Templates, domain: u32, here: &DomainTemplates, changed: &mut Option<Changed>)
     requires here { here.now ≡ definitions_of domain before.now }
     requires changes { AreChanges domain before.now changed.old }
@@ -158,7 +158,7 @@ fn begin(before: &Templates, domain: u32, here: &DomainTemplates, changed: &mut 
     }
 }
 
-/// Applies a template record behind the changes that are there.
+/// Applies a template record after the changes so far.
 fn step_in(
     alloc: Global,
     before: &Templates,
@@ -261,7 +261,7 @@ pub(crate) fn keep_limits(
     Ok(())
 }
 
-/// Makes the changes in the templates, and takes them out of `changed`. An `Err` changes nothing in the templates.
+/// Applies the changes to the templates, and takes them out of `changed`. An `Err` changes nothing in the templates.
 pub(crate) fn put_in(
     alloc: Global,
     templates: &mut Templates,

@@ -55,7 +55,7 @@ struct FileLine {
     file: u64,
     /// How many of its octets count.
     octets: u64,
-    /// How many messages it stands for.
+    /// How many messages it has, or has the sums of.
     messages: u64,
     /// None where it has no flows.
     starts: Option<Starts>,

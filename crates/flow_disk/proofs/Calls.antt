@@ -7,7 +7,7 @@ use Rattle.flow_disk.specs.Moments.{Elapses}
 use Rattle.flow_disk.proofs.Images.{with_image, image_here, image_there, with_image_is, changed_here, changed_there}
 use Rattle.flow_disk.proofs.Moments.{started, goes_on}
 
--- Each image of the new files comes of one of the old by a step in one file, where that file's images do.
+-- Each image of the new files is made of one of the old by a step in one file, where that file's images are.
 pub comes : (old new : ℕ → Held) (file : ℕ) (Q : List ℕ → List ℕ → Type 0) → ((n : ℕ) → n ≢ file → new n ≡ old n)
     → ((b : List ℕ) → IsImage (new file) b → (a : List ℕ) × IsImage (old file) a × Q a b)
     → AllImages new (ComesOf old (InFile file Q))

@@ -12,7 +12,7 @@ use Rattle.flow_disk.specs.Disk.{Held, IsOutside, IsImage, IsDiskImage, settled_
 use Rattle.flow_disk.specs.Disk.{changed}
 use Rattle.flow_disk.specs.Laws.{IsAlone}
 
--- what stands below a place is as it was: nothing below it was touched
+-- the octets below a place are as they were: nothing below it was touched
 pub record IsBehind (bound : ℕ) (old new : Held) : Type 0 where
   pub last : new.last ≡ old.last
   pub fast : bound ≤ new.fast
@@ -75,7 +75,7 @@ behind_then bound a b c first second = record {
   untouched = λ place lt outside. second.untouched place lt (first.untouched place lt outside);
 }
 
--- a write behind a place leaves what stands below it
+-- a write at or after a place leaves the octets below it
 pub behind_touched : (bound at count : ℕ) (old new : Held) → bound ≤ at → bound ≤ old.fast
     → new ≡ touched_at old at count new.reads → IsBehind bound old new
 behind_touched bound at count old new le within is = record {
@@ -138,7 +138,7 @@ pub settled_one : (octets image : List ℕ) → IsImage (settled_at octets) imag
 settled_one octets image is =
     ext_get_or 0 image octets (is.end refl) (λ place lt. is.same place (omega (arith, lt, is.end refl)) tt)
 
--- a sync leaves none but images that there were
+-- a sync leaves only images from before
 pub synced_images : (old new : ℕ → Held) (file : ℕ) → new file ≡ settled_at (old file).reads
     → ((n : ℕ) → n ≢ file → new n ≡ old n) → IsImage (old file) (old file).reads
     → (image : ℕ → List ℕ) → IsDiskImage new image → IsDiskImage old image

@@ -11,7 +11,7 @@ module _ {D S X : Type 0} (g : Ghosts D S X) where
       → ((image : ℕ → List ℕ) → g.left_since old (g.moment old) image → P image) → LeavesOnly g old old P
   started old P here = record { later = omega arith; each = here; before = λ t image le left. inl left }
 
-  -- one call more, inside which a stop leaves what has P
+  -- one call more, inside which a stop leaves only images that have P
   pub goes_on : (old mid new : D) (P : (ℕ → List ℕ) → Type 0) (during : ℕ → Held)
       → LeavesOnly g old mid P
       → Elapses (g.moment mid) (g.moment new) (g.left_since mid) (g.left_since new) during
@@ -24,7 +24,7 @@ module _ {D S X : Type 0} (g : Ghosts D S X) where
         (time.nothing_else t image (omega (arith, le, so_far.later)) left);
   }
 
-  -- two runs of which the same is known
+  -- two runs, where a stop in either leaves only images that have P
   pub one_run : (old mid new : D) (P : (ℕ → List ℕ) → Type 0) → LeavesOnly g old mid P
       → LeavesOnly g mid new P → LeavesOnly g old new P
   one_run old mid new P first second = record {
@@ -34,7 +34,7 @@ module _ {D S X : Type 0} (g : Ghosts D S X) where
         (second.before t image (omega (arith, le, first.later)) left);
   }
 
-  -- what has P has T
+  -- images that have P have T
   pub by : (old new : D) (P T : (ℕ → List ℕ) → Type 0) → LeavesOnly g old new P
       → ((image : ℕ → List ℕ) → P image → T image) → LeavesOnly g old new T
   by old new P T run weaker = record {
@@ -44,9 +44,9 @@ module _ {D S X : Type 0} (g : Ghosts D S X) where
         (run.before t image le left);
   }
 
--- one run behind another
+-- one run after another
 module _ {D S X : Type 0} (g : Ghosts D S X) where
-  -- A run that came where each image has S, and a second one in which a stop leaves what comes of these by a step.
+  -- A run after which each image has S, and a second one in which a stop leaves what a step makes of an image.
   pub advance : (old mid new : D) (P S : (ℕ → List ℕ) → Type 0) (step : (ℕ → List ℕ) → (ℕ → List ℕ) → Type 0)
       → LeavesOnly g old mid P → AllImages (g.held mid) S
       → LeavesOnly g mid new (ComesOf (g.held mid) step)
@@ -61,14 +61,14 @@ module _ {D S X : Type 0} (g : Ghosts D S X) where
       late : (image : ℕ → List ℕ) → ComesOf (g.held mid) step image → P image
       late image comes = then comes.0 image (here comes.0 comes.1) comes.2
 
-  -- what each image has after the second one
+  -- each image has T after the second one
   pub arrive : (mid new : D) (S T : (ℕ → List ℕ) → Type 0) (step : (ℕ → List ℕ) → (ℕ → List ℕ) → Type 0)
       → AllImages (g.held mid) S → AllImages (g.held new) (ComesOf (g.held mid) step)
       → ((a b : ℕ → List ℕ) → S a → step a b → T b) → AllImages (g.held new) T
   arrive mid new S T step here after then image is = let comes = after image is in
       then comes.0 image (here comes.0 comes.1) comes.2
 
-  -- two runs one behind the other, of which no more is known than what a stop leaves
+  -- two runs one after the other, of which no more is known than what a stop leaves
   pub both : (old mid new : D) (R S T : (ℕ → List ℕ) → (ℕ → List ℕ) → Type 0)
       → LeavesOnly g old mid (ComesOf (g.held old) R)
       → LeavesOnly g mid new (ComesOf (g.held mid) S)
@@ -86,7 +86,7 @@ module _ {D S X : Type 0} (g : Ghosts D S X) where
       chain : (a b : ℕ → List ℕ) → ComesOf (g.held old) R a → S a b → ComesOf (g.held old) T b
       chain a b c step = (c.0, c.1, then c.0 a b c.2 step)
 
-  -- what has S, and comes by a step
+  -- a run from images that have S, in which a stop leaves what a step makes of one
   pub comes_by : (old new : D) (S T : (ℕ → List ℕ) → Type 0) (step : (ℕ → List ℕ) → (ℕ → List ℕ) → Type 0)
       → AllImages (g.held old) S → LeavesOnly g old new (ComesOf (g.held old) step)
       → ((a b : ℕ → List ℕ) → S a → step a b → T b) → LeavesOnly g old new T
@@ -101,7 +101,7 @@ module _ {D S X : Type 0} (g : Ghosts D S X) where
 
 -- ---- how far a run of calls on an honest disk came
 
--- A stop so far leaves what has P, and each image now has S.
+-- A stop so far leaves only images that have P, and each image now has Q.
 pub record Reached {D S X : Type 0} (g : Ghosts D S X) (old now : D) (P Q : (ℕ → List ℕ) → Type 0) : Type 0 where
   pub honest : IsTrue (g.honest now)
   pub run : LeavesOnly g old now P

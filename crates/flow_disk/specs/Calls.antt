@@ -1,11 +1,11 @@
--- What a call makes of a disk, said by all that a disk keeps (`D.Disk` in a clause).
+-- What a call makes of a disk, by all that a disk keeps (`D.Disk` in a clause).
 use Rattle.std.specs.Prelude.{◌≡◌, ◌≢◌, ◌⊎◌, ℕ, ◌≤◌, true, false, IsTrue, List, Result, OnOk}
 use Rattle.flow_disk.specs.declared.disk.Disk.{Ghosts}
 use Rattle.flow_disk.specs.declared.error.DiskError.{DiskError}
 use Rattle.flow_disk.specs.Cause.{FailsOnlyByFault}
 use Rattle.flow_disk.specs.Disk.{AllImages, ComesOf, Stays}
 
--- A stop at any moment since old leaves what has P.
+-- A stop at any moment since `old` leaves only images that have P.
 pub record LeavesOnly {D S X : Type 0} (g : Ghosts D S X) (old new : D) (P : (ℕ → List ℕ) → Type 0) : Type 0 where
   pub later : g.moment old ≤ g.moment new
   pub each : (image : ℕ → List ℕ) → g.left_since new (g.moment old) image → P image
@@ -13,11 +13,11 @@ pub record LeavesOnly {D S X : Type 0} (g : Ghosts D S X) (old new : D) (P : (�
   pub before : (t : ℕ) (image : ℕ → List ℕ) → t ≤ g.moment old → g.left_since new t image
       → g.left_since old t image ⊎ P image
 
--- On an honest disk a stop at any moment of the call leaves what comes by this step of an image from before.
+-- On an honest disk a stop at any moment of the call leaves what this step makes of an image from before.
 abbrev pub StopsBy : {D S X : Type 0} → Ghosts D S X → D → D → ((ℕ → List ℕ) → (ℕ → List ℕ) → Type 0) → Type 0
 StopsBy g old new step = IsTrue (g.honest old) → LeavesOnly g old new (ComesOf (g.held old) step)
 
--- On an honest disk a call that is Ok leaves what comes by this step of an image from before.
+-- On an honest disk a call that is Ok leaves what this step makes of an image from before.
 abbrev pub EndsBy : {D S X T E : Type 0} → Ghosts D S X → D → D → Result T E
     → ((ℕ → List ℕ) → (ℕ → List ℕ) → Type 0) → Type 0
 EndsBy g old new result step =

@@ -2,9 +2,9 @@
 use Rattle.std.specs.Prelude.{◌≡◌, ◌≢◌, ◌⊎◌, ℕ, ◌+◌, ◌<◌, ◌≤◌, min, Bool, true, false, ◌||◌, nat_lt, List, [], ◌∷◌}
 use Rattle.std.specs.Prelude.{◌++◌, length, take, drop, get_or, ◌==◌, if◌then◌else◌}
 
--- What a file reads as, and what a stop may leave of it. `last` is what it held when it was last settled. Below `fast`,
--- places outside the ranges in `touched` hold these octets whatever happens. With `loose` its end may lie anywhere from
--- `fast` on.
+-- The octets that a file reads as, and what a stop may leave of it. `last` are its octets when it was last settled.
+-- Below `fast`, places outside the ranges in `touched` hold these octets whatever happens. With `loose` its end may be
+-- anywhere from `fast` on.
 pub record Held : Type 0 where
   pub reads : List ℕ
   pub last : List ℕ
@@ -66,20 +66,20 @@ loosened_at file count reads = record {
 abbrev pub given_up : Held → List ℕ → Held
 given_up file reads = record { reads = reads; last = file.last; fast = 0; touched = file.touched; loose = true }
 
--- these octets put at a place, over what stood there and past the end
+-- these octets put at a place, over those there and past the end
 abbrev pub put_at : List ℕ → ℕ → List ℕ → List ℕ
 put_at old at octets = take at old ++ octets ++ drop (at + length octets) old
 
--- the files with one that now is this
+-- the files with one replaced by this
 abbrev pub changed : {F : Type 0} → (ℕ → F) → ℕ → F → ℕ → F
 changed files file to n = if n == file then to else files n
 
--- one file alone differs, and now is this
+-- one file alone differs, and is now this
 pub record Changes {F : Type 0} (old new : ℕ → F) (file : ℕ) (to : F) : Type 0 where
   pub here : new file ≡ to
   pub others : (n : ℕ) → n ≢ file → new n ≡ old n
 
--- each image of this is one of that
+-- each image of the one file is one of the other
 abbrev pub IsWithin : Held → Held → Type 0
 IsWithin file other = (octets : List ℕ) → IsImage file octets → IsImage other octets
 
@@ -87,11 +87,11 @@ IsWithin file other = (octets : List ℕ) → IsImage file octets → IsImage ot
 abbrev pub Stays : {F : Type 0} → (ℕ → F) → (ℕ → F) → Type 0
 Stays {F} old new = (n : ℕ) → new n ≡ old n
 
--- each image has this
+-- each image has P
 abbrev pub AllImages : (ℕ → Held) → ((ℕ → List ℕ) → Type 0) → Type 0
 AllImages files P = (image : ℕ → List ℕ) → IsDiskImage files image → P image
 
--- what comes of some image of these files by a step
+-- what a step makes of some image of these files
 abbrev pub ComesOf : (ℕ → Held) → ((ℕ → List ℕ) → (ℕ → List ℕ) → Type 0) → (ℕ → List ℕ) → Type 0
 ComesOf files step image = (before : ℕ → List ℕ) × IsDiskImage files before × step before image
 

@@ -5,8 +5,8 @@ use Rattle.flow_disk.specs.declared.disk.Disk.{Ghosts}
 use Rattle.flow_disk.specs.Calls.{LeavesOnly}
 use Rattle.flow_disk.specs.Moments.{Elapses, Covers}
 
--- Two runs compose: where a stop in the first leaves what comes by one step, and a stop in the second what comes of
--- that by another, a stop in both together leaves what comes by either or by both.
+-- Two runs compose: where a stop in the first leaves what one step makes, and a stop in the second what another step
+-- makes, a stop in both together leaves what the first step makes, or both in turn.
 abbrev pub RunsCompose : {D S X : Type 0} → Ghosts D S X
     → (first second whole : (ℕ → List ℕ) → (ℕ → List ℕ) → Type 0) → Type 0
 RunsCompose {D} g first second whole = (old middle new : D) → IsTrue (g.honest middle)
@@ -16,7 +16,7 @@ RunsCompose {D} g first second whole = (old middle new : D) → IsTrue (g.honest
     → ((a b c : ℕ → List ℕ) → first a b → second b c → whole a c)
     → LeavesOnly g old new (ComesOf (g.held old) whole)
 
--- A call inside which a stop leaves the images there were is among the moments too.
+-- A call inside which a stop leaves only the images from before is among the moments too.
 abbrev pub QuietCallsCovered : {D S X : Type 0} → Ghosts D S X → Type 0
 QuietCallsCovered {D} g = (old new : D) → IsTrue (g.honest old)
     → Elapses (g.moment old) (g.moment new) (g.left_since old) (g.left_since new) (g.held old)
@@ -38,7 +38,7 @@ WriteKeepsFront = (file : Held) (at count bound : ℕ) (reads image : List ℕ) 
     → IsImage (touched_at file at count reads) image → (before : List ℕ) × IsImage file before
     × (take bound before ≡ take bound image)
 
--- Below a cut likewise.
+-- The same below a cut.
 abbrev pub CutKeepsFront : Type 0
 CutKeepsFront = (file : Held) (count bound : ℕ) (reads image : List ℕ) → bound ≤ count → bound ≤ file.fast
     → file.fast ≤ length file.last

@@ -69,8 +69,8 @@ pub trait Disk: Drop {
         ensures time { IsTrue (honest self.old) → Passes moment left_since self.old self.new (held self.old) }
         ensures cause { HasCause DiskError.Fault (faults self.old) (faults self.new) result };
 
-    /// Writes octets over what stands at place `at`, and past the end. Until the next sync a stop may leave anything in
-    /// their range, and anything past the end that was last settled where the range passes that end.
+    /// Writes octets over those at place `at`, and past the end. Until the next sync a stop may leave anything in their
+    /// range, and anything past the end that was last settled where the range passes that end.
     fn write_at(&mut self, file: u64, at: u64, octets: &[u8]) -> Result<(), DiskError>
         requires place { at ≤ (marks self.old file).size }
         requires thawed { (marks self.old file).frozen ≡ false }
@@ -86,7 +86,7 @@ pub trait Disk: Drop {
             (while_writing (held self.old) file at octets.now)) }
         ensures cause { FailsOnlyByFault (faults self.old) (faults self.new) result };
 
-    /// Cuts a file to `count` octets. Until the next sync a stop may leave anything behind these.
+    /// Cuts a file to `count` octets. Until the next sync a stop may leave anything after these.
     fn cut(&mut self, file: u64, count: u64) -> Result<(), DiskError>
         requires place { count ≤ (marks self.old file).size }
         requires thawed { (marks self.old file).frozen ≡ false }
@@ -100,7 +100,7 @@ pub trait Disk: Drop {
             → OnOk result (Covers (moment self.old) (left_since self.new) (while_cutting (held self.old) file count)) }
         ensures cause { FailsOnlyByFault (faults self.old) (faults self.new) result };
 
-    /// Settles a file and its name: after Ok a stop leaves what the file reads as.
+    /// Settles a file and its name: after Ok a stop leaves the octets that the file reads as.
     fn sync(&mut self, file: u64) -> Result<(), DiskError>
         ensures honest { honest self.new ≡ honest self.old }
         ensures clock { moment self.old ≤ moment self.new }
@@ -166,7 +166,7 @@ pub trait Disk: Drop {
             (while_removing (held self.old) (Self.Sealed.number sealed))) }
         ensures cause { FailsOnlyByFault (faults self.old) (faults self.new) result };
 
-    /// What is read is an image.
+    /// The octets that a file reads as are an image.
     ghost reads_image: { (disk : Self) (file : ℕ) → IsTrue (honest disk)
         → IsImage (held disk file) (held disk file).reads };
 
@@ -174,7 +174,7 @@ pub trait Disk: Drop {
     ghost fast_within: { (disk : Self) (file : ℕ) → IsTrue (honest disk)
         → (held disk file).fast ≤ length (held disk file).last };
 
-    /// A fast end is where the file ended when it was last settled.
+    /// Where the end isn't loose, `fast` is the length that the file had when it was last settled.
     ghost fast_whole: { (disk : Self) (file : ℕ) → IsTrue (honest disk) → (held disk file).loose ≡ false
         → length (held disk file).last ≡ (held disk file).fast };
 
@@ -182,7 +182,7 @@ pub trait Disk: Drop {
     ghost settled_alone: { (disk : Self) (file : ℕ) (image : List ℕ) → IsTrue (honest disk)
         → (marks disk file).settled ≡ true → IsImage (held disk file) image → image ≡ (held disk file).reads };
 
-    /// A file's length is that of what it reads as.
+    /// A file's length is that of the octets it reads as.
     ghost has_size: { (disk : Self) (file : ℕ) → IsTrue (honest disk)
         → (marks disk file).size ≡ length (held disk file).reads };
 
@@ -193,7 +193,7 @@ pub trait Disk: Drop {
     ghost counts_now: { (disk : Self) (t : ℕ) (image : ℕ → List ℕ) → IsTrue (honest disk) → t ≤ moment disk
         → IsDiskImage (held disk) image → left_since disk t image };
 
-    /// From this moment on there is no other.
+    /// Since this moment a stop might have left only the images of now.
     ghost only_now: { (disk : Self) (image : ℕ → List ℕ) → IsTrue (honest disk) → left_since disk (moment disk) image
         → IsDiskImage (held disk) image };
 }

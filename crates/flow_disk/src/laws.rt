@@ -11,7 +11,7 @@ pub trait Step {
     ghost leads: { (ℕ → List ℕ) → (ℕ → List ℕ) → Type 0 };
 }
 
-/// What a stop may leave of two runs of calls, one behind the other, follows from what it may leave of each, whatever
+/// What a stop may leave of two runs of calls, one after the other, follows from what it may leave of each, whatever
 /// the steps are.
 pub fn law_of_runs<D: Disk, F: Step, S: Step, W: Step>(_disk: &D)
     ensures { RunsCompose D.Disk F.leads S.leads W.leads }

@@ -1,8 +1,8 @@
 //! The disk as every layer above sees it: files by number, what they read as, and what a stop may leave of them.
 //!
 //! Every disk keeps lengths, settled and frozen marks, a count of its failures and a clock. An honest one also keeps,
-//! for each file, the images that a stop may leave, and tells all images of all moments since any moment. Nothing here
-//! runs on a device: `flow_memory_disk` and `flow_folder` do, and every crate between stands on these promises alone.
+//! for each file, the images that a stop may leave, and gives all images of all moments since any moment. Nothing here
+//! runs on a device: `flow_memory_disk` and `flow_folder` do, and every crate between rests on these promises alone.
 #![tactic(auto)]
 
 mod disk;

@@ -5,15 +5,15 @@ ghost use Rattle.flow_disk.specs.Cause.{HasCause};
 use crate::{DiskError, Faults};
 use std::alloc::Global;
 
-/// What a frozen file's read answers a fault by. It stands apart from `SealedFile`, so that the read itself can raise a
+/// How a frozen file's read shows a fault. It is a trait apart from `SealedFile`, so that the read itself can raise a
 /// count of its own kind.
 pub trait MayFail {
-    /// What shows that a read of such a file has failed. The code of its device alone makes one, so nothing above it
-    /// can make up a failure. Of a file whose reads can't fail it is a type without values.
+    /// Evidence that a read of such a file has failed. The code of its device alone makes one, so nothing above it can
+    /// make up a failure. For a file whose reads can't fail it is a type without values.
     type Failure;
 }
 
-/// A file that no call changes for as long as this value is there. Its meaning is its octets.
+/// A file that no call changes for as long as this value exists. Its meaning is its octets.
 pub trait SealedFile: MayFail + Drop {
     /// On an honest disk, the octets of the file.
     ghost octets: { Self → List ℕ };

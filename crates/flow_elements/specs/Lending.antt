@@ -1,4 +1,4 @@
--- What is known of an element, and values that are lent.
+-- The name and the type of an element, and values that are lent.
 use Rattle.std.specs.Prelude.{ℕ, List, Option, option_map}
 use Rattle.flow_elements.specs.declared.element.ElementId.{ElementId}
 use Rattle.flow_elements.specs.declared.element.ElementType.{ElementType}
@@ -12,7 +12,7 @@ use Rattle.flow_elements.specs.Elements.{find_listed}
 abbrev pub listed_of : ElementId → Option (List ℕ × ElementType)
 listed_of id = option_map (λ e. (e.name, e.kind)) (find_listed id.enterprise id.number)
 
--- a value that is lent, as one of its own
+-- a value that is lent, as a `Value`
 abbrev pub owned : LentValue → Value
 owned (lent.Unsigned number) = Unsigned number
 owned (lent.Address4 octets) = Address4 octets

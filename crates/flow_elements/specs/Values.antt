@@ -23,7 +23,7 @@ width_of Eight = 8
 abbrev pub is_reduced : Width → ℕ → Bool
 is_reduced width len = nat_le 1 len && nat_le len (width_of width)
 
--- a number in at most 8 octets, the highest first: zeros stand for the octets left out
+-- a number in at most 8 octets, the highest first: the octets left out are zeros
 abbrev pub number_of : List ℕ → ℕ
 number_of octets = from_be_bytes w64 (replicate (8 - length octets) 0 ++ octets)
 

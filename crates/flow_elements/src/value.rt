@@ -8,7 +8,7 @@ use crate::element::{ElementId, ElementType, Width, element_type};
 use crate::items::Items;
 use std::alloc::{AllocError, Global};
 
-/// A value of an information element. Addresses stand as in the message, the highest octet first.
+/// A value of an information element. Addresses are as in the message, the highest octet first.
 #[derive(Clone, Debug, Drop)]
 pub enum Value {
     /// A number, or a time in its type's unit.
@@ -23,7 +23,7 @@ pub enum Value {
     Octets(Items<u8>),
 }
 
-/// A value as `Value` is, of which octets of no other type are lent and not copied.
+/// A value like `Value`, but octets of no other type are lent and not copied.
 #[derive(Clone, Copy, Debug)]
 pub enum LentValue<'a> {
     /// A number, or a time in its type's unit.
@@ -53,7 +53,7 @@ pub fn number_of(octets: &[u8]) -> u64
     }
 }
 
-/// A number in at most 8 octets, behind octets of 0 that fill it up to 8.
+/// A number in at most 8 octets, after octets of 0 that fill it up to 8.
 fn padded(octets: &[u8]) -> u64
     requires { length octets.now ≤ 8 }
     ensures { result ≡ number_of octets.now }

@@ -97,7 +97,7 @@ pub opened : (reader : Held) (input : Option (List ℕ))
 opened reader None is = ap (λ (r : Held). progress r None) is
 opened reader (Some octets) is = ap (λ (r : Held). progress r (Some octets)) is
 
--- octets that are read, and those behind them, where the last of what is read is given back
+-- octets that are read, and those after them, where the last of those that are read are given back
 given_back : (old rest : Option (List ℕ)) (a b : List ℕ) → Consumes old rest (a ++ b)
     → Consumes old (prepend_known b rest) a
 given_back None rest a b read = tt
@@ -116,7 +116,7 @@ next_message rest (m ∷ more) all some =
     message_next (prepend_known (joined (m ∷ more)) rest) (prepend_known (joined more) rest) m
     (All-head IsCutOff m more all) (begins rest m more)
 
--- what was read behind other messages
+-- what was read after other messages
 all_read : (start mid : Progress) (messages more : List (List ℕ)) (rest : Option (List ℕ)) → IsReading start messages mid
     → Consumes mid.rest rest (joined more) → Consumes start.rest rest (joined (messages ++ more))
 all_read start mid messages more rest so_far read =

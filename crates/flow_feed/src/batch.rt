@@ -6,14 +6,14 @@ use flow_codec::StreamError;
 /// Why a File isn't taken in whole.
 #[derive(Clone, Copy, Debug, PartialEq, Eq)]
 pub enum FeedStop {
-    /// Behind the messages that were taken in the File has a fault (15 to 17), or reading it failed (31), or one
-    /// message more than 2^48 - 1 is there (25).
+    /// After the messages that were taken in the File has a fault (15 to 17), or reading it failed (31), or it has one
+    /// message more than 2^48 - 1 (25).
     File(StreamError),
     /// The archive refused the message after them, or the seal that would have made room for it.
     Archive(ArchiveError),
     /// There was no memory to hold it.
     OutOfMemory,
-    /// The File can't be opened (31). `feed`, which is given an open one, never tells this.
+    /// The File can't be opened (31). `feed`, which is given an open one, never answers this.
     Unopened,
 }
 

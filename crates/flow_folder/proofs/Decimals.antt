@@ -11,7 +11,7 @@ use Rattle.flow_folder.specs.Naming.{IsPlain}
 own : IsNumeralModel (AllDigits 10) (digits_value 10)
 own = numerals_by_value (AllDigits 10) tells_digits
 
--- what was read is written so
+-- octets that were read as a number are its decimal digits
 pub written_back : {E : Type 0} (bs : List ℕ) (r : Result ℕ E) → ParsesUnsigned 64 10 bs r → IsPlain bs
     → (n : ℕ) → r ≡ Ok n → bs ≡ decimal n
 written_back bs r parsed plain n is =
@@ -29,7 +29,7 @@ pub reads_every : {E : Type 0} (bs : List ℕ) (r : Result ℕ E) → ParsesUnsi
     → (n : ℕ) → n < 2 ^ 64 → bs ≡ decimal n → result_ok r ≡ Some n
 reads_every bs r parsed n small is = ap result_ok (parse-decimal 64 n bs r small small is parsed)
 
--- what is written is plain
+-- a number in decimal is plain
 pub plain_decimal : (n : ℕ) → n < 2 ^ 64 → IsPlain (decimal n)
 plain_decimal n small = ⊎_elim (λ zero. subst (λ k. IsPlain (decimal k)) (sym zero) plain_zero)
     (λ other. record {

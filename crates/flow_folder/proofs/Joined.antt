@@ -31,7 +31,7 @@ grows xs k old new lt is wider place written = ⊎_elim
     at : written.0 ≡ k → written.1 ≡ old
     at same = sym written.3 ∙ ap (λ n. get_or xs n written.1) same ∙ get_or_default xs k written.1 old lt ∙ sym is
 
--- what lies in the range at a place is written
+-- the octets of a range that was put at a place are written
 pub stands : (xs : List Range) (k : ℕ) (new : Range) → k < length xs
     → (place : ℕ) → IsWithin new place → IsWritten (set xs k new) place
 stands xs k new lt place within =

@@ -7,16 +7,16 @@ use Rattle.flow_disk.specs.Disk.{Marks}
 use Rattle.flow_folder.specs.declared.told.Told.{Told}
 use Rattle.flow_folder.specs.declared.told.Table.{Table}
 
--- what was told of a file
+-- what was reported of a file
 abbrev pub marks_of : Told → Marks
 marks_of told = record { size = told.size; settled = told.settled; frozen = told.frozen; listed = told.listed }
 
--- of a file that no call has named
+-- the same, where no call may have named the file
 abbrev pub marks_of_some : Option Told → Marks
 marks_of_some None = record { size = 0; settled = false; frozen = false; listed = false }
 marks_of_some (Some told) = marks_of told
 
--- of each file
+-- the marks of each file
 abbrev pub marks_in : Table → ℕ → Marks
 marks_in table file = marks_of_some (get nat_cmp table.told file)
 

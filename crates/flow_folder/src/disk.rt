@@ -16,7 +16,7 @@ use std::io::ErrorKind;
 use std::os::unix::fs::FileExt;
 
 /// A folder of the system as a disk. No file of it passes 2^62 octets: a longer one, and a write past them, is a fault,
-/// as is a read or a cut that finds fewer octets than were told. A file that isn't there is an empty one.
+/// as is a read or a cut that finds fewer octets than were reported. A file that doesn't exist is an empty one.
 #[derive(Drop)]
 pub struct FolderDisk<'a, R: Files> {
     folder: Folder<'a, R>,
@@ -33,7 +33,7 @@ where
     ghost use Rattle.flow_disk.specs.Files.{MarkedByRemoval};
     ghost use Rattle.flow_folder.specs.Table.{marks_of};
 
-    /// Opens a folder that exists, and locks it as long as the disk or a frozen file of it is there.
+    /// Opens a folder that exists, and locks it as long as the disk or a frozen file of it exists.
     pub fn new(rt: &'a R, folder: &'a str) -> Result<Self, FolderError>
         ensures { IfOk result (λ disk. (n : ℕ) → (marks_in disk.table n).frozen ≡ false) }
     {
@@ -56,7 +56,8 @@ where
         DiskError::Fault
     }
 
-    /// Tells this of a file from now on, where there is memory. Only a file without a pending change is told settled.
+    /// Reports this of a file from now on, where there is memory. Only a file without a pending change is marked as
+    /// settled.
     fn tell(&mut self, file: u64, told: Told) -> Result<(), DiskError>
         requires { told.settled ≡ true → is_some (get nat_cmp self.old.folder.pending file) ≡ false }
         ensures folder { self.new.folder ≡ self.old.folder }

@@ -28,7 +28,7 @@ pub(crate) struct Folder<'a, R: Files> {
     pub(crate) pending: BTreeMap<u64, Pending<R::File>>,
 }
 
-/// A folder's handle, and the path by which this process comes to what the handle is of, whatever its name is now.
+/// A folder's handle, and a path by which this process reaches that folder, whatever its name is now.
 #[derive(Drop)]
 pub(crate) struct Place<F> {
     handle: F,
@@ -39,7 +39,7 @@ impl<'a, R: Files + AllocGlobal + Clone + Drop> Folder<'a, R>
 where
     R::File: FileExt + Lockable,
 {
-    /// Opens and locks a folder that exists, whose names of files are all of files.
+    /// Opens and locks a folder that exists. Each entry with the name of a file has to be a regular file.
     pub(crate) fn open(rt: &'a R, path: &str) -> Result<Self, FolderError>
         ensures names { IfOk result (λ folder. folder.names_pending ≡ true) }
         ensures files { IfOk result (λ folder. (n : ℕ) → get nat_cmp folder.pending n ≡ None) }
@@ -97,8 +97,8 @@ where
         }
     }
 
-    /// A file that is to be written: the one that is there, or a new one. One without octets is made anew, since its
-    /// name may not be durable; so no octet is written to a file before its name is.
+    /// A file that is to be written: the existing one, or a new one. One without octets is made anew, since its name
+    /// may not be durable; so no octet is written to a file before its name is durable.
     fn begin(&mut self, file: u64, settled: bool) -> io::Result<Pending<R::File>>
         ensures others { self.new.pending ≡ self.old.pending }
     {
@@ -191,7 +191,8 @@ where
         removed
     }
 
-    /// Takes a name away for good. Where it isn't there, but may be on the device, it is made and taken away.
+    /// Takes a name away for good. Where the folder has it no more, but the device may have it, it is made and taken
+    /// away.
     fn take_name(&mut self, path: &str) -> io::Result<()>
         ensures names { OnOk result (self.new.names_pending ≡ false) }
         ensures others { self.new.pending ≡ self.old.pending }
@@ -259,7 +260,7 @@ where
         }
     }
 
-    /// Opens a file that is there.
+    /// Opens a file, if it exists.
     fn find(&self, file: u64, access: Access) -> io::Result<Option<Found<R::File>>> {
         Found::open(self.rt, self.path_of(file)?.as_str(), access)
     }
@@ -327,7 +328,7 @@ impl<F: OpenFile + Lockable + Drop> Place<F> {
     }
 }
 
-/// Whether each name of a file is that of a file.
+/// An error where an entry with the name of a file isn't a regular file.
 fn look_at_names<R: Files + AllocGlobal + Clone + Drop>(
     rt: &R,
     folder: &str,
@@ -346,7 +347,7 @@ fn look_at_names<R: Files + AllocGlobal + Clone + Drop>(
     Ok(())
 }
 
-/// Whether the name of a file is that of a file.
+/// An error where the entry with this file's name isn't a regular file.
 fn look_at_name<R: Files + AllocGlobal>(
     rt: &R,
     folder: &str,
@@ -359,7 +360,7 @@ fn look_at_name<R: Files + AllocGlobal>(
     }
 }
 
-/// Makes a file that isn't there, which its owner may write whatever the process's mask is.
+/// Makes a new file, which its owner may write whatever the process's mask is.
 fn create_new<R: Files>(rt: &R, path: &str) -> io::Result<R::File> {
     let made = OpenOptions::new()
         .read(true)

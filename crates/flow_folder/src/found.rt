@@ -1,4 +1,4 @@
-// A file that is there, found by its name.
+// An existing file, found by its name.
 ghost use Rattle.std.specs.Prelude.{◌≡◌, ◌≤◌, ◌<◌, ℕ, true, false, IfOk, length};
 ghost use Rattle.flow_folder.specs.Written.{IsWritten};
 
@@ -26,7 +26,7 @@ pub(crate) enum Access {
 }
 
 /// A file that was found by its name. It is read-only where its permissions allowed nobody to write it: then it was
-/// frozen once, behind a good sync, and hasn't been changed since.
+/// frozen once, after a good sync, and hasn't been changed since.
 #[derive(Drop)]
 pub(crate) struct Found<F> {
     file: F,
@@ -82,7 +82,7 @@ impl<F: FileExt + OpenFile + Drop> Found<F> {
         synced
     }
 
-    /// A file to be changed or synced. What nobody is known to have settled is written again before its next sync.
+    /// A file to be changed or synced. One that isn't known to be settled is written again before its next sync.
     pub(crate) fn into_pending(self, alloc: Global, settled: bool) -> io::Result<Pending<F>>
         ensures doubtful { settled ≡ false → self.read_only ≡ false
             → IfOk result (λ pending. pending.stage ≡ Stage.Doubtful) }
@@ -107,7 +107,7 @@ pub(crate) fn is_read_only(named: &Metadata) -> bool {
     named.mode() & WRITE == 0
 }
 
-/// What has this name; an error where it isn't a file.
+/// The metadata of the file of this name, if there is one; an error where another thing has the name.
 pub(crate) fn look_up<R: Files>(rt: &R, path: &str) -> io::Result<Option<Metadata>> {
     match fs::symlink_metadata(rt, path) {
         Ok(named) if named.is_file() => Ok(Some(named)),

@@ -16,14 +16,14 @@ const PIECE: usize = 4096;
 pub(crate) enum Stage {
     /// It may have been changed since its last good sync.
     Changed,
-    /// What it reads as may not be what the device holds: its last sync failed, or others have changed it.
+    /// The octets it reads as may not be those on the device: its last sync failed, or others may have changed it.
     Doubtful,
     /// Its last sync was good, and it wasn't changed since.
     Synced,
 }
 
 impl Stage {
-    /// After a change, which makes nothing sure that was doubtful.
+    /// After a change. A doubtful file stays doubtful.
     fn changed(self) -> Stage
         ensures unsynced { result ≢ Stage.Synced }
         ensures doubtful { result ≡ Stage.Doubtful ↔ self ≡ Stage.Doubtful }
@@ -35,11 +35,11 @@ impl Stage {
     }
 }
 
-/// A file that was changed, or whose last sync failed, with the handle that its changes went through: Linux tells a
+/// A file that was changed, or whose last sync failed, with the handle that its changes went through: Linux reports a
 /// write that was lost on its way to the device only to handles that were open then. After a failed sync it takes the
-/// octets of memory for those of the device, though the device may not have them, and answers Ok to the next sync, of
-/// this process or of a later one. So what was written since the last good sync is kept in mind, and written again
-/// after a sync that failed; and of a file that others may have changed all of it is written again before the first.
+/// octets in its memory for those of the device, though the device may not have them, and answers Ok to the next sync,
+/// of this process or of a later one. So the ranges written since the last good sync are remembered, and written again
+/// after a failed sync; a file that others may have changed is written again whole before its first sync.
 #[derive(Drop)]
 pub(crate) struct Pending<F> {
     file: F,
@@ -61,7 +61,7 @@ impl<F: FileExt + OpenFile + Drop> Pending<F> {
         })
     }
 
-    /// A file of so many octets that others may have changed, without a good sync behind it.
+    /// A file of so many octets that others may have changed, without a good sync since.
     pub(crate) fn doubtful(alloc: Global, file: F, length: u64) -> io::Result<Self>
         ensures stage { IfOk result (λ pending. pending.stage ≡ Stage.Doubtful) }
         ensures whole { IfOk result
@@ -125,8 +125,9 @@ impl<F: FileExt + OpenFile + Drop> Pending<F> {
         self.file.set_len(count)
     }
 
-    /// Syncs the file: writes again what the device may not hold, and asks the device for all of it. Where that fails,
-    /// both are done once more at once, so that the device holds what is read here, if it can; the answer stays.
+    /// Syncs the file: writes again the octets that the device may not hold, and asks the device to hold all of it.
+    /// Where that fails, both are done once more at once, so that the device holds the octets that are read here, if it
+    /// can; the answer stays.
     pub(crate) fn sync(&mut self) -> io::Result<()>
         ensures done { OnOk result (self.new.stage ≡ Stage.Synced) }
         ensures failed { OnErr result (self.new.stage ≢ Stage.Synced) }
@@ -145,7 +146,7 @@ impl<F: FileExt + OpenFile + Drop> Pending<F> {
         }
     }
 
-    /// Writes again what the device may not hold, and syncs.
+    /// Writes again the octets that the device may not hold, and syncs.
     fn settle(&mut self) -> io::Result<()>
         ensures done { OnOk result (self.new.stage ≡ Stage.Changed) }
         ensures failed { OnErr result (self.new.stage ≡ Stage.Doubtful) }

@@ -3,7 +3,7 @@ ghost use Rattle.std.specs.Prelude.{◌≡◌, ℕ, ◌<◌, ◌≤◌, ◌⊎�
 
 use std::alloc::{AllocError, Global};
 
-/// How many ranges are told apart.
+/// How many ranges are kept apart.
 const MOST: usize = 8;
 
 /// The octets from a place on, up to another place.
@@ -13,7 +13,8 @@ pub(crate) struct Range {
     pub(crate) to: u64,
 }
 
-/// Ranges of octets. Those that touch are joined, and where there are too many they all are, with what lies between.
+/// Ranges of octets. Those that touch are joined; where there are too many, all are joined into one, with the octets
+/// between them.
 #[derive(Drop)]
 pub(crate) struct Ranges {
     ranges: Vec<Range>,
@@ -29,7 +30,7 @@ impl Range {
         self.from <= other.to && other.from <= self.to
     }
 
-    /// A range of both and what lies between.
+    /// One range of both and the octets between them.
     fn joined(self, other: Range) -> Range
         ensures { (place : ℕ) → IsWithin self place ⊎ IsWithin other place → IsWithin result place }
     {

@@ -10,14 +10,14 @@ use std::io::ErrorKind;
 use std::os::unix::fs::FileExt;
 use std::sync::Arc;
 
-/// What shows that a read of a `FolderSealed` failed.
+/// Evidence that a read of a `FolderSealed` failed.
 #[derive(Drop)]
 pub struct ReadFailed {
     _made_here: (),
 }
 
 /// A frozen file of a folder. It is opened at each read, so that many need no open files; the folder stays locked as
-/// long as one of them is there.
+/// long as one of them exists.
 #[derive(Drop)]
 pub struct FolderSealed<'a, R: Files> {
     pub(crate) rt: &'a R,

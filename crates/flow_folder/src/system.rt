@@ -1,4 +1,4 @@
-// What a disk asks of the system's files besides what std has traits for.
+// What a disk needs of the system's files beyond the traits of std.
 use std::alloc::{AllocError, AllocFailed};
 use std::fs::{File, TryLockError};
 use std::io::{self, ErrorKind};
@@ -35,7 +35,7 @@ pub enum FolderError {
     NotAFile(u64),
     /// The system's list of open files, `/proc/self/fd`, isn't there.
     NoHandles,
-    /// No memory was found.
+    /// Memory was refused.
     OutOfMemory,
     /// The system refused it otherwise.
     Refused(io::Error),

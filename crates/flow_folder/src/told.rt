@@ -1,4 +1,4 @@
-// What a disk has told of its files.
+// What a disk has reported of its files.
 ghost use Rattle.std.specs.Prelude.{◌≡◌, ◌≤◌, ◌^◌, ℕ};
 
 use std::alloc::Global;
@@ -7,7 +7,7 @@ use std::collections::BTreeMap;
 /// The most octets that a file has.
 pub(crate) const LIMIT: u64 = 1 << 62;
 
-/// What was told of a file: how many octets it has, and whether it is settled, frozen and listed.
+/// What was reported of a file: how many octets it has, and whether it is settled, frozen and listed.
 #[derive(Clone, Copy)]
 pub(crate) struct Told {
     pub(crate) size: u64,
@@ -17,7 +17,7 @@ pub(crate) struct Told {
     ghost within: { size ≤ 2 ^ 62 },
 }
 
-/// What was told of each file. Of a file that no call has named nothing was told but that it isn't frozen.
+/// What was reported of each file. Of a file that no call has named, only that it isn't frozen.
 #[derive(Drop)]
 pub(crate) struct Table {
     told: BTreeMap<u64, Told>,
@@ -38,7 +38,7 @@ impl Table {
         }
     }
 
-    /// What was told of a file.
+    /// What was reported of a file.
     pub(crate) fn of(&self, file: u64) -> Told
         ensures { marks_of result ≡ marks_in self.now file }
     {
@@ -53,7 +53,7 @@ impl Table {
         }
     }
 
-    /// Tells this of a file from now on. Answers whether there was memory.
+    /// Reports this of a file from now on. Answers whether there was memory.
     pub(crate) fn tell(&mut self, file: u64, told: Told) -> Result<(), NoRoom>
         ensures done { OnOk result (Changes (marks_in self.old) (marks_in self.new) file (marks_of told)) }
         ensures failed { OnErr result (Stays (marks_in self.old) (marks_in self.new)) }
@@ -65,6 +65,6 @@ impl Table {
     }
 }
 
-/// No memory was found.
+/// Memory was refused.
 #[derive(Drop)]
 pub(crate) struct NoRoom;

@@ -259,7 +259,7 @@ fn make_all(failing: &Failing<'_>, folder: &str, parts: &[Part<'_>]) -> Result<(
     Ok(())
 }
 
-/// The octets of file 3 in the folder of these tests, and none where it isn't there.
+/// The octets of file 3 in the folder of these tests, and none where it doesn't exist.
 fn octets_of_3(rt: &HostRuntime) -> Result<Vec<u8>, Fail> {
     if fs::exists(rt, "folder_failing/3.ipfix")? {
         return Ok(fs::read(rt, "folder_failing/3.ipfix")?);

@@ -1,5 +1,5 @@
-//! What no clause says: what stands in a real folder after each call. Which names are those of files, and that others
-//! stay, is in cases/folders.txt.
+//! What no clause says: what a real folder holds after each call. Which names are those of files, and that others stay,
+//! is in cases/folders.txt.
 
 use crate::calls::{Call, Thawed};
 use flow_disk::{Disk, DiskError, Faults, SealedFile};
@@ -72,7 +72,7 @@ const OCTETS: [Call<'static>; 9] = [
     Call::Length(3, 4),
 ];
 
-/// Calls on files that aren't there.
+/// Calls on files that don't exist.
 const ABSENT: [Call<'static>; 7] = [
     Call::Length(3, 0),
     Call::Sync(3),
@@ -162,8 +162,7 @@ fn is_short<S: SealedFile>(
     Ok(sealed.read(alloc, &mut Faults::new(), at, count) == Err(DiskError::Fault))
 }
 
-/// Writes six octets to a file, leaves three of them, and reads and cuts it as if they were there: whether both are
-/// faults.
+/// Writes six octets to a file, leaves three of them, and reads and cuts it as if it had six: whether both are faults.
 fn are_short(rt: &HostRuntime) -> Result<bool, Fail> {
     let Thawed { mut disk } = opened(rt, "folder_changed")?;
     disk.write_at(3, 0, b"abcdef")?;

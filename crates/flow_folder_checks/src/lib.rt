@@ -1,4 +1,4 @@
-//! Tests of a folder of the system as a disk, on public calls: what stands in it after each call, and what comes of it
+//! Tests of a folder of the system as a disk, on public calls: what it holds after each call, and what comes of it
 //! where syncs and writes fail.
 #![tactic(auto)]
 

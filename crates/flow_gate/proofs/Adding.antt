@@ -26,7 +26,7 @@ kept_then_adds end messages a b c kept opens = record {
   lists = λ from list gated ends. opens.lists from list (kept.lists from list gated ends) ends;
 }
 
--- the closed gate behind the batch, where the next one goes
+-- the closed gate after the batch, where the next one goes
 pub closed_behind : (end : ℕ) (messages : List (List ℕ)) (before after : List ℕ) → IsClosedAt before end
     → Adds end messages before after → IsClosedAt after (end + octet_sum messages)
 closed_behind end messages before after closed adds =

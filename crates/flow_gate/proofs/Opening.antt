@@ -35,7 +35,7 @@ module _ (before : List ℕ) (end octet : ℕ) (messages : List (List ℕ)) (pla
   now_open ten = subst (λ (l : List ℕ). IsGated l end messages)
       (sym (is_put ∙ ap (λ (n : ℕ). put_at before (end + 1) (n ∷ [])) ten)) placed.once_open
 
-  -- whatever stands at the gate
+  -- whatever octet is at the gate
   may_add_set : MayAdd end messages before after
   may_add_set = record {
     front = sym same_front;
@@ -88,7 +88,7 @@ module _ (file : Held) (end : ℕ) (messages : List (List ℕ)) (alone : IsAlone
         (adds file.reads end messages placed),
   )
 
--- the calls of `open_gate`, one behind the other
+-- the calls of `open_gate`, one after the other
 module _ {D S X : Type 0} (g : Ghosts D S X) (start : D) (file end : ℕ) (messages : List (List ℕ))
     (alone : IsAlone (g.held start file)) (placed : IsPlaced (g.held start file).reads end messages)
     (only_now : (image : ℕ → List ℕ) → g.left_since start (g.moment start) image → IsDiskImage (g.held start) image)

@@ -30,16 +30,16 @@ keeps end before after same long =
           λ from list gated ends. gated_front end from before after list same long ends gated;
     }
 
--- an image of a file of which nothing but what lies behind a closed gate was touched
+-- an image of a file of which only octets after a closed gate were touched
 kept : (old new : Held) (end : ℕ) → end + 2 ≤ old.fast → old.fast ≤ length old.last → IsBehind (end + 2) old new
     → (image : List ℕ) → IsImage new image → (before : List ℕ) × IsImage old before × KeepsLists end before image
 kept old new end room whole behind image is =
     let found = same_front (end + 2) old new behind room whole image is in
     (found.0, found.1, keeps end found.0 image found.2 (omega (arith, is.long, behind.fast)))
 
--- the calls of `place_batch`, one behind the other
+-- the calls of `place_batch`, one after the other
 module _ {D S X : Type 0} (g : Ghosts D S X) (start : D) (file end : ℕ) where
-  -- a disk on which nothing but what lies behind the gate differs from the start
+  -- a disk on which only octets after the gate differ from the start
   pub record IsUnderWay (now : D) : Type 0 where
     pub honest : IsTrue (g.honest now)
     pub room : end + 2 ≤ (g.held start file).fast
@@ -65,7 +65,7 @@ module _ {D S X : Type 0} (g : Ghosts D S X) (start : D) (file end : ℕ) where
       }
 
 module _ {D S X : Type 0} {g : Ghosts D S X} {start : D} {file end : ℕ} where
-  -- what a stop leaves inside a write behind the gate
+  -- what a stop leaves inside a write after the gate
   pub inside : {mid new : D} (at count : ℕ) (reads : List ℕ) → IsUnderWay g start file end mid → end + 2 ≤ at
       → (IsTrue (g.honest mid) → Passes g.moment g.left_since mid new
       (changed (g.held mid) file (touched_at (g.held mid file) at count reads)))
@@ -78,7 +78,7 @@ module _ {D S X : Type 0} {g : Ghosts D S X} {start : D} {file end : ℕ} where
       changes g start mid new file (KeepsLists end) to so_far.moments so_far.others (time so_far.honest)
       (kept (g.held start file) to end so_far.room so_far.whole behind)
 
-  -- after a write behind the gate
+  -- when octets after the gate are written
   pub writes_behind : {T E : Type 0} {x : T} {mid new : D} (at : ℕ) (octets : List ℕ)
       → IsUnderWay g start file end mid → end + 2 ≤ at → g.honest new ≡ g.honest mid
       → (IsTrue (g.honest mid) → Writes {T = T} {E = E} (g.held mid) (g.held new) file at octets (Ok x))

@@ -1,4 +1,4 @@
--- What stands in octets that were read from a place on stands in the file, behind that place.
+-- What is in octets that were read from a place on is in the file, after that place.
 use Rattle.std.proofs.Common.{◌≡◌, inl, inr, ⊎_elim, ℕ, ◌+◌, ◌<◌, ◌≤◌, List, [], ◌∷◌, length, get_or, take, drop, refl}
 use Rattle.std.proofs.Common.{sym, ◌∙◌, ap, subst, arith, length-drop}
 use Rattle.std.proofs.lemmas.List.{get_or-drop, drop-drop}
@@ -74,7 +74,7 @@ module _ (octets : List ℕ) (from : ℕ) where
     fault = subst (λ (p : ℕ). IsFaultyAt octets p) (sym is) (faulty_behind place damaged.fault);
   }
 
--- nothing stands past the end
+-- there is nothing past the end
 pub damaged_past : (octets : List ℕ) (from : ℕ) → length octets < from → IsDamaged octets from from
 damaged_past octets from past =
     record {
@@ -116,7 +116,7 @@ module _ (reads octets : List ℕ) (file from : ℕ) (rest : octets ≡ drop fro
   told_in (Ok tail) is = tt
   told_in (Err e) is = told_of e is
 
--- a list that stands there is given, and no other
+-- a list that is there is given, and no other
 given_of : (reads : List ℕ) (file from : ℕ) (list : List (List ℕ)) → IsGated reads from list → (e : ScanError)
     → IsTold reads file from e → IsGiven list from (Err e)
 given_of reads file from list gated (Damaged of at) is = never_both reads from at list gated is.1
@@ -132,7 +132,7 @@ given_in reads file from list gated (Ok tail) found told =
     (same, found.ends ∙ ap (λ l. from + octet_sum l) same)
 given_in reads file from list gated (Err e) found told = given_of reads file from list gated e told
 
--- damage is told at its place
+-- damage is reported at its place
 refused_of : (reads : List ℕ) (file from place : ℕ) → IsDamaged reads from place → (e : ScanError)
     → IsTold reads file from e → IsRefused file place (Err e)
 refused_of reads file from place damaged (Damaged of at) is = (is.0, one_place reads from at place is.1 damaged)

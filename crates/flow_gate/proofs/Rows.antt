@@ -68,7 +68,7 @@ row_push octets place (first ∷ list) message row whole stands = (
       (subst (λ (p : ℕ). StandsAt octets p message) (omega arith) stands),
 )
 
--- two rows, one behind the other
+-- two rows, one after the other
 pub row_join : (octets : List ℕ) (place : ℕ) (list more : List (List ℕ)) → StandInRow octets place list
     → StandInRow octets (place + octet_sum list) more → StandInRow octets place (list ++ more)
 row_join octets place [] more row rest = subst (λ (p : ℕ). StandInRow octets p more) (omega arith) rest
@@ -93,7 +93,7 @@ gated_join end from a b list more same ends gated rest = record {
   closed = subst (λ (p : ℕ). IsClosedAt b p) (omega (arith, ends, octet_sum-append list more)) rest.closed;
 }
 
--- a row in a file that is cut behind it
+-- a row in a file that is cut after it
 pub row_in_cut : (octets : List ℕ) (place count : ℕ) (list : List (List ℕ)) → place + octet_sum list ≤ count
     → StandInRow octets place list → StandInRow (take count octets) place list
 row_in_cut octets place count list le row =

@@ -62,7 +62,7 @@ no_fill octets place (m ∷ a) (n ∷ b) row_a stops more row_b ends =
     (subst (λ (l : List ℕ). StandInRow octets (place + length l) b) (sym same) row_b.2)
     (omega (arith, ends, ap length same))
 
--- what stands at a place
+-- what is at a place
 found_at : (octets : List ℕ) (place : ℕ) → IsClosedAt octets place
     ⊎ (((count : ℕ) × IsOpenAt octets place count) ⊎ IsFaultyAt octets place)
 found_at octets place =
@@ -95,7 +95,7 @@ found_at octets place =
         (λ shut. inl (record { room = room; zero_octet = high; shut = shut }))
         (cases_eq (get_or octets (place + 1) 0) 10)
 
--- damage behind one message more
+-- damage after one message more
 fits_more : (octets : List ℕ) (at : ℕ) (list : List (List ℕ)) → (list ≢ [] → at + 2 ≤ length octets)
     → (list ≡ [] → at + 2 ≤ length octets) → at + 2 ≤ length octets
 fits_more octets at [] many none = none refl
@@ -141,7 +141,7 @@ message_more octets from count found rest =
     ))
     rest
 
--- by one message and what stands behind it
+-- by one message and the octets after it
 stopped_or_more : (octets : List ℕ) (from : ℕ)
     → ((count : ℕ) → IsOpenAt octets from count → HasListOrDamage octets (from + count)) → HasListOrDamage octets from
 stopped_or_more octets from behind = ⊎_elim

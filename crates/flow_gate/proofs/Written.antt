@@ -21,7 +21,7 @@ length_concat (message ∷ list) = omega (arith, length-append message (concat l
 joined : (list : List (List ℕ)) (message : List ℕ) → concat (list ++ message ∷ []) ≡ concat list ++ message
 joined list message = concat-append list (message ∷ []) ∙ ap (λ l. concat list ++ l) (append-nil message)
 
--- a write right behind another
+-- a write right after another's octets
 put_more : (old : List ℕ) (place : ℕ) (a b : List ℕ) → place ≤ length old
     → put_at (put_at old place a) (place + length a) b ≡ put_at old place (a ++ b)
 put_more old place a b within =
@@ -148,7 +148,7 @@ message_of before after message list whole row = (whole, stands, rest)
         (subst (λ (n : ℕ). StandInRow ((before ++ message) ++ (concat list ++ after)) n list)
         (length-append before message) row)
 
--- whole messages stand in a row
+-- whole messages are a row
 pub row_of : (before after : List ℕ) (list : List (List ℕ)) → All IsWhole list
     → StandInRow (before ++ (concat list ++ after)) (length before) list
 row_of before after [] whole = tt
@@ -201,7 +201,7 @@ begins (message ∷ list) some whole = drop_more octets 0 0 (omega (arith, long)
     low : get_or (message ++ concat list) 1 0 ≡ 10
     low = get_or_append_left message (concat list) 0 1 (omega (arith, first.long)) ∙ first.low
 
--- a batch behind a closed gate
+-- a batch at a closed gate
 pub placed : (old : List ℕ) (end : ℕ) (messages : List (List ℕ)) → IsClosedAt old end → messages ≢ []
     → All IsWhole messages → IsPlaced (put_batch old end messages) end messages
 placed old end messages closed some whole = record {

@@ -1,9 +1,9 @@
--- Lists of messages behind a gate. The gate is the second octet of a message's version field: 10 is open, every other
--- value is closed.
+-- Lists of messages that end at a gate. The gate is the second octet of a message's version field: 10 is open, every
+-- other value is closed.
 use Rattle.std.specs.Prelude.{◌≡◌, ◌≢◌, ◌⊎◌, ℕ, ◌+◌, ◌*◌, ◌<◌, ◌≤◌, List, [], ◌∷◌, length, take, drop, get_or}
 use Rattle.flow_disk.specs.Disk.{put_at}
 
--- the Length field of a message that stands at a place (RFC 7011, 3.1)
+-- the Length field of a message at a place (RFC 7011, 3.1)
 abbrev pub length_field : List ℕ → ℕ → ℕ
 length_field octets place = 256 * get_or octets (place + 2) 0 + get_or octets (place + 3) 0
 
@@ -14,7 +14,7 @@ pub record IsWhole (message : List ℕ) : Type 0 where
   pub low : get_or message 1 0 ≡ 10
   pub counted : length_field message 0 ≡ length message
 
--- these octets stand at a place
+-- these octets are at a place
 abbrev pub StandsAt : List ℕ → ℕ → List ℕ → Type 0
 StandsAt octets place part = take (length part) (drop place octets) ≡ part
 
@@ -24,7 +24,7 @@ pub record IsClosedAt (octets : List ℕ) (place : ℕ) : Type 0 where
   pub zero_octet : get_or octets place 0 ≡ 0
   pub shut : get_or octets (place + 1) 0 ≢ 10
 
--- whole messages one behind the other
+-- whole messages one after the other
 abbrev pub StandInRow : List ℕ → ℕ → List (List ℕ) → Type 0
 StandInRow octets place [] = Unit {0}
 StandInRow octets place (message ∷ list) = IsWhole message × StandsAt octets place message
@@ -35,7 +35,7 @@ abbrev pub octet_sum : List (List ℕ) → ℕ
 octet_sum [] = 0
 octet_sum (message ∷ list) = length message + octet_sum list
 
--- A whole message of so many octets stands at a place, as far as the gate looks.
+-- A whole message of so many octets is at a place, as far as the gate looks.
 pub record IsMessageAt (octets : List ℕ) (place count : ℕ) : Type 0 where
   pub zero_octet : get_or octets place 0 ≡ 0
   pub ten : get_or octets (place + 1) 0 ≡ 10
@@ -43,7 +43,7 @@ pub record IsMessageAt (octets : List ℕ) (place count : ℕ) : Type 0 where
   pub long : 16 ≤ count
   pub room : place + count ≤ length octets
 
--- Whole messages stand from a place on, up to the end: a list without a gate behind it.
+-- Whole messages fill the octets from a place to the end: a list without a gate after it.
 pub record IsRow (octets : List ℕ) (from : ℕ) (list : List (List ℕ)) : Type 0 where
   pub row : StandInRow octets from list
   pub ends : from + octet_sum list ≡ length octets
@@ -53,7 +53,7 @@ pub record IsGated (octets : List ℕ) (place : ℕ) (list : List (List ℕ)) : 
   pub row : StandInRow octets place list
   pub closed : IsClosedAt octets (place + octet_sum list)
 
--- neither a closed gate nor a message that fits with 2 octets behind it
+-- neither a closed gate nor a message that fits with 2 octets after it
 abbrev pub IsFaultyAt : List ℕ → ℕ → Type 0
 IsFaultyAt octets place = (length octets < place + 2) ⊎ (get_or octets place 0 ≢ 0)
     ⊎ ((get_or octets (place + 1) 0 ≡ 10)
@@ -71,7 +71,7 @@ pub record IsDamaged (octets : List ℕ) (from at : ℕ) : Type 0 where
 abbrev pub opened : List ℕ → ℕ → List ℕ
 opened octets end = put_at octets (end + 1) (10 ∷ [])
 
--- messages behind the closed gate at `end`, which stand there as a gated list once it is open
+-- The gate at `end` is closed, and once it is open these messages are the gated list from `end` on.
 pub record IsPlaced (octets : List ℕ) (end : ℕ) (messages : List (List ℕ)) : Type 0 where
   pub closed : IsClosedAt octets end
   pub once_open : IsGated (opened octets end) end messages

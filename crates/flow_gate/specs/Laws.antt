@@ -26,7 +26,7 @@ abbrev pub RowIsItsOctets : Type 0
 RowIsItsOctets = (octets : List ℕ) (from : ℕ) (list : List (List ℕ)) → StandInRow octets from list
     → take (octet_sum list) (drop from octets) ≡ concat list
 
--- stays where the file is cut behind it,
+-- stays where the file is cut after it,
 abbrev pub RowStaysInCut : Type 0
 RowStaysInCut = (octets : List ℕ) (from count : ℕ) (list : List (List ℕ)) → from + octet_sum list ≤ count
     → StandInRow octets from list → StandInRow (take count octets) from list
@@ -36,7 +36,7 @@ abbrev pub OneRowFits : Type 0
 OneRowFits = (octets : List ℕ) (from : ℕ) (a b : List (List ℕ)) → StandInRow octets from a → StandInRow octets from b
     → octet_sum a ≡ octet_sum b → a ≡ b
 
--- A gated list stays where the file is cut behind its gate.
+-- A gated list stays where the file is cut after its gate.
 abbrev pub ListStaysInCut : Type 0
 ListStaysInCut = (octets : List ℕ) (from count : ℕ) (list : List (List ℕ)) → from + octet_sum list + 2 ≤ count
     → IsGated octets from list → IsGated (take count octets) from list

@@ -1,4 +1,4 @@
--- What a scan finds and tells.
+-- What a scan finds and reports.
 use Rattle.std.specs.Prelude.{◌≡◌, ℕ, ◌+◌, ◌≤◌, List, ◌++◌, length, map, Vec, codes, Result, Ok, Err}
 use Rattle.std.specs.Fmt.{decimal}
 use Rattle.std.specs.declared.alloc.Global.{Global}
@@ -15,12 +15,12 @@ use Rattle.flow_gate.specs.Gate.{IsClosedAt, IsFaultyAt, IsMessageAt, IsGated, I
 abbrev pub texts : List (Vec ℕ Global) → List (List ℕ)
 texts messages = map (λ (message : Vec ℕ Global). message.items) messages
 
--- The list that stands from a place on, and where it ends.
+-- The list from a place on, and where it ends.
 pub record IsTail (octets : List ℕ) (from end : ℕ) (messages : List (Vec ℕ Global)) : Type 0 where
   pub gated : IsGated octets from (texts messages)
   pub ends : end ≡ from + octet_sum (texts messages)
 
--- Damage is told of this file alone, at its place.
+-- Damage is reported of this file alone, at its place.
 abbrev pub IsTold : List ℕ → ℕ → ℕ → ScanError → Type 0
 IsTold octets file from (Damaged of at) = (of ≡ file) × IsDamaged octets from at
 IsTold octets file from Fault = Unit {0}
@@ -32,14 +32,14 @@ IsNamed file from (Damaged of at) = (of ≡ file) × (from ≤ at)
 IsNamed file from Fault = Unit {0}
 IsNamed file from OutOfMemory = Unit {0}
 
--- Where this list stands it is given, and no damage is told.
+-- Where the octets are this list it is given, and no damage is reported.
 abbrev pub IsGiven : List (List ℕ) → ℕ → Result Tail ScanError → Type 0
 IsGiven list from (Ok tail) = (texts tail.messages.items ≡ list) × (tail.end ≡ from + octet_sum list)
 IsGiven list from (Err (Damaged of at)) = ⊥
 IsGiven list from (Err Fault) = Unit {0}
 IsGiven list from (Err OutOfMemory) = Unit {0}
 
--- Where there is damage its place is told, and no list is given.
+-- Where there is damage its place is reported, and no list is given.
 abbrev pub IsRefused : ℕ → ℕ → Result Tail ScanError → Type 0
 IsRefused file place (Ok tail) = ⊥
 IsRefused file place (Err (Damaged of at)) = (of ≡ file) × (at ≡ place)
@@ -56,18 +56,18 @@ IsToldRead octets file from (Damaged of at) = (of ≡ file) × (place : ℕ) × 
 IsToldRead octets file from Fault = ⊥
 IsToldRead octets file from OutOfMemory = Unit {0}
 
--- a message that fits, with 2 octets behind it
+-- a message that fits, with 2 octets after it
 pub record IsOpenAt (octets : List ℕ) (place count : ℕ) : Type 0 where
   pub message : IsMessageAt octets place count
   pub room : place + count + 2 ≤ length octets
 
--- what stands at a place
+-- what is at a place
 abbrev pub IsFoundAt : List ℕ → ℕ → Found → Type 0
 IsFoundAt octets place Closed = IsClosedAt octets place
 IsFoundAt octets place (Message count) = IsOpenAt octets place count
 IsFoundAt octets place Damage = IsFaultyAt octets place
 
--- a disk's refusal, told of a scan
+-- a disk's refusal, as one of a scan
 abbrev pub scan_error : DiskError → ScanError
 scan_error disk.Fault = Fault
 scan_error disk.OutOfMemory = OutOfMemory

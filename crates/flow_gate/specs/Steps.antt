@@ -9,7 +9,7 @@ use Rattle.flow_gate.specs.Gate.{IsGated, IsPlaced, octet_sum}
 abbrev pub slices : List (Bor (List ℕ)) → List (List ℕ)
 slices messages = map (λ (message : Bor (List ℕ)). message.now) messages
 
--- the messages from the third octet of the first one on, behind the gate at `end`
+-- the messages from the third octet of the first one on, written after the gate at `end`
 abbrev pub put_behind : List ℕ → ℕ → List (List ℕ) → List ℕ
 put_behind octets end messages = put_at octets (end + 2) (drop 2 (concat messages))
 
@@ -17,13 +17,13 @@ put_behind octets end messages = put_at octets (end + 2) (drop 2 (concat message
 abbrev pub put_batch : List ℕ → ℕ → List (List ℕ) → List ℕ
 put_batch octets end messages = put_at octets (end + 2) (drop 2 (concat messages) ++ 0 ∷ 0 ∷ [])
 
--- What stands up to the gate at `end` is as it was, and so is each list that ends there.
+-- The octets up to the gate at `end`, and the gate, are as they were, and so is each list that ends there.
 pub record KeepsLists (end : ℕ) (before after : List ℕ) : Type 0 where
   pub front : take (end + 2) after ≡ take (end + 2) before
   pub lists : (from : ℕ) (list : List (List ℕ)) → IsGated before from list → from + octet_sum list ≡ end
       → IsGated after from list
 
--- The same, and the messages stand behind the gate.
+-- The same, and the messages are placed at the gate.
 pub record Places (end : ℕ) (messages : List (List ℕ)) (before after : List ℕ) : Type 0 where
   pub kept : KeepsLists end before after
   pub placed : IsPlaced after end messages

@@ -29,13 +29,13 @@ pub fn add_batch<D: Disk>(
     ensures call { SettlesFile D.Disk disk.old disk.new file
         (max (D.marks disk.old file).size (end + octet_sum (slices messages.now) + 2)) result }
 
-    // On an honest one: what the file reads as, and that each of its images holds the lists that were there, with all
+    // On an honest one: what the file reads as, and that each of its images holds the lists of before, with all
     // messages of the batch.
     ensures octets { IsTrue (D.honest disk.old) → OnOk result ((D.held disk.new file).reads
         ≡ opened (put_batch (D.held disk.old file).reads end (slices messages.now)) end) }
     ensures after { EndsBy D.Disk disk.old disk.new result (InFile file (Adds end (slices messages.now))) }
 
-    // A stop at any moment leaves the lists that were there, with all messages of the batch or with none.
+    // A stop at any moment leaves the lists of before, with all messages of the batch or with none.
     ensures any_moment { StopsBy D.Disk disk.old disk.new (InFile file (MayAdd end (slices messages.now))) }
 {
     place_batch(disk, file, end, messages)?;

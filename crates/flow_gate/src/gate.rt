@@ -1,4 +1,4 @@
-// A batch of messages is written behind a closed gate, and the gate is opened once they are on the disk.
+// A batch of messages is written with its gate closed, and the gate is opened once they are on the disk.
 ghost use Rattle.std.specs.Prelude.{◌≡◌, ◌≢◌, ℕ, ◌+◌, ◌≤◌, max, false, true, IsTrue, List, [], ◌∷◌, length, OnOk};
 ghost use Rattle.std.specs.List.{All};
 ghost use Rattle.flow_disk.specs.Disk.{IsImage, AllImages, ComesOf, InFile};
@@ -8,9 +8,9 @@ ghost use Rattle.flow_gate.specs.Steps.{KeepsLists, Places, MayAdd, Adds, slices
 
 use flow_disk::{Disk, DiskError};
 
-/// Writes a batch of messages behind the closed gate at `end`, the first with its gate closed and the others open, then
-/// a closed gate behind them, and settles the file. It takes no memory. After a fault the file is synced and
-/// scanned anew.
+/// Writes a batch of messages at the closed gate at `end`, which stays closed: it is the gate of the first message, and
+/// those of the others are open. Writes a closed gate after them, and settles the file. It takes no memory. After a
+/// fault the file is synced and scanned anew.
 pub fn place_batch<D: Disk>(
     disk: &mut D,
     file: u64,
@@ -29,8 +29,8 @@ pub fn place_batch<D: Disk>(
     ensures call { SettlesFile D.Disk disk.old disk.new file
         (max (D.marks disk.old file).size (end + octet_sum (slices messages.now) + 2)) result }
 
-    // On an honest one: what the file reads as, and that each of its images holds the lists that were there, with the
-    // batch behind their gate.
+    // On an honest one: what the file reads as, and that each of its images holds the lists of before, with the batch
+    // placed at their gate.
     ensures octets { IsTrue (D.honest disk.old)
         → OnOk result ((D.held disk.new file).reads ≡ put_batch (D.held disk.old file).reads end
         (slices messages.now)) }
@@ -38,7 +38,7 @@ pub fn place_batch<D: Disk>(
         → OnOk result (IsPlaced (D.held disk.new file).reads end (slices messages.now)) }
     ensures after { EndsBy D.Disk disk.old disk.new result (InFile file (Places end (slices messages.now))) }
 
-    // A stop at any moment leaves the lists that were there.
+    // A stop at any moment leaves the lists of before.
     ensures any_moment { StopsBy D.Disk disk.old disk.new (InFile file (KeepsLists end)) }
 {
     let mut at = end;
@@ -52,7 +52,7 @@ pub fn place_batch<D: Disk>(
     Ok(())
 }
 
-/// Writes one message behind the closed gate at `end`: a batch of one.
+/// Writes one message at the closed gate at `end`: a batch of one.
 pub fn place<D: Disk>(disk: &mut D, file: u64, end: u64, message: &[u8]) -> Result<(), DiskError>
     requires message { IsWhole message.now }
     requires room { end + 2 ≤ (D.marks disk.old file).size }
@@ -75,8 +75,8 @@ pub fn place<D: Disk>(disk: &mut D, file: u64, end: u64, message: &[u8]) -> Resu
     place_batch(disk, file, end, &[message])
 }
 
-/// Opens the gate in front of a batch that `place_batch` has settled, and settles the file. It takes no memory. After a
-/// fault the file is synced and scanned anew.
+/// Opens the gate of a batch that `place_batch` has settled, and settles the file. It takes no memory. After a fault
+/// the file is synced and scanned anew.
 pub fn open_gate<D: Disk>(disk: &mut D, file: u64, end: u64) -> Result<(), DiskError>
     requires room { end + 2 ≤ (D.marks disk.old file).size }
     requires thawed { (D.marks disk.old file).frozen ≡ false }
@@ -87,7 +87,7 @@ pub fn open_gate<D: Disk>(disk: &mut D, file: u64, end: u64) -> Result<(), DiskE
     // On every disk.
     ensures call { SettlesFile D.Disk disk.old disk.new file (D.marks disk.old file).size result }
 
-    // On an honest one: what the file reads as, and that each of its images holds the lists that were there, with all
+    // On an honest one: what the file reads as, and that each of its images holds the lists of before, with all
     // messages of the batch.
     ensures octets { IsTrue (D.honest disk.old)
         → OnOk result ((D.held disk.new file).reads ≡ opened (D.held disk.old file).reads end) }
@@ -95,7 +95,7 @@ pub fn open_gate<D: Disk>(disk: &mut D, file: u64, end: u64) -> Result<(), DiskE
         → IsPlaced (D.held disk.old file).reads end messages → OnOk result
         (AllImages (D.held disk.new) (ComesOf (D.held disk.old) (InFile file (Adds end messages)))) }
 
-    // A stop at any moment leaves the lists that were there, with all messages of the batch or with none.
+    // A stop at any moment leaves the lists of before, with all messages of the batch or with none.
     ensures any_moment { IsTrue (D.honest disk.old) → (messages : List (List ℕ))
         → IsPlaced (D.held disk.old file).reads end messages
         → LeavesOnly D.Disk disk.old disk.new (ComesOf (D.held disk.old) (InFile file (MayAdd end messages))) }

@@ -2,8 +2,8 @@
 ghost use Rattle.flow_gate.specs.Laws.{OneListFits, ListOrDamage, NeverBoth, OnePlaceDamaged, RowIsItsOctets};
 ghost use Rattle.flow_gate.specs.Laws.{RowStaysInCut, OneRowFits, ListStaysInCut};
 
-/// Octets have one gated list from a place on, or damage at one place, and never both; and what stays of a list in a
-/// file that is cut behind it.
+/// Octets have one gated list from a place on, or damage at one place, and never both; and a list stays in a file that
+/// is cut after it.
 pub fn laws_of_lists()
     ensures one_list { OneListFits }
     ensures list_or_damage { ListOrDamage }

@@ -1,4 +1,4 @@
-// Messages that stand in octets one behind the other.
+// Messages in octets, one after the other.
 ghost use Rattle.std.specs.Prelude.{ℕ, List, ◌≤◌, length, IfOk, IfSome, IfNone};
 ghost use Rattle.flow_gate.specs.Gate.{IsMessageAt, IsRow};
 ghost use Rattle.flow_gate.specs.Scan.{texts};
@@ -11,11 +11,11 @@ const HEADER: usize = 16;
 /// The two octets of the Version field (RFC 7011, 3.1); the second one is the message's gate.
 pub(crate) const VERSION: [u8; 2] = [0, 10];
 
-/// How many octets the closed gate behind a list has.
+/// How many octets the closed gate after a list has.
 pub(crate) const TRAILER: usize = 2;
 
-/// How many octets the message at a place has, if one stands there whole: its Version field, and a Length of at least
-/// 16 that doesn't pass the end. Nothing behind the Length field is looked at.
+/// How many octets the message at a place has, if a whole one is there: its Version field, and a Length of at least 16
+/// that doesn't pass the end. Nothing after the Length field is looked at.
 pub fn message_at(octets: &[u8], at: usize) -> Option<usize>
     ensures found { IfSome result (λ count. IsMessageAt octets.now at count) }
     ensures none { IfNone result ((count : ℕ) → IsMessageAt octets.now at count → ⊥) }

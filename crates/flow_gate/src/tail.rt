@@ -11,7 +11,7 @@ use std::fmt;
 /// The messages of a gated list.
 #[derive(Drop)]
 pub struct Tail {
-    /// The place of the closed gate behind them, in octets from the file's start.
+    /// The place of the closed gate after them, in octets from the file's start.
     pub end: u64,
     /// Each message's octets, in order.
     pub messages: Vec<Vec<u8>>,
@@ -20,7 +20,7 @@ pub struct Tail {
 /// Why a scan gives no list.
 #[derive(Clone, Copy, Debug, PartialEq, Eq)]
 pub enum ScanError {
-    /// In this file, at this place, stands neither a closed gate nor a message that fits with 2 octets behind it.
+    /// In this file, at this place, there is neither a closed gate nor a message that fits with 2 octets after it.
     Damaged(u64, u64),
     /// The device failed in that call.
     Fault,
@@ -69,11 +69,11 @@ impl<T: Drop> From<AllocFailed<T>> for ScanError {
     }
 }
 
-/// What stands at a place.
+/// What is at a place.
 pub(crate) enum Found {
     /// A closed gate.
     Closed,
-    /// A message of this many octets, with 2 octets behind it.
+    /// A message of this many octets, with 2 octets after it.
     Message(usize),
     /// Neither.
     Damage,

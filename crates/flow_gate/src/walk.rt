@@ -13,9 +13,9 @@ use crate::tail::{Found, ScanError, Tail};
 use flow_disk::Disk;
 use std::alloc::Global;
 
-/// Reads the messages from a place on, up to a closed gate. The disk stays as it is. On an honest disk it is Ok exactly
-/// on a gated list, and tells damage at its place exactly where there is none; a `from` past the end is damage at
-/// `from`. A fault is told exactly where the disk's count of failures rose.
+/// Reads the messages from a place on, up to a closed gate. The disk stays as it is. On an honest disk it is Ok on a
+/// gated list alone, and reports damage, at its place, only where there is none; a `from` past the end is damage at
+/// `from`. It answers `Fault` exactly where the disk's count of failures rose.
 pub fn scan<D: Disk>(alloc: Global, disk: &mut D, file: u64, from: u64) -> Result<Tail, ScanError>
     // On every disk.
     ensures reads { OnlyReads D.Disk disk.old disk.new file }
@@ -69,7 +69,7 @@ fn walk(alloc: Global, octets: &[u8], file: u64, from: u64) -> Result<Tail, Scan
     }
 }
 
-/// What stands at a place.
+/// What is at a place.
 fn found_at(octets: &[u8], at: usize) -> Found
     ensures { IsFoundAt octets.now at result }
 {

@@ -23,7 +23,7 @@ use Rattle.flow_headline.proofs.Closing.{all_refused, closed_answers}
 use Rattle.flow_headline.proofs.Fronts.{IsNoFault, IsStanding, fault_or, goes_on, one_first, one_more}
 use Rattle.flow_headline.proofs.Growing.{IsGrown, event_adds, has_more, more_then, same_history, sound_of}
 
--- a prefix of the events, and an image that stands for what is left of the archive after it
+-- a prefix of the events, and an image that represents what is left of the archive after it
 record IsImageIn (begun : ℕ) (s : State) (events : List Event) (answers : List (Result Answer ArchiveError))
     (image : ℕ → List ℕ) : Type 0 where
   pub taken : ℕ
@@ -137,7 +137,7 @@ module _ {D S X : Type 0} (disk : Ghosts D S X) where
             (λ f given. same_history next next f refl given);
       }
 
-  -- one event more, in front of those that are in it
+  -- one event more, before those that are in it
   more_in : (begun one_begun : ℕ) (old mid : Seen D) (e : Event) (a : Result Answer ArchiveError) (events : List Event)
       (answers : List (Result Answer ArchiveError)) (image : ℕ → List ℕ)
       → Answers (disk.honest old.disk) old.closed old.state e a mid.state → Leads old.state e a mid.state

@@ -1,4 +1,4 @@
--- What an image of the last moment of a run stands for.
+-- What an image of the last moment of a run represents.
 use Rattle.std.proofs.Common.{◌≡◌, ◌≢◌, ◌⊎◌, inl, inr, ⊎_elim, ℕ, zero, suc, ◌<◌, ◌≤◌, true, false, IsTrue}
 use Rattle.std.proofs.Common.{List, [], ◌∷◌, length, take, drop, Result, Ok, Err, refl, sym, ◌∙◌, ap, subst, arith}
 use Rattle.std.specs.Prelude.{IsErr}
@@ -27,7 +27,7 @@ use Rattle.flow_headline.proofs.Growing.{IsGrown, event_adds, has_more, more_the
 abbrev pub IsNoFault : Result Answer ArchiveError → Type 0
 IsNoFault a = a ≢ Err Fault
 
--- a front of the events, and an image that stands for what is left of the archive behind it
+-- a prefix of the events, and an image that represents what is left of the archive after it
 pub record IsImageOf (s : State) (events : List Event) (answers : List (Result Answer ArchiveError))
     (image : ℕ → List ℕ) : Type 0 where
   pub taken : ℕ
@@ -86,7 +86,7 @@ one_more a answers taken other rest zero lt = tt
 one_more a answers taken other rest (suc k) lt = (other, rest k (omega (arith, lt)))
 
 module _ {D S X : Type 0} (disk : Ghosts D S X) where
-  -- all that a stop would leave now stands for the state, and there is such an image
+  -- each image that a stop would leave now represents the state, and there is such an image
   pub record IsStanding (s : Seen D) : Type 0 where
     pub images : (image : ℕ → List ℕ) → disk.left_since s.disk (disk.moment s.disk) image
         → StandsFor image (reopened s.state)
@@ -160,7 +160,7 @@ module _ {D S X : Type 0} (disk : Ghosts D S X) where
       })
       (run_of.each image (there (disk.moment old.disk) run_of.later))
 
-  -- one event more in front
+  -- one event more before them
   one_more_event : (old mid : Seen D) (e : Event) (a : Result Answer ArchiveError) (events : List Event)
       (answers : List (Result Answer ArchiveError)) (image : ℕ → List ℕ)
       → Answers (disk.honest old.disk) old.closed old.state e a mid.state → Leads old.state e a mid.state

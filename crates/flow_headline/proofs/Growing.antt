@@ -48,7 +48,7 @@ use Rattle.flow_headline.specs.Front.{HasMore, added_by, grown, messages_in}
 
 -- ---- histories
 
--- the history of this state is another with these messages behind it
+-- the history of this state is another with these messages after it
 pub record IsGrown (h : History) (messages : List (List ℕ)) (s : State) : Type 0 where
   pub more : List Accepted
   pub octets : octets_of more ≡ messages
@@ -121,7 +121,7 @@ has_more h messages s valid is_grown =
       totals = λ v from to is. totals_are (reopened s) (grown h is_grown.more s) v from to valid left is;
     }
 
--- ---- a state for which an image stands
+-- ---- a state that an image represents
 
 pub record IsSound (s : State) : Type 0 where
   pub valid : IsValidManifest s.manifest

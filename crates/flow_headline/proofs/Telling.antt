@@ -1,4 +1,4 @@
--- Totals behind a stop.
+-- Totals after a stop.
 use Rattle.std.proofs.Common.{◌≡◌, ℕ, Bool, true, IsTrue, List, ◌∙◌, Result, sym, subst}
 use Rattle.flow_memory_disk.specs.declared.choice.Choice.{Choice}
 use Rattle.flow_archive.specs.declared.event.Answer.{Answer}

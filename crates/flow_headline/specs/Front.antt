@@ -71,12 +71,12 @@ all_added [] answers = []
 all_added (event ∷ events) [] = []
 all_added (event ∷ events) (answer ∷ answers) = added_by event answer ++ all_added events answers
 
--- a history with messages behind it, rolled and merged as far as the files of a state are
+-- a history with messages after it, rolled and merged as far as the files of a state are
 abbrev pub grown : History → List Accepted → State → History
 grown h more s =
     record h { all = h.all ++ more; second = second_of (shelf_of s); cut = cut_of (shelf_of s) }
 
--- The archive in this state is one with this history and these messages behind it: all of them, each once, in their
+-- The archive in this state is one with this history and these messages after it: all of them, each once, in their
 -- order, and no other, however many of them are rolled or merged by now. So its totals over any span are those of all
 -- these messages.
 pub record HasMore (h : History) (messages : List (List ℕ)) (s : State) : Type 0 where
@@ -86,10 +86,10 @@ pub record HasMore (h : History) (messages : List (List ℕ)) (s : State) : Type
   pub totals : (v : View) (from to : ℕ) → IsViewOf (shelf_of s) v
       → totals_in_view from to v ≡ totals_between from to (grown h more s)
 
--- ---- fronts
+-- ---- prefixes
 
--- This is what is left of the archive after a front of the events. Each event that was acknowledged is in it; a fault
--- closed the archive under the last event of it at most; and its history is the one before with the front's messages.
+-- This is what is left of the archive after a prefix of the events. Each event that was acknowledged is in it; a fault
+-- closed the archive under the last event of it at most; and its history is the one before with the prefix's messages.
 pub record IsFront (s : State) (events : List Event) (answers : List (Result Answer ArchiveError)) (left : State)
     : Type 0 where
   pub taken : ℕ
@@ -102,7 +102,7 @@ pub record IsFront (s : State) (events : List Event) (answers : List (Result Ans
   pub history : (h : History) → HasHistory s h
       → HasMore h (all_added (take taken events) (take taken answers)) left
 
--- Behind an event under which a fault closed the archive nothing happens any more.
+-- After an event under which a fault closed the archive every event is answered 49.
 abbrev pub EndsAtFault : List (Result Answer ArchiveError) → Type 0
 EndsAtFault [] = Unit {0}
 EndsAtFault (answer ∷ answers) =

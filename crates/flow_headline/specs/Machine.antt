@@ -37,7 +37,7 @@ use Rattle.flow_headline.specs.Front.{IsFront, grown}
 abbrev pub Fused : Type 0
 Fused = FailingDisk MemoryDisk Fuse MemorySealed Infallible
 
--- What such a disk keeps. It is honest, and tells what the disk in it does.
+-- What such a disk keeps: it is honest, and as the disk in it, but for its own failed calls, which are faults too.
 abbrev pub fused_disk : Ghosts Fused (FusedFile MemorySealed Infallible) BadRead
 fused_disk = record {
   honest = λ disk. true;
@@ -52,7 +52,7 @@ fused_disk = record {
 abbrev pub IsFusedRun : Seen Fused → List Event → List (Result Answer ArchiveError) → Seen Fused → Type 0
 IsFusedRun = IsRun fused_disk
 
--- The machine ran the events, with these answers, and was stopped. What the stop left by this choice stands for this
+-- The machine ran the events, with these answers, and was stopped. What the stop left by this choice represents this
 -- state.
 pub record IsStoppedRun (archive : Seen Fused) (events : List Event) (answers : List (Result Answer ArchiveError))
     (choice : Choice) (left : State) : Type 0 where
@@ -71,7 +71,7 @@ pub record IsNoStop (archive : Seen Fused) (events : List Event) (choice : Choic
 -- ---- totals
 
 -- These rows are the totals over this span of what the stop left of these events, with these answers: of all messages
--- that were there, and of those of the events in it, each counted once.
+-- of the archive before, and of those of the events in the prefix, each counted once.
 pub record AreTotals (archive : Seen Fused) (events : List Event) (answers : List (Result Answer ArchiveError))
     (choice : Choice) (from to : ℕ) (rows : List Row) : Type 0 where
   pub left : State

@@ -6,12 +6,12 @@ use Rattle.flow_headline.specs.declared.error.NotTold.{NotTold}
 use Rattle.flow_headline.specs.declared.error.NotTold.TheVariants.{NotOpened as NotOpenedTold, NotAnswered}
 use Rattle.flow_snapshot.specs.Told.{printed as printed_query}
 
--- the name, behind the number of what has one
+-- the name, after the number where there is one
 abbrev pub printed : NotOpened → List ℕ
 printed OutOfMemory = codes "11 OutOfMemory"
 printed NoSuchStop = codes "NoSuchStop"
 
--- why no totals were told
+-- why no totals were answered
 abbrev pub printed_told : NotTold → List ℕ
 printed_told (NotOpenedTold e) = printed e
 printed_told (NotAnswered e) = printed_query e

@@ -1,4 +1,4 @@
-//! Why no archive was opened behind a stop.
+//! Why no archive was opened after a stop.
 
 ghost use Rattle.std.specs.Prelude.{◌≡◌, Some};
 ghost use Rattle.flow_headline.specs.Printed.{printed, printed_told};
@@ -11,14 +11,14 @@ use std::alloc::AllocError;
 use std::error::Error;
 use std::fmt;
 
-/// Why no archive was opened behind a stop. The refusals 20 to 24 of what a disk holds aren't among these: they never
+/// Why no archive was opened after a stop. The refusals 20 to 24 of what a disk holds aren't among these: they never
 /// come.
 #[derive(Clone, Copy, Debug, PartialEq, Eq)]
 pub enum NotOpened {
     /// A growth of memory was refused: before the first event, or in the opening; or the disk in memory had no room for
     /// what the opening writes.
     OutOfMemory,
-    /// No stop leaves what was chosen: octets in place of others that are none, or too many for the room of a file.
+    /// No stop leaves what was chosen: `Filled` without octets, or `Longer` with too many for the room of a file.
     NoSuchStop,
 }
 
@@ -43,7 +43,7 @@ impl From<AllocError> for NotOpened {
     }
 }
 
-/// Why no totals were told behind a stop.
+/// Why no totals were answered after a stop.
 #[derive(Clone, Copy, Debug, PartialEq, Eq)]
 pub enum NotTold {
     /// No archive was opened.

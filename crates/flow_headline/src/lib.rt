@@ -1,11 +1,11 @@
 //! What a stop leaves of an archive.
 //!
 //! Promised to the reader: on a disk in memory, stopped before or within any device call of any list of events, with
-//! any of the stops that can be chosen there, opening gives exactly a front of that list. Every event that was
+//! any of the stops that can be chosen there, opening gives exactly a prefix of that list. Every event that was
 //! acknowledged is in it, and besides these at most the one that was under way; and the archive's history is the one
-//! before with the messages of that front behind it, each once, in their order, and no other, however many of them are
-//! rolled or merged by then. So its totals over any span are those of all these messages. Opening is refused for want
-//! of memory, in the machine or in its disk, and for nothing else.
+//! before with the messages of that prefix after it, each once, in their order, and no other, however many of them are
+//! rolled or merged by then. So its totals over any span are those of all these messages. Opening is refused only where
+//! memory runs out, in the machine or in its disk.
 //!
 //! And on every honest disk: a stop at any moment of a run of events leaves a prefix of them, with every event that was
 //! acknowledged by then, and at most the one under way besides.

@@ -1,4 +1,4 @@
-//! Events, a stop, and the opening behind it.
+//! Events, a stop, and the opening after it.
 
 ghost use Rattle.std.specs.Prelude.{◌≡◌, ℕ, false, All, IfOk, IsErrOf, IfSome, None};
 ghost use Rattle.flow_disk.specs.Disk.{IsDiskImage};
@@ -20,7 +20,7 @@ use flow_memory_disk::{Choice, FusedDisk, MemoryDisk};
 use flow_recover::RecoverError;
 use std::alloc::{AllocError, Global};
 
-/// The answers of events, and the archive that was opened behind a stop.
+/// The answers of events, and the archive that was opened after a stop.
 #[derive(Drop)]
 pub struct Reopened {
     /// One for each event.
@@ -49,12 +49,12 @@ pub fn run_and_open(
 ) -> Result<Reopened, NotOpened>
     requires events { All IsEvent events.now }
     requires still_open { archive.closed ≡ false }
-    // What was opened is the archive after a front of the events, with all that were acknowledged, and at most the one
+    // What was opened is the archive after a prefix of the events, with all that were acknowledged, and at most the one
     // under way besides.
     ensures prefix { IfOk result (λ r. IsFront archive.state events.now r.answers.items r.archive.state) }
     ensures behind { IfOk result (λ r. EndsAtFault r.answers.items) }
     ensures opened { IfOk result (λ r. r.archive.closed ≡ false) }
-    // It is the one for which that stands which the stop left.
+    // Its state is the one that the image left by the stop represents.
     ensures stopped { IfOk result (λ r. IsStoppedRun archive events.now r.answers.items choice.entry r.archive.state) }
     ensures no_stop { IsErrOf result NotOpened.NoSuchStop → IsNoStop archive events.now choice.entry }
 {
@@ -68,7 +68,7 @@ pub fn run_and_open(
     }
 }
 
-/// Runs events, and stops the machine behind them.
+/// Runs events, and stops the machine after them.
 fn run_and_stop(
     alloc: Global,
     archive: Archive<FusedDisk<MemoryDisk>>,
@@ -85,7 +85,7 @@ fn run_and_stop(
     ensures no_stop { IsErrOf result NotOpened.NoSuchStop → IsNoStop archive events.now choice.entry }
 {
     let mut archive = archive;
-    // Its contract tells what all images stand for at the start.
+    // Its contract says what each image represents at the start.
     let _closed = archive.is_closed();
     let answers = run_all(&mut archive, alloc, events)?;
     match crashed(archive.into_disk(), choice) {

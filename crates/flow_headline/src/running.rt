@@ -24,7 +24,7 @@ pub fn run_on_disk<D: Disk>(
     // All events ran, each once, with these answers.
     ensures run { IfOk result (λ answers. IsRun D.Disk archive.old events.now answers.items archive.new) }
     ensures kept { IfErr result (λ _. archive.new ≡ archive.old) }
-    // Where no answer is 30 Fault no call of the device failed, and where one is one has; of reads of sources likewise.
+    // Some answer is `Fault` exactly where a call of the device failed, and `SourceFault` exactly where a read did.
     ensures cause { IfOk result (λ answers. AreCaused ArchiveError.Fault (D.faults archive.old.disk)
         (D.faults archive.new.disk) answers.items) }
     ensures unread { MatchResult result (λ answers. AreCaused ArchiveError.SourceFault faults.old faults.new

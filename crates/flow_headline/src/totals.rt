@@ -1,4 +1,4 @@
-//! Totals behind a stop.
+//! Totals after a stop.
 
 ghost use Rattle.std.specs.Prelude.{◌≡◌, false, All, IfErr, IfOk};
 ghost use Rattle.flow_measure.specs.Query.{totals_in_view};
@@ -18,7 +18,7 @@ use flow_memory_disk::{Choice, FusedDisk, MemoryDisk};
 use flow_snapshot::QueryError;
 use std::alloc::Global;
 
-/// The answers of events, and totals that were asked behind a stop.
+/// The answers of events, and totals that were asked after a stop.
 #[derive(Drop)]
 pub struct Told {
     /// One for each event.
@@ -49,7 +49,7 @@ pub fn totals_behind_a_stop(
     ensures totals { IfOk result
         (λ t. AreTotals archive events.now t.answers.items choice.entry from to t.rows.items) }
     ensures behind { IfOk result (λ t. EndsAtFault t.answers.items) }
-    // No other refusal than want of memory, but for a stop that there isn't, and sums that don't fit their types.
+    // Refused only where memory runs out, where no stop leaves what was chosen, or where sums don't fit their types.
     ensures refused { IfErr result (λ e. IsRefusal archive events.now choice.entry e) }
 {
     let mut reopened = run_and_open(alloc, archive, events, choice)?;

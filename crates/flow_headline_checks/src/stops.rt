@@ -84,7 +84,7 @@ fn acknowledged(answers: &[Result<Answer, ArchiveError>]) -> u64 {
     last
 }
 
-/// The answers of the events, stopped at this call, and the archive that is opened behind the stop.
+/// The answers of the events, stopped at this call, and the archive that is opened after the stop.
 fn stopped(alloc: Global, call: u64, choice: Choice<'_>) -> Option<Reopened> {
     let Ok(archive) = created(alloc, call) else {
         return None;
@@ -95,7 +95,7 @@ fn stopped(alloc: Global, call: u64, choice: Choice<'_>) -> Option<Reopened> {
     run_and_open(alloc, archive, events.as_slice(), choice).ok()
 }
 
-/// How many messages were acknowledged before a stop, and how many the archive has that was opened behind it.
+/// How many messages were acknowledged before a stop, and how many the archive has that was opened after it.
 fn counted(alloc: Global, reopened: &mut Reopened) -> Option<(u64, u64)> {
     let next = reopened.archive.append(alloc, NO_SET.as_slice()).ok()?;
     Some((
@@ -105,7 +105,7 @@ fn counted(alloc: Global, reopened: &mut Reopened) -> Option<(u64, u64)> {
 }
 
 /// How many messages were acknowledged before a stop at this call, and how many the archive has that is opened
-/// behind it.
+/// after it.
 fn counts(alloc: Global, call: u64, choice: Choice<'_>) -> Option<(u64, u64)> {
     counted(alloc, &mut stopped(alloc, call, choice)?)
 }
@@ -153,7 +153,7 @@ fn events_on_a_disk(rt: HostRuntime) -> Result<(), Fail> {
     Ok(())
 }
 
-/// The rows that start within a span, behind a stop.
+/// The rows that start within a span, after a stop.
 fn rows_behind_a_stop(alloc: Global, call: u64, from: u64, to: u64) -> Option<Vec<Row>> {
     let Ok(archive) = created(alloc, call) else {
         return None;
@@ -172,7 +172,7 @@ fn rows_behind_a_stop(alloc: Global, call: u64, from: u64, to: u64) -> Option<Ve
     Some(told.rows)
 }
 
-/// The flows, octets and packets of all rows that start within a span, behind a stop.
+/// The flows, octets and packets of all rows that start within a span, after a stop.
 fn sums_behind_a_stop(alloc: Global, call: u64, from: u64, to: u64) -> Option<(u64, u128, u128)> {
     let mut sums = (0, 0, 0);
     for row in rows_behind_a_stop(alloc, call, from, to)? {

@@ -141,7 +141,7 @@ same_valid m n valid fit head octets =
     same_manifest m n head
     (same_entries m.entries n.entries (entries_fit m.limit m.next m.entries valid.each) fit octets)
 
--- what a body has behind the number of a format
+-- the octets of a body after the number of a format
 pub record IsBehind (format : Format) (octets : List ℕ) (m : Manifest) : Type 0 where
   pub said : IsSaid format (head_of m)
   pub is : octets ≡ head_octets format (head_of m) ++ flat_map entry_octets m.entries

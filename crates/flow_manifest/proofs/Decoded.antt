@@ -25,7 +25,7 @@ pub first_entry : (entries : List Entry) (octets : List ℕ) → flat_map entry_
 first_entry [] octets is some = absurd (omega (arith, ap length is, entries_long []))
 first_entry (e ∷ es) octets is some = (e, es, sym (flat_map-cons entry_octets e es) ∙ is)
 
--- what is left of octets of entries behind one of them is octets of entries
+-- the octets after one entry in octets of entries are octets of entries
 pub others_left : (whole rest after : List ℕ) (entry : Entry) → rest ≡ entry_octets entry ++ after
     → ((all : List Entry) → flat_map entry_octets all ≡ whole
     → (left : List Entry) × (flat_map entry_octets left ≡ rest))
@@ -51,7 +51,7 @@ one_more_read entries entry rest after whole so_far is =
 
 -- ---- the body
 
--- what is found behind a head
+-- what is found after a head
 abbrev pub IsFoundBehind : Head → List ℕ → Result Manifest ManifestError → Type 0
 IsFoundBehind head rest (Ok m) = IsValidManifest m × (head_of m ≡ head) × (flat_map entry_octets m.entries ≡ rest)
 IsFoundBehind head rest (Err e) = (e ≡ error.OutOfMemory) ⊎ IsFaultBehind head rest e

@@ -68,7 +68,7 @@ own_join (e ∷ xs) ys own others apart =
 
 -- ---- order
 
--- no entry stands before one of a lower rank
+-- no entry comes before one of a lower rank
 abbrev pub AreSorted : List Entry → Type 0
 AreSorted [] = Unit {0}
 AreSorted (e ∷ xs) = AllByRecursion (λ o. rank e.kind ≤ rank o.kind) xs × AreSorted xs
@@ -109,7 +109,7 @@ pub order_cons : (n : Entry) (ys : List Entry) → rank n.kind < 3 → 1 ≤ len
 order_cons n [] below some high is = absurd (omega (arith, some))
 order_cons n (y ∷ ys) below some high is = (below, high.0, is)
 
--- other entries behind the same front
+-- other entries after the same first ones
 pub order_join : (xs zs : List Entry) (n : Entry) (ys : List Entry) → rank n.kind < 3 → IsInOrder (xs ++ zs)
     → AllByRecursion (λ e. rank e.kind ≤ rank n.kind) xs → IsInOrder (n ∷ ys) → IsInOrder (xs ++ n ∷ ys)
 order_join [] zs n ys below is low next = next
@@ -143,7 +143,7 @@ higher : (r : ℕ) (e : Entry) (xs : List Entry) → AreSorted (e ∷ xs) → r 
 higher r e xs is le =
     (le, all_by (λ o. rank e.kind ≤ rank o.kind) (λ o. r ≤ rank o.kind) (λ o more. omega (arith, more, le)) xs is.0)
 
--- so many stand in front,
+-- so many come first,
 pub front_low : (r n : ℕ) (xs : List Entry) → AreSorted xs → n ≤ below r xs
     → AllByRecursion (λ e. rank e.kind < r) (take n xs)
 front_low r zero xs is le = tt
@@ -153,7 +153,7 @@ front_low r (suc n) (e ∷ xs) is le = ⊎_elim
     (λ high. absurd (omega (arith, le, none_below r (e ∷ xs) (higher r e xs is high))))
     (cases_lt (rank e.kind) r)
 
--- and the others behind them
+-- and the others after them
 pub rest_high : (r : ℕ) (xs : List Entry) → AreSorted xs → AllByRecursion (λ e. r ≤ rank e.kind) (drop (below r xs) xs)
 rest_high r [] is = tt
 rest_high r (e ∷ xs) is = ⊎_elim

@@ -24,14 +24,14 @@ use Rattle.flow_manifest.proofs.EntryLists.{rest_high, below_short, below_next, 
 
 -- ---- the entries of a valid manifest
 
--- the active entry stands behind the others
+-- the active entry comes after the others
 pub split : (m : Manifest) → IsValidManifest m → m.entries ≡ front_of m ++ active_of m ∷ []
 split m valid =
     let some : 1 ≤ length m.entries = valid.ranges.count_from in
     sym (take_all (length m.entries - 1 + 1) m.entries (omega (arith, some)))
     ∙ take_more m.entries (length m.entries - 1) no_entry (omega (arith, some))
 
--- an entry that is put behind others is the last one
+-- an entry that is appended to others is the last one
 first_push : (xs : List Entry) (x : Entry) → take (length (xs ++ x ∷ []) - 1) (xs ++ x ∷ []) ≡ xs
 first_push xs x = ap (λ (n : ℕ). take n (xs ++ x ∷ [])) (omega (arith, length-append xs (x ∷ [])))
     ∙ take_at xs (x ∷ []) (length xs) refl
@@ -202,7 +202,7 @@ module _ (m : Manifest) (valid : IsValidManifest m) where
         shape = one.shape;
       }) xs all
 
-  -- other entries behind a front of its own
+  -- other entries after its own first ones
   module _ (xs zs : List Entry) (is : m.entries ≡ xs ++ zs) where
     pub changed_valid : (generation next rolled second : ℕ) (n : Entry) (ys : List Entry) → generation < 2 ^ 64
         → next < 2 ^ 64 → m.next ≤ next → length (xs ++ n ∷ ys) ≤ 4096
@@ -402,7 +402,7 @@ module _ (m : Manifest) (valid : IsValidManifest m) where
     within : place + count ≤ below (rank (source_of job) + 1) m.entries
     within = omega (arith, few, below_next (source_of job) m.entries)
 
-    -- the active entry stands behind the sources
+    -- the active entry comes after the sources
     pub behind_short : place + count < length m.entries
     behind_short = omega (
       arith,
@@ -558,7 +558,7 @@ module _ (m : Manifest) (valid : IsValidManifest m) where
           }) (installed_manifest m job count staged next)
       same_installed rolled second entries cut second_cut are = rw (cut, second_cut, are, behind_is) refl
 
-      -- the active entry stays behind the others
+      -- the active entry still comes after the others
       front_now : front ++ n ∷ behind ≡ (take place (front_of m) ++ n ∷ drop (place + count)
           (front_of m)) ++ active_of m ∷ []
       front_now = rw (first, others)

@@ -21,7 +21,7 @@ use Rattle.flow_manifest.specs.Slots.{HasBody, IsPrepared, MayOpen}
 pub put_gate : (octets : List ℕ) (gate : ℕ) → put_at octets 0 (gate ∷ []) ≡ gate ∷ drop 1 octets
 put_gate octets gate = refl
 
--- octets with a gate are the gate and what stands behind it
+-- octets with a gate are the gate and the octets after it
 pub gate_and_rest : (octets : List ℕ) → 1 ≤ length octets → octets ≡ get_or octets 0 0 ∷ drop 1 octets
 gate_and_rest octets some = drop_more octets 0 0 some
 
@@ -67,7 +67,7 @@ module _ {D S X : Type 0} (g : Ghosts D S X) (old new : D) (file : ℕ) (Q R : L
       → AllImages (g.held new) (ComesOf (g.held old) (InFile file R))
   after_in_words after image is = in_words image (after image is)
 
--- ---- the gate's write, and the sync behind it
+-- ---- the gate's write, and the sync after it
 
 module _ {D S X : Type 0} (g : Ghosts D S X) (start : D) (file : ℕ)
     (one : IsAlone (g.held start file)) (some : 1 ≤ length (g.held start file).reads) where
@@ -128,7 +128,7 @@ module _ {D S X : Type 0} (g : Ghosts D S X) (start : D) (file : ℕ)
             ∙ ap (λ (f : Held). f.reads) wrote ∙ put_gate (g.held start file).reads gate,
       ))
 
--- ---- the body's write, the cut behind it, and the sync
+-- ---- the body's write, the cut after it, and the sync
 
 -- what is read after the write and the cut
 pub body_read : (octets body : List ℕ) (count : ℕ) → 1 ≤ length octets → count ≡ 1 + length body
@@ -263,7 +263,7 @@ closed_still before after closed same = record { gate = long; shut = λ shown. c
     same_gate = sym (get_or-take 1 after 0 0 (omega arith)) ∙ ap (λ (l : List ℕ). get_or l 0 0) same
         ∙ get_or-take 1 before 0 0 (omega arith)
 
--- a body behind a closed gate
+-- a body after a closed gate
 pub prepared : (body first before after : List ℕ) → IsClosed before → HasBody body before after
     → IsPrepared body first after
 prepared body first before after closed is =
@@ -276,7 +276,7 @@ prepared body first before after closed is =
     keeps : KeepsGate before after
     keeps = ap (λ (l : List ℕ). take 1 l) is ∙ take_at (take 1 before) body 1 (length-take-le 1 before closed.gate)
 
--- ---- a slot closed, and a body written behind the gate
+-- ---- a slot closed, and a body written after the gate
 
 module _ {D S X : Type 0} (g : Ghosts D S X) (old mid new : D) (file : ℕ) (was_open : Bool)
     (alone : (image : List ℕ) → IsImage (g.held old file) image

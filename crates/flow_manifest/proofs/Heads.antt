@@ -63,7 +63,7 @@ two_3 h rest = to_be_bytes w32 h.wide ++ two_4 h rest
 abbrev two_2 : Head → List ℕ → List ℕ
 two_2 h rest = to_be_bytes w32 h.width ++ two_3 h rest
 
--- the same octets behind the format begin with the same head, and the same octets follow
+-- the same octets after the format begin with the same head, and the same octets follow
 pub same_head : (format : Format) (h k : Head) (xs ys : List ℕ) → Fits h → Fits k → IsSaid format h → IsSaid format k
     → head_octets format h ++ xs ≡ head_octets format k ++ ys → (h ≡ k) × (xs ≡ ys)
 unfolding head_octets

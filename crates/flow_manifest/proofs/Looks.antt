@@ -24,7 +24,7 @@ module _ {D S X : Type 0} (g : Ghosts D S X) where
       goes_on g old old new (IsDiskImage (g.held old)) (g.held old)
       (started g old (IsDiskImage (g.held old)) only_now) time (λ image is. is)
 
-  -- one more behind it
+  -- one more after it
   pub looked_again : (old mid new : D) → LeavesOnly g old mid (IsDiskImage (g.held old))
       → Stays (g.held old) (g.held mid) → Passes g.moment g.left_since mid new (g.held mid)
       → LeavesOnly g old new (IsDiskImage (g.held old))

@@ -13,7 +13,7 @@ use Rattle.flow_manifest.specs.Fault.{IsFault}
 use Rattle.flow_manifest.specs.Slots.{file_of, IsOpen}
 use Rattle.flow_manifest.specs.Opening.{in_slot, IsHeld, IsSlotFault, IsOpenFault, NamesSlot}
 
--- the fault of a body, told of its slot
+-- the fault of a body, as one of its slot
 pub told_fault : (slot : Slot) (octets body : List ℕ) (f : ManifestError) (e : OpenError) → drop 1 octets ≡ body
     → IsOpen octets → e ≡ in_slot slot f → (f ≡ manifest.OutOfMemory) ⊎ IsFault body f
     → (e ≡ opening.OutOfMemory) ⊎ IsSlotFault slot octets e

@@ -42,7 +42,7 @@ same_ready slots m a b are current beside = record {
   follows = are.follows;
 }
 
--- what stands in the slot that counts stays
+-- the manifest in the slot that counts stays
 kept : (slots : Slots) (a b : ℕ → List ℕ) (Q : List ℕ → List ℕ → Type 0)
     → Holds (a (file_of slots.current_slot)) slots.current → InFile (file_of (other slots.current_slot)) Q a b
     → Holds (b (file_of slots.current_slot)) slots.current
@@ -87,7 +87,7 @@ prepared_ready slots m body a b are step valid follows is = record {
   follows = follows;
 }
 
--- an opened slot holds the manifest that stood behind its gate
+-- an opened slot holds the manifest that was after its gate
 opened : (m : Manifest) (before after : List ℕ) → IsValidManifest m → drop 1 before ≡ manifest_octets m
     → after ≡ 165 ∷ drop 1 before → Holds after m
 opened m before after valid behind is = record {
@@ -109,7 +109,7 @@ new_slots slots m a b are step = record {
   );
 }
 
--- while the other slot is opened the current manifest is in force, or the one that stood behind the gate
+-- while the other slot is opened the current manifest is in force, or the one after the gate
 pub old_or_new : (slots : Slots) (m : Manifest) (a b : ℕ → List ℕ) → IsReady slots m a
     → InFile (file_of (other slots.current_slot)) MayOpen a b → IsInForce b slots.current ⊎ IsInForce b m
 old_or_new slots m a b are step = ⊎_elim

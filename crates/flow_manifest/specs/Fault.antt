@@ -19,7 +19,7 @@ IsFaultBehind head rest fault =
     ⊎ (IsInRange head × (length rest ≡ 32 * head.count) × ((m : Manifest) → IsValidManifest m → head_of m ≡ head
     → flat_map entry_octets m.entries ≢ rest) × (fault ≡ Entries))
 
--- Behind the number of a known format: fewer octets than the head has, or a fault behind it.
+-- In a known format: fewer octets than come before the entries, or a fault in the head or after it.
 abbrev pub IsFaultIn : manifest.Format → List ℕ → ManifestError → Type 0
 IsFaultIn format octets fault =
     ((length octets < head_length format) × (fault ≡ Cut))

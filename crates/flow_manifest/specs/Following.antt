@@ -10,13 +10,13 @@ use Rattle.flow_manifest.specs.declared.following.JobKind.TheVariants.{Roll, Mer
 use Rattle.flow_manifest.specs.declared.following.Staged.{Staged}
 use Rattle.flow_manifest.specs.Manifest.{rank}
 
--- how many messages entries stand for
+-- how many messages entries represent
 abbrev pub messages_of : List Entry → ℕ
 messages_of entries = sum_by (λ e. e.messages) entries
 
 -- ---- a seal
 
--- what stands where there is no entry
+-- what is read where there is no entry
 abbrev pub no_entry : Entry
 no_entry = record { kind = Wide; prefix = 0; file = 0; length = 0; messages = 0 }
 
@@ -37,7 +37,7 @@ sealed_entry active end count =
 abbrev pub active_entry : ℕ → ℕ → Entry
 active_entry file prefix = record { kind = Active; prefix = prefix; file = file; length = 0; messages = 0 }
 
--- The active segment is sealed, and a new file is the active one. The number behind that file's is the next one.
+-- The active segment is sealed, and a new file is the active one. The number after that file's is the next one.
 abbrev pub next_manifest : Manifest → ℕ → ℕ → ℕ → ℕ → Manifest
 next_manifest m end count file prefix =
     record m {
@@ -62,7 +62,7 @@ made_of Merge = Wide
 abbrev pub count_of : Kind → List Entry → ℕ
 count_of kind entries = count_by (λ e. rank e.kind == rank kind) entries
 
--- how many stand before those of a kind
+-- how many come before those of a kind
 abbrev pub count_before : Kind → List Entry → ℕ
 count_before kind entries = count_by (λ e. nat_lt (rank e.kind) (rank kind)) entries
 
@@ -70,7 +70,7 @@ count_before kind entries = count_by (λ e. nat_lt (rank e.kind) (rank kind)) en
 abbrev pub sources_of : JobKind → ℕ → List Entry → List Entry
 sources_of job count entries = take count (drop (count_before (source_of job) entries) entries)
 
--- the file that a job has made of its sources stands for their messages
+-- the entry of the file that a job has made of its sources, with the count of their messages
 abbrev pub made_entry : JobKind → Staged → List Entry → Entry
 made_entry job staged sources =
     record {

@@ -10,7 +10,7 @@ use Rattle.flow_manifest.specs.declared.head.Head.{Head}
 
 -- ---- valid manifests
 
--- the numbers in front of the entries
+-- the numbers before the entries
 abbrev pub head_of : Manifest → Head
 head_of m = record {
   generation = m.generation;
@@ -130,7 +130,7 @@ abbrev pub format_number : Format → ℕ
 format_number format_1 = 1
 format_number format_2 = 2
 
--- what stands behind the format and in front of the entries: 36 octets in format 1, 48 in format 2
+-- the numbers between the format and the entries: 36 octets in format 1, 48 in format 2
 unfoldable pub head_octets : Format → Head → List ℕ
 head_octets format_1 h =
     to_be_bytes w64 h.generation ++ to_be_bytes w32 h.width ++ to_be_bytes w32 h.limit ++ to_be_bytes w64 h.next ++

@@ -1,4 +1,4 @@
--- What the two slots hold, and why they may hold nothing that counts.
+-- What the two slots hold, and why no manifest may be in force.
 use Rattle.std.specs.Prelude.{◌≡◌, ◌⊎◌, ℕ, ◌<◌, true, List, length, drop, Option, Some, None}
 use Rattle.flow_disk.specs.declared.error.DiskError.{DiskError}
 use Rattle.flow_disk.specs.declared.error.DiskError.TheVariants as disk
@@ -14,12 +14,12 @@ use Rattle.flow_manifest.specs.declared.slots.Slots.{Slots}
 use Rattle.flow_manifest.specs.Fault.{IsFault}
 use Rattle.flow_manifest.specs.Slots.{file_of, IsOpen, IsClosed, Holds}
 
--- a disk's refusal, told of an opening
+-- a disk's refusal, as one of an opening
 abbrev pub told : DiskError → OpenError
 told disk.Fault = Fault
 told disk.OutOfMemory = OutOfMemory
 
--- the fault of a manifest, told of its slot
+-- the fault of a manifest, as one of its slot
 abbrev pub in_slot : Slot → ManifestError → OpenError
 in_slot slot manifest.Format = Format (file_of slot)
 in_slot slot manifest.Entries = Entries (file_of slot)

@@ -1,4 +1,4 @@
--- The two slots: a gate octet, and a manifest's octets behind it.
+-- The two slots: a gate octet, and a manifest's octets after it.
 use Rattle.std.specs.Prelude.{◌≡◌, ◌≢◌, ◌⊎◌, ℕ, ◌+◌, ◌<◌, ◌≤◌, Bool, true, false, List, ◌∷◌, ◌++◌, length, take, drop}
 use Rattle.std.specs.Prelude.{get_or}
 use Rattle.flow_manifest.specs.declared.manifest.Manifest.{Manifest}
@@ -49,8 +49,8 @@ pub record AreSlots (slots : Slots) (image : ℕ → List ℕ) : Type 0 where
   pub current : Holds (image (file_of slots.current_slot)) slots.current
   pub beside : IsOlder slots.other_open slots.current (image (file_of (other slots.current_slot)))
 
--- a manifest is ready to be opened: its octets stand alone behind the closed gate beside the current one, whose
--- generation it follows
+-- a manifest is ready to be opened: its octets, and nothing more, are after the closed gate of the slot beside the
+-- current one, whose generation it follows
 pub record IsReady (slots : Slots) (m : Manifest) (image : ℕ → List ℕ) : Type 0 where
   pub current : Holds (image (file_of slots.current_slot)) slots.current
   pub closed : IsClosed (image (file_of (other slots.current_slot)))
@@ -69,11 +69,11 @@ IsInForce image m = (slots : Slots) × (slots.current ≡ m) × AreSlots slots i
 
 -- ---- what a swap does to a slot: the octets before and after
 
--- while a gate is written: some octet in its place, and behind it what stood there
+-- while a gate is written: some octet in its place, and the octets after it as they were
 abbrev pub HasSomeGate : List ℕ → List ℕ → Type 0
 HasSomeGate before after = after ≡ get_or after 0 0 ∷ drop 1 before
 
--- this gate, and behind it what stood there
+-- this gate, and the octets after it as they were
 abbrev pub SetsGate : ℕ → List ℕ → List ℕ → Type 0
 SetsGate gate before after = after ≡ gate ∷ drop 1 before
 
@@ -90,16 +90,16 @@ Closes true before after = SetsGate 0 before after
 abbrev pub KeepsGate : List ℕ → List ℕ → Type 0
 KeepsGate before after = take 1 after ≡ take 1 before
 
--- the body stands behind the gate, and nothing more
+-- the gate and the body, and nothing more
 abbrev pub HasBody : List ℕ → List ℕ → List ℕ → Type 0
 HasBody body before after = after ≡ take 1 before ++ body
 
--- the body stands behind a closed gate, and nothing more
+-- a closed gate and the body, and nothing more
 pub record IsPrepared (body before after : List ℕ) : Type 0 where
   pub closed : IsClosed after
   pub behind : drop 1 after ≡ body
 
--- while it is opened: closed, or open with the octets that stood behind the gate
+-- while it is opened: closed, or open with the octets after the gate as they were
 abbrev pub MayOpen : List ℕ → List ℕ → Type 0
 MayOpen before after = IsClosed after ⊎ SetsGate open_gate before after
 

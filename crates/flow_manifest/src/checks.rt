@@ -23,7 +23,7 @@ const TOO_MANY_MESSAGES: u128 = 1 << 48;
 /// The first number that is no slot's.
 const FIRST_FILE: u64 = 3;
 
-/// Whether the numbers in front of the entries are in their ranges.
+/// Whether the numbers before the entries are in their ranges.
 pub(crate) fn is_in_range(head: &Head) -> bool
     ensures { IsTrue result ↔ IsInRange head.now }
 {
@@ -46,7 +46,7 @@ pub(crate) fn is_in_range(head: &Head) -> bool
         && count <= MOST_ENTRIES
 }
 
-/// What is to be judged of the entries, once the numbers in front of them are in range.
+/// Whether a manifest is valid, once the numbers before the entries are in range.
 pub(crate) fn is_valid(manifest: &Manifest) -> bool
     requires fits { Fits (head_of manifest.now) }
     requires ranges { IsInRange (head_of manifest.now) }
@@ -158,7 +158,7 @@ fn is_entry(limit: u32, next: u64, entry: Entry) -> bool
     }
 }
 
-/// How many messages the entries of some kinds stand for.
+/// How many messages the entries of some kinds represent.
 #[derive(Clone, Copy)]
 pub(crate) struct Totals {
     pub(crate) wide: u128,

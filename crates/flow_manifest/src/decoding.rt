@@ -35,13 +35,13 @@ pub(crate) const ENTRY_LENGTH: usize = 32;
 /// than that of the entries, 23 Cut; entries that aren't those of a valid manifest, 22 Entries. 11 OutOfMemory may come
 /// at any place.
 pub fn decode(alloc: Global, octets: &[u8]) -> Result<Manifest, ManifestError>
-    // What is taken is a valid manifest's.
+    // Octets that are taken are a valid manifest's.
     ensures found { IfOk result (λ m. IsBody octets.now m) }
-    // A valid manifest's is taken, unless memory runs out.
+    // A valid manifest's octets are taken, unless memory runs out.
     ensures only { (m : Manifest) → IsBody octets.now m → IsDecoded result m }
-    // What is refused has this first fault, unless memory ran out.
+    // Octets that are refused have this first fault, unless memory ran out.
     ensures fault { IfErr result (λ e. (e ≡ ManifestError.OutOfMemory) ⊎ IsFault octets.now e) }
-    // What has a fault is refused for it, unless memory runs out.
+    // Octets with a fault are refused for it, unless memory runs out.
     ensures refused { (d : ManifestError) → IsFault octets.now d
         → IsErrAnd result (λ e. (e ≡ ManifestError.OutOfMemory) ⊎ (e ≡ d)) }
 {
@@ -68,7 +68,7 @@ pub fn decode(alloc: Global, octets: &[u8]) -> Result<Manifest, ManifestError>
     }
 }
 
-/// What follows the format in format 1, and the entries.
+/// The numbers after the format in format 1, and the octets of the entries.
 fn head_1_of(octets: &[u8]) -> (Head, &[u8])
     requires { 36 ≤ length octets.now }
     ensures is { octets.now ≡ head_octets format_1 result.0 ++ result.1.now }
@@ -94,7 +94,7 @@ fn head_1_of(octets: &[u8]) -> (Head, &[u8])
     (head, rest)
 }
 
-/// What follows the format in format 2, and the entries.
+/// The numbers after the format in format 2, and the octets of the entries.
 fn head_2_of(octets: &[u8]) -> (Head, &[u8])
     requires { 48 ≤ length octets.now }
     ensures is { octets.now ≡ head_octets format_2 result.0 ++ result.1.now }
@@ -161,7 +161,7 @@ fn manifest_of(alloc: Global, head: Head, octets: &[u8]) -> Result<Manifest, Man
     Ok(manifest)
 }
 
-/// The entries that stand in these octets one behind the other.
+/// The entries in these octets, one after the other.
 fn entries_of(alloc: Global, octets: &[u8]) -> Result<Vec<Entry>, ManifestError>
     ensures found { IfOk result (λ entries. flat_map entry_octets entries.items ≡ octets.now) }
     ensures fit { IfOk result (λ entries. AllByRecursion FitsEntry entries.items) }
@@ -183,7 +183,7 @@ fn entries_of(alloc: Global, octets: &[u8]) -> Result<Vec<Entry>, ManifestError>
     Ok(entries)
 }
 
-/// The entry in front, if its kind is one of the four, and the octets after it.
+/// The first entry, if its kind is one of the four, and the octets after it.
 fn entry_of(octets: &[u8]) -> Option<(Entry, &[u8])>
     requires { 32 ≤ length octets.now }
     ensures found { IfSome result (λ x. octets.now ≡ entry_octets x.0 ++ x.1.now) }

@@ -30,7 +30,7 @@ pub fn encode(alloc: Global, manifest: &Manifest) -> Result<Vec<u8>, AllocError>
     Ok(octets)
 }
 
-/// Puts the numbers in front of the entries.
+/// Appends the numbers that come before the entries.
 fn put_head(octets: &mut Vec<u8>, manifest: &Manifest) -> Result<(), AllocError>
     requires { IsValidManifest manifest.now }
     ensures { OnOk result (octets.new.items ≡ octets.old.items ++ head_octets format_2 (head_of manifest.now)) }

@@ -122,8 +122,8 @@ pub fn next_manifest(
     })
 }
 
-/// The manifest after an install: the file that a job has made stands for the `sources` oldest entries of the job's
-/// kind, in their place, and they aren't named any more. `next` is the next file number from then on.
+/// The manifest after an install: the file that a job has made takes the place of the `sources` oldest entries of the
+/// job's source kind, which aren't named any more. `next` is the next file number from then on.
 pub fn installed_manifest(
     alloc: Global,
     now: &Manifest,
@@ -178,7 +178,7 @@ pub fn count_of(entries: &[Entry], kind: Kind) -> usize
         .count()
 }
 
-/// How many entries stand before those of a kind.
+/// How many entries come before those of a kind.
 fn count_before(entries: &[Entry], kind: Kind) -> usize
     ensures { result ≡ count_before kind entries.now }
 {
@@ -188,7 +188,7 @@ fn count_before(entries: &[Entry], kind: Kind) -> usize
         .count()
 }
 
-/// Entries one behind the other.
+/// Entries one after the other.
 fn joined(
     alloc: Global,
     front: &[Entry],

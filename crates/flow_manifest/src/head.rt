@@ -1,4 +1,4 @@
-//! The numbers in front of the entries.
+//! The numbers before the entries.
 
 /// All of a manifest but its entries, and how many these are.
 #[derive(Clone, Copy)]

@@ -1,10 +1,10 @@
-//! The manifest of an archive, and the two slots that it stands in by turns: which files the archive consists of, in
-//! which order, and what each of them counts.
+//! The manifest of an archive, and the two slots that hold it by turns: which files the archive consists of, in which
+//! order, and what each of them counts.
 //!
 //! To the layers above: `encode` gives the octets of a valid manifest, and `decode` takes exactly those octets, of this
 //! format or of the one before it, and names the first fault of all others. Through `prepare` and `commit` the manifest
 //! in force of every image of every moment is the old one or the new one: the old one until `commit` begins, the new
-//! one after its Ok. `read_slots` tells which one it is.
+//! one after its Ok. `read_slots` answers which one it is.
 #![tactic(auto)]
 
 mod checks;

@@ -27,7 +27,7 @@ pub struct Entry {
     pub file: u64,
     /// How many octets of the file count. 0 for the active segment, whose end is found by reading it.
     pub length: u64,
-    /// How many messages the file stands for. 0 for the active segment.
+    /// How many messages the file represents. 0 for the active segment.
     pub messages: u64,
 }
 
@@ -87,9 +87,9 @@ pub struct Manifest {
     pub limit: u32,
     /// The number of the next file.
     pub next: u64,
-    /// How many messages the wide and the rolled files stand for.
+    /// How many messages the wide and the rolled files represent.
     pub rolled: u64,
-    /// How many messages the wide files stand for.
+    /// How many messages the wide files represent.
     pub second: u64,
     /// The files, oldest messages first.
     pub entries: Entries,

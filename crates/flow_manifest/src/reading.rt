@@ -18,7 +18,7 @@ use crate::swap::OPEN;
 use flow_disk::Disk;
 use std::alloc::Global;
 
-/// Reads both slots, and tells which manifest is in force. It only reads.
+/// Reads both slots, and answers which manifest is in force. It only reads.
 ///
 /// 24 NoArchive where no slot is open. Else slot 1 is judged before slot 2: one without octets is 23 Cut with its
 /// number, an open one that isn't a manifest is 21, 22 or 23 with its number. Two open ones of one generation are 20
@@ -49,7 +49,7 @@ pub fn read_slots<D: Disk>(alloc: Global, disk: &mut D) -> Result<Slots, OpenErr
         → (D.marks disk.old 2).settled ≡ true
         → IfOk result (λ slots. AllImages (D.held disk.new) (λ image. IsInForce image slots.current)) }
 
-    // What is refused has this first fault, unless memory ran out or the device failed.
+    // Slots that are refused have this first fault, unless memory ran out or the device failed.
     ensures fault { IsTrue (D.honest disk.old)
         → IfErr result (λ e. (e ≡ OpenError.OutOfMemory) ⊎ (e ≡ OpenError.Fault)
         ⊎ IsOpenFault (reads_of (D.held disk.old)) e) }
@@ -150,7 +150,7 @@ fn manifest_in(alloc: Global, slot: Slot, octets: &[u8]) -> Result<Option<Manife
     }
 }
 
-/// A manifest's fault, told of its slot.
+/// A manifest's fault, as one of its slot.
 fn told_in(slot: Slot, fault: ManifestError) -> OpenError
     ensures is { result ≡ in_slot slot fault }
     ensures device { result ≢ OpenError.Fault }

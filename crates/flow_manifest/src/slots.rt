@@ -48,14 +48,14 @@ impl Slot {
 pub struct Slots {
     /// The manifest in force.
     pub current: Manifest,
-    /// The slot that it stands in.
+    /// The slot that holds it.
     pub current_slot: Slot,
     /// Whether the other slot's gate is open.
     pub other_open: bool,
 }
 
 /// Makes ready for a swap: closes the slot that isn't in force where it is open, and writes the body of the next
-/// manifest behind the closed gate. Both slots are settled, and as `slots` says. It takes no memory.
+/// manifest after the closed gate. Both slots are settled, and as `slots` says. It takes no memory.
 ///
 /// At every moment the manifest in force is the current one. After 30 Fault both slots are synced and read anew.
 pub fn prepare<D: Disk>(disk: &mut D, slots: &mut Slots, body: &[u8]) -> Result<(), DiskError>
@@ -91,7 +91,7 @@ pub fn prepare<D: Disk>(disk: &mut D, slots: &mut Slots, body: &[u8]) -> Result<
     Ok(())
 }
 
-/// Swaps: opens the gate in front of the body that `prepare` has written. It takes no memory.
+/// Swaps: opens the gate before the body that `prepare` has written. It takes no memory.
 ///
 /// At every moment the manifest in force is the current one or this one, and after Ok this one. After 30 Fault both
 /// slots are synced and read anew.

@@ -58,7 +58,7 @@ pub(crate) fn close_slot<D: Disk>(disk: &mut D, file: u64, was_open: bool) -> Re
     write_gate(disk, file, CLOSED)
 }
 
-/// Writes a body behind the gate of a closed slot, cuts the slot behind it, and settles it.
+/// Writes a body after the gate of a closed slot, cuts the slot after it, and settles it.
 pub(crate) fn write_body<D: Disk>(disk: &mut D, file: u64, body: &[u8]) -> Result<(), DiskError>
     requires room { 1 ≤ (D.marks disk.old file).size }
     requires thawed { (D.marks disk.old file).frozen ≡ false }
@@ -95,7 +95,7 @@ pub fn prepare_slot<D: Disk>(
     // A stop at any moment leaves the slot as it was, or closed.
     ensures any_moment { StopsBy D.Disk disk.old disk.new (InFile file MayClose) }
 
-    // Afterwards the body stands alone behind a closed gate.
+    // Afterwards the slot is a closed gate and the body.
     ensures after { EndsBy D.Disk disk.old disk.new result (InFile file (IsPrepared body.now)) }
 {
     close_slot(disk, file, was_open)?;
@@ -111,7 +111,7 @@ pub fn open_slot<D: Disk>(disk: &mut D, file: u64) -> Result<(), DiskError>
 
     ensures call { SettlesFile D.Disk disk.old disk.new file (D.marks disk.old file).size result }
 
-    // A stop at any moment leaves the slot closed, or open with what stood behind the gate.
+    // A stop at any moment leaves the slot closed, or open, with the octets after the gate as they were.
     ensures any_moment { StopsBy D.Disk disk.old disk.new (InFile file MayOpen) }
 
     // Afterwards it is open.

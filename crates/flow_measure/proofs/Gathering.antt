@@ -22,7 +22,7 @@ joined None b = b
 joined (Some a) None = Some a
 joined (Some a) (Some b) = Some (plus a b)
 
--- the sums of all that stands under a key, if anything does
+-- the total of all sums under a key, if there are any
 abbrev pub sum_at : Key → List (Key × Sums) → Option Sums
 sum_at q es = some_total (under q es)
 
@@ -104,7 +104,7 @@ none_past : (q : Key) (es : List (Key × Sums)) → T (below_all key_cmp q es) �
 none_past q [] h = refl
 none_past q (e ∷ es) h = rw (less (key_cmp q e.0) (first _ _ h)) (none_past q es (second _ _ h))
 
--- in a list in order, what stands under a key is what is found there
+-- in a list in order, the sums under a key are those that are found there
 sum_at-sorted : (q : Key) (es : List (Key × Sums)) → T (is_sorted key_cmp es) → sum_at q es ≡ find key_cmp q es
 sum_at-sorted q [] h = refl
 sum_at-sorted q (e ∷ es) h =

@@ -13,7 +13,7 @@ use Rattle.flow_measure.specs.Flows.{flows_of, flows_of_records}
 use Rattle.flow_measure.specs.History.{Accepted, AreAcceptedFrom, flows_in, followed_by, read_from, templates_from}
 use Rattle.flow_measure.proofs.SinkSteps.{flows-in_fields}
 
--- what is a message behind those that were all read is read behind them
+-- a message after those that were all read is read after them
 pub read_then : (before : AllTemplates) (os : List (List ℕ)) (o : List ℕ) (m : RawMessage) (after : AllTemplates)
     → length (read_from before os) ≡ length os
     → message_at (templates_from before (read_from before os)) o ≡ Ok (m, after)

@@ -21,7 +21,7 @@ use Rattle.flow_codec.proofs.FieldLaws.{fields_are}
 use Rattle.flow_measure.specs.Counting.{IsPlace, IsWide, ArePlaces, number_at, counts_at, flow_by}
 use Rattle.flow_measure.specs.Flows.{number_in, flow_from}
 
--- ---- one value in front of others
+-- ---- one value before others
 
 in-front : (t : Bool) (x : Role × List ℕ) (rest : Option (Role × List ℕ))
     → option_map (λ v. number_of v.1) (cond t (Some x) rest)

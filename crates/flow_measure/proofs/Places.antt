@@ -28,7 +28,7 @@ none_behind : (o : Option ℕ) → option_map suc o ≡ None → o ≡ None
 none_behind None h = refl
 none_behind (Some i) h = absurd cc
 
--- of two keys that differ, a third is at most one
+-- a key is at most one of two keys that differ
 apart : {A : Type 0} (q e k : Key) (x y z : A) → is_key k e ≡ false
     → cond (is_key q e) x (cond (is_key q k) y z) ≡ cond (is_key q k) y (cond (is_key q e) x z)
 apart q e k x y z differ =
@@ -52,7 +52,7 @@ absent k (e ∷ es) h =
       | false ↦ λ g. absent k es (none_behind (place_of k es) g)
     ] h
 
--- what stands at a key's place is that key
+-- the entry at a key's place has that key
 pub found : (k : Key) (es : List (Key × Sums)) (i : ℕ) → place_of k es ≡ Some i
     → (s : Sums) × (slice_get es i ≡ Some (k, s))
 unfolding place_of
@@ -88,7 +88,7 @@ behind k e es h =
       | false ↦ λ g. none_behind (place_of k es) g
     ] h
 
--- where each key stands once, a key has the sums at its place
+-- where each key is listed once, a key has the sums at its place
 pub held : (es : List (Key × Sums)) (i : ℕ) (k : Key) (s : Sums) → AreOnce es → slice_get es i ≡ Some (k, s)
     → (place_of k es ≡ Some i) × (find key_cmp k es ≡ Some s)
 unfolding place_of AreOnce
@@ -187,7 +187,7 @@ once_push (e ∷ es) k s once h =
       once_push es k s once.1 (behind k e es h),
     )
 
--- ---- what stays true of entries and of where each key stands
+-- ---- what stays true of entries and of the places of keys
 
 abbrev pub ArePlaces : List (Key × ℕ) → List (Key × Sums) → Type 0
 ArePlaces places es = AreOnce es × ((q : Key) → lookup (is_at (key_cmp q)) places ≡ place_of q es)

@@ -33,7 +33,7 @@ module _ (taken : List Placed) (header : Header) (id : ℕ) (layout : Layout) (o
       filter_map-append flow_of taken ((header, raw id layout octets) ∷ [])
       ∙ rw is (append-nil (flows_of_records taken))
 
--- sums of flows and of one more behind them
+-- sums of flows and of one more after them
 pub more_sums : (start old new : Table) (flows more : List Flow) (f : Flow) (all : List Flow) → all ≡ more ++ f ∷ []
     → (AreSums start flows → AreSums old (flows ++ more))
     → ((gs : List Flow) → AreSums old gs → AreSums new (gs ++ f ∷ [])) → AreSums start flows
@@ -42,7 +42,7 @@ more_sums start old new flows more f all e before step h =
     subst (AreSums new) (append_assoc flows more (f ∷ [])
     ∙ ap (λ gs. flows ++ gs) (sym e)) (step (flows ++ more) (before h))
 
--- what refuses one flow more refuses the sums of all
+-- where one flow more is refused, the sums of all are refused
 pub refused_sums : (e : SumError) (start old : Table) (flows more : List Flow) (f : Flow) (all : List Flow)
     → all ≡ more ++ f ∷ [] → old.width ≡ start.width → (AreSums start flows → AreSums old (flows ++ more))
     → IsRefused e (with_flow f old) → AreSums start flows → IsRefused e (table_of start.width (flows ++ all))
@@ -111,7 +111,7 @@ module _ (start old : Table) (taken : List Placed) (x : Placed) (f : Flow)
     all_fit (flows_of_records taken) all f more took.2 fits,
   )
 
-  -- what refuses it refuses the sums of all
+  -- where it is refused, the sums of all are refused
   pub refuses_one : (e : SumError) → IsRefused e (with_flow f old) → RefuseFlow start taken x e
   refuses_one e refused = (
     λ flows sums. refused_sums e start old flows (flows_of_records taken) f all more took.0 (took.1 flows) refused sums,

@@ -66,7 +66,7 @@ pub widened_sums : (a new : Table) (wide : ℕ) → 0 < a.width → wide % a.wid
 widened_sums a new wide positive multiple e flows h =
     subst (λ t. AreSums t flows) (sym e) (ap (widened wide) h ∙ widened-table_of a.width wide positive multiple flows)
 
--- what stands under a key are the flows of that key
+-- the sums under a key are those of the flows of that key
 under_pairs : (width : ℕ) (key : Key) (fs : List Flow)
     → under key (pairs width fs) ≡ map counted (filter (λ f. is_key key (key_of width f)) fs)
 under_pairs width key [] = refl

@@ -1,4 +1,4 @@
--- What is asked of a history is answered by its view.
+-- Queries of a history are answered by its view.
 use Rattle.std.proofs.Common.{◌≡◌, ℕ, ◌+◌, ◌-◌, ◌<◌, ◌≤◌, true, false, cond, List, [], ◌∷◌, ◌++◌, map, length, take}
 use Rattle.std.proofs.Common.{drop, None, refl, sym, ap, ◌∙◌, arith, zero, suc, zero-add}
 use Rattle.std.specs.Prelude.{slice_get, option_map, nat_lt, sum}
@@ -24,7 +24,7 @@ use Rattle.flow_measure.proofs.SumLaws.{merged-table_of}
 pub flows-append : (ms ns : List Accepted) → flows_in (ms ++ ns) ≡ flows_in ms ++ flows_in ns
 flows-append ms ns = flat_map-append (λ (a : Accepted). flows_of (in_fields a.message)) ms ns
 
--- what is gathered behind may be gathered before
+-- the second of two lists may be gathered first
 gathered-behind : (es fs : List (Key × Sums)) → gathered (es ++ fs) ≡ gathered (es ++ entries (gathered fs))
 gathered-behind es fs = gathered-same (es ++ fs) (es ++ entries (gathered fs)) (λ q.
     sum_at-append q es fs ∙ ap (joined (sum_at q es)) (sym (sum_at-entries (gathered fs) q ∙ get-gathered fs q))
@@ -79,7 +79,7 @@ module _ (h : History) (counts : List ℕ) (is : IsHistory h) (all : AreCountsOf
   pub flows_same : (from to : ℕ) → flows_in_view from to (view_of h counts) ≡ flows_between from to h
   flows_same from to = refl
 
-  -- what stands at a place behind the first ones
+  -- the item at a place after the first k
   at_place : {A : Type 0} (k i : ℕ) (xs : List A) → slice_get (drop k xs) i ≡ slice_get xs (k + i)
   at_place zero i xs = ap (slice_get xs) (sym (zero-add i))
   at_place (suc k) i [] = refl

@@ -41,7 +41,7 @@ flow_by header counts = record {
   packets = unwrap_or counts.packets 0;
 }
 
--- the values that count under one step of a plan, and the octets behind it
+-- the values that count under one step of a plan, and the octets after it
 abbrev pub step_values : Step → List ℕ → List (Role × List ℕ)
 step_values (Skip count) octets = []
 step_values (Fixed role count) octets = (role, take count octets) ∷ []

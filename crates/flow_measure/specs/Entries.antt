@@ -25,7 +25,7 @@ AreOnce (e ∷ es) = (place_of e.0 es ≡ None) × AreOnce es
 abbrev pub map_of : List (Key × Sums) → FinMap key_cmp Sums
 map_of es = from_entries es
 
--- what a key has once sums were added to what it had, if anything
+-- the sums of a key after sums were added to those that it had, if any
 abbrev pub added_to : Option Sums → Sums → Sums
 added_to None sums = sums
 added_to (Some total) sums = plus total sums

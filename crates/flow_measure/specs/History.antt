@@ -34,7 +34,7 @@ flows_in messages = flat_map (λ a. flows_of (in_fields a.message)) messages
 
 -- ---- read one after the other
 
--- a message as it is read, before those that are read behind it; none from the first one on that is refused
+-- a message as it is read, followed by those that are read after it; none from the first refused one on
 abbrev pub followed_by : List ℕ → (AllTemplates → List Accepted) → Result (RawMessage × AllTemplates) MessageError
     → List Accepted
 followed_by octets more (Ok x) = record { octets = octets; message = x.0; after = x.1 } ∷ more x.1
@@ -48,7 +48,7 @@ read_from before (o ∷ os) = followed_by o (λ after. read_from after os) (mess
 -- ---- all that was accepted
 
 -- All messages, in the order in which they were accepted. Those up to `second` are summed over wide intervals, those
--- behind them up to `cut` over intervals of the width, and those behind the cut are kept.
+-- after them up to `cut` over intervals of the width, and those after the cut are kept.
 pub record History : Type 0 where
   pub all : List Accepted
   pub second : ℕ

@@ -1,4 +1,4 @@
--- What is asked of a history, and the answers by its view alone.
+-- Queries of a history, and the answers by its view alone.
 use Rattle.std.specs.Prelude.{ℕ, zero, suc, ◌+◌, ◌-◌, ◌==◌, nat_lt, nat_le, ◌&&◌, List, [], ◌∷◌, ◌++◌, length, filter}
 use Rattle.std.specs.Prelude.{take, drop, slice_get, Option, None, option_map, if◌then◌else◌}
 use Rattle.std.specs.FinMap.{entries}
@@ -10,7 +10,7 @@ use Rattle.flow_measure.specs.History.{History, flows_in}
 use Rattle.flow_measure.specs.View.{View, gathered_all}
 
 -- Two lists of rows in the order of their keys, as one: of two rows of one key the first list's comes first. The law
--- `interleaving` says it by the words of a stable sort.
+-- `interleaving` states it in terms of a stable sort.
 abbrev pub interleaved : ℕ → List Row → List Row → List Row
 interleaved zero rows others = rows ++ others
 interleaved (suc steps) [] others = others

@@ -1,4 +1,4 @@
--- What takes the flows of data records, and what it refuses.
+-- Sinks that take the flows of data records, and what they refuse.
 use Rattle.std.specs.Prelude.{◌≡◌, List, [], ◌∷◌, ◌++◌}
 use Rattle.std.specs.List.{AllByRecursion}
 use Rattle.flow_codec.specs.Raw.{Placed}
@@ -14,7 +14,7 @@ TookFlows start taken now =
     × ((flows : List Flow) → AreSums start flows → AreSums now (flows ++ flows_of_records taken))
     × AllByRecursion FlowFits (flows_of_records taken)
 
--- rows refuse what would be the sums of one record's flow too
+-- rows refuse sums that would include this record's flow
 abbrev pub RefuseFlow : Table → List Placed → Placed → SumError → Type 0
 RefuseFlow start taken x e =
     ((flows : List Flow) → AreSums start flows

@@ -40,7 +40,7 @@ plus a b = record { flows = a.flows + b.flows; octets = a.octets + b.octets; pac
 abbrev pub Fits : Sums → Type 0
 Fits s = (s.flows < 2 ^ 64) × (s.octets < 2 ^ 128) × (s.packets < 2 ^ 128)
 
--- all that stands under a key
+-- all sums under a key
 abbrev pub under : Key → List (Key × Sums) → List Sums
 under key es = map (λ e. e.1) (filter (λ e. is_key key e.0) es)
 
@@ -51,12 +51,12 @@ total sums = record {
   packets = sum_by (λ s. s.packets) sums;
 }
 
--- the total, where there is anything
+-- the total, where there are any sums
 abbrev pub some_total : List Sums → Option Sums
 some_total [] = None
 some_total (s ∷ ss) = Some (total (s ∷ ss))
 
--- each key of the list, with the sums of all that stands under it
+-- each key of the list, with the total of all sums under it
 unfoldable pub gathered : List (Key × Sums) → FinMap key_cmp Sums
 gathered es = from_entries (map (λ e. (e.0, total (under e.0 es))) es)
 
@@ -64,7 +64,7 @@ gathered es = from_entries (map (λ e. (e.0, total (under e.0 es))) es)
 unfoldable pub sums_by : ℕ → List Flow → FinMap key_cmp Sums
 sums_by width flows = gathered (map (λ f. (key_of width f, counted f)) flows)
 
--- what `Rows` is seen as
+-- how contracts see `Rows`
 pub record Table : Type 0 where
   pub width : ℕ
   pub sums : FinMap key_cmp Sums
@@ -92,7 +92,7 @@ widened_key wide key = record { start = interval_of key.start wide; domain = key
 abbrev pub widened_entries : ℕ → List (Key × Sums) → List (Key × Sums)
 widened_entries wide es = map (λ e. (widened_key wide e.0, e.1)) es
 
--- the sums over wide intervals of those in each
+-- the sums over wide intervals, each the total of the intervals in it
 abbrev pub widened : ℕ → Table → Table
 widened wide t = record { width = wide; sums = gathered (widened_entries wide (entries t.sums)) }
 
@@ -129,7 +129,7 @@ Becomes (Err e) sums old new = IsRefused e sums × (new ≡ old)
 abbrev pub AreSums : Table → List Flow → Type 0
 AreSums t flows = t ≡ table_of t.width flows
 
--- what stands in rows of a table, from one start up to another
+-- whether a key's start is from one moment on and before another
 abbrev pub is_within : ℕ → ℕ → Key → Bool
 is_within from to key = nat_le from key.start && nat_lt key.start to
 

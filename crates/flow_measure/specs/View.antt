@@ -10,9 +10,9 @@ use Rattle.flow_measure.specs.History.{Accepted, History, templates_of, flows_in
 pub record View : Type 0 where
   -- the sums over wide intervals of the messages up to `second`
   pub merged : FinMap key_cmp Sums
-  -- the sums of each rolled entry's messages, the oldest first: together those behind `second` up to `cut`
+  -- the sums of each rolled entry's messages, the oldest first: together those after `second` up to `cut`
   pub rolled : List (FinMap key_cmp Sums)
-  -- the messages behind the cut, and the templates before them
+  -- the messages after the cut, and the templates before them
   pub kept : List Accepted
   pub templates : AllTemplates
   pub second : ℕ
@@ -21,12 +21,12 @@ pub record View : Type 0 where
   pub width : ℕ
   pub wide : ℕ
 
--- lists of these lengths, one behind the other
+-- the list divided into lists of these lengths, one after the other
 abbrev pub parted : {A : Type 0} → List ℕ → List A → List (List A)
 parted [] xs = []
 parted (n ∷ ns) xs = take n xs ∷ parted ns (drop n xs)
 
--- the messages of a history behind its second cut and up to its cut
+-- the messages of a history after its second cut and up to its cut
 abbrev pub rolled_messages : History → List Accepted
 rolled_messages h = take (h.cut - h.second) (drop h.second h.all)
 
@@ -44,7 +44,7 @@ view_of h counts = record {
   wide = h.wide;
 }
 
--- the entries stand for all messages between the cuts
+-- the entries represent all messages between the cuts
 abbrev pub AreCountsOf : History → List ℕ → Type 0
 AreCountsOf h counts = sum counts ≡ h.cut - h.second
 

@@ -53,7 +53,7 @@ impl Counts {
         }
     }
 
-    /// Takes what counts under one step, and leaves the octets behind it.
+    /// Takes the number that counts under one step, if any, and answers the octets after it.
     #[tactic(auto, unfolding(crate::specs::Counting::counts_with))]
     fn count_step<'a>(&mut self, step: &Step, octets: &'a [u8]) -> &'a [u8]
         requires { IsStep step.now }

@@ -1,4 +1,4 @@
-//! Sums by key, in the order in which their keys came, and where each key stands.
+//! Sums by key, in the order in which their keys came, and the place of each key.
 
 ghost use Rattle.std.specs.Prelude.{◌<◌, ◌≡◌, ◌++◌, ◌∷◌, [], List, None, Some, slice_get, IfOk, OnOk, OnErr};
 ghost use Rattle.std.specs.Prelude.{ℕ, MatchResult};
@@ -22,17 +22,18 @@ pub(crate) struct Entries {
     items: Vec<(Key, Sums)>,
     /// The place of each key among them.
     places: BTreeMap<Key, usize>,
-    /// The places of keys that came lately, each where its key may be remembered. It is looked at before it is used.
+    /// The places of keys that came lately, each at the index that `recent_slot` gives. A place is checked before it is
+    /// used.
     recent: [usize; RECENT],
     alloc: Global,
 }
 
-/// How the sums under a key were changed, for whoever takes it back.
+/// How the sums under a key were changed, so that it can be taken back.
 #[derive(Clone, Copy)]
 enum Change {
     /// A new key came, at the place after all others.
     Pushed,
-    /// Sums were added to those at this place, which were these.
+    /// Sums were added at this place, where the sums were these.
     Added(usize, Sums),
 }
 
@@ -80,7 +81,7 @@ impl Entries {
         self.items.get(place).copied()
     }
 
-    /// The place of a key. It is first looked for at a place where it may be.
+    /// The place of a key, looked for first at `near`.
     fn find(&self, near: usize, key: Key) -> Option<usize>
         ensures { result ≡ place_of key self.now }
     {
@@ -100,7 +101,7 @@ impl Entries {
         self.places.get(&key).copied()
     }
 
-    /// Adds sums to those of a key, of which this is the place.
+    /// Adds sums to those of a key, which is at this place.
     fn increase(&mut self, place: usize, key: Key, sums: Sums) -> Result<(), SumError>
         requires { place_of key self.old ≡ Some place }
         ensures adds { Adds result key sums (map_of self.old) (map_of self.new) }
@@ -116,7 +117,7 @@ impl Entries {
         Ok(())
     }
 
-    /// Sums under a new key, at the place behind all others.
+    /// Puts sums under a new key, at the end.
     #[inline(never)]
     fn push(&mut self, key: Key, sums: Sums) -> Result<(), AllocError>
         requires { place_of key self.old ≡ None }
@@ -129,7 +130,7 @@ impl Entries {
         Ok(())
     }
 
-    /// Adds sums under a key. What a new key takes works on copies, so that all else stays in registers.
+    /// Adds sums under a key. A new key is put from copies, so that all else stays in registers.
     #[inline(always)]
     pub(crate) fn put(&mut self, key: Key, sums: Sums) -> Result<(), SumError>
         ensures { Adds result key sums (map_of self.old) (map_of self.new) }
@@ -144,7 +145,7 @@ impl Entries {
         Ok(())
     }
 
-    /// Puts sums at a place, under the key there. At no key's place it does nothing.
+    /// Puts sums at a place, under the key there. At a place without a key it does nothing.
     fn set(&mut self, place: usize, sums: Sums)
         ensures { self.new ≡ with_sums_at place sums self.old }
     {
@@ -265,7 +266,7 @@ impl Entries {
     }
 }
 
-/// Where the place of a key may be remembered: the top bits of its numbers, mixed.
+/// The index in `recent` for the place of a key: the top bits of its numbers, mixed.
 fn recent_slot(key: &Key) -> usize
     ensures { result < 1024 }
 {

@@ -8,13 +8,13 @@ use std::alloc::{AllocError, AllocFailed};
 use std::error::Error;
 use std::fmt;
 
-/// Why flows or rows were not added, printed as its number and its name. What they were to be added to is then as
-/// before.
+/// Why flows or rows were not added, printed as its number and its name. The rows that they were to be added to are
+/// then as before.
 #[derive(Clone, Copy, Debug, PartialEq, Eq)]
 pub enum SumError {
     /// A sum would pass its type.
     SumSpent,
-    /// No memory is left.
+    /// A growth of memory was refused.
     OutOfMemory,
 }
 

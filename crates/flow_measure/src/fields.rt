@@ -35,7 +35,7 @@ fn counts_of(fields: &[Field]) -> Counts
     counts
 }
 
-/// The flow of a record, if it stands under a Template.
+/// The flow of a record, unless it is one of an Options Template.
 fn flow_of_record(header: &Header, whole: &DataRecord) -> Option<Flow>
     ensures { result ≡ flow_of_record header.now whole.now }
 {

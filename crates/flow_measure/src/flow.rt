@@ -10,7 +10,7 @@ pub struct Flow {
     pub domain: u32,
     /// When the flow began, in seconds since 1970-01-01 00:00 UTC.
     pub start: u32,
-    /// The number of the transport protocol, where the record tells one.
+    /// The number of the transport protocol, where the record has one.
     pub protocol: Option<u8>,
     /// Octets of the flow in the record's time.
     pub octets: u64,

@@ -48,7 +48,7 @@ pub fn few_flows_fit()
         → AllFit (table_of width flows) }
 {}
 
-/// What is asked of a history is answered by its view alone, however its rolled messages are parted into entries.
+/// Queries of a history are answered by its view alone, however its rolled messages are divided into entries.
 pub fn queries_by_view()
     ensures totals { (h : History) (counts : List ℕ) (from to : ℕ) → IsHistory h → AreCountsOf h counts
         → totals_in_view from to (view_of h counts) ≡ totals_between from to h }
@@ -58,8 +58,8 @@ pub fn queries_by_view()
         → message_in_view n (view_of h counts) ≡ message_at n h }
 {}
 
-/// Accepted messages are read again from their octets alone; one that is accepted behind messages that were all read is
-/// read behind them.
+/// Accepted messages are read again from their octets alone; one that is accepted after messages that were all read is
+/// read after them.
 pub fn reading()
     ensures again { (before : AllTemplates) (messages : List Accepted) → AreAcceptedFrom before messages
         → read_from before (map (λ a. a.octets) messages) ≡ messages }

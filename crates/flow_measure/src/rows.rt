@@ -192,7 +192,7 @@ impl Rows {
         self.entries.walk()
     }
 
-    /// All keys with their sums, in the order of the keys. What `width` says of them holds.
+    /// All keys with their sums, in the order of the keys. It also answers to proofs what `width` does.
     pub fn entries(&self) -> Result<Vec<(Key, Sums)>, AllocError>
         ensures list { IfOk result (λ list. list.items ≡ finite.entries self.now.sums) }
         ensures positive { 0 < self.now.width }

@@ -1,4 +1,4 @@
-//! What takes the flows of the data records that a walk over messages hands over.
+//! Sinks that take the flows of data records from a walk over messages.
 
 ghost use Rattle.std.specs.Prelude.{◌≡◌, []};
 
@@ -10,7 +10,7 @@ use flow_codec::{Definition, Header, RecordSink};
 use flow_elements::Items;
 use std::alloc::{AllocError, Global};
 
-/// Takes flows one behind the other.
+/// Takes flows one after the other.
 #[derive(Debug, Drop)]
 pub struct Flows {
     /// The flows of the records taken, in their order.

@@ -1,4 +1,4 @@
-//! The sums of keys, handed over one by one in the order of the keys.
+//! Keys with their sums, one by one in the order of the keys.
 
 ghost use Rattle.std.specs.Prelude.{◌≡◌, [], ◌∷◌, MatchOption};
 
@@ -6,7 +6,7 @@ use crate::rows::{Key, Sums};
 use std::collections::btree_map;
 use std::marker::Model;
 
-/// What is left of the keys of rows, each with its sums, in the order of the keys.
+/// The keys that are left of rows, each with its sums, in the order of the keys.
 #[derive(Drop)]
 pub struct InOrder<'a> {
     pub(crate) places: btree_map::Iter<'a, Key, usize>,

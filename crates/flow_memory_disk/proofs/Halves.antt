@@ -1,4 +1,4 @@
--- A write of the front of some octets, told as a failed write of all of them.
+-- A write of the first of some octets, as a failed write of all of them.
 use Rattle.std.proofs.Common.{◌≡◌, ◌≢◌, ℕ, ◌+◌, ◌<◌, ◌≤◌, ◌/◌, ap, subst, ⊎_elim, inl, inr, Bool, true, false, List, length, take, length-take, refl}
 use Rattle.std.proofs.Common.{arith, if◌then◌else◌, ◌==◌}
 use Rattle.std.specs.Prelude.{Result, Ok, Err, IsTrue, ◌||◌, nat_lt, max}

@@ -27,7 +27,7 @@ pub elsewhere : (old new : Lie) (was now : ℕ → Marks) (n : ℕ) → told_of 
     → told new now n ≡ told old was n
 elsewhere old new was now n said same = ap (λ (o : Option ℕ). resized o (now n)) said ∙ ap (resized (told_of old n)) same
 
--- a call on a file of which nothing is told
+-- a call on a file without a lie about its length
 pub marked_truly : {T E : Type 0} (lie : Lie) (was now : ℕ → Marks) (file : ℕ) (made : Marks) (still : Bool)
     (result : Result T E) → told_of lie file ≡ None → Marked was now file made still result
     → Marked (told lie was) (told lie now) file made still result
@@ -42,7 +42,7 @@ marked_truly lie was now file made still (Err e) none is = record {
   others = λ n differs. elsewhere lie lie was now n refl (is.others n differs);
 }
 
--- a call after which this is told of its file
+-- a call after which this length is answered of its file
 pub marked_falsely : {T E : Type 0} (old new : Lie) (was now : ℕ → Marks) (file said size real : ℕ)
     (result : Result T E) → OnOk result (told_of new file ≡ Some said) → said ≡ size
     → ((n : ℕ) → n ≢ file → told_of new n ≡ told_of old n) → MarkedByWrite was now file real result

@@ -34,8 +34,8 @@ abbrev pub replayed : ℕ → Held → List Call → Held
 replayed n file [] = file
 replayed n file (call ∷ calls) = replayed n (after n file call) calls
 
--- A disk told from some moment on: what its files were settled as then, the calls since, and what it keeps of each file
--- now.
+-- A disk's story from some moment on: what its files were settled as then, the calls since, and what it keeps of each
+-- file now.
 pub record Story : Type 0 where
   pub base : ℕ → List ℕ
   pub calls : List Call
@@ -45,7 +45,7 @@ pub record Story : Type 0 where
 abbrev pub held_of : Story → ℕ → Held
 held_of story n = replayed n (settled_at (story.base n)) story.calls
 
--- what they held when the first k of the calls had been
+-- what they held after the first k of the calls
 abbrev pub held_at : Story → ℕ → ℕ → Held
 held_at story k n = replayed n (settled_at (story.base n)) (take k story.calls)
 

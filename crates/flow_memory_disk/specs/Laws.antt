@@ -9,7 +9,7 @@ use Rattle.flow_memory_disk.specs.Stored.{looked, held_in, marks_in, unwritten}
 use Rattle.flow_memory_disk.specs.Memory.{story_in, story_of}
 use Rattle.flow_memory_disk.specs.Sound.{settled_one}
 
--- What is seen of a file through two views together.
+-- How two views of a file agree.
 size_looked : (files : List StoredFile) (n : ℕ)
     → (looked marks_in unwritten files n).size ≡ length (looked held_in (settled_at []) files n).reads
 size_looked [] n = refl

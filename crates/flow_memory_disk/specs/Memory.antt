@@ -1,4 +1,4 @@
--- What the fields of a memory disk tell.
+-- The story that the fields of a memory disk hold.
 use Rattle.std.specs.Prelude.{ℕ, List, [], length}
 use Rattle.flow_memory_disk.specs.declared.disk.MemoryDisk.{MemoryDisk}
 use Rattle.flow_memory_disk.specs.declared.record.Record.{Record}

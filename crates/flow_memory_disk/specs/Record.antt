@@ -1,4 +1,5 @@
--- The record: what is kept of a write is how many octets it has; the octets of all writes stand one behind the other.
+-- The record: of a write it keeps its place and how many octets it has; the octets of all writes are in one list, one
+-- after the other.
 use Rattle.std.specs.Prelude.{ℕ, ◌+◌, List, [], ◌∷◌, take, drop}
 use Rattle.flow_memory_disk.specs.declared.deed.Deed.{Deed}
 use Rattle.flow_memory_disk.specs.declared.deed.Deed.TheVariants.{Wrote, Cut, Synced, Abandoned, Removed}

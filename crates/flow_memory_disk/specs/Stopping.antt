@@ -8,7 +8,8 @@ use Rattle.flow_memory_disk.specs.declared.stored.StoredFile.{StoredFile}
 use Rattle.flow_memory_disk.specs.Stored.{held_in, first_in, marks_in, room_in}
 use Rattle.flow_memory_disk.specs.Stopped.{image_of}
 
--- a stop may leave this of the file: the octets that it asks for are there, and fit the file's room
+-- a stop may leave this of the file: `Filled` needs an octet, and where its end is loose those of `Longer` must fit its
+-- room
 abbrev pub CanStop : StoredFile → Choice → Type 0
 CanStop file Kept = Unit {0}
 CanStop file Settled = Unit {0}

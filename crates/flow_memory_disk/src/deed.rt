@@ -1,6 +1,6 @@
 // A call that changed what a file holds.
 
-/// A call that changed what a file holds. The octets of a write stand in the record beside it.
+/// A call that changed what a file holds. The octets of a write are in the record, beside it.
 #[derive(Drop)]
 pub(crate) enum Deed {
     Wrote(u64, u64, usize),

@@ -339,7 +339,8 @@ impl MemoryDisk {
         Ok(numbers)
     }
 
-    /// Whether a stop may leave this: whether the octets that it asks for are there, and fit the room.
+    /// Whether a stop may leave this: `Filled` needs an octet, and where a file's end is loose those of `Longer` must
+    /// fit its room.
     pub fn can_crash(&self, choice: Choice<'_>) -> bool
         ensures { IsTrue result ↔ CanCrash self.now.files.items choice.entry }
     {
@@ -385,8 +386,8 @@ impl MemoryDisk {
         }
     }
 
-    /// The disk as a program finds it that was given up without a stop: each file reads as before, nothing is frozen,
-    /// and the record begins anew in the same room.
+    /// The disk as the next program finds it where there was no stop: each file reads as before, nothing is frozen, and
+    /// the record begins anew in the same room.
     pub fn restart(self) -> MemoryDisk
         ensures story { story_of result ≡ stopped (story_of self) Choice.Kept }
         ensures thawed { (n : ℕ) → ((story_of result).marks n).frozen ≡ false }

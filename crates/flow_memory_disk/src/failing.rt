@@ -225,7 +225,7 @@ impl<D: Disk, W: When> Disk for FailingDisk<D, W> {
             (self.new.failed + D.faults self.new.disk) result }
         ensures once { self.new.when ≡ W.next self.old.when }
         ensures bad { self.new.bad ≡ self.old.bad }
-        // Where its turn fails, what a write of the first half leaves, where the disk below took it.
+        // Where its turn fails, the disk below is given the first half, whatever it answers.
         ensures half { IsTrue (W.fails self.old.when) → (answer : Result (Unit {0}) DiskError)
             × WroteAt D.honest D.marks D.held D.faults self.old.disk self.new.disk file at (half octets.now) answer }
         ensures failing { IsTrue (W.fails self.old.when) → IsErrOf result DiskError.Fault

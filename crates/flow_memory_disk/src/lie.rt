@@ -1,4 +1,4 @@
-// What a disk that lies tells of a length.
+// The lengths that a disk that lies answers.
 ghost use Rattle.std.specs.Prelude.{◌≡◌, ◌≤◌, ◌^◌, ℕ, Some, IfSome};
 
 use flow_disk::DiskError;
@@ -6,7 +6,8 @@ use flow_disk::DiskError;
 /// The most octets that a file has.
 pub(crate) const LIMIT: u64 = 1 << 62;
 
-/// What is told of a length, as a seed chooses: less, some octets more, almost 2^62, or the truth, which is no lie.
+/// The length that is answered instead of a file's own, as a seed chooses: at most its own, up to 63 octets more, or
+/// almost 2^62; or none, which is no lie.
 fn told_length(real: u64, seed: u64) -> Option<u64>
     requires { real ≤ 2 ^ 62 }
     ensures { IfSome result (λ count. count ≤ 2 ^ 62) }
@@ -20,7 +21,7 @@ fn told_length(real: u64, seed: u64) -> Option<u64>
     }
 }
 
-/// How many octets a file is told to have, of one file at a time.
+/// The length that is answered instead of a file's own, of one file at a time.
 #[derive(Drop)]
 pub(crate) struct Lie {
     file: u64,
@@ -32,7 +33,7 @@ impl Lie {
     ghost use Rattle.std.specs.Prelude.{◌≢◌, false, None, IsTrue, OnOk, unwrap_or};
     ghost use Rattle.flow_memory_disk.specs.Lying.{told_of};
 
-    /// Nothing is told of any file.
+    /// No lie about any file.
     pub(crate) fn none() -> Self
         ensures { (n : ℕ) → told_of result n ≡ None }
     {
@@ -42,7 +43,7 @@ impl Lie {
         }
     }
 
-    /// What is told of a file; and then nothing is told of another one.
+    /// The length that is answered of a file, if that is a lie; then there is none about another file.
     pub(crate) fn of(&self, file: u64) -> Option<u64>
         ensures is { result ≡ told_of self.now file }
         ensures within { IfSome result (λ count. count ≤ 2 ^ 62) }
@@ -51,7 +52,7 @@ impl Lie {
         if self.file == file { self.told } else { None }
     }
 
-    /// Whether nothing is told of any file.
+    /// Whether there is no lie about any file.
     pub(crate) fn is_none(&self) -> bool
         ensures none { IsTrue result → (n : ℕ) → told_of self.now n ≡ None }
         ensures some { result ≡ false → self.now.told ≢ None }
@@ -59,7 +60,7 @@ impl Lie {
         self.told.is_none()
     }
 
-    /// Tells this of a file, where nothing is told of another one.
+    /// Answers this length of a file from now on. There must be no lie about another file.
     pub(crate) fn tell(&mut self, file: u64, count: u64)
         requires within { count ≤ 2 ^ 62 }
         requires alone { (n : ℕ) → n ≢ file → told_of self.old n ≡ None }
@@ -72,7 +73,7 @@ impl Lie {
         };
     }
 
-    /// Tells this of a file where a call has passed, and where nothing is told of another one.
+    /// The same where a call has passed; else nothing changes.
     pub(crate) fn tell_after(&mut self, call: &Result<(), DiskError>, file: u64, count: u64)
         requires within { count ≤ 2 ^ 62 }
         requires alone { (n : ℕ) → n ≢ file → told_of self.old n ≡ None }
@@ -84,7 +85,8 @@ impl Lie {
         }
     }
 
-    /// How many octets a file of so many is told to have, as a seed chooses: others only where no lie is told yet.
+    /// The length that is answered of a file with so many octets, as a seed chooses: a lie only where there is none
+    /// yet.
     pub(crate) fn choose(&mut self, file: u64, real: u64, seed: u64) -> u64
         requires within { real ≤ 2 ^ 62 }
         requires first { told_of self.old file ≡ None }
@@ -100,7 +102,7 @@ impl Lie {
         }
     }
 
-    /// Tells nothing of a file any longer.
+    /// Ends the lie about a file.
     pub(crate) fn forget(&mut self, file: u64)
         ensures here { told_of self.new file ≡ None }
         ensures others { (n : ℕ) → n ≢ file → told_of self.new n ≡ told_of self.old n }

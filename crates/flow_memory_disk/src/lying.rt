@@ -14,8 +14,8 @@ fn following(seed: u64) -> u64 {
         .wrapping_add(1442695040888963407)
 }
 
-/// Tells something else than was read, or not, as a seed chooses: another octet at one place, zeros in place of what
-/// was settled, or octets that were never written.
+/// Changes octets that were read, or not, as a seed chooses: another octet at one place, zeros from a place on, or
+/// octets that were never written.
 fn distort(octets: &mut [u8], seed: u64) {
     let length = octets.len();
     if length == 0 {
@@ -36,7 +36,8 @@ fn distort(octets: &mut [u8], seed: u64) {
     }
 }
 
-/// What is told of what was read: so many octets, those behind what was read zeros, and changed as a seed chooses.
+/// The answer to a read: the octets that were read, then zeros up to the count that was asked for, all of them changed
+/// as a seed chooses.
 fn told_octets(
     got: Result<Vec<u8>, DiskError>,
     count: usize,
@@ -52,10 +53,10 @@ fn told_octets(
 }
 
 /// A disk that lies, as a seed chooses: what is read of it, frozen files too, may be changed, forgotten or invented,
-/// files may be missing from its list, and a file may be told to have fewer or more octets than it has. It lies so of
-/// one file at a time, from a call that asks for its length until the next one, or until its removal. Of this file a
-/// read past the end gives zeros, a write past the end is put at the end, and a frozen file has as many octets as were
-/// told. It keeps the other marks, and fails where the disk below it fails, and where a write passes 2^62 octets of
+/// files may be missing from its list, and the length that it answers may be less or more than a file's own. It lies so
+/// of one file at a time, from a call that asks for its length until the next one, or until its removal. Of this file a
+/// read past the end gives zeros, a write past the end is put at the end, and a frozen file has the length that was
+/// answered. It keeps the other marks, and fails where the disk below it fails, and where a write passes 2^62 octets of
 /// this file.
 #[derive(Drop)]
 pub struct LyingDisk<D: Disk> {

@@ -8,7 +8,7 @@ use crate::reserved::append;
 use crate::room::Room;
 use std::alloc::{AllocError, Global};
 
-/// The calls that changed a file, in their order, and the octets of the writes among them one behind the other.
+/// The calls that changed a file, in their order, and the octets of the writes among them, one after the other.
 #[derive(Drop)]
 pub(crate) struct Record {
     deeds: Vec<Deed>,

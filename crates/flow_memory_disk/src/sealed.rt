@@ -7,7 +7,7 @@ use std::alloc::Global;
 use std::convert::Infallible;
 use std::sync::Arc;
 
-/// A frozen file of a memory disk. Its reads can't fail but for want of memory.
+/// A frozen file of a memory disk. Its reads fail only where memory is refused.
 #[derive(Drop)]
 pub struct MemorySealed {
     pub(crate) number: u64,

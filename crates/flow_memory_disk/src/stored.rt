@@ -96,7 +96,7 @@ impl StoredFile {
         self.touched.len()
     }
 
-    /// Writes octets over what is there, and past the end.
+    /// Writes octets over those at a place, and past the end.
     pub(crate) fn write(&mut self, at: u64, octets: &[u8])
         requires place { at ≤ vec_len self.old.octets }
         requires octets { at + length octets.now ≤ self.old.room }
@@ -226,7 +226,8 @@ impl StoredFile {
         Some(shared)
     }
 
-    /// Whether a stop may leave this of it: whether the octets that it asks for are there and fit.
+    /// Whether a stop may leave this of it: `Filled` needs an octet, and where its end is loose those of `Longer` must
+    /// fit the room.
     pub(crate) fn can_stop(&self, choice: Choice<'_>) -> bool
         ensures { IsTrue result ↔ CanStop self.now choice.entry }
     {
@@ -298,7 +299,7 @@ impl StoredFile {
 ghost use Rattle.std.specs.Prelude.{◌+◌};
 ghost use Rattle.flow_disk.specs.Disk.{put_at};
 
-/// Puts octets over what stands at a place, and past the end.
+/// Puts octets over those at a place, and past the end.
 fn put(list: &mut Vec<u8>, at: usize, octets: &[u8])
     requires place { at ≤ vec_len list.old }
     requires room { at + length octets.now ≤ vec_capacity list.old }

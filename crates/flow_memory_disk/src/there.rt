@@ -1,4 +1,4 @@
-// Calls on a file that is told to have another length than it has: each keeps to what is there.
+// Calls on a file whose length a disk lies about: each keeps to the octets that the file has.
 ghost use Rattle.std.specs.Prelude.{◌≡◌, ◌≤◌, false, Some};
 ghost use Rattle.flow_disk.specs.Cause.{HasCause, FailsOnlyByFault};
 ghost use Rattle.flow_disk.specs.Disk.{Changes};
@@ -8,7 +8,7 @@ ghost use Rattle.flow_memory_disk.specs.Lying.{resized};
 use flow_disk::{Disk, DiskError};
 use std::alloc::Global;
 
-/// Reads those that there are of so many octets from a place on.
+/// Reads, of so many octets from a place on, those that the file has.
 pub(crate) fn read_there<D: Disk>(
     disk: &mut D,
     alloc: Global,

@@ -1,4 +1,4 @@
-//! What a function looks at for a test: it answers a failure, where only the test itself can assert.
+//! Checks of functions that a test calls: they answer a failure, since only the test itself can assert.
 
 use std::test::Fail;
 

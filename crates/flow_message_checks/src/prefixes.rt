@@ -4,7 +4,7 @@ use flow_codec::{Templates, read_message, restated_templates, write_templates};
 use std::alloc::{AllocError, Global};
 use std::test::Fail;
 
-/// An Options Template with a scope field, and behind it a Template with a field of an enterprise, in domain 7.
+/// An Options Template with a scope field, and after it a Template with a field of an enterprise, in domain 7.
 const MESSAGE: [u8; 54] = [
     0, 10, 0, 54, 0, 0, 0, 1, 0, 0, 0, 0, 0, 0, 0, 7, //
     0, 3, 0, 18, 1, 1, 0, 2, 0, 1, 0, 149, 0, 4, 0, 41, 0, 8, //
@@ -18,7 +18,7 @@ const PREFIX: [u8; 54] = [
     0, 3, 0, 18, 1, 1, 0, 2, 0, 1, 0, 149, 0, 4, 0, 41, 0, 8,
 ];
 
-/// What templates restate behind a message, at second 5 with these numbers.
+/// The messages that restate the templates after a message, at second 5 with these numbers.
 fn restated(
     alloc: Global,
     templates: &mut Templates,
@@ -29,7 +29,7 @@ fn restated(
     Ok(write_templates(templates, alloc, 5, due)?)
 }
 
-/// What is restated behind this message alone.
+/// The messages that restate the templates after this message alone.
 fn restated_behind(alloc: Global, message: &[u8], due: &[(u32, u32)]) -> Result<Vec<u8>, Fail> {
     restated(alloc, &mut Templates::new(alloc), message, due)
 }

@@ -1,4 +1,4 @@
-//! Where the messages of a File stand.
+//! The places of the messages of a File.
 
 use flow_codec::{FileError, Span, one_front, split_file};
 use std::alloc::{AllocError, Global};

@@ -131,7 +131,7 @@ abbrev pub AreOctetsRead : Section → List ℕ → Carry → Carry → ℕ → 
 AreOctetsRead section octets old now count at =
     Behind (IsSoFar section old now count) octets 0 old.templates now.templates at (drop at octets)
 
--- the message that stands at the place is one more
+-- the message at the place is one more
 pub octets_more : (section : Section) (octets : List ℕ) (old now new : Carry) (count at n : ℕ)
     → AreOctetsRead section octets old now count at → n ≤ length (drop at octets) → IsCutOff (take n (drop at octets))
     → (a : Accepted) × (a.octets ≡ take n (drop at octets))
@@ -158,7 +158,7 @@ octets_more section octets old now new count at n was fits cut taken =
     now.templates a.after at (at + n) (drop at octets) (drop (at + n) octets) one a.message was cut split
     (omega (arith, long)) taken.2 next_kind)
 
--- where other messages fill the octets, no fault stands at the place
+-- where other messages fill the octets, there is no fault at the place
 pub octets_fault : (section : Section) (octets : List ℕ) (old now : Carry) (count at place : ℕ)
     (others : List Accepted) (fault : FileError) → AreOctetsRead section octets old now count at
     → at < length octets → AreRead octets old.templates others [] → AreOf section others

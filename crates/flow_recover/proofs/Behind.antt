@@ -1,4 +1,4 @@
--- Files one behind the other: what is read of them is what they are.
+-- Files one after the other: what is read of them is what they are.
 use Rattle.std.proofs.Common.{◌≡◌, ℕ, zero, suc, ◌+◌, ◌<◌, ◌≤◌, List, [], ◌∷◌, ◌++◌, length, get_or, take, drop, refl}
 use Rattle.std.proofs.Common.{sym, ◌∙◌, ap, subst, arith, append_assoc, Option, Some, None, Vec}
 use Rattle.std.specs.declared.alloc.Global.{Global}
@@ -82,7 +82,7 @@ count_of (x ∷ xs) = omega (arith, count_of xs)
 
 -- ---- a sealed segment
 
--- messages that fill the octets behind a prefix
+-- messages that fill the octets after a prefix
 pub sealed_at : (octets : List ℕ) (e : Entry) (before : AllTemplates) (ms : List Accepted)
     → length octets ≡ e.length → e.prefix ≤ e.length
     → AreRead (drop e.prefix octets) before ms [] → length ms ≡ e.messages
@@ -98,7 +98,7 @@ sealed_at octets e before ms whole fits read count = record {
   messages = count_of ms ∙ count;
 }
 
--- where a segment stands they are as many as its entry says
+-- where the octets are a sealed segment they are as many as its entry says
 pub sealed_count : (octets : List ℕ) (e : Entry) (p : Part) (before : AllTemplates) (ms : List Accepted)
     → length octets ≡ e.length → e.prefix ≤ e.length
     → AreRead (drop e.prefix octets) before ms [] → IsSealedAt octets e p → length ms ≡ e.messages
@@ -110,7 +110,7 @@ sealed_count octets e p before ms whole fits read at =
     (omega (arith, size, whole, fits, length-drop e.prefix octets, sum_joined (octets_of ms), at.count)) in
     sym (count_of ms) ∙ ap (λ (l : List (List ℕ)). length l) same ∙ at.messages
 
--- and where a segment stands, its messages do
+-- and a segment's messages fill the octets after its prefix
 pub sealed_read : (octets : List ℕ) (e : Entry) (p : Part) (before : AllTemplates) (ms : List Accepted)
     → length octets ≡ e.length → IsSealedAt octets e p → octets_of ms ≡ p.messages → AreAcceptedFrom before ms
     → AreRead (drop e.prefix octets) before ms []
@@ -161,7 +161,7 @@ segment_read p front carry ms is octets accepted carried = record {
   hands_on = carried ∙ ap (λ (k : Carry). carry_from k ms) is.3 ∙ sym (carry_join (no_carry 0) is.0 ms);
 }
 
--- what is read of a prefix stands in front of the segment's messages
+-- a segment's messages are read after the templates of its prefix
 pub sealed_behind : (octets : List ℕ) (e : Entry) (p : Part) (front carry : Carry) → length octets ≡ e.length
     → IsRestatement (take e.prefix octets) front → IsSealedAt octets e p → (g : IsSegment p carry)
     → AreRead (drop e.prefix octets) front.templates g.messages []
@@ -172,7 +172,7 @@ sealed_behind octets e p front carry whole is at g =
     sealed_read octets e p front.templates g.messages whole at g.octets
     (subst (λ (t : AllTemplates). AreAcceptedFrom t g.messages) (sym same) g.accepted)
 
--- ---- the prefix that is called for
+-- ---- the prefix that the next segment must have
 
 pub called_for : (before : Option Carry) (called : Option (Vec ℕ Global)) (front : List ℕ) → IsHeldBehind before called
     → IsCalled called front → IsCalledFor before front
@@ -194,7 +194,7 @@ called_some called v front is same = subst (λ (b : Option (Vec ℕ Global)). Is
 
 -- ---- what is kept of a file
 
--- what is told of a file: what stands there, and what it calls for
+-- what is answered of a file: the part that it holds, and the prefix that the next segment must have
 abbrev pub IsKeptAs : Manifest → Kind → List ℕ → Entry → Option Carry → Option (Vec ℕ Global) → Type 0
 IsKeptAs m kind octets e before next = (p : Part) × (after : Option Carry) × StandsAs kind octets e p
     × IsPartBehind m kind before p after × IsHeldBehind after next
@@ -224,7 +224,7 @@ sealed_kept m octets e kind before called next is calls (p, carry, at, called_is
     subst (λ (k : Kind). IsKeptAs m k octets e before (Some next)) (sym is)
     (p, Some carry, at, (carry, called_for before called p.front calls called_is, g, refl), told)
 
--- and what stands there
+-- a part's table is that of all the file's octets
 table_there : (width : ℕ) (octets : List ℕ) (e : Entry) (p : Part) → length octets ≡ e.length → IsRolledAt octets e p
     → (table : Table) × IsRollup width p.front table → (table : Table) × IsRollup width octets table
 table_there width octets e p whole at roll = (
@@ -261,7 +261,7 @@ sealed_there m octets e Active before after p is stands behind = absurd stands
 
 -- ---- one of each
 
--- carries that call for one prefix
+-- carries that determine one prefix
 abbrev pub CallTheSame : Option Carry → Option Carry → Type 0
 CallTheSame None None = Unit {0}
 CallTheSame None (Some d) = ⊥
@@ -308,7 +308,7 @@ one_behind m Sealed octets e c d a b p q same at there (own, calls, g, is) (othe
     (one_carry q own other (subst (λ (x : Part). IsSegment x own) one g) h)
 one_behind m Active octets e c d a b p q same at there is was = absurd at
 
--- the same behind another carry that calls for that prefix
+-- the same after another carry that determines that prefix
 along : (m : Manifest) (kind : Kind) (c d : Option Carry) (p : Part) (after : Option Carry) → CallTheSame c d
     → IsPartBehind m kind d p after → (next : Option Carry) × IsPartBehind m kind c p next
 along m Wide c d p after same is = (c, (is.0, refl))

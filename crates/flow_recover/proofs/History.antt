@@ -73,7 +73,7 @@ closed_last g next (e ∷ es) (p ∷ ps) s =
     ap (λ (x : Shelf). shelved_first e.kind e p x) (closed_last g next es ps s)
     ∙ closed_first g next e.kind e p (shelved es ps s)
 
--- the files in front leave the active segment
+-- a file put before the others leaves the active segment
 active_first : (kind : Kind) (e : Entry) (p : Part) (s : Shelf)
     → ((shelved_first kind e p s).prefix ≡ s.prefix) × ((shelved_first kind e p s).active ≡ s.active)
 active_first Wide e p s = (refl, refl)
@@ -90,7 +90,7 @@ active_last (e ∷ es) (p ∷ ps) s =
     let more = active_last es ps s in
     (first.0 ∙ more.0, first.1 ∙ more.1)
 
--- a file more behind as many entries as parts
+-- one file more after as many entries as parts
 shelved_then : (m : Manifest) (before after : Option Carry) (es : List Entry) (ps : List Part) (e : Entry) (p : Part)
     (s : Shelf) → ArePartsBehind m before es ps after
     → shelved (es ++ e ∷ []) (ps ++ p ∷ []) s ≡ shelved es ps (shelved_first e.kind e p s)

@@ -34,7 +34,7 @@ rolled_kind Rolled is = refl
 rolled_kind Sealed is = absurd (omega (arith, is))
 rolled_kind Active is = absurd (omega (arith, is))
 
--- ---- the shelf of files one behind the other
+-- ---- the shelf of files one after the other
 
 pub shelved_join : (es fs : List Entry) (ps qs : List Part) (s : Shelf) → length es ≡ length ps
     → shelved (es ++ fs) (ps ++ qs) s ≡ shelved es ps (shelved fs qs s)
@@ -44,7 +44,7 @@ shelved_join (e ∷ es) fs [] qs s same = absurd (omega (arith, same))
 shelved_join (e ∷ es) fs (p ∷ ps) qs s same =
     ap (λ (x : Shelf). shelved_first e.kind e p x) (shelved_join es fs ps qs s (omega (arith, same)))
 
--- a rolled file behind all rolled ones, in front of which files of lower kinds may stand
+-- a rolled file after all rolled ones, before which files of lower kinds may come
 roll_first : (r : Rollup) (k : ℕ) (kind : Kind) (e : Entry) (p : Part) (s : Shelf) → rank kind < 2
     → shelved_first kind e p (applied s (installed r k)) ≡ applied (shelved_first kind e p s) (installed r k)
 roll_first r k Wide e p s low = refl
@@ -89,7 +89,7 @@ rollups_of [] ps = []
 rollups_of (e ∷ es) [] = []
 rollups_of (e ∷ es) (p ∷ ps) = rollup_of e p ∷ rollups_of es ps
 
--- sealed segments in front of others, with the messages that their entries count
+-- sealed segments before others, with the messages that their entries count
 pub record AreSegments (es : List Entry) (ps : List Part) (s : Shelf) : Type 0 where
   pub front : List Segment
   pub front_is : front ≡ segments_of es ps
@@ -133,7 +133,7 @@ segments image (e ∷ es) (p ∷ ps) s (one, stand) (kind, are) =
       );
     }
 
--- rolled files in front of others
+-- rolled files before others
 pub record AreRollups (es : List Entry) (ps : List Part) (s : Shelf) : Type 0 where
   pub front : List Rollup
   pub front_is : front ≡ rollups_of es ps
@@ -169,7 +169,7 @@ rollups (e ∷ es) (p ∷ ps) s same (kind, are) =
       );
     }
 
--- nothing of a kind stands in front where none is
+-- a file that is neither wide nor rolled leaves the rolled ones
 no_rolled_first : (kind : Kind) (e : Entry) (p : Part) (s : Shelf) → 2 ≤ rank kind
     → (shelved_first kind e p s).rolled ≡ s.rolled
 no_rolled_first Wide e p s high = absurd (omega (arith, high))
@@ -231,7 +231,7 @@ merge_over made p k es ps s are long none =
     λ i. record s { rolled = rolled i; merged = merged i } in
     sym (ap (λ (x : Shelf). applied x (joined (rollup_of made p) k)) are.is ∙ now)
 
--- ---- what is handed on
+-- ---- what is passed on
 
 pub same_length : (m : Manifest) (before after : Option Carry) (es : List Entry) (ps : List Part)
     → ArePartsBehind m before es ps after → length es ≡ length ps
@@ -277,8 +277,8 @@ all_pass m before after (e ∷ es) [] low never = absurd never
 all_pass m before after (e ∷ es) (p ∷ ps) low (between, one, more) =
     all_pass m between after es ps low.1 more ∙ sums_pass m e.kind before between p low.0 one
 
--- What stands behind these parts, where nothing stands in front of them any more: each prefix is still the one that
--- is called for, if one is.
+-- These parts are chained where none is before them any more, and the active segment after them still has the prefix
+-- that the segment before it determines, if there is one.
 pub record Freed (m : Manifest) (es : List Entry) (ps : List Part) (active : Part) (after : Option Carry) (last : Option Carry)
     : Type 0 where
   pub sealed : Option Carry

@@ -1,4 +1,4 @@
--- What an opening's phases make of what images stand for.
+-- What an opening's phases make of what images represent.
 use Rattle.std.proofs.Common.{◌≡◌, ◌≢◌, ◌⊎◌, inl, inr, ⊎_elim, IsTrue, ℕ, zero, suc, ◌+◌, ◌<◌, ◌≤◌, ◌==◌, Bool, true}
 use Rattle.std.proofs.Common.{false, List, [], ◌∷◌, ◌++◌, length, take, get_or, refl, sym, ◌∙◌, ap, subst, arith}
 use Rattle.std.proofs.Common.{eq-eqb}
@@ -116,7 +116,7 @@ agreed slots s a b are current files slot each =
           (active_of s.manifest) entries);
     }
 
--- what stands for a state reads the same
+-- an image with the same octets represents the same state
 pub same_reads : (s : State) (a b : ℕ → List ℕ) → ((n : ℕ) → b n ≡ a n) → StandsFor a s → StandsFor b s
 same_reads s a b same stands =
     let slots = stands.force.0 in
@@ -214,7 +214,7 @@ unnamed_same a b s same stands =
     let known = removing slots s a b was same in
     record { force = (slots, stands.force.1, known.slots_are); files = known.files; at_rest = stands.at_rest }
 
--- the active file is cut behind its trailer
+-- the active file is cut after its trailer
 pub trimming : (slots : Slots) (s : State) (file end : ℕ) (a b : ℕ → List ℕ) → (active_of s.manifest).file ≡ file
     → end_of s ≡ end → IsKnown slots s a → InFile file (KeepsFront (end + 2)) a b → IsKnown slots s b
 trimming slots s file end a b file_is end_is known step = record {
@@ -405,7 +405,7 @@ pub chosen : (honest : Bool) (P : List Part → Type 0) → (IsTrue honest → (
 chosen false P found = ([], λ h. absurd (cc))
 chosen true P found = let is = found refl in (is.0, λ h. is.1)
 
--- what is known of an image that stands for one of two states is that one
+-- what is known of an image that represents one of two states is that one
 pub is_either : (image : ℕ → List ℕ) (slots : Slots) (a b s : State) → s ≡ reopened s → IsKnown slots s image
     → StandsForEither a b image → (s ≡ a) ⊎ (s ≡ b)
 is_either image slots a b s rest known (inl is) = inl (one_state image s a (record {
@@ -436,7 +436,7 @@ either_known image slots a b s rest (inr is) known = inr (subst (StandsFor image
   at_rest = rest;
 }))
 
--- where each image stood for one of two states, what was read is one of them
+-- where each image represented one of two states, what was read is one of them
 pub known_either : (before files : ℕ → Held) (slots : Slots) (a b t : State) (carry : Carry) → t ≡ reopened t
     → IsRead files (reads_of before) slots t carry → IsDiskImage files (reads_of files)
     → AllImages files (IsDiskImage before) → AllImages before (StandsForEither a b)

@@ -1,4 +1,4 @@
--- Where a job's sources stand in a valid manifest, and what the state is behind their install.
+-- Where a job's sources are in a valid manifest, and the state after their install.
 use Rattle.std.proofs.Common.{◌≡◌, ℕ, ◌+◌, ◌-◌, ◌<◌, ◌≤◌, List, [], ◌∷◌, ◌++◌, length, take, drop, refl, sym}
 use Rattle.std.proofs.Common.{ap, subst, ◌∙◌, append_assoc, get_or, length-append, length-drop, arith, Option, Some, None}
 use Rattle.std.specs.List.{AllByRecursion}
@@ -62,7 +62,7 @@ but_last {X} xs x =
 last_of : (xs : List Entry) (x : Entry) → get_or (xs ++ x ∷ []) (length (xs ++ x ∷ []) - 1) no_entry ≡ x
 last_of xs x = get_or_push xs x no_entry (length (xs ++ x ∷ []) - 1) (omega (arith, length-append xs (x ∷ [])))
 
--- ---- where the sources stand
+-- ---- the place of the sources
 
 module _ (m : Manifest) (valid : IsValidManifest m) (kind : JobKind) (count : ℕ)
     (few : count ≤ count_of (source_of kind) m.entries) where
@@ -142,7 +142,7 @@ module _ (m : Manifest) (valid : IsValidManifest m) (kind : JobKind) (count : �
       ∙ ap (λ (l : List Entry). before ++ made ∷ l) behind_is
       ∙ sym (append_assoc before (made ∷ behind) (active_of m ∷ []))
 
-  -- the entries in front of the active one behind the install
+  -- the entries before the active one after the install
   pub front_installed : (file : StagedFile) (next : ℕ)
       → front_of (installed_manifest m kind count (staged_of file) next)
       ≡ before ++ made_entry kind (staged_of file) (sources_of kind count m.entries) ∷ behind
@@ -190,7 +190,7 @@ module _ (m : Manifest) (valid : IsValidManifest m) (kind : JobKind) (count : �
     pub behind_same : length behind ≡ length (drop (place + count) parts)
     behind_same = omega (arith, length-drop (place + count) all, length-drop (place + count) parts, same)
 
--- ---- the state behind an install
+-- ---- the state after an install
 
 stand_apart : (image : ℕ → List ℕ) (es fs : List Entry) (ps qs : List Part) → length es ≡ length ps
     → PartsStand image (es ++ fs) (ps ++ qs) → PartsStand image es ps × PartsStand image fs qs
@@ -267,7 +267,7 @@ module _ (s : State) (c : Carry) (valid : IsValidManifest s.manifest) (hands : H
       (front_installed m valid kind count few file s.next)
       ∙ shelved_join e1 (made ∷ e3) p1 (part ∷ p3) (active_shelf s) same_1
 
-  -- what is handed on
+  -- what is passed on
   in_pieces : ArePartsBehind m None (e1 ++ (e2 ++ e3)) (p1 ++ (p2 ++ p3)) hands.sealed
   in_pieces = subst (λ (es : List Entry). ArePartsBehind m None es (p1 ++ (p2 ++ p3)) hands.sealed)
       (in_three n count (front_of m))

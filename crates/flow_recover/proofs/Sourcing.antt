@@ -35,7 +35,7 @@ use Rattle.flow_recover.proofs.Installing.{rollups_of, segments_of}
 
 -- ---- segments
 
--- the messages of segments that stand behind templates, with others behind them
+-- the messages of segments after these templates, with others after them
 segments_accepted : (es : List Entry) (ps : List Part) (more : List Segment) (active : List ℕ) (before : AllTemplates)
     (messages : List Accepted) → length es ≡ length ps → AreRolledMessages ps messages
     → AreRestated before (segments_of es ps ++ more) active

@@ -1,4 +1,4 @@
--- What changes of an image do to what it stands for.
+-- What changes of an image do to what it represents.
 use Rattle.std.proofs.Common.{◌≡◌, ◌≢◌, ◌⊎◌, inl, inr, ⊎_elim, ℕ, ◌<◌, ◌≤◌, List, [], ◌∷◌, ◌++◌, take, refl, sym, ◌∙◌}
 use Rattle.std.proofs.Common.{subst, arith}
 use Rattle.std.specs.List.{AllByRecursion}
@@ -21,7 +21,7 @@ use Rattle.flow_recover.specs.Standing.{IsActiveAt, StandsAs, PartsStand, HoldsF
 use Rattle.flow_recover.specs.Standing.{IsKnown}
 use Rattle.flow_manifest.proofs.EntryLists.{all_left, all_right, own_left}
 
--- of entries with one behind them
+-- of entries with one after them
 pub all_first : (P : Entry → Type 0) (xs : List Entry) (x : Entry) → AllByRecursion P (xs ++ x ∷ [])
     → AllByRecursion P xs
 all_first P xs x all = all_left P xs (x ∷ []) all
@@ -125,7 +125,7 @@ part_cut Sealed count a b e p le keeps is = record {
 }
 part_cut Active count a b e p le keeps is = is
 
--- one file is cut behind what counts of it, wherever it is named
+-- one file is cut after what counts of it, wherever it is named
 pub cutting : (slots : Slots) (s : State) (file count : ℕ) (a b : ℕ → List ℕ) → 3 ≤ file → file ≢
     (active_of s.manifest).file
     → AllByRecursion (λ e. (e.file ≢ file) ⊎ (e.length ≤ count)) (front_of s.manifest) → IsKnown slots s a

@@ -25,7 +25,7 @@ use Rattle.flow_recover.specs.Chain.{ArePartsBehind, HandsOn, IsCalledFor, IsCha
 use Rattle.flow_recover.specs.Chain.{IsSegmentBehind}
 use Rattle.flow_recover.specs.Shelved.{active_shelf, shelf_of, shelved, shelved_first}
 
--- what stands behind a carry is a view whose templates are the carry's
+-- the files after a carry have a view whose templates are the carry's
 abbrev templates_given : Carry → Option Carry → AllTemplates
 templates_given own None = own.templates
 templates_given own (Some c) = c.templates
@@ -57,7 +57,7 @@ empty_carried time small = record {
 
 -- ---- a segment
 
--- what a segment hands on
+-- what a segment passes on
 handed : (p : Part) (c : Carry) → (g : IsSegment p c)
     → IsCarry c × (c.templates ≡ templates_from (templates_from [] g.prefix) g.messages)
 handed p c g =
@@ -71,7 +71,7 @@ handed p c g =
 restates : (p : Part) (c : Carry) → (g : IsSegment p c) → IsRestated p.front (templates_from [] g.prefix)
 restates p c g = (g.prefix, g.front, g.restated, refl)
 
--- the prefix restates what the segment before hands on
+-- the prefix restates what the segment before passes on
 called : (before : Option Carry) (p : Part) (t : AllTemplates) → IsCarried before → IsCalledFor before p.front
     → IsRestated p.front t → AreCarried before t
 called None p t h calls is = tt
@@ -113,7 +113,7 @@ last_segment s before c h (own, calls, g, same) =
       wide = refl;
     }
 
--- a sealed segment in front
+-- a sealed segment put before the others
 sealed_first : (m : Manifest) (before : Option Carry) (last : AllTemplates) (e : Entry) (p : Part) (c : Carry)
     (s : Shelf)
     → IsCarried before → IsCalledFor before p.front → IsSegment p c → Behind m (Some c) last s
@@ -309,7 +309,7 @@ one_view_of s v w valid h k =
     one_view (shelf_of s) v w (subst (λ (n : ℕ). n < 2 ^ 32) (sym same.0) (valid.fits).width)
     (subst (λ (n : ℕ). n < 2 ^ 32) (sym same.1) (valid.fits).wide) h k
 
--- the templates that the archive hands on are those behind all its messages
+-- the templates that the archive passes on are those after all its messages
 pub handed_on : (s : State) (c : Carry) (v : View) → IsValidManifest s.manifest → HandsOn s c → IsViewOf (shelf_of s) v
     → templates_from v.templates v.kept ≡ c.templates
 handed_on s c v valid hands is =

@@ -38,7 +38,7 @@ replaced_parts kind count octets entries parts =
     take (count_before (source_of kind) entries) parts ++
     record { front = octets; messages = [] } ∷ drop (count_before (source_of kind) entries + count) parts
 
--- The file that was made stands in place of its sources, and these wait for their removal.
+-- The file that was made takes the place of its sources, and these wait for their removal.
 abbrev pub replaced : State → JobKind → ℕ → StagedFile → State
 replaced s kind count file = record s {
   manifest = installed_manifest s.manifest kind count (staged_of file) s.next;
@@ -49,7 +49,7 @@ replaced s kind count file = record s {
 
 -- ---- on the history
 
--- the last message in front of those of its sources
+-- how many messages are before those of its sources
 abbrev pub cut_before : JobKind → History → ℕ
 cut_before Roll h = h.cut
 cut_before Merge h = h.second
@@ -69,7 +69,7 @@ history_made Merge count h = record h { second = h.second + count }
 
 -- ---- what it sums
 
--- the messages of these segments, each accepted behind what its own prefix restates, one segment behind the other
+-- the messages of these segments in order, those of each accepted after what its own prefix restates
 abbrev pub AreRolledMessages : List Part → List Accepted → Type 0
 AreRolledMessages [] messages = messages ≡ []
 AreRolledMessages (part ∷ parts) messages =

@@ -1,10 +1,10 @@
--- Laws of what images stand for.
+-- Laws of what images represent.
 use Rattle.std.specs.Prelude.{◌≡◌, ℕ, List}
 use Rattle.flow_manifest.specs.declared.slots.Slots.{Slots}
 use Rattle.flow_recover.specs.State.{State, reopened}
 use Rattle.flow_recover.specs.Standing.{IsKnown, SameNamed, StandsFor}
 
--- An image stands for one state at most.
+-- An image represents one state at most.
 abbrev pub OneState : Type 0
 OneState = (image : ℕ → List ℕ) (a b : State) → StandsFor image a → StandsFor image b → a ≡ b
 
@@ -13,6 +13,6 @@ abbrev pub UnnamedFilesPlayNoPart : Type 0
 UnnamedFilesPlayNoPart = (before after : ℕ → List ℕ) (s : State) → SameNamed s.manifest before after
     → StandsFor before s → StandsFor after s
 
--- What an open archive knows of an image is that it stands for what is left of the archive on a disk.
+-- What an open archive knows of an image is that it represents what is left of the archive on a disk.
 abbrev pub KnownStands : Type 0
 KnownStands = (slots : Slots) (image : ℕ → List ℕ) (s : State) → IsKnown slots s image → StandsFor image (reopened s)

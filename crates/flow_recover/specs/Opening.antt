@@ -25,7 +25,7 @@ use Rattle.flow_manifest.specs.Following.{active_of, front_of}
 use Rattle.flow_manifest.specs.Slots.{AreSlots}
 use Rattle.flow_manifest.specs.declared.slots.Slots.{Slots}
 
--- the refusals of the layers below, told of an opening
+-- the refusals of the layers below as those of an opening
 abbrev pub of_disk : DiskError → RecoverError
 of_disk disk.Fault = Fault
 of_disk disk.OutOfMemory = OutOfMemory
@@ -49,11 +49,11 @@ of_rows (row.Damaged file at) = Damaged file at
 of_rows row.Fault = Fault
 of_rows row.OutOfMemory = OutOfMemory
 
--- the refusals that tell nothing of what the disk holds
+-- the refusals that say nothing of what the disk holds
 abbrev pub IsDeviceOrMemory : RecoverError → Type 0
 IsDeviceOrMemory e = (e ≡ Fault) ⊎ (e ≡ OutOfMemory)
 
--- an image that stands for no state
+-- an image that represents no state
 abbrev pub StandsForNone : (ℕ → List ℕ) → Type 0
 StandsForNone image = (s : State) → StandsFor image s → ⊥
 
@@ -96,8 +96,8 @@ FrozenStand octets (entry ∷ entries) (part ∷ parts) (x ∷ frozen) =
     StandsAs entry.kind (octets x) entry part × FrozenStand octets entries parts frozen
 
 -- What an opening has found: a state whose numbers are counted on every disk, whose active segment is one of accepted
--- messages, and whose files in front of the active one are frozen, each a file of this disk. On an honest disk what was
--- read stands for it, its files are an archive's, each image is known to hold it, and the frozen files hold its parts.
+-- messages, and whose files before the active one are frozen, each a file of this disk. On an honest disk what was read
+-- represents it, its files are an archive's, each image is known to hold it, and the frozen files hold its parts.
 pub record IsRecovered {D S : Type 0} (honest : D → Bool) (marks : D → ℕ → Marks) (held : D → ℕ → Held)
     (octets : S → List ℕ) (number size : S → ℕ) (is_honest : S → Bool) (reads : ℕ → List ℕ) (disk : D) (slots : Slots)
     (last : Entry) (end total : ℕ) (active : Part) (carry : Carry) (frozen : List S) : Type 0 where

@@ -20,19 +20,19 @@ is_misplaced Messages bare = false
 abbrev pub AreOf : Section → List Accepted → Type 0
 AreOf section messages = AllByRecursion (IsOf section) messages
 
--- Octets are accepted messages without data records, read from no templates, which hand this on.
+-- Octets are accepted messages without data records, read from no templates, which pass on this carry.
 abbrev pub IsRestatement : List ℕ → Carry → Type 0
 IsRestatement octets carry = (messages : List Accepted) × AreRead octets [] messages [] × AreOf Prefix messages
     × (carry ≡ carry_from (no_carry 0) messages)
 
--- ---- the prefix that is called for, as an opening holds it
+-- ---- the prefix that the next segment must have, as an opening holds it: none before the first segment
 
--- these octets are it
+-- these octets are that prefix, if there is one
 abbrev pub IsCalled : Option (Vec ℕ Global) → List ℕ → Type 0
 IsCalled None octets = Unit {0}
 IsCalled (Some called) octets = octets ≡ called.items
 
--- what is handed on calls for it; in front of all segments nothing does
+-- it is the prefix that this carry determines; before the first segment there is neither
 abbrev pub IsHeldBehind : Option Carry → Option (Vec ℕ Global) → Type 0
 IsHeldBehind None None = Unit {0}
 IsHeldBehind None (Some called) = ⊥

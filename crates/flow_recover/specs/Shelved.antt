@@ -19,14 +19,14 @@ rollup_of entry part = record { file = entry.file; messages = entry.messages; oc
 abbrev pub segment_of : Entry → Part → Segment
 segment_of entry part = record { file = entry.file; prefix = part.front; messages = part.messages }
 
--- a file in front of those of its kind
+-- a file put before those of its kind
 abbrev pub shelved_first : Kind → Entry → Part → Shelf → Shelf
 shelved_first Wide entry part s = record s { merged = rollup_of entry part ∷ s.merged }
 shelved_first Rolled entry part s = record s { rolled = rollup_of entry part ∷ s.rolled }
 shelved_first Sealed entry part s = record s { sealed = segment_of entry part ∷ s.sealed }
 shelved_first Active entry part s = s
 
--- these files in front of others
+-- these files put before others
 abbrev pub shelved : List Entry → List Part → Shelf → Shelf
 shelved [] parts s = s
 shelved (entry ∷ entries) [] s = s

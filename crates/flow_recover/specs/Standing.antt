@@ -1,4 +1,4 @@
--- What an image stands for.
+-- What an image represents.
 use Rattle.std.specs.Prelude.{◌≡◌, ◌⊎◌, ℕ, ◌+◌, ◌<◌, ◌≤◌, ◌^◌, ◌==◌, ◌||◌, Bool, true, List, [], ◌∷◌, length, take}
 use Rattle.std.specs.List.{list_any}
 use Rattle.flow_gate.specs.Gate.{StandInRow, IsGated, octet_sum}
@@ -31,14 +31,14 @@ pub record IsActiveAt (octets : List ℕ) (entry : Entry) (part : Part) : Type 0
   pub front : take entry.prefix octets ≡ part.front
   pub gated : IsGated octets entry.prefix part.messages
 
--- what a file stands as that an entry names in front of the active one
+-- a file before the active one holds this part, by the kind of its entry
 abbrev pub StandsAs : Kind → List ℕ → Entry → Part → Type 0
 StandsAs Wide octets entry part = IsRolledAt octets entry part
 StandsAs Rolled octets entry part = IsRolledAt octets entry part
 StandsAs Sealed octets entry part = IsSealedAt octets entry part
 StandsAs Active octets entry part = ⊥
 
--- each of these files stands as its part
+-- each of these files holds its part
 abbrev pub PartsStand : (ℕ → List ℕ) → List Entry → List Part → Type 0
 PartsStand image [] [] = Unit {0}
 PartsStand image [] (part ∷ parts) = ⊥
@@ -51,21 +51,21 @@ pub record IsWithinLimits (s : State) : Type 0 where
   pub limit : octet_sum s.active.messages ≤ s.manifest.limit
   pub all : messages_of s.manifest.entries + length s.active.messages < 2 ^ 48
 
--- the files that the manifest names hold this, and it is an archive's
+-- The files that the manifest names hold this state's parts, which are within its limits and chained.
 pub record HoldsFiles (image : ℕ → List ℕ) (s : State) : Type 0 where
   pub parts : PartsStand image (front_of s.manifest) s.parts
   pub active : IsActiveAt (image (active_of s.manifest).file) (active_of s.manifest) s.active
   pub within : IsWithinLimits s
   pub chained : IsChained s
 
--- An image stands for a state: its manifest is in force, the files hold what they are to hold, and nothing is under
+-- An image represents a state: its manifest is in force, the files hold what they are to hold, and nothing is under
 -- way.
 pub record StandsFor (image : ℕ → List ℕ) (s : State) : Type 0 where
   pub force : IsInForce image s.manifest
   pub files : HoldsFiles image s
   pub at_rest : s ≡ reopened s
 
--- for one of the two
+-- an image represents one of the two
 abbrev pub StandsForEither : State → State → (ℕ → List ℕ) → Type 0
 StandsForEither a b image = StandsFor image a ⊎ StandsFor image b
 

@@ -7,8 +7,8 @@ use Rattle.flow_manifest.specs.declared.manifest.Manifest.{Manifest}
 use Rattle.flow_recover.specs.declared.active.ActiveSegment.{ActiveSegment}
 use Rattle.flow_manifest.specs.Following.{active_of, active_entry, next_manifest}
 
--- One file of an archive: what stands in front of its messages, and the messages. In front of those of a segment stands
--- its prefix; a rolled or wide file has none, and all of it stands in front.
+-- One file of an archive: the octets before its messages (`front`), and the messages. The `front` of a segment is its
+-- prefix; a rolled or wide file has no messages, and is all `front`.
 pub record Part : Type 0 where
   pub front : List ℕ
   pub messages : List (List ℕ)
@@ -57,13 +57,13 @@ at_rest m parts active = record {
 abbrev pub part_of : ActiveSegment → Part
 part_of segment = record { front = segment.prefix.items; messages = texts segment.messages.items }
 
--- the end of the active segment's messages, where its closed gate stands
+-- the end of the active segment's messages, where its closed gate is
 abbrev pub end_of : State → ℕ
 end_of s = (active_of s.manifest).prefix + octet_sum s.active.messages
 
 -- ---- events
 
--- messages more in the active segment
+-- these messages appended to the active segment
 abbrev pub appended : State → List (List ℕ) → State
 appended s more = record s { active = record { front = s.active.front; messages = s.active.messages ++ more } }
 

@@ -3,7 +3,7 @@
 /// A segment's prefix and its messages.
 #[derive(Drop)]
 pub struct ActiveSegment {
-    /// The octets in front of the messages.
+    /// The octets before the messages.
     pub prefix: Vec<u8>,
     /// Each message's octets, in order.
     pub messages: Vec<Vec<u8>>,

@@ -1,4 +1,4 @@
-//! What the octets of an archive's files are: sums, and segments of accepted messages, each behind the one before it.
+//! What the octets of an archive's files are: sums, and a chain of segments of accepted messages.
 
 ghost use Rattle.std.specs.Prelude.{◌≡◌, ◌≢◌, ◌<◌, List, [], Option, length, OnOk, IfOk, IfErr};
 ghost use Rattle.flow_measure.specs.History.{Accepted};
@@ -19,7 +19,7 @@ use flow_rolled::{RolledError, decode_rows};
 use flow_segment::Carry;
 use std::alloc::Global;
 
-/// Takes in a segment's prefix, which is to be these octets, if the segment isn't the first one.
+/// Takes in a segment's prefix, which must be `called` if the segment isn't the first one.
 fn read_prefix(
     carry: &mut Carry,
     alloc: Global,
@@ -64,7 +64,7 @@ fn take_active(
     Ok(())
 }
 
-/// What the active segment hands on, whose prefix is to be these octets, if it isn't the first segment.
+/// The carry that the active segment passes on; its prefix must be `called` if it isn't the first segment.
 pub(crate) fn read_segment(
     alloc: Global,
     called: &Option<Vec<u8>>,
@@ -113,8 +113,8 @@ fn take_sealed(
     Ok(())
 }
 
-/// The prefix that a sealed segment with these octets calls for, whose own prefix is to be these octets, if it isn't
-/// the first segment.
+/// The prefix that the segment after the sealed one with these octets must have. The sealed one's own prefix must be
+/// `called` if it isn't the first segment.
 fn read_sealed(
     alloc: Global,
     called: &Option<Vec<u8>>,
@@ -148,7 +148,7 @@ fn read_rolled(alloc: Global, width: u32, file: u64, octets: &[u8]) -> Result<()
     }
 }
 
-/// Why octets are no rolled file, told of their file.
+/// The refusal of octets that are no rolled file.
 fn told(fault: RolledError, file: u64) -> RecoverError
     ensures memory { fault ≡ RolledError.OutOfMemory → result ≡ RecoverError.OutOfMemory }
     ensures device { result ≢ RecoverError.Fault }
@@ -159,8 +159,8 @@ fn told(fault: RolledError, file: u64) -> RecoverError
     }
 }
 
-/// Looks whether the octets of an entry's file are what they are to be, behind files that call for this prefix, and
-/// tells what is called for behind it.
+/// Checks the octets of an entry's file. `called` is the prefix that the next segment must have, if a segment is before
+/// it; the answer is the same after this file.
 pub(crate) fn kept_of(
     alloc: Global,
     manifest: &Manifest,

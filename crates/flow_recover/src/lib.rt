@@ -1,12 +1,12 @@
-//! Opening an archive: what an image of a disk stands for, and the state that is found on it.
+//! Opening an archive: what an image of a disk represents, and the state that is found on it.
 //!
-//! Promised to the layers above: an image stands for one state at most, files that its manifest doesn't name play no
-//! part, and what an open archive knows of an image is that it stands for what is left of the archive on a disk.
+//! Promised to the layers above: an image represents one state at most, files that its manifest doesn't name play no
+//! part, and what an open archive knows of an image is that it represents what is left of the archive on a disk.
 //! The shelf of a state has one view, and an archive's events move its history; a job moves its cuts alone.
-//! Opening looks at what the files mean: messages are accepted, each prefix is the one that the segment before calls
-//! for, and rolled files are sums. It keeps at every moment what each image stood for, and refuses for other reasons
-//! than the device and memory only where what is read stands for no state. What it finds is the state for which what is
-//! read stands, with what its active segment hands on.
+//! Opening looks at what the files mean: messages are accepted, each prefix is the one that the segment before it
+//! determines, and rolled files are sums. It keeps at every moment what each image represented, and refuses for other
+//! reasons than the device and memory only where what is read represents no state. It finds the state that what is read
+//! represents, and the carry that its active segment passes on.
 //! It cuts each file that the manifest names exactly where it is to end, leaves those before the active one frozen,
 //! removes what the manifest doesn't name, and only settles the slots.
 #![tactic(auto)]

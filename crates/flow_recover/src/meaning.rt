@@ -20,15 +20,15 @@ ghost use Rattle.flow_recover.specs.Shelved.{shelf_of, HasHistory};
 ghost use Rattle.flow_recover.specs.Standing.{HoldsFiles, PartsStand};
 
 /// A state whose files are an archive's has a view, and no other: the sums of its wide and rolled files, and the
-/// messages of its segments, each accepted behind those before it.
+/// messages of its segments, each accepted after those before it.
 pub fn one_view_of_a_state()
     ensures there { (s : State) → IsChained s → (v : View) × IsViewOf (shelf_of s) v }
     ensures one { (s : State) (v w : View) → IsValidManifest s.manifest → IsViewOf (shelf_of s) v
         → IsViewOf (shelf_of s) w → v ≡ w }
 {}
 
-/// What the events of an archive mean. A new archive has an empty history. Messages that are accepted behind what it
-/// hands on are messages more of its history; a seal leaves the history as it is.
+/// What the events of an archive mean. A new archive has an empty history. Messages that are accepted with the
+/// templates that it passes on are added to its history; a seal leaves the history as it is.
 pub fn events_and_history()
     ensures start { (width wide limit : ℕ) → 0 < width → 0 < wide → wide % width ≡ 0
         → HasHistory (empty_state width wide limit) (new_history width wide) }
@@ -39,11 +39,11 @@ pub fn events_and_history()
         → 1 ≤ length s.active.messages → HasHistory s h → HasHistory (moved_on s (prefix_of c)) h }
 {}
 
-/// What jobs mean. They add what they make of one source after the other. What their sources hold is what the history
-/// has there. A file of sums takes the place of its sources. Where a roll has summed the oldest segments' messages by
-/// the width, or a merge the oldest rolled files' messages by the wide width, the cut, or the second cut, rises by
-/// these messages, and every other one stays where it was. What the archive hands on stays; and what the disk holds for
-/// the state before is what it holds for the one behind the install, once the file of sums is there.
+/// What jobs mean. A job adds the sums of one source after the other, which are the sums of the history's messages in
+/// these sources. Its file of sums takes the place of its sources. A roll of the oldest segments, by the width, raises
+/// the cut by their messages, a merge of the oldest rolled files, by the wide width, the second cut, and nothing else
+/// of the history changes. The archive passes on the same carry. A disk that holds the files of the state before, and
+/// the file of sums, holds those of the state after the install.
 pub fn jobs_and_history()
     ensures hands_on { (s : State) (c : Carry) (kind : JobKind) (count : ℕ) (file : StagedFile) (table : Table)
         → IsValidManifest s.manifest → HandsOn s c → count ≤ count_of (source_of kind) s.manifest.entries

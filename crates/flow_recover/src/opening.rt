@@ -40,9 +40,9 @@ pub struct Recovered<D: Disk> {
     pub total: u64,
     /// The active segment.
     pub active: ActiveSegment,
-    /// What the active segment hands on.
+    /// The carry that the active segment passes on.
     pub carry: Carry,
-    /// The files in front of the active one, in the manifest's order.
+    /// The files before the active one, in the manifest's order.
     pub parts: Vec<D::Sealed>,
 }
 
@@ -54,7 +54,7 @@ struct Found {
     files: Files,
 }
 
-/// Makes what the disk reads as all that a stop may leave, and tells what archive that is.
+/// Settles the slots and the files that the manifest names, checks them, tidies the disk, and answers what it found.
 pub fn recover<D: Disk>(alloc: Global, disk: &mut D) -> Result<Recovered<D>, RecoverError>
     requires thawed { (n : ℕ) → (D.marks disk.old n).frozen ≡ false }
     ensures honest { D.honest disk.new ≡ D.honest disk.old }
@@ -70,7 +70,7 @@ pub fn recover<D: Disk>(alloc: Global, disk: &mut D) -> Result<Recovered<D>, Rec
         → IfErr result (λ e. IsDeviceOrMemory e ⊎ StandsForNone (reads_of (D.held disk.old))) }
 
     // The files that the manifest names end exactly where they are to: on every disk, and on an honest one in all that
-    // a stop may leave. So do the frozen files that are handed on, and on an honest disk they have as many octets.
+    // a stop may leave. So do the frozen files in the answer, and on an honest disk they have as many octets.
     ensures cut { IfOk result (λ r. AreCutTo (λ n. (D.marks disk.new n).size) r.slots.current r.end) }
     ensures cut_images { IsTrue (D.honest disk.old) → IfOk result (λ r. AllImages (D.held disk.new)
         (λ image. AreCutTo (λ n. length (image n)) r.slots.current r.end)) }
@@ -79,8 +79,8 @@ pub fn recover<D: Disk>(alloc: Global, disk: &mut D) -> Result<Recovered<D>, Rec
     ensures lengths { IsTrue (D.honest disk.old) → IfOk result
         (λ r. map (λ f. length (D.Sealed.octets f)) r.parts.items ≡ map (λ e. e.length) (front_of r.slots.current)) }
 
-    // The slots are only settled: whatever is answered, a stop may leave no more of them than before, and unless the
-    // device failed they read as before.
+    // The slots are only settled: whatever is answered, each image of a slot was one before, and unless the device
+    // failed they read as before.
     ensures slots { IsTrue (D.honest disk.old)
         → (slot : Slot) → IsWithin (D.held disk.new (file_of slot)) (D.held disk.old (file_of slot)) }
     ensures kept { IsTrue (D.honest disk.old) → (IsErrOf result RecoverError.Fault → ⊥)
@@ -101,7 +101,7 @@ pub fn recover<D: Disk>(alloc: Global, disk: &mut D) -> Result<Recovered<D>, Rec
     })
 }
 
-/// Settles what counts of the disk, and reads it.
+/// Settles the slots and the files that the manifest names, and reads and checks them.
 fn find<D: Disk>(alloc: Global, disk: &mut D) -> Result<Found, RecoverError>
     // On every disk.
     ensures honest { D.honest disk.new ≡ D.honest disk.old }

@@ -36,11 +36,11 @@ const TOO_MANY_MESSAGES: u64 = 1 << 48;
 pub(crate) struct Files {
     /// The active segment.
     pub(crate) active: ActiveSegment,
-    /// The place of the closed gate behind its messages.
+    /// The place of the closed gate after its messages.
     pub(crate) end: u64,
     /// How many messages there are in all.
     pub(crate) total: u64,
-    /// What the active segment hands on.
+    /// The carry that the active segment passes on.
     pub(crate) carry: Carry,
 }
 
@@ -151,7 +151,8 @@ fn read_active<D: Disk>(
     Ok((segment, tail.end))
 }
 
-/// Reads the files in front of the active one, and tells the prefix that the last segment among them calls for.
+/// Reads and checks the files before the active one. Answers the prefix that the active segment must have, if a segment
+/// is before it.
 fn read_entries<D: Disk>(
     alloc: Global,
     disk: &mut D,
@@ -184,7 +185,8 @@ fn read_entries<D: Disk>(
     Ok(called)
 }
 
-/// Reads the file of an entry, behind files that call for this prefix, and tells what is called for behind it.
+/// Reads and checks the file of an entry. `called` is the prefix that the next segment must have, if a segment is
+/// before it; the answer is the same after this file.
 fn read_part<D: Disk>(
     alloc: Global,
     disk: &mut D,

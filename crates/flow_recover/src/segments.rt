@@ -1,4 +1,4 @@
-//! The messages of segments, each accepted behind those before it.
+//! The messages of segments, each accepted after those before it.
 
 ghost use Rattle.std.specs.Prelude.{◌≡◌, ◌≢◌, ◌+◌, ◌<◌, ◌^◌, List, [], length, IfOk, IfErr, OnOk};
 ghost use Rattle.flow_codec.specs.Message.{IsAccepted};
@@ -22,7 +22,7 @@ pub(crate) enum Section {
     Messages,
 }
 
-/// Takes in a message, which stands at this place of this file, behind those before it.
+/// Takes in the message at this place of a file, after those before it.
 pub(crate) fn take_message(
     carry: &mut Carry,
     alloc: Global,
@@ -49,7 +49,7 @@ pub(crate) fn take_message(
     }
 }
 
-/// Whether a message that has data records, or none, doesn't belong there.
+/// Whether a message doesn't belong in this section: it has data records, and the section is a prefix.
 fn is_misplaced(section: Section, bare: bool) -> bool
     ensures { result ≡ is_misplaced section bare }
 {
@@ -59,7 +59,7 @@ fn is_misplaced(section: Section, bare: bool) -> bool
     }
 }
 
-/// A message's fault, told of its file and its place.
+/// The refusal of a message at this place of a file.
 fn told(fault: MessageError, file: u64, at: u64) -> RecoverError
     ensures memory { fault ≡ MessageError.OutOfMemory → result ≡ RecoverError.OutOfMemory }
     ensures device { result ≢ RecoverError.Fault }
@@ -70,7 +70,7 @@ fn told(fault: MessageError, file: u64, at: u64) -> RecoverError
     }
 }
 
-/// Takes in the messages of these octets, which stand at a place of a file, and counts them.
+/// Takes in the messages of these octets, which start at this place of a file, and counts them.
 pub(crate) fn take_octets(
     carry: &mut Carry,
     alloc: Global,
@@ -102,7 +102,7 @@ pub(crate) fn take_octets(
     Ok(count)
 }
 
-/// Takes in these messages, the first of which stands at a place of a file.
+/// Takes in these messages, the first of which starts at this place of a file.
 pub(crate) fn take_list(
     carry: &mut Carry,
     alloc: Global,

@@ -1,4 +1,4 @@
-//! The first of an opening: what a stop may leave becomes what is read.
+//! The first part of an opening: files are settled, so that a stop leaves what is read.
 
 ghost use Rattle.std.specs.Prelude.{◌≡◌, ◌≢◌, ◌⊎◌, ℕ, ◌≤◌, true, false, IsTrue, List, length, OnOk, IfOk, IfErr};
 ghost use Rattle.std.specs.List.{AllByRecursion};

@@ -169,7 +169,7 @@ pub(crate) fn remove_unnamed<D: Disk>(
     Ok(())
 }
 
-/// Cuts and freezes the files before the active one, cuts the active one behind its trailer, and removes what the
+/// Cuts and freezes the files before the active one, cuts the active one after its trailer, and removes what the
 /// manifest doesn't name.
 pub(crate) fn tidy<D: Disk>(
     alloc: Global,

@@ -1,4 +1,4 @@
-//! The run: each thing that is refused for want of memory is told, and asked once more.
+//! The run: each thing that is refused is reported, and asked once more.
 
 use crate::events::{Asked, MERGE, ROLL};
 use crate::sharing::share;
@@ -26,12 +26,11 @@ pub(crate) const TRIES: usize = 2;
 /// After each start.
 pub(crate) const NEVER: u64 = 1 << 32;
 
-/// Why the run ended before its end: a thing was refused twice, for want of memory or for another reason, or a line was
-/// not written.
+/// Why the run ended before its end: a thing was refused twice, or a line was not written.
 #[derive(Drop)]
 pub(crate) struct Ended;
 
-/// Tells of a refusal.
+/// Reports a refusal.
 pub(crate) fn refused<W: Write>(errors: &mut W, why: impl Display + Drop) {
     let _ = writeln!(errors, "{why}");
 }
@@ -182,7 +181,7 @@ fn write_rows<D: Disk, O: Write, W: Write>(
     Ok(())
 }
 
-/// The run over an archive: both lists of events, and all rows behind each.
+/// The run over an archive: both lists of events, and all rows after each.
 fn through<D: Disk, O: Write, W: Write>(
     archive: &mut Archive<D>,
     alloc: Global,

@@ -1,5 +1,5 @@
-//! The run of an archive that threads share: appends, a seal, turns of rolling, and one reader. What readers aren't shown
-//! for want of memory is shown by `refresh`.
+//! The run of an archive that threads share: appends, a seal, turns of rolling, and one reader. Steps that readers
+//! aren't shown because memory was refused are shown by `refresh`.
 
 ghost use Rattle.std.specs.Prelude.{◌≡◌};
 ghost use Rattle.flow_recover.specs.Shelved.{shelf_of};

@@ -1,4 +1,4 @@
-//! What readers ask of a snapshot, and how it is told.
+//! What readers ask of a snapshot, and how the answers are written.
 
 use flow_disk::{Faults, SealedFile};
 use flow_measure::{Flow, Row};

@@ -1,5 +1,5 @@
-//! The program flow_replay: plays scripts of archives on disks in memory, with stops and faults where that is asked, and
-//! tells each answer that isn't the one that is wanted.
+//! The program flow_replay: plays scripts of archives on disks in memory, with stops and faults where that is asked,
+//! and reports each answer that isn't the one that is wanted.
 #![tactic(auto)]
 
 mod asked;

@@ -11,7 +11,7 @@ use flow_scripts::{Command, Failing, Line, Part, Script, Widths};
 use std::alloc::{AllocError, Global};
 use std::sync::Wait;
 
-/// Room for scripts that don't tell a size.
+/// Room for scripts that don't give a size.
 const ROOM: Room = Room {
     files: 96,
     octets: 300_000,
@@ -32,7 +32,7 @@ pub(crate) fn room_of(script: &Script<'_>) -> Room {
     }
 }
 
-/// What a line answers that begins with an archive.
+/// The answer to a line that makes or opens an archive.
 #[derive(Drop)]
 pub(crate) enum Beginning<D: Disk> {
     /// There is one.
@@ -133,7 +133,8 @@ fn answer_part<D: Disk>(
     answer_all(alloc, stage, wear, name, lines, report)
 }
 
-/// The answers of a part whose archive is refused: whether it is played. It isn't where it is to be given once more.
+/// Compares the answers of a part whose archive is refused: whether it is played. It isn't where it will be given once
+/// more.
 fn refuse_part(
     alloc: Global,
     name: &str,

@@ -3,7 +3,7 @@
 use flow_scripts::Line;
 use std::alloc::{AllocError, Global};
 
-/// How many characters of a line are told.
+/// How many characters of a line are reported.
 const TOLD: usize = 100;
 
 /// What an answer ends by where memory is refused.
@@ -58,7 +58,7 @@ impl Report {
         gives
     }
 
-    /// Whether a line is given once more after this answer: one that ends by a want of memory, which isn't wanted.
+    /// Whether a line is given once more after this answer: one that ends in a refusal of memory, which isn't wanted.
     pub(crate) fn repeats(&mut self, line: &Line<'_>, came: &str) -> bool {
         came.ends_with(NO_MEMORY) && !line.wanted.ends_with(NO_MEMORY) && self.gives_again()
     }
@@ -68,7 +68,7 @@ impl Report {
         self.answers = self.answers.saturating_add(1);
     }
 
-    /// Counts an answer that differs, and tells it.
+    /// Counts an answer that differs, and reports it.
     pub(crate) fn tell(
         &mut self,
         alloc: Global,

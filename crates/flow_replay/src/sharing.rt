@@ -56,7 +56,7 @@ impl<D: Disk, J: Naming> Reading<D, J> {
         }
     }
 
-    /// What the snapshot answers that is held.
+    /// The answer of the snapshot that is held.
     fn held(&self, alloc: Global, question: &Question) -> Result<String, AllocError> {
         match &self.held {
             Some(snapshot) => asked(alloc, snapshot, self.narrow, question),

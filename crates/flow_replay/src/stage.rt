@@ -84,7 +84,7 @@ impl<D: Disk> Stage<D> {
         Ok(String::new(alloc))
     }
 
-    /// What the snapshot answers that is held.
+    /// The answer of the snapshot that is held.
     fn held(&self, alloc: Global, question: &Question) -> Result<String, AllocError> {
         match &self.held {
             Some(snapshot) => asked(alloc, snapshot, self.archive.width(), question),

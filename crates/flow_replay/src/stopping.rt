@@ -1,6 +1,6 @@
 //! Parts whose disk stops, or fails once: what an opening after that finds.
 //!
-//! A stop leaves the archive as it was before the event that it met, or as it was after that. Both are known from the
+//! A stop leaves the archive as it was before the event that it met, or as it was after it. Both are known from the
 //! part without a stop: by the `state` lines that follow its events, else by what its archive answers there.
 
 use crate::playing::{Beginning, begin};
@@ -11,10 +11,10 @@ use flow_memory_disk::{FusedDisk, MemoryDisk, OneFaultDisk, Room};
 use flow_scripts::{Command, Event, Line};
 use std::alloc::{AllocError, Global};
 
-/// What a call answers that the disk refuses.
+/// The answer to a call that the disk refuses.
 const FAULT: &str = "30 Fault";
 
-/// What a call answers of an archive that is closed.
+/// The answer of an archive that is closed.
 const CLOSED: &str = "49 Closed";
 
 /// Powers of two, whose sum is more than the calls of a part.
@@ -22,7 +22,7 @@ const STEPS: [u64; 14] = [
     8_192, 4_096, 2_048, 1_024, 512, 256, 128, 64, 32, 16, 8, 4, 2, 1,
 ];
 
-/// What is on a disk, all of it settled.
+/// The files of a disk, all of them settled.
 #[derive(Drop)]
 pub(crate) struct Image {
     room: Room,
@@ -30,7 +30,7 @@ pub(crate) struct Image {
 }
 
 impl Image {
-    /// What is on a disk that was given up without a stop, with room for lines.
+    /// The files of a disk that was given up without a stop, with room for lines.
     pub(crate) fn of(
         alloc: Global,
         disk: MemoryDisk,
@@ -101,7 +101,7 @@ pub(crate) struct Given<'a, 'b> {
 }
 
 /// How a run ended: how many events were taken, of which its beginning is the first; whether the next one met a fault;
-/// whether the archive is closed where that is so, and nowhere else; and the disk.
+/// whether the archive is closed after a fault, and not without one; and the disk.
 #[derive(Drop)]
 pub(crate) struct Ended<D: Disk> {
     pub(crate) taken: usize,
@@ -269,7 +269,7 @@ pub(crate) struct Trial<'a, 'b> {
     given: Given<'a, 'b>,
     states: Vec<String>,
     pub(crate) calls: u64,
-    /// How many of these make an archive. What a stop among them leaves is promised by nothing.
+    /// How many of these make an archive. Nothing is promised of what a stop among them leaves.
     pub(crate) making: u64,
 }
 
@@ -336,7 +336,7 @@ impl<'a, 'b> Trial<'a, 'b> {
         }
     }
 
-    /// What is on a disk after a stop, with room for the lines that were given.
+    /// The files of a disk after a stop, with room for the lines that were given.
     pub(crate) fn image_of(&self, alloc: Global, disk: MemoryDisk) -> Result<Image, DiskError> {
         Image::of(alloc, disk, self.given.lines)
     }

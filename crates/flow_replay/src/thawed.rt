@@ -26,7 +26,7 @@ impl<D: Disk> Thawed<D> {
         self.disk.sync(file)
     }
 
-    /// Writes octets at the front of each file from one on up to another.
+    /// Writes octets at the start of each file from one on up to another.
     fn fill(&mut self, from: u64, to: u64, octets: &[u8]) -> Result<(), DiskError> {
         for file in from..=to {
             self.put(file, 0, octets)?;
@@ -142,7 +142,7 @@ pub(crate) fn fused(disk: MemoryDisk, call: u64) -> Thawed<FusedDisk<MemoryDisk>
     }
 }
 
-/// The same, each of whose reads of a frozen file fails that reaches an octet.
+/// The same, where each read of a frozen file that reaches an octet fails.
 pub(crate) fn with_bad_reads(
     disk: MemoryDisk,
     file: u64,

@@ -13,7 +13,7 @@ pub(crate) enum Way {
     Faults,
     /// And its disk lies, in each of so many ways.
     Lies,
-    /// As they are, and what is refused for want of memory, which isn't wanted, is given once more.
+    /// As they are; what is refused because of memory, where that isn't wanted, is given once more.
     Memory,
 }
 

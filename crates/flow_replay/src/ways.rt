@@ -89,7 +89,7 @@ fn compare(
     Ok(report.tell(alloc, place.as_str(), wanted.as_str(), state)?)
 }
 
-/// Tells that an event is taken of an archive that a fault should have closed.
+/// Reports that an event was taken by an archive that a fault should have closed.
 fn tell_open(
     alloc: Global,
     scene: Scene<'_, '_>,

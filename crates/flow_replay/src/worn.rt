@@ -72,13 +72,13 @@ pub(crate) struct WornDisk<D: Disk> {
     wear: Wear,
 }
 
-/// What shows that a read of a `WornFile` failed: that the read of the file below it failed.
+/// Evidence that a read of a `WornFile` failed, since the read of the file below it failed.
 #[derive(Drop)]
 pub(crate) struct WornRead {
     _made_here: (),
 }
 
-/// A frozen file that may be damaged; none of it is where its damage couldn't be shared.
+/// A frozen file that may be damaged. It has no damage where memory to share it was refused.
 #[derive(Drop)]
 pub(crate) struct WornFile<S: SealedFile> {
     sealed: S,

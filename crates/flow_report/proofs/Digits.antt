@@ -1,4 +1,4 @@
--- The texts of octets that stand in tables.
+-- The texts of octets in tables.
 use Rattle.std.proofs.Common.{◌≡◌, ℕ, zero, suc, ◌-◌, ◌<◌, Bool, true, false, ◌&&◌, T, [], get_or, refl}
 use Rattle.std.proofs.Common.{inl, inr, arith, eq-zero-or-pos, ◌+◌, ◌≤◌, ◌∷◌, drop}
 use Rattle.std.proofs.lemmas.Slice.Eq.{bytes_eq-Decides}
@@ -31,7 +31,7 @@ pub HEX_at : (octet : ℕ) → octet < 256 → get_or HEX octet [] ≡ hex octet
 unfolding are_hex hex hex_digit
 HEX_at octet h = below 256 octet tt h
 
--- the octets from `first` on have their texts behind so many octets
+-- the octets from `first` on have their texts after so many octets of their entries
 are_parts : ℕ → ℕ → ℕ → Bool
 unfolding digits
 are_parts before first zero = true

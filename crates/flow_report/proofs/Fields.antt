@@ -13,7 +13,7 @@ use Rattle.flow_elements.specs.Values.{value_by}
 use Rattle.flow_report.specs.Lines.{octets_text, value_text, number_text, name_text, field_text}
 use Rattle.flow_report.specs.Telling.{IsPut}
 
--- what is left of a text that was put, without its first octets
+-- the rest of a text that was put, without its first octets
 pub put_tail : (old new : List ℕ) (at s n : ℕ) (text : List ℕ) → IsPut old at new s text → s + length text ≡ at
     → n ≤ length text → IsPut old at new (s + n) (drop n text)
 put_tail old new at s n text put size short = record {

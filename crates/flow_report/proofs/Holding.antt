@@ -186,7 +186,7 @@ refused_next old new before after fault number octets true step is same faulty c
 
 module _ (old new : Progress) (before after : AllTemplates) (number : ℕ) (octets : List ℕ) (b : Bool)
     (step : IsStep old (Ok b) new) (is : b ≡ true) (same : octets ≡ new.message) (counted : number ≡ new.count) where
-  -- a fault other than for want of memory
+  -- a fault other than OutOfMemory
   proper : (fault : MessageError) → (fault ≡ message.OutOfMemory → ⊥) → (fault ≡ message.OutOfMemory)
       ⊎ IsFault octets before fault → IsNext old before (Err (Message fault number)) new after
   proper fault not h = ⊎_elim (λ e. absurd (not e))

@@ -7,7 +7,7 @@ use Rattle.std.proofs.KnownBytes.{Appends-nil, Appends-trans}
 use Rattle.flow_report.specs.Writing.{AppendsFront}
 use Rattle.flow_report.specs.Telling.{Tells, TellsFront}
 
--- what comes is held
+-- the text that comes is held
 pub holds_more : (known : Option (List ℕ)) (held text new : List ℕ) → new ≡ held ++ text
     → Tells known held known new text
 holds_more known held text new e = record { written = []; parts = sym e; grown = Appends-nil known }
@@ -29,14 +29,14 @@ pub stops_then : (a b c : Option (List ℕ)) (held mid x y : List ℕ) → Tells
     → TellsFront a held c (x ++ y)
 stops_then a b c held mid x y p q = (q.0, tells_then a b c held mid q.0 x y p q.1)
 
--- a front of text is one of more text
+-- a prefix of text is one of more text
 pub stops_more : (a b : Option (List ℕ)) (held x y : List ℕ) → TellsFront a held b x → TellsFront a held b (x ++ y)
 stops_more a b held x y p =
     let parts : held ++ (x ++ y) ≡ p.1.written ++ (p.0 ++ y) = sym (append_assoc held x y)
     ∙ ap (λ (t : List ℕ). t ++ y) p.1.parts ∙ append_assoc p.1.written p.0 y in
     (p.0 ++ y, record { written = p.1.written; parts = parts; grown = p.1.grown })
 
--- what was held is written to some place
+-- a prefix of the text held is written
 pub front_told : (a b : Option (List ℕ)) (held : List ℕ) → AppendsFront a b held → TellsFront a held b []
 front_told a b held p = (
   drop p.0 held,
@@ -55,7 +55,7 @@ stops_after a b held text new e p =
     subst (λ (t : List ℕ). TellsFront a held b t) (append-nil text)
     (stops_then a a b held new text [] (holds_more a held text new e) p)
 
--- all that was told from nothing held on is written, once nothing is held
+-- all text since nothing was held is written, once nothing is held again
 pub all_written : (a b : Option (List ℕ)) (left text : List ℕ) → Tells a [] b left text → left ≡ [] → Appends a b text
 all_written a b left text p none = let same : text ≡ p.written = p.parts ∙ ap (λ (t : List ℕ). p.written ++ t) none
     ∙ append-nil p.written in subst (λ (t : List ℕ). Appends a b t) (sym same) p.grown
@@ -72,7 +72,7 @@ front_written a b text p =
 
 -- ---- text of many pieces
 
--- of this text a part is told, and the rest is still to come
+-- of this text a prefix has come, and the rest is still to come
 pub record IsTelling (old : Option (List ℕ)) (held : List ℕ) (now : Option (List ℕ))
     (left text rest : List ℕ) : Type 0 where
   pub front : List ℕ
@@ -82,7 +82,7 @@ pub record IsTelling (old : Option (List ℕ)) (held : List ℕ) (now : Option (
 pub begins : (a : Option (List ℕ)) (held text : List ℕ) → IsTelling a held a held text text
 begins a held text = record { front = []; told = holds_more a held [] held (sym (append-nil held)); parts = refl }
 
--- what is before the first piece is held
+-- the text before the first piece is held
 pub begins_after : (a : Option (List ℕ)) (held first text rest : List ℕ) → held ≡ first → text ≡ first ++ rest
     → IsTelling a [] a held text rest
 begins_after a held first text rest e parts =

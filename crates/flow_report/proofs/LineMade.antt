@@ -2,7 +2,7 @@
 use Rattle.std.proofs.Common.{◌≡◌, ◌∙◌, ℕ, List, [], ◌∷◌, ◌++◌, append_assoc, ap, refl, sym}
 use Rattle.std.specs.List.{join_with_byte}
 
--- what was held, and values after it, each with the octet that is between two
+-- the text held, and values after it, each followed by the octet between two
 abbrev pub with_values : ℕ → List ℕ → List (List ℕ) → List ℕ
 with_values s held [] = held
 with_values s held (v ∷ vs) = with_values s (held ++ v ++ s ∷ []) vs

@@ -100,7 +100,7 @@ module _ (input old : Option (List ℕ)) (reader : Progress) (here : AllTemplate
         few = step.5;
       }
 
-  -- an accepted message, with a front of its lines
+  -- an accepted message, with a prefix of its lines
   pub cuts_next : (unread : Option (List ℕ)) (m : HeldMessage) (next : Progress) (after : AllTemplates)
       (then : Option (List ℕ)) (e : Refusal)
       → IsNext reader here (Ok (Some m)) next after → IsCutIn now held then (message_text (message_of m)) e
@@ -125,7 +125,7 @@ module _ (input old : Option (List ℕ)) (reader : Progress) (here : AllTemplate
       cut_is octets ms then NumbersSpent f w short = absurd short
       cut_is octets ms then (Read failed) f w short = absurd short
 
-  -- what is held can't be written
+  -- the text held can't be written
   pub cuts_held : (unread then : Option (List ℕ)) (e : Refusal) → (failed : _) × (e ≡ Write failed)
       → TellsFront now held then [] → IfSome input (λ octets. IsDumpedUntil octets unread old then e)
   cuts_held unread then e write front =

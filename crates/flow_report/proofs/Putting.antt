@@ -1,4 +1,4 @@
--- How a line grows to its front.
+-- How a line grows towards its start.
 use Rattle.std.proofs.Common.{◌≡◌, ℕ, ◌+◌, ◌<◌, ◌≤◌, ◌/◌, ◌%◌, List, [], ◌∷◌, ◌++◌, Option, Some, None, IfSome, drop}
 use Rattle.std.proofs.Common.{◌≢◌, false, get_or, length, take, suc, refl, sym, ap, ◌∙◌, subst, append-nil}
 use Rattle.std.proofs.Common.{append_assoc, length-append, arith, zero, eqb, drop-cons}
@@ -20,7 +20,7 @@ put_both a b d at s t x y p q = record {
   parts = q.parts ∙ ap (λ (z : List ℕ). y ++ z) p.parts ∙ sym (append_assoc y x (drop at a));
 }
 
--- a text in front of a line's end is what the line ends by
+-- a line ends by the text that was put at its end
 pub put_last : (old new : List ℕ) (at start : ℕ) (text : List ℕ) → IsPut old at new start text → at ≡ length old
     → length new ≡ length old → EndsBy new start text
 put_last old new at start text p end same = (
@@ -131,7 +131,7 @@ field_put old new next at start then fs left front octets rest before value id l
         let back : drop len (value ++ behind) ≡ behind = drop_at value behind len size in
         rw (other, front, back) refl
 
--- a length that what is left has room for isn't the one that stands for a variable length
+-- a length that the octets left have room for isn't the one that means variable length
 pub rest_fixed : (old : List ℕ) (at : ℕ) (new : List ℕ) (start : ℕ) (fs left : List (ElementId × ℕ))
     (octets rest : List ℕ) (len : ℕ) → IsPutting old at new start fs left octets rest → length octets < 65535
     → len ≤ length rest → len ≢ 65535

@@ -1,4 +1,4 @@
--- What stands before the place that a reader of a File reached.
+-- The messages before the place that a reader of a File reached.
 use Rattle.std.proofs.Common.{◌≡◌, ℕ, ◌-◌, ◌^◌, List, [], length, Option, None, Some, IfSome, refl, sym, subst}
 use Rattle.std.proofs.Common.{append-nil, append_assoc, ◌++◌, ◌⊎◌, inl, inr, ap, ◌∙◌, arith}
 use Rattle.flow_codec.specs.Raw.{RawMessage}
@@ -19,7 +19,7 @@ pub opened : (reader : Held) (input : Option (List ℕ))
 opened reader None is = ap (λ (r : Held). progress r None) is
 opened reader (Some octets) is = ap (λ (r : Held). progress r (Some octets)) is
 
--- a reader has these octets, and its input these left, where reading failed: no message stands whole in them
+-- a reader has these octets, and its input these left, where reading failed: there is no whole message in them
 abbrev pub IsShort : Progress → List ℕ → Option (List ℕ) → Type 0
 IsShort reader ahead unread = Keeps reader.rest (prepend_known ahead unread) × IsUnfinished reader.at ahead
 
@@ -62,7 +62,7 @@ spent_at (Some octets) left at messages here (rest, is, run) count next = (
   },
 )
 
--- the messages behind which reading failed are all that stand whole in what was read
+-- the messages after which reading failed are all the whole messages in the octets that were read
 pub read_up : (input left unread : Option (List ℕ)) (at : ℕ) (messages : List RawMessage) (here : AllTemplates)
     (ahead : List ℕ) → Follows input left at messages here → Keeps left (prepend_known ahead unread)
     → IsUnfinished at ahead → IfSome input (λ octets. IsReadFront octets unread messages)

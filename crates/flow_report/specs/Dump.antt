@@ -22,7 +22,7 @@ use Rattle.flow_report.specs.Writing.{AppendsFront}
 
 -- ---- one message
 
--- the records that are held, each as many octets behind the one before as it has
+-- the records that are held; each has its count of octets, after those of the record before
 abbrev pub records_in : List HeldRecord → List ℕ → List RawRecord
 records_in [] octets = []
 records_in (r ∷ rs) octets = raw r.id r.definition (take r.len octets) ∷ records_in rs (drop r.len octets)
@@ -35,7 +35,7 @@ message_of m = record { header = m.header; records = records_in m.held.records.i
 abbrev pub AreWhole : HeldRecords → Type 0
 AreWhole h = sum_by (λ r. r.len) h.records.items ≡ length h.octets.items
 
--- from the first state on these records were taken
+-- from the first state to the second, these records were taken
 abbrev pub HasTaken : HeldRecords → List Placed → HeldRecords → Type 0
 HasTaken old taken new = AreWhole old → AreWhole new
     × (records_in new.records.items new.octets.items
@@ -58,7 +58,7 @@ IsNext old before (Err NumbersSpent) new after = (old.count ≡ 2 ^ 48 - 1) × I
 IsNext old before (Err (Read failed)) new after = ⊤
 IsNext old before (Err (Write failed)) new after = ⊤
 
--- Where reading failed nothing that was read is lost, and no message stands whole in what is held.
+-- Where reading failed, no octets that were read are lost, and those that are held hold no whole message.
 abbrev pub ReadsWithin : Held → Option (List ℕ) → Refusal → Held → Option (List ℕ) → Type 0
 ReadsWithin old left (Read failed) new after = StopsWithin old left (ReadStopped failed) new after
 ReadsWithin old left (Message fault number) new after = ⊤
@@ -76,8 +76,8 @@ IsDumped octets old new = (messages : List RawMessage) × (after : AllTemplates)
     × AcceptedFront octets messages after whole × Appends old new (dump_text messages)
 
 -- Why a run ended, the first fault by place, and what the writer took: all lines of the accepted messages before; where
--- a read failed, all lines of the messages that stand whole in what was read; where memory or the writer failed, a
--- front of the lines of some. `left` is what the input has left.
+-- a read failed, all lines of the whole messages in the octets that were read; where memory or the writer failed, a
+-- prefix of the lines of some. `left` are the octets left in the input.
 abbrev pub IsDumpedUntil : List ℕ → Option (List ℕ) → Option (List ℕ) → Option (List ℕ) → Refusal → Type 0
 IsDumpedUntil octets left old new (Message fault number) =
     (messages : List RawMessage) × (after : AllTemplates) × AcceptedFront octets messages after (refused fault)

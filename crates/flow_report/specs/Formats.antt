@@ -27,7 +27,7 @@ closing Lines = codes "\n"
 closing Csv = codes "\n"
 closing Json = codes "}\n"
 
--- what is before a value: in JSON its name in quotes, and a colon
+-- the text before a value: in JSON its name in quotes, and a colon
 abbrev pub name_before : Format → List ℕ → List ℕ
 name_before Lines name = []
 name_before Csv name = []
@@ -51,7 +51,7 @@ abbrev pub line_in : Format → List Named → List ℕ
 line_in format values =
     opening format ++ join_with_byte (separator format) (map (value_in format) values) ++ closing format
 
--- what is before all lines: in CSV a line of names
+-- the text before all lines: in CSV a line of names
 abbrev pub heading : Format → List (List ℕ) → List ℕ
 heading Lines names = []
 heading Csv names = join_with_byte 44 names ++ codes "\n"

@@ -49,11 +49,11 @@ number_text (Some enterprise) number = 101 ∷ decimal enterprise ++ 46 ∷ deci
 unfoldable pub name_text : ElementId → List ℕ
 name_text id = unwrap_or (name_of id) (number_text id.enterprise id.number)
 
--- NAME=VALUE, behind a space
+-- NAME=VALUE, after a space
 unfoldable pub field_text : Field → List ℕ
 field_text field = 32 ∷ name_text field.id ++ 61 ∷ value_text (value_of field.id field.octets)
 
--- which kind of template a record stands under, and its ID
+-- the kind of a record's template, and its ID
 unfoldable pub start_text : Bool → ℕ → List ℕ
 start_text options id = (if options then codes "options" else codes "record") ++ 32 ∷ decimal id
 

@@ -44,8 +44,8 @@ abbrev pub HasTotals : Format → ℕ → List ℕ → List ℕ → Type 0
 HasTotals format width octets lines = (messages : List RawMessage) × (after : AllTemplates)
     × AcceptedFront octets messages after whole × (lines ≡ lines_of format (table_of_all width messages))
 
--- What a refusal says of a File: the first fault by place; where a read failed, that all messages that stand whole in
--- what was read are accepted; nothing where memory or a writer failed. `left` is what the input has left.
+-- What a refusal says of a File: the first fault by place; where a read failed, that all whole messages in the octets
+-- that were read are accepted; nothing where memory or a writer failed. `left` are the octets left in the input.
 abbrev pub IsRefusedBy : List ℕ → Option (List ℕ) → Refusal → Type 0
 IsRefusedBy octets left (Message fault number) = (messages : List RawMessage) × (after : AllTemplates)
     × AcceptedFront octets messages after (refused fault) × (number ≡ length messages + 1)
@@ -57,7 +57,7 @@ IsRefusedBy octets left NumbersSpent = (messages : List RawMessage) × IsSpentFr
 IsRefusedBy octets left (Read failed) = (messages : List RawMessage) × IsReadFront octets left messages
 IsRefusedBy octets left (Write failed) = ⊤
 
--- What a writer holds after a refusal: what it held, or, where writing failed, a front of the lines besides.
+-- What a writer holds after a refusal: the octets it held, and, where writing failed, a prefix of the lines too.
 abbrev pub KeepsOrFront : Format → ℕ → Option (List ℕ) → Option (List ℕ) → Option (List ℕ) → Refusal → Type 0
 KeepsOrFront format width input old new (Write failed) =
     IfSome input (λ octets. (lines : List ℕ) × HasTotals format width octets lines × AppendsFront old new lines)

@@ -20,7 +20,7 @@ use flow_elements::ElementId;
 use std::alloc::{AllocError, Global};
 use std::io::{Read, Write};
 
-/// A data record: the definition that it stands under, and how many octets it has.
+/// A data record: the ID and definition of its template, and how many octets it has.
 #[derive(Drop)]
 struct HeldRecord {
     id: u16,
@@ -28,7 +28,7 @@ struct HeldRecord {
     len: usize,
 }
 
-/// Holds the data records of a message, their octets one behind the other. Its memory is kept for the next message.
+/// Holds the data records of a message, their octets one after the other. Its memory is kept for the next message.
 #[derive(Drop)]
 struct HeldRecords {
     records: Vec<HeldRecord>,
@@ -122,7 +122,7 @@ impl HeldText {
         Ok(())
     }
 
-    /// Puts what the line holds from a place on behind the text.
+    /// Appends the octets of the line from a place on to the text.
     fn push_line(&mut self, start: usize) -> Result<(), AllocError>
         requires { start ≤ vec_len self.old.line }
         ensures { OnOk result (self.new.text.items ≡ self.old.text.items ++ drop start self.old.line.items) }
@@ -130,7 +130,7 @@ impl HeldText {
         self.text.extend_from_slice(&self.line[start..])
     }
 
-    /// Puts a field of a record behind the text.
+    /// Appends a field of a record to the text.
     fn push_field(&mut self, id: ElementId, octets: &[u8]) -> Result<(), AllocError>
         ensures { OnOk result (self.new.text.items
             ≡ self.old.text.items ++ field_text (record { id = id; octets = octets.now })) }
@@ -142,7 +142,7 @@ impl HeldText {
         }
     }
 
-    /// Takes a field of a record, and writes what is held where that is much.
+    /// Takes a field of a record, and writes the text held once there is much of it.
     fn put_field<W: Write>(
         &mut self,
         output: &mut W,
@@ -232,7 +232,7 @@ impl HeldText {
         Ok(())
     }
 
-    /// Takes the lines of records, whose octets stand one behind the other.
+    /// Takes the lines of records, whose octets come one after the other.
     fn put_records<W: Write>(
         &mut self,
         output: &mut W,
@@ -277,7 +277,7 @@ impl HeldText {
 /// Writes the messages of the File that `input` reads, and their data records, a line each, as they are read.
 ///
 /// It holds one message, and text of some 64 KiB beside a field's. Where the File ends by a fault, a refused message or
-/// a failed read, the lines of all messages before are written; where memory runs out or writing fails, a front of the
+/// a failed read, the lines of all messages before are written; where memory runs out or writing fails, a prefix of the
 /// lines.
 pub fn dump<R: Read, W: Write>(alloc: Global, input: &mut R, output: &mut W) -> Result<(), Refusal>
     ensures dumped { OnOk result

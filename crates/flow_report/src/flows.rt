@@ -30,7 +30,7 @@ fn put_flow(line: &mut Vec<u8>, format: Format, flow: Flow)
     put_last(line, format, "packets", flow.packets);
 }
 
-/// What is before the lines of flows, where there is room: in CSV the names of their values.
+/// Appends the heading of flows, where there is room: in CSV the names of their values.
 fn put_flows_heading(line: &mut Vec<u8>, format: Format)
     requires { vec_len line.old + 428 ≤ vec_capacity line.old }
     ensures text { line.new.items ≡ line.old.items ++ heading format flow_names }
@@ -48,7 +48,7 @@ impl HeldText {
     ghost use Rattle.flow_report.specs.ArchiveLines.{flow_line};
     ghost use Rattle.flow_report.specs.Telling.{Tells, TellsFront};
 
-    /// Takes the line of a flow, and writes what is held where that is much.
+    /// Takes the line of a flow, and writes the text held once there is much of it.
     fn put_flow<W: Write>(
         &mut self,
         output: &mut W,

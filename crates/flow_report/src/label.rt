@@ -1,4 +1,4 @@
-//! What stands in front of a listed element's value on a record's line.
+//! The text before a listed element's value on a record's line.
 
 ghost use Rattle.std.specs.Prelude.{◌≡◌, ◌≤◌, ℕ, List, ◌∷◌, ◌++◌, [], drop, option_map, IfSome};
 ghost use Rattle.flow_elements.specs.Lending.{listed_of};
@@ -22,7 +22,7 @@ const EIGHT: ElementType = ElementType::Unsigned(Width::Eight);
 #[derive(Clone, Copy)]
 pub(crate) struct Label {
     pub(crate) octets: &'static [u8; LABEL_ROOM],
-    /// The octets in front of the text.
+    /// How many octets are before the text.
     pub(crate) before: usize,
     pub(crate) kind: ElementType,
 }

@@ -1,9 +1,9 @@
 //! What `measure` and `dump` write of an IPFIX File (RFC 5655), and lines of an archive's rows and flows.
 //!
 //! What the layers above may count on: `measure` writes the totals lines of the whole File or nothing, `dump` the lines
-//! of all messages before the first fault; a refusal is that of the first fault by place. Sums and flows are written
-//! in words, as CSV or as JSON. A writer bears a bounded number of interrupted calls, and is given a front of the text
-//! where it fails.
+//! of all messages before the first fault; a refusal is that of the first fault by place. Sums and flows are written in
+//! words, as CSV or as JSON. Interrupted writes are tried again a bounded number of times; where writing fails, the
+//! writer took a prefix of the text.
 #![tactic(auto)]
 
 mod dumping;

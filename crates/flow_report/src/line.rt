@@ -1,6 +1,6 @@
-//! Lines that are written from their end to their start: each call puts text in front of what stands from `at` on, and
-//! gives the place where that text begins. So the digits of a number are written where they stay. What stands in front
-//! of that place may be anything.
+//! Lines that are written from their end to their start: each call puts text right before the octets from `at` on, and
+//! answers the place where that text begins. So the digits of a number are written where they stay. The octets before
+//! that place may be anything.
 
 ghost use Rattle.std.specs.Prelude.{◌≡◌, ◌≤◌, ◌+◌, ◌*◌, ◌∷◌, ◌++◌, [], map, length, drop, codes, IfSome};
 ghost use Rattle.std.specs.Prelude.{if◌then◌else◌};
@@ -82,7 +82,7 @@ fn put_part_whole(line: &mut [u8], at: usize, octets: [u8; 4]) -> usize
     put_text(line, at, &octets)
 }
 
-/// A part of an address in decimal, and a dot in front of it: octets that are copied whole, as a label's are.
+/// A part of an address in decimal, after a dot: octets that are copied whole, as a label's are.
 fn put_part(line: &mut [u8], at: usize, octet: u8) -> usize
     requires { (4 ≤ at) × (at ≤ length line.old) }
     ensures put { IsPut line.old at line.new result (46 ∷ decimal octet) }
@@ -92,7 +92,7 @@ fn put_part(line: &mut [u8], at: usize, octet: u8) -> usize
     put_part_whole(line, at, part.octets) + part.before
 }
 
-/// An IPv4 address in dotted decimal. The dot in front of its first part is left out.
+/// An IPv4 address in dotted decimal. The dot before its first part is left out.
 fn put_address4(line: &mut [u8], at: usize, octets: [u8; 4]) -> usize
     requires { (83 ≤ at) × (at ≤ length line.old) }
     ensures put { IsPut line.old at line.new result (join_with_byte 46 (map decimal octets)) }
@@ -114,7 +114,7 @@ fn put_hex(line: &mut [u8], at: usize, octet: u8) -> usize
     put_text(line, at, &hex_of(octet))
 }
 
-/// An octet in hexadecimal, and a colon in front of it.
+/// An octet in hexadecimal, after a colon.
 fn put_mac_part(line: &mut [u8], at: usize, octet: u8) -> usize
     requires { (3 ≤ at) × (at ≤ length line.old) }
     ensures put { IsPut line.old at line.new result (58 ∷ hex octet) }
@@ -150,7 +150,7 @@ fn put_pair(line: &mut [u8], at: usize, a: u8, b: u8) -> usize
     put_hex(line, at, a)
 }
 
-/// Two octets in hexadecimal, and a colon in front of them.
+/// Two octets in hexadecimal, after a colon.
 fn put_group(line: &mut [u8], at: usize, a: u8, b: u8) -> usize
     requires { (5 ≤ at) × (at ≤ length line.old) }
     ensures put { IsPut line.old at line.new result (58 ∷ octets_text (a ∷ b ∷ [])) }
@@ -223,7 +223,7 @@ fn put_named(line: &mut [u8], at: usize, label: Label, octets: &[u8]) -> usize
     put_label(line, at, label)
 }
 
-/// An element's number, behind that of its enterprise where it has one.
+/// An element's number, after that of its enterprise where it has one.
 fn put_element_number(line: &mut [u8], at: usize, id: ElementId) -> usize
     requires { (42 ≤ at) × (at ≤ length line.old) }
     ensures put { IsPut line.old at line.new result (number_text id.enterprise id.number) }
@@ -297,7 +297,7 @@ fn put_fields(
     Some(start)
 }
 
-/// Which kind of template a record stands under, copied whole as a label is.
+/// The kind of a record's template, copied whole as a label is.
 fn put_kind(line: &mut [u8], at: usize, options: bool) -> usize
     requires { (32 ≤ at) × (at ≤ length line.old) }
     ensures { IsPut line.old at line.new result (if options then codes "options" else codes "record") }
@@ -348,7 +348,7 @@ pub(crate) fn end_by_record(
 {
     let fields = definition.fields();
     let end = line.len();
-    // A field's room is that of 64 octets of values, and one such stands for what else the line has.
+    // A field's room is that of 64 octets of values, and one such room is for the rest of the line.
     if end / FIELD_ROOM < fields.len().saturating_add(octets.len() / 64 + 2) {
         return None;
     }

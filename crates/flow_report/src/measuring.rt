@@ -89,7 +89,7 @@ pub fn measure<R: Read, W: Write>(
     // A refusal is that of the first fault by place.
     ensures refused { IfErr result (λ e. IfSome (R.remaining input.old)
         (λ octets. IsRefusedBy octets (R.remaining input.new) e)) }
-    // After one nothing is written, or, where writing failed, a front of the lines.
+    // After one nothing is written, or, where writing failed, a prefix of the lines.
     ensures kept { IfErr result
         (λ e. KeepsOrFront format width (R.remaining input.old) (W.contents output.old) (W.contents output.new) e) }
 {

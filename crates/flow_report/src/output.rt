@@ -13,8 +13,8 @@ pub(crate) const MOST_HELD: usize = 65_536;
 /// The octets of the room in which a record's line is written, until a longer field comes.
 const LINE_ROOM: usize = 32_768;
 
-/// Text that is held until there is much of it. Room for that much, and for a line of totals behind it, is taken
-/// where it is made; so is room for one line that is written before it is held.
+/// Text that is held until there is much of it. Room for that much, and for a line of totals after it, is taken where
+/// it is made; so is room in which one line is written before it is held.
 #[derive(Drop)]
 pub(crate) struct HeldText {
     pub(crate) text: Vec<u8>,

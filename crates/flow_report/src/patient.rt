@@ -1,4 +1,4 @@
-//! Writing that bears a bounded number of interrupted calls.
+//! Writing that tries again after a bounded number of interrupted calls.
 
 ghost use Rattle.std.specs.Prelude.{◌≡◌, ◌≤◌, length, OnOk, OnErr, IfOk, take};
 ghost use Rattle.std.specs.Io.KnownBytes.{Appends, Keeps};
@@ -6,24 +6,24 @@ ghost use Rattle.flow_report.specs.Writing.{AppendsFront};
 
 use std::io::{ErrorKind, Write};
 
-/// The interrupted calls at which a run gives up.
+/// The count of interrupted calls at which a run gives up.
 pub const MOST_INTERRUPTS: u32 = 1_000_000;
 
-/// Writing stopped: a write failed or took nothing, or as many calls were interrupted as a run bears.
-/// Only this module makes one, where that is so.
+/// Writing stopped: a write failed or took nothing, or 1,000,000 calls of the run were interrupted. Only this module
+/// makes one, where that is so.
 #[derive(Debug, Drop)]
 pub struct WriteFailed {
     _made_here: (),
 }
 
-/// The interrupted calls that a run still bears.
+/// How many interrupted calls a run has left, counting the one that gives up.
 #[derive(Debug, Drop)]
 pub struct Patience {
     left: u32,
 }
 
 impl Patience {
-    /// That of a whole run.
+    /// For a whole run.
     pub fn new() -> Patience
         ensures { result.left ≡ 1000000 }
     {
@@ -57,7 +57,7 @@ fn write_some<W: Write>(
     Err(WriteFailed { _made_here: () })
 }
 
-/// Writes all octets. After an `Err` the writer took a front of them.
+/// Writes all octets. After an `Err` the writer took a prefix of them.
 pub fn write_patiently<W: Write>(
     output: &mut W,
     octets: &[u8],

@@ -16,7 +16,7 @@ use std::fmt;
 pub enum Refusal {
     /// The message of this number, from 1, is refused by 1 to 10.
     Message { fault: MessageError, number: u64 },
-    /// What stands behind the accepted messages is no message: 15 to 17.
+    /// The octets after the accepted messages are no message: 15 to 17.
     File(FileError),
     OutOfMemory,
     /// A sum would pass its type.

@@ -48,7 +48,7 @@ fn put_row(line: &mut Vec<u8>, format: Format, usual: u32, row: Row)
     }
 }
 
-/// What is before the lines of rows, where there is room: in CSV the names of their values.
+/// Appends the heading of rows, where there is room: in CSV the names of their values.
 pub(crate) fn put_rows_heading(line: &mut Vec<u8>, format: Format)
     requires { vec_len line.old + 428 ≤ vec_capacity line.old }
     ensures text { line.new.items ≡ line.old.items ++ heading format row_names }
@@ -66,7 +66,7 @@ impl HeldText {
     ghost use Rattle.flow_report.specs.ArchiveLines.{row_line};
     ghost use Rattle.flow_report.specs.Telling.{Tells, TellsFront};
 
-    /// Takes the line of a row, and writes what is held where that is much.
+    /// Takes the line of a row, and writes the text held once there is much of it.
     pub(crate) fn put_row<W: Write>(
         &mut self,
         output: &mut W,

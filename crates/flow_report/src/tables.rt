@@ -1,4 +1,4 @@
-//! Texts of octets that stand in tables.
+//! Tables of the texts of octets.
 
 ghost use Rattle.std.specs.Prelude.{◌≡◌, ◌≤◌, ◌∷◌, drop};
 ghost use Rattle.std.specs.Fmt.{decimal};
@@ -37,7 +37,7 @@ pub(crate) fn hex_of(octet: u8) -> [u8; 2]
     HEX[octet as usize]
 }
 
-/// Each octet in decimal behind a dot, at the end of four octets.
+/// Each octet in decimal after a dot, at the end of four octets.
 static PARTS: [[u8; 4]; 256] = [
     *b"  .0", *b"  .1", *b"  .2", *b"  .3", *b"  .4", *b"  .5", *b"  .6", *b"  .7", *b"  .8",
     *b"  .9", *b" .10", *b" .11", *b" .12", *b" .13", *b" .14", *b" .15", *b" .16", *b" .17",
@@ -70,15 +70,15 @@ static PARTS: [[u8; 4]; 256] = [
     *b".252", *b".253", *b".254", *b".255",
 ];
 
-/// An octet in decimal behind a dot, at the end of octets that are copied whole.
+/// An octet in decimal after a dot, at the end of octets that are copied whole.
 #[derive(Clone, Copy)]
 pub(crate) struct Part {
     pub(crate) octets: [u8; 4],
-    /// The octets in front of the text.
+    /// How many octets are before the text.
     pub(crate) before: usize,
 }
 
-/// An octet in decimal, and a dot in front of it.
+/// An octet in decimal, after a dot.
 pub(crate) fn part_of(octet: u8) -> Part
     ensures text { drop result.before result.octets ≡ 46 ∷ decimal octet }
     ensures before { result.before ≤ 2 }

@@ -1,4 +1,4 @@
-//! Values of a line, in room that is there.
+//! Values of a line, put in memory that is already taken.
 
 ghost use Rattle.std.specs.Prelude.{◌≡◌, ◌≤◌, ◌+◌, ◌∷◌, [], ◌++◌, codes, length, vec_len, vec_capacity};
 ghost use Rattle.flow_report.specs.Formats.{closing, name_before, opening, separator, value_in};
@@ -9,10 +9,10 @@ use itoa::{Buffer, Integer};
 /// The most octets of a value's name.
 const MOST_NAME: usize = 16;
 
-/// The most octets of a value: its name in quotes and a colon, a number in decimal, and what comes after it.
+/// The most octets of a value: its name in quotes and a colon, a number in decimal, and the octets after it.
 pub const MOST_VALUE: usize = MOST_NAME + 3 + 40 + 2;
 
-/// The most octets of a line: seven values, and what it begins with.
+/// The most octets of a line: seven values, and its opening.
 pub(crate) const MOST_LINE: usize = 7 * MOST_VALUE + 1;
 
 /// A text, where there is room.
@@ -25,7 +25,7 @@ pub(crate) fn put_text(line: &mut Vec<u8>, text: &str)
     line.extend_from_slice(text.as_bytes()).unwrap();
 }
 
-/// What a line begins with, where there is room.
+/// Appends the opening of a line, where there is room.
 pub fn put_opening(line: &mut Vec<u8>, format: Format)
     requires { vec_len line.old + 1 ≤ vec_capacity line.old }
     ensures text { line.new.items ≡ line.old.items ++ opening format }
@@ -35,7 +35,7 @@ pub fn put_opening(line: &mut Vec<u8>, format: Format)
     put_text(line, format.opening());
 }
 
-/// What is before a value, where there is room: in JSON its name.
+/// Appends the text before a value, where there is room: in JSON its name.
 fn put_name(line: &mut Vec<u8>, format: Format, name: &str)
     requires short { length name.now ≤ 16 }
     requires room { vec_len line.old + 19 ≤ vec_capacity line.old }
@@ -61,7 +61,7 @@ fn put_digits<N: Integer>(line: &mut Vec<u8>, number: N)
     put_text(line, digits.format(number));
 }
 
-/// A number with its name, and what is between two values, where there is room.
+/// Appends a number with its name, and a separator, where there is room.
 pub fn put_value<N: Integer>(line: &mut Vec<u8>, format: Format, name: &str, number: N)
     requires short { length name.now ≤ 16 }
     requires room { vec_len line.old + 61 ≤ vec_capacity line.old }
@@ -75,7 +75,7 @@ pub fn put_value<N: Integer>(line: &mut Vec<u8>, format: Format, name: &str, num
     line.push(format.separator()).unwrap();
 }
 
-/// The last number of a line with its name, and what a line ends with, where there is room.
+/// Appends the last number of a line with its name, and the line's closing, where there is room.
 pub fn put_last<N: Integer>(line: &mut Vec<u8>, format: Format, name: &str, number: N)
     requires short { length name.now ≤ 16 }
     requires room { vec_len line.old + 61 ≤ vec_capacity line.old }
@@ -89,7 +89,7 @@ pub fn put_last<N: Integer>(line: &mut Vec<u8>, format: Format, name: &str, numb
     put_text(line, format.closing());
 }
 
-/// A protocol's number, or what is written for none, and what is between two values, where there is room.
+/// Appends a protocol's number, or the text for none, and a separator, where there is room.
 pub(crate) fn put_protocol(line: &mut Vec<u8>, format: Format, protocol: Option<u8>)
     requires { vec_len line.old + 61 ≤ vec_capacity line.old }
     ensures text { line.new.items

@@ -34,8 +34,8 @@ fn dumped_before(alloc: Global, octets: &[u8]) -> Result<String, Fail> {
     Ok(text)
 }
 
-/// After each number of octets, exactly the lines of the messages whole in them are written, and a failed read stands
-/// in place of a cut.
+/// After each number of octets, exactly the lines of the whole messages in them are written, and the refusal is a
+/// failed read, not a cut.
 #[test]
 fn keeps_the_lines_before_a_failed_read(rt: HostRuntime) -> Result<(), Fail> {
     let alloc = rt.alloc();

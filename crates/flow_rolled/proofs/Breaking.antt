@@ -1,4 +1,4 @@
--- What octets are the front of, and where they break off.
+-- The rolled files that begin with given octets, and where octets break off.
 use Rattle.std.proofs.Common.{◌≡◌, ℕ, ◌^◌, ◌<◌, ◌≤◌, ◌⊎◌, inl, inr, ⊎_elim, List, []}
 use Rattle.std.proofs.Common.{◌∷◌, ◌++◌, length, Option, Some, None, refl, sym, ap, subst, ◌∙◌, arith, append_assoc}
 use Rattle.std.proofs.Common.{length-append}
@@ -57,7 +57,7 @@ follows_part w None p known h = head_part w p h
 follows_part w (Some b) p known (inl h) = head_part w p h.head
 follows_part w (Some b) p known (inr h) = rows_part w b p known.time known.domain h
 
--- the same behind the message of which a state is known
+-- the same after the message of which a state is known
 pub stands_part : (w : ℕ) (s : Option State) (b : Option Part) (p : Part) → Stands s b → Follows w b p → IsPart w p
 stands_part w None None p stands h = head_part w p h
 stands_part w None (Some b) p stands h = absurd stands
@@ -307,7 +307,7 @@ front_of w octets front rest follow is = ⊎_elim
 
 -- ---- where octets break off
 
--- what a front's messages are
+-- the first messages of a file follow one another
 pub front_follows : (w : ℕ) (octets : List ℕ) (at : ℕ) (h : IsFront w octets at) → AllFollow w None h.front
 front_follows w octets at h =
     let all = (file_parts h.table h.time h.small h.valid).follow in

@@ -23,7 +23,7 @@ pub record AfterRows (w : ℕ) (b : Part) (rows : List Row) : Type 0 where
   pub order : AreRows w (last_from None b.rows) rows
   pub ends : (length b.rows ≡ 1000) ⊎ IsPast b.domain rows
 
--- these rows may come behind this message
+-- these rows may follow this message
 abbrev pub IsReady : ℕ → ℕ → Option Part → List Row → Type 0
 IsReady w time None rows = AreRows w None rows
 IsReady w time (Some b) rows = (b.time ≡ time) × (AfterHead w b rows ⊎ AfterRows w b rows)
@@ -108,7 +108,7 @@ good_rows w n time b r rs here now room order ih =
     last_again o [] h = absurd (omega (arith, h))
     last_again o (r ∷ rs) h = refl
 
--- behind rows of one domain the first row of another is of a greater one, and begins its key
+-- after rows of one domain the first row of another is of a greater one, and begins its key
 first_of_domain : (w : ℕ) (l r : Row) (rs : List Row) → AreRows w (Some l) (r ∷ rs) → r.key.domain ≢ l.key.domain
     → (l.key.domain < r.key.domain) × AreRows w None (r ∷ rs)
 first_of_domain w l r rs h other = ⊎_elim

@@ -501,7 +501,7 @@ cut_off w p h = record {
       (let l = sets_long w p.domain p.rows h.rows in omega (arith, l)) ∙ sym (part_size w p);
 }
 
--- ---- one behind the other
+-- ---- one after the other
 
 abbrev Above : Option Part → ℕ → Type 0
 Above None q = Unit {0}
@@ -511,7 +511,7 @@ abbrev IsDefined : Option Part → AllTemplates → Type 0
 IsDefined None all = Unit {0}
 IsDefined (Some b) all = found b.domain all ≡ Some in_domain
 
--- the templates behind a message: those of its domain, and none of later ones
+-- the templates after a message: those of its domain, and none of later ones
 record AreBehind (b : Option Part) (all : AllTemplates) : Type 0 where
   once : IsOnce all
   above : (q : ℕ) → Above b q → found q all ≡ None
@@ -527,7 +527,7 @@ above_more : (b : Option Part) (d q : ℕ) → Above b d → d < q → Above b q
 above_more None d q h lt = tt
 above_more (Some b) d q h lt = omega (arith, h, lt)
 
--- a message's records, and the templates behind it
+-- a message's records, and the templates after it
 record Step (w : ℕ) (p : Part) (all : AllTemplates) : Type 0 where
   after : AllTemplates
   hold : AreSets p.domain all (sets_in w p.rows) (records_of w p.rows) after

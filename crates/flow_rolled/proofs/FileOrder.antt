@@ -96,7 +96,7 @@ none_past : (q : Key) (es : List (Key × Sums)) → T (below_all file_cmp q es) 
 none_past q [] h = refl
 none_past q (e ∷ es) h = rw (sym (ties q e.0) ∙ less (file_cmp q e.0) (first _ _ h)) (none_past q es (second _ _ h))
 
--- in a list in the file's order, what stands under a key is what is found there
+-- in a list in the file's order, the sums under a key are those that are found there
 pub sum_at-file : (q : Key) (es : List (Key × Sums)) → T (is_sorted file_cmp es) → sum_at q es ≡ find key_cmp q es
 sum_at-file q [] h = refl
 sum_at-file q (e ∷ es) h =

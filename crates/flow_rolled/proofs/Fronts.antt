@@ -21,7 +21,7 @@ one_time w b (p ∷ ps) all =
 
 -- ---- not many messages
 
--- one more where it is behind a head
+-- one more where it is after a head
 abbrev pub extra : List Row → ℕ
 extra [] = 1
 extra (r ∷ rs) = 0

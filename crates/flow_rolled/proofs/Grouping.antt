@@ -1,4 +1,4 @@
--- Which messages rows stand in.
+-- Which messages hold which rows.
 use Rattle.std.proofs.Common.{◌≡◌, ◌≢◌, ℕ, zero, suc, ◌≤◌, ◌<◌, ◌⊎◌, inl, inr, ⊎_elim, true, false}
 use Rattle.std.proofs.Common.{List, [], ◌∷◌, ◌++◌, length, drop, Option, Some, None, refl, sym, ap, subst, ◌∙◌}
 use Rattle.std.proofs.Common.{arith}
@@ -107,7 +107,7 @@ starts_past : (d e : ℕ) (rows : List Row) → Starts e rows → d < e → IsPa
 starts_past d e [] h lt = tt
 starts_past d e (r ∷ rs) h lt = λ is. omega (arith, is, h, lt)
 
--- behind a head come rows of its domain
+-- after a head come rows of its domain
 pub after_head : (w : ℕ) (p : Part) (ps : List Part) → AllFollow w (Some p) ps → EndsWell (Some p) ps → p.rows ≡ []
     → Starts p.domain (rows_within ps)
 after_head w p [] all ends none = absurd (let e = ap (λ (l : List Row). length l) none in omega (arith, ends, e))
@@ -116,7 +116,7 @@ after_head w p (q ∷ qs) all ends none = ⊎_elim
     (λ h. first_starts p.domain q.rows (rows_within qs) h.some (subst (λ d. Own d q.rows) h.domain h.own))
     all.0
 
--- behind a message that isn't full come no rows of its domain
+-- after a message that isn't full come no rows of its domain
 pub after_short : (w : ℕ) (b : Part) (ps : List Part) → AllFollow w (Some b) ps → EndsWell (Some b) ps
     → 0 < length b.rows → length b.rows ≢ 1000 → IsPast b.domain (rows_within ps)
 after_short w b [] all ends some short = tt

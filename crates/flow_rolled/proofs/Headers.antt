@@ -1,4 +1,4 @@
--- The header of a message, and what stands behind it.
+-- The header of a message, and the octets after it.
 use Rattle.std.proofs.Common.{◌≡◌, ◌≢◌, ℕ, ◌+◌, ◌^◌, ◌<◌, ◌≤◌, List, ◌++◌, length, sym}
 use Rattle.std.proofs.Common.{ap, ◌∙◌, arith, append_assoc, length-append}
 use Rattle.std.specs.Int.{w16, w32, to_be_bytes}
@@ -26,7 +26,7 @@ other_version w v p octets rest more small other is e =
     other (same_number w16 (2 ^ 16) wide16 v 10 rest (from_length w p more) small (omega arith) (sym is ∙ e
     ∙ part_is w p more)).0
 
--- the numbers of a header that is a message's, and the message's Sets behind it
+-- the numbers of a header that is a message's, and the message's Sets after it
 pub record IsHeader (w len time sequence domain : ℕ) (rest : List ℕ) (p : Part) (more : List ℕ) : Type 0 where
   pub len_is : len ≡ 16 + length (sets_of w p.rows)
   pub time_is : time ≡ p.time
@@ -54,7 +54,7 @@ header_is w len time sequence domain octets rest p more fl ft fs fd is h e =
     let d = same_number w32 (2 ^ 32) wide32 domain p.domain rest (sets_of w p.rows ++ more) fd h.domain s.1 in
     record { len_is = l.0; time_is = t.0; sequence_is = s.0; domain_is = d.0; rest_is = d.1 }
 
--- a header with the Sets behind it is a message
+-- a header with the Sets after it is a message
 pub message_made : (w len time sequence domain : ℕ) (octets rest sets after : List ℕ) (p : Part)
     → octets ≡ header_octets len time sequence domain ++ rest → rest ≡ sets ++ after → sets ≡ sets_of w p.rows
     → len ≡ 16 + length sets → p.time ≡ time → p.sequence ≡ sequence → p.domain ≡ domain

@@ -1,4 +1,4 @@
--- A message by itself, and behind another.
+-- A message by itself, and after another.
 use Rattle.std.proofs.Common.{◌≡◌, ℕ, List, [], ◌∷◌, ◌++◌, Option, Some, Bool, true, false}
 use Rattle.std.proofs.Common.{subst}
 use Rattle.std.specs.Prelude.{filter}

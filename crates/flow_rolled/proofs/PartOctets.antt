@@ -26,7 +26,7 @@ wide32 = record { len = λ n. refl; again = λ n lt. from_be_bytes-to_be_bytes_4
 wide64 : IsWide w64 (2 ^ 64)
 wide64 = record { len = λ n. refl; again = λ n lt. from_be_bytes-to_be_bytes_8 n lt }
 
--- lists of one length in front of others
+-- lists of one length before others
 pub same_front : (a b xs ys : List ℕ) → length a ≡ length b → a ++ xs ≡ b ++ ys → (a ≡ b) × (xs ≡ ys)
 same_front a b xs ys len e = (
   sym (take_at a xs (length b) len) ∙ ap (take (length b)) e ∙ take_at b ys (length b) refl,
@@ -65,7 +65,7 @@ ending w r = (r.key.start + w) * 1000 - 1
 abbrev behind_start : ℕ → RolledRow → List ℕ → List ℕ
 behind_start w r xs = to_be_bytes w64 (ending w r) ++ behind_end r xs
 
--- a protocol's octets, and others behind the counts
+-- a protocol's octets, and others after the counts
 regrouped : (r : RolledRow) (a : Option ℕ) (xs : List ℕ)
     → protocol_octets a ++ to_be_bytes w64 r.flows ++ to_be_bytes w64 r.octets ++ to_be_bytes w64 r.packets ++ xs
     ≡ protocol_octets a ++ counts r xs

@@ -22,7 +22,7 @@ use Rattle.flow_rolled.proofs.Breaking.{last_more, octets_more, stands_part, rol
 use Rattle.flow_rolled.proofs.SoFar.{rows_one_more, one_more_follows, parts_more, done_if, not_done, no_octets}
 use Rattle.flow_rolled.proofs.SoFar.{stuck_end}
 
--- what stands behind the front of what is ahead
+-- the octets after the first of those ahead
 pub passed : (xs ahead front rest : List ℕ) (at n : ℕ) → ahead ≡ drop at xs → ahead ≡ front ++ rest
     → n ≡ length ahead - length rest → (rest ≡ drop (at + n) xs) × (n ≡ length front)
 passed xs ahead front rest at n is parts size =
@@ -49,7 +49,7 @@ fed_on octets items n p place read at =
     ∙ ap (λ (l : List ℕ). length l) (sym read))
     ∙ ap (λ (k : ℕ). take (length items) (drop k octets)) at
 
--- octets behind a message
+-- octets after a message
 behind_on : (xs ahead front rest : List ℕ) → ahead ≡ take (length ahead) xs → ahead ≡ front ++ rest
     → rest ≡ take (length rest) (drop (length front) xs)
 behind_on xs ahead front rest on is =
@@ -59,7 +59,7 @@ behind_on xs ahead front rest on is =
     ∙ ap (drop (length front)) (sym is ∙ on ∙ ap (λ (n : ℕ). take n xs) size) ∙ drop-take (length front) (length rest)
     xs
 
--- the front of what is ahead stands in the file
+-- the first octets ahead are the file's
 front_on : (xs ahead front rest : List ℕ) → ahead ≡ take (length ahead) xs → ahead ≡ front ++ rest
     → xs ≡ front ++ drop (length front) xs
 front_on xs ahead front rest on is =
@@ -120,7 +120,7 @@ step_few file old new (Ok (Some rows)) h =
 step_few file old new (Ok None) h = tt
 step_few file old new (Err e) h = tt
 
--- ---- behind a read, where one was needed
+-- ---- after a read, where one was needed
 
 abbrev pub reader_at : Rollup → Progress → Reader
 reader_at part c = record { part = part; width = c.width; place = c.place; before = c.before }
@@ -148,7 +148,7 @@ mid_near part old end on ready = record { same = refl; end = end; on = on; ready
 
 -- ---- on an honest file
 
--- a message that stands in the file stands in what is ahead
+-- a message in the file is in the octets ahead
 message_ahead : (xs ahead front more : List ℕ) → ahead ≡ take (length ahead) xs
     → (length ahead ≡ length xs) ⊎ (length front ≤ length ahead) → xs ≡ front ++ more
     → (rest : List ℕ) × (ahead ≡ front ++ rest)

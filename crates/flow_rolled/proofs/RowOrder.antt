@@ -85,7 +85,7 @@ least_zero a h = elim (nat_lt a most) as (λ t. nat_lt a most ≡ t → cond t a
   | false ↦ λ e z. absurd (omega (arith, z))
 ] refl h
 
--- ---- the rows of a key, one row more in front
+-- ---- the rows of a key, with one row more before them
 
 same_sums : (s : Sums) (f o p : ℕ) → f ≡ s.flows → o ≡ s.octets → p ≡ s.packets
     → record { flows = f; octets = o; packets = p } ≡ s
@@ -105,7 +105,7 @@ one_row r o p =
     ∙ ap (λ q. q ∷ []) (same_row r r.key r.flows (least r.octets most) (least r.packets most) refl refl
     (least_small r.octets most o) (least_small r.packets most p))
 
--- the sums of a key, with a row more in front
+-- the sums of a key, with a row more before them
 pub row_in_front : (r : RolledRow) (k : Key) (s : Sums) → r.octets ≤ most → r.packets ≤ most → Continues r (row_of k s)
     → rows_of (k, plus (sums_in r) s) ≡ r ∷ rows_of (k, s)
 unfolding rows_from

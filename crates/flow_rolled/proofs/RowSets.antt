@@ -13,7 +13,7 @@ use Rattle.flow_rolled.proofs.PartOctets.{same_front, same_number, same_row, row
 use Rattle.flow_rolled.proofs.PartOctets.{wide16}
 use Rattle.flow_rolled.proofs.Judgement.{all_joined}
 
--- ---- rows, one behind the other
+-- ---- rows, one after the other
 
 pub rows_joined : (w : ℕ) (xs ys : List RolledRow) → rows_octets w (xs ++ ys) ≡ rows_octets w xs ++ rows_octets w ys
 rows_joined w [] ys = refl
@@ -58,7 +58,7 @@ one_more_read w d b octets rest after rows new r wide is found new_is h =
           left_more w d b r rest after left.0 wide is found left.1 left.2;
     })
 
--- where no row stands in front, the octets are no rows
+-- where octets don't begin with a row, they are no rows
 pub no_rows : (w d : ℕ) (b : Bool) (octets rest : List ℕ) → 0 < length rest → AreLeft w d b octets rest
     → ((r : RolledRow) (more : List ℕ) → IsOf w d b r → rest ≢ row_octets w r ++ more)
     → (all : List RolledRow) → AllByRecursion (IsOf w d b) all → octets ≢ rows_octets w all
@@ -122,7 +122,7 @@ pub set_cut : (w d n : ℕ) (b : Bool) (rest : List ℕ) (rows : List RolledRow)
     → IsSetHead w d n b rest rows more → 2 ≤ length rest
 set_cut w d n b rest rows more h = let l = ap (λ (x : List ℕ). length x) h.is in omega (arith, l)
 
--- its Length, and what stands behind it
+-- its Length, and the octets after it
 pub record IsSetBody (w len : ℕ) (rest : List ℕ) (rows : List RolledRow) (more : List ℕ) : Type 0 where
   pub len_is : len ≡ 4 + length (rows_octets w rows)
   pub rest_is : rest ≡ rows_octets w rows ++ more

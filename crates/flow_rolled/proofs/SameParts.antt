@@ -43,7 +43,7 @@ some_is (Some p) h = absurd cc
 abbrev Own : ℕ → List RolledRow → Type 0
 Own d rows = AllByRecursion (λ r. r.key.domain ≡ d) rows
 
--- behind a row without a protocol all are
+-- after a row without a protocol all are
 only_none : (w d : ℕ) (l : RolledRow) (rows : List RolledRow) → l.key.domain ≡ d → is_some l.key.protocol ≡ false
     → Own d rows → AreRows w (Some l) rows → (filter has_protocol rows ≡ []) × (filter has_none rows ≡ rows)
 only_none w d l [] here none own h = (refl, refl)

@@ -73,7 +73,7 @@ pub at_start : (w : ℕ) (octets : List ℕ) (rows : Table) → rows ≡ record 
     → IsSoFar w octets octets None rows []
 at_start w octets rows h = record { is = refl; follow = tt; stands = tt; sums = h }
 
--- the state tells whether the last message is a head
+-- the state says whether the last message is a head
 pub done_if : (before : Option State) (b : Option Part) → Stands before b → IsEnd before → IsDone b
 done_if None None h e = tt
 done_if None (Some p) h e = absurd h
@@ -106,7 +106,7 @@ broken w wide octets rest before rows front h stuck some =
     (broken_at w wide octets front rest h.follow h.is (stuck (last_part None front) h.stands)
     (λ none. absurd (let l = ap (λ (x : List ℕ). length x) none in omega (arith, l, some))))
 
--- no message stands at the end
+-- there is no message at the end
 pub stuck_end : (w : ℕ) (rest : List ℕ) → length rest ≡ 0 → (b : Option Part) → IsStuck w b rest
 stuck_end w rest none b p more f e = absurd (let l = ap (λ (x : List ℕ). length x) e in let n = part_long w p in
     let m = length-append (part_octets w p) more in omega (arith, l, n, m, none))

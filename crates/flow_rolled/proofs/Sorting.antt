@@ -22,7 +22,7 @@ use Rattle.flow_rolled.proofs.FileOrder.{file_total, ties, same_order}
 abbrev Entry : Type 0
 Entry = Key × Sums
 
--- ---- what stands under a key is the same in any order
+-- ---- the sums under a key are the same in any order
 
 weighed : (q : Key) (f : Sums → ℕ) (es : List Entry)
     → sum_by (λ (e : Entry). cond (is_key q e.0) (f e.1) 0) es ≡ sum_by f (under q es)

@@ -39,7 +39,7 @@ row_fits w k s h = record {
   packets = least_most (s.packets - most);
 }
 
--- what a count leaves for the rows behind
+-- what a count leaves for later rows
 left_or_full : (a : ℕ) → (least (a - most) most ≡ 0) ⊎ (least a most ≡ most)
 left_or_full a = elim (nat_lt a most) as (λ t. nat_lt a most ≡ t → (least (a - most) most ≡ 0)
     ⊎ (cond t a most ≡ most)) [

@@ -69,7 +69,7 @@ counted w t last (r ∷ rs) h has =
         (ap (λ (k : Key). get t.sums (widened_key t.width k)) (sym c.key) ∙ none) has)
     first (Some l) (inr b) has none = b.flows
 
--- ---- rows behind rows
+-- ---- rows after rows
 
 pub rows_none : (t : Table) → with_rows [] t ≡ t
 rows_none t = λ i. record {
@@ -116,7 +116,7 @@ sums_added rows t =
           ∙ sym (sum_at-append q (entries t.sums) sums))) i;
     }
 
--- the front of rows that fit, fits
+-- the first of rows that fit, fit
 pub front_rows : (xs ys : List RolledRow) (t : Table) → AllFit (with_rows (xs ++ ys) t) → AllFit (with_rows xs t)
 front_rows xs ys t fit =
     subst AllFit (rows_none (with_rows xs t)) (front_fits t.width t.width (entries (with_rows xs t).sums ++ [])

@@ -34,7 +34,7 @@ last_row key s o p =
     ∙ (omega arith)) (greater ((s.octets - 1) / most) ((s.packets - 1) / most)) in
     ap (λ n. rows_from n key s) none
 
--- a row with others behind it
+-- a row with others after it
 pub row_more : (key : Key) (s : Sums) → (most < s.octets) ⊎ (most < s.packets)
     → rows_from (further s) key s ≡ row_of key s ∷ rows_from (further (left_of s)) key (left_of s)
 unfolding rows_from
@@ -48,7 +48,7 @@ row_more key s some =
     in
     ap (λ n. rows_from n key s) more
 
--- fewer rows are left behind a row
+-- fewer rows are left after a row
 pub fewer_left : (s : Sums) → (most < s.octets) ⊎ (most < s.packets) → further (left_of s) < further s
 fewer_left s some =
     let g = greater ((s.octets - 1) / most) ((s.packets - 1) / most) in
@@ -122,7 +122,7 @@ sets_short w rows few some =
     let g = count_parted rows in
     omega (arith, a, b, c, d, e, f, g, few)
 
--- ---- one thing put behind the other
+-- ---- octets appended one after the other
 
 pub put_six : (old a b p f o k x1 x2 x3 x4 x5 x6 : List ℕ) → x1 ≡ old ++ a → x2 ≡ x1 ++ b → x3 ≡ x2 ++ p → x4 ≡ x3 ++ f
     → x5 ≡ x4 ++ o → x6 ≡ x5 ++ k → x6 ≡ old ++ (a ++ b ++ p ++ f ++ o ++ k)
@@ -135,7 +135,7 @@ put_six old a b p f o k x1 x2 x3 x4 x5 x6 e1 e2 e3 e4 e5 e6 =
     regroup : old ++ a ++ b ++ p ++ f ++ o ++ k ≡ old ++ (a ++ b ++ p ++ f ++ o ++ k)
     regroup = simp append_assoc
 
--- a row put behind others, and the rows that are still to come
+-- a row appended to others, and the rows that are still to come
 pub row_put : (key : Key) (s t : Sums) (items new : List RolledRow) (r : RolledRow) → (most < s.octets)
     ⊎ (most < s.packets) → new ≡ items ++ r ∷ [] → r ≡ row_of key s → t ≡ left_of s
     → new ++ rows_from (further t) key t ≡ items ++ rows_from (further s) key s

@@ -38,7 +38,7 @@ without_protocol = record {
 abbrev pub distribution : Layout
 distribution = record { options = true; scope = 1; fields = field 145 2 ∷ field 384 1 ∷ [] }
 
--- what is in force in a domain behind its head
+-- the templates in force in a domain after its head
 abbrev pub in_domain : DomainTemplates
 in_domain = record {
   templates = (256, with_protocol) ∷ (257, without_protocol) ∷ [];

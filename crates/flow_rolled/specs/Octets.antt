@@ -97,7 +97,7 @@ pub record IsPart (w : ℕ) (p : Part) : Type 0 where
 abbrev pub IsOther : ℕ → List ℕ → Type 0
 IsOther number octets = (more : List ℕ) → octets ≢ to_be_bytes w16 number ++ more
 
--- a Set of rows in front, or none, and other octets behind it
+-- a Set of rows, or none, and then octets that don't begin with the number of this Set
 pub record IsSet (w d number : ℕ) (b : Bool) (octets : List ℕ) (rows : List RolledRow) (more : List ℕ) : Type 0 where
   pub is : octets ≡ set_octets w number rows ++ more
   pub all : AllByRecursion (IsOf w d b) rows

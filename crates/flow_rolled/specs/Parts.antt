@@ -21,7 +21,7 @@ count_of (r ∷ rs) = length (r ∷ rs)
 abbrev pub due : Part → ℕ
 due p = (p.sequence + count_of p.rows) % 2 ^ 32
 
--- up to so many rows of a domain, from the front
+-- the first rows, as long as they are of this domain, up to so many
 unfoldable pub group : ℕ → ℕ → List RolledRow → List RolledRow
 group zero domain rows = []
 group (suc n) domain [] = []
@@ -30,7 +30,7 @@ group (suc n) domain (r ∷ rs) = if r.key.domain == domain then r ∷ group n d
 abbrev pub head : ℕ → ℕ → Part
 head time domain = record { time = time; sequence = 0; domain = domain; rows = [] }
 
--- behind a message of the next row's domain, up to 1,000 rows of this domain; else its head
+-- after a message of the next row's domain, up to 1,000 rows of this domain; else its head
 abbrev pub next_part : ℕ → Option Part → RolledRow → List RolledRow → Part
 next_part time None r rs = head time r.key.domain
 next_part time (Some before) r rs = if r.key.domain ==
@@ -65,14 +65,14 @@ pub record IsHead (p : Part) : Type 0 where
   pub time : p.time < 2 ^ 32
   pub domain : p.domain < 2 ^ 32
 
--- the head of another domain, behind rows
+-- the head of another domain, after rows
 pub record HeadFollows (before p : Part) : Type 0 where
   pub head : IsHead p
   pub time : p.time ≡ before.time
   pub rows : 0 < length before.rows
   pub domain : before.domain < p.domain
 
--- rows of the domain, behind its head or a full message
+-- rows of the domain, after its head or a full message
 pub record RowsFollow (width : ℕ) (before p : Part) : Type 0 where
   pub time : p.time ≡ before.time
   pub room : (length before.rows ≡ 0) ⊎ (length before.rows ≡ 1000)

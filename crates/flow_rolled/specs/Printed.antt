@@ -29,7 +29,7 @@ row_sum_printed sum.SumSpent = codes "14 SumSpent"
 row_sum_printed sum.Fault = codes "30 Fault"
 row_sum_printed sum.OutOfMemory = codes "11 OutOfMemory"
 
--- a reader's refusal, told of sums
+-- a reader's refusal, as one of sums
 abbrev pub told_of_rows : RowError → RowSumError
 told_of_rows (row.Damaged file at) = sum.Damaged file at
 told_of_rows row.Fault = sum.Fault
@@ -40,7 +40,7 @@ abbrev pub told_of_sums : SumError → RowSumError
 told_of_sums measure.SumSpent = sum.SumSpent
 told_of_sums measure.OutOfMemory = sum.OutOfMemory
 
--- a disk's refusal, told of rows
+-- a disk's refusal, as one of rows
 abbrev pub row_error : DiskError → RowError
 row_error disk.Fault = row.Fault
 row_error disk.OutOfMemory = row.OutOfMemory

@@ -9,7 +9,7 @@ use Rattle.flow_rolled.specs.Parts.{Part, due, last_from, Follows}
 use Rattle.flow_rolled.specs.Octets.{part_octets}
 use Rattle.flow_rolled.specs.Rollup.{IsBroken}
 
--- a message without where it lies in memory
+-- a message as data
 abbrev pub part_of : Message → Part
 part_of m = record { time = m.time; sequence = m.sequence; domain = m.domain; rows = m.rows.items }
 
@@ -29,7 +29,7 @@ Stands None (Some p) = ⊥
 Stands (Some s) None = ⊥
 Stands (Some s) (Some p) = Knows s p
 
--- no message that may follow stands at the front
+-- the octets don't begin with a message that may follow
 abbrev pub IsStuck : ℕ → Option Part → List ℕ → Type 0
 IsStuck w b rest = (p : Part) (more : List ℕ) → Follows w b p → rest ≢ part_octets w p ++ more
 

@@ -56,7 +56,7 @@ rows_of e = rows_from (further e.1) e.0 e.1
 abbrev pub rows_in : FinMap key_cmp Sums → List RolledRow
 rows_in sums = flat_map rows_of (in_file_order sums)
 
--- ---- rows as they stand in a file
+-- ---- rows as they are in a file
 
 abbrev pub sums_in : RolledRow → Sums
 sums_in r = record { flows = r.flows; octets = r.octets; packets = r.packets }
@@ -68,7 +68,7 @@ entries_in rows = map (λ r. (r.key, sums_in r)) rows
 abbrev pub sums_of : List RolledRow → FinMap key_cmp Sums
 sums_of rows = gathered (entries_in rows)
 
--- a row of its own in a file of this width
+-- a row by itself, in a file of this width
 pub record IsRow (width : ℕ) (r : RolledRow) : Type 0 where
   pub aligned : r.key.start % width ≡ 0
   pub start : r.key.start < 2 ^ 32
@@ -86,7 +86,7 @@ pub record Continues (before r : RolledRow) : Type 0 where
   pub octets : (r.octets ≡ 0) ⊎ (before.octets ≡ most)
   pub packets : (r.packets ≡ 0) ⊎ (before.packets ≡ most)
 
--- the first row of a key behind that of another
+-- the first row of a key, after a row of another
 pub record Begins (before r : RolledRow) : Type 0 where
   pub order : file_cmp before.key r.key ≡ Less
   pub flows : 0 < r.flows

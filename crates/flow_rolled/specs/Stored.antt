@@ -27,7 +27,7 @@ pub record Rollup : Type 0 where
   pub honest : Bool
   pub octets : List ℕ
 
--- the Export Time of its first message, behind Version and Length, in network byte order; 0 where there is none
+-- the Export Time of its first message, after Version and Length, in network byte order; 0 where there is none
 abbrev pub export_time : List ℕ → ℕ
 export_time octets = if nat_lt (length octets) 8 then 0 else from_be_bytes w32 (take 4 (drop 4 octets))
 
@@ -38,7 +38,7 @@ pub record Reader : Type 0 where
   pub place : ℕ
   pub before : Option State
 
--- these messages follow one another, with these rows; what is known of the one before is known of the last of them
+-- these messages follow one another and have these rows, and this is known of the last of them
 pub record IsBehind (width : ℕ) (before : Option State) (rows : List RolledRow) (front : List Part) : Type 0 where
   pub follow : AllFollow width None front
   pub stands : Stands before (last_part None front)
@@ -68,7 +68,7 @@ Gives old rows (Err (Damaged file at)) new = (file ≡ old.part.file) × IsBroke
 Gives old rows (Err Fault) new = Unit {0}
 Gives old rows (Err OutOfMemory) new = Unit {0}
 
--- Damage is told of this file, at the next message.
+-- Damage is reported of this file, at the next message.
 abbrev pub IsTold : Reader → RowError → Type 0
 IsTold r (Damaged file at) = (file ≡ r.part.file) × (at ≡ r.place)
 IsTold r Fault = Unit {0}
@@ -128,8 +128,8 @@ NamesFile part sum.OutOfMemory = Unit {0}
 
 -- ---- a reader's octets, some of them ahead
 
--- Where reading stands: the octets that were read ahead, the place of the next message, which is the first of these,
--- the end of the file, and what is known of the message before.
+-- How far reading has come: the octets that were read ahead, the place of the next message, which is the first of
+-- these, the end of the file, and what is known of the message before.
 pub record Progress : Type 0 where
   pub width : ℕ
   pub ahead : List ℕ
@@ -141,7 +141,7 @@ pub record Progress : Type 0 where
 abbrev pub fed : Progress → List ℕ → Progress
 fed c ahead = record { width = c.width; ahead = ahead; place = c.place; end = c.end; before = c.before }
 
--- the next message stands whole in the octets ahead, if one stands there
+-- the octets ahead hold the next message whole, if there is one
 abbrev pub IsReady : Progress → Type 0
 IsReady c = (c.place + length c.ahead ≡ c.end) ⊎ (41024 ≤ length c.ahead)
 
@@ -159,7 +159,7 @@ abbrev pub IsBare : Option State → Type 0
 IsBare None = ⊥
 IsBare (Some s) = s.count ≡ 0
 
--- over the next message, of these rows
+-- a step over the next message, which has these rows
 pub record IsOver (old : Progress) (rows : List RolledRow) (new : Progress) : Type 0 where
   pub message : Part
   pub is : old.ahead ≡ part_octets old.width message ++ new.ahead
@@ -171,7 +171,7 @@ pub record IsOver (old : Progress) (rows : List RolledRow) (new : Progress) : Ty
   pub width : new.width ≡ old.width
   pub end : new.end ≡ old.end
 
--- no message that may follow stands ahead, or the file ends behind a head
+-- the octets ahead don't begin with a message that may follow, or the file ends after a head
 abbrev pub IsBlocked : Progress → Type 0
 IsBlocked c = ((c.place < c.end) × ((b : Option Part) → Stands c.before b → IsStuck c.width b c.ahead))
     ⊎ ((c.place ≡ c.end) × IsBare c.before)

@@ -16,7 +16,7 @@ const PIECE: u64 = 262_144;
 /// The most octets that a message has: its header, and two Sets of 1,000 rows together.
 const GREATEST_MESSAGE: usize = 41_024;
 
-/// Where the reading of a rolled file stands. It holds one piece of the file.
+/// How far the reading of a rolled file has come. It holds one piece of the file.
 #[derive(Drop)]
 pub(crate) struct Cursor {
     width: u32,
@@ -64,7 +64,7 @@ impl Cursor {
         }
     }
 
-    /// Whether the next message may not stand whole in the octets that were read.
+    /// Whether the octets that were read may not hold the next message whole.
     pub(crate) fn is_short(&self) -> bool
         ensures { result ≡ false → IsReady self.now }
     {

@@ -21,7 +21,7 @@ use crate::summing::sums_in;
 use flow_measure::{Rows, SumError};
 use std::alloc::{AllocError, Global};
 
-/// The message at the front of the octets, and the octets behind it, where one stands there that may follow.
+/// The message with which octets begin, and the octets after it, if there is one that may follow the message before.
 pub(crate) fn next_message<'a>(
     alloc: Global,
     octets: &'a [u8],
@@ -61,15 +61,15 @@ fn add_rows(rows: &mut Rows, list: &[RolledRow]) -> Result<(), SumError>
 /// The table whose rolled file these octets are, by a width in seconds, with any one Export Time.
 ///
 /// Else 26 NotRolled at the end of the longest sequence of whole messages with which some rolled file begins: at the
-/// message in which the first wrong or missing octet stands, or at the end where the octets end between messages. 11
+/// message that has the first wrong or missing octet, or at the end where the octets end between messages. 11
 /// OutOfMemory may come at any place.
 pub fn decode_rows(alloc: Global, octets: &[u8], width: u32) -> Result<Rows, RolledError>
     requires { 0 < width }
-    // What is taken is a table's.
+    // Octets that are taken are a table's rolled file.
     ensures found { IfOk result (λ rows. IsRollup width octets.now rows) }
-    // A table's is taken, unless memory runs out.
+    // A table's rolled file is taken, unless memory runs out.
     ensures only { (table : Table) → IsRollup width octets.now table → IsDecoded result table }
-    // What is refused breaks off at this place, unless memory ran out.
+    // Octets that are refused break off at this place, unless memory ran out.
     ensures refused { IfErr result (λ e. IsRefused e width octets.now) }
 {
     let whole = octets.len();

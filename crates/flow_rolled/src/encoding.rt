@@ -18,7 +18,7 @@ use crate::row_writing::rows_of;
 use flow_measure::{Key, Rows, Sums};
 use std::alloc::{AllocError, Global};
 
-/// What a message has of its domain's rows.
+/// A message's sequence number, domain, and count of rows.
 #[derive(Clone, Copy)]
 pub(crate) struct Place {
     /// Its sequence number.
@@ -36,7 +36,7 @@ fn sort_entries(entries: &mut Vec<(Key, Sums)>)
     entries.sort_unstable_by(|a, b| compare(&a.0, &b.0));
 }
 
-/// How many rows of this domain stand in front, up to 1,000.
+/// How many of the first rows are of this domain, up to 1,000.
 fn group_len(rows: &[RolledRow], domain: u32) -> usize
     ensures { result ≡ length (group 1000 domain rows.now) }
 {
@@ -50,8 +50,7 @@ fn group_len(rows: &[RolledRow], domain: u32) -> usize
     count
 }
 
-/// What the next message has: rows of the domain of the message before, up to 1,000; else its first row's domain
-/// begins.
+/// The next message: rows of the domain of the message before, up to 1,000; else the head of the first row's domain.
 fn next_place(before: Option<Place>, rows: &[RolledRow]) -> Place
     requires some { 0 < length rows.now }
     requires few { IfSome before (λ p. p.count ≤ 1000) }
@@ -112,7 +111,7 @@ fn messages_of(
 /// The octets of the rolled file of these rows, with this Export Time in seconds since 1970-01-01 00:00 UTC. All
 /// numbers are big-endian. For each observation domain, in ascending order, a head message with Templates 256 and 257
 /// and Options Template 258, and the rows in messages of 1,000 (RFC 7015's elements); without rows no octets. It fails
-/// only for want of memory.
+/// only where memory is refused.
 pub fn encode_rows(alloc: Global, rows: &Rows, time: u32) -> Result<Vec<u8>, AllocError>
     ensures octets { IfOk result (λ octets. octets.items ≡ rollup_octets rows.now time) }
     // `decode_rows` reads these rows back.

@@ -37,7 +37,7 @@ fn are_in_order(before: Option<RolledRow>, rows: &[RolledRow]) -> bool
     true
 }
 
-/// Whether a head may come behind the message of which this is known.
+/// Whether a head may follow the message of which this is known.
 fn head_follows(state: &State, message: &Message) -> bool
     ensures yes { result ≡ true → (b : Part) (width : ℕ) → Knows state.now b → message.now.rows.items ≡ []
         → IsPart width (part_of message.now) → HeadFollows b (part_of message.now) }
@@ -49,7 +49,7 @@ fn head_follows(state: &State, message: &Message) -> bool
         && state.domain < message.domain
 }
 
-/// Whether further rows of its domain may come behind a message of so many.
+/// Whether further rows of its domain may follow a message of so many.
 fn has_room(count: usize) -> bool
     ensures yes { result ≡ true → (count ≡ 0) ⊎ (count ≡ 1000) }
     ensures all { (count ≡ 0) ⊎ (count ≡ 1000) → result ≡ true }
@@ -57,7 +57,7 @@ fn has_room(count: usize) -> bool
     count == 0 || count == FULL
 }
 
-/// Whether rows may come behind the message of which this is known.
+/// Whether rows may follow the message of which this is known.
 fn rows_follow(state: &State, message: &Message) -> bool
     ensures yes { result ≡ true → (b : Part) (width : ℕ) → Knows state.now b → 0 < length message.now.rows.items
         → IsPart width (part_of message.now) → RowsFollow width b (part_of message.now) }

@@ -7,9 +7,9 @@
 //! its type.
 //!
 //! `RolledPart` is such a file on a disk. `RowReader` reads its rows message by message, a piece of the file at a time:
-//! where it comes to the end its rows are those of the file's table, and where octets break off it tells damage at that
-//! place. `sum_rows` adds them to sums of the same or another width. The laws say that a rolled file is an IPFIX File,
-//! of which each row is read as one flow.
+//! where it comes to the end its rows are those of the file's table, and where octets break off it reports damage at
+//! that place. `sum_rows` adds them to sums of the same or another width. The laws say that a rolled file is an IPFIX
+//! File, of which each row is read as one flow.
 #![tactic(auto)]
 
 mod cursor;

@@ -7,7 +7,7 @@ ghost use Rattle.flow_rolled.specs.Reading.{part_of, Stands};
 
 use crate::row::RolledRow;
 
-/// The number of rows of a message behind which further rows of its domain may come, and the greatest.
+/// The most rows of a message. Further rows of its domain may follow a message of so many, or a head.
 pub(crate) const FULL: usize = 1000;
 
 /// A message of a rolled file: the head of its domain, where it has no rows.
@@ -29,7 +29,7 @@ pub(crate) struct State {
     pub last: Option<RolledRow>,
 }
 
-/// The sequence number that is due behind a message with this one and so many rows.
+/// The sequence number that is due after a message with this one and so many rows.
 pub(crate) fn due_behind(sequence: u32, count: usize) -> u32
     requires { count < 2 ^ 63 }
     ensures { (b : Part) → b.sequence ≡ sequence → length b.rows ≡ count → result ≡ due b }
@@ -39,7 +39,7 @@ pub(crate) fn due_behind(sequence: u32, count: usize) -> u32
 }
 
 impl State {
-    /// The state behind a message.
+    /// The state after a message.
     pub(crate) fn behind(message: &Message) -> State
         ensures { (width : ℕ) → IsPart width (part_of message.now) → Stands (Some result) (Some (part_of message.now)) }
     {

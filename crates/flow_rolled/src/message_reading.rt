@@ -25,7 +25,7 @@ struct Header {
     domain: u32,
 }
 
-/// The header in front, and the octets behind it.
+/// The header with which octets begin, and the octets after it.
 fn header_of(octets: &[u8]) -> Option<(Header, &[u8])>
     ensures found { IfSome result
         (λ x. octets.now ≡ header_octets x.0.len x.0.time x.0.sequence x.0.domain ++ x.1.now) }
@@ -51,7 +51,7 @@ fn header_of(octets: &[u8]) -> Option<(Header, &[u8])>
     Some((header, rest))
 }
 
-/// The message of a rolled file in front, whatever it stands behind, and the octets after it.
+/// The message of a rolled file with which octets begin, whatever comes before it, and the octets after it.
 pub(crate) fn message_at<'a>(
     alloc: Global,
     octets: &'a [u8],

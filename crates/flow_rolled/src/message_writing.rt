@@ -29,7 +29,7 @@ fn octets_of_rows(
     Ok(octets)
 }
 
-/// Puts a Set with this number of these octets behind others, where there are any.
+/// Appends a Set with this number and these octets to others, where there are any.
 fn put_set(octets: &mut Vec<u8>, number: u16, body: &[u8]) -> Result<(), AllocError>
     requires { length body.now ≤ 41000 }
     ensures { OnOk result (octets.new.items ≡ octets.old.items ++ set_around number body.now) }
@@ -69,7 +69,7 @@ fn octets_of_sets(alloc: Global, width: u32, rows: &[RolledRow]) -> Result<Vec<u
     Ok(octets)
 }
 
-/// Puts a message behind others.
+/// Appends a message to others.
 pub(crate) fn put_message(
     octets: &mut Vec<u8>,
     alloc: Global,

@@ -77,7 +77,7 @@ impl<'a, S: SealedFile> RowReader<'a, S> {
         ensures told { IfErr result (λ e. IsTold self.old e) }
         ensures cause { HasCause RowError.Fault faults.old faults.new result }
 
-        // On an honest one: the rows are those of the file, and damage is told where it breaks off.
+        // On an honest one: the rows are those of the file, and damage is reported where its octets break off.
         ensures gives { IsTrue self.old.part.honest → (rows : List RolledRow) → HasRead self.old rows
             → Gives self.old rows result self.new }
     {

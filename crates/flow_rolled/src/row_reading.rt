@@ -9,7 +9,7 @@ use crate::numbers::u64_of;
 use crate::row::RolledRow;
 use flow_measure::Key;
 
-/// The protocol at the front, where rows have one, and the octets behind it.
+/// The protocol with which octets begin, where rows have one, and the octets after it.
 fn protocol_of(octets: &[u8], with: bool) -> (Option<u8>, &[u8])
     requires { 1 ≤ length octets.now }
     ensures is { octets.now ≡ protocol_octets result.0 ++ result.1.now }
@@ -39,7 +39,7 @@ fn interval_start(first: u64, last: u64, width: u32) -> Option<u32>
     None
 }
 
-/// The row at the front of a Set's octets, in which all rows have a protocol or none has, and the octets behind it.
+/// The first row in a Set's octets, in which all rows have a protocol or none has, and the octets after it.
 pub(crate) fn take_row(
     octets: &[u8],
     width: u32,

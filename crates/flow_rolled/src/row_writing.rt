@@ -44,7 +44,7 @@ fn left_of(sums: Sums) -> Sums
     }
 }
 
-/// Puts the rows of a key behind others.
+/// Appends the rows of a key to others.
 fn put_rows(rows: &mut Vec<RolledRow>, key: Key, sums: Sums) -> Result<(), AllocError>
     ensures { OnOk result (rows.new.items ≡ rows.old.items ++ rows_of (record { 0 = key; 1 = sums })) }
 {
@@ -69,7 +69,7 @@ pub(crate) fn rows_of(alloc: Global, entries: &[(Key, Sums)]) -> Result<Vec<Roll
     Ok(rows)
 }
 
-/// Puts a row's octets behind others.
+/// Appends a row's octets to others.
 pub(crate) fn put_row(octets: &mut Vec<u8>, width: u32, row: &RolledRow) -> Result<(), AllocError>
     requires { 0 < width }
     ensures { OnOk result (octets.new.items ≡ octets.old.items ++ row_octets width row.now) }
@@ -84,7 +84,7 @@ pub(crate) fn put_row(octets: &mut Vec<u8>, width: u32, row: &RolledRow) -> Resu
     Ok(())
 }
 
-/// Puts a protocol behind octets, where there is one.
+/// Appends a protocol to octets, where there is one.
 fn put_protocol(octets: &mut Vec<u8>, protocol: Option<u8>) -> Result<(), AllocError>
     ensures { OnOk result (octets.new.items ≡ octets.old.items ++ protocol_octets protocol) }
 {

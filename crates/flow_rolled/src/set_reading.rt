@@ -26,7 +26,7 @@ pub(crate) const HEAD_SETS: [u8; 84] = [
     1, 2, 0, 10, 1, 0, 1, 1, 1, 1,
 ];
 
-/// The rows that fill these octets, one behind the other, all with a protocol or all without.
+/// The rows that fill these octets, one after the other, all with a protocol or all without.
 fn rows_of(
     alloc: Global,
     octets: &[u8],
@@ -52,7 +52,7 @@ fn rows_of(
     Ok(Some(rows))
 }
 
-/// The rows of the Set with this number, where it stands in front, and the octets behind it; else no rows.
+/// The rows of the Set with this number, where octets begin with it, and the octets after it; else no rows.
 fn set_of<'a>(
     alloc: Global,
     octets: &'a [u8],

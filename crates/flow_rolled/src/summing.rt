@@ -69,7 +69,7 @@ pub fn sum_rows<S: SealedFile>(
     ensures names { IfErr result (λ e. NamesFile part.now e) }
     ensures cause { HasCause RowSumError.Fault faults.old faults.new result }
 
-    // On an honest one: the sums are those of the file's table, and a refusal is told of what refuses.
+    // On an honest one: the sums of the file's table are added, and a refusal says why they aren't.
     ensures added { IsTrue part.now.honest → OnOk result (IsAdded width part.now.octets rows.old rows.new) }
     ensures refused { IsTrue part.now.honest → IfErr result (λ e. IsNotAdded part.now width rows.old e) }
     // A sum that is reported as spent is so by rows with which the file begins, damaged after them or not.

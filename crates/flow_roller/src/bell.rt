@@ -63,8 +63,8 @@ impl Bell {
         self.changed.notify_all();
     }
 
-    /// Waits until it has rung more often than was heard, which it counts in, or nothing more is appended, and says
-    /// whether this is so.
+    /// Waits until it has rung more often than `heard` says, or nothing more is appended, and answers whether the
+    /// latter is so. `heard` is then the count of its rings.
     pub(crate) fn wait<W: Wait>(&self, rt: &W, heard: &mut u64) -> bool {
         let mut work = self.work.lock(rt);
         for _ in rt.forever() {

@@ -18,7 +18,7 @@ const MOST_CALLS: u64 = 1_000_000;
 /// How many turns it makes at once.
 const TURNS: u64 = 16;
 
-/// How many of the newest segments are left where only what a job has left is to be done: all.
+/// How many of the newest segments are left as they are where no job is to begin: all.
 const ALL: u32 = u32::MAX;
 
 /// Ends the job that is under way, and removes what waits for its removal, as far as it can be removed now. What

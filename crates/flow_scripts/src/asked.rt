@@ -47,7 +47,7 @@ fn messages_of(alloc: Global, words: &[&str]) -> Result<Vec<Vec<u8>>, Why> {
     Ok(messages)
 }
 
-/// The event that words tell.
+/// The event that words name.
 fn event_of(alloc: Global, words: &[&str]) -> Result<Event, Why> {
     match words {
         ["append", message @ ..] => Ok(Event::Append(octets_of(alloc, message)?)),

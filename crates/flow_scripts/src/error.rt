@@ -11,11 +11,11 @@ pub enum Why {
     OutOfMemory,
     /// There is no such command, or not with so many words.
     NoCommand,
-    /// A number is none, or past its limit.
+    /// A word isn't the number that it has to be, or is past its limit.
     NoNumber,
     /// A word is no message's name, and its hexadecimal digits aren't whole octets.
     NoOctets,
-    /// The line stands for more than 1,048,576 octets.
+    /// The line gives more than 1,048,576 octets.
     TooManyOctets,
     /// The line has 500,000 octets or more.
     TooLong,

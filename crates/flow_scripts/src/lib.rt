@@ -1,6 +1,6 @@
 //! Scripts of archives, as text: what is asked of an archive and of its disk, line by line, and what is to be answered.
 //!
-//! `read_scripts` reads them all, or tells the first line that is none and why. Nothing is played here.
+//! `read_scripts` reads them all, or reports the first line that can't be read, and why. Nothing is played here.
 #![tactic(auto)]
 
 mod asked;

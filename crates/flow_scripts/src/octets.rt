@@ -92,7 +92,7 @@ const MESSAGES: [(&str, &str); 19] = [
     ),
     // without Sets
     ("bare", "000A0010 6553F100 00000000 00000007"),
-    // as long as a message can be: one Set of an ID that stands for nothing
+    // as long as a message can be: one Set of a reserved ID
     (
         "longest",
         "000AFFFF 6553F100 00000000 00000007 0004FFEF 00*65515",
@@ -104,7 +104,7 @@ const MESSAGES: [(&str, &str); 19] = [
     ),
 ];
 
-/// What a word stands for: the digits of the message with this name, else itself.
+/// The digits that a word means: those of the message with this name, else itself.
 fn meant(word: &str) -> &str {
     for (name, digits) in MESSAGES {
         if name == word {
@@ -137,7 +137,7 @@ fn decoded(alloc: Global, digits: &str) -> Result<Vec<u8>, Why> {
     }
 }
 
-/// Adds the octets of hexadecimal digits, as often as after a star, else once.
+/// Adds the octets of hexadecimal digits, as often as the number after a star says, else once.
 fn add_digits(alloc: Global, octets: &mut Vec<u8>, digits: &str) -> Result<(), Why> {
     let (once, count) = digits.split_once("*").unwrap_or((digits, "1"));
     let once = decoded(alloc, once)?;
@@ -174,7 +174,7 @@ fn add_entries(octets: &mut Vec<u8>) -> Result<(), Why> {
     Ok(())
 }
 
-/// Adds what a word stands for.
+/// Adds the octets that a word means.
 fn add_word(alloc: Global, octets: &mut Vec<u8>, word: &str) -> Result<(), Why> {
     if word == "templates" {
         return add_templates(octets);

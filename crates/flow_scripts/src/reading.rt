@@ -63,7 +63,7 @@ impl<'a> Reading<'a> {
         Ok(())
     }
 
-    /// The size of the disk is told, before the first part.
+    /// Sets the size of the disk, before the first part.
     fn set_size(&mut self, size: Size) -> Result<(), Why> {
         let script = self.script()?;
         if !script.parts.is_empty() || script.size.is_some() {
@@ -94,7 +94,7 @@ fn add_to<'a>(part: &mut Part<'a>, line: Line<'a>) -> Result<(), Why> {
     Ok(())
 }
 
-/// The size that words tell.
+/// The size that words give.
 fn size_of(words: &[&str]) -> Result<Size, Why> {
     match words {
         [files, octets, calls, written] => Ok(Size {
@@ -197,8 +197,8 @@ fn take<'a>(
     }
 }
 
-/// Reads scripts. A script begins with `script NAME`; empty lines part it into parts; a line that begins with `#` is a
-/// comment, and one that ends with a backslash goes on in the next.
+/// Reads scripts. A script begins with `script NAME`; empty lines divide it into parts; a line that begins with `#` is
+/// a comment, and one that ends with a backslash goes on in the next.
 ///
 /// Errors: the first line that can't be read, and why.
 pub fn read_scripts(alloc: Global, text: &str) -> Result<Vec<Script<'_>>, BadScript> {

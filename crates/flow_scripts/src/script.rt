@@ -5,7 +5,7 @@ use crate::command::Command;
 /// A script: parts, each on the disk that the one before it left, given up without a stop.
 #[derive(Drop)]
 pub struct Script<'a> {
-    /// What it is called.
+    /// Its name.
     pub name: &'a str,
     /// The size of its disk, where it asks for one.
     pub size: Option<Size>,

@@ -3,7 +3,7 @@
 use crate::command::Span;
 use crate::error::Why;
 
-/// Behind each start.
+/// After each start.
 const NEVER: u64 = 1 << 32;
 
 /// A number.
@@ -22,7 +22,7 @@ pub(crate) fn small_number(word: &str) -> Result<u32, Why> {
     }
 }
 
-/// The span that words tell, or all seconds.
+/// The span that words give, or all seconds.
 pub(crate) fn span_of(words: &[&str]) -> Result<Span, Why> {
     match words {
         [] => Ok(Span { from: 0, to: NEVER }),

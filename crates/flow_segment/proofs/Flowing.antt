@@ -55,7 +55,7 @@ behind_more before now after octets m h is =
 pub behind_kept : (before now after : AllTemplates) → AreBehind before now → after ≡ now → AreBehind before after
 behind_kept before now after h same = subst (AreBehind before) (sym same) h
 
--- what holds of a part that is read as far as a cursor stands
+-- what holds of a part that is read up to a cursor's place
 abbrev pub PartSoFar : (List Accepted → Type 0) → Bool → List ℕ → ℕ → ℕ → AllTemplates → AllTemplates → Cursor → Type 0
 PartSoFar Kind honest octets start end before now c =
     IsTrue honest → Behind Kind (part_octets start end octets) start before now c.place (rest_of octets c)
@@ -211,7 +211,7 @@ all_found holds first sink false honest octets start end file count time all bef
       b.kind.0,
     )
 
--- their greatest Export Time, where the messages are told
+-- their greatest Export Time, where the messages are given
 pub time_found : {S : Type 0} (holds : S → List Placed → S → Type 0) (first sink : S) (more honest : Bool)
     (octets : List ℕ) (start end file count time all : ℕ) (before now : AllTemplates) (old new : Cursor)
     → more ≡ false → PartSoFar (HasTaken holds first sink count time) honest octets start end before now old

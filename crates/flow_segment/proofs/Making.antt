@@ -1,4 +1,4 @@
--- The calls that make a segment's file, one behind the other.
+-- The calls that make a segment's file, one after the other.
 use Rattle.std.proofs.Common.{◌≡◌, ◌≢◌, ℕ, ◌+◌, IsTrue, List, ◌++◌, length, take, drop, refl, sym, ◌∙◌}
 use Rattle.std.proofs.Common.{ap, subst, arith, length-append}
 use Rattle.std.proofs.lemmas.List.{take_at}
@@ -62,7 +62,7 @@ two_puts old prefix z count is =
     ∙ take_at (prefix ++ z) (drop (length prefix + length z) (put_at old 0 prefix)) count
     (omega (arith, length-append prefix z, is))
 
--- a prefix and the trailer behind it, whatever the file held
+-- a prefix and the trailer after it, whatever the file held
 pub prefix_put : (prefix : List ℕ) (start written ended cut : Held) → written.reads ≡ put_at start.reads 0 prefix
     → ended.reads ≡ put_at written.reads (length prefix) trailer → cut.reads ≡ take (length prefix + 2) ended.reads
     → cut.reads ≡ prefix ++ trailer

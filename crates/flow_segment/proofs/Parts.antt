@@ -96,7 +96,7 @@ same_reading file honest octets old new place end = ap (λ (p : ℕ). made p new
     made p e =
         record { file = file; honest = honest; rest = take (e - p) (drop p octets); place = p; end = e }
 
--- what stands behind the octets ahead, in the part
+-- the part's octets after those ahead
 pub split_rest : (octets : List ℕ) (c : Cursor) → IsOn octets c → c.place + length c.ahead ≤ c.end
     → (more : List ℕ) × (rest_of octets c ≡ c.ahead ++ more)
 split_rest octets c on within =
@@ -205,7 +205,7 @@ same_step octets file old ahead new (Err (Damaged f at)) k h = h
 same_step octets file old ahead new (Err Fault) k h = absurd k
 same_step octets file old ahead new (Err OutOfMemory) k h = absurd k
 
--- a step behind a piece that was read
+-- a step after a piece was read
 pub fed_step : (octets : List ℕ) (file number n p : ℕ) (old mid new : Cursor) (items : List ℕ)
     (result : Result Bool ScanError) → mid ≡ standing_at old items → items ≡ take n (drop p octets) → p ≡ old.place
     → number ≡ file

@@ -34,7 +34,7 @@ some_seen header [] true is (inl wrong) = absurd cc
 some_seen header [] true is (inr some) = absurd (some refl)
 some_seen header (r ∷ rs) true is h = λ same. cc
 
--- What was read so far of octets that stand at `from`: messages of this kind, behind these templates.
+-- What was read so far of octets whose place is `from`: messages of this kind, under these templates.
 pub record Behind (Kind : List Accepted → Type 0) (octets : List ℕ) (from : ℕ) (before now : AllTemplates) (place : ℕ)
     (rest : List ℕ) : Type 0 where
   pub messages : List Accepted
@@ -98,7 +98,7 @@ one_more Kind Next octets from before now after place next rest more one m b cut
 
 -- ---- a step over a part, and its message
 
--- a message that stands at a cursor is one more
+-- a message at a cursor's place is one more
 pub step_more : (Kind Next : List Accepted → Type 0) (octets whole : List ℕ) (from file : ℕ)
     (before now after : AllTemplates)
     (old new : Cursor) (message : List ℕ) (m : RawMessage)
@@ -118,7 +118,7 @@ pub moves_within : (old new : Cursor) (more : Bool) → more ≡ true → Moves 
 moves_within old new false go moves = absurd cc
 moves_within old new true go moves = moves.3
 
--- what holds of a prefix that is read as far as a cursor stands
+-- what holds of a prefix that is read up to a cursor's place
 abbrev pub PrefixSoFar : Bool → List ℕ → ℕ → AllTemplates → Cursor → Type 0
 PrefixSoFar honest octets prefix now c =
     IsTrue honest → Behind HaveNoRecords (part_octets 0 prefix octets) 0 [] now c.place (rest_of octets c)

@@ -1,4 +1,4 @@
--- The calls that seal a segment's file, one behind the other.
+-- The calls that seal a segment's file, one after the other.
 use Rattle.std.proofs.Common.{◌≡◌, ◌≢◌, ℕ, ◌≤◌, List, length, refl, sym, subst, arith}
 use Rattle.flow_disk.specs.declared.disk.Disk.{Ghosts}
 use Rattle.flow_disk.specs.Disk.{Held, IsImage, IsDiskImage, ComesOf, InFile, changed, loosened_at}

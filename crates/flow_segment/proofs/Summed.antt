@@ -110,7 +110,7 @@ module _ (octets : List ℕ) (before after : AllTemplates) (count : ℕ) (t firs
       let x = found_is Adds octets before after count start now messages are found in
       too_much t now.rows messages now.spent stopped (sums_of t first (records_in messages) now is x.1)
 
--- no damage is told where messages fill a part
+-- no damage is reported where messages fill a part
 pub not_damaged : (octets : List ℕ) (before : AllTemplates) (number start end count : ℕ) (messages : List Accepted)
     (e : ScanError) (t new : Table) (after : AllTemplates) {X : Type 0} (r : Result X PartSumError)
     → IsErrAnd r (λ x. x ≡ told_of_scan e) → ArePartMessages octets before count messages

@@ -79,7 +79,7 @@ module _ (start : Table) (taken : List Placed) (x : Placed) where
     passes old false OutOfMemory is same refused h = absurd cc
     passes old true e is same refused h = absurd cc
 
-    -- a flow behind it
+    -- a flow after it
     pub stays : (old : Table) (spent : Bool) → spent ≡ true → HasAdded start taken old spent
         → HasAdded start (taken ++ x ∷ []) old spent
     stays old true is h = (

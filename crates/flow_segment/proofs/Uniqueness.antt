@@ -1,4 +1,4 @@
--- The messages of octets are one list, so what they are is told of no other.
+-- The messages of octets are one list, so no other list of them is reported.
 use Rattle.std.proofs.Common.{◌≡◌, ◌≢◌, ◌⊎◌, ℕ, ◌+◌, List, [], ◌∷◌, ◌++◌, length, refl, sym, ap, subst, ◌∙◌, inl, inr}
 use Rattle.std.proofs.Common.{append_assoc, append-nil, arith}
 use Rattle.std.specs.List.{AllByRecursion}
@@ -20,7 +20,7 @@ use Rattle.flow_segment.specs.PartFlows.{ArePartMessages, IsNoMessage, IsStopped
 use Rattle.flow_segment.specs.Prefix.{AreRead, AreTemplatesGiven, HaveNoRecords, IsFaulty, IsNoPrefix, IsNoRestatement}
 use Rattle.flow_segment.specs.Prefix.{IsPrefixToldOf, IsRestated}
 
--- messages that stand behind others
+-- messages after others
 pub record StandBehind (before : AllTemplates) (front all : List Accepted) (rest : List ℕ) : Type 0 where
   pub more : List Accepted
   pub whole : all ≡ front ++ more
@@ -28,7 +28,7 @@ pub record StandBehind (before : AllTemplates) (front all : List Accepted) (rest
   pub each : AllByRecursion IsCutOff (octets_of more)
   pub accepted : AreAcceptedFrom (templates_from before front) more
 
--- What is read of octets in front are the first of the messages that fill them.
+-- Messages that are read from octets are the first of those that fill them.
 stand_behind : (octets : List ℕ) (before : AllTemplates) (front all : List Accepted) (rest : List ℕ)
     → octets ≡ joined (octets_of front) ++ rest → AllByRecursion IsCutOff (octets_of front)
     → AreAcceptedFrom before front → octets ≡ joined (octets_of all) ++ [] → AllByRecursion IsCutOff (octets_of all)
@@ -89,7 +89,7 @@ pub same_read : (octets : List ℕ) (before : AllTemplates) (ms all : List Accep
 same_read octets before ms all some whole =
     all_behind before ms all [] (read_behind octets before ms all [] some whole) refl
 
--- what is refused behind some messages isn't one of them
+-- a message that is refused after some messages isn't one of them
 not_faulty : (before : AllTemplates) (more : List Accepted) (message others : List ℕ)
     → AllByRecursion IsCutOff (octets_of more) → AreAcceptedFrom before more → IsCutOff message
     → joined (octets_of more) ≡ message ++ others → IsFaulty message before → ⊥
@@ -123,7 +123,7 @@ not_stopped octets before start end count at all are (ms, rest, read, why) =
 
 -- ---- a prefix
 
--- what has data records behind some messages without isn't one of them
+-- a message with data records after some without isn't one of them
 not_restated : (before : AllTemplates) (more : List Accepted) (message others : List ℕ)
     → AllByRecursion IsCutOff (octets_of more) → AreAcceptedFrom before more → HaveNoRecords more → IsCutOff message
     → joined (octets_of more) ≡ message ++ others → IsNoRestatement message before → ⊥
@@ -147,7 +147,7 @@ pub same_restated : (octets : List ℕ) (all other : AllTemplates) → IsRestate
 same_restated octets all other (ms, read, none, is) (ns, others, without, same) =
     same ∙ ap (templates_from []) (sym (same_read octets [] ns ms others read)) ∙ sym is
 
--- of octets that restate templates nothing else is told
+-- of octets that restate templates no damage is reported
 pub not_told : (octets : List ℕ) (all : AllTemplates) (number file at : ℕ) → IsRestated octets all
     → IsPrefixToldOf octets number (Damaged file at) → ⊥
 not_told octets all number file at (ns, whole, none, is) (same, ms, rest, read, without, place, why) =

@@ -1,4 +1,4 @@
--- What a segment hands to the next one, and the messages that restate it.
+-- What a segment passes to the next one, and the messages that restate it.
 use Rattle.std.specs.Prelude.{◌≡◌, ◌≢◌, ℕ, ◌+◌, ◌%◌, ◌<◌, ◌^◌, List, [], ◌∷◌, ◌++◌, length, map, nat_eq, Bool, true}
 use Rattle.std.specs.Prelude.{false, Some}
 use Rattle.std.specs.Prelude.{if◌then◌else◌, Result, Ok, Err}
@@ -51,7 +51,7 @@ abbrev pub carry_from : Carry → List Accepted → Carry
 carry_from c [] = c
 carry_from c (a ∷ more) = carry_from (carry_with c a) more
 
--- what messages hand on, read from nothing
+-- what messages pass on, read from nothing
 abbrev pub carry_of : List Accepted → Carry
 carry_of messages = carry_from (no_carry 0) messages
 
@@ -69,7 +69,7 @@ pub record IsCarry (c : Carry) : Type 0 where
 
 -- ---- a prefix that is read
 
--- the messages of the prefix, behind these templates
+-- the messages of the prefix that restate these templates, one for each domain, after those of `front`
 abbrev pub restated_from : ℕ → List (ℕ × ℕ) → AllTemplates → AllTemplates → List Accepted
 restated_from time due front [] = []
 restated_from time due front (e ∷ es) =
@@ -83,7 +83,7 @@ abbrev pub restated : Carry → List Accepted
 restated c = restated_from c.time c.due [] c.templates
 
 -- The prefix, read from no templates, is accepted messages without data records that leave just these templates and
--- hand on the same again.
+-- pass on the same again.
 pub record IsReadBack (c : Carry) (messages : List Accepted) : Type 0 where
   pub octets : map (λ a. a.octets) messages ≡ prefix_messages c.time c.due c.templates
   pub accepted : AreAcceptedFrom [] messages
@@ -100,19 +100,19 @@ segment_octets c messages = prefix_of c ++ joined (octets_of messages)
 
 -- ---- what `take` answers
 
--- octets that are accepted behind a carry, which now is the one behind them
+-- The octets are a message accepted after the old carry, and the new one is that after it.
 abbrev pub IsTaken : List ℕ → Carry → Carry → Type 0
 IsTaken octets old new =
     (a : Accepted) × (a.octets ≡ octets) × IsAccepted octets old.templates a.message a.after × (new ≡ carry_with old a)
 
--- and whether the message has no data records
+-- the same, and whether the message has no data records
 abbrev pub IsTakenAs : Bool → List ℕ → Carry → Carry → Type 0
 IsTakenAs true octets old new = (a : Accepted) × (a.octets ≡ octets)
     × IsAccepted octets old.templates a.message a.after × (new ≡ carry_with old a) × (a.message.records ≡ [])
 IsTakenAs false octets old new = (a : Accepted) × (a.octets ≡ octets)
     × IsAccepted octets old.templates a.message a.after × (new ≡ carry_with old a) × (a.message.records ≢ [])
 
--- where this message stands it is taken in, unless memory runs out
+-- this message is taken in, unless memory runs out
 abbrev pub TakesOnly : {X : Type 0} → Accepted → Carry → Carry → Result X MessageError → Type 0
 TakesOnly a old new (Ok x) = new ≡ carry_with old a
 TakesOnly a old new (Err e) = e ≡ OutOfMemory

@@ -6,8 +6,8 @@ use Rattle.flow_gate.specs.declared.tail.ScanError.TheVariants.{Damaged, Fault, 
 use Rattle.flow_codec.specs.declared.file.FileError.{FileError}
 use Rattle.flow_codec.specs.Cutting.{IsCutOff, IsFileFault}
 
--- Where reading stands: the next message's place, the part's end, the octets from that place on that were read, and the
--- message that is held.
+-- How far reading has come: the next message's place, the part's end, the octets from that place on that were read, and
+-- the message that is held.
 pub record Cursor : Type 0 where
   pub ahead : List ℕ
   pub message : List ℕ
@@ -26,7 +26,7 @@ before_message c = record {
   end = c.end;
 }
 
--- the next message stands whole in the octets ahead, if one stands in the part
+-- the octets ahead hold the next message whole, if the part has one
 abbrev pub IsReady : Cursor → Type 0
 IsReady c = (length c.ahead ≡ c.end - c.place) ⊎ (65535 ≤ length c.ahead)
 
@@ -52,8 +52,8 @@ Moves old (Ok true) new =
 Moves old (Ok false) new = (old.place ≡ old.end) × (new.place ≡ old.place)
 Moves old (Err e) new = new.place ≡ old.place
 
--- What is held after a step, whatever the octets: nothing where the part is at its end or no message stands, and after
--- another refusal what was held.
+-- What is held after a step, whatever the octets: nothing at the part's end or where the octets are no message, and
+-- after another refusal what was held.
 abbrev pub Holds : Cursor → Result Bool ScanError → Cursor → Type 0
 Holds old (Ok true) new = ⊤
 Holds old (Ok false) new = new.message ≡ []

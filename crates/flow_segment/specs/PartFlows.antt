@@ -19,7 +19,7 @@ use Rattle.flow_measure.specs.Sums.{Table, merged, table_of, AllFit}
 use Rattle.flow_segment.specs.Carry.{octets_of}
 use Rattle.flow_segment.specs.Prefix.{AreRead, IsFaulty, IsPrefixToldOf, IsRestated}
 
--- The messages of a part, so many, each accepted behind those before it, the first behind these templates.
+-- The messages of a part, so many, each accepted after those before it, the first under these templates.
 pub record ArePartMessages (octets : List ℕ) (before : AllTemplates) (count : ℕ)
     (messages : List Accepted) : Type 0 where
   pub read : AreRead octets before messages []
@@ -33,28 +33,28 @@ abbrev pub greatest_time : List Accepted → ℕ
 greatest_time [] = 0
 greatest_time (a ∷ more) = max a.message.header.time (greatest_time more)
 
--- the templates after some accepted messages, the first of which is behind those of before
+-- the templates after some accepted messages, the first of them accepted under those of before
 abbrev pub AreBehind : AllTemplates → AllTemplates → Type 0
 AreBehind before now =
     (messages : List Accepted) × AreAcceptedFrom before messages × (now ≡ templates_from before messages)
 
 -- ---- damage
 
--- No accepted message stands in front of these octets, whose place is `at`.
+-- These octets, whose place is `at`, don't begin with an accepted message.
 abbrev pub IsNoMessage : ℕ → AllTemplates → List ℕ → Type 0
 IsNoMessage at before rest =
     ((fault : FileError) × IsFileFault at rest fault)
     ⊎ ((message : List ℕ) × (more : List ℕ) × IsCutOff message × (rest ≡ message ++ more) × IsFaulty message before)
 
--- Why a part behind these templates hasn't so many accepted messages: behind some of them none stands at this place, or
--- there is another count of them.
+-- Why a part isn't so many messages accepted under these templates: after some of them no further one begins at this
+-- place, or there is another count of them.
 abbrev pub IsStoppedAt : List ℕ → AllTemplates → ℕ → ℕ → ℕ → ℕ → Type 0
 IsStoppedAt octets before start end count at =
     (messages : List Accepted) × (rest : List ℕ) × AreRead octets before messages rest
     × (((at ≡ start + length (joined (octets_of messages))) × IsNoMessage at (templates_from before messages) rest)
     ⊎ ((at ≡ end) × (rest ≡ []) × (length messages ≢ count)))
 
--- the damage that is told of a part behind these templates
+-- the damage reported of a part, read under these templates
 abbrev pub IsDamage : List ℕ → AllTemplates → ℕ → ℕ → ℕ → ℕ → ScanError → Type 0
 IsDamage octets before number start end count (Damaged file at) =
     (file ≡ number) × IsStoppedAt octets before start end count at
@@ -63,13 +63,13 @@ IsDamage octets before number start end count OutOfMemory = ⊤
 
 -- ---- the flows of a part with its prefix
 
--- the flows of a part, behind the templates that its prefix restates
+-- the flows of a part, under the templates that its prefix restates
 abbrev pub ArePartFlows : List ℕ → List ℕ → ℕ → List Flow → Type 0
 ArePartFlows prefix octets count flows =
     (before : AllTemplates) × (messages : List Accepted) × IsRestated prefix before
     × ArePartMessages octets before count messages × (flows ≡ flows_in messages)
 
--- Why there are no flows: of the prefix, or of the messages behind it.
+-- Why there are no flows: damage of the prefix, or of the messages after it.
 abbrev pub IsPartToldOf : List ℕ → List ℕ → ℕ → ℕ → ℕ → ℕ → ScanError → Type 0
 IsPartToldOf prefix octets number start end count (Damaged file at) =
     IsPrefixToldOf prefix number (Damaged file at)
@@ -90,8 +90,8 @@ AreFlowsGiven list (Err OutOfMemory) = ⊤
 abbrev pub flows_within : ℕ → ℕ → List Flow → List Flow
 flows_within from to flows = filter (λ f. nat_le from f.start && nat_lt f.start to) flows
 
--- The flows of these messages that start within are behind others, and the templates are those after the messages,
--- unless a read fails or memory runs out.
+-- The flows of these messages that start within the span are appended to others, and the templates are those after the
+-- messages, unless a read fails or memory runs out.
 abbrev pub AreCollected : {X : Type 0} → AllTemplates → ℕ → ℕ → List Flow → List Accepted → Result X ScanError
     → AllTemplates → List Flow → Type 0
 AreCollected before from to old messages (Ok _) after new =
@@ -139,16 +139,16 @@ abbrev pub HasChosen : ℕ → ℕ → List Flow → List Placed → ℕ → ℕ
 HasChosen from to start taken now_from now_to now =
     (now_from ≡ from) × (now_to ≡ to) × (now ≡ start ++ flows_within from to (flows_of_records taken))
 
--- the data records of messages, each beside the header of its own
+-- the data records of messages, each with its message's header
 abbrev pub records_in : List Accepted → List Placed
 records_in messages = flat_map (λ a. under a.message.header a.message.records) messages
 
--- A sink took these records: whatever it had taken before, it has taken them behind it.
+-- A sink took these records, after whatever it had taken before.
 abbrev pub TookAll : {S : Type 0} → (S → List Placed → S → Type 0) → S → List Placed → S → Type 0
 TookAll {S} holds old records new = (start : S) (before : List Placed) → holds start before old
     → holds start (before ++ records) new
 
--- what is answered of one message, at this place of this file
+-- the answer on one message, at this place of this file
 abbrev pub IsWalkedInto : {X : Type 0} → (X → RawMessage → Type 0) → ℕ → ℕ → List ℕ → AllTemplates → AllTemplates
     → Result X ScanError → Type 0
 IsWalkedInto takes file at octets before after (Ok x) =

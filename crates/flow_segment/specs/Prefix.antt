@@ -13,7 +13,7 @@ use Rattle.flow_codec.specs.Templates.{AllTemplates}
 use Rattle.flow_measure.specs.History.{Accepted, AreAcceptedFrom, templates_from}
 use Rattle.flow_segment.specs.Carry.{octets_of}
 
--- messages of octets, each accepted behind those before it, and the octets behind the last of them
+-- octets divided into messages, each accepted after those before it, and the octets after the last of them
 pub record AreRead (octets : List ℕ) (before : AllTemplates) (messages : List Accepted) (rest : List ℕ) : Type 0 where
   pub divided : IsDivided octets (octets_of messages) rest
   pub accepted : AreAcceptedFrom before messages
@@ -37,14 +37,14 @@ IsNoRestatement octets before =
     IsFaulty octets before
     ⊎ ((m : RawMessage) × (after : AllTemplates) × IsAccepted octets before m after × (m.records ≢ []))
 
--- No message of a prefix stands in front of these octets, whose place is `at`.
+-- These octets, whose place is `at`, don't begin with a message of a prefix.
 abbrev pub IsNoPrefix : ℕ → AllTemplates → List ℕ → Type 0
 IsNoPrefix at before rest =
     ((fault : FileError) × IsFileFault at rest fault)
     ⊎ ((message : List ℕ) × (more : List ℕ) × IsCutOff message × (rest ≡ message ++ more)
     × IsNoRestatement message before)
 
--- Why octets of a file from its start on are no prefix: behind some messages of one, none stands at this place.
+-- Why octets of a file from its start on are no prefix: after some messages of one, none begins at this place.
 abbrev pub IsPrefixToldOf : List ℕ → ℕ → ScanError → Type 0
 IsPrefixToldOf octets number (Damaged file at) =
     (file ≡ number) × (messages : List Accepted) × (rest : List ℕ) × AreRead octets [] messages rest
@@ -67,7 +67,7 @@ abbrev pub AreSeen : Bool → List Placed → Bool → Type 0
 AreSeen old taken true = (old ≡ true) ⊎ (taken ≢ [])
 AreSeen old taken false = (old ≡ false) × (taken ≡ [])
 
--- what is answered of one message of a prefix, at this place of this file
+-- the answer on one message of a prefix, at this place of this file
 abbrev pub IsRestating : {X : Type 0} → ℕ → ℕ → List ℕ → AllTemplates → AllTemplates → Result X ScanError → Type 0
 IsRestating file at octets before after (Ok x) =
     (m : RawMessage) × IsAccepted octets before m after × (m.records ≡ [])

@@ -13,7 +13,7 @@ printed SumSpent = codes "14 SumSpent"
 printed Fault = codes "30 Fault"
 printed OutOfMemory = codes "11 OutOfMemory"
 
--- a reader's refusal, told of sums
+-- a reader's refusal, as one of sums
 abbrev pub told_of_scan : ScanError → PartSumError
 told_of_scan (scan.Damaged file at) = Damaged file at
 told_of_scan scan.Fault = Fault

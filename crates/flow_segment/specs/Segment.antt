@@ -11,7 +11,7 @@ use Rattle.flow_codec.specs.Message.{joined}
 use Rattle.flow_codec.specs.Cutting.{IsCutOff, IsDivided, IsFileFault}
 use Rattle.flow_segment.specs.Part.{rest_of, Cursor}
 
--- What a reader stands before: the place of the next message, the part's end, and, if the disk is honest, the octets of
+-- How far a reader has come: the place of the next message, the part's end, and, if the disk is honest, the octets of
 -- the file between them.
 pub record Reading : Type 0 where
   pub file : ℕ
@@ -24,7 +24,7 @@ abbrev pub reading : ℕ → Bool → List ℕ → Cursor → Reading
 reading file honest octets c =
     record { file = file; honest = honest; rest = rest_of octets c; place = c.place; end = c.end }
 
--- On an honest disk: the next message, or none at the part's end; or the place where none stands.
+-- On an honest disk: the next message, or none at the part's end; or the place where the octets are no message.
 abbrev pub IsNext : Reading → Result (Option (Vec ℕ Global)) ScanError → Reading → Type 0
 IsNext old (Ok (Some message)) new = IsCutOff message.items × (old.rest ≡ message.items ++ new.rest)
 IsNext old (Ok None) new = old.rest ≡ []
@@ -52,7 +52,7 @@ pub record AreMessagesOf (octets : List ℕ) (count : ℕ) (messages : List (Lis
   pub divided : IsDivided octets messages []
   pub all : length messages ≡ count
 
--- Why a part hasn't these messages: behind some of them none stands at this place, or there is another count of them.
+-- Why a part isn't so many messages: after some of them none begins at this place, or there is another count of them.
 abbrev pub IsToldOf : List ℕ → ℕ → ℕ → ℕ → ℕ → ScanError → Type 0
 IsToldOf octets number prefix end count (Damaged file at) =
     (file ≡ number) × (messages : List (List ℕ)) × (rest : List ℕ) × IsDivided octets messages rest

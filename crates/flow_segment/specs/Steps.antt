@@ -1,7 +1,7 @@
 -- What calls make of the octets of one file.
 use Rattle.std.specs.Prelude.{◌≡◌, ℕ, ◌≤◌, min, List, [], ◌∷◌, length, take}
 
--- the closed gate behind the messages of a segment that isn't sealed
+-- the closed gate after the messages of a segment that isn't sealed
 abbrev pub trailer : List ℕ
 trailer = 0 ∷ 0 ∷ []
 

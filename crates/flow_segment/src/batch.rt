@@ -31,8 +31,8 @@ fn keep_before(undo: &mut Undo, carry: &Carry, octets: &[u8]) -> Result<(), Allo
     Ok(())
 }
 
-/// Takes in messages, and keeps what it takes to put back what was carried before them. After an `Err` some of them are
-/// taken in.
+/// Takes in messages one by one, and keeps what restores the carry before them. After an `Err` some of them are taken
+/// in.
 fn take_each(
     carry: &mut Carry,
     undo: &mut Undo,

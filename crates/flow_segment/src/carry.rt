@@ -1,4 +1,4 @@
-//! What a segment hands to the next one.
+//! What a segment passes to the next one.
 
 ghost use Rattle.std.specs.Prelude.{◌≡◌, ◌⊎◌, ◌<◌, ◌^◌, nat_eq, OnOk, OnErr, IfOk, IfErr};
 ghost use Rattle.indexmap.specs.IndexMap.{spare};
@@ -17,8 +17,8 @@ use indexmap::IndexMap;
 use std::alloc::{AllocError, Global};
 use std::marker::Model;
 
-/// The templates in force behind messages, the next Sequence Number of each Observation Domain that has some (RFC 7011,
-/// section 3.1), and the Export Time of the last message: what a segment restates for the one behind it.
+/// The templates in force after messages, the next Sequence Number of each Observation Domain that has some (RFC 7011,
+/// section 3.1), and the Export Time of the last message: what a segment passes to the next one, which restates it.
 #[derive(Drop)]
 pub struct Carry {
     templates: Templates,
@@ -37,7 +37,7 @@ impl Model for Carry {
 }
 
 impl Carry {
-    /// What no messages hand on.
+    /// The carry before any message.
     pub fn new(alloc: Global) -> Self
         ensures { result ≡ no_carry 0 }
     {
@@ -48,12 +48,12 @@ impl Carry {
         }
     }
 
-    /// Takes in a message that is accepted behind those before it; else answers its first fault, or `OutOfMemory` where
+    /// Takes in a message that is accepted after those before it; else answers its first fault, or `OutOfMemory` where
     /// a growth of memory was refused. After an `Err` all is as it was.
     ///
     /// It walks the message once, and copies no templates.
     pub fn take(&mut self, alloc: Global, octets: &[u8]) -> Result<(), MessageError>
-        // What is taken in is an accepted message, and what is there is what is handed on behind it.
+        // The octets are an accepted message, and the carry is the one after it.
         ensures taken { OnOk result (IsTaken octets.now self.old self.new) }
         // An accepted message is taken in, unless memory runs out.
         ensures only { (a : Accepted) → a.octets ≡ octets.now
@@ -111,7 +111,7 @@ impl Carry {
         self.templates.try_copy()
     }
 
-    /// What it takes to put back what is carried now, as long as these templates are in force.
+    /// What restores the carry as it is now, as long as its templates stay in force.
     pub(crate) fn undo(&self) -> Result<Undo, AllocError>
         ensures kept { IfOk result (λ undo. restored self.now.templates undo ≡ self.now) }
         ensures carry { IsCarry self.now }

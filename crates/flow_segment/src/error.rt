@@ -11,8 +11,8 @@ use std::fmt;
 /// and the place.
 #[derive(Clone, Copy, Debug, PartialEq, Eq)]
 pub enum PartSumError {
-    /// In this file no accepted message stands at this place, or, where the place is the file's length, there is
-    /// another count of them.
+    /// In this file the octets at this place are no accepted message, or, where the place is the file's length, there
+    /// is another count of them.
     Damaged(u64, u64),
     /// A sum would pass its type.
     SumSpent,

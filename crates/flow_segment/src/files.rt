@@ -8,7 +8,7 @@ ghost use Rattle.flow_segment.specs.Steps.{trailer, Becomes, BecomesFront, IsAny
 
 use flow_disk::{Disk, DiskError};
 
-/// The closed gate behind the messages of a segment that isn't sealed.
+/// The closed gate after the messages of a segment that isn't sealed.
 const TRAILER: [u8; 2] = [0, 0];
 
 /// Makes the file of a segment without messages, whatever the file held: its prefix and a closed gate, settled. It
@@ -34,8 +34,7 @@ pub fn make_segment<D: Disk>(disk: &mut D, file: u64, prefix: &[u8]) -> Result<(
     Ok(())
 }
 
-/// Cuts a settled segment to its first `length` octets, behind which its trailer stands, and settles it. It takes no
-/// memory.
+/// Cuts a settled segment to its first `length` octets, those before its trailer, and settles it. It takes no memory.
 pub fn seal_tail<D: Disk>(disk: &mut D, file: u64, length: u64) -> Result<(), DiskError>
     requires room { length ≤ (D.marks disk.old file).size }
     requires thawed { (D.marks disk.old file).frozen ≡ false }

@@ -23,13 +23,13 @@ use std::alloc::Global;
 use std::mem::replace;
 
 /// Adds the flows of the messages of a sealed segment to rows, and takes the messages' templates in: those given are in
-/// force in front of the first message, as `templates_of` or the segment before leaves them. It keeps no list of flows
-/// or of messages, and holds one piece of the file at a time.
+/// force before the first message, as `templates_of` or the segment before leaves them. It keeps no list of flows or of
+/// messages, and holds one piece of the file at a time.
 ///
-/// Where a message is refused, or none stands, it answers `Damaged`, with the file and the place; where there is
-/// another count of messages, with the file and its length; `SumSpent` where all messages are accepted and a sum would
-/// pass its type; `Fault` exactly where a read has raised `faults`; and `OutOfMemory`. After an `Err` the rows are
-/// empty, and the templates are those after some accepted messages.
+/// Where the octets are no accepted message it answers `Damaged`, with the file and the place; where there is another
+/// count of messages, with the file and its length; `SumSpent` where all messages are accepted and a sum would pass its
+/// type; `Fault` exactly where a read has raised `faults`; and `OutOfMemory`. After an `Err` the rows are empty, and
+/// the templates are those after some accepted messages.
 ///
 /// It answers the greatest Export Time of the messages, in seconds since 1970-01-01 00:00 UTC, and 0 where there are
 /// none.
@@ -73,9 +73,9 @@ pub fn add_flows<S: SealedFile>(
     Ok(time)
 }
 
-/// Puts the flows of the messages of a sealed segment that start from `from` on and before `to`, in seconds since
-/// 1970-01-01 00:00 UTC, behind those in a list, in the order of their records, and takes the messages' templates in:
-/// those given are in force in front of the first message, as `templates_of` or the segment before leaves them.
+/// Appends the flows of the messages of a sealed segment that start from `from` on and before `to`, in seconds since
+/// 1970-01-01 00:00 UTC, to a list, in the order of their records, and takes the messages' templates in: those given
+/// are in force before the first message, as `templates_of` or the segment before leaves them.
 ///
 /// It refuses as `add_flows` does, but for sums. After an `Err` the list is empty, and the templates are those after
 /// some accepted messages.
@@ -115,10 +115,10 @@ pub fn collect_flows<S: SealedFile>(
     Ok(())
 }
 
-/// The flows of the messages of a sealed segment, in order, under the templates that its prefix restates. Where a
-/// message of the prefix is refused or has data records, or another message is refused, or none stands, it answers
-/// `Damaged`, with the file and the place; where there is another count of messages, with the file and its length;
-/// `Fault` exactly where a read has raised `faults`; and `OutOfMemory`.
+/// The flows of the messages of a sealed segment, in order, under the templates that its prefix restates. Where the
+/// octets are no accepted message, or a message of the prefix has data records, it answers `Damaged`, with the file and
+/// the place; where there is another count of messages, with the file and its length; `Fault` exactly where a read has
+/// raised `faults`; and `OutOfMemory`.
 pub fn flows_of<S: SealedFile>(
     alloc: Global,
     part: &SealedPart<S>,

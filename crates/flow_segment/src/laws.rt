@@ -19,16 +19,16 @@ ghost use Rattle.flow_measure.specs.History.{flows_in};
 ghost use Rattle.flow_measure.specs.Sums.{table_of, AllFit};
 ghost use Rattle.flow_segment.specs.PartFlows.{with_flows};
 
-/// What a segment hands on.
+/// What a segment passes on.
 pub fn handed_on()
     // A carry stays one with each accepted message.
     ensures start { IsCarry (no_carry 0) }
     ensures kept { (c : Carry) (a : Accepted) → IsCarry c → IsAccepted a.octets c.templates a.message a.after
         → IsCarry (carry_with c a) }
-    // The prefix, read from nothing, is accepted messages without data records, and hands on the same.
+    // The prefix, read from nothing, is accepted messages without data records, and passes on the same.
     ensures read_back { (c : Carry) → IsCarry c → IsReadBack c (restated c) }
     ensures read { (c : Carry) → IsCarry c → read_from [] (octets_of (restated c)) ≡ restated c }
-    // What a segment hands on is known from that segment alone, once it has a message.
+    // What a segment passes on is known from that segment alone, once it has a message.
     ensures alone { (c : Carry) (time : ℕ) (a : Accepted) (more : List Accepted) → IsCarry c
         → carry_from (no_carry time) (restated c ++ a ∷ more) ≡ carry_from c (a ∷ more) }
     // The octets of a sealed segment are a File of its prefix and its messages.
@@ -55,7 +55,7 @@ pub fn accepted_message_fits()
         → AllByRecursion (λ a. IsOctets a.octets) messages → AllByRecursion FlowFits (flows_in messages) }
 {}
 
-/// The sums of flows and of those of messages behind them fit their types, where they are few: a message has fewer than
+/// The sums of flows and of those of messages after them fit their types, where they are few: a message has fewer than
 /// 65,536 flows. To add these is never refused by 14.
 pub fn few_messages_fit()
     ensures { (width : ℕ) (before : AllTemplates) (flows : List Flow) (messages : List Accepted)

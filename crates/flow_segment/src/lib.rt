@@ -1,17 +1,17 @@
-//! Segments: what one hands to the next, the prefix that restates it, and their files.
+//! Segments: what one passes to the next, the prefix that restates it, and their files.
 //!
-//! Promised to the layers above: a `Carry` is at any time what the accepted messages that it has taken hand on, and a
+//! Promised to the layers above: a `Carry` is at any time what the accepted messages that it has taken pass on, and a
 //! refusal leaves it as it was; of several messages it takes all or none. Its prefix, read from nothing, is accepted
-//! messages without a data record that hand on the same again; so a sealed segment is an IPFIX File (RFC 5655) that is
+//! messages without a data record that pass on the same again; so a sealed segment is an IPFIX File (RFC 5655) that is
 //! read with nothing else beside it. While a segment's file is made or sealed, a stop at any moment leaves all other
 //! files as they were; once it is made each image of it is its prefix and a closed gate, and while it is sealed its
 //! first octets stay in each image. A `Cursor` reads the messages of a part of a file one by one, a piece of the file
-//! at a time: what it gives to the end are the part's messages, and where none stands it tells that place. A
-//! `PartReader` does so for a sealed segment, and a refusal leaves it as it was; `messages_of` gives the messages of a
-//! sealed segment at once, `templates_of` the templates that its prefix restates, and `flows_of` the flows of its
-//! messages under these. `add_flows` adds the flows of a sealed segment to sums, and `collect_flows` puts those of a
-//! span of time behind others, each under the templates that are given and piece by piece. Of a segment that is good
-//! none of these is refused by damage.
+//! at a time: what it gives to the end are the part's messages, and where the octets are no message it reports that
+//! place. A `PartReader` does so for a sealed segment, and a refusal leaves it as it was; `messages_of` gives the
+//! messages of a sealed segment at once, `templates_of` the templates that its prefix restates, and `flows_of` the
+//! flows of its messages under these. `add_flows` adds the flows of a sealed segment to sums, and `collect_flows` puts
+//! those of a span of time after others, each under the templates that are given and piece by piece. Of a segment that
+//! is good none of these is refused by damage.
 #![tactic(auto)]
 
 mod batch;

@@ -20,13 +20,13 @@ const PIECE: u64 = 262_144;
 /// The most octets that a message has.
 const GREATEST_MESSAGE: usize = 65_535;
 
-/// Where the reading of a part stands. It holds one piece of the file.
+/// How far the reading of a part has come. It holds one piece of the file.
 #[derive(Drop)]
 pub struct Cursor {
     piece: Vec<u8>,
     /// The next message's first octet in the piece.
     at: usize,
-    /// The octets of the message that is held, in front of it.
+    /// How many octets the message that is held has: they are those before `at`.
     held: usize,
     /// The next message's place in the file.
     place: u64,
@@ -74,7 +74,7 @@ impl Cursor {
         &self.piece[self.at - self.held..self.at]
     }
 
-    /// Whether the next message may not stand whole in the octets that were read.
+    /// Whether the octets that were read may not hold the next message whole.
     fn is_short(&self) -> bool
         ensures { result ≡ false → IsReady self.now }
     {
@@ -143,7 +143,7 @@ impl Cursor {
         }
     }
 
-    /// Stands before the message that is held again.
+    /// Goes back to before the message that is held.
     pub(crate) fn step_back(&mut self)
         ensures { self.new ≡ before_message self.old }
     {
@@ -161,8 +161,8 @@ fn keep_field(octets: &[u8])
 }
 
 /// Reads the next message of a part of a frozen file, which the cursor then holds; `false` at the part's end, where it
-/// holds none. Where no message stands it answers `Damaged`, with the file and the place; `Fault` exactly where this
-/// read has raised `faults`; and `OutOfMemory`. After an `Err` the cursor stands where it stood; after `Damaged` it
+/// holds none. Where the octets are no message it answers `Damaged`, with the file and the place; `Fault` exactly where
+/// this read has raised `faults`; and `OutOfMemory`. After an `Err` the cursor's place is as it was; after `Damaged` it
 /// holds no message any more, after the others the one that it held.
 ///
 /// It reads 262,144 octets at a time, so the device is read once for many messages.

@@ -43,7 +43,7 @@ impl RecordSink for Seen {
     }
 }
 
-/// Takes in the templates of a message of a prefix, which stands at this place of this file.
+/// Takes in the templates of a message of a prefix, at this place of this file.
 fn restate(
     templates: &mut Templates,
     alloc: Global,
@@ -67,8 +67,8 @@ fn restate(
     }
 }
 
-/// The templates in force behind the prefix of a sealed segment. Where a message of it is refused, or has data records,
-/// or none stands, it answers `Damaged`, with the file and the place; `Fault` exactly where a read has raised `faults`;
+/// The templates in force after the prefix of a sealed segment. Where the octets are no accepted message, or one with
+/// data records, it answers `Damaged`, with the file and the place; `Fault` exactly where a read has raised `faults`;
 /// and `OutOfMemory`.
 pub fn templates_of<S: SealedFile>(
     alloc: Global,

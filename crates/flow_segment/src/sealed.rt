@@ -11,7 +11,7 @@ use flow_gate::ScanError;
 use std::alloc::Global;
 use std::marker::Model;
 
-/// A sealed segment: its file, which holds its prefix and behind it its messages.
+/// A sealed segment: its file, which holds its prefix and then its messages.
 #[derive(Drop)]
 pub struct SealedPart<S: SealedFile> {
     /// The file.
@@ -20,7 +20,7 @@ pub struct SealedPart<S: SealedFile> {
     pub prefix: u64,
     /// How many octets the file has, with the prefix.
     pub length: u64,
-    /// How many messages there are behind the prefix.
+    /// How many messages there are after the prefix.
     pub messages: u64,
     ghost order: { prefix ≤ length },
     ghost room: { length ≤ S.size reader },
@@ -64,8 +64,9 @@ impl<'a, S: SealedFile> PartReader<'a, S> {
         }
     }
 
-    /// The next message; none where all were given. Where no message stands it answers `Damaged`, with the file and the
-    /// place; `Fault` exactly where this read has raised `faults`; and `OutOfMemory`. After an `Err` all is as it was.
+    /// The next message; none where all were given. Where the octets are no message it answers `Damaged`, with the file
+    /// and the place; `Fault` exactly where this read has raised `faults`; and `OutOfMemory`. After an `Err` all is as
+    /// it was.
     pub fn next(
         &mut self,
         alloc: Global,
@@ -88,9 +89,9 @@ impl<'a, S: SealedFile> PartReader<'a, S> {
     }
 }
 
-/// The messages of a sealed segment, in order. Where none stands it answers `Damaged`, with the file and the place;
-/// where there is another count of them, with the file and its length; `Fault` exactly where a read has raised
-/// `faults`; and `OutOfMemory`.
+/// The messages of a sealed segment, in order. Where the octets are no message it answers `Damaged`, with the file and
+/// the place; where there is another count of them, with the file and its length; `Fault` exactly where a read has
+/// raised `faults`; and `OutOfMemory`.
 pub fn messages_of<S: SealedFile>(
     alloc: Global,
     part: &SealedPart<S>,

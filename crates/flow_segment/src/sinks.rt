@@ -56,7 +56,7 @@ pub struct Chosen {
     pub flows: Vec<Flow>,
     /// The first second.
     pub from: u64,
-    /// The second behind the last one.
+    /// The second after the last one.
     pub to: u64,
 }
 

@@ -1,4 +1,4 @@
-//! The data records of a part's messages, handed to a sink.
+//! The data records of a part's messages, passed to a sink.
 
 ghost use Rattle.std.specs.Prelude.{◌≡◌, ◌≤◌, List, IsTrue, IfOk, IfErr, OnErr, OnOk};
 ghost use Rattle.flow_disk.specs.Cause.{HasCause};
@@ -16,8 +16,7 @@ use flow_gate::ScanError;
 use std::alloc::{AllocError, Global};
 use std::cmp::max;
 
-/// Hands the data records of a message, which stands at this place of this file, to a sink, and answers its Export
-/// Time.
+/// Passes the data records of a message, at this place of this file, to a sink, and answers its Export Time.
 fn hand_over<R: RecordSink<Error = AllocError>>(
     alloc: Global,
     templates: &mut Templates,
@@ -38,12 +37,12 @@ fn hand_over<R: RecordSink<Error = AllocError>>(
     }
 }
 
-/// Hands the data records of the messages of a sealed segment to a sink, in order, and takes their templates in: those
-/// given are in force in front of the first. A piece of the file is held at a time. It answers the greatest Export Time
-/// of the messages, in seconds since 1970-01-01 00:00 UTC, and 0 where there are none.
+/// Passes the data records of the messages of a sealed segment to a sink, in order, and takes their templates in: those
+/// given are in force before the first message. A piece of the file is held at a time. It answers the greatest Export
+/// Time of the messages, in seconds since 1970-01-01 00:00 UTC, and 0 where there are none.
 ///
-/// Where a message is refused, or none stands, it answers `Damaged`, with the file and the place; where there is
-/// another count of messages, with the file and its length; `Fault` exactly where a read has raised `faults`; and
+/// Where the octets are no accepted message it answers `Damaged`, with the file and the place; where there is another
+/// count of messages, with the file and its length; `Fault` exactly where a read has raised `faults`; and
 /// `OutOfMemory`, also where the sink refuses a record.
 pub(crate) fn walk_part<S: SealedFile, R: RecordSink<Error = AllocError>>(
     alloc: Global,

@@ -1,4 +1,4 @@
--- An append, behind a seal.
+-- An append, after a seal.
 use Rattle.std.proofs.Common.{◌≡◌, ◌⊎◌, ⊎_elim, ℕ, List, [], ◌++◌, Result, Ok, Err, refl, sym, ap, ◌∙◌, subst}
 use Rattle.std.proofs.Common.{append_assoc, ◌≢◌, ◌≤◌, ◌<◌, [], ◌∷◌, arith}
 use Rattle.std.specs.Prelude.{IfErr}
@@ -67,7 +67,7 @@ module _ {D S Y : Type 0} (g : Ghosts D S Y) where
 
   -- ---- where there is no room
 
-  -- a seal isn't refused for want of room
+  -- a seal isn't refused because there is no room
   pub seal_has_room : (old new : Seen D) (error : ArchiveError)
       → IsSeal g old new (Err error) ⊎ IsRefusedBefore {X = ℕ} old new (Err error)
       → error ≢ NoRoom

@@ -1,4 +1,4 @@
--- By which marks readers are told of events.
+-- By which marks readers learn of events.
 use Rattle.std.proofs.Common.{◌≡◌, ℕ, ◌+◌, ◌-◌, ◌≤◌, Bool, IsTrue, List, [], ◌∷◌, ◌++◌, length, take, drop, get_or, refl}
 use Rattle.std.proofs.Common.{sym, ap, ◌∙◌, arith, length-append, Some, Ok}
 use Rattle.std.proofs.lemmas.List.{drop_at, get_or_push, take_all}

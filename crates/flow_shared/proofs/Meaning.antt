@@ -19,7 +19,7 @@ use Rattle.flow_archive.specs.Answers.{AreAccepted, IsMovedOn, MaySeal}
 use Rattle.flow_archive.specs.JobAnswers.{IsMadeOf}
 use Rattle.flow_archive.proofs.Shelves.{made_rollup, with_octets}
 
--- ---- a state for which an image stands
+-- ---- a state that an image represents
 
 pub record IsSound (s : State) : Type 0 where
   pub valid : IsValidManifest s.manifest

@@ -1,4 +1,4 @@
-//! What lies under the lock.
+//! The value under the lock.
 
 ghost use Rattle.std.specs.Prelude.{◌≡◌, ◌≢◌, ◌⊎◌, MatchBool, ◌++◌, ◌∷◌, [], ◌≤◌, ◌<◌, ◌↔◌, List, length, true, false, IfOk, IfErr, OnOk, IsTrue};
 ghost use Rattle.std.specs.Option.{option_to_list};
@@ -45,7 +45,7 @@ fn fit_together(messages: &[&[u8]], limit: u32) -> bool
     true
 }
 
-/// What lies under the lock: the archive, and the writer of what readers take. Its calls may wait for readers that
+/// The value under the lock: the archive, and the writer of what readers take. Its calls may wait for readers that
 /// still take a copy of what they were shown.
 #[derive(Drop)]
 pub struct Locked<D: Disk, J: Naming, W: Wait>

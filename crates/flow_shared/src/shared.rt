@@ -96,7 +96,7 @@ where
 }
 
 impl<D: Disk, J: Naming, W: Wait> SharedArchive<D, J, W> {
-    /// Ends the writer, drops what readers weren't shown, and hands the archive back.
+    /// Ends the writer, drops the steps that readers weren't shown, and gives the archive back.
     pub fn end(self, _rt: &W) -> Archive<D> {
         let Locked {
             archive,

@@ -1,4 +1,4 @@
--- Accepted messages, one list behind another, and what prefixes restate.
+-- Accepted messages, one list after another, and what prefixes restate.
 use Rattle.std.proofs.Common.{◌≡◌, ℕ, zero, suc, List, [], ◌∷◌, ◌++◌, length, take, drop, refl, sym, ap, subst, ◌∙◌}
 use Rattle.std.proofs.Common.{append-nil, append_assoc, arith, inl}
 use Rattle.std.specs.List.{AllByRecursion}
@@ -79,7 +79,7 @@ own_first g gs tail kept is =
           ∙ drop-append_seam g.messages (messages_in gs ++ tail),
     )
 
--- the templates behind the messages of a segment
+-- the templates after the messages of a segment
 pub behind_own : (before : AllTemplates) (g : Segment) (gs : List Segment) (tail : List (List ℕ)) (kept : List Accepted)
     → AreAcceptedFrom before kept → octets_of kept ≡ messages_in (g ∷ gs) ++ tail
     → templates_from before (read_from before g.messages)
@@ -109,7 +109,7 @@ restated_behind (suc k) before (g ∷ gs) active tail kept h is r =
     ∙ ap (λ (i : ℕ). take i kept) (sym (length-append g.messages (messages_in (take k gs))))) in
     subst (λ (t : AllTemplates). AreRestated t (drop k gs) active) far more
 
--- ---- the prefix that a segment calls for
+-- ---- the prefix that a segment determines
 
 pub carried : (c : Carry) (xs : List Accepted) → IsCarry c → AreAcceptedFrom c.templates xs
     → IsCarry (carry_from c xs) × ((carry_from c xs).templates ≡ templates_from c.templates xs)

@@ -65,7 +65,7 @@ gathered-behind m fs =
     sym (gathered-both (entries m) fs)
     ∙ ap (λ (x : FinMap key_cmp Sums). gathered (entries x ++ entries (gathered fs))) (gathered-entries m)
 
--- flows, added behind others
+-- flows, added after others
 pub flows_both : (t : Table) (fs gs : List Flow) → with_flows gs (with_flows fs t) ≡ with_flows (fs ++ gs) t
 flows_both t fs gs =
     let es = entries t.sums in

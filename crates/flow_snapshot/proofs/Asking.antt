@@ -123,7 +123,7 @@ module _ (s : Shelf) (v : View) (is : IsViewOf s v) where
             more_flows from to [] flows more halves.own halves.rest sealed_right.1 right.1
             ∙ ap (λ (ms : List Accepted). flows_within from to (flows_in ms)) (sym both_halves)
 
--- ---- the templates in front
+-- ---- the templates before the kept messages
 
 -- the first segment's prefix restates them
 pub first_templates : {F X Z : Type 0} {files : Ghosts F X} (items rest : List (Arc (SealedPart F X files) Z))

@@ -13,7 +13,7 @@ use Rattle.flow_measure.specs.declared.rows.Sums.{Sums}
 use Rattle.flow_measure.specs.Query.{interleaved, rows_of_both}
 use Rattle.flow_measure.specs.Sums.{is_within, key_cmp, row_of, rows_between, Table}
 
--- what was taken, and behind it what is left, interleaved, is all
+-- what was taken, and after it what is left, interleaved, is all
 pub record Rest (all rows others target : List Row) : Type 0 where
   pub more : ℕ
   pub enough : length rows + length others ≤ more

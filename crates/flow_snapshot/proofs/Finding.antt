@@ -52,7 +52,7 @@ module _ {P Z : Type 0} (parts : List (Arc P Z)) (i : ℕ) (item : Arc P Z) (par
 
 -- ---- messages
 
--- These octets were read as accepted messages, and these templates are in force behind them.
+-- These octets were read as accepted messages, and these templates are in force after them.
 abbrev pub AreBehind : AllTemplates → List (List ℕ) → AllTemplates → Type 0
 AreBehind before octets now = (messages : List Accepted) × AreAcceptedFrom before messages
     × (octets_of messages ≡ octets) × (now ≡ templates_from before messages)

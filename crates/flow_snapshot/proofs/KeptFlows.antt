@@ -38,7 +38,7 @@ use Rattle.flow_snapshot.proofs.Accepting.{accepted_first, all_cut, templates_th
 use Rattle.flow_snapshot.proofs.PartMessages.{cut_whole}
 use Rattle.flow_snapshot.proofs.Sharing.{all_rest}
 
--- Of these messages, which are accepted behind these templates, some were taken and others are left, with these octets.
+-- Of these messages, which are accepted after these templates, some were taken and others are left, with these octets.
 pub record Taken (Has : List Accepted → Type 0) (before : AllTemplates) (messages : List Accepted)
     (left : List (List ℕ)) (templates : AllTemplates) : Type 0 where
   pub front : List Accepted
@@ -171,7 +171,7 @@ abbrev pub chosen_holds : Chosen → List Placed → Chosen → Type 0
 chosen_holds start taken now =
     HasChosen start.from start.to start.flows.items taken now.from now.to now.flows.items
 
--- what is answered of a message is right of the one that stands there
+-- what is answered of a message is right of the next one that is left
 pub message_told : (Has : List Accepted → Type 0) (Q : Accepted → Type 0) (before templates : AllTemplates)
     (list : List Accepted) (here : List ℕ) (left : List (List ℕ)) → AreAcceptedFrom before list
     → Taken Has before list (here ∷ left) templates
@@ -344,7 +344,7 @@ pub still_restated : (prefix : List ℕ) (all : AllTemplates) → IsRestated pre
 still_restated prefix all (ms, read, none, is) =
     (ms, (read.divided).whole ∙ append-nil (joined (octets_of ms)), read.accepted, none, is)
 
--- the message that stands first, where something is left
+-- the first message, where something is left
 abbrev pub IsFirstLeft : List ℕ → AllTemplates → AllTemplates → Type 0
 IsFirstLeft rest templates all = (a : Accepted) × (more : List Accepted)
     × (rest ≡ a.octets ++ joined (octets_of more)) × IsCutOff a.octets × IsAccepted a.octets templates a.message a.after

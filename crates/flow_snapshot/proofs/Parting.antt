@@ -36,7 +36,7 @@ parted_front {A} (suc k) (c ∷ cs) xs =
     (sym (take-take c (c + n) xs (omega arith)))
     ∙ ap (λ (i : ℕ). take c (take i xs) ∷ parted (take k cs) (drop c (take i xs))) (sym all)
 
--- the parts behind them
+-- the parts after them
 pub parted_rest : {A : Type 0} (k : ℕ) (cs : List ℕ) (xs : List A)
     → drop k (parted cs xs) ≡ parted (drop k cs) (drop (sum (take k cs)) xs)
 parted_rest zero cs xs = refl

@@ -32,7 +32,7 @@ use Rattle.flow_snapshot.proofs.Sharing.{all_rest, first_of_two}
 
 -- ---- within a part
 
--- Behind so many messages that are left of a part stands this one.
+-- After so many messages that are left of a part comes this one.
 pub record IsAhead (octets : List ℕ) (c : Cursor) (message : Option (List ℕ)) (left : ℕ) : Type 0 where
   pub rest : List (List ℕ)
   pub is : rest_of octets c ≡ joined rest

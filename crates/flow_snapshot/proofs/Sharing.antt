@@ -100,7 +100,7 @@ honest_rest {P} test k xs zs is h =
     subst (λ (vs : List P). IsTrue (list_all test vs)) (sym (ap shared is ∙ sym (drop-map arc_value k xs)))
     (all_rest test k (shared xs) h)
 
--- of three lists the second grows and the third loses its front
+-- of three lists the second grows and the third loses its first files
 pub still_honest_rolled : {P Q Z : Type 0} (test : P → Bool) (other : Q → Bool) (m : Bool) (rs xs : List (Arc P Z))
     (gs ys : List (Arc Q Z)) (a p : Arc P Z) (k : ℕ) → xs ≡ rs ++ a ∷ [] → arc_value a ≡ arc_value p → ys ≡ drop k gs
     → IsTrue ((m && list_all test (shared rs)) && list_all other (shared gs)) → IsTrue (test (arc_value p))
@@ -113,7 +113,7 @@ still_honest_rolled test other m rs xs gs ys a p k is same left h here =
     (honest_rest other k gs ys left
     (second_of_two (m && list_all test (shared rs)) (list_all other (shared gs)) h))
 
--- the first grows and the second loses its front
+-- the first grows and the second loses its first files
 pub still_honest_merged : {P Z : Type 0} (test : P → Bool) (m : Bool) (rs xs gs ys : List (Arc P Z)) (a p : Arc P Z)
     (k : ℕ) → xs ≡ rs ++ a ∷ [] → arc_value a ≡ arc_value p → ys ≡ drop k gs
     → IsTrue ((list_all test (shared rs) && list_all test (shared gs)) && m) → IsTrue (test (arc_value p))

@@ -1,4 +1,4 @@
--- Where messages stand in files that may be damaged.
+-- The places of messages in files that may be damaged.
 use Rattle.std.proofs.Common.{◌≡◌, ℕ, zero, suc, Bool, true, false, ◌+◌, ◌<◌, ◌≤◌, List, [], ◌∷◌, ◌++◌, length, map}
 use Rattle.std.proofs.Common.{take, drop, Option, Some, None, refl, sym, ap, subst, ◌∙◌, append-nil, append_assoc}
 use Rattle.std.proofs.Common.{arith}
@@ -58,7 +58,7 @@ divided_then octets front rest m more d cut is = record {
   each = each_then front m d.each cut;
 }
 
--- the message that is held now is behind them
+-- the message that is held now comes after them
 passed_then : (part octets : List ℕ) (file : ℕ) (old new : Cursor) (skipped left : ℕ) (b : Bool) → b ≡ true
     → (p : ArePassed part octets old skipped left) → IsPartStep octets file old (Ok b) new
     → IsDivided part (p.front ++ new.message ∷ []) (rest_of octets new)

@@ -26,8 +26,8 @@ applied s (closed segment next) =
 applied s (installed file k) = record s { rolled = s.rolled ++ file ∷ []; sealed = drop k s.sealed }
 applied s (joined file k) = record s { merged = s.merged ++ file ∷ []; rolled = drop k s.rolled }
 
--- Added messages are read behind all others. A seal leaves a history as it is; an install raises the cut by the
--- messages that were rolled, a merge the second cut.
+-- Added messages are read after all others. A seal leaves a history as it is; an install raises the cut by the messages
+-- that were rolled, a merge the second cut.
 abbrev pub history_after : History → Change → History
 history_after h (added messages) = record h { all = h.all ++ read_from (templates_of h.all) messages }
 history_after h (closed segment next) = h
@@ -43,8 +43,8 @@ counts_of s = map (λ r. r.messages) s.rolled
 
 -- ---- what a change asks
 
--- The prefix that a segment calls for behind it: it restates what the segment's prefix and its messages, each accepted
--- behind those before it, hand on.
+-- The prefix that a segment determines for the next one: it restates the carry that the segment's prefix and its
+-- messages, each accepted after those before it, pass on.
 pub record CallsFor (segment : Segment) (next : List ℕ) : Type 0 where
   pub restated : List Accepted
   pub own : List Accepted
@@ -57,8 +57,8 @@ pub record CallsFor (segment : Segment) (next : List ℕ) : Type 0 where
 abbrev pub merged_table : Shelf → View → ℕ → Table
 merged_table s v k = widened s.wide (record { width = s.width; sums = gathered_all (take k v.rolled) })
 
--- Where a change may be made, on a shelf that has this view: messages are accepted behind all others; a seal is of the
--- active segment, which has messages, and is followed by the prefix that it calls for; the rolled file has the sums by
+-- Where a change may be made, on a shelf that has this view: messages are accepted after all others; a seal is of the
+-- active segment, which has messages, and is followed by the prefix that it determines; the rolled file has the sums by
 -- the width of the flows of the oldest segments' messages; a merge has those of the oldest rolled files, widened.
 abbrev pub Allows : Shelf → View → Change → Type 0
 Allows s v (added messages) =

@@ -28,7 +28,7 @@ segment_of {F} {X} {files} p = let octets = files.octets p.reader in record {
 abbrev pub is_honest : {F X : Type 0} {files : Ghosts F X} → SealedPart F X files → Bool
 is_honest {F} {X} {files} p = files.honest p.reader
 
--- what several owners share, one behind the other
+-- the values that several owners share, in order
 abbrev pub shared : {P Z : Type 0} → List (Arc P Z) → List P
 shared list = map arc_value list
 

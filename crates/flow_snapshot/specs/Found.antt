@@ -12,7 +12,7 @@ use Rattle.flow_snapshot.specs.Views.{AreRolled, AreRolledInto}
 
 -- ---- all files
 
--- These octets are messages, each accepted behind those before it, the first one behind these templates.
+-- These octets are messages, each accepted after those before it, the first one after these templates.
 abbrev pub AreAccepted : AllTemplates → List (List ℕ) → Type 0
 AreAccepted before octets =
     (messages : List Accepted) × AreAcceptedFrom before messages × (octets_of messages ≡ octets)
@@ -22,7 +22,7 @@ abbrev pub first_prefix : List Segment → List ℕ → List ℕ
 first_prefix [] active = active
 first_prefix (g ∷ gs) active = g.prefix
 
--- The kept messages are accepted, each behind those before it, the first one behind the templates that the first prefix
+-- The kept messages are accepted, each after those before it, the first one after the templates that the first prefix
 -- restates.
 pub record AreKept (s : Shelf) (before : AllTemplates) (kept : List Accepted) : Type 0 where
   pub prefix : IsRestated (first_prefix s.sealed s.prefix) before
@@ -43,19 +43,19 @@ pub record IsReadIn (s : Shelf) (v : View) : Type 0 where
 
 -- ---- one message
 
--- Of these octets, the message stands behind so many others, each cut off by its own header.
+-- In these octets the message comes after so many others, each cut off by its own header.
 abbrev pub IsCutBehind : List ℕ → ℕ → List ℕ → Type 0
 IsCutBehind octets skipped message = (front : List (List ℕ)) × (rest : List ℕ)
     × IsDivided octets (front ++ message ∷ []) rest × (length front ≡ skipped)
 
--- In a segment's messages this one stands behind so many others, each cut off by its own header. Octets that are left
--- behind the last one are not looked at.
+-- In a segment's messages this one comes after so many others, each cut off by its own header. Octets that are left
+-- after the last one are not looked at.
 abbrev pub StandsBehind : List (List ℕ) → ℕ → List ℕ → Type 0
 StandsBehind [] skipped message = ⊥
 StandsBehind (o ∷ os) zero message = IsCutOff message × ((rest : List ℕ) × (o ≡ message ++ rest))
 StandsBehind (o ∷ os) (suc n) message = IsCutOff o × StandsBehind os n message
 
--- It stands so in its own segment, at this place, from 0, among the messages of all.
+-- The message is so in its own segment, at this place, from 0, among the messages of all segments.
 abbrev pub StandsAt : List Segment → ℕ → List ℕ → Type 0
 StandsAt segments place message =
     (front : List Segment) × (own : Segment) × (more : List Segment) × (skipped : ℕ)

@@ -2,7 +2,7 @@
 use Rattle.std.specs.Prelude.{ℕ, ◌+◌, List, [], ◌++◌, length, sum_by}
 use Rattle.std.specs.List.{flat_map}
 
--- a sealed segment: its prefix, and the messages behind it
+-- a sealed segment: its prefix, and the messages after it
 pub record Segment : Type 0 where
   pub file : ℕ
   pub prefix : List ℕ
@@ -46,7 +46,7 @@ abbrev pub messages_in : List Segment → List (List ℕ)
 messages_in segments = flat_map (λ g. g.messages) segments
 
 -- Messages have numbers from 1 on: the last one that is summed over wide intervals, the last one that is rolled at all,
--- those that are kept behind it, and the last one.
+-- those that are kept after it, and the last one.
 abbrev pub second_of : Shelf → ℕ
 second_of s = messages_of s.merged
 

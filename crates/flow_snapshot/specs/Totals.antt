@@ -46,7 +46,7 @@ first_of (file ∷ files) = file
 abbrev pub first_file : Shelf → ℕ
 first_file s = first_of (map (λ r. r.file) s.merged ++ map (λ r. r.file) s.rolled ++ map (λ g. g.file) s.sealed)
 
--- Damage is told of this file at its start alone, and only where sums don't fit their types.
+-- Damage is reported of this file at its start alone, and only where sums don't fit their types.
 abbrev pub IsSpent : ℕ → Type 0 → QueryError → Type 0
 IsSpent first fit (Damaged file at) = (file ≡ first) × (at ≡ 0) × (fit → ⊥)
 IsSpent first fit Fault = ⊤
@@ -57,7 +57,7 @@ abbrev pub IsMade : {X : Type 0} → ℕ → Type 0 → (X → Type 0) → Resul
 IsMade first fit right (Ok x) = right x
 IsMade first fit right (Err e) = IsSpent first fit e
 
--- ---- refusals, told of totals
+-- ---- refusals as those of totals
 
 abbrev pub told_of_rows : ℕ → RowSumError → QueryError
 told_of_rows first (rolled.Damaged file at) = Damaged file at

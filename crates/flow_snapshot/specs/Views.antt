@@ -24,15 +24,15 @@ abbrev pub AreRolledInto : ℕ → List Rollup → FinMap key_cmp Sums → Type 
 AreRolledInto width files sums =
     (maps : List (FinMap key_cmp Sums)) × AreRolled width files maps × (sums ≡ gathered_all maps)
 
--- Each segment's prefix restates the templates in force before its messages, that of the active segment those behind
--- all of them.
+-- Each segment's prefix restates the templates in force before its messages, that of the active segment those after all
+-- sealed ones.
 abbrev pub AreRestated : AllTemplates → List Segment → List ℕ → Type 0
 AreRestated before [] active = IsRestated active before
 AreRestated before (g ∷ gs) active =
     IsRestated g.prefix before × AreRestated (templates_from before (read_from before g.messages)) gs active
 
 -- The view of a shelf: the sums are those of the rolled files; the kept messages are those of the segments, each
--- accepted behind those before it, and the first one behind the templates that the first prefix restates. A shelf whose
+-- accepted after those before it, and the first one after the templates that the first prefix restates. A shelf whose
 -- files are damaged has none.
 pub record IsViewOf (s : Shelf) (v : View) : Type 0 where
   pub merged : AreRolledInto s.wide s.merged v.merged

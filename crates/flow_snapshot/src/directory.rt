@@ -64,7 +64,7 @@ impl<S: SealedFile> Directory<S> {
         self.files.apply(step)
     }
 
-    /// What is there now, to be asked. It takes no memory.
+    /// The snapshot of these files, to be asked. It takes no memory.
     pub fn into_snapshot(self) -> Snapshot<S>
         ensures { result ≡ self }
     {

@@ -30,7 +30,7 @@ fn interleaved(alloc: Global, rows: &[Row], others: &[Row]) -> Result<Vec<Row>, 
     Ok(all)
 }
 
-/// A refusal of sums, told of a query.
+/// A refusal of sums as that of a query.
 pub(crate) fn told_of_sums(error: SumError, first: u64) -> QueryError
     ensures { result ≡ told_of_sums first error }
 {

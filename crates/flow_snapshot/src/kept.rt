@@ -26,7 +26,8 @@ use std::alloc::{AllocError, Global};
 use std::mem::replace;
 use std::sync::Arc;
 
-/// What is told of a message in memory that is none: of no file, since it stands in none.
+/// The refusal of a message in memory that isn't accepted, or doesn't belong in a prefix: damage of file 0, since it is
+/// in no file.
 const NO_MESSAGE: QueryError = QueryError::Damaged(0, 0);
 
 /// Takes in the templates of a message in memory, and answers whether it has data records.
@@ -50,7 +51,7 @@ fn take_in(alloc: Global, templates: &mut Templates, octets: &[u8]) -> Result<bo
     }
 }
 
-/// Hands the data records of a message in memory to a sink.
+/// Passes the data records of a message in memory to a sink.
 pub(crate) fn hand_over<R: RecordSink<Error = AllocError>>(
     alloc: Global,
     templates: &mut Templates,
@@ -95,7 +96,7 @@ pub(crate) fn restated(alloc: Global, prefix: &[u8]) -> Result<Templates, QueryE
     Ok(templates)
 }
 
-/// Puts the flows of sealed segments' messages that start from `from` on and before `to` behind those in a list.
+/// Appends the flows of sealed segments' messages that start from `from` on and before `to` to a list.
 pub(crate) fn collect_sealed<S: SealedFile>(
     alloc: Global,
     parts: &[Arc<SealedPart<S>>],
@@ -106,7 +107,7 @@ pub(crate) fn collect_sealed<S: SealedFile>(
     faults: &mut Faults<S>,
 ) -> Result<(), ScanError>
     ensures cause { HasCause ScanError.Fault faults.old faults.new result }
-    // On honest disks: all messages are accepted behind the templates given.
+    // On honest disks: all messages are accepted after the templates given.
     ensures found { IsTrue (list_all is_honest (shared parts.now)) → OnOk result
         (AreAccepted templates.old (messages_in (map segment_of (shared parts.now)))) }
     // And the flows are theirs.

@@ -27,7 +27,7 @@ pub fn views_are_read()
 {}
 
 /// A shelf that has the view of a history has, after each change that may be made there, the view of the history after
-/// that step. It is so from the beginning, where there is nothing.
+/// that step. The shelf of a new archive has the view of the empty history.
 ///
 /// What a merge asks is said by the view alone: the sums of the oldest rolled files, widened. They are the sums over
 /// wide intervals of the flows of these files' messages.
@@ -46,8 +46,8 @@ pub fn views_follow()
         ≡ table_of s.wide (flows_in (take (messages_of (take k s.rolled)) (drop h.second h.all))) }
 {}
 
-/// What a sealed segment's octets are cut into: messages that fill them, so many, are those; and what each is cut off
-/// by its own header fills them.
+/// Messages that fill a sealed segment's octets, so many, are those that the octets are cut into; and where each of
+/// these is cut off by its own header, they fill the octets.
 pub fn parts_are()
     ensures found { (octets : List ℕ) (count : ℕ) (messages : List (List ℕ)) → AreMessagesOf octets count messages
         → cut_into count octets ≡ messages }

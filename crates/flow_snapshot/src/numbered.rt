@@ -16,7 +16,7 @@ use flow_segment::{Cursor, SealedPart, advance};
 use std::alloc::Global;
 use std::sync::Arc;
 
-/// The message of a sealed segment behind `skipped` others. No records are walked: the others are skipped by their
+/// The message of a sealed segment after `skipped` others. No records are walked: the others are skipped by their
 /// Lengths, a piece of the file at a time.
 fn message_behind<S: SealedFile>(
     alloc: Global,
@@ -25,10 +25,10 @@ fn message_behind<S: SealedFile>(
     faults: &mut Faults<S>,
 ) -> Result<Vec<u8>, ScanError>
     ensures cause { HasCause ScanError.Fault faults.old faults.new result }
-    // On an honest disk: it stands behind so many others.
+    // On an honest disk: it comes after so many others.
     ensures found { IsTrue (S.honest part.now.reader) → IfOk result (λ message.
         IsCutBehind (part_octets part.now.prefix part.now.length (S.octets part.now.reader)) skipped message.items) }
-    // Of messages that fill the part, as many as there are to be, it is that one.
+    // Where messages fill the part, as many as it says, it is the one after `skipped` of them.
     ensures given { IsTrue (S.honest part.now.reader) → (list : List (List ℕ))
         → AreMessagesOf (part_octets part.now.prefix part.now.length (S.octets part.now.reader)) part.now.messages list
         → skipped < part.now.messages
@@ -56,7 +56,7 @@ pub(crate) fn sealed_message<S: SealedFile>(
     faults: &mut Faults<S>,
 ) -> Result<Option<Vec<u8>>, ScanError>
     ensures cause { HasCause ScanError.Fault faults.old faults.new result }
-    // On honest disks: it stands in its own segment behind others that are each cut off by their own header.
+    // On honest disks: it is in its own segment after others that are each cut off by their own header.
     ensures found { IsTrue (list_all is_honest (shared parts.now)) → IfOk result (λ message.
         IsSealedAt (map segment_of (shared parts.now)) place (octets_in message)) }
     // Of messages that are all cut off so, it is the one at this place.

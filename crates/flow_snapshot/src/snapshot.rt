@@ -79,7 +79,7 @@ impl<S: SealedFile> Snapshot<S> {
         rolled_count(self.files.merged.as_slice())
     }
 
-    /// The number of the last message that was rolled; those behind it are kept.
+    /// The number of the last message that was rolled; those after it are kept.
     pub fn cut(&self) -> u64
         ensures { result ≡ min (cut_of self.now.shelf) 18446744073709551615 }
     {
@@ -111,7 +111,7 @@ impl<S: SealedFile> Snapshot<S> {
         self.files.sealed.len() as u64
     }
 
-    /// The templates in force in front of the first kept message.
+    /// The templates in force before the first kept message.
     fn templates(&self, alloc: Global, faults: &mut Faults<S>) -> Result<Templates, QueryError>
         ensures cause { HasCause QueryError.Fault faults.old faults.new result }
         ensures found { IsTrue self.now.honest → IfOk result
@@ -142,7 +142,7 @@ impl<S: SealedFile> Snapshot<S> {
         // On honest disks, also where files are damaged: the flows of all kept messages, each of them accepted.
         ensures found { IsTrue self.now.honest → IfOk result (λ flows. (before : AllTemplates) × (kept : List Accepted)
             × AreKept self.now.shelf before kept × (flows.items ≡ flows_within from to (flows_in kept))) }
-        // What is answered by each view of the files; damage is told where there is none alone.
+        // What is answered by each view of the files; damage is reported only where there is none.
         ensures given { IsTrue self.now.honest → (v : View) → IsViewOf self.now.shelf v
             → IsAnswered (λ flows. flows.items ≡ flows_in_view from to v) result }
     {
@@ -167,11 +167,10 @@ impl<S: SealedFile> Snapshot<S> {
         faults: &mut Faults<S>,
     ) -> Result<Option<Vec<u8>>, QueryError>
         ensures cause { HasCause QueryError.Fault faults.old faults.new result }
-        // On honest disks, also where files are damaged: the message that stands at this number, or none where none is
-        // kept.
+        // On honest disks, also where files are damaged: the message that has this number, or none where none is kept.
         ensures found { IsTrue self.now.honest → IfOk result (λ message.
             IsMessageAt self.now.shelf n (octets_in message)) }
-        // What is answered by each view of the files; damage is told where there is none alone.
+        // What is answered by each view of the files; damage is reported only where there is none.
         ensures given { IsTrue self.now.honest → (v : View) → IsViewOf self.now.shelf v
             → IsAnswered (λ message. octets_in message ≡ message_in_view n v) result }
     {
@@ -296,7 +295,7 @@ impl<S: SealedFile> Snapshot<S> {
 
     /// The sums of all flows by interval, domain and protocol, of those intervals that start from `from` on and before
     /// `to`, both in seconds since 1970-01-01 00:00 UTC, in the order of their keys: over wide intervals of messages up
-    /// to `second_cut`, over intervals of the width of those behind it. Of two rows of one key the narrow one comes
+    /// to `second_cut`, over intervals of the width of those after it. Of two rows of one key the narrow one comes
     /// first; where both widths are one, they are one row. Each rolled file is read once, and each kept message once, a
     /// piece at a time.
     ///
@@ -314,7 +313,7 @@ impl<S: SealedFile> Snapshot<S> {
         // On honest disks, also where files are damaged: the totals of all files, each of which was read whole.
         ensures found { IsTrue self.now.honest → IfOk result (λ rows. (v : View) × IsReadIn self.now.shelf v
             × (rows.items ≡ totals_in_view from to v)) }
-        // What is answered by each view of the files; where its sums fit their types no damage is told.
+        // What is answered by each view of the files; where its sums fit their types no damage is reported.
         ensures given { IsTrue self.now.honest → (v : View) → IsViewOf self.now.shelf v
             → IsMade (first_file self.now.shelf) (SumsFit v) (λ rows. rows.items ≡ totals_in_view from to v) result }
         // Where the view is that of a history within the limits: its totals, and never damage.

@@ -1,5 +1,5 @@
 //! Sums of rolled files and of kept messages. Where a sum would pass its type, which honest files never give, the first
-//! part is told as damaged; its file is passed as `first`.
+//! part is reported as damaged; its file is passed as `first`.
 
 ghost use Rattle.std.specs.Prelude.{◌≡◌, ◌≢◌, IsTrue, IfErr, List, OnOk, map};
 ghost use Rattle.std.specs.FinMap.{FinMap};
@@ -30,7 +30,7 @@ use std::alloc::Global;
 use std::mem::replace;
 use std::sync::Arc;
 
-/// A refusal of a rolled file's rows, told of a query.
+/// A refusal of a rolled file's rows as that of a query.
 fn told_of_rows(error: RowSumError, first: u64) -> QueryError
     ensures { result ≡ told_of_rows first error }
 {
@@ -42,7 +42,7 @@ fn told_of_rows(error: RowSumError, first: u64) -> QueryError
     }
 }
 
-/// A refusal of a sealed segment's flows, told of a query.
+/// A refusal of a sealed segment's flows as that of a query.
 fn told_of_part(error: PartSumError, first: u64) -> QueryError
     ensures { result ≡ told_of_part first error }
 {
@@ -67,7 +67,7 @@ pub(crate) fn add_file<S: SealedFile>(
     // On an honest disk: it is the rolled file of some sums.
     ensures found { IsTrue part.now.honest → OnOk result ((sums : FinMap key_cmp Sums)
         × IsRollup rows.old.width part.now.octets (record { width = rows.old.width; sums = sums })) }
-    // Where it is that of these sums, they are added.
+    // Where it is the rolled file of these sums, they are added.
     ensures given { IsTrue part.now.honest → (sums : FinMap key_cmp Sums)
         → IsRollup rows.old.width part.now.octets (record { width = rows.old.width; sums = sums })
         → IsMade first (AllFit (merged rows.old (record { width = rows.old.width; sums = sums })))
@@ -142,7 +142,7 @@ pub(crate) fn add_sealed<S: SealedFile>(
     faults: &mut Faults<S>,
 ) -> Result<(), QueryError>
     ensures cause { HasCause QueryError.Fault faults.old faults.new result }
-    // On honest disks: all messages are accepted behind the templates given.
+    // On honest disks: all messages are accepted after the templates given.
     ensures found { IsTrue (list_all is_honest (shared parts.now)) → OnOk result
         (AreAccepted templates.old (messages_in (map segment_of (shared parts.now)))) }
     // And their flows are added.

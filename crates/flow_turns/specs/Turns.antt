@@ -66,7 +66,7 @@ due_with kind count None = begun_or_removal kind count
 abbrev pub due : JobKind → ℕ → State → Option Event
 due kind keep s = due_with kind (files_over kind keep s) (status_of s.job)
 
--- ---- what it tells
+-- ---- what it answers
 
 -- the events of rolling and merging
 abbrev pub is_rolling : Event → Bool
@@ -105,7 +105,7 @@ turn_done event (told.Position n) = turn.Idle
 turn_done event (told.Sealed file) = turn.Idle
 turn_done event told.Dropped = turn.Idle
 
--- what an archive answered to the event of a turn; a file that can't be removed now, and none to remove, are no
+-- a turn's answer, from the archive's answer to its event; a file that can't be removed now, and none to remove, are no
 -- refusals
 abbrev pub turn_told : Event → Result Answer ArchiveError → Result Turn ArchiveError
 turn_told event (Ok answer) = Ok (turn_done event answer)
@@ -132,7 +132,7 @@ abbrev pub idle_told : Bool → Result Turn ArchiveError
 idle_told false = Ok turn.Idle
 idle_told true = Err Closed
 
--- A turn is the event that is due, as an archive takes it, and tells of its answer.
+-- A turn is the event that is due, as an archive takes it, and reports its answer.
 abbrev pub IsTurn : {D S X : Type 0} → Ghosts D S X → Seen D → Seen D → Option Event → Result Turn ArchiveError → Type 0
 IsTurn g old new None result = (new ≡ old) × (result ≡ idle_told old.closed)
 IsTurn g old new (Some event) result =
@@ -168,22 +168,22 @@ job_told count [] = Ok count
 job_told count (Ok answer ∷ answers) = job_told count answers
 job_told count (Err error ∷ answers) = told_or (refusal_but_removal error) (job_told count answers)
 
--- what is told behind one answer more
+-- a job's answer after one answer more
 abbrev pub told_behind : Result ℕ ArchiveError → Result Answer ArchiveError → Result ℕ ArchiveError
 told_behind (Err refused) answer = Err refused
 told_behind (Ok count) (Ok answer) = Ok count
 told_behind (Ok count) (Err error) = told_or (refusal_but_removal error) (Ok count)
 
--- The archive took the events of a job over so many files, and told of them; or there was no memory for that, and all
--- is as it was.
+-- The archive took the events of a job over so many files, and the result is the job's answer; or there was no memory
+-- for the events, and all is as it was.
 abbrev pub IsJobRun : {D S X : Type 0} → Ghosts D S X → Seen D → Seen D → JobKind → ℕ → Result ℕ ArchiveError → Type 0
 IsJobRun g old new kind count result =
     ((answers : List (Result Answer ArchiveError))
     × IsRun g old (job_events kind count) answers new × (result ≡ job_told count answers))
     ⊎ ((result ≡ Err OutOfMemory) × (new ≡ old))
 
--- Where Ok is told the count of failures is as it was; where this refusal is told it has risen. Behind another refusal
--- the later events of the job are still given, and one of them may have failed.
+-- Where the answer is Ok the count of failures is as it was; where it is this refusal, the count has risen. After
+-- another refusal the later events of the job are still given, and one of them may have failed.
 pub record IsCaused (failed : ArchiveError) (before now : ℕ) (result : Result ℕ ArchiveError) : Type 0 where
   pub later : before ≤ now
   pub done : OnOk result (now ≡ before)

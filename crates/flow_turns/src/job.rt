@@ -13,7 +13,7 @@ use flow_disk::{Disk, Faults};
 use flow_manifest::JobKind;
 use std::alloc::{AllocError, Global};
 
-/// Puts so many steps behind events.
+/// Appends so many steps to events.
 fn push_steps(events: &mut Vec<Event>, count: u32) -> Result<(), AllocError>
     ensures { OnOk result (events.new.items ≡ events.old.items ++ replicate count RollStep) }
 {
@@ -23,7 +23,7 @@ fn push_steps(events: &mut Vec<Event>, count: u32) -> Result<(), AllocError>
     Ok(())
 }
 
-/// Puts so many removals behind events.
+/// Appends so many removals to events.
 fn push_removals(events: &mut Vec<Event>, count: u32) -> Result<(), AllocError>
     ensures { OnOk result (events.new.items ≡ events.old.items ++ replicate count Retire) }
 {
@@ -50,7 +50,7 @@ fn job_events(alloc: Global, kind: JobKind, count: u32) -> Result<Vec<Event>, Al
     Ok(events)
 }
 
-/// What is told of a job behind the answer to one event more: the first refusal, but for that of a removal.
+/// A job's answer after the answer to one event more: the first refusal, but for that of a removal.
 fn told_behind(
     told: Result<u32, ArchiveError>,
     answer: Result<Answer, ArchiveError>,
@@ -63,7 +63,8 @@ fn told_behind(
     }
 }
 
-/// Gives an archive the events of a job over so many files, each of them, and tells of their answers.
+/// Gives an archive each event of a job over so many files, and answers that count, or the first refusal, but for that
+/// of a removal.
 fn take_job<D: Disk>(
     archive: &mut Archive<D>,
     alloc: Global,

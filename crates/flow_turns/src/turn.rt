@@ -24,9 +24,9 @@ pub enum Turn {
     Left(u32),
     /// The file of the job is made.
     Written,
-    /// It stands in the place of its segments: how many messages are rolled.
+    /// It is in the place of its segments: how many messages are rolled.
     Installed(u64),
-    /// It stands in the place of its rolled files: how many messages are summed over wide intervals.
+    /// It is in the place of its rolled files: how many messages are summed over wide intervals.
     Merged(u64),
     /// The file of this number was removed.
     Retired(u64),
@@ -85,7 +85,7 @@ fn due<D: Disk>(archive: &Archive<D>, kind: JobKind, keep: u32) -> Option<Event>
     }
 }
 
-/// What an archive answered to the event of a turn.
+/// A turn's answer, from the archive's answer to its event.
 fn turn_told(event: &Event, answer: Result<Answer, ArchiveError>) -> Result<Turn, ArchiveError>
     ensures { result ≡ turn_told event.now answer }
 {
@@ -126,7 +126,7 @@ fn make_turn<D: Disk>(
     turn_told(&event, answer)
 }
 
-/// The next step of the job that stands, of whatever kind; without one it begins to roll all sealed segments but the
+/// The next step of the job under way, of whatever kind; without one it begins to roll all sealed segments but the
 /// newest `keep`; where there are none, it removes the oldest file that waits for its removal, and is idle where there
 /// is none that can be removed. Reads of a source that fail raise `faults`.
 ///

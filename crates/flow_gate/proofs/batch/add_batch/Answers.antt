@@ -19,7 +19,7 @@ placing g c h = by g.D.Disk _ _ _ _ (c.place_batch.ensures.any_moment h) (λ ima
       record { others = step.others; here = kept_may_add _ _ (came.0 c.args.file) (image c.args.file) step.here },
 ))
 
--- behind it
+-- after it
 placed : (g : Over) (c : In_ok-place_batch g) → IsTrue (g.D.Disk.honest c.args.disk.now)
     → LeavesOnly g.D.Disk c.args.disk.now c.place_batch.new.disk (ComesOf (g.D.Disk.held c.args.disk.now)
     (InFile c.args.file (MayAdd c.args.end (slices c.args.messages.now))))
@@ -32,7 +32,7 @@ placed g c h run = record {
   here = c.in_ok-place_batch.ensures.after h;
 }
 
--- one more file of the batch: the second call behind the first
+-- one more file of the batch: the second call after the first
 may_add : (f end : ℕ) (ms : List (List ℕ)) (x a b : ℕ → List ℕ) → InFile f (Places end ms) x a
     → InFile f (MayAdd end ms) a b → InFile f (MayAdd end ms) x b
 may_add f end ms x a b one two = record {

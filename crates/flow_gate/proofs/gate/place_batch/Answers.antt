@@ -134,7 +134,7 @@ returns-in_err-write_at-2-clause-any_moment g c h =
     (omega (arith, c.loop-message.invariant.some (omega (arith, c.requires.some, c.loop-message-test.false))))
     c.write_at-2.ensures.time
 
--- the trailer is written behind the messages
+-- the trailer is written after the messages
 module _ (g : Over) (c : In_ok-write_at-2 g) where
   behind : c.args.end + 2 ≤ c.loop-message.at
   behind = omega (arith, c.loop-message.invariant.some (omega (arith, c.requires.some, c.loop-message-test.false)))

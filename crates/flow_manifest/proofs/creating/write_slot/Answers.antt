@@ -6,7 +6,7 @@ use Rattle.flow_manifest.specs.Slots.{open_gate}
 use Rattle.flow_manifest.proofs.Gates.{body_read}
 use Rattle.flow_manifest.proofs.creating.write_slot.Goals as goal
 
--- a gate written, a body behind it, the rest cut off, and all settled
+-- a gate written, a body after it, the rest cut off, and all settled
 written : (start gated filled short new : Held) (body : List ℕ) (count : ℕ) → count ≡ 1 + length body
     → gated ≡ touched_at start 0 1 (put_at start.reads 0 (open_gate ∷ []))
     → filled ≡ touched_at gated 1 (length body) (put_at gated.reads 1 body)

@@ -19,7 +19,7 @@ use Rattle.flow_recover.specs.Opening.{IsDeviceOrMemory, IsRead, StandsForNone, 
 use Rattle.flow_recover.proofs.Recovering.{chosen, either_known, known_either}
 use Rattle.flow_recover.proofs.opening.recover.Goals as goal
 
--- a refusal that is passed on, behind a call that did not fail
+-- a refusal that is passed on, after a call that did not fail
 told_on : {T U : Type 0} (old mid now : ℕ) (e : RecoverError) (result : Result U RecoverError) → mid ≡ old
     → HasCause {T = T} Fault mid now (Err e) → IsErrAnd result (λ x. x ≡ e) → HasCause Fault old now result
 told_on old mid now e (Ok x) same cause is = absurd is

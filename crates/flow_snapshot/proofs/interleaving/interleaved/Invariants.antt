@@ -3,7 +3,7 @@ use Rattle.flow_measure.specs.Query.{interleaved}
 use Rattle.flow_snapshot.proofs.BothRows.{Rest}
 use Rattle.flow_snapshot.proofs.interleaving.interleaved.Given as goal
 
--- what was taken, and behind it what is left, interleaved, is all
+-- what was taken, and after it what is left, interleaved, is all
 abbrev pub invariant-rows : goal.invariant-rows
 invariant-rows l = record {
   left : l.row ≤ length l.rows;

@@ -5,7 +5,7 @@ use Rattle.flow_snapshot.proofs.Finding.{IsReadSoFar}
 use Rattle.flow_snapshot.proofs.KeptFlows.{IsStillRestated}
 use Rattle.flow_snapshot.proofs.kept.restated.Given as goal
 
--- the messages so far were read, and what is left restates the templates behind them
+-- the messages so far were read, and what is left restates the templates after them
 abbrev pub invariant-messages : goal.invariant-messages
 invariant-messages l = record {
   found : IsReadSoFar l.prefix l.rest l.templates;

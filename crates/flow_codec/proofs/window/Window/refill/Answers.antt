@@ -7,7 +7,7 @@ use Rattle.flow_codec.specs.declared.window.Window.{Window}
 use Rattle.flow_codec.proofs.Streaming.{grown, unread, put_size, nothing_read}
 use Rattle.flow_codec.proofs.window.Window.refill.Goals as goal
 
--- what a window's room holds after a read into the part behind its octets
+-- the octets of a window's memory after a read into the part after its octets
 read_in : (w : Window) (room read : List ℕ) → room ≡ w.octets.items → length w.octets.items ≡ 262144
     → length read ≡ length (take (length room - w.end) (drop w.end room))
     → (with_items w.octets (take w.end room ++ (read ++ post_of w.end (length room - w.end) room))).items

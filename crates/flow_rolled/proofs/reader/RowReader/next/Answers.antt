@@ -7,7 +7,7 @@ use Rattle.flow_rolled.proofs.reader.RowReader.next.Given.{Over}
 use Rattle.flow_rolled.proofs.reader.RowReader.next.Goals.{then-is_short+in_ok-piece, else-is_short}
 use Rattle.flow_rolled.proofs.reader.RowReader.next.Goals as goal
 
--- behind the read, where one was needed
+-- after the read, where one was needed
 ready : (g : Over) (c : goal.After-step g)
     → IsMid c.if-is_short.self-inside.part.now c.self.inside.cursor c.if-is_short.self-inside.cursor
     × (c.if-is_short.self-inside.part.now ≡ c.self.inside.part.now)
