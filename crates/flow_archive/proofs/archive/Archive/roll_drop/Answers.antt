@@ -1,225 +1,147 @@
-use Rattle.std.proofs.Common.{◌≡◌, inr, true, refl, sym, ◌∙◌, ap, subst, Option, Some, None}
+use Rattle.std.proofs.Common.{◌≡◌, inr, Bool, IsTrue, refl, sym, ◌∙◌, ap, Option, Some, None}
+use Rattle.flow_disk.specs.declared.disk.Disk.{Ghosts}
 use Rattle.flow_disk.specs.Disk.{Marks}
 use Rattle.flow_disk.specs.Calls.{LeavesOnly}
 use Rattle.flow_segment.proofs.Making.{begun, changed_by}
-use Rattle.flow_recover.specs.State.{State}
 use Rattle.flow_archive.specs.declared.refusal.ArchiveError.TheVariants as refusal
 use Rattle.flow_archive.specs.JobAnswers.{dropped}
-use Rattle.flow_archive.specs.UnderWay.{job_in, made_in, made_of, staged_file, staged_in, Made, Rolling}
+use Rattle.flow_archive.specs.declared.archive.Archive.TheInside.{Inside}
+use Rattle.flow_archive.specs.UnderWay.{job_in, made_in, made_of, Made, Rolling}
 use Rattle.flow_archive.specs.Seen.{StandsBeforeOrAfter}
-use Rattle.flow_archive.proofs.Dropping.{given_up, given_up_with, none_gone, staged_gone, state, unnamed, Has}
+use Rattle.flow_archive.proofs.Dropping.{given_up, given_up_with, none_gone, staged_gone, unnamed, Has}
+use Rattle.flow_archive.proofs.Inside.{state_of, with_rolling}
+use Rattle.flow_archive.proofs.Installed.{some_made}
 use Rattle.flow_archive.proofs.Removing.{closed_now, removed_run}
 use Rattle.flow_archive.proofs.Stand.{stands_for}
 use Rattle.flow_archive.proofs.Stepping.{acknowledged, failed_either, refused}
 use Rattle.flow_archive.proofs.Undertaking.{without_device}
+use Rattle.flow_archive.proofs.Written.{told}
+use Rattle.flow_archive.proofs.archive.Archive.roll_drop.Given.{Over}
+use Rattle.flow_archive.proofs.archive.Archive.roll_drop.Goals.{In-Some, After-retire}
 use Rattle.flow_archive.proofs.archive.Archive.roll_drop.Goals as goal
 
 pub returns-in_default-clause-step : goal.returns-in_default-clause-step
 returns-in_default-clause-step g c =
-    let D = g.D.Disk in
     let inside = c.self.inside in
-    let d = inside.disk in
-    let at : Option Rolling → State = state D.honest D.marks D.held inside.slots inside.last inside.end inside.total
-    inside.carry
-    inside.files.items inside.prefix inside.messages.items inside.next inside.shared inside.waiting.items in
-    let gone = c.take.ensures.after in
-    let same = gone ∙ sym (sym c.take.ensures.value ∙ c.in_default.is) in
-    rw (← c.self.view_is) (refused D _ _ _ refusal.NoRoll
-    (ap (λ (o : Option Rolling). record { disk = d; state = at o; closed = inside.closed }) same) (λ is. cc)
-    (λ h image left. g.met.D.Disk.only_now d image h left)
-    (λ h still image is. stands_for inside.slots _ image ((c.self.invariant.0.still_open still).kept.known h image is)))
+    rw (← c.self.view_is) (rw (c.take.ensures.after ∙ sym (sym c.take.ensures.value ∙ c.in_default.is))
+    (refused g.D.Disk _ _ _ refusal.NoRoll refl (λ is. cc)
+    (λ h image left. g.met.D.Disk.only_now inside.disk image h left)
+    (λ h still image is. stands_for inside.slots _ image
+    ((c.self.invariant.0.still_open still).kept.known h image is))))
+
+abbrev HasIn : {D S X T F : Type 0} → Ghosts D S X → Inside D T F → D → Bool → Option Rolling → Type 0
+HasIn g a = Has g.honest g.marks g.held a.slots a.last a.end a.total a.carry a.files.items a.prefix a.messages.items
+    a.next a.shared a.waiting.items
+
+-- ---- where there is a job
+module _ (g : Over) (c : In-Some g) where
+  job_was : c.self.inside.job ≡ Some c.in-Some.job
+  job_was = sym c.take.ensures.value ∙ c.in-Some.is
+
+  was : HasIn g.D.Disk c.self.inside c.self.inside.disk c.self.inside.closed (Some c.in-Some.job)
+  was = rw job_was at c.self.invariant
+
+-- ---- where it has made a file
+module _ (g : Over) (c : After-retire g)
+    (was : HasIn g.D.Disk c.self.inside c.self.inside.disk c.self.inside.closed (Some c.in-Some.job)) where
+  abbrev file : Made
+  file = made_of g.D.Sealed.SealedFile.number g.D.Sealed.SealedFile.size g.D.Sealed.SealedFile.honest
+      g.D.Sealed.SealedFile.octets c.in-Some-into_file.file
+
+  made : c.in-Some.job.staged ≡ Some file
+  made = sym c.into_file.ensures ∙ ap (made_in g.D.Sealed.SealedFile.number g.D.Sealed.SealedFile.size
+      g.D.Sealed.SealedFile.honest g.D.Sealed.SealedFile.octets) c.in-Some-into_file.is
+
+  without : HasIn g.D.Disk c.self.inside c.retire.new.self c.self.inside.closed None
+  without =
+      let D = g.D.Disk in
+      let a = c.self.inside in
+      given_up_with D.honest D.marks D.held a.slots a.last a.end a.total a.carry a.files.items a.prefix
+      a.messages.items a.next a.shared a.waiting.items a.disk a.closed c.in-Some.job file made was c.retire.new.self
+      c.retire.ensures.honest c.retire.ensures.marks.others (λ h. (c.retire.ensures.held h).others)
+      (λ h. g.met.D.Disk.reads_image a.disk file.file h)
+
+  -- a stop
+  run : IsTrue (g.D.Disk.honest c.self.inside.disk) → LeavesOnly g.D.Disk c.self.inside.disk c.retire.new.self
+      (StandsBeforeOrAfter (state_of c.self.inside) (λ after. after ≡ dropped (state_of c.self.inside)))
+  run h =
+      let D = g.D.Disk in
+      let a = c.self.inside in
+      rw (sym c.take.ensures.value ∙ c.in-Some.is)
+      (removed_run D.honest D.marks D.held a.disk c.retire.new.self (with_rolling a (Some c.in-Some.job)) file.file
+      (unnamed D.honest D.marks D.held a.slots a.last a.end a.total a.carry a.files.items a.prefix a.messages.items
+      a.next a.shared a.waiting.items a.disk a.closed c.in-Some.job file made was) c.retire.ensures.honest
+      c.retire.ensures.marks.others (λ t. (c.retire.ensures.held t).others)
+      (λ t. g.met.D.Disk.reads_image a.disk file.file t) D a.slots _
+      ((was.0.still_open c.if-self.false).kept.known h) (changed_by _
+      (begun h (g.met.D.Disk.reads_image a.disk file.file h) (λ image. g.met.D.Disk.only_now a.disk image h))
+      c.retire.ensures.honest c.retire.ensures.time (λ t. (c.retire.ensures.held t).others)).run)
 
 pub invariant_of-self-in_default-into_file : goal.invariant_of-self-in_default-into_file
 invariant_of-self-in_default-into_file g c =
     let D = g.D.Disk in
     let S = g.D.Sealed.SealedFile in
-    let inside = c.self.inside in
-    let d = inside.disk in
-    let gone = c.take.ensures.after in
-    let j : Rolling = c.in-Some.job in
-    let job_was = sym c.take.ensures.value ∙ c.in-Some.is in
-    let was = subst (Has D.honest D.marks D.held inside.slots inside.last inside.end inside.total inside.carry
-    inside.files.items inside.prefix inside.messages.items inside.next inside.shared inside.waiting.items d
-    inside.closed) job_was c.self.invariant in
-    let none : j.staged ≡ None = sym c.into_file.ensures
-    ∙ ap (made_in S.number S.size S.honest S.octets) c.in_default-into_file.is in
-    subst (Has D.honest D.marks D.held inside.slots inside.last inside.end inside.total inside.carry
-    inside.files.items inside.prefix inside.messages.items inside.next inside.shared inside.waiting.items d
-    inside.closed)
-    (sym gone) (given_up D.honest D.marks D.held inside.slots inside.last inside.end inside.total inside.carry
-    inside.files.items inside.prefix inside.messages.items inside.next inside.shared inside.waiting.items
-    d inside.closed j was none)
+    let a = c.self.inside in
+    rw c.take.ensures.after (given_up D.honest D.marks D.held a.slots a.last a.end a.total a.carry a.files.items
+    a.prefix a.messages.items a.next a.shared a.waiting.items a.disk a.closed c.in-Some.job
+    (was g (goal.at.invariant_of-self-in_default-into_file g c).In-Some)
+    (sym c.into_file.ensures ∙ ap (made_in S.number S.size S.honest S.octets) c.in_default-into_file.is))
 
 pub returns-in_default-into_file-clause-step : goal.returns-in_default-into_file-clause-step
 returns-in_default-into_file-clause-step g c =
-    let D = g.D.Disk in
     let inside = c.self.inside in
-    let d = inside.disk in
-    let at : Option Rolling → State = state D.honest D.marks D.held inside.slots inside.last inside.end inside.total
-    inside.carry
-    inside.files.items inside.prefix inside.messages.items inside.next inside.shared inside.waiting.items in
-    let gone = c.take.ensures.after in
-    rw (← c.self.view_is) (without_device D d (at inside.job) (at c.take.new.self)
-    inside.closed (λ after. after ≡ dropped (at inside.job)) tt c.if-self.false (ap at gone) refl
-    (λ h image left. g.met.D.Disk.only_now d image h left)
+    rw (← c.self.view_is) (without_device g.D.Disk inside.disk (state_of inside) (with_rolling inside c.take.new.self)
+    inside.closed (λ after. after ≡ dropped (state_of inside)) tt c.if-self.false
+    (ap (with_rolling inside) c.take.ensures.after) refl
+    (λ h image left. g.met.D.Disk.only_now inside.disk image h left)
     (λ h image is. stands_for inside.slots _ image
     ((c.self.invariant.0.still_open c.if-self.false).kept.known h image is)))
 
 pub invariant_of-self-in-Ok : goal.invariant_of-self-in-Ok
 invariant_of-self-in-Ok g c =
-    let D = g.D.Disk in
-    let S = g.D.Sealed.SealedFile in
-    let inside = c.self.inside in
-    let d = inside.disk in
-    let gone = c.take.ensures.after in
-    let j : Rolling = c.in-Some.job in
-    let job_was = sym c.take.ensures.value ∙ c.in-Some.is in
-    let was = subst (Has D.honest D.marks D.held inside.slots inside.last inside.end inside.total inside.carry
-    inside.files.items inside.prefix inside.messages.items inside.next inside.shared inside.waiting.items d
-    inside.closed) job_was c.self.invariant in
-    let file = c.in-Some-into_file.file in
-    let f : Made = made_of S.number S.size S.honest S.octets file in
-    let n = S.number file in
-    let d1 = c.retire.new.self in
-    let made : j.staged ≡ Some f = sym c.into_file.ensures
-    ∙ ap (made_in S.number S.size S.honest S.octets) c.in-Some-into_file.is in
-    subst (Has D.honest D.marks D.held inside.slots inside.last inside.end inside.total inside.carry
-    inside.files.items inside.prefix inside.messages.items inside.next inside.shared inside.waiting.items d1
-    inside.closed)
-    (sym gone) (given_up_with D.honest D.marks D.held inside.slots inside.last inside.end inside.total inside.carry
-    inside.files.items inside.prefix inside.messages.items inside.next inside.shared inside.waiting.items
-    d inside.closed j f made was d1 c.retire.ensures.honest c.retire.ensures.marks.others
-    (λ h. (c.retire.ensures.held h).others) (λ h. g.met.D.Disk.reads_image d n h))
+    let at = goal.at.invariant_of-self-in-Ok g c in
+    rw c.take.ensures.after (without g at.After-retire (was g at.In-Some))
 
 pub invariant_of-self-in-Err : goal.invariant_of-self-in-Err
 invariant_of-self-in-Err g c =
+    let at = goal.at.invariant_of-self-in-Err g c in
     let D = g.D.Disk in
-    let S = g.D.Sealed.SealedFile in
-    let inside = c.self.inside in
-    let d = inside.disk in
-    let gone = c.take.ensures.after in
-    let j : Rolling = c.in-Some.job in
-    let job_was = sym c.take.ensures.value ∙ c.in-Some.is in
-    let was = subst (Has D.honest D.marks D.held inside.slots inside.last inside.end inside.total inside.carry
-    inside.files.items inside.prefix inside.messages.items inside.next inside.shared inside.waiting.items d
-    inside.closed) job_was c.self.invariant in
-    let file = c.in-Some-into_file.file in
-    let f : Made = made_of S.number S.size S.honest S.octets file in
-    let n = S.number file in
-    let d1 = c.retire.new.self in
-    let made : j.staged ≡ Some f = sym c.into_file.ensures
-    ∙ ap (made_in S.number S.size S.honest S.octets) c.in-Some-into_file.is in
-    subst (Has D.honest D.marks D.held inside.slots inside.last inside.end inside.total inside.carry
-    inside.files.items inside.prefix inside.messages.items inside.next inside.shared inside.waiting.items d1 true)
-    (sym gone) (closed_now D.honest D.marks D.held inside.slots inside.last inside.end inside.total inside.carry
-    inside.files.items inside.prefix inside.messages.items inside.next None inside.shared d1 inside.closed
-    inside.waiting.items (given_up_with D.honest D.marks D.held inside.slots inside.last inside.end inside.total
-    inside.carry
-    inside.files.items inside.prefix inside.messages.items inside.next inside.shared inside.waiting.items
-    d inside.closed j f made was d1 c.retire.ensures.honest c.retire.ensures.marks.others
-    (λ h. (c.retire.ensures.held h).others) (λ h. g.met.D.Disk.reads_image d n h)))
+    let a = c.self.inside in
+    rw c.take.ensures.after (closed_now D.honest D.marks D.held a.slots a.last a.end a.total a.carry a.files.items
+    a.prefix a.messages.items a.next None a.shared c.retire.new.self a.closed a.waiting.items
+    (without g at.After-retire (was g at.In-Some)))
 
 pub returns-in-Ok-clause-step : goal.returns-in-Ok-clause-step
 returns-in-Ok-clause-step g c =
-    let D = g.D.Disk in
-    let S = g.D.Sealed.SealedFile in
+    let at = goal.at.returns-in-Ok-clause-step g c in
     let inside = c.self.inside in
-    let d = inside.disk in
-    let at : Option Rolling → State = state D.honest D.marks D.held inside.slots inside.last inside.end inside.total
-    inside.carry
-    inside.files.items inside.prefix inside.messages.items inside.next inside.shared inside.waiting.items in
-    let gone = c.take.ensures.after in
-    let j : Rolling = c.in-Some.job in
-    let job_was = sym c.take.ensures.value ∙ c.in-Some.is in
-    let was = subst (Has D.honest D.marks D.held inside.slots inside.last inside.end inside.total inside.carry
-    inside.files.items inside.prefix inside.messages.items inside.next inside.shared inside.waiting.items d
-    inside.closed) job_was c.self.invariant in
-    let file = c.in-Some-into_file.file in
-    let f : Made = made_of S.number S.size S.honest S.octets file in
-    let n = S.number file in
-    let d1 = c.retire.new.self in
-    let made : j.staged ≡ Some f = sym c.into_file.ensures
-    ∙ ap (made_in S.number S.size S.honest S.octets) c.in-Some-into_file.is in
-    rw (← c.self.view_is) (acknowledged D _ _ _ _ c.retire.ensures.honest
-    (λ h.
-    let at_all = g.met.D.Disk.reads_image d n h in
-    let none = begun h at_all (λ image. g.met.D.Disk.only_now d image h) in
-    let run = (changed_by _ none c.retire.ensures.honest
-    c.retire.ensures.time (λ t. (c.retire.ensures.held t).others)).run in
-    subst (λ (o : Option Rolling). LeavesOnly D d d1
-    (StandsBeforeOrAfter (at o) (λ after. after ≡ dropped (at o)))) (sym job_was)
-    (removed_run D.honest D.marks D.held d d1 (at (Some j)) n (unnamed D.honest D.marks D.held inside.slots inside.last
-    inside.end inside.total inside.carry
-    inside.files.items inside.prefix inside.messages.items inside.next inside.shared inside.waiting.items
-    d inside.closed j f made was) c.retire.ensures.honest c.retire.ensures.marks.others
-    (λ t. (c.retire.ensures.held t).others) (λ t. g.met.D.Disk.reads_image d n t) D inside.slots
-    _ ((was.0.still_open c.if-self.false).kept.known h) run))
-    (λ h. ap at gone) c.if-self.false c.if-self.false
+    rw (← c.self.view_is) (acknowledged g.D.Disk _ _ _ _ c.retire.ensures.honest
+    (run g at.After-retire (was g at.In-Some)) (λ h. ap (with_rolling inside) c.take.ensures.after) c.if-self.false
+    c.if-self.false
     (λ h1 image left. stands_for inside.slots _ image
     (((invariant_of-self-in-Ok g c).0.still_open c.if-self.false).kept.known h1 image
-    (g.met.D.Disk.only_now d1 image h1 left))))
+    (g.met.D.Disk.only_now c.retire.new.self image h1 left))))
 
 pub returns-in-Err-clause-answers : goal.returns-in-Err-clause-answers
 returns-in-Err-clause-answers g c =
-    let D = g.D.Disk in
-    let S = g.D.Sealed.SealedFile in
-    let inside = c.self.inside in
-    let at : Option Rolling → State = state D.honest D.marks D.held inside.slots inside.last inside.end inside.total
-    inside.carry
-    inside.files.items inside.prefix inside.messages.items inside.next inside.shared inside.waiting.items in
-    let gone = c.take.ensures.after in
-    let j : Rolling = c.in-Some.job in
-    let job_was = sym c.take.ensures.value ∙ c.in-Some.is in
-    let file = c.in-Some-into_file.file in
-    let f : Made = made_of S.number S.size S.honest S.octets file in
-    let made : j.staged ≡ Some f = sym c.into_file.ensures
-    ∙ ap (made_in S.number S.size S.honest S.octets) c.in-Some-into_file.is in
+    let at = goal.at.returns-in-Err-clause-answers g c in
+    let job_was = job_was g at.In-Some in
     rw (← c.self.view_is) (
       c.if-self.false,
       (
-        record { kind = j.kind; sources = j.sources; read = j.read; staged = staged_in j.staged },
+        told c.in-Some.job,
         ap job_in job_was,
-        (λ none. let no : Some (staged_file f) ≡ None = ap staged_in (sym made) ∙ none in cc),
+        some_made c.in-Some.job _ (made g at.After-retire (was g at.In-Some)),
       ),
-      ap at gone,
+      ap (with_rolling c.self.inside) c.take.ensures.after,
     )
 
 pub returns-in-Err-clause-step : goal.returns-in-Err-clause-step
 returns-in-Err-clause-step g c =
-    let D = g.D.Disk in
-    let S = g.D.Sealed.SealedFile in
-    let inside = c.self.inside in
-    let d = inside.disk in
-    let at : Option Rolling → State = state D.honest D.marks D.held inside.slots inside.last inside.end inside.total
-    inside.carry
-    inside.files.items inside.prefix inside.messages.items inside.next inside.shared inside.waiting.items in
-    let gone = c.take.ensures.after in
-    let j : Rolling = c.in-Some.job in
-    let job_was = sym c.take.ensures.value ∙ c.in-Some.is in
-    let was = subst (Has D.honest D.marks D.held inside.slots inside.last inside.end inside.total inside.carry
-    inside.files.items inside.prefix inside.messages.items inside.next inside.shared inside.waiting.items d
-    inside.closed) job_was c.self.invariant in
-    let file = c.in-Some-into_file.file in
-    let f : Made = made_of S.number S.size S.honest S.octets file in
-    let n = S.number file in
-    let d1 = c.retire.new.self in
-    let made : j.staged ≡ Some f = sym c.into_file.ensures
-    ∙ ap (made_in S.number S.size S.honest S.octets) c.in-Some-into_file.is in
-    rw (← c.self.view_is) (failed_either D _ _ _ c.retire.ensures.honest
-    (λ h.
-    let at_all = g.met.D.Disk.reads_image d n h in
-    let none = begun h at_all (λ image. g.met.D.Disk.only_now d image h) in
-    let run = (changed_by _ none c.retire.ensures.honest
-    c.retire.ensures.time (λ t. (c.retire.ensures.held t).others)).run in
-    subst (λ (o : Option Rolling). LeavesOnly D d d1
-    (StandsBeforeOrAfter (at o) (λ after. after ≡ dropped (at o)))) (sym job_was)
-    (removed_run D.honest D.marks D.held d d1 (at (Some j)) n (unnamed D.honest D.marks D.held inside.slots inside.last
-    inside.end inside.total inside.carry
-    inside.files.items inside.prefix inside.messages.items inside.next inside.shared inside.waiting.items
-    d inside.closed j f made was) c.retire.ensures.honest c.retire.ensures.marks.others
-    (λ t. (c.retire.ensures.held t).others) (λ t. g.met.D.Disk.reads_image d n t) D inside.slots
-    _ ((was.0.still_open c.if-self.false).kept.known h) run))
-    (inr (ap at gone)) refl c.if-self.false)
+    let at = goal.at.returns-in-Err-clause-step g c in
+    rw (← c.self.view_is) (failed_either g.D.Disk _ _ _ c.retire.ensures.honest
+    (run g at.After-retire (was g at.In-Some))
+    (inr (ap (with_rolling c.self.inside) c.take.ensures.after)) refl c.if-self.false)
 
 pub returns-in-Err-clause-cause : goal.returns-in-Err-clause-cause
 returns-in-Err-clause-cause g c =
@@ -233,31 +155,15 @@ returns-in-Err-clause-cause g c =
 
 pub returns-in_default-into_file-clause-removed : goal.returns-in_default-into_file-clause-removed
 returns-in_default-into_file-clause-removed g c =
-    let D = g.D.Disk in
     let S = g.D.Sealed.SealedFile in
-    let inside = c.self.inside in
-    let j : Rolling = c.in-Some.job in
-    let job_was = sym c.take.ensures.value ∙ c.in-Some.is in
-    let none : j.staged ≡ None = sym c.into_file.ensures
-    ∙ ap (made_in S.number S.size S.honest S.octets) c.in_default-into_file.is in
-    rw (← c.self.view_is) (none_gone (D.marks inside.disk) (state D.honest D.marks D.held inside.slots inside.last
-    inside.end
-    inside.total inside.carry inside.files.items inside.prefix inside.messages.items inside.next inside.shared
-    inside.waiting.items inside.job) j (ap job_in job_was) none)
+    rw (← c.self.view_is) (none_gone (g.D.Disk.marks c.self.inside.disk) (state_of c.self.inside) c.in-Some.job
+    (ap job_in (job_was g (goal.at.returns-in_default-into_file-clause-removed g c).In-Some))
+    (sym c.into_file.ensures ∙ ap (made_in S.number S.size S.honest S.octets) c.in_default-into_file.is))
 
 pub returns-in-Ok-clause-removed : goal.returns-in-Ok-clause-removed
 returns-in-Ok-clause-removed g c =
-    let D = g.D.Disk in
-    let S = g.D.Sealed.SealedFile in
-    let inside = c.self.inside in
-    let j : Rolling = c.in-Some.job in
-    let job_was = sym c.take.ensures.value ∙ c.in-Some.is in
-    let f : Made = made_of S.number S.size S.honest S.octets c.in-Some-into_file.file in
-    let made : j.staged ≡ Some f = sym c.into_file.ensures
-    ∙ ap (made_in S.number S.size S.honest S.octets) c.in-Some-into_file.is in
-    rw (← c.self.view_is) (staged_gone (D.marks c.retire.new.self) (state D.honest D.marks D.held inside.slots
-    inside.last
-    inside.end inside.total inside.carry inside.files.items inside.prefix inside.messages.items inside.next
-    inside.shared
-    inside.waiting.items inside.job) j f (ap job_in job_was) made
+    let at = goal.at.returns-in-Ok-clause-removed g c in
+    let job_was = job_was g at.In-Some in
+    rw (← c.self.view_is) (staged_gone (g.D.Disk.marks c.retire.new.self) (state_of c.self.inside) c.in-Some.job _
+    (ap job_in job_was) (made g at.After-retire (was g at.In-Some))
     (ap (λ (k : Marks). k.listed) c.in-Ok.ensures.marks.done))
