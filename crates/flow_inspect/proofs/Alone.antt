@@ -47,8 +47,8 @@ lookup_after {V} d k v (e ∷ es) = by (nat_eq k e.0) refl (lookup_after d k v e
 -- from any entries on
 from_here : (d : ℕ) (es : List (ℕ × DomainReport)) (messages : List RawMessage)
     → lookup (nat_eq d) (fold (λ (x : List (ℕ × DomainReport)) (m : RawMessage). entries_after x m.header
-    (counts_of m.records)) es messages)
-    ≡ fold (λ (r : Option DomainReport) (m : RawMessage). Some (report_after r m.header (counts_of m.records)))
+    (counts_of m)) es messages)
+    ≡ fold (λ (r : Option DomainReport) (m : RawMessage). Some (report_after r m.header (counts_of m)))
     (lookup (nat_eq d) es) (own d messages)
 from_here d es [] = refl
 from_here d es (m ∷ ms) = from_here d (entries_after es m.header counts) ms ∙ by (nat_eq d domain) refl
@@ -57,14 +57,14 @@ from_here d es (m ∷ ms) = from_here d (entries_after es m.header counts) ms �
     domain = m.header.domain
 
     counts : RecordCounts
-    counts = counts_of m.records
+    counts = counts_of m
 
     here : Option DomainReport
     here = lookup (nat_eq d) es
 
     goes_on : Option DomainReport → List RawMessage → Option DomainReport
     goes_on r messages =
-        fold (λ (r : Option DomainReport) (m : RawMessage). Some (report_after r m.header (counts_of m.records))) r
+        fold (λ (r : Option DomainReport) (m : RawMessage). Some (report_after r m.header (counts_of m))) r
         messages
 
     found : lookup (nat_eq d) (entries_after es m.header counts)

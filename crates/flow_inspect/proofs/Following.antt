@@ -34,10 +34,13 @@ use Rattle.flow_report.specs.Fronts.{IsSpentFront, IsReadFront}
 use Rattle.flow_report.proofs.Reached.{IsShort, spent_at, read_up}
 use Rattle.flow_inspect.specs.declared.counting.RecordCounts.{RecordCounts}
 use Rattle.flow_inspect.specs.declared.reporting.DomainReport.{DomainReport}
-use Rattle.flow_inspect.specs.Counting.{HasCounted, counts_of, is_flow, is_option}
+use Rattle.flow_inspect.specs.declared.span.Span.{Span}
+use Rattle.flow_inspect.specs.declared.tally.Tally.{Tally}
+use Rattle.flow_inspect.specs.Counting.{HasCounted, counts_of, is_flow, is_option, starts_of, widened}
 use Rattle.flow_report.specs.declared.format.Format.{Format}
 use Rattle.flow_report.specs.Formats.{heading}
-use Rattle.flow_inspect.specs.Reports.{entries_after, report_in, report_names, reports_of, reports_text}
+use Rattle.flow_inspect.specs.Reports.{domains_text, entries_after, report_in, report_names, reports_of, whole_of}
+use Rattle.flow_inspect.specs.Reports.{with_tally}
 use Rattle.flow_inspect.specs.Inspect.{HasReports, walk_refusal}
 
 -- what is counted of the messages that a reader gave
@@ -77,35 +80,45 @@ count_under p header records = from 0 records
 none_counted : (n : ℕ) → n ≡ 0 → n ≡ min (n + 0) (2 ^ 32 - 1)
 none_counted n zero = subst (λ (k : ℕ). k ≡ min (k + 0) (2 ^ 32 - 1)) (sym zero) refl
 
-pub counts_are : (header : Header) (records : List RawRecord) (start now : RecordCounts)
-    → start.records ≡ 0 → start.options ≡ 0 → length records < 65536 → HasCounted start (under header records) now
-    → now ≡ counts_of records
-counts_are header records start now none nought few h =
-    ap₂ (λ (a b : ℕ). let c : RecordCounts = record { records = a; options = b } in c)
-    (of_kind is_flow start.records now.records none h.0) (of_kind is_option start.options now.options nought h.1)
+pub counts_are : (m : RawMessage) (start now : RecordCounts) → start.records ≡ 0 → start.options ≡ 0
+    → start.starts ≡ None → length m.records < 65536 → HasCounted start (under m.header m.records) now
+    → now ≡ counts_of m
+counts_are m start now none nought no_start few h =
+    alike now (counts_of m) (of_kind is_flow start.records now.records none h.0)
+    (of_kind is_option start.options now.options nought h.1)
+    (h.2 ∙ ap (λ (s : Option Span). fold widened s (starts_of (under m.header m.records))) no_start)
   where
     of_kind : (p : RawRecord → Bool) (first last : ℕ) → first ≡ 0
-        → last ≡ min (first + count_by (λ (x : Placed). p x.1) (under header records)) (2 ^ 32 - 1)
-        → last ≡ count_by p records
+        → last ≡ min (first + count_by (λ (x : Placed). p x.1) (under m.header m.records)) (2 ^ 32 - 1)
+        → last ≡ count_by p m.records
     of_kind p first last zero is =
-        let le = count_by-le-length p records in
-        let same = count_under p header records in
+        let le = count_by-le-length p m.records in
+        let same = count_under p m.header m.records in
         is ∙ ap (λ (n : ℕ). min n (2 ^ 32 - 1)) (omega (arith, zero, same))
         ∙ min-eq_left (omega (arith, le, few))
+
+    of_three : ℕ → ℕ → Option Span → RecordCounts
+    of_three x y s = record { records = x; options = y; starts = s }
+
+    alike : (a b : RecordCounts) → a.records ≡ b.records → a.options ≡ b.options → a.starts ≡ b.starts → a ≡ b
+    alike a b records options starts =
+        ap₂ (λ (x y : ℕ). of_three x y a.starts) records options
+        ∙ ap (λ (s : Option Span). of_three b.records b.options s) starts
 
 -- one message more
 pub stepped : (old : Option (List ℕ)) (r0 r1 : Progress) (h0 h1 : AllTemplates)
     (before after : List (ℕ × DomainReport)) (start now : RecordCounts) (header : Header) (octets : List ℕ)
     → HasInspected old r0 h0 before → IsStep r0 (Ok true) r1 → octets ≡ r1.message
-    → start.records ≡ 0 → start.options ≡ 0 → IsWalkedBy HasCounted octets h0 h1 start now header
+    → start.records ≡ 0 → start.options ≡ 0 → start.starts ≡ None
+    → IsWalkedBy HasCounted octets h0 h1 start now header
     → after ≡ entries_after before header now → HasInspected old r1 h1 after
-stepped old r0 r1 h0 h1 before after start now header octets s step is none nought walked grown =
+stepped old r0 r1 h0 h1 before after start now header octets s step is none nought no_start walked grown =
     let m : RawMessage = record { header = header; records = walked.0 } in
     let accepted : IsAccepted r1.message h0 m h1 = subst (λ (o : List ℕ). IsAccepted o h0 m h1) is walked.1 in
-    let took = walked.2 start [] (none_counted start.records none, none_counted start.options nought) in
+    let took = walked.2 start [] (none_counted start.records none, none_counted start.options nought, refl) in
     let records = few_records r1.message h0 m h1 accepted.0 in
     let short = short_enough r1.message h0 m h1 accepted.0 in
-    let counts = counts_are header walked.0 start now none nought (omega (arith, records, short.1)) took in
+    let counts = counts_are m start now none nought no_start (omega (arith, records, short.1)) took in
     record {
       messages = s.messages ++ m ∷ [];
       run = follows_more old r0 r1 s.messages h0 h1 m s.run step accepted;
@@ -113,8 +126,8 @@ stepped old r0 r1 h0 h1 before after start now header octets s step is none noug
       going = step.1;
       entries_are =
           grown ∙ ap₂ (λ (es : List (ℕ × DomainReport)) (c : RecordCounts). entries_after es header c) s.entries_are counts
-          ∙ sym (fold-append (λ (es : List (ℕ × DomainReport)) (x : RawMessage). entries_after es x.header (counts_of x.records))
-          [] s.messages (m ∷ []));
+          ∙ sym (fold-append (λ (es : List (ℕ × DomainReport)) (x : RawMessage).
+          entries_after es x.header (counts_of x)) [] s.messages (m ∷ []));
     }
 
 -- at the File's end this is counted of all
@@ -132,15 +145,24 @@ ended old reader next here entries h step =
 -- the line of one domain more
 pub one_line_more : (format : Format) (entries : List (ℕ × DomainReport)) (i : ℕ) (e : ℕ × DomainReport)
     → slice_get entries i ≡ Some e
-    → reports_text format (take (i + 1) entries) ≡ reports_text format (take i entries) ++ report_in format e
+    → domains_text format (take (i + 1) entries) ≡ domains_text format (take i entries) ++ report_in format e
 one_line_more format entries i e is =
     let names = heading format report_names in
     let before = flat_map (report_in format) (take i entries) in
-    ap (reports_text format) (take_more entries i e (slice_get_within entries i e is)
+    ap (domains_text format) (take_more entries i e (slice_get_within entries i e is)
     ∙ ap (λ (x : ℕ × DomainReport). take i entries ++ x ∷ []) (get_or_from_slice_get entries i e e is))
     ∙ ap (λ (l : List ℕ). names ++ l) (flat_map-append (report_in format) (take i entries) (e ∷ [])
     ∙ ap (λ (l : List ℕ). before ++ l) (append-nil (report_in format e)))
     ∙ sym (append_assoc names before (report_in format e))
+
+-- one domain more in the whole
+pub one_domain_more : (entries : List (ℕ × DomainReport)) (i : ℕ) (e : ℕ × DomainReport) → slice_get entries i ≡ Some e
+    → whole_of (take (i + 1) entries) ≡ Some (with_tally (whole_of (take i entries)) e.1.tally)
+one_domain_more entries i e is =
+    ap whole_of (take_more entries i e (slice_get_within entries i e is)
+    ∙ ap (λ (x : ℕ × DomainReport). take i entries ++ x ∷ []) (get_or_from_slice_get entries i e e is))
+    ∙ fold-append (λ (whole : Option Tally) (x : ℕ × DomainReport). Some (with_tally whole x.1.tally)) None
+    (take i entries) (e ∷ [])
 
 -- ---- refusals
 

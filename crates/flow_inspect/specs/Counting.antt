@@ -1,7 +1,9 @@
--- The data records of messages, by the kind of their definition.
-use Rattle.std.specs.Prelude.{◌≡◌, ◌+◌, ◌-◌, ◌^◌, min, Bool, not, List, count_by}
-use Rattle.flow_codec.specs.Raw.{Placed, RawRecord}
+-- The data records of messages, by the kind of their definition, and when their flows start.
+use Rattle.std.specs.Prelude.{◌≡◌, ◌+◌, ◌-◌, ◌^◌, ℕ, min, max, Bool, not, List, Option, Some, None, count_by, fold, map}
+use Rattle.flow_codec.specs.Raw.{Placed, RawRecord, RawMessage, under}
+use Rattle.flow_measure.specs.Flows.{flows_of_records}
 use Rattle.flow_inspect.specs.declared.counting.RecordCounts.{RecordCounts}
+use Rattle.flow_inspect.specs.declared.span.Span.{Span}
 
 -- a record of a Template, and one of an Options Template
 abbrev pub is_option : RawRecord → Bool
@@ -10,12 +12,40 @@ is_option r = r.layout.options
 abbrev pub is_flow : RawRecord → Bool
 is_flow r = not (is_option r)
 
--- The counts have risen by these records; they stop at 2^32 - 1.
+-- ---- times
+
+-- the least and the greatest of some times and one more
+abbrev pub widened : Option Span → ℕ → Option Span
+widened None time = Some (record { first = time; last = time })
+widened (Some span) time = Some (record { first = min span.first time; last = max span.last time })
+
+-- the least and the greatest of times; nothing where there is none
+abbrev pub span_of : List ℕ → Option Span
+span_of times = fold widened None times
+
+-- the least and the greatest of two spans
+abbrev pub hull : Option Span → Option Span → Option Span
+hull None more = more
+hull (Some span) None = Some span
+hull (Some span) (Some more) = Some (record { first = min span.first more.first; last = max span.last more.last })
+
+-- when the flows of these records start, in their order
+abbrev pub starts_of : List Placed → List ℕ
+starts_of taken = map (λ flow. flow.start) (flows_of_records taken)
+
+-- ---- counts
+
+-- The counts have risen by these records; they stop at 2^32 - 1. The span has widened by the starts of their flows.
 abbrev pub HasCounted : RecordCounts → List Placed → RecordCounts → Type 0
 HasCounted start taken now =
     (now.records ≡ min (start.records + count_by (λ x. is_flow x.1) taken) (2 ^ 32 - 1))
     × (now.options ≡ min (start.options + count_by (λ x. is_option x.1) taken) (2 ^ 32 - 1))
+    × (now.starts ≡ fold widened start.starts (starts_of taken))
 
 -- the data records of a message
-abbrev pub counts_of : List RawRecord → RecordCounts
-counts_of records = record { records = count_by is_flow records; options = count_by is_option records }
+abbrev pub counts_of : RawMessage → RecordCounts
+counts_of m = record {
+  records = count_by is_flow m.records;
+  options = count_by is_option m.records;
+  starts = span_of (starts_of (under m.header m.records));
+}

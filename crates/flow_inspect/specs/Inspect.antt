@@ -26,7 +26,7 @@ abbrev pub HasReports : List ℕ → List (ℕ × DomainReport) → Type 0
 HasReports octets entries = (messages : List RawMessage) × (after : AllTemplates)
     × AcceptedFront octets messages after whole × (entries ≡ reports_of messages)
 
--- the octets are a whole File of accepted messages, and these are the lines of its domains
+-- the octets are a whole File of accepted messages, and these are the lines of its domains, in words with one of all
 abbrev pub HasLines : Format → List ℕ → List ℕ → Type 0
 HasLines format octets lines = (messages : List RawMessage) × (after : AllTemplates)
     × AcceptedFront octets messages after whole × (lines ≡ reports_text format (reports_of messages))

@@ -1,6 +1,6 @@
--- What is counted of each Observation Domain, and the lines of that.
+-- What is counted of each Observation Domain and of the whole File, and the lines of that.
 use Rattle.std.specs.Prelude.{ℕ, ◌+◌, ◌-◌, ◌%◌, ◌^◌, min, max, nat_eq, nat_lt, nat_le, ◌&&◌, Bool, List, [], ◌∷◌}
-use Rattle.std.specs.Prelude.{◌++◌, Option, Some, None, if◌then◌else◌, codes, filter, fold}
+use Rattle.std.specs.Prelude.{◌++◌, Option, Some, None, option_map, if◌then◌else◌, codes, filter, fold, length}
 use Rattle.std.specs.List.{flat_map}
 use Rattle.std.specs.Fmt.{decimal}
 use Rattle.std.specs.Map.{lookup}
@@ -12,7 +12,9 @@ use Rattle.flow_report.specs.declared.format.Format.TheVariants.{Lines, Csv, Jso
 use Rattle.flow_report.specs.Formats.{Named, heading, line_in}
 use Rattle.flow_inspect.specs.declared.counting.RecordCounts.{RecordCounts}
 use Rattle.flow_inspect.specs.declared.reporting.DomainReport.{DomainReport}
-use Rattle.flow_inspect.specs.Counting.{counts_of}
+use Rattle.flow_inspect.specs.declared.span.Span.{Span}
+use Rattle.flow_inspect.specs.declared.tally.Tally.{Tally}
+use Rattle.flow_inspect.specs.Counting.{counts_of, hull}
 
 -- counts stop at 2^64 - 1
 abbrev pub plus : ℕ → ℕ → ℕ
@@ -37,31 +39,39 @@ is_before n = nat_le (2 ^ 31) n
 -- a domain's first message
 abbrev pub begun : Header → RecordCounts → DomainReport
 begun header counts = record {
-  messages = 1;
-  records = counts.records;
-  options = counts.options;
-  gaps = 0;
-  missing = 0;
-  backwards = 0;
+  tally = record {
+    messages = 1;
+    records = counts.records;
+    options = counts.options;
+    gaps = 0;
+    missing = 0;
+    backwards = 0;
+    first = header.time;
+    last = header.time;
+    starts = counts.starts;
+  };
   due = due_after header counts;
-  first = header.time;
-  last = header.time;
 }
 
--- one message more
+-- one message more, which is so far past the due number
+abbrev pub tally_after : Tally → ℕ → Header → RecordCounts → Tally
+tally_after tally far header counts = record {
+  messages = plus tally.messages 1;
+  records = plus tally.records counts.records;
+  options = plus tally.options counts.options;
+  gaps = if is_past far then plus tally.gaps 1 else tally.gaps;
+  missing = if is_past far then plus tally.missing far else tally.missing;
+  backwards = if is_before far then plus tally.backwards 1 else tally.backwards;
+  first = min tally.first header.time;
+  last = max tally.last header.time;
+  starts = hull tally.starts counts.starts;
+}
+
 abbrev pub continued : DomainReport → Header → RecordCounts → DomainReport
-continued report header counts =
-    let far = distance report.due header.sequence in record {
-      messages = plus report.messages 1;
-      records = plus report.records counts.records;
-      options = plus report.options counts.options;
-      gaps = if is_past far then plus report.gaps 1 else report.gaps;
-      missing = if is_past far then plus report.missing far else report.missing;
-      backwards = if is_before far then plus report.backwards 1 else report.backwards;
-      due = due_after header counts;
-      first = min report.first header.time;
-      last = max report.last header.time;
-    }
+continued report header counts = record {
+  tally = tally_after report.tally (distance report.due header.sequence) header counts;
+  due = due_after header counts;
+}
 
 abbrev pub report_after : Option DomainReport → Header → RecordCounts → DomainReport
 report_after None header counts = begun header counts
@@ -76,7 +86,7 @@ entries_after entries header counts =
     (report_after (lookup (nat_eq header.domain) entries) header counts)
 
 abbrev pub reports_of : List RawMessage → List (ℕ × DomainReport)
-reports_of messages = fold (λ entries m. entries_after entries m.header (counts_of m.records)) [] messages
+reports_of messages = fold (λ entries m. entries_after entries m.header (counts_of m)) [] messages
 
 -- ---- of one domain
 
@@ -86,39 +96,75 @@ own domain messages = filter (λ m. nat_eq domain m.header.domain) messages
 
 -- what is counted of messages of one domain, one after the other; nothing where there is none
 abbrev pub report_of : List RawMessage → Option DomainReport
-report_of messages = fold (λ report m. Some (report_after report m.header (counts_of m.records))) None messages
+report_of messages = fold (λ report m. Some (report_after report m.header (counts_of m))) None messages
+
+-- ---- of the whole File
+
+-- what is counted of two parts of a File, together
+abbrev pub together : Tally → Tally → Tally
+together a b = record {
+  messages = plus a.messages b.messages;
+  records = plus a.records b.records;
+  options = plus a.options b.options;
+  gaps = plus a.gaps b.gaps;
+  missing = plus a.missing b.missing;
+  backwards = plus a.backwards b.backwards;
+  first = min a.first b.first;
+  last = max a.last b.last;
+  starts = hull a.starts b.starts;
+}
+
+abbrev pub with_tally : Option Tally → Tally → Tally
+with_tally None tally = tally
+with_tally (Some whole) tally = together whole tally
+
+-- what is counted of all domains; nothing where there is no message
+abbrev pub whole_of : List (ℕ × DomainReport) → Option Tally
+whole_of entries = fold (λ whole e. Some (with_tally whole e.1.tally)) None entries
 
 -- ---- lines
 
 -- how many messages and data records
-unfoldable pub counts_text : DomainReport → List ℕ
-counts_text report =
-    codes " messages" ++ 32 ∷ decimal report.messages ++ codes " records" ++ 32 ∷ decimal report.records
-    ++ codes " options" ++ 32 ∷ decimal report.options
+unfoldable pub counts_text : Tally → List ℕ
+counts_text tally =
+    codes " messages" ++ 32 ∷ decimal tally.messages ++ codes " records" ++ 32 ∷ decimal tally.records
+    ++ codes " options" ++ 32 ∷ decimal tally.options
 
 -- how the Sequence Numbers follow
-unfoldable pub sequence_text : DomainReport → List ℕ
-sequence_text report =
-    codes " gaps" ++ 32 ∷ decimal report.gaps ++ codes " missing" ++ 32 ∷ decimal report.missing
-    ++ codes " backwards" ++ 32 ∷ decimal report.backwards
+unfoldable pub sequence_text : Tally → List ℕ
+sequence_text tally =
+    codes " gaps" ++ 32 ∷ decimal tally.gaps ++ codes " missing" ++ 32 ∷ decimal tally.missing
+    ++ codes " backwards" ++ 32 ∷ decimal tally.backwards
 
--- domain DOMAIN messages N records N options N gaps N missing N backwards N from TIME to TIME, with a line feed
+-- when the flows start
+unfoldable pub starts_text : Option Span → List ℕ
+starts_text None = codes " starts - -"
+starts_text (Some span) = codes " starts" ++ 32 ∷ decimal span.first ++ 32 ∷ decimal span.last
+
+-- messages N records N options N gaps N missing N backwards N from TIME to TIME starts FIRST LAST, with a line feed
+unfoldable pub tally_text : Tally → List ℕ
+tally_text tally =
+    counts_text tally ++ sequence_text tally ++ codes " from" ++ 32 ∷ decimal tally.first
+    ++ codes " to" ++ 32 ∷ decimal tally.last ++ starts_text tally.starts ++ 10 ∷ []
+
+-- domain DOMAIN, and what is counted of it
 unfoldable pub report_line : ℕ × DomainReport → List ℕ
-report_line e =
-    codes "domain" ++ 32 ∷ decimal e.0 ++ counts_text e.1 ++ sequence_text e.1
-    ++ codes " from" ++ 32 ∷ decimal e.1.first ++ codes " to" ++ 32 ∷ decimal e.1.last ++ 10 ∷ []
+report_line e = codes "domain" ++ 32 ∷ decimal e.0 ++ tally_text e.1.tally
 
 -- the same values with their names
 abbrev pub report_values : ℕ × DomainReport → List Named
 report_values e =
-    (codes "domain", Some e.0) ∷ (codes "messages", Some e.1.messages) ∷ (codes "records", Some e.1.records)
-    ∷ (codes "options", Some e.1.options) ∷ (codes "gaps", Some e.1.gaps) ∷ (codes "missing", Some e.1.missing)
-    ∷ (codes "backwards", Some e.1.backwards) ∷ (codes "from", Some e.1.first) ∷ (codes "to", Some e.1.last) ∷ []
+    let t = e.1.tally in
+    (codes "domain", Some e.0) ∷ (codes "messages", Some t.messages) ∷ (codes "records", Some t.records)
+    ∷ (codes "options", Some t.options) ∷ (codes "gaps", Some t.gaps) ∷ (codes "missing", Some t.missing)
+    ∷ (codes "backwards", Some t.backwards) ∷ (codes "from", Some t.first) ∷ (codes "to", Some t.last)
+    ∷ (codes "first", option_map (λ span. span.first) t.starts)
+    ∷ (codes "last", option_map (λ span. span.last) t.starts) ∷ []
 
 abbrev pub report_names : List (List ℕ)
 report_names =
     codes "domain" ∷ codes "messages" ∷ codes "records" ∷ codes "options" ∷ codes "gaps" ∷ codes "missing"
-    ∷ codes "backwards" ∷ codes "from" ∷ codes "to" ∷ []
+    ∷ codes "backwards" ∷ codes "from" ∷ codes "to" ∷ codes "first" ∷ codes "last" ∷ []
 
 -- the line of a domain in a format
 unfoldable pub report_in : Format → ℕ × DomainReport → List ℕ
@@ -126,5 +172,21 @@ report_in Lines e = report_line e
 report_in Csv e = line_in Csv (report_values e)
 report_in Json e = line_in Json (report_values e)
 
+-- all domains N, and what is counted of all together
+unfoldable pub whole_line : ℕ → Option Tally → List ℕ
+whole_line domains None =
+    codes "all domains 0 messages 0 records 0 options 0 gaps 0 missing 0 backwards 0 from - to - starts - -\n"
+whole_line domains (Some whole) = codes "all domains" ++ 32 ∷ decimal domains ++ tally_text whole
+
+-- the line of the whole File, which is in words alone
+unfoldable pub whole_in : Format → List (ℕ × DomainReport) → List ℕ
+whole_in Lines entries = whole_line (length entries) (whole_of entries)
+whole_in Csv entries = []
+whole_in Json entries = []
+
+-- what is before all lines, and the lines of the domains
+abbrev pub domains_text : Format → List (ℕ × DomainReport) → List ℕ
+domains_text format entries = heading format report_names ++ flat_map (report_in format) entries
+
 abbrev pub reports_text : Format → List (ℕ × DomainReport) → List ℕ
-reports_text format entries = heading format report_names ++ flat_map (report_in format) entries
+reports_text format entries = domains_text format entries ++ whole_in format entries

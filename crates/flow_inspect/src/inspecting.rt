@@ -1,14 +1,16 @@
 //! The command `inspect`.
 
-ghost use Rattle.std.specs.Prelude.{◌≡◌, [], ℕ, List, OnOk, IfOk, IfErr, IfSome};
+ghost use Rattle.std.specs.Prelude.{◌≡◌, ◌++◌, [], ℕ, List, OnOk, IfOk, IfErr, IfSome};
 ghost use Rattle.std.specs.Io.KnownBytes.{Appends};
 ghost use Rattle.flow_report.specs.Refusals.{IsOfInput};
 ghost use Rattle.flow_report.specs.Measure.{IsRefusedBy};
 ghost use Rattle.flow_inspect.specs.Inspect.{HasReports, HasLines, KeepsOrFront, walk_refusal};
-ghost use Rattle.flow_inspect.specs.Reports.{entries_after, reports_text};
+ghost use Rattle.flow_inspect.specs.Reports.{domains_text, entries_after, reports_text, whole_in, whole_of};
 
 use crate::counting::RecordCounts;
 use crate::reporting::{DomainReport, begun, continued, push_heading, push_in};
+use crate::tally::{Tally, with_tally};
+use crate::whole::push_whole;
 use flow_codec::{Header, MessageReader, Templates, WalkError, walk_message};
 use flow_report::{Format, Patience, Refusal, write_patiently};
 use indexmap::IndexMap;
@@ -62,6 +64,7 @@ fn reports_of<R: Read>(alloc: Global, input: &mut R) -> Result<Reports, Refusal>
         let mut counts = RecordCounts {
             records: 0,
             options: 0,
+            starts: None,
         };
         match walk_message(&mut templates, alloc, reader.message(), &mut counts) {
             Ok(header) => add_message(&mut reports, &header, counts)?,
@@ -71,9 +74,9 @@ fn reports_of<R: Read>(alloc: Global, input: &mut R) -> Result<Reports, Refusal>
     Ok(reports)
 }
 
-/// The lines of all domains.
-fn text_of(alloc: Global, format: Format, reports: &Reports) -> Result<Vec<u8>, AllocError>
-    ensures { IfOk result (λ text. text.items ≡ reports_text format reports.now.entries) }
+/// What is before all lines, and the lines of the domains.
+fn domains_text_of(alloc: Global, format: Format, reports: &Reports) -> Result<Vec<u8>, AllocError>
+    ensures { IfOk result (λ text. text.items ≡ domains_text format reports.now.entries) }
 {
     let mut text = Vec::new(alloc);
     push_heading(&mut text, format)?;
@@ -85,14 +88,51 @@ fn text_of(alloc: Global, format: Format, reports: &Reports) -> Result<Vec<u8>, 
     Ok(text)
 }
 
+/// What is counted of all domains together; nothing where there is no message.
+fn whole_of(reports: &Reports) -> Option<Tally>
+    ensures { result ≡ whole_of reports.now.entries }
+{
+    let mut whole = None;
+    let domains = reports.len();
+    for i in 0..domains {
+        if let Some((_, report)) = reports.get_index(i) {
+            whole = Some(with_tally(whole, report.tally));
+        }
+    }
+    whole
+}
+
+/// Puts the line of the whole File after a text, in words alone.
+#[tactic(auto, unfolding(crate::specs::Reports::whole_in))]
+fn push_whole_in(text: &mut Vec<u8>, format: Format, reports: &Reports) -> Result<(), AllocError>
+    ensures { OnOk result (text.new.items ≡ text.old.items ++ whole_in format reports.now.entries) }
+{
+    match format {
+        Format::Lines => push_whole(text, reports.len() as u64, whole_of(reports)),
+        Format::Csv => Ok(()),
+        Format::Json => Ok(()),
+    }
+}
+
+/// The lines of all domains, and that of the whole File.
+fn text_of(alloc: Global, format: Format, reports: &Reports) -> Result<Vec<u8>, AllocError>
+    ensures { IfOk result (λ text. text.items ≡ reports_text format reports.now.entries) }
+{
+    let mut text = domains_text_of(alloc, format, reports)?;
+    push_whole_in(&mut text, format, reports)?;
+    Ok(text)
+}
+
 /// Reads a File and writes a line for each Observation Domain, in the order of their first messages: `domain DOMAIN
-/// messages N records N options N gaps N missing N backwards N from TIME to TIME`, or the same values as CSV or JSON.
-/// Nothing is written unless the whole File was accepted.
+/// messages N records N options N gaps N missing N backwards N from TIME to TIME starts FIRST LAST`, or the same
+/// values as CSV or JSON. In words one line of the whole File comes after them: `all domains N`, and the same of all
+/// domains together. Nothing is written unless the whole File was accepted.
 ///
 /// A message's Sequence Number is due where it is that of the domain's message before, with as many data records more as
 /// that one has, modulo 2^32 (RFC 7011, section 3.1). One past it is a gap, of as many missing records as it is past it.
 /// One that is before it counts as backwards. The first message of a domain has whichever it has. TIME is the least and
-/// the greatest Export Time, in seconds since 1970-01-01 00:00 UTC.
+/// the greatest Export Time, FIRST and LAST the least and the greatest start of the flows, which are the data records
+/// of Templates, in seconds since 1970-01-01 00:00 UTC.
 pub fn inspect<R: Read, W: Write>(
     alloc: Global,
     format: Format,

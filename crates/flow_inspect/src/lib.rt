@@ -1,15 +1,20 @@
-//! What an IPFIX File (RFC 5655) holds of each Observation Domain, and whether its Sequence Numbers follow.
+//! What an IPFIX File (RFC 5655) holds of each Observation Domain, whether its Sequence Numbers follow, and when its
+//! flows start.
 //!
 //! Promised to the layer above: `inspect` writes exactly the lines of the whole File, or nothing and the first fault by
 //! place. A line counts the messages and data records of a domain, and says by how many records its Sequence Numbers
 //! leave some out (RFC 7011, section 3.1): records that were lost on their way, or are in a Set without a definition in
-//! force. Memory holds one message, and some 100 octets for each domain.
+//! force. In words a line of all domains together comes last. Memory holds one message, and some 100 octets for each
+//! domain.
 #![tactic(auto)]
 
 mod counting;
 mod inspecting;
 mod laws;
 mod reporting;
+mod span;
+mod tally;
+mod whole;
 
 pub use inspecting::inspect;
 pub use laws::each_domain_alone;

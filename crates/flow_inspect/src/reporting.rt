@@ -1,13 +1,15 @@
 //! What is counted of an Observation Domain, and its line.
 
-ghost use Rattle.std.specs.Prelude.{◌≡◌, ◌++◌, ◌∷◌, if◌then◌else◌, OnOk};
+ghost use Rattle.std.specs.Prelude.{◌≡◌, ◌++◌, ◌∷◌, [], if◌then◌else◌, OnOk, option_map, codes};
 ghost use Rattle.std.specs.Fmt.{decimal};
-ghost use Rattle.flow_inspect.specs.Reports.{begun, continued, due_after, plus};
-ghost use Rattle.flow_inspect.specs.Reports.{counts_text, report_line, sequence_text};
+ghost use Rattle.flow_inspect.specs.Reports.{begun, continued, due_after, plus, tally_after};
+ghost use Rattle.flow_inspect.specs.Reports.{counts_text, report_line, sequence_text, starts_text, tally_text};
 ghost use Rattle.flow_inspect.specs.Reports.{report_in, report_names, report_values};
-ghost use Rattle.flow_report.specs.Formats.{heading, line_in};
+ghost use Rattle.flow_report.specs.Formats.{closing, heading, line_in, separator, value_in};
 
 use crate::counting::RecordCounts;
+use crate::span::{Span, hull};
+use crate::tally::Tally;
 use flow_codec::Header;
 use flow_report::{Format, MOST_VALUE, push_count, put_last, put_opening, put_value};
 use std::alloc::AllocError;
@@ -15,26 +17,12 @@ use std::alloc::AllocError;
 /// A Sequence Number that is so far past the due one, modulo 2^32, or farther, is before it.
 const HALF: u32 = 0x8000_0000;
 
-/// What a File has of one Observation Domain. Counts stop at 2^64 - 1.
+/// What a File has of one Observation Domain.
 #[derive(Clone, Copy, Debug)]
 pub(crate) struct DomainReport {
-    pub(crate) messages: u64,
-    /// Data records of Templates.
-    pub(crate) records: u64,
-    /// Data records of Options Templates.
-    pub(crate) options: u64,
-    /// Messages whose Sequence Number is past the due one.
-    pub(crate) gaps: u64,
-    /// How many records are missing there.
-    pub(crate) missing: u64,
-    /// Messages whose Sequence Number is before the due one.
-    pub(crate) backwards: u64,
+    pub(crate) tally: Tally,
     /// The Sequence Number that is due next.
     pub(crate) due: u32,
-    /// The least Export Time, in seconds since 1970-01-01 00:00 UTC.
-    pub(crate) first: u32,
-    /// The greatest Export Time.
-    pub(crate) last: u32,
 }
 
 /// The Sequence Number that is due after a message.
@@ -63,15 +51,37 @@ pub(crate) fn begun(header: &Header, counts: RecordCounts) -> DomainReport
     ensures { result ≡ begun header.now counts }
 {
     DomainReport {
-        messages: 1,
-        records: u64::from(counts.records),
-        options: u64::from(counts.options),
-        gaps: 0,
-        missing: 0,
-        backwards: 0,
+        tally: Tally {
+            messages: 1,
+            records: u64::from(counts.records),
+            options: u64::from(counts.options),
+            gaps: 0,
+            missing: 0,
+            backwards: 0,
+            first: header.time,
+            last: header.time,
+            starts: counts.starts,
+        },
         due: due_after(header, counts),
-        first: header.time,
-        last: header.time,
+    }
+}
+
+/// What is counted with one message more, whose Sequence Number is so far past the due one.
+fn tally_after(tally: Tally, distance: u32, header: &Header, counts: RecordCounts) -> Tally
+    ensures { result ≡ tally_after tally distance header.now counts }
+{
+    let is_past = 0 < distance && distance < HALF;
+    let is_before = HALF <= distance;
+    Tally {
+        messages: tally.messages.saturating_add(1),
+        records: tally.records.saturating_add(u64::from(counts.records)),
+        options: tally.options.saturating_add(u64::from(counts.options)),
+        gaps: counted(is_past, tally.gaps, 1),
+        missing: counted(is_past, tally.missing, u64::from(distance)),
+        backwards: counted(is_before, tally.backwards, 1),
+        first: tally.first.min(header.time),
+        last: tally.last.max(header.time),
+        starts: hull(tally.starts, counts.starts),
     }
 }
 
@@ -80,18 +90,9 @@ pub(crate) fn continued(report: DomainReport, header: &Header, counts: RecordCou
     ensures { result ≡ continued report header.now counts }
 {
     let distance = header.sequence.wrapping_sub(report.due);
-    let is_past = 0 < distance && distance < HALF;
-    let is_before = HALF <= distance;
     DomainReport {
-        messages: report.messages.saturating_add(1),
-        records: report.records.saturating_add(u64::from(counts.records)),
-        options: report.options.saturating_add(u64::from(counts.options)),
-        gaps: counted(is_past, report.gaps, 1),
-        missing: counted(is_past, report.missing, u64::from(distance)),
-        backwards: counted(is_before, report.backwards, 1),
+        tally: tally_after(report.tally, distance, header, counts),
         due: due_after(header, counts),
-        first: report.first.min(header.time),
-        last: report.last.max(header.time),
     }
 }
 
@@ -104,43 +105,97 @@ fn push_named(text: &mut Vec<u8>, name: &str, number: u64) -> Result<(), AllocEr
     Ok(())
 }
 
-/// Puts after a text how many messages and data records a domain has.
+/// Puts after a text how many messages and data records there are.
 #[tactic(auto, unfolding(crate::specs::Reports::counts_text))]
-fn push_counts(text: &mut Vec<u8>, report: &DomainReport) -> Result<(), AllocError>
-    ensures { OnOk result (text.new.items ≡ text.old.items ++ counts_text report.now) }
+fn push_counts(text: &mut Vec<u8>, tally: &Tally) -> Result<(), AllocError>
+    ensures { OnOk result (text.new.items ≡ text.old.items ++ counts_text tally.now) }
 {
-    push_named(text, " messages", report.messages)?;
-    push_named(text, " records", report.records)?;
-    push_named(text, " options", report.options)?;
+    push_named(text, " messages", tally.messages)?;
+    push_named(text, " records", tally.records)?;
+    push_named(text, " options", tally.options)?;
     Ok(())
 }
 
-/// Puts after a text how the Sequence Numbers of a domain follow.
+/// Puts after a text how the Sequence Numbers follow.
 #[tactic(auto, unfolding(crate::specs::Reports::sequence_text))]
-fn push_sequence(text: &mut Vec<u8>, report: &DomainReport) -> Result<(), AllocError>
-    ensures { OnOk result (text.new.items ≡ text.old.items ++ sequence_text report.now) }
+fn push_sequence(text: &mut Vec<u8>, tally: &Tally) -> Result<(), AllocError>
+    ensures { OnOk result (text.new.items ≡ text.old.items ++ sequence_text tally.now) }
 {
-    push_named(text, " gaps", report.gaps)?;
-    push_named(text, " missing", report.missing)?;
-    push_named(text, " backwards", report.backwards)?;
+    push_named(text, " gaps", tally.gaps)?;
+    push_named(text, " missing", tally.missing)?;
+    push_named(text, " backwards", tally.backwards)?;
     Ok(())
 }
 
-/// The most octets of a line of nine values, and what it begins with.
-const MOST_REPORT: usize = 9 * MOST_VALUE + 1;
+/// Puts after a text when the flows start: ` starts FIRST LAST`, or ` starts - -` where there is none.
+#[tactic(auto, unfolding(crate::specs::Reports::starts_text))]
+fn push_starts(text: &mut Vec<u8>, starts: Option<Span>) -> Result<(), AllocError>
+    ensures { OnOk result (text.new.items ≡ text.old.items ++ starts_text starts) }
+{
+    match starts {
+        Some(span) => {
+            push_named(text, " starts", u64::from(span.first))?;
+            push_count(text, u64::from(span.last))?;
+        }
+        None => text.extend_from_slice(" starts - -".as_bytes())?,
+    }
+    Ok(())
+}
 
-/// Puts the line of a domain after a text: `domain DOMAIN messages N records N options N gaps N missing N backwards N
-/// from TIME to TIME`.
+/// Puts after a text what was counted, and ends the line: ` messages N records N options N gaps N missing N backwards N
+/// from TIME to TIME starts FIRST LAST`.
+#[tactic(auto, unfolding(crate::specs::Reports::tally_text))]
+pub(crate) fn push_tally(text: &mut Vec<u8>, tally: &Tally) -> Result<(), AllocError>
+    ensures { OnOk result (text.new.items ≡ text.old.items ++ tally_text tally.now) }
+{
+    push_counts(text, tally)?;
+    push_sequence(text, tally)?;
+    push_named(text, " from", u64::from(tally.first))?;
+    push_named(text, " to", u64::from(tally.last))?;
+    push_starts(text, tally.starts)?;
+    text.push(b'\n')?;
+    Ok(())
+}
+
+/// Puts the line of a domain after a text: `domain DOMAIN`, and what was counted of it.
 #[tactic(auto, unfolding(crate::specs::Reports::report_line))]
 fn push_report(text: &mut Vec<u8>, domain: u32, report: &DomainReport) -> Result<(), AllocError>
     ensures { OnOk result (text.new.items ≡ text.old.items ++ report_line (domain, report.now)) }
 {
     push_named(text, "domain", u64::from(domain))?;
-    push_counts(text, report)?;
-    push_sequence(text, report)?;
-    push_named(text, " from", u64::from(report.first))?;
-    push_named(text, " to", u64::from(report.last))?;
-    text.push(b'\n')?;
+    push_tally(text, &report.tally)?;
+    Ok(())
+}
+
+/// What is written for the last two values where there is no flow, and what the line ends with.
+fn without_starts(format: Format) -> &'static str
+    ensures { result.now ≡ value_in format (codes "first", None) ++ separator format
+        ∷ value_in format (codes "last", None) ++ closing format }
+{
+    match format {
+        Format::Lines => "- -\n",
+        Format::Csv => ",\n",
+        Format::Json => "\"first\":null,\"last\":null}\n",
+    }
+}
+
+/// The most octets of a line of eleven values, and what it begins with.
+const MOST_REPORT: usize = 11 * MOST_VALUE + 1;
+
+/// Puts after a text the last two values of a line, and what the line ends with.
+fn push_last(text: &mut Vec<u8>, format: Format, starts: Option<Span>) -> Result<(), AllocError>
+    ensures { OnOk result (text.new.items
+        ≡ text.old.items ++ value_in format (codes "first", option_map (λ span. span.first) starts) ++ separator format
+        ∷ value_in format (codes "last", option_map (λ span. span.last) starts) ++ closing format) }
+{
+    match starts {
+        Some(span) => {
+            text.reserve(2 * MOST_VALUE)?;
+            put_value(text, format, "first", span.first);
+            put_last(text, format, "last", span.last);
+        }
+        None => text.extend_from_slice(without_starts(format).as_bytes())?,
+    }
     Ok(())
 }
 
@@ -153,17 +208,19 @@ fn push_values(
 ) -> Result<(), AllocError>
     ensures { OnOk result (text.new.items ≡ text.old.items ++ line_in format (report_values (domain, report.now))) }
 {
+    let tally = report.tally;
     text.reserve(MOST_REPORT)?;
     put_opening(text, format);
     put_value(text, format, "domain", domain);
-    put_value(text, format, "messages", report.messages);
-    put_value(text, format, "records", report.records);
-    put_value(text, format, "options", report.options);
-    put_value(text, format, "gaps", report.gaps);
-    put_value(text, format, "missing", report.missing);
-    put_value(text, format, "backwards", report.backwards);
-    put_value(text, format, "from", report.first);
-    put_last(text, format, "to", report.last);
+    put_value(text, format, "messages", tally.messages);
+    put_value(text, format, "records", tally.records);
+    put_value(text, format, "options", tally.options);
+    put_value(text, format, "gaps", tally.gaps);
+    put_value(text, format, "missing", tally.missing);
+    put_value(text, format, "backwards", tally.backwards);
+    put_value(text, format, "from", tally.first);
+    put_value(text, format, "to", tally.last);
+    push_last(text, format, tally.starts)?;
     Ok(())
 }
 
@@ -190,7 +247,7 @@ pub(crate) fn push_heading(text: &mut Vec<u8>, format: Format) -> Result<(), All
 {
     if let Format::Csv = format {
         text.extend_from_slice(
-            "domain,messages,records,options,gaps,missing,backwards,from,to\n".as_bytes(),
+            "domain,messages,records,options,gaps,missing,backwards,from,to,first,last\n".as_bytes(),
         )?;
     }
     Ok(())

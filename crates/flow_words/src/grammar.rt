@@ -48,11 +48,13 @@ const INSPECT_ABOUT: &str =
 const INSPECT_HELP: &str =
     "The lines, a domain each, in the order of their first messages: domain DOMAIN\n\
      messages N records N options N gaps N missing N backwards N from TIME to TIME\n\
+     starts FIRST LAST; then one of all together: all domains N messages N ..\n\
      A gap is a message whose Sequence Number is past the one that the domain's data\n\
      records so far make due: as many are missing, lost on their way or without a\n\
      template in force. Backwards are those before it: sent twice, in another order,\n\
      or by an exporter that began anew. TIME is the least and the greatest Export\n\
-     Time. Nothing is written unless the whole File is accepted.\n\
+     Time, FIRST and LAST the least and the greatest start of the flows, - without\n\
+     one. Nothing is written unless the whole File is accepted.\n\
      \n\
      Example: flowvault inspect < FILE";
 

@@ -1,5 +1,5 @@
 use Rattle.std.proofs.Common.{refl, subst}
-use Rattle.std.specs.Prelude.{Ok, Bool}
+use Rattle.std.specs.Prelude.{Ok, Bool, None}
 use Rattle.flow_codec.specs.Stream.{progress, IsStep}
 use Rattle.flow_report.specs.declared.refusal.Refusal.TheVariants as refusal
 use Rattle.flow_report.proofs.Reached.{opened}
@@ -23,8 +23,8 @@ messages-preserved g c =
     (progress c.messages.reader (g.R.Read.remaining c.messages.input))
     (progress c.advance.new.self (g.R.Read.remaining c.advance.new.input))
     c.messages.templates c.walk_message.new.templates c.messages.reports.entries c.add_message.new.reports.entries
-    (record { records = 0; options = 0 }) c.walk_message.new.sink c.in-Ok.header c.message.result.now
-    c.messages.invariant step c.message.ensures.value refl refl c.in-Ok.ensures.found
+    (record { records = 0; options = 0; starts = None }) c.walk_message.new.sink c.in-Ok.header c.message.result.now
+    c.messages.invariant step c.message.ensures.value refl refl refl c.in-Ok.ensures.found
     c.in_ok-add_message-in-Ok.ensures
 
 pub returns-in_err-advance-clause-refused : goal.returns-in_err-advance-clause-refused
@@ -50,6 +50,6 @@ returns-in-Err-clause-refused g c =
     let refused = stopped_at HasCounted (λ _ _ _ _. ⊥)
     (g.R.Read.remaining c.args.input.now) _ (progress c.messages.reader (g.R.Read.remaining c.messages.input))
     (progress c.advance.new.self (g.R.Read.remaining c.advance.new.input)) c.messages.templates
-    c.messages.reports.entries (record { records = 0; options = 0 }) c.message.result.now c.in-Err.stop
+    c.messages.reports.entries (record { records = 0; options = 0; starts = None }) c.message.result.now c.in-Err.stop
     c.messages.invariant step c.message.ensures.value c.in-Err.ensures.fault in
     rw (c.walk_refusal.ensures.value, c.count.ensures.value) refused

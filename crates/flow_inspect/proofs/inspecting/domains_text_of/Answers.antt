@@ -2,8 +2,8 @@ use Rattle.std.proofs.Common.{◌∙◌, ◌<◌, ◌++◌, ℕ, List, Vec, Glob
 use Rattle.flow_inspect.specs.declared.reporting.DomainReport.{DomainReport}
 use Rattle.flow_inspect.specs.Reports.{report_in}
 use Rattle.flow_inspect.proofs.Following.{one_line_more}
-use Rattle.flow_inspect.proofs.inspecting.text_of.Goals.{in-Some+in_ok-push_in, in_default}
-use Rattle.flow_inspect.proofs.inspecting.text_of.Goals as goal
+use Rattle.flow_inspect.proofs.inspecting.domains_text_of.Goals.{in-Some+in_ok-push_in, in_default}
+use Rattle.flow_inspect.proofs.inspecting.domains_text_of.Goals as goal
 
 pub loop-i-preserved : goal.loop-i-preserved
 loop-i-preserved c =

@@ -1,0 +1,68 @@
+-- One record more, for what counts records.
+use Rattle.std.proofs.Common.{◌≡◌, ◌∙◌, ℕ, ◌+◌, ◌-◌, ◌^◌, Bool, List, [], ◌∷◌, ◌++◌, Option, map, sym, ap, arith}
+use Rattle.std.specs.Prelude.{true, false, not, cond, min, count_by, fold}
+use Rattle.std.proofs.lemmas.List.{map-append}
+use Rattle.std.proofs.lemmas.List.Sums.{fold-append}
+use Rattle.flow_codec.specs.declared.message.Header.{Header}
+use Rattle.flow_codec.specs.Fields.{fields_in}
+use Rattle.flow_codec.specs.Layout.{Layout}
+use Rattle.flow_codec.specs.Plan.{values_of}
+use Rattle.flow_codec.specs.Raw.{Placed, raw}
+use Rattle.flow_measure.specs.declared.flow.Flow.{Flow}
+use Rattle.flow_measure.specs.Flows.{flow_from, flows_of_records}
+use Rattle.flow_measure.proofs.SinkSteps.{one_more, none_more}
+use Rattle.flow_inspect.specs.declared.counting.RecordCounts.{RecordCounts}
+use Rattle.flow_inspect.specs.declared.span.Span.{Span}
+use Rattle.flow_inspect.specs.Counting.{HasCounted, is_flow, is_option, starts_of, widened}
+
+-- a count of those that hold, with one more that does
+risen : (p : Placed → Bool) (taken : List Placed) (x : Placed) (first old new : ℕ) → p x ≡ true
+    → old ≡ min (first + count_by p taken) (2 ^ 32 - 1) → new ≡ min (old + 1) (2 ^ 32 - 1)
+    → new ≡ min (first + count_by p (taken ++ x ∷ [])) (2 ^ 32 - 1)
+risen p taken x first old new holds was is =
+    let more = fold-append (λ (n : ℕ) (y : Placed). n + cond (p y) 1 0) 0 taken (x ∷ [])
+    ∙ ap (λ (b : Bool). count_by p taken + cond b 1 0) holds in
+    omega (arith, more, was, is)
+
+-- with one more that doesn't
+stayed : (p : Placed → Bool) (taken : List Placed) (x : Placed) (first old : ℕ) → p x ≡ false
+    → old ≡ min (first + count_by p taken) (2 ^ 32 - 1)
+    → old ≡ min (first + count_by p (taken ++ x ∷ [])) (2 ^ 32 - 1)
+stayed p taken x first old fails was =
+    let more = fold-append (λ (n : ℕ) (y : Placed). n + cond (p y) 1 0) 0 taken (x ∷ [])
+    ∙ ap (λ (b : Bool). count_by p taken + cond b 1 0) fails in
+    omega (arith, more, was)
+
+module _ (start : RecordCounts) (taken : List Placed) (header : Header) (id : ℕ) (layout : Layout) (octets : List ℕ)
+    (old : RecordCounts) (took : HasCounted start taken old) where
+  abbrev x : Placed
+  x = (header, raw id layout octets)
+
+  -- a record of an Options Template
+  pub option_more : layout.options ≡ true → (options : ℕ) → options ≡ min (old.options + 1) (2 ^ 32 - 1)
+      → HasCounted start (taken ++ x ∷ []) (record { records = old.records; options = options; starts = old.starts })
+  option_more kind options is = (
+    stayed (λ y. is_flow y.1) taken x start.records old.records (ap not kind) took.0,
+    risen (λ y. is_option y.1) taken x start.options old.options options kind took.1 is,
+    took.2 ∙ ap (λ (fs : List Flow). fold widened start.starts (map (λ (f : Flow). f.start) fs))
+        (sym (none_more taken header id layout octets kind)),
+  )
+
+  -- a record of a Template
+  pub flow_more : layout.options ≡ false → (records : ℕ) → records ≡ min (old.records + 1) (2 ^ 32 - 1) → (flow : Flow)
+      → flow ≡ flow_from header (values_of (fields_in layout.fields octets)) → (starts : Option Span)
+      → starts ≡ widened old.starts flow.start
+      → HasCounted start (taken ++ x ∷ []) (record { records = records; options = old.options; starts = starts })
+  flow_more kind records is flow flow_is starts starts_are = (
+    risen (λ y. is_flow y.1) taken x start.records old.records records (ap not kind) took.0 is,
+    stayed (λ y. is_option y.1) taken x start.options old.options kind took.1,
+    starts_are ∙ ap (λ (s : Option Span). widened s flow.start) took.2
+        ∙ sym (ap (λ (fs : List Flow). fold widened start.starts (map (λ (f : Flow). f.start) fs)) all
+        ∙ ap (fold widened start.starts) (map-append (λ (f : Flow). f.start) (flows_of_records taken) (flow ∷ []))
+        ∙ fold-append widened start.starts (starts_of taken) (flow.start ∷ [])),
+  )
+    where
+      all : flows_of_records (taken ++ x ∷ []) ≡ flows_of_records taken ++ flow ∷ []
+      all =
+          one_more taken header id layout octets kind
+          ∙ ap (λ (f : Flow). flows_of_records taken ++ f ∷ []) (sym flow_is)

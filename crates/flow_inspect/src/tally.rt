@@ -1,0 +1,55 @@
+//! What is counted of messages.
+
+ghost use Rattle.std.specs.Prelude.{◌≡◌};
+ghost use Rattle.flow_inspect.specs.Reports.{together, with_tally};
+
+use crate::span::{Span, hull};
+
+/// What a File has of one Observation Domain, or of all. Counts stop at 2^64 - 1.
+#[derive(Clone, Copy, Debug)]
+pub(crate) struct Tally {
+    pub(crate) messages: u64,
+    /// Data records of Templates.
+    pub(crate) records: u64,
+    /// Data records of Options Templates.
+    pub(crate) options: u64,
+    /// Messages whose Sequence Number is past the due one.
+    pub(crate) gaps: u64,
+    /// How many records are missing there.
+    pub(crate) missing: u64,
+    /// Messages whose Sequence Number is before the due one.
+    pub(crate) backwards: u64,
+    /// The least Export Time, in seconds since 1970-01-01 00:00 UTC.
+    pub(crate) first: u32,
+    /// The greatest Export Time.
+    pub(crate) last: u32,
+    /// The least and the greatest start of the flows.
+    pub(crate) starts: Option<Span>,
+}
+
+/// What is counted of two parts of a File, together.
+fn together(a: Tally, b: Tally) -> Tally
+    ensures { result ≡ together a b }
+{
+    Tally {
+        messages: a.messages.saturating_add(b.messages),
+        records: a.records.saturating_add(b.records),
+        options: a.options.saturating_add(b.options),
+        gaps: a.gaps.saturating_add(b.gaps),
+        missing: a.missing.saturating_add(b.missing),
+        backwards: a.backwards.saturating_add(b.backwards),
+        first: a.first.min(b.first),
+        last: a.last.max(b.last),
+        starts: hull(a.starts, b.starts),
+    }
+}
+
+/// What is counted of some domains and one more, together.
+pub(crate) fn with_tally(whole: Option<Tally>, tally: Tally) -> Tally
+    ensures { result ≡ with_tally whole tally }
+{
+    match whole {
+        Some(whole) => together(whole, tally),
+        None => tally,
+    }
+}
