@@ -22,6 +22,7 @@ ghost use Rattle.flow_commands.specs.Check.{standing_of};
 
 use crate::archive_refusal::ArchiveRefusal;
 use crate::checking::Standing;
+use crate::ending::ended;
 use flow_archive::{Archive, Refused};
 use flow_disk::{Disk, Faults, SealedFile};
 use flow_folder::{FolderDisk, Lockable};
@@ -309,8 +310,5 @@ where
     ensures kept { IfErr result (λ e. WritesOrNot AreListings e (W.contents output.old) (W.contents output.new)) }
 {
     let disk = FolderDisk::new(rt, folder)?;
-    match check_files(rt.alloc(), disk, output, &mut Faults::new()) {
-        Ok(_) => Ok(()),
-        Err(refused) => Err(refused.error),
-    }
+    ended(check_files(rt.alloc(), disk, output, &mut Faults::new()))
 }

@@ -8,6 +8,7 @@ ghost use Rattle.flow_archive.specs.Beginning.{HasFiles, IsNotMade, answer_of, d
 ghost use Rattle.flow_commands.specs.Made.{first_state};
 
 use crate::archive_refusal::ArchiveRefusal;
+use crate::ending::ended;
 use crate::plan::NewArchive;
 use flow_archive::{Archive, ArchiveError, Refused};
 use flow_disk::Disk;
@@ -48,8 +49,6 @@ where
     H::File: FileExt + Lockable,
 {
     let disk = FolderDisk::new(rt, folder)?;
-    match create(rt.alloc(), disk, plan) {
-        Ok(_) => Ok(()),
-        Err(refused) => Err(ArchiveRefusal::from(refused.error)),
-    }
+    ended(create(rt.alloc(), disk, plan))?;
+    Ok(())
 }

@@ -13,6 +13,7 @@ mod archive_refusal;
 mod asking;
 mod checking;
 mod creating;
+mod ending;
 mod feed_line;
 mod feeding;
 mod folder_fault;

@@ -14,6 +14,7 @@ ghost use Rattle.flow_report.specs.ArchiveLines.{flows_text};
 
 use crate::archive_refusal::ArchiveRefusal;
 use crate::asking::to_ask;
+use crate::ending::ended;
 use crate::plan::StartSpan;
 use flow_archive::{Archive, Refused};
 use flow_disk::{Disk, Faults};
@@ -135,8 +136,6 @@ where
     ensures kept { IfErr result (λ e. WritesOrNot (AreFlows format) e (W.contents output.old) (W.contents output.new)) }
 {
     let disk = FolderDisk::new(rt, folder)?;
-    match flows(rt.alloc(), disk, span, format, output, &mut Faults::new()) {
-        Ok(_) => Ok(()),
-        Err(refused) => Err(refused.error),
-    }
+    let faults = &mut Faults::new();
+    ended(flows(rt.alloc(), disk, span, format, output, faults))
 }

@@ -5,6 +5,7 @@ ghost use Rattle.flow_commands.specs.Asking.{Writes, WritesOrNot};
 ghost use Rattle.flow_commands.specs.Rolling.{IsJobLine, IsRolled, RollsOn, TellsJob, job_line, job_name};
 
 use crate::archive_refusal::ArchiveRefusal;
+use crate::ending::ended;
 use flow_archive::{Archive, Refused};
 use flow_disk::{Disk, Faults};
 use flow_folder::{FolderDisk, Lockable};
@@ -119,8 +120,5 @@ where
     ensures kept { IfErr result (λ e. WritesOrNot (IsJobLine kind) e (W.contents output.old) (W.contents output.new)) }
 {
     let disk = FolderDisk::new(rt, folder)?;
-    match roll_on(rt.alloc(), disk, kind, keep, output) {
-        Ok(_) => Ok(()),
-        Err(refused) => Err(refused.error),
-    }
+    ended(roll_on(rt.alloc(), disk, kind, keep, output))
 }

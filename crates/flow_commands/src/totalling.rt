@@ -20,6 +20,7 @@ ghost use Rattle.flow_report.specs.ArchiveLines.{rows_text};
 
 use crate::archive_refusal::ArchiveRefusal;
 use crate::asking::to_ask;
+use crate::ending::ended;
 use crate::plan::{StartSpan, Workers};
 use flow_archive::{Archive, Refused};
 use flow_disk::{Disk, Faults, SealedFile};
@@ -211,7 +212,7 @@ where
         None => Workers::of_processors(rt),
     };
     let disk = FolderDisk::new(rt, folder)?;
-    match totals(
+    ended(totals(
         rt,
         rt.alloc(),
         disk,
@@ -220,8 +221,5 @@ where
         format,
         output,
         &mut Faults::new(),
-    ) {
-        Ok(_) => Ok(()),
-        Err(refused) => Err(refused.error),
-    }
+    ))
 }

@@ -177,8 +177,8 @@ fn find_counts<S: SealedFile, J: Naming>(
     Ok(line)
 }
 
-/// Writes `ok POSITION CUT ROLLED SEALED`: how many messages were taken in, how many of them are in sums alone, how many
-/// files of sums and sealed segments there are, after the steps that the reader is shown.
+/// Writes `ok POSITION CUT ROLLED SEALED`: how many messages were taken in, how many of them are in sums alone, and how
+/// many files of sums and sealed segments there are, after the steps that the reader is shown.
 pub fn answer_check<S: SealedFile, J: Naming, W: Write>(
     alloc: Global,
     reader: &mut ArchiveReader<S, J>,

@@ -1,9 +1,24 @@
 use Rattle.flow_disk.proofs.Results.{passed_on}
 use Rattle.flow_commands.specs.Archives.{of_folder}
-use Rattle.flow_commands.specs.Asking.{WritesOrNot}
+use Rattle.flow_commands.specs.Asking.{Writes, WritesOrNot}
 use Rattle.flow_commands.specs.Rolling.{IsJobLine}
 use Rattle.flow_commands.proofs.Jobs.{folder_unwritten}
+use Rattle.flow_commands.proofs.Ended.{if_refused, on_ended}
 use Rattle.flow_commands.proofs.rolling.roll_in.Goals as goal
+
+pub returns-clause-written : goal.returns-clause-written
+returns-clause-written g c =
+    let old = g.W.Write.contents c.args.output.now in
+    let new = g.W.Write.contents c.roll_on.new.output in
+    on_ended c.roll_on.result c.ended.result (Writes (IsJobLine c.args.kind) old new) c.ended.ensures
+    c.roll_on.ensures.written
+
+pub returns-clause-kept : goal.returns-clause-kept
+returns-clause-kept g c =
+    let old = g.W.Write.contents c.args.output.now in
+    let new = g.W.Write.contents c.roll_on.new.output in
+    if_refused c.roll_on.result c.ended.result (λ e. WritesOrNot (IsJobLine c.args.kind) e old new) c.ended.ensures
+    c.roll_on.ensures.kept
 
 pub returns-in_err-disk-clause-kept : goal.returns-in_err-disk-clause-kept
 returns-in_err-disk-clause-kept g c =
