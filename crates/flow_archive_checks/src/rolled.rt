@@ -141,25 +141,48 @@ fn greatest(alloc: Global) -> Result<Rows, SumError> {
     Ok(rows)
 }
 
+/// Whether one row is the octets that are written down.
+fn is_one_row(alloc: Global) -> Result<bool, Fail> {
+    let rows = domains(alloc, 1)?;
+    let octets = encoded(alloc, &rows)?;
+    Ok(octets.as_slice() == ONE_ROW.as_slice())
+}
+
+/// Whether so many domains, of one row each, are a file of so many octets.
+fn is_file_of_domains(alloc: Global, count: u32, length: usize) -> Result<bool, Fail> {
+    let rows = domains(alloc, count)?;
+    is_file_of(alloc, &rows, (length, count as usize))
+}
+
+/// Whether so many intervals of one domain are a file of so many octets.
+fn is_file_of_intervals(
+    alloc: Global,
+    count: u32,
+    protocol: Option<u8>,
+    length: usize,
+) -> Result<bool, Fail> {
+    let rows = intervals(alloc, count, protocol)?;
+    is_file_of(alloc, &rows, (length, count as usize))
+}
+
 /// A domain begins with a message of 100 octets. Its rows follow in messages of up to 1,000 rows: 20 octets, and 41 for
 /// each row, 40 for one without a protocol.
 #[test]
 fn files_of_tables(rt: HostRuntime) -> Result<(), Fail> {
     let alloc = rt.alloc();
-    let one = domains(alloc, 1)?;
-    assert!(rt; encoded(alloc, &one)?.as_slice() == ONE_ROW.as_slice());
+    assert!(rt; is_one_row(alloc)?);
     for (count, length) in [(0, 0), (1, 161), (2, 322), (70, 70 * 161)] {
-        let rows = domains(alloc, count)?;
-        let is_so = is_file_of(alloc, &rows, (length, count as usize))?;
-        assert!(rt; is_so, "{count} domains");
+        assert!(rt;
+            is_file_of_domains(alloc, count, length)?,
+            "{count} domains"
+        );
     }
     for (count, protocol, length) in [
         (1_000, Some(6), 100 + 41_020),
         (1_001, Some(6), 100 + 41_020 + 61),
         (7_000, None, 100 + 7 * 40_020),
     ] {
-        let rows = intervals(alloc, count, protocol)?;
-        let is_so = is_file_of(alloc, &rows, (length, count as usize))?;
+        let is_so = is_file_of_intervals(alloc, count, protocol, length)?;
         assert!(rt; is_so, "{count} intervals");
     }
     assert!(rt; is_file_of(alloc, &greatest(alloc)?, (200, 2))?);
@@ -246,20 +269,31 @@ fn time_of(alloc: Global, octets: Vec<u8>) -> Result<u32, DiskError> {
     part(octets).export_time(alloc, &mut Faults::new())
 }
 
+/// The octets of two domains, with this last octet of the Export Time of each message.
+fn written_at(alloc: Global, last: u8) -> Result<Vec<u8>, Fail> {
+    let mut octets = encoded(alloc, &domains(alloc, 2)?)?;
+    for place in [7, 107, 168, 268] {
+        if let Some(octet) = octets.get_mut(place) {
+            *octet = last;
+        }
+    }
+    Ok(octets)
+}
+
+/// Whether octets are read as the rows of two domains.
+fn are_of_two_domains(alloc: Global, octets: &[u8]) -> Result<bool, Fail> {
+    let table = decoded(alloc, octets)?;
+    Ok(are_alike(&table, &domains(alloc, 2)?)?)
+}
+
 /// The Export Time of all messages is another: the same rows.
 #[test]
 fn export_time(rt: HostRuntime) -> Result<(), Fail> {
     let alloc = rt.alloc();
-    let rows = domains(alloc, 2)?;
-    let mut octets = encoded(alloc, &rows)?;
-    assert_eq!(rt; time_of(alloc, octets.clone()?)?, 0x6553_f100);
-    for place in [7, 107, 168, 268] {
-        if let Some(octet) = octets.get_mut(place) {
-            *octet = 1;
-        }
+    assert!(rt; are_of_two_domains(alloc, &written_at(alloc, 1)?)?);
+    for (last, time) in [(0, 0x6553_f100), (1, 0x6553_f101)] {
+        assert_eq!(rt; time_of(alloc, written_at(alloc, last)?)?, time);
     }
-    assert!(rt; are_alike(&decoded(alloc, &octets)?, &rows)?);
-    assert_eq!(rt; time_of(alloc, octets)?, 0x6553_f101);
     assert_eq!(rt; time_of(alloc, Vec::new(alloc))?, 0);
     Ok(())
 }
