@@ -147,7 +147,7 @@ pub one_line_more : (format : Format) (entries : List (ℕ × DomainReport)) (i 
     → slice_get entries i ≡ Some e
     → domains_text format (take (i + 1) entries) ≡ domains_text format (take i entries) ++ report_in format e
 one_line_more format entries i e is =
-    let names = heading format report_names in
+    let names = heading format.layout report_names in
     let before = flat_map (report_in format) (take i entries) in
     ap (domains_text format) (take_more entries i e (slice_get_within entries i e is)
     ∙ ap (λ (x : ℕ × DomainReport). take i entries ++ x ∷ []) (get_or_from_slice_get entries i e e is))

@@ -8,8 +8,11 @@ use Rattle.indexmap.specs.IndexMap.{insert_entry}
 use Rattle.flow_codec.specs.declared.message.Header.{Header}
 use Rattle.flow_codec.specs.Raw.{RawMessage}
 use Rattle.flow_report.specs.declared.format.Format.{Format}
-use Rattle.flow_report.specs.declared.format.Format.TheVariants.{Lines, Csv, Json}
-use Rattle.flow_report.specs.Formats.{Named, heading, line_in}
+use Rattle.flow_report.specs.declared.format.Layout.{Layout}
+use Rattle.flow_report.specs.declared.format.Layout.TheVariants.{Lines, Csv, Json}
+use Rattle.flow_report.specs.declared.format.Times.{Times}
+use Rattle.flow_report.specs.Formats.{Named, heading, line_in, second_text, time_or_none}
+use Rattle.flow_report.specs.Formats.Value.{Number, Time}
 use Rattle.flow_inspect.specs.declared.counting.RecordCounts.{RecordCounts}
 use Rattle.flow_inspect.specs.declared.reporting.DomainReport.{DomainReport}
 use Rattle.flow_inspect.specs.declared.span.Span.{Span}
@@ -137,29 +140,30 @@ sequence_text tally =
     ++ codes " backwards" ++ 32 ∷ decimal tally.backwards
 
 -- when the flows start
-unfoldable pub starts_text : Option Span → List ℕ
-starts_text None = codes " starts - -"
-starts_text (Some span) = codes " starts" ++ 32 ∷ decimal span.first ++ 32 ∷ decimal span.last
+unfoldable pub starts_text : Times → Option Span → List ℕ
+starts_text times None = codes " starts - -"
+starts_text times (Some span) =
+    codes " starts" ++ 32 ∷ second_text times span.first ++ 32 ∷ second_text times span.last
 
 -- messages N records N options N gaps N missing N backwards N from TIME to TIME starts FIRST LAST, with a line feed
-unfoldable pub tally_text : Tally → List ℕ
-tally_text tally =
-    counts_text tally ++ sequence_text tally ++ codes " from" ++ 32 ∷ decimal tally.first
-    ++ codes " to" ++ 32 ∷ decimal tally.last ++ starts_text tally.starts ++ 10 ∷ []
+unfoldable pub tally_text : Times → Tally → List ℕ
+tally_text times tally =
+    counts_text tally ++ sequence_text tally ++ codes " from" ++ 32 ∷ second_text times tally.first
+    ++ codes " to" ++ 32 ∷ second_text times tally.last ++ starts_text times tally.starts ++ 10 ∷ []
 
 -- domain DOMAIN, and what is counted of it
-unfoldable pub report_line : ℕ × DomainReport → List ℕ
-report_line e = codes "domain" ++ 32 ∷ decimal e.0 ++ tally_text e.1.tally
+unfoldable pub report_line : Times → ℕ × DomainReport → List ℕ
+report_line times e = codes "domain" ++ 32 ∷ decimal e.0 ++ tally_text times e.1.tally
 
 -- the same values with their names
 abbrev pub report_values : ℕ × DomainReport → List Named
 report_values e =
     let t = e.1.tally in
-    (codes "domain", Some e.0) ∷ (codes "messages", Some t.messages) ∷ (codes "records", Some t.records)
-    ∷ (codes "options", Some t.options) ∷ (codes "gaps", Some t.gaps) ∷ (codes "missing", Some t.missing)
-    ∷ (codes "backwards", Some t.backwards) ∷ (codes "from", Some t.first) ∷ (codes "to", Some t.last)
-    ∷ (codes "first", option_map (λ span. span.first) t.starts)
-    ∷ (codes "last", option_map (λ span. span.last) t.starts) ∷ []
+    (codes "domain", Number e.0) ∷ (codes "messages", Number t.messages) ∷ (codes "records", Number t.records)
+    ∷ (codes "options", Number t.options) ∷ (codes "gaps", Number t.gaps) ∷ (codes "missing", Number t.missing)
+    ∷ (codes "backwards", Number t.backwards) ∷ (codes "from", Time t.first) ∷ (codes "to", Time t.last)
+    ∷ (codes "first", time_or_none (option_map (λ span. span.first) t.starts))
+    ∷ (codes "last", time_or_none (option_map (λ span. span.last) t.starts)) ∷ []
 
 abbrev pub report_names : List (List ℕ)
 report_names =
@@ -167,26 +171,32 @@ report_names =
     ∷ codes "backwards" ∷ codes "from" ∷ codes "to" ∷ codes "first" ∷ codes "last" ∷ []
 
 -- the line of a domain in a format
+abbrev pub report_by : Layout → Format → ℕ × DomainReport → List ℕ
+report_by Lines format e = report_line format.times e
+report_by Csv format e = line_in format (report_values e)
+report_by Json format e = line_in format (report_values e)
+
 unfoldable pub report_in : Format → ℕ × DomainReport → List ℕ
-report_in Lines e = report_line e
-report_in Csv e = line_in Csv (report_values e)
-report_in Json e = line_in Json (report_values e)
+report_in format e = report_by format.layout format e
 
 -- all domains N, and what is counted of all together
-unfoldable pub whole_line : ℕ → Option Tally → List ℕ
-whole_line domains None =
+unfoldable pub whole_line : Times → ℕ → Option Tally → List ℕ
+whole_line times domains None =
     codes "all domains 0 messages 0 records 0 options 0 gaps 0 missing 0 backwards 0 from - to - starts - -\n"
-whole_line domains (Some whole) = codes "all domains" ++ 32 ∷ decimal domains ++ tally_text whole
+whole_line times domains (Some whole) = codes "all domains" ++ 32 ∷ decimal domains ++ tally_text times whole
 
 -- the line of the whole File, which is in words alone
+abbrev pub whole_by : Layout → Times → List (ℕ × DomainReport) → List ℕ
+whole_by Lines times entries = whole_line times (length entries) (whole_of entries)
+whole_by Csv times entries = []
+whole_by Json times entries = []
+
 unfoldable pub whole_in : Format → List (ℕ × DomainReport) → List ℕ
-whole_in Lines entries = whole_line (length entries) (whole_of entries)
-whole_in Csv entries = []
-whole_in Json entries = []
+whole_in format entries = whole_by format.layout format.times entries
 
 -- what is before all lines, and the lines of the domains
 abbrev pub domains_text : Format → List (ℕ × DomainReport) → List ℕ
-domains_text format entries = heading format report_names ++ flat_map (report_in format) entries
+domains_text format entries = heading format.layout report_names ++ flat_map (report_in format) entries
 
 abbrev pub reports_text : Format → List (ℕ × DomainReport) → List ℕ
 reports_text format entries = domains_text format entries ++ whole_in format entries

@@ -12,7 +12,7 @@ use crate::reporting::{DomainReport, begun, continued, push_heading, push_in};
 use crate::tally::{Tally, with_tally};
 use crate::whole::push_whole;
 use flow_codec::{Header, MessageReader, Templates, WalkError, walk_message};
-use flow_report::{Format, Patience, Refusal, write_patiently};
+use flow_report::{Format, Layout, Patience, Refusal, write_patiently};
 use indexmap::IndexMap;
 use std::alloc::{AllocError, Global};
 use std::convert::Infallible;
@@ -107,10 +107,10 @@ fn whole_of(reports: &Reports) -> Option<Tally>
 fn push_whole_in(text: &mut Vec<u8>, format: Format, reports: &Reports) -> Result<(), AllocError>
     ensures { OnOk result (text.new.items ≡ text.old.items ++ whole_in format reports.now.entries) }
 {
-    match format {
-        Format::Lines => push_whole(text, reports.len() as u64, whole_of(reports)),
-        Format::Csv => Ok(()),
-        Format::Json => Ok(()),
+    match format.layout {
+        Layout::Lines => push_whole(text, format.times, reports.len() as u64, whole_of(reports)),
+        Layout::Csv => Ok(()),
+        Layout::Json => Ok(()),
     }
 }
 

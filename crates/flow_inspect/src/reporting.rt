@@ -5,13 +5,17 @@ ghost use Rattle.std.specs.Fmt.{decimal};
 ghost use Rattle.flow_inspect.specs.Reports.{begun, continued, due_after, plus, tally_after};
 ghost use Rattle.flow_inspect.specs.Reports.{counts_text, report_line, sequence_text, starts_text, tally_text};
 ghost use Rattle.flow_inspect.specs.Reports.{report_in, report_names, report_values};
-ghost use Rattle.flow_report.specs.Formats.{closing, heading, line_in, separator, value_in};
+ghost use Rattle.flow_report.specs.Formats.{closing, heading, line_in, second_text, separator, time_or_none, value_in};
+ghost use Rattle.flow_report.specs.Formats.Value.{Nothing};
 
 use crate::counting::RecordCounts;
 use crate::span::{Span, hull};
 use crate::tally::Tally;
 use flow_codec::Header;
-use flow_report::{Format, MOST_VALUE, push_count, put_last, put_opening, put_value};
+use flow_report::{
+    Format, Layout, MOST_VALUE, Times, push_count, push_time, put_last_time, put_opening, put_time,
+    put_value,
+};
 use std::alloc::AllocError;
 
 /// A Sequence Number that is so far past the due one, modulo 2^32, or farther, is before it.
@@ -105,6 +109,20 @@ fn push_named(text: &mut Vec<u8>, name: &str, number: u64) -> Result<(), AllocEr
     Ok(())
 }
 
+/// Puts a name and a time after a text.
+fn push_named_time(
+    text: &mut Vec<u8>,
+    name: &str,
+    times: Times,
+    second: u32,
+) -> Result<(), AllocError>
+    ensures { OnOk result (text.new.items ≡ text.old.items ++ name.now ++ 32 ∷ second_text times second) }
+{
+    text.extend_from_slice(name.as_bytes())?;
+    push_time(text, times, second)?;
+    Ok(())
+}
+
 /// Puts after a text how many messages and data records there are.
 #[tactic(auto, unfolding(crate::specs::Reports::counts_text))]
 fn push_counts(text: &mut Vec<u8>, tally: &Tally) -> Result<(), AllocError>
@@ -129,13 +147,13 @@ fn push_sequence(text: &mut Vec<u8>, tally: &Tally) -> Result<(), AllocError>
 
 /// Puts after a text when the flows start: ` starts FIRST LAST`, or ` starts - -` where there is none.
 #[tactic(auto, unfolding(crate::specs::Reports::starts_text))]
-fn push_starts(text: &mut Vec<u8>, starts: Option<Span>) -> Result<(), AllocError>
-    ensures { OnOk result (text.new.items ≡ text.old.items ++ starts_text starts) }
+fn push_starts(text: &mut Vec<u8>, times: Times, starts: Option<Span>) -> Result<(), AllocError>
+    ensures { OnOk result (text.new.items ≡ text.old.items ++ starts_text times starts) }
 {
     match starts {
         Some(span) => {
-            push_named(text, " starts", u64::from(span.first))?;
-            push_count(text, u64::from(span.last))?;
+            push_named_time(text, " starts", times, span.first)?;
+            push_time(text, times, span.last)?;
         }
         None => text.extend_from_slice(" starts - -".as_bytes())?,
     }
@@ -145,37 +163,42 @@ fn push_starts(text: &mut Vec<u8>, starts: Option<Span>) -> Result<(), AllocErro
 /// Puts after a text what was counted, and ends the line: ` messages N records N options N gaps N missing N backwards N
 /// from TIME to TIME starts FIRST LAST`.
 #[tactic(auto, unfolding(crate::specs::Reports::tally_text))]
-pub(crate) fn push_tally(text: &mut Vec<u8>, tally: &Tally) -> Result<(), AllocError>
-    ensures { OnOk result (text.new.items ≡ text.old.items ++ tally_text tally.now) }
+pub(crate) fn push_tally(text: &mut Vec<u8>, times: Times, tally: &Tally) -> Result<(), AllocError>
+    ensures { OnOk result (text.new.items ≡ text.old.items ++ tally_text times tally.now) }
 {
     push_counts(text, tally)?;
     push_sequence(text, tally)?;
-    push_named(text, " from", u64::from(tally.first))?;
-    push_named(text, " to", u64::from(tally.last))?;
-    push_starts(text, tally.starts)?;
+    push_named_time(text, " from", times, tally.first)?;
+    push_named_time(text, " to", times, tally.last)?;
+    push_starts(text, times, tally.starts)?;
     text.push(b'\n')?;
     Ok(())
 }
 
 /// Puts the line of a domain after a text: `domain DOMAIN`, and what was counted of it.
 #[tactic(auto, unfolding(crate::specs::Reports::report_line))]
-fn push_report(text: &mut Vec<u8>, domain: u32, report: &DomainReport) -> Result<(), AllocError>
-    ensures { OnOk result (text.new.items ≡ text.old.items ++ report_line (domain, report.now)) }
+fn push_report(
+    text: &mut Vec<u8>,
+    times: Times,
+    domain: u32,
+    report: &DomainReport,
+) -> Result<(), AllocError>
+    ensures { OnOk result (text.new.items ≡ text.old.items ++ report_line times (domain, report.now)) }
 {
     push_named(text, "domain", u64::from(domain))?;
-    push_tally(text, &report.tally)?;
+    push_tally(text, times, &report.tally)?;
     Ok(())
 }
 
 /// What is written for the last two values where there is no flow, and what the line ends with.
 fn without_starts(format: Format) -> &'static str
-    ensures { result.now ≡ value_in format (codes "first", None) ++ separator format
-        ∷ value_in format (codes "last", None) ++ closing format }
+    ensures { result.now ≡ value_in format (codes "first", Nothing) ++ separator format.layout
+        ∷ value_in format (codes "last", Nothing) ++ closing format.layout }
 {
-    match format {
-        Format::Lines => "- -\n",
-        Format::Csv => ",\n",
-        Format::Json => "\"first\":null,\"last\":null}\n",
+    match format.layout {
+        Layout::Lines => "- -\n",
+        Layout::Csv => ",\n",
+        Layout::Json => "\"first\":null,\"last\":null}\n",
     }
 }
 
@@ -185,14 +208,16 @@ const MOST_REPORT: usize = 11 * MOST_VALUE + 1;
 /// Puts after a text the last two values of a line, and what the line ends with.
 fn push_last(text: &mut Vec<u8>, format: Format, starts: Option<Span>) -> Result<(), AllocError>
     ensures { OnOk result (text.new.items
-        ≡ text.old.items ++ value_in format (codes "first", option_map (λ span. span.first) starts) ++ separator format
-        ∷ value_in format (codes "last", option_map (λ span. span.last) starts) ++ closing format) }
+        ≡ text.old.items ++ value_in format (codes "first", time_or_none (option_map (λ span. span.first) starts))
+        ++ separator format.layout
+        ∷ value_in format (codes "last", time_or_none (option_map (λ span. span.last) starts))
+        ++ closing format.layout) }
 {
     match starts {
         Some(span) => {
             text.reserve(2 * MOST_VALUE)?;
-            put_value(text, format, "first", span.first);
-            put_last(text, format, "last", span.last);
+            put_time(text, format, "first", span.first);
+            put_last_time(text, format, "last", span.last);
         }
         None => text.extend_from_slice(without_starts(format).as_bytes())?,
     }
@@ -218,8 +243,8 @@ fn push_values(
     put_value(text, format, "gaps", tally.gaps);
     put_value(text, format, "missing", tally.missing);
     put_value(text, format, "backwards", tally.backwards);
-    put_value(text, format, "from", tally.first);
-    put_value(text, format, "to", tally.last);
+    put_time(text, format, "from", tally.first);
+    put_time(text, format, "to", tally.last);
     push_last(text, format, tally.starts)?;
     Ok(())
 }
@@ -234,18 +259,18 @@ pub(crate) fn push_in(
 ) -> Result<(), AllocError>
     ensures { OnOk result (text.new.items ≡ text.old.items ++ report_in format (domain, report.now)) }
 {
-    match format {
-        Format::Lines => push_report(text, domain, report),
-        Format::Csv => push_values(text, Format::Csv, domain, report),
-        Format::Json => push_values(text, Format::Json, domain, report),
+    match format.layout {
+        Layout::Lines => push_report(text, format.times, domain, report),
+        Layout::Csv => push_values(text, format, domain, report),
+        Layout::Json => push_values(text, format, domain, report),
     }
 }
 
 /// Puts after a text what is before all lines: in CSV the names of the values.
 pub(crate) fn push_heading(text: &mut Vec<u8>, format: Format) -> Result<(), AllocError>
-    ensures { OnOk result (text.new.items ≡ text.old.items ++ heading format report_names) }
+    ensures { OnOk result (text.new.items ≡ text.old.items ++ heading format.layout report_names) }
 {
-    if let Format::Csv = format {
+    if let Layout::Csv = format.layout {
         text.extend_from_slice(
             "domain,messages,records,options,gaps,missing,backwards,from,to,first,last\n".as_bytes(),
         )?;

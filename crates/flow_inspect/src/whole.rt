@@ -5,23 +5,24 @@ ghost use Rattle.flow_inspect.specs.Reports.{whole_line};
 
 use crate::reporting::push_tally;
 use crate::tally::Tally;
-use flow_report::push_count;
+use flow_report::{Times, push_count};
 use std::alloc::AllocError;
 
 /// Puts the line of the whole File after a text: `all domains N`, and what was counted of all domains together.
 #[tactic(auto, unfolding(crate::specs::Reports::whole_line))]
 pub(crate) fn push_whole(
     text: &mut Vec<u8>,
+    times: Times,
     domains: u64,
     whole: Option<Tally>,
 ) -> Result<(), AllocError>
-    ensures { OnOk result (text.new.items ≡ text.old.items ++ whole_line domains whole) }
+    ensures { OnOk result (text.new.items ≡ text.old.items ++ whole_line times domains whole) }
 {
     match whole {
         Some(whole) => {
             text.extend_from_slice("all domains".as_bytes())?;
             push_count(text, domains)?;
-            push_tally(text, &whole)?;
+            push_tally(text, times, &whole)?;
         }
         None => text.extend_from_slice(NO_MESSAGE.as_bytes())?,
     }

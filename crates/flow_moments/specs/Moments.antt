@@ -45,17 +45,36 @@ date_of text =
     (number_between 1970 2106 (part 0 4 text))
     else None
 
--- THH:MM, or nothing
+-- THH:MM
 abbrev pub is_timed : List ℕ → Bool
 is_timed text =
     (length text == 6) && (octet_at 0 text == 84) && (octet_at 3 text == 58)
 
+abbrev pub minute_of : List ℕ → Option ℕ
+minute_of text =
+    if is_timed text then
+    option_and_then (λ hour. option_map (λ minute. hour * 3600 + minute * 60) (number_between 0 59 (part 4 6 text)))
+    (number_between 0 23 (part 1 3 text))
+    else None
+
+-- :SSZ, or nothing
+abbrev pub has_seconds : List ℕ → Bool
+has_seconds text =
+    (length text == 4) && (octet_at 0 text == 58) && (octet_at 3 text == 90)
+
+abbrev pub second_in_minute : List ℕ → Option ℕ
+second_in_minute text =
+    if length text == 0 then Some 0
+    else if has_seconds text then number_between 0 59 (part 1 3 text)
+    else None
+
+-- THH:MM or THH:MM:SSZ, or nothing
 abbrev pub clock_of : List ℕ → Option ℕ
 clock_of text =
     if length text == 0 then Some 0
-    else if is_timed text then
-    option_and_then (λ hour. option_map (λ minute. hour * 3600 + minute * 60) (number_between 0 59 (part 4 6 text)))
-    (number_between 0 23 (part 1 3 text))
+    else if nat_le 6 (length text) then
+    option_and_then (λ minute. option_map (λ second. minute + second) (second_in_minute (drop 6 text)))
+    (minute_of (take 6 text))
     else None
 
 -- a day and its clock
@@ -76,7 +95,7 @@ last text = octet_at (length text - 1) text
 abbrev pub front : List ℕ → List ℕ
 front text = take (length text - 1) text
 
--- so many days (100 is d) or hours (104 is h) ago, now, a day, or a minute of it
+-- so many days (100 is d) or hours (104 is h) ago, now, a day, or a minute or a second of it
 abbrev pub moment_of : List ℕ → Option Moment
 moment_of text =
     if bytes_eq text (codes "now") then Some (Ago 0)

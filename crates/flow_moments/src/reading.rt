@@ -1,7 +1,8 @@
 //! Words that are moments.
 
 ghost use Rattle.std.specs.Prelude.{◌≡◌, ◌<◌, ◌≤◌, ◌^◌, IfSome};
-ghost use Rattle.flow_moments.specs.Moments.{ago, clock_of, date_of, day_of, moment_of, second_of};
+ghost use Rattle.flow_moments.specs.Moments.{ago, clock_of, date_of, day_of, minute_of, moment_of};
+ghost use Rattle.flow_moments.specs.Moments.{second_in_minute, second_of};
 
 use crate::moment::Moment;
 use flow_report::number_between;
@@ -47,14 +48,11 @@ fn date_of(word: &[u8]) -> Option<u64>
     day_of(year, month, day)
 }
 
-/// The second of a day that THH:MM is, or nothing at all.
-fn clock_of(word: &[u8]) -> Option<u64>
-    ensures value { result ≡ clock_of word.now }
-    ensures most { IfSome result (λ n. n < 86400) }
+/// The second of a day that THH:MM is.
+fn minute_of(word: &[u8]) -> Option<u64>
+    ensures value { result ≡ minute_of word.now }
+    ensures most { IfSome result (λ n. n ≤ 86340) }
 {
-    if word.is_empty() {
-        return Some(0);
-    }
     if word.len() != 6 || word[0] != b'T' || word[3] != b':' {
         return None;
     }
@@ -63,7 +61,38 @@ fn clock_of(word: &[u8]) -> Option<u64>
     Some(hour * HOUR + minute * MINUTE)
 }
 
-/// The second that a day is, or a minute of it.
+/// The second of a minute that :SSZ is, or nothing at all.
+fn second_in_minute(word: &[u8]) -> Option<u64>
+    ensures value { result ≡ second_in_minute word.now }
+    ensures most { IfSome result (λ n. n < 60) }
+{
+    if word.is_empty() {
+        return Some(0);
+    }
+    if word.len() != 4 || word[0] != b':' || word[3] != b'Z' {
+        return None;
+    }
+    number_between(0, 59, &word[1..3])
+}
+
+/// The second of a day that THH:MM or THH:MM:SSZ is, or nothing at all.
+fn clock_of(word: &[u8]) -> Option<u64>
+    ensures value { result ≡ clock_of word.now }
+    ensures most { IfSome result (λ n. n < 86400) }
+{
+    if word.is_empty() {
+        return Some(0);
+    }
+    if word.len() < 6 {
+        return None;
+    }
+    let (minute, rest) = word.split_at(6);
+    let minute = minute_of(minute)?;
+    let second = second_in_minute(rest)?;
+    Some(minute + second)
+}
+
+/// The second that a day is, or a minute or a second of it.
 fn second_of(word: &[u8]) -> Option<u64>
     ensures { result ≡ second_of word.now }
 {
@@ -84,8 +113,8 @@ fn ago(unit: u64, count: &[u8]) -> Option<Moment>
     Some(Moment::Ago(unit * number_between(0, MOST, count)?))
 }
 
-/// The moment that a word is: a day as 2026-11-25, that is its first second; a minute as 2026-11-25T06:00, both in UTC,
-/// from 1970 to 2106; so many days or hours ago, as 1d or 6h; or now.
+/// The moment that a word is: a day as 2026-11-25, that is its first second; a minute as 2026-11-25T06:00, or a second
+/// as 2026-11-25T06:00:00Z, in UTC, from 1970 to 2106; so many days or hours ago, as 1d or 6h; or now.
 pub fn moment_of(word: &str) -> Option<Moment>
     ensures { result ≡ moment_of word.now }
 {

@@ -6,11 +6,11 @@ ghost use Rattle.flow_report.specs.ArchiveLines.{flow_line, flow_names, flows_te
 ghost use Rattle.flow_report.specs.Formats.{heading};
 ghost use Rattle.flow_report.specs.Writing.{AppendsFront, IsCut};
 
-use crate::format::Format;
+use crate::format::{Format, Layout};
 use crate::output::{HeldText, MOST_HELD};
 use crate::patient::WriteFailed;
 use crate::text_error::TextError;
-use crate::values::{put_last, put_opening, put_protocol, put_text, put_value};
+use crate::values::{put_last, put_opening, put_protocol, put_text, put_time, put_value};
 use flow_measure::Flow;
 use std::alloc::Global;
 use std::io::Write;
@@ -23,7 +23,7 @@ fn put_flow(line: &mut Vec<u8>, format: Format, flow: Flow)
     ensures room { vec_capacity line.old ≤ vec_capacity line.new }
 {
     put_opening(line, format);
-    put_value(line, format, "start", flow.start);
+    put_time(line, format, "start", flow.start);
     put_value(line, format, "domain", flow.domain);
     put_protocol(line, format, flow.protocol);
     put_value(line, format, "octets", flow.octets);
@@ -33,11 +33,11 @@ fn put_flow(line: &mut Vec<u8>, format: Format, flow: Flow)
 /// Appends the heading of flows, where there is room: in CSV the names of their values.
 fn put_flows_heading(line: &mut Vec<u8>, format: Format)
     requires { vec_len line.old + 428 ≤ vec_capacity line.old }
-    ensures text { line.new.items ≡ line.old.items ++ heading format flow_names }
+    ensures text { line.new.items ≡ line.old.items ++ heading format.layout flow_names }
     ensures len { vec_len line.new ≤ vec_len line.old + 428 }
     ensures room { vec_capacity line.old ≤ vec_capacity line.new }
 {
-    if let Format::Csv = format {
+    if let Layout::Csv = format.layout {
         put_text(line, "start,domain,protocol,octets,packets\n");
     }
 }

@@ -3,9 +3,9 @@
 ghost use Rattle.std.specs.Prelude.{◌≡◌, ◌≤◌, length};
 ghost use Rattle.flow_report.specs.Formats.{closing, none_text, opening, separator};
 
-/// How the values of a row, a flow or a domain are written.
+/// How the values of a row, a flow or a domain are laid out.
 #[derive(Clone, Copy, Debug, PartialEq, Eq)]
-pub enum Format {
+pub enum Layout {
     /// A line each, of words with a space between two.
     Lines,
     /// CSV (RFC 4180): a line of names, then a line each, of values with a comma between two. Lines end in a line feed.
@@ -14,16 +14,16 @@ pub enum Format {
     Json,
 }
 
-impl Format {
+impl Layout {
     /// What a line begins with.
     pub(crate) fn opening(self) -> &'static str
         ensures text { result.now ≡ opening self }
         ensures len { length result.now ≤ 1 }
     {
         match self {
-            Format::Lines => "",
-            Format::Csv => "",
-            Format::Json => "{",
+            Layout::Lines => "",
+            Layout::Csv => "",
+            Layout::Json => "{",
         }
     }
 
@@ -32,9 +32,9 @@ impl Format {
         ensures { result ≡ separator self }
     {
         match self {
-            Format::Lines => b' ',
-            Format::Csv => b',',
-            Format::Json => b',',
+            Layout::Lines => b' ',
+            Layout::Csv => b',',
+            Layout::Json => b',',
         }
     }
 
@@ -44,9 +44,9 @@ impl Format {
         ensures len { length result.now ≤ 2 }
     {
         match self {
-            Format::Lines => "\n",
-            Format::Csv => "\n",
-            Format::Json => "}\n",
+            Layout::Lines => "\n",
+            Layout::Csv => "\n",
+            Layout::Json => "}\n",
         }
     }
 
@@ -56,9 +56,33 @@ impl Format {
         ensures len { length result.now ≤ 4 }
     {
         match self {
-            Format::Lines => "-",
-            Format::Csv => "",
-            Format::Json => "null",
+            Layout::Lines => "-",
+            Layout::Csv => "",
+            Layout::Json => "null",
         }
     }
+}
+
+/// How a time is written.
+#[derive(Clone, Copy, Debug, PartialEq, Eq)]
+pub enum Times {
+    /// As a number: its second since 1970-01-01 00:00 UTC.
+    Seconds,
+    /// As its date and time in UTC, YYYY-MM-DDTHH:MM:SSZ (RFC 3339), in JSON in quotes.
+    Dates,
+}
+
+/// How the values of a row, a flow or a domain are written.
+#[derive(Clone, Copy, Debug, PartialEq, Eq)]
+pub struct Format {
+    pub layout: Layout,
+    pub times: Times,
+}
+
+impl Format {
+    /// In words, with times as numbers.
+    pub const PLAIN: Format = Format {
+        layout: Layout::Lines,
+        times: Times::Seconds,
+    };
 }

@@ -25,13 +25,13 @@ mod width;
 
 pub use dumping::dump;
 pub use flows::write_flows;
-pub use format::Format;
+pub use format::{Format, Layout, Times};
 pub use measuring::measure;
 pub use numbers::number_between;
 pub use patient::{MOST_INTERRUPTS, Patience, WriteFailed, write_patiently};
 pub use refusal::Refusal;
 pub use rows::write_rows;
-pub use text::push_count;
+pub use text::{push_count, push_time};
 pub use text_error::TextError;
-pub use values::{MOST_VALUE, put_last, put_opening, put_value};
+pub use values::{MOST_VALUE, put_last, put_last_time, put_opening, put_time, put_value};
 pub use width::Width;

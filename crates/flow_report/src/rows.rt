@@ -6,23 +6,23 @@ ghost use Rattle.flow_report.specs.ArchiveLines.{row_line, row_names, rows_text,
 ghost use Rattle.flow_report.specs.Formats.{heading};
 ghost use Rattle.flow_report.specs.Writing.{AppendsFront, IsCut};
 
-use crate::format::Format;
+use crate::format::{Format, Layout};
 use crate::output::{HeldText, MOST_HELD};
 use crate::patient::WriteFailed;
 use crate::text_error::TextError;
-use crate::values::{put_last, put_opening, put_protocol, put_text, put_value};
+use crate::values::{put_last, put_opening, put_protocol, put_text, put_time, put_value};
 use flow_measure::Row;
 use std::alloc::Global;
 use std::io::Write;
 
 /// Whether the width of a row's intervals is written.
-fn shows_width(format: Format, usual: u32, width: u32) -> bool
-    ensures { result ≡ shows_width format usual width }
+fn shows_width(layout: Layout, usual: u32, width: u32) -> bool
+    ensures { result ≡ shows_width layout usual width }
 {
-    match format {
-        Format::Lines => width != usual,
-        Format::Csv => true,
-        Format::Json => true,
+    match layout {
+        Layout::Lines => width != usual,
+        Layout::Csv => true,
+        Layout::Json => true,
     }
 }
 
@@ -35,12 +35,12 @@ fn put_row(line: &mut Vec<u8>, format: Format, usual: u32, row: Row)
     ensures room { vec_capacity line.old ≤ vec_capacity line.new }
 {
     put_opening(line, format);
-    put_value(line, format, "start", row.key.start);
+    put_time(line, format, "start", row.key.start);
     put_value(line, format, "domain", row.key.domain);
     put_protocol(line, format, row.key.protocol);
     put_value(line, format, "flows", row.sums.flows);
     put_value(line, format, "octets", row.sums.octets);
-    if shows_width(format, usual, row.width) {
+    if shows_width(format.layout, usual, row.width) {
         put_value(line, format, "packets", row.sums.packets);
         put_last(line, format, "width", row.width);
     } else {
@@ -51,11 +51,11 @@ fn put_row(line: &mut Vec<u8>, format: Format, usual: u32, row: Row)
 /// Appends the heading of rows, where there is room: in CSV the names of their values.
 pub(crate) fn put_rows_heading(line: &mut Vec<u8>, format: Format)
     requires { vec_len line.old + 428 ≤ vec_capacity line.old }
-    ensures text { line.new.items ≡ line.old.items ++ heading format row_names }
+    ensures text { line.new.items ≡ line.old.items ++ heading format.layout row_names }
     ensures len { vec_len line.new ≤ vec_len line.old + 428 }
     ensures room { vec_capacity line.old ≤ vec_capacity line.new }
 {
-    if let Format::Csv = format {
+    if let Layout::Csv = format.layout {
         put_text(line, "start,domain,protocol,flows,octets,packets,width\n");
     }
 }

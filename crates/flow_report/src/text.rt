@@ -2,9 +2,12 @@
 
 ghost use Rattle.std.specs.Prelude.{◌≡◌, ◌∷◌, ◌++◌, OnOk};
 ghost use Rattle.std.specs.Fmt.{decimal};
+ghost use Rattle.flow_report.specs.Formats.{second_text};
 ghost use Rattle.flow_report.specs.Lines.{message_line, start_text};
 
+use crate::format::Times;
 use flow_codec::Header;
+use flow_dates::time_text;
 use itoa::Buffer;
 use std::alloc::AllocError;
 
@@ -42,6 +45,20 @@ pub fn push_count(text: &mut Vec<u8>, number: u64) -> Result<(), AllocError>
 {
     text.push(b' ')?;
     push_number(text, number)
+}
+
+/// A space, and a time.
+pub fn push_time(text: &mut Vec<u8>, times: Times, second: u32) -> Result<(), AllocError>
+    ensures { OnOk result (text.new.items ≡ text.old.items ++ 32 ∷ second_text times second) }
+{
+    text.push(b' ')?;
+    match times {
+        Times::Seconds => push_number(text, second as u64),
+        Times::Dates => {
+            text.extend_from_slice(&time_text(second))?;
+            Ok(())
+        }
+    }
 }
 
 /// The line of a message: `message LENGTH TIME SEQUENCE DOMAIN`.

@@ -75,7 +75,7 @@ fn rows_written<W: Write>(
     rows: &[Row],
     output: &mut W,
 ) -> Result<String, AllocError> {
-    printed_text(alloc, write_rows(alloc, rows, 300, Format::Lines, output))
+    printed_text(alloc, write_rows(alloc, rows, 300, Format::PLAIN, output))
 }
 
 /// Writes flows: the refusal.
@@ -84,7 +84,7 @@ fn flows_written<W: Write>(
     flows: &[Flow],
     output: &mut W,
 ) -> Result<String, AllocError> {
-    printed_text(alloc, write_flows(alloc, flows, Format::Lines, output))
+    printed_text(alloc, write_flows(alloc, flows, Format::PLAIN, output))
 }
 
 /// Writes this: the refusal, and nothing where there is none.

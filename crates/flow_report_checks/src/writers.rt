@@ -3,7 +3,7 @@
 
 use crate::tasks::{PLAIN, PLAIN_LINES, Task, written};
 use flow_measure::{Flow, Key, Row, Sums};
-use flow_report::Format;
+use flow_report::{Format, Layout, Times};
 use std::alloc::{AllocError, Global};
 use std::io;
 use std::io::{ErrorKind, Write};
@@ -67,6 +67,17 @@ fn takes(
     Ok(is_prefix && octets.len() == room.min(lines.len()) && refusal.as_str() == wanted)
 }
 
+/// As CSV, and as JSON, with times as dates.
+const CSV: Format = Format {
+    layout: Layout::Csv,
+    times: Times::Seconds,
+};
+
+const JSON_DATES: Format = Format {
+    layout: Layout::Json,
+    times: Times::Dates,
+};
+
 /// The line of totals of the plain message.
 const PLAIN_LINE: &str = "1699999800 7 6 1 1500 10\n";
 
@@ -74,9 +85,9 @@ const PLAIN_LINE: &str = "1699999800 7 6 1 1500 10\n";
 const PLAIN_CSV: &str =
     "start,domain,protocol,flows,octets,packets,width\n1699999800,7,6,1,1500,10,300\n";
 
-/// The same as JSON.
+/// The same as JSON, with its time as a date.
 const PLAIN_JSON: &str =
-    "{\"start\":1699999800,\"domain\":7,\"protocol\":6,\"flows\":1,\"octets\":1500,\
+    "{\"start\":\"2023-11-14T22:10:00Z\",\"domain\":7,\"protocol\":6,\"flows\":1,\"octets\":1500,\
                           \"packets\":10,\"width\":300}\n";
 
 #[test]
@@ -93,9 +104,9 @@ fn writers_that_are_slow_or_fail(rt: HostRuntime) -> Result<(), Fail> {
     ] {
         for (task, lines) in [
             (Task::Dump(&PLAIN), PLAIN_LINES),
-            (Task::Measure(Format::Lines, "300", &PLAIN), PLAIN_LINE),
-            (Task::Measure(Format::Csv, "300", &PLAIN), PLAIN_CSV),
-            (Task::Measure(Format::Json, "300", &PLAIN), PLAIN_JSON),
+            (Task::Measure(Format::PLAIN, "300", &PLAIN), PLAIN_LINE),
+            (Task::Measure(CSV, "300", &PLAIN), PLAIN_CSV),
+            (Task::Measure(JSON_DATES, "300", &PLAIN), PLAIN_JSON),
         ] {
             let is_so = takes(rt.alloc(), task, lines, (piece, room))?;
             assert!(rt; is_so, "{piece} of {room}");
@@ -221,7 +232,7 @@ fn interrupts_are_borne(rt: HostRuntime) -> Result<(), Fail> {
     let (rows, flows) = (rows(alloc)?, flows(alloc)?);
     for (task, count, writes) in [
         (Task::Dump(&dumped), 256_056, 4),
-        (Task::Measure(Format::Lines, "1", &measured), 147_000, 3),
+        (Task::Measure(Format::PLAIN, "1", &measured), 147_000, 3),
         (Task::Rows(&rows), 175_000, 3),
         (Task::Flows(&flows), 161_000, 3),
     ] {

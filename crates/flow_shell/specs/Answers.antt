@@ -14,7 +14,7 @@ use Rattle.flow_commands.specs.Check.{standing_line}
 use Rattle.flow_commands.specs.declared.archive_refusal.ArchiveRefusal.TheVariants.{Write}
 use Rattle.flow_commands.specs.declared.checking.Standing.{Standing}
 use Rattle.flow_report.specs.ArchiveLines.{flows_text, rows_text}
-use Rattle.flow_report.specs.declared.format.Format.TheVariants.{Lines}
+use Rattle.flow_report.specs.declared.format.TheConstants.Format.{PLAIN}
 use Rattle.flow_shell.specs.declared.asked.Query.{Query}
 use Rattle.flow_shell.specs.declared.asked.Query.TheVariants.{Totals, Flows, Message, Check}
 use Rattle.flow_shell.specs.declared.refusal.ShellRefusal.{ShellRefusal}
@@ -71,8 +71,8 @@ KeepsBefore e old new = Keeps old new
 -- archive's intervals.
 abbrev pub query_lines : Query → ℕ → Shelf → History → List Change → List ℕ
 query_lines (Totals span) width opening h steps =
-    rows_text Lines width (totals_in_view span.from span.to (view_after opening h steps))
+    rows_text PLAIN width (totals_in_view span.from span.to (view_after opening h steps))
 query_lines (Flows span) width opening h steps =
-    flows_text Lines (flows_in_view span.from span.to (view_after opening h steps))
+    flows_text PLAIN (flows_in_view span.from span.to (view_after opening h steps))
 query_lines (Message number) width opening h steps = message_line (message_in_view number (view_after opening h steps))
 query_lines Check width opening h steps = checked_line (after opening steps)

@@ -57,12 +57,12 @@ pub fn answer_totals<S: SealedFile + Send + Sync, J: Naming, H: Threads + Sync, 
     // On an honest disk: the totals of the archive's history after these steps.
     ensures lines { IsTrue J.honest → (h : History) → HasView J.opening h
         → OnOk result (Appends (W.contents output.old) (W.contents output.new)
-        (rows_text Format.Lines width (totals_in_view span.now.from span.now.to (view_after J.opening h reader.new)))) }
-    ensures written { OnOk result (Writes (AreRows Format.Lines) (W.contents output.old) (W.contents output.new)) }
-    ensures kept { IfErr result (λ e. WritesOrRefuses (AreRows Format.Lines) e (W.contents output.old) (W.contents output.new)) }
+        (rows_text Format.PLAIN width (totals_in_view span.now.from span.now.to (view_after J.opening h reader.new)))) }
+    ensures written { OnOk result (Writes (AreRows Format.PLAIN) (W.contents output.old) (W.contents output.new)) }
+    ensures kept { IfErr result (λ e. WritesOrRefuses (AreRows Format.PLAIN) e (W.contents output.old) (W.contents output.new)) }
 {
     let rows = find_rows(rt, alloc, reader, span, workers)?;
-    write_rows(alloc, rows.as_slice(), width, Format::Lines, output)?;
+    write_rows(alloc, rows.as_slice(), width, Format::PLAIN, output)?;
     Ok(())
 }
 
@@ -93,12 +93,12 @@ pub fn answer_flows<S: SealedFile, J: Naming, W: Write>(
     ensures later { IsPrefix reader.old reader.new }
     ensures lines { IsTrue J.honest → (h : History) → HasView J.opening h
         → OnOk result (Appends (W.contents output.old) (W.contents output.new)
-        (flows_text Format.Lines (flows_in_view span.now.from span.now.to (view_after J.opening h reader.new)))) }
-    ensures written { OnOk result (Writes (AreFlows Format.Lines) (W.contents output.old) (W.contents output.new)) }
-    ensures kept { IfErr result (λ e. WritesOrRefuses (AreFlows Format.Lines) e (W.contents output.old) (W.contents output.new)) }
+        (flows_text Format.PLAIN (flows_in_view span.now.from span.now.to (view_after J.opening h reader.new)))) }
+    ensures written { OnOk result (Writes (AreFlows Format.PLAIN) (W.contents output.old) (W.contents output.new)) }
+    ensures kept { IfErr result (λ e. WritesOrRefuses (AreFlows Format.PLAIN) e (W.contents output.old) (W.contents output.new)) }
 {
     let flows = find_flows(alloc, reader, span)?;
-    write_flows(alloc, flows.as_slice(), Format::Lines, output)?;
+    write_flows(alloc, flows.as_slice(), Format::PLAIN, output)?;
     Ok(())
 }
 

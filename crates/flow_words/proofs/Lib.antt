@@ -3,3 +3,4 @@ pub mod Walking
 pub mod Verdicts
 pub mod Answered
 pub mod Reading
+mod Adding

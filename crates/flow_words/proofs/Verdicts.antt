@@ -10,8 +10,8 @@ use Rattle.std.proofs.lemmas.Slice.Eq.{bytes_eq-Decides}
 use Rattle.clap.specs.Lexer.{has_byte, name_and_value}
 use Rattle.std.specs.List.{after_first, before_first, position_or_len}
 use Rattle.std.proofs.Common.{◌+◌, suc, take}
-use Rattle.flow_report.specs.declared.format.Format.TheVariants.{Lines}
-use Rattle.flow_words.specs.CommandLine.{asks_format}
+use Rattle.flow_report.specs.declared.format.TheConstants.Format.{PLAIN}
+use Rattle.flow_words.specs.CommandLine.{asks_format, is_format}
 use Rattle.clap.specs.Walk.{Held, Row, Rule, Step, Text, Walk, after_step, answers_to, arg_by_long}
 use Rattle.clap.specs.Walk.{arg_by_short, finished, has_long, has_short, idle}
 use Rattle.clap.specs.Walk.{settled, subcommand_met, subcommand_or_other}
@@ -40,7 +40,7 @@ abbrev measure_built : Shape
 measure_built = get_or (built flowvault).subs 0 measure_shape
 
 abbrev help_built : Rule
-help_built = get_or measure_built.rules 3 width_rule
+help_built = get_or measure_built.rules 4 width_rule
 
 or_first : (a b : Bool) → (a || b) ≡ false → a ≡ false
 or_first true b e = e
@@ -73,31 +73,34 @@ with_value c again (Some a) v h none = rw none tt
 
 measure_takes_none : (name : Text) → option_map_or takes_values (arg_by_long measure_built.rules name) false ≡ false
 measure_takes_none name =
-    by (bytes_eq (codes "csv") name) (bytes_eq (codes "json") name) (bytes_eq (codes "help") name) refl refl refl
+    by (bytes_eq (codes "csv") name) (bytes_eq (codes "json") name) (bytes_eq (codes "utc") name)
+    (bytes_eq (codes "help") name) refl refl refl refl
   where
-    by : (a b d : Bool) → bytes_eq (codes "csv") name ≡ a → bytes_eq (codes "json") name ≡ b
-        → bytes_eq (codes "help") name ≡ d
+    by : (a b u d : Bool) → bytes_eq (codes "csv") name ≡ a → bytes_eq (codes "json") name ≡ b
+        → bytes_eq (codes "utc") name ≡ u → bytes_eq (codes "help") name ≡ d
         → option_map_or takes_values (arg_by_long measure_built.rules name) false ≡ false
-    by true b d ea eb ed = rw ea refl
-    by false true d ea eb ed = rw (ea, eb) refl
-    by false false true ea eb ed = rw (ea, eb, ed) refl
-    by false false false ea eb ed = rw (ea, eb, ed) refl
+    by true b u d ea eb eu ed = rw ea refl
+    by false true u d ea eb eu ed = rw (ea, eb) refl
+    by false false true d ea eb eu ed = rw (ea, eb, eu) refl
+    by false false false true ea eb eu ed = rw (ea, eb, eu, ed) refl
+    by false false false false ea eb eu ed = rw (ea, eb, eu, ed) refl
 
--- an option that is none of the formats
+-- an option that asks for no format
 measure_long : (name : Text) → bytes_eq (codes "csv") name ≡ false → bytes_eq (codes "json") name ≡ false
-    → Asks (arg_by_long measure_built.rules name)
-measure_long name no_csv no_json =
-    rw (no_csv, no_json) (asks_first help_built [] (λ a. not (is_some a.index) && has_long a name)
+    → bytes_eq (codes "utc") name ≡ false → Asks (arg_by_long measure_built.rules name)
+measure_long name no_csv no_json no_utc =
+    rw (no_csv, no_json, no_utc) (asks_first help_built [] (λ a. not (is_some a.index) && has_long a name)
     (refl, λ again rows. tt) tt)
-
-abbrev is_format : Text → Bool
-is_format word = bytes_eq (codes "--csv") word || bytes_eq (codes "--json") word
 
 measure_refuses : (word : Text) → is_format word ≡ false → RefusesWord measure_built word
 measure_refuses word none x xs is h = by (has_byte 61 (x ∷ xs)) refl
   where
     here : is_format (45 ∷ 45 ∷ x ∷ xs) ≡ false
     here = subst (λ (w : Text). is_format w ≡ false) is none
+
+    words : (bytes_eq (codes "csv") (x ∷ xs) || bytes_eq (codes "json") (x ∷ xs)) ≡ false
+    words = or_first (bytes_eq (codes "csv") (x ∷ xs) || bytes_eq (codes "json") (x ∷ xs))
+        (bytes_eq (codes "utc") (x ∷ xs)) here
 
     by : (b : Bool) → has_byte 61 (x ∷ xs) ≡ b
         → Fails (long_fault measure_built.rules measure_built.args_override_self
@@ -109,8 +112,10 @@ measure_refuses word none x xs is h = by (has_byte 61 (x ∷ xs)) refl
         let name_is = no_value (x ∷ xs) e in
         rw (name_is, e) (long_fails measure_built.rules measure_built.args_override_self
         (arg_by_long measure_built.rules (x ∷ xs)) None h (measure_long (x ∷ xs)
-        (or_first (bytes_eq (codes "csv") (x ∷ xs)) (bytes_eq (codes "json") (x ∷ xs)) here)
-        (or_second (bytes_eq (codes "csv") (x ∷ xs)) (bytes_eq (codes "json") (x ∷ xs)) here)))
+        (or_first (bytes_eq (codes "csv") (x ∷ xs)) (bytes_eq (codes "json") (x ∷ xs)) words)
+        (or_second (bytes_eq (codes "csv") (x ∷ xs)) (bytes_eq (codes "json") (x ∷ xs)) words)
+        (or_second (bytes_eq (codes "csv") (x ∷ xs) || bytes_eq (codes "json") (x ∷ xs))
+        (bytes_eq (codes "utc") (x ∷ xs)) here)))
 
 measure_short : (x : ℕ) → Asks (arg_by_short measure_built.rules x)
 measure_short x = asks_first help_built [] (λ a. not (is_some a.index) && has_short a x) (refl, λ again rows. tt) tt
@@ -122,7 +127,7 @@ and_false false = refl
 no_option : (r : Text) (tail : List Text) → measure_of ((45 ∷ r) ∷ tail) ≡ None
 no_option r [] =
     let n = number_of (45 ∷ r) in
-    ap (λ (b : Bool). option_map (λ width. Measure width Lines)
+    ap (λ (b : Bool). option_map (λ width. Measure width PLAIN)
     (if b && nat_le 1 n && nat_le n 86400 then Some n else None))
     (and_false (nat_le 1 (length (45 ∷ r))))
 no_option r (y ∷ tail) = refl

@@ -15,7 +15,10 @@ use Rattle.flow_moments.specs.declared.moment.Moment.{Moment}
 use Rattle.flow_moments.specs.declared.moment.Moment.TheVariants.{Second}
 use Rattle.flow_moments.specs.Moments.{is_relative, moment_of, second_at}
 use Rattle.flow_report.specs.declared.format.Format.{Format}
-use Rattle.flow_report.specs.declared.format.Format.TheVariants.{Lines, Csv, Json}
+use Rattle.flow_report.specs.declared.format.Layout.{Layout}
+use Rattle.flow_report.specs.declared.format.Layout.TheVariants.{Lines, Csv, Json}
+use Rattle.flow_report.specs.declared.format.Times.{Times}
+use Rattle.flow_report.specs.declared.format.Times.TheVariants.{Seconds, Dates}
 use Rattle.flow_report.specs.Numbers.{number_between}
 use Rattle.flow_commands.specs.declared.plan.FeedPlan.{FeedPlan}
 use Rattle.flow_commands.specs.Plans.{Plan, Span}
@@ -27,15 +30,22 @@ width_in rows = option_and_then (number_between 1 86400) (first_of (codes "WIDTH
 abbrev pub is_set : Text → List Row → Bool
 is_set id rows = option_map_or (bytes_eq (codes "true")) (first_of id rows) false
 
--- one format at most: lines where none is asked for
-abbrev pub format_of : Bool → Bool → Option Format
-format_of true true = None
-format_of true false = Some Csv
-format_of false true = Some Json
-format_of false false = Some Lines
+-- one layout at most: lines where none is asked for
+abbrev pub layout_of : Bool → Bool → Option Layout
+layout_of true true = None
+layout_of true false = Some Csv
+layout_of false true = Some Json
+layout_of false false = Some Lines
+
+abbrev pub layout_in : List Row → Option Layout
+layout_in rows = layout_of (is_set (codes "csv") rows) (is_set (codes "json") rows)
+
+-- times as dates, where that is asked for
+abbrev pub times_in : List Row → Times
+times_in rows = if is_set (codes "utc") rows then Dates else Seconds
 
 abbrev pub format_in : List Row → Option Format
-format_in rows = format_of (is_set (codes "csv") rows) (is_set (codes "json") rows)
+format_in rows = option_map (λ layout. record { layout = layout; times = times_in rows }) (layout_in rows)
 
 -- what `measure` asks for
 abbrev pub measured_in : List Row → Option Request

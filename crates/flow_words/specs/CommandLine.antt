@@ -11,7 +11,7 @@ use Rattle.clap.specs.Simple.{App, Shape, new_rule, new_shape, subcommand_of, wi
 use Rattle.flow_words.specs.declared.request.Request.{Request}
 use Rattle.flow_words.specs.declared.request.Request.TheVariants.{Measure, Dump}
 use Rattle.flow_report.specs.Numbers.{number_between}
-use Rattle.flow_report.specs.declared.format.Format.TheVariants.{Lines}
+use Rattle.flow_report.specs.declared.format.TheConstants.Format.{PLAIN}
 use Rattle.flow_words.specs.Arguments.{request_in}
 
 -- ---- what the parser is given
@@ -36,9 +36,9 @@ option id name = record (new_rule id) { long = Some name; action = Some Set }
 abbrev pub flag : Text → Rule
 flag name = record (new_rule name) { long = Some name; action = Some SetTrue }
 
--- the formats in which rows, flows and domains are written
+-- how rows, flows and domains are written
 abbrev pub format_rules : List Rule
-format_rules = flag (codes "csv") ∷ flag (codes "json") ∷ []
+format_rules = flag (codes "csv") ∷ flag (codes "json") ∷ flag (codes "utc") ∷ []
 
 abbrev pub width_rule : Rule
 width_rule = needed (codes "WIDTH")
@@ -160,15 +160,17 @@ without_dashes (word ∷ rest) = if bytes_eq word (codes "--") then rest else wo
 -- one argument: digits alone, from 1 to 86,400
 abbrev pub measure_of : List (List ℕ) → Option Request
 measure_of [] = None
-measure_of (word ∷ []) = option_map (λ width. Measure width Lines) (number_between 1 86400 word)
+measure_of (word ∷ []) = option_map (λ width. Measure width PLAIN) (number_between 1 86400 word)
 measure_of (word ∷ other ∷ rest) = None
 
--- a format is asked for before the first `--`
+-- a word that asks for a format
+abbrev pub is_format : List ℕ → Bool
+is_format word = bytes_eq (codes "--csv") word || bytes_eq (codes "--json") word || bytes_eq (codes "--utc") word
+
+-- one is asked for before the first `--`
 abbrev pub asks_format : List (List ℕ) → Bool
 asks_format [] = false
-asks_format (word ∷ rest) =
-    if bytes_eq word (codes "--") then false
-    else bytes_eq (codes "--csv") word || bytes_eq (codes "--json") word || asks_format rest
+asks_format (word ∷ rest) = if bytes_eq word (codes "--") then false else is_format word || asks_format rest
 
 -- no argument
 abbrev pub dump_of : List (List ℕ) → Option Request

@@ -7,6 +7,7 @@ ghost use Rattle.clap.specs.Matches.{found_of};
 ghost use Rattle.clap.specs.Walk.{rows_of};
 ghost use Rattle.flow_words.specs.Arguments.{explained_in, folder_in, limit_in, plan_in, second_in, span_in, wide_in};
 ghost use Rattle.flow_words.specs.Arguments.{feeding_in, files_in, format_in, is_given, is_set, keep_in, kept_in};
+ghost use Rattle.flow_words.specs.Arguments.{layout_in, times_in};
 ghost use Rattle.flow_words.specs.Arguments.{moment_in, numbered_span_in, passed_in, worded_span_in};
 ghost use Rattle.flow_words.specs.Arguments.{width_in, workers_in};
 ghost use Rattle.flow_commands.specs.Plans.{IsWide};
@@ -15,7 +16,7 @@ use crate::explaining::Explanation;
 use clap::ArgMatches;
 use flow_commands::{FeedPlan, NewArchive, StartSpan, Workers};
 use flow_moments::{Moment, moment_of};
-use flow_report::{Format, Width, number_between};
+use flow_report::{Format, Layout, Times, Width, number_between};
 use std::alloc::{AllocError, Global};
 use std::marker::Model;
 
@@ -260,16 +261,36 @@ pub(crate) fn is_set(arguments: &ArgMatches<'_>, id: &str) -> bool
     }
 }
 
-/// The format among a command's arguments: one at most, lines where none is asked for.
-pub(crate) fn format_in(arguments: &ArgMatches<'_>) -> Option<Format>
-    ensures { result ≡ format_in (rows_of (found_of arguments.now)) }
+/// The layout among a command's arguments: one at most, lines where none is asked for.
+fn layout_in(arguments: &ArgMatches<'_>) -> Option<Layout>
+    ensures { result ≡ layout_in (rows_of (found_of arguments.now)) }
 {
     match (is_set(arguments, "csv"), is_set(arguments, "json")) {
         (true, true) => None,
-        (true, false) => Some(Format::Csv),
-        (false, true) => Some(Format::Json),
-        (false, false) => Some(Format::Lines),
+        (true, false) => Some(Layout::Csv),
+        (false, true) => Some(Layout::Json),
+        (false, false) => Some(Layout::Lines),
     }
+}
+
+/// How times are to be written, among a command's arguments.
+fn times_in(arguments: &ArgMatches<'_>) -> Times
+    ensures { result ≡ times_in (rows_of (found_of arguments.now)) }
+{
+    if is_set(arguments, "utc") {
+        Times::Dates
+    } else {
+        Times::Seconds
+    }
+}
+
+/// The format among a command's arguments.
+pub(crate) fn format_in(arguments: &ArgMatches<'_>) -> Option<Format>
+    ensures { result ≡ format_in (rows_of (found_of arguments.now)) }
+{
+    let layout = layout_in(arguments)?;
+    let times = times_in(arguments);
+    Some(Format { layout, times })
 }
 
 /// How many workers scan, among the arguments of `totals`, where that is said.

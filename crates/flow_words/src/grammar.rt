@@ -1,6 +1,6 @@
 //! What the parser of the command line is given: the commands, and their help.
 
-ghost use Rattle.std.specs.Prelude.{◌≡◌, false, IfOk};
+ghost use Rattle.std.specs.Prelude.{◌≡◌, ◌++◌, false, IfOk};
 ghost use Rattle.clap.specs.Walk.{rule_of};
 ghost use Rattle.clap.specs.Simple.{app_of, shape_of};
 ghost use Rattle.clap.specs.declared.builder.command.Command.TheViews.{out-Command as fields_of};
@@ -9,7 +9,7 @@ ghost use Rattle.flow_words.specs.CommandLine.{flowvault, folder_rule, keep_shap
 ghost use Rattle.flow_words.specs.CommandLine.{moments_shape, optional, program, several, sized_shape, span_shape};
 ghost use Rattle.flow_words.specs.CommandLine.{totals_shape, width_rule};
 ghost use Rattle.flow_words.specs.CommandLine.{with_archives, with_feeding, with_queries, with_rolling, with_streams};
-ghost use Rattle.flow_words.specs.CommandLine.{inspect_shape, kept_shape, query_shape, shell_shape};
+ghost use Rattle.flow_words.specs.CommandLine.{format_rules, inspect_shape, kept_shape, query_shape, shell_shape};
 
 use clap::{Arg, ArgAction, Command};
 use std::alloc::{AllocError, Global};
@@ -200,6 +200,9 @@ const WARN: &str = "Says on standard error where a FILE stopped";
 /// What `--json` asks for.
 const JSON: &str = "As JSON, an object a line";
 
+/// What `--utc` asks for.
+const UTC: &str = "Times as dates of UTC: 2026-11-25T06:00:00Z";
+
 /// What `--since` asks for.
 const SINCE: &str = "In place of FROM: a day or minute of UTC, 1d, 6h, now";
 
@@ -286,17 +289,28 @@ fn folder_argument<'a>(alloc: Global) -> Arg<'a>
     needed(alloc, "DIR", "Folder of the archive")
 }
 
+/// A command that takes the words of a format too.
+fn in_formats<'a>(alloc: Global, command: Command<'a>) -> Result<Command<'a>, AllocError>
+    ensures shape { IfOk result (λ with. shape_of with
+        ≡ record (shape_of command.entry) { rules = (shape_of command.entry).rules ++ format_rules }) }
+    ensures own { IfOk result (λ with. (fields_of with).has_globals ≡ (fields_of command.entry).has_globals) }
+{
+    command
+        .arg(flag(alloc, "csv", CSV))?
+        .arg(flag(alloc, "json", JSON))?
+        .arg(flag(alloc, "utc", UTC))
+}
+
 /// The command `measure`, with its help.
 fn measure_command<'a>(alloc: Global) -> Result<Command<'a>, AllocError>
     ensures shape { IfOk result (λ command. shape_of command ≡ measure_shape) }
     ensures own { IfOk result (λ command. (fields_of command).has_globals ≡ false) }
 {
-    Command::new(alloc, "measure")
+    let command = Command::new(alloc, "measure")
         .about(MEASURE_ABOUT)
         .after_help(MEASURE_HELP)
-        .arg(width_argument(alloc))?
-        .arg(flag(alloc, "csv", CSV))?
-        .arg(flag(alloc, "json", JSON))
+        .arg(width_argument(alloc))?;
+    in_formats(alloc, command)
 }
 
 /// The command `dump`, with its help.
@@ -314,11 +328,10 @@ fn inspect_command<'a>(alloc: Global) -> Result<Command<'a>, AllocError>
     ensures shape { IfOk result (λ command. shape_of command ≡ inspect_shape) }
     ensures own { IfOk result (λ command. (fields_of command).has_globals ≡ false) }
 {
-    Command::new(alloc, "inspect")
+    let command = Command::new(alloc, "inspect")
         .about(INSPECT_ABOUT)
-        .after_help(INSPECT_HELP)
-        .arg(flag(alloc, "csv", CSV))?
-        .arg(flag(alloc, "json", JSON))
+        .after_help(INSPECT_HELP);
+    in_formats(alloc, command)
 }
 
 /// The command `create` but for its last argument.
@@ -411,9 +424,7 @@ fn query_command<'a>(
     ensures shape { IfOk result (λ command. shape_of command ≡ query_shape name.now) }
     ensures own { IfOk result (λ command. (fields_of command).has_globals ≡ false) }
 {
-    moments_command(alloc, name, about, help)?
-        .arg(flag(alloc, "csv", CSV))?
-        .arg(flag(alloc, "json", JSON))
+    in_formats(alloc, moments_command(alloc, name, about, help)?)
 }
 
 /// The command `totals`, with its help.

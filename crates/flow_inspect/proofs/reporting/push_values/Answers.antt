@@ -1,6 +1,7 @@
 use Rattle.std.proofs.Common.{◌≡◌, ◌∙◌, ℕ, List, [], ◌∷◌, ◌++◌, codes, append_assoc, ap, sym}
-use Rattle.std.specs.Prelude.{Some, option_map}
-use Rattle.flow_report.specs.Formats.{closing, opening, separator, value_in}
+use Rattle.std.specs.Prelude.{option_map}
+use Rattle.flow_report.specs.Formats.{closing, opening, separator, time_or_none, value_in}
+use Rattle.flow_report.specs.Formats.Value.{Number, Time}
 use Rattle.flow_report.proofs.LineMade.{line_made}
 use Rattle.flow_inspect.proofs.reporting.push_values.Goals as goal
 
@@ -14,8 +15,8 @@ returns c =
     let t = c.args.report.now.tally in
     rw (
       c.in_ok-push_last.ensures,
-      c.put_value-9.ensures.text,
-      c.put_value-8.ensures.text,
+      c.put_time-2.ensures.text,
+      c.put_time.ensures.text,
       c.put_value-7.ensures.text,
       c.put_value-6.ensures.text,
       c.put_value-5.ensures.text,
@@ -26,11 +27,11 @@ returns c =
       c.put_opening.ensures.text,
       c.in_ok-reserve.ensures.items,
     )
-    (apart (separator f) _ (value_in f (codes "last", option_map (λ span. span.last) t.starts)) (closing f)
-    ∙ line_made (separator f) c.args.text.now.items (opening f) (closing f)
-    (value_in f (codes "domain", Some c.args.domain) ∷ value_in f (codes "messages", Some t.messages)
-    ∷ value_in f (codes "records", Some t.records) ∷ value_in f (codes "options", Some t.options)
-    ∷ value_in f (codes "gaps", Some t.gaps) ∷ value_in f (codes "missing", Some t.missing)
-    ∷ value_in f (codes "backwards", Some t.backwards) ∷ value_in f (codes "from", Some t.first)
-    ∷ value_in f (codes "to", Some t.last) ∷ value_in f (codes "first", option_map (λ span. span.first) t.starts) ∷ [])
-    (value_in f (codes "last", option_map (λ span. span.last) t.starts)))
+    (apart (separator f.layout) _ (value_in f (codes "last", time_or_none (option_map (λ span. span.last) t.starts))) (closing f.layout)
+    ∙ line_made (separator f.layout) c.args.text.now.items (opening f.layout) (closing f.layout)
+    (value_in f (codes "domain", Number c.args.domain) ∷ value_in f (codes "messages", Number t.messages)
+    ∷ value_in f (codes "records", Number t.records) ∷ value_in f (codes "options", Number t.options)
+    ∷ value_in f (codes "gaps", Number t.gaps) ∷ value_in f (codes "missing", Number t.missing)
+    ∷ value_in f (codes "backwards", Number t.backwards) ∷ value_in f (codes "from", Time t.first)
+    ∷ value_in f (codes "to", Time t.last) ∷ value_in f (codes "first", time_or_none (option_map (λ span. span.first) t.starts)) ∷ [])
+    (value_in f (codes "last", time_or_none (option_map (λ span. span.last) t.starts))))

@@ -7,9 +7,9 @@ unfolding flow_line
 returns-clause-text c =
     rw (
       c.put_last.ensures.text,
-      c.put_value-3.ensures.text,
-      c.put_protocol.ensures.text,
       c.put_value-2.ensures.text,
+      c.put_protocol.ensures.text,
       c.put_value.ensures.text,
+      c.put_time.ensures.text,
       c.put_opening.ensures.text,
     ) (simp append_assoc)

@@ -12,7 +12,7 @@ use Rattle.flow_report.proofs.flows.tell_flows.Goals as goal
 pub loop-flow-init : goal.loop-flow-init
 loop-flow-init g c =
     let held = c.put_flows_heading.ensures.text
-    ∙ ap (λ (t : List ℕ). t ++ heading c.args.format flow_names) c.requires.none in (
+    ∙ ap (λ (t : List ℕ). t ++ heading c.args.format.layout flow_names) c.requires.none in (
       begins_after _ c.put_flows_heading.new.line.items _ _
           (flat_map (flow_line c.args.format) c.args.flows.now) held refl,
       omega (arith, c.put_flows_heading.ensures.len, ap length c.requires.none),

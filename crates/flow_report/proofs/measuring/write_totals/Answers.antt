@@ -21,12 +21,12 @@ lines_from format width sums = flat_map (row_line format width) (map (row_of wid
 pub rows-init : goal.rows-init
 rows-init g c =
     let held = c.put_rows_heading.ensures.text
-    ∙ ap (λ (t : List ℕ). t ++ heading c.args.format row_names) c.requires.none in
+    ∙ ap (λ (t : List ℕ). t ++ heading c.args.format.layout row_names) c.requires.none in
     let walk = ap (lines_from c.args.format c.width-width.result) c.walk-walk.ensures
     ∙ ap (λ (w : ℕ). lines_from c.args.format w (entries c.args.rows.now.sums)) c.width-width.ensures.width in (
       begins_after _ c.put_rows_heading.new.line.items _ (lines_of c.args.format c.args.rows.now)
           (lines_from c.args.format c.width-width.result c.walk-walk.result) held
-          (sym (ap (λ (l : List ℕ). heading c.args.format row_names ++ l) walk)),
+          (sym (ap (λ (l : List ℕ). heading c.args.format.layout row_names ++ l) walk)),
       omega (arith, c.put_rows_heading.ensures.len, ap length c.requires.none),
       omega (arith, c.requires.room, c.put_rows_heading.ensures.room),
     )

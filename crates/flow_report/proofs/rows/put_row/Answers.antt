@@ -1,7 +1,7 @@
 use Rattle.std.proofs.Common.{◌≡◌, ◌∙◌, [], ◌∷◌, codes, sym, true, false}
-use Rattle.std.specs.Prelude.{Some}
 use Rattle.flow_report.specs.ArchiveLines.{row_line, shows_width}
-use Rattle.flow_report.specs.Formats.{closing, opening, separator, value_in}
+use Rattle.flow_report.specs.Formats.{closing, number_or_none, opening, separator, value_in}
+use Rattle.flow_report.specs.Formats.Value.{Number, Time}
 use Rattle.flow_report.proofs.LineMade.{line_made}
 use Rattle.flow_report.proofs.rows.put_row.Goals as goal
 
@@ -10,42 +10,42 @@ unfolding row_line
 returns-then-shows_width-clause-text c =
     let f = c.args.format in
     let row = c.args.row in
-    let shown : shows_width f c.args.usual row.width ≡ true = sym c.shows_width.ensures ∙ c.if-shows_width.true in
+    let shown : shows_width f.layout c.args.usual row.width ≡ true = sym c.shows_width.ensures ∙ c.if-shows_width.true in
     rw (
       c.put_last.ensures.text,
       c.put_value-then-shows_width.ensures.text,
-      c.put_value-4.ensures.text,
       c.put_value-3.ensures.text,
-      c.put_protocol.ensures.text,
       c.put_value-2.ensures.text,
+      c.put_protocol.ensures.text,
       c.put_value.ensures.text,
+      c.put_time.ensures.text,
       c.put_opening.ensures.text,
       shown,
     )
-    (line_made (separator f) c.args.line.now.items (opening f) (closing f)
-    (value_in f (codes "start", Some row.key.start) ∷ value_in f (codes "domain", Some row.key.domain)
-    ∷ value_in f (codes "protocol", row.key.protocol) ∷ value_in f (codes "flows", Some row.sums.flows)
-    ∷ value_in f (codes "octets", Some row.sums.octets) ∷ value_in f (codes "packets", Some row.sums.packets) ∷ [])
-    (value_in f (codes "width", Some row.width)))
+    (line_made (separator f.layout) c.args.line.now.items (opening f.layout) (closing f.layout)
+    (value_in f (codes "start", Time row.key.start) ∷ value_in f (codes "domain", Number row.key.domain)
+    ∷ value_in f (codes "protocol", number_or_none row.key.protocol) ∷ value_in f (codes "flows", Number row.sums.flows)
+    ∷ value_in f (codes "octets", Number row.sums.octets) ∷ value_in f (codes "packets", Number row.sums.packets) ∷ [])
+    (value_in f (codes "width", Number row.width)))
 
 pub returns-else-shows_width-clause-text : goal.returns-else-shows_width-clause-text
 unfolding row_line
 returns-else-shows_width-clause-text c =
     let f = c.args.format in
     let row = c.args.row in
-    let hidden : shows_width f c.args.usual row.width ≡ false = sym c.shows_width.ensures ∙ c.if-shows_width.false in
+    let hidden : shows_width f.layout c.args.usual row.width ≡ false = sym c.shows_width.ensures ∙ c.if-shows_width.false in
     rw (
       c.put_last-else-shows_width.ensures.text,
-      c.put_value-4.ensures.text,
       c.put_value-3.ensures.text,
-      c.put_protocol.ensures.text,
       c.put_value-2.ensures.text,
+      c.put_protocol.ensures.text,
       c.put_value.ensures.text,
+      c.put_time.ensures.text,
       c.put_opening.ensures.text,
       hidden,
     )
-    (line_made (separator f) c.args.line.now.items (opening f) (closing f)
-    (value_in f (codes "start", Some row.key.start) ∷ value_in f (codes "domain", Some row.key.domain)
-    ∷ value_in f (codes "protocol", row.key.protocol) ∷ value_in f (codes "flows", Some row.sums.flows)
-    ∷ value_in f (codes "octets", Some row.sums.octets) ∷ [])
-    (value_in f (codes "packets", Some row.sums.packets)))
+    (line_made (separator f.layout) c.args.line.now.items (opening f.layout) (closing f.layout)
+    (value_in f (codes "start", Time row.key.start) ∷ value_in f (codes "domain", Number row.key.domain)
+    ∷ value_in f (codes "protocol", number_or_none row.key.protocol) ∷ value_in f (codes "flows", Number row.sums.flows)
+    ∷ value_in f (codes "octets", Number row.sums.octets) ∷ [])
+    (value_in f (codes "packets", Number row.sums.packets)))

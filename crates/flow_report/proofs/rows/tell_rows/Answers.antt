@@ -12,7 +12,7 @@ use Rattle.flow_report.proofs.rows.tell_rows.Goals as goal
 pub loop-row-init : goal.loop-row-init
 loop-row-init g c =
     let held = c.put_rows_heading.ensures.text
-    ∙ ap (λ (t : List ℕ). t ++ heading c.args.format row_names) c.requires.none in (
+    ∙ ap (λ (t : List ℕ). t ++ heading c.args.format.layout row_names) c.requires.none in (
       begins_after _ c.put_rows_heading.new.line.items _ _
           (flat_map (row_line c.args.format c.args.usual) c.args.rows.now) held refl,
       omega (arith, c.put_rows_heading.ensures.len, ap length c.requires.none),
