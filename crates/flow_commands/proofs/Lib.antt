@@ -7,3 +7,5 @@ mod Ended
 mod Lines
 mod Jobs
 mod FileLines
+mod HandedOn
+mod OneEach

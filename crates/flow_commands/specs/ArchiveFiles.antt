@@ -1,5 +1,6 @@
 -- What `check --files` writes: a line for each file of an archive.
-use Rattle.std.specs.Prelude.{◌≡◌, ℕ, ◌+◌, ◌^◌, List, [], ◌∷◌, ◌++◌, length, Option, Some, None, codes}
+use Rattle.std.specs.Prelude.{◌≡◌, ℕ, ◌+◌, ◌-◌, ◌^◌, List, [], ◌∷◌, ◌++◌, length, take, drop, nat_lt}
+use Rattle.std.specs.Prelude.{Option, Some, None, codes, if◌then◌else◌}
 use Rattle.std.specs.FinMap.{FinMap}
 use Rattle.std.specs.Fmt.{decimal}
 use Rattle.std.specs.List.{flat_map}
@@ -81,6 +82,12 @@ line_of end active e starts = by e.kind
 abbrev pub starts_of_file : Shelf → ℕ → List (FinMap key_cmp Sums) → List (FinMap key_cmp Sums) → ℕ → Option Starts
 starts_of_file s count wide narrow n =
     starts_in (summed s.wide (own count n 0 wide)) (summed s.width (own count n (narrow_turn s count) narrow))
+
+-- the sums of the file with this number alone: files of sums over wide intervals come first
+abbrev pub alone : Shelf → List (FinMap key_cmp Sums) → List (FinMap key_cmp Sums) → ℕ → Table
+alone s wide narrow n =
+    if nat_lt n (length wide) then summed s.wide (take 1 (drop n wide))
+    else summed s.width (take 1 (drop (n - length wide) narrow))
 
 -- the lines of these entries, the first of which has the number n
 abbrev pub lines_from : (ℕ → Option Starts) → ℕ → ℕ → ℕ → List Entry → List ℕ

@@ -7,3 +7,4 @@ pub mod Rolling
 pub mod Feeding
 pub mod Warnings
 pub mod ArchiveFiles
+pub mod Opened

@@ -1,12 +1,12 @@
 -- What `roll` and `merge` write.
-use Rattle.std.specs.Prelude.{◌≡◌, ◌⊎◌, ℕ, Bool, IsTrue, List, [], ◌∷◌, ◌++◌, Option, Result, Ok, Err, IsErrAnd, codes}
+use Rattle.std.specs.Prelude.{◌≡◌, ◌⊎◌, ℕ, IsTrue, List, [], ◌∷◌, ◌++◌, false, Option, Result, Ok, Err, IsErrAnd, codes}
 use Rattle.std.specs.Fmt.{decimal}
 use Rattle.std.specs.Io.KnownBytes.{Appends, Keeps}
 use Rattle.flow_disk.specs.declared.disk.Disk.{Ghosts}
 use Rattle.flow_manifest.specs.declared.following.JobKind.{JobKind}
 use Rattle.flow_manifest.specs.declared.following.JobKind.TheVariants.{Roll, Merge}
 use Rattle.flow_disk.specs.Cause.{HasCause}
-use Rattle.flow_disk.specs.Disk.{Held}
+use Rattle.flow_disk.specs.Disk.{AllImages}
 use Rattle.flow_manifest.specs.Slots.{reads_of}
 use Rattle.flow_recover.specs.declared.error.RecoverError.{RecoverError}
 use Rattle.flow_recover.specs.declared.error.RecoverError.TheVariants as opening
@@ -24,6 +24,7 @@ use Rattle.flow_commands.specs.declared.archive_refusal.ArchiveRefusal.TheVarian
 use Rattle.flow_commands.specs.declared.archive_refusal.ArchiveRefusal.TheVariants.{OutOfMemory, Write}
 use Rattle.flow_commands.specs.Archives.{of_archive, of_opening}
 use Rattle.flow_commands.specs.Asking.{IsUnopened}
+use Rattle.flow_commands.specs.Opened.{KeepsArchive}
 
 abbrev pub job_name : JobKind → List ℕ
 job_name Roll = codes "rolled"
@@ -71,6 +72,12 @@ pub record IsRolledOn {D S X : Type 0} (g : Ghosts D S X) (kind : JobKind) (keep
   pub opened : Seen D
   pub read : IsTrue (g.honest disk) → StandsFor (reads_of (g.held disk)) opened.state
   pub still : g.faults opened.disk ≡ g.faults disk
+  pub honest : g.honest opened.disk ≡ g.honest disk
+  -- A stop while it was opened left what represents the archive that was there; from then on each image represents the
+  -- opened one's state.
+  pub any_moment : KeepsArchive g disk opened.disk
+  pub is_open : opened.closed ≡ false
+  pub stands : IsTrue (g.honest disk) → AllImages (g.held opened.disk) (λ image. StandsFor image opened.state)
   pub rolled : Seen D
   pub disk_is : rolled.disk ≡ disk_of result
   pub done : IsRolled g kind keep opened rolled old new (done_of result)
@@ -82,6 +89,7 @@ pub record IsNotRolled {D S X : Type 0} (g : Ghosts D S X) (disk : D) (old new :
   pub error_is : refused.error ≡ of_opening reason
   pub told : IsTrue (g.honest disk) → IsUnopened (reads_of (g.held disk)) reason
   pub cause : HasCause {T = Unit {0}} opening.Fault (g.faults disk) (g.faults refused.disk) (Err reason)
+  pub any_moment : KeepsArchive g disk refused.disk
   pub kept : Keeps old new
 
 -- either of both

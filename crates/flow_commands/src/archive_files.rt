@@ -18,6 +18,7 @@ ghost use Rattle.flow_commands.specs.ArchiveFiles.{file_line, kind_word, line_of
 ghost use Rattle.flow_commands.specs.ArchiveFiles.{starts_of_file, starts_words};
 ghost use Rattle.flow_commands.specs.Asking.{IsBeforeWriting, IsNotFound, Writes, WritesOrNot};
 ghost use Rattle.flow_commands.specs.Archives.{of_query};
+ghost use Rattle.flow_commands.specs.Opened.{IsAsked, IsHandedOn, KeepsArchive};
 ghost use Rattle.flow_commands.specs.Check.{standing_of};
 
 use crate::archive_refusal::ArchiveRefusal;
@@ -206,7 +207,7 @@ fn find_files<D: Disk>(
     archive: &mut Archive<D>,
     faults: &mut Faults<D::Sealed>,
 ) -> Result<Vec<u8>, QueryError>
-    ensures disk { archive.new.disk ≡ archive.old.disk }
+    ensures asked { IsAsked archive.old archive.new }
     ensures lines { IsTrue (D.honest archive.old.disk) → (reads : ℕ → List ℕ) → StandsFor reads archive.old.state
         → IfOk result (λ text. AreFileLines reads text.items) }
     ensures shape { IfOk result (λ text. AreListings text.items) }
@@ -240,7 +241,7 @@ fn list_files<D: Disk, W: Write>(
     output: &mut W,
     faults: &mut Faults<D::Sealed>,
 ) -> Result<(), ArchiveRefusal>
-    ensures disk { archive.new.disk ≡ archive.old.disk }
+    ensures asked { IsAsked archive.old archive.new }
     ensures told { IsTrue (D.honest archive.old.disk) → (reads : ℕ → List ℕ) → StandsFor reads archive.old.state
         → OnOk result (ListsFiles reads (W.contents output.old) (W.contents output.new)) }
     ensures refused { IsTrue (D.honest archive.old.disk) → (reads : ℕ → List ℕ) → StandsFor reads archive.old.state
@@ -275,6 +276,10 @@ pub fn check_files<D: Disk, W: Write>(
     ensures written { OnOk result (Writes AreListings (W.contents output.old) (W.contents output.new)) }
     ensures kept { IfErr result
         (λ r. WritesOrNot AreListings r.error (W.contents output.old) (W.contents output.new)) }
+    ensures honest { D.honest (disk_of result) ≡ D.honest disk }
+    // A stop at any moment leaves what opens as the archive that was there, and that is the one that is handed on.
+    ensures any_moment { KeepsArchive D.Disk disk (disk_of result) }
+    ensures handed { IfOk result (IsHandedOn D.Disk disk) }
     // It is a fault of opening exactly where a call of the disk failed, and one of asking exactly where a read failed.
     ensures opening { HasCause (refusal.Opening RecoverError.Fault) (D.faults disk) (D.faults (disk_of result))
         (answer_of result) }

@@ -1,8 +1,9 @@
 //! An archive that is asked.
 
-ghost use Rattle.std.specs.Prelude.{◌≡◌, List, ℕ, IsTrue, IfOk};
+ghost use Rattle.std.specs.Prelude.{List, ℕ, IsTrue, IfOk};
 ghost use Rattle.flow_recover.specs.Standing.{StandsFor};
 ghost use Rattle.flow_commands.specs.Asking.{IsReadAs};
+ghost use Rattle.flow_commands.specs.Opened.{IsAsked};
 
 use flow_archive::Archive;
 use flow_disk::{Disk, SealedFile};
@@ -23,7 +24,7 @@ pub(crate) fn to_ask<D: Disk>(
     alloc: Global,
     archive: &mut Archive<D>,
 ) -> Result<Asked<D::Sealed>, AllocError>
-    ensures disk { archive.new.disk ≡ archive.old.disk }
+    ensures asked { IsAsked archive.old archive.new }
     ensures read { IsTrue (D.honest archive.old.disk) → (reads : ℕ → List ℕ) → StandsFor reads archive.old.state
         → IfOk result (λ a. IsReadAs reads a.snapshot a.width) }
 {

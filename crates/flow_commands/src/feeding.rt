@@ -15,6 +15,7 @@ ghost use Rattle.std.specs.IoError.{error_kind};
 ghost use Rattle.std.specs.declared.io.ErrorKind.TheVariants as kind;
 
 use crate::archive_refusal::ArchiveRefusal;
+use crate::ending::end_shared;
 use crate::feed_line::{fed_line, stop_status};
 use crate::plan::FeedPlan;
 use crate::progress::{Progress, Watched};
@@ -401,7 +402,7 @@ where
     };
     drop(places);
     let (feds, refused) = feed_beside(rt, &shared, span, plan, paths, input, progress, feds);
-    let _archive = shared.end(rt);
+    end_shared(rt, shared);
     progress.clear(rt);
     warn_of_stops(rt, paths, feds.as_slice(), progress);
     tell_files(alloc, feds.as_slice(), refused, output)

@@ -6,6 +6,7 @@ ghost use Rattle.flow_manifest.specs.Slots.{reads_of};
 ghost use Rattle.flow_archive.specs.Beginning.{answer_of, disk_of};
 ghost use Rattle.flow_recover.specs.Standing.{StandsFor};
 ghost use Rattle.flow_commands.specs.declared.archive_refusal.ArchiveRefusal.TheVariants as refusal;
+ghost use Rattle.flow_commands.specs.Opened.{IsAsked, IsHandedOn, KeepsArchive};
 ghost use Rattle.flow_commands.specs.Asking.{Always, AreFlows, AreLinesOf, IsBeforeWriting, IsNotFound, TellsLines};
 ghost use Rattle.flow_commands.specs.Asking.{TellsNoLines};
 ghost use Rattle.flow_commands.specs.Asking.{Writes, WritesOrNot, flows_lines};
@@ -35,7 +36,7 @@ fn find_flows<D: Disk>(
     span: &StartSpan,
     faults: &mut Faults<D::Sealed>,
 ) -> Result<Vec<Flow>, ArchiveRefusal>
-    ensures disk { archive.new.disk ≡ archive.old.disk }
+    ensures asked { IsAsked archive.old archive.new }
     ensures lines { IsTrue (D.honest archive.old.disk) → (reads : ℕ → List ℕ) → StandsFor reads archive.old.state
         → IfOk result (λ found. (format : Format) → AreLinesOf (flows_lines format span.now) reads
         (flows_text format found.items)) }
@@ -59,7 +60,7 @@ fn list<D: Disk, W: Write>(
     output: &mut W,
     faults: &mut Faults<D::Sealed>,
 ) -> Result<(), ArchiveRefusal>
-    ensures disk { archive.new.disk ≡ archive.old.disk }
+    ensures asked { IsAsked archive.old archive.new }
     ensures told { IsTrue (D.honest archive.old.disk) → (reads : ℕ → List ℕ) → StandsFor reads archive.old.state
         → OnOk result (TellsLines (flows_lines format span.now) reads (W.contents output.old)
         (W.contents output.new)) }
@@ -99,6 +100,10 @@ pub fn flows<D: Disk, W: Write>(
     ensures written { OnOk result (Writes (AreFlows format) (W.contents output.old) (W.contents output.new)) }
     ensures kept { IfErr result
         (λ r. WritesOrNot (AreFlows format) r.error (W.contents output.old) (W.contents output.new)) }
+    ensures honest { D.honest (disk_of result) ≡ D.honest disk }
+    // A stop at any moment leaves what opens as the archive that was there, and that is the one that is handed on.
+    ensures any_moment { KeepsArchive D.Disk disk (disk_of result) }
+    ensures handed { IfOk result (IsHandedOn D.Disk disk) }
     // It is a fault of opening exactly where a call of the disk failed, and one of asking exactly where a read failed.
     ensures opening { HasCause (refusal.Opening RecoverError.Fault) (D.faults disk) (D.faults (disk_of result))
         (answer_of result) }

@@ -12,6 +12,7 @@ ghost use Rattle.flow_snapshot.specs.Told.{IsAnswered};
 ghost use Rattle.flow_snapshot.specs.Totals.{first_file, IsMade, IsWithinLimits, SumsFit};
 ghost use Rattle.flow_snapshot.specs.Views.{IsViewOf};
 ghost use Rattle.flow_commands.specs.declared.archive_refusal.ArchiveRefusal.TheVariants as refusal;
+ghost use Rattle.flow_commands.specs.Opened.{IsAsked, IsHandedOn, KeepsArchive};
 ghost use Rattle.flow_commands.specs.Asking.{AreLinesOf, AreRows, IsBeforeWriting, IsNotFound, TellsLines};
 ghost use Rattle.flow_commands.specs.Asking.{TellsNoLines};
 ghost use Rattle.flow_commands.specs.Asking.{Writes, WritesOrNot, totals_lines};
@@ -84,7 +85,7 @@ fn find_rows<D: Disk, H: Threads + Sync>(
 ) -> Result<FoundRows, ArchiveRefusal>
 where
     D::Sealed: Send + Sync,
-    ensures disk { archive.new.disk ≡ archive.old.disk }
+    ensures asked { IsAsked archive.old archive.new }
     ensures lines { IsTrue (D.honest archive.old.disk) → (reads : ℕ → List ℕ) → StandsFor reads archive.old.state
         → IfOk result (λ found. (format : Format) → AreLinesOf (totals_lines format span.now) reads
         (rows_text format found.width found.rows.items)) }
@@ -115,7 +116,7 @@ fn total<D: Disk, H: Threads + Sync, W: Write>(
 ) -> Result<(), ArchiveRefusal>
 where
     D::Sealed: Send + Sync,
-    ensures disk { archive.new.disk ≡ archive.old.disk }
+    ensures asked { IsAsked archive.old archive.new }
     ensures told { IsTrue (D.honest archive.old.disk) → (reads : ℕ → List ℕ) → StandsFor reads archive.old.state
         → OnOk result (TellsLines (totals_lines format span.now) reads (W.contents output.old)
         (W.contents output.new)) }
@@ -159,6 +160,10 @@ where
     ensures written { OnOk result (Writes (AreRows format) (W.contents output.old) (W.contents output.new)) }
     ensures kept { IfErr result
         (λ r. WritesOrNot (AreRows format) r.error (W.contents output.old) (W.contents output.new)) }
+    ensures honest { D.honest (disk_of result) ≡ D.honest disk }
+    // A stop at any moment leaves what opens as the archive that was there, and that is the one that is handed on.
+    ensures any_moment { KeepsArchive D.Disk disk (disk_of result) }
+    ensures handed { IfOk result (IsHandedOn D.Disk disk) }
     // It is a fault of opening exactly where a call of the disk failed, and one of asking exactly where a read failed.
     ensures opening { HasCause (refusal.Opening RecoverError.Fault) (D.faults disk) (D.faults (disk_of result))
         (answer_of result) }
