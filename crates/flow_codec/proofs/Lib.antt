@@ -8,6 +8,8 @@ pub mod Taking
 pub mod RecordLoop
 pub mod WholeRecords
 pub mod SetLoop
+pub mod UnreadLoop
+pub mod UnreadLaws
 pub mod RoleLaws
 pub mod PlaceLoop
 pub mod PlanLoop

@@ -9,6 +9,7 @@ use Rattle.flow_codec.specs.declared.error.MessageError.TheVariants.{DomainsFull
 use Rattle.flow_codec.specs.declared.sink.WalkError.{WalkError}
 use Rattle.flow_codec.specs.declared.sink.WalkError.TheVariants.{Message, Sink}
 use Rattle.flow_codec.specs.declared.message.Header.{Header}
+use Rattle.flow_codec.specs.declared.walk.Walked.{Walked}
 use Rattle.flow_codec.specs.Raw.{RawRecord, RawMessage, Placed, Took}
 use Rattle.flow_codec.specs.Templates.{AllTemplates}
 use Rattle.flow_codec.specs.Reading.{Fails, Feeds, IsRefused, IsWalked, header_at, sets_at, limited, division_at}
@@ -16,6 +17,7 @@ use Rattle.flow_codec.specs.Reading.{message_at}
 use Rattle.flow_codec.specs.Message.{IsAccepted}
 use Rattle.flow_codec.specs.Fault.{IsFault}
 use Rattle.flow_codec.specs.Walk.{IsWalkedBy, IsWalkOf, IsStopped}
+use Rattle.flow_codec.specs.Unread.{header_in}
 use Rattle.flow_codec.proofs.Steps.{Fails-of, ok_is}
 use Rattle.flow_codec.proofs.NumberLaws.{IsBytes}
 use Rattle.flow_codec.proofs.MessageLaws.{message_takes, message_again}
@@ -107,29 +109,29 @@ same_message before octets m n after other e h =
 
 module _ {S E : Type 0} (holds : S → List Placed → S → Type 0) (refuses : S → List Placed → Placed → E
     → Type 0) (old new : S) (octets : List ℕ) (before now : AllTemplates) where
-  abbrev pub Walked : Result Header (WalkError E) → Type 0
-  Walked r = IsWalked holds (λ header. IsRefused holds refuses header old (length octets))
-      (λ header. (header, now)) old new r (message_at before octets)
+  abbrev pub WalkedIn : Result Walked (WalkError E) → Type 0
+  WalkedIn r = IsWalked holds (λ header. IsRefused holds refuses header old (length octets))
+      (λ w. (w.header, now)) old new r (message_at before octets)
 
-  pub is_found : (r : Result Header (WalkError E)) → IsBytes octets → Walked r
-      → IfOk r (λ header. IsWalkedBy holds octets before now old new header)
-  is_found (Ok header) fits given =
-      (given.0, message_takes before octets (record { header = header; records = given.0 }, now) fits given.1, given.2)
+  pub is_found : (r : Result Walked (WalkError E)) → IsBytes octets → WalkedIn r
+      → IfOk r (λ w. IsWalkedBy holds octets before now old new w.header)
+  is_found (Ok w) fits given =
+      (given.0, message_takes before octets (record { header = w.header; records = given.0 }, now) fits given.1, given.2)
   is_found (Err e) fits given = tt
 
-  pub is_walk : (r : Result Header (WalkError E)) (m : RawMessage) (after : AllTemplates) → Walked r
-      → IsAccepted octets before m after → IsWalkOf holds refuses (length octets) now old new r m after
-  is_walk (Ok header) m after given h =
-      let same = same_message before octets (record { header = header; records = given.0 }) m now after given.1 h in (
+  pub is_walk : (r : Result Walked (WalkError E)) (m : RawMessage) (after : AllTemplates) → WalkedIn r
+      → IsAccepted octets before m after → IsWalkOf holds refuses (length octets) now old new (header_in r) m after
+  is_walk (Ok w) m after given h =
+      let same = same_message before octets (record { header = w.header; records = given.0 }) m now after given.1 h in (
         ap (λ (x : RawMessage). x.header) same.0,
         same.1,
-        subst (λ (x : RawMessage). Took holds header old x.records new) same.0 given.2,
+        subst (λ (x : RawMessage). Took holds w.header old x.records new) same.0 given.2,
       )
   is_walk (Err (Message e)) m after given h = no_fault before octets m after e given h
   is_walk (Err (Sink e)) m after given h = given
 
-  pub is_stopped : (r : Result Header (WalkError E)) → IsBytes octets → Walked r
+  pub is_stopped : (r : Result Walked (WalkError E)) → IsBytes octets → WalkedIn r
       → IfErr r (λ e. IsStopped holds refuses octets before old e)
-  is_stopped (Ok header) fits given = tt
+  is_stopped (Ok w) fits given = tt
   is_stopped (Err (Message e)) fits given = has_fault before octets e fits given
   is_stopped (Err (Sink e)) fits given = given

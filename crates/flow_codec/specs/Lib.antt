@@ -11,6 +11,7 @@ pub mod Fault
 pub mod Reading
 pub mod Extent
 pub mod Walk
+pub mod Unread
 pub mod ShortList
 pub mod Slots
 pub mod Cutting

@@ -7,7 +7,8 @@ ghost use Rattle.flow_codec.specs.Fields.{AreFields, fields_in};
 ghost use Rattle.flow_codec.specs.Templates.{AllTemplates, AreDefinitions, AreTemplatesInForce, IsOnce, applied};
 ghost use Rattle.flow_codec.specs.Templates.{definition_of, definitions_of, unless_own};
 ghost use Rattle.flow_codec.specs.Raw.{RawMessage, IsWhole};
-ghost use Rattle.flow_codec.specs.Message.{IsAccepted};
+ghost use Rattle.flow_codec.specs.Message.{IsAccepted, IsMessage};
+ghost use Rattle.flow_codec.specs.Unread.{AreUnread, unread_of};
 ghost use Rattle.flow_codec.specs.File.{IsFile, AcceptedFront, AreAccepted, whole, broken};
 ghost use Rattle.flow_codec.specs.Prefix.{prefix_messages, prefix_reads, AreDomains, AreNumbers};
 ghost use Rattle.flow_codec.specs.declared.file.FileError.{FileError};
@@ -44,6 +45,13 @@ pub fn one_division()
         → AreFields specifiers octets xs → AreFields specifiers octets ys → xs ≡ ys }
     ensures front { (layout : Layout) (octets others rest back : List ℕ) → IsWhole layout octets
         → IsWhole layout others → octets ++ rest ≡ others ++ back → octets ≡ others }
+{}
+
+/// The data Sets of a message without a definition in force, which are found by reading, are those of its Sets of which
+/// this holds under the templates of the Sets before it.
+pub fn unread_sets()
+    ensures { (octets : List ℕ) (before after : AllTemplates) (m : RawMessage) (h : IsMessage octets before m after)
+        → AreUnread m.header.domain before h.sets (unread_of before octets) }
 {}
 
 /// A message has fewer than 65,536 octets, at least one for each data record after its header, and changes the

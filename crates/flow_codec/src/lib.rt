@@ -39,7 +39,7 @@ pub use file::{FileError, Span, front_of, one_front, split_file};
 pub use kind::TemplateKind;
 pub use laws::{
     files_and_fronts, message_bounds, one_answer, one_division, restated_templates,
-    template_changes,
+    template_changes, unread_sets,
 };
 pub use message::{DataRecord, Field, Header, Message};
 pub use patient::ReadFailed;
@@ -49,4 +49,4 @@ pub use short_list::ShortList;
 pub use sink::{RecordSink, WalkError};
 pub use stream::{MessageReader, StreamError};
 pub use templates::{Definition, Templates};
-pub use walk::{judge_message, walk_message};
+pub use walk::{UnreadSets, Walked, judge_message, walk_message, walk_sets};

@@ -1,6 +1,7 @@
 //! A File from a reader, one message after the other.
 
-ghost use Rattle.std.specs.Prelude.{MatchBool, Some, ◌≡◌, ◌≤◌, ◌<◌, ◌^◌, ◌*◌, length, take, [], None, IfOk, IfErr, IfSome, IfNone};
+ghost use Rattle.std.specs.Prelude.{MatchBool, Some, ◌≡◌, ◌≤◌, ◌<◌, ◌^◌, ◌*◌, length, take, [], None, IfOk, IfErr};
+ghost use Rattle.std.specs.Prelude.{IfSome, IfNone};
 ghost use Rattle.std.specs.Io.KnownBytes.{prepend_known};
 ghost use Rattle.flow_codec.specs.declared.stream.StreamError.TheVariants.{File, Read as ReadStopped};
 ghost use Rattle.flow_codec.specs.Stream.{held, progress, IsFound, IsReadNext, IsStep, IsUnfinished, IsWholeFront};

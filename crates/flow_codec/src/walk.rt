@@ -12,6 +12,7 @@ ghost use Rattle.flow_codec.specs.Extent.{step_at, extent_by};
 ghost use Rattle.flow_codec.specs.Message.{IsAccepted};
 ghost use Rattle.flow_codec.specs.Fault.{IsFault};
 ghost use Rattle.flow_codec.specs.Walk.{IsWalkedBy, IsWalkOf, IsStopped, IsJudgementOf};
+ghost use Rattle.flow_codec.specs.Unread.{counted, header_in, is_unread, unread_at, unread_of};
 
 use crate::count::Count;
 use crate::error::MessageError;
@@ -26,6 +27,25 @@ use std::alloc::Global;
 
 /// The least ID of a Set of data records.
 const FIRST_DATA_SET: u16 = 256;
+
+/// The octets of a Set's ID and Length (RFC 7011, section 3.3.2).
+const SET_HEADER: usize = 4;
+
+/// The data Sets of a message without a definition in force, which are passed over.
+#[derive(Clone, Copy, Debug, PartialEq, Eq)]
+pub struct UnreadSets {
+    /// How many there are.
+    pub sets: usize,
+    /// Their octets, with those of their headers.
+    pub octets: usize,
+}
+
+/// What a walk over a message gives.
+#[derive(Clone, Copy, Debug, PartialEq, Eq)]
+pub struct Walked {
+    pub header: Header,
+    pub unread: UnreadSets,
+}
 
 /// The octets of a field of fixed length in the record at `at`, by their count.
 fn octets_at(at: usize, len: usize, octets: &[u8]) -> Result<(&[u8], &[u8]), MessageError>
@@ -144,7 +164,7 @@ fn kind_of(id: u16) -> Option<TemplateKind>
 }
 
 /// Hands the records of a Set that ends at `end` to a sink, or applies its template records. `here` was in force in the
-/// message's domain before it.
+/// message's domain before it. It answers whether the Set is a data Set without a definition in force.
 #[tactic(auto, unfolding(crate::specs::Reading::content_at, crate::specs::Reading::data_at))]
 fn content_of<S: RecordSink>(
     alloc: Global,
@@ -156,11 +176,13 @@ fn content_of<S: RecordSink>(
     changed: &mut Option<Changed>,
     octets: &[u8],
     sink: &mut S,
-) -> Result<(), WalkError<S::Error>>
+) -> Result<bool, WalkError<S::Error>>
     requires end { length octets.now ≤ end }
     requires here { here.now ≡ definitions_of header.now.domain before.now }
     requires changes { AreChanges header.now.domain before.now changed.old }
     ensures changes { OnOk result (AreChanges header.now.domain before.now changed.new) }
+    ensures unread { IfOk result
+        (λ b. b ≡ is_unread header.now.domain (current header.now.domain before.now changed.old) id) }
     ensures exact { Feeds (λ records. Took S.holds header.now sink.old records sink.new
         × (length records ≤ length octets.now)) (IsRefused S.holds S.refuses header.now sink.old (length octets.now))
         (λ _. current header.now.domain before.now changed.new) result
@@ -177,14 +199,17 @@ fn content_of<S: RecordSink>(
             changed,
             octets,
         )?;
-        return Ok(());
+        return Ok(false);
     }
     if id < FIRST_DATA_SET {
-        return Ok(());
+        return Ok(false);
     }
     match find_in(before, header.domain, here, changed, id) {
-        None => Ok(()),
-        Some(definition) => records_of(end, header, id, definition, octets, sink),
+        None => Ok(true),
+        Some(definition) => {
+            records_of(end, header, id, definition, octets, sink)?;
+            Ok(false)
+        }
     }
 }
 
@@ -205,7 +230,8 @@ fn set_of(at: usize, octets: &[u8]) -> Result<(u16, &[u8], &[u8]), MessageError>
     Ok((id, content, after))
 }
 
-/// Hands the records of all Sets to a sink, and applies their template records.
+/// Hands the records of all Sets to a sink, and applies their template records. It counts the data Sets without a
+/// definition in force.
 fn sets_of<S: RecordSink>(
     alloc: Global,
     end: usize,
@@ -214,10 +240,12 @@ fn sets_of<S: RecordSink>(
     changed: &mut Option<Changed>,
     octets: &[u8],
     sink: &mut S,
-) -> Result<(), WalkError<S::Error>>
+) -> Result<UnreadSets, WalkError<S::Error>>
     requires end { length octets.now ≤ end }
     requires changes { AreChanges header.now.domain before.now changed.old }
     ensures changes { OnOk result (AreChanges header.now.domain before.now changed.new) }
+    ensures unread { IfOk result (λ unread. unread ≡ counted (unread_at (length octets.now) end header.now.domain
+        (current header.now.domain before.now changed.old) octets.now)) }
     ensures exact { Feeds (λ records. Took S.holds header.now sink.old records sink.new
         × (length records ≤ length octets.now)) (IsRefused S.holds S.refuses header.now sink.old (length octets.now))
         (λ _. current header.now.domain before.now changed.new) result
@@ -225,10 +253,11 @@ fn sets_of<S: RecordSink>(
         (current header.now.domain before.now changed.old) octets.now) }
 {
     let here = before.here(header.domain);
+    let mut unread = UnreadSets { sets: 0, octets: 0 };
     let mut rest = octets;
     'sets: while !rest.is_empty() {
         let (id, content, after) = set_of(end - rest.len(), rest)?;
-        content_of(
+        let is_unread = content_of(
             alloc,
             end - after.len(),
             before,
@@ -239,9 +268,13 @@ fn sets_of<S: RecordSink>(
             content,
             sink,
         )?;
+        if is_unread {
+            unread.sets += 1;
+            unread.octets += SET_HEADER + content.len();
+        }
         rest = after;
     }
-    Ok(())
+    Ok(unread)
 }
 
 /// The header of a message of all these octets, and the octets after the header.
@@ -274,25 +307,26 @@ fn header_of(octets: &[u8]) -> Result<(Header, &[u8]), MessageError>
     Ok((header, rest))
 }
 
-/// Hands a message's data records to a sink. It gives the header, and leaves in `changed` what the message changes in
-/// the templates, which keep to their limits.
+/// Hands a message's data records to a sink. It leaves in `changed` what the message changes in the templates, which
+/// keep to their limits.
 fn divided<S: RecordSink>(
     templates: &Templates,
     alloc: Global,
     octets: &[u8],
     changed: &mut Option<Changed>,
     sink: &mut S,
-) -> Result<Header, WalkError<S::Error>>
+) -> Result<Walked, WalkError<S::Error>>
     requires { changed.old ≡ None }
-    ensures changes { IfOk result (λ header. AreChanges header.domain templates.now changed.new) }
+    ensures changes { IfOk result (λ w. AreChanges w.header.domain templates.now changed.new) }
+    ensures unread { IfOk result (λ w. w.unread ≡ counted (unread_of templates.now octets.now)) }
     ensures exact { IsWalked S.holds (λ header. IsRefused S.holds S.refuses header sink.old (length octets.now))
-        (λ header. (header, current header.domain templates.now changed.new)) sink.old sink.new result
+        (λ w. (w.header, current w.header.domain templates.now changed.new)) sink.old sink.new result
         (message_at templates.now octets.now) }
 {
     let (header, rest) = header_of(octets)?;
-    sets_of(alloc, octets.len(), templates, &header, changed, rest, sink)?;
+    let unread = sets_of(alloc, octets.len(), templates, &header, changed, rest, sink)?;
     keep_limits(templates, &header, changed)?;
-    Ok(header)
+    Ok(Walked { header, unread })
 }
 
 fn message_of<S: RecordSink>(
@@ -300,18 +334,19 @@ fn message_of<S: RecordSink>(
     alloc: Global,
     octets: &[u8],
     sink: &mut S,
-) -> Result<Header, WalkError<S::Error>>
+) -> Result<Walked, WalkError<S::Error>>
+    ensures unread { IfOk result (λ w. w.unread ≡ counted (unread_of templates.old octets.now)) }
     ensures exact { IsWalked S.holds (λ header. IsRefused S.holds S.refuses header sink.old (length octets.now))
-        (λ header. (header, templates.new)) sink.old sink.new result (message_at templates.old octets.now) }
+        (λ w. (w.header, templates.new)) sink.old sink.new result (message_at templates.old octets.now) }
     ensures err { OnErr result (templates.new ≡ templates.old) }
 {
     templates.are_in_force();
     let mut changed = None;
-    let header = divided(templates, alloc, octets, &mut changed, sink)?;
-    if put_in(alloc, templates, header.domain, &mut changed).is_err() {
+    let walked = divided(templates, alloc, octets, &mut changed, sink)?;
+    if put_in(alloc, templates, walked.header.domain, &mut changed).is_err() {
         return Err(WalkError::Message(MessageError::OutOfMemory));
     }
-    Ok(header)
+    Ok(walked)
 }
 
 /// Hands a message's data records to a sink, in order, and takes its templates in. An `Err` leaves the templates as
@@ -334,6 +369,29 @@ pub fn walk_message<S: RecordSink>(
     // Other octets are refused by their first fault, or by the sink before it.
     ensures fault { IfErr result (λ e. IsStopped S.holds S.refuses octets.now templates.old sink.old e) }
     ensures err { OnErr result (templates.new ≡ templates.old) }
+{
+    match walk_sets(templates, alloc, octets, sink) {
+        Ok(walked) => Ok(walked.header),
+        Err(stop) => Err(stop),
+    }
+}
+
+/// Walks over a message as `walk_message` does, and also counts its data Sets without a definition in force.
+pub fn walk_sets<S: RecordSink>(
+    templates: &mut Templates,
+    alloc: Global,
+    octets: &[u8],
+    sink: &mut S,
+) -> Result<Walked, WalkError<S::Error>>
+    ensures found { IfOk result
+        (λ w. IsWalkedBy S.holds octets.now templates.old templates.new sink.old sink.new w.header) }
+    ensures only { (m : RawMessage) (after : AllTemplates) → IsAccepted octets.now templates.old m after
+        → IsWalkOf S.holds S.refuses (length octets.now) templates.new sink.old sink.new
+        (header_in result) m after }
+    ensures fault { IfErr result (λ e. IsStopped S.holds S.refuses octets.now templates.old sink.old e) }
+    ensures err { OnErr result (templates.new ≡ templates.old) }
+    // These are the data Sets without a definition in force, each under the templates of the Sets before it.
+    ensures unread { IfOk result (λ w. w.unread ≡ counted (unread_of templates.old octets.now)) }
 {
     message_of(templates, alloc, octets, sink)
 }
@@ -359,7 +417,7 @@ pub fn judge_message(
     let mut changed = None;
     let mut count = Count { records: 0 };
     match divided(templates, alloc, octets, &mut changed, &mut count) {
-        Ok(header) => Ok(header),
+        Ok(walked) => Ok(walked.header),
         Err(WalkError::Message(fault)) => Err(fault),
         Err(WalkError::Sink(never)) => match never {},
     }

@@ -8,12 +8,12 @@ use Rattle.flow_codec.proofs.walk.judge_message.Goals as goal
 pub returns-in-Ok-clause-found : goal.returns-in-Ok-clause-found
 returns-in-Ok-clause-found c =
     let given = c.in-Ok.ensures.exact in
-    let after = current c.in-Ok.header.domain c.args.templates.now c.divided.new.changed in (
+    let after = current c.in-Ok.walked.header.domain c.args.templates.now c.divided.new.changed in (
       given.0,
       after,
       message_takes c.args.templates.now c.args.octets.now (
         record {
-          header = c.in-Ok.header;
+          header = c.in-Ok.walked.header;
           records =
               given.0;
         },
@@ -24,9 +24,9 @@ returns-in-Ok-clause-found c =
 pub returns-in-Ok-clause-only : goal.returns-in-Ok-clause-only
 returns-in-Ok-clause-only c = λ m after h.
     let given = c.in-Ok.ensures.exact in
-    let made : RawMessage = record { header = c.in-Ok.header; records = given.0 } in
+    let made : RawMessage = record { header = c.in-Ok.walked.header; records = given.0 } in
     let same = same_message c.args.templates.now c.args.octets.now made m
-    (current c.in-Ok.header.domain c.args.templates.now c.divided.new.changed) after given.1 h in
+    (current c.in-Ok.walked.header.domain c.args.templates.now c.divided.new.changed) after given.1 h in
     ap (λ (x : RawMessage). x.header) same.0
 
 pub returns-in-Err-Message-clause-only : goal.returns-in-Err-Message-clause-only

@@ -1,6 +1,6 @@
 use Rattle.std.proofs.Common.{arith}
 use Rattle.flow_codec.proofs.Walking.{is_found, is_walk, is_stopped}
-use Rattle.flow_codec.proofs.walk.walk_message.Goals as goal
+use Rattle.flow_codec.proofs.walk.walk_sets.Goals as goal
 
 pub returns-clause-found : goal.returns-clause-found
 returns-clause-found g c =
