@@ -160,7 +160,8 @@ impl<S: SealedFile> FrozenFile<S> {
         ensures width { IfOk result (λ source. source.rows.width ≡ made) }
         ensures cause { HasCause SourceError.Fault faults.old faults.new result }
         // On an honest disk, damaged or not: all that it holds is summed; or why not.
-        ensures found { IsTrue self.now.honest → MatchResult result (IsReadWhole self.now.entry.kind width made self.now)
+        ensures found { IsTrue self.now.honest
+            → MatchResult result (IsReadWhole self.now.entry.kind width made self.now)
             (IsNotRead self.now.entry.kind width made self.now) }
         // On an honest disk: where it is a source for a job, it is read as one.
         ensures read { IsTrue self.now.honest → (kind : JobKind) (m : Manifest) (p : Part) → width ≡ m.width

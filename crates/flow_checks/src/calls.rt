@@ -107,7 +107,8 @@ impl<D: Disk> Thawed<D> {
         Ok((passed, is_so))
     }
 
-    /// Freezes a file that has just these octets, and removes it: whether it is so before, while and after it is frozen.
+    /// Freezes a file that has just these octets, and removes it: whether it is so before, while and after it is
+    /// frozen.
     pub(crate) fn retire(self, alloc: Global, file: u64, octets: &[u8]) -> Result<bool, DiskError> {
         let Thawed { mut disk } = self;
         disk.sync(file)?;

@@ -39,8 +39,8 @@ const ENOUGH: Room = Room {
     written: 8,
 };
 
-/// How many of these calls meet no fault, with the removal of file 7 once frozen, and whether each of them gives what it
-/// says.
+/// How many of these calls meet no fault, with the removal of file 7 once frozen, and whether each of them gives what
+/// it says.
 fn told<D: Disk>(alloc: Global, disk: D) -> Result<(u64, bool), DiskError>
     requires { (n : ℕ) → (D.marks disk n).frozen ≡ false }
 {

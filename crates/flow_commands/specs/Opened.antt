@@ -8,8 +8,8 @@ use Rattle.flow_recover.specs.Standing.{StandsFor, StandsForEither}
 use Rattle.flow_recover.specs.State.{State, reopened}
 use Rattle.flow_archive.specs.Seen.{Seen}
 
--- On an honest disk a stop at any moment leaves what represents the archive that was there: where a stop had left one of
--- two states, one of these.
+-- On an honest disk a stop at any moment leaves what represents the archive that was there: where a stop had left one
+-- of two states, one of these.
 abbrev pub KeepsArchive : {D S X : Type 0} → Ghosts D S X → D → D → Type 0
 KeepsArchive g old new =
     IsTrue (g.honest old) → (a b : State) → AllImages (g.held old) (StandsForEither a b)

@@ -10,8 +10,8 @@ ghost use Rattle.flow_recover.specs.State.{State};
 ghost use Rattle.flow_snapshot.specs.Shares.{AreNarrow, AreWide};
 ghost use Rattle.flow_commands.specs.ArchiveFiles.{alone, rows_in, starts_of, starts_of_file};
 
-/// Where each file of an archive has a worker of its own, what falls to the worker is its file alone: so `check --files`
-/// lists of each file when its own flows start.
+/// Where each file of an archive has a worker of its own, what falls to the worker is its file alone: so
+/// `check --files` lists of each file when its own flows start.
 pub fn each_file_alone()
     ensures { (reads : ℕ → List ℕ) (s : State) (wide narrow : List (FinMap key_cmp Sums)) (n : ℕ)
         → StandsFor reads s → AreWide (shelf_of s) wide → AreNarrow (shelf_of s) narrow

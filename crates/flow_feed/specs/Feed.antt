@@ -1,5 +1,6 @@
 -- A File into an archive.
-use Rattle.std.specs.Prelude.{◌≡◌, ◌≤◌, ◌<◌, ℕ, ◌+◌, Bool, true, false, List, [], ◌∷◌, ◌++◌, flat_map, All, length, Option}
+use Rattle.std.specs.Prelude.{◌≡◌, ◌≤◌, ◌<◌, ℕ, ◌+◌, Bool, true, false, List, [], ◌∷◌, ◌++◌, flat_map, All, length}
+use Rattle.std.specs.Prelude.{Option}
 use Rattle.std.specs.Prelude.{Some, None, Result, ⊤}
 use Rattle.std.specs.Io.KnownBytes.{Consumes, IsAtEnd}
 use Rattle.flow_codec.specs.declared.stream.StreamError.TheVariants as stream
@@ -64,9 +65,9 @@ ArePassed first old new (Some fed) =
     × (fed.messages ≡ old.count + length passed)
 
 -- The messages of the File after the first `first` ones are acknowledged, up to where it stopped, in their order, each
--- once, and no other; `fed` reports how many messages of the File were passed and acknowledged; and what follows them is
--- why there aren't more. They were given in batches of 1 to 64, which are the File's next messages each time; some of the
--- last batch may be left. `appends` says what each batch made of the appender.
+-- once, and no other; `fed` reports how many messages of the File were passed and acknowledged; and what follows them
+-- is why there aren't more. They were given in batches of 1 to 64, which are the File's next messages each time; some
+-- of the last batch may be left. `appends` says what each batch made of the appender.
 pub record IsFed {S : Type 0} (appends : S → S → List (List ℕ) → Result ℕ ArchiveError → Type 0) (first : ℕ)
     (old new : S) (octets : Option (List ℕ)) (fed : Fed) : Type 0 where
   pub passed : List (List ℕ)

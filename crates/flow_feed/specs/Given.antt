@@ -71,8 +71,8 @@ abbrev pub AfterRefused : Bool → List (List ℕ) → ArchiveError → List Giv
 AfterRefused true messages error given stop = AreGivenSingly messages given stop
 AfterRefused false messages error given stop = (given ≡ []) × (stop ≡ Some error)
 
--- what is given after a batch that was answered so: where it has several messages, and is refused by what they are, these
--- one by one; else nothing
+-- what is given after a batch that was answered so: where it has several messages, and is refused by what they are,
+-- these one by one; else nothing
 abbrev pub AfterBatch : List (List ℕ) → Result ℕ ArchiveError → List Given → Option ArchiveError → Type 0
 AfterBatch messages (Ok position) given stop = (given ≡ []) × (stop ≡ None)
 AfterBatch messages (Err error) given stop =

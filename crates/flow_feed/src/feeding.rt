@@ -39,10 +39,10 @@ fn pass<R: Read>(reader: &mut MessageReader, input: &mut R, first: u64) -> Optio
     None
 }
 
-/// Takes the messages of the File that `input` reads into an archive, after the first `first` ones, which are only read:
-/// up to its end, its first fault, or the first message that the archive refuses. A batch is what was read together, up to
-/// 64 messages, and is given as soon as it is read; one that is refused by what its messages are is given message by
-/// message. What is reported counts the messages of the File, those that were only read too.
+/// Takes the messages of the File that `input` reads into an archive, after the first `first` ones, which are only
+/// read: up to its end, its first fault, or the first message that the archive refuses. A batch is what was read
+/// together, up to 64 messages, and is given as soon as it is read; one that is refused by what its messages are is
+/// given message by message. What is reported counts the messages of the File, those that were only read too.
 pub fn feed<A: Appender, R: Read>(appender: &mut A, alloc: Global, input: &mut R, first: u64) -> Fed
     ensures { IsFed A.appends first appender.old appender.new (R.remaining input.old) result }
 {

@@ -69,8 +69,8 @@ fn next_batch(messages: Vec<Vec<u8>>) -> Batch
     }
 }
 
-/// Reads up to 64 messages, never past a fault of the File. Where one was read, it reads no more than what was read with
-/// it: a message isn't held back for others that are still to come.
+/// Reads up to 64 messages, never past a fault of the File. Where one was read, it reads no more than what was read
+/// with it: a message isn't held back for others that are still to come.
 pub(crate) fn read_batch<R: Read>(alloc: Global, reader: &mut MessageReader, input: &mut R) -> Batch
     requires { reader.old.stopped ≡ None }
     ensures read { AreRead (progress reader.old (R.remaining input.old)) (texts result.messages.items) result.is_last

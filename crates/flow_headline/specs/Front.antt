@@ -110,9 +110,9 @@ EndsAtFault (answer ∷ answers) =
 
 -- ---- stops within a run
 
--- This is left of the archive by a stop within these events, after the first `begun` of them: the archive after a prefix
--- of the events. Each of those `begun` events that was acknowledged is in it; a fault closed the archive under the last
--- event of the prefix at most; and its history is the one before with the prefix's messages.
+-- This is left of the archive by a stop within these events, after the first `begun` of them: the archive after a
+-- prefix of the events. Each of those `begun` events that was acknowledged is in it; a fault closed the archive under
+-- the last event of the prefix at most; and its history is the one before with the prefix's messages.
 pub record IsPrefix (s : State) (events : List Event) (answers : List (Result Answer ArchiveError)) (begun : ℕ)
     (left : State) : Type 0 where
   pub taken : ℕ

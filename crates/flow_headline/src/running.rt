@@ -34,8 +34,9 @@ pub fn run_on_disk<D: Disk>(
         (StandsForSome archive.old.state events.now answers.items)) }
     ensures since { IsTrue (D.honest archive.old.disk) → archive.old.closed ≡ false
         → IfOk result (λ answers. (i : ℕ) → IsSince D.Disk archive.old archive.new events.now answers.items i) }
-    // A stop at any moment, since event i began and before event j does, leaves a prefix of the first j events, with all
-    // that were acknowledged of the first i: so all that were before the stop, and at most the one under way besides.
+    // A stop at any moment, since event i began and before event j does, leaves a prefix of the first j events, with
+    // all that were acknowledged of the first i: so all that were before the stop, and at most the one under way
+    // besides.
     ensures between { IsTrue (D.honest archive.old.disk) → archive.old.closed ≡ false
         → IfOk result (λ answers. (i j : ℕ) → i ≤ j
         → StopsBetween D.Disk archive.old archive.new events.now answers.items i j) }

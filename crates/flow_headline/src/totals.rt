@@ -31,8 +31,8 @@ pub struct Told {
 /// left, and asks a snapshot of it for the totals of a span, from `from` on and before `to`, both in seconds since
 /// 1970-01-01 00:00 UTC.
 ///
-/// Errors: those of `run_and_open`; and of the query `OutOfMemory`, or `Damaged` where sums don't fit their types. Reads
-/// of files in memory never fail: if one did, that would be answered as `OutOfMemory` too.
+/// Errors: those of `run_and_open`; and of the query `OutOfMemory`, or `Damaged` where sums don't fit their types.
+/// Reads of files in memory never fail: if one did, that would be answered as `OutOfMemory` too.
 pub fn totals_behind_a_stop(
     alloc: Global,
     archive: Archive<FusedDisk<MemoryDisk>>,
@@ -44,8 +44,8 @@ pub fn totals_behind_a_stop(
     requires events { All IsEvent events.now }
     requires still_open { archive.closed ≡ false }
     // The events were run, with these answers, and the machine was stopped by this choice. The rows are the totals of
-    // all messages of what was left, which is the archive after a prefix of the events: of those that were there before,
-    // and of those of the prefix, each counted once.
+    // all messages of what was left, which is the archive after a prefix of the events: of those that were there
+    // before, and of those of the prefix, each counted once.
     ensures totals { IfOk result
         (λ t. AreTotals archive events.now t.answers.items choice.entry from to t.rows.items) }
     ensures behind { IfOk result (λ t. EndsAtFault t.answers.items) }

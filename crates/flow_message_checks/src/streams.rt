@@ -49,8 +49,8 @@ impl Read for Pieces<'_> {
     }
 }
 
-/// Reads one message, if there is one. It promises nothing, so that what reads Files is proved without all that a reader
-/// promises.
+/// Reads one message, if there is one. It promises nothing, so that what reads Files is proved without all that a
+/// reader promises.
 fn advance<R: Read>(reader: &mut MessageReader, input: &mut R) -> Result<bool, StreamError> {
     reader.advance(input)
 }

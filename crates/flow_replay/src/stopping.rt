@@ -261,8 +261,8 @@ fn calls_of(alloc: Global, image: &Image, given: Given<'_, '_>) -> Result<u64, D
     Ok(calls)
 }
 
-/// A part that is played again and again: what it is played on, what is given, its states, and how many calls of its disk
-/// it makes.
+/// A part that is played again and again: what it is played on, what is given, its states, and how many calls of its
+/// disk it makes.
 #[derive(Drop)]
 pub(crate) struct Trial<'a, 'b> {
     image: &'b Image,

@@ -280,8 +280,8 @@ fn try_part(
     }
 }
 
-/// A script, on a disk without files: as it is, and each part in the way of a plan before. Where the player's own memory
-/// is refused, it is played once more from its beginning, if something may be given once more.
+/// A script, on a disk without files: as it is, and each part in the way of a plan before. Where the player's own
+/// memory is refused, it is played once more from its beginning, if something may be given once more.
 pub(crate) fn play<W: Wait>(
     rt: &W,
     alloc: Global,

@@ -15,11 +15,13 @@ use Rattle.flow_report.specs.Formats.Value.{Number, Time}
 
 abbrev pub key_values : Key → List Named
 key_values key =
-    (codes "start", Time key.start) ∷ (codes "domain", Number key.domain) ∷ (codes "protocol", number_or_none key.protocol) ∷ []
+    (codes "start", Time key.start) ∷ (codes "domain", Number key.domain)
+    ∷ (codes "protocol", number_or_none key.protocol) ∷ []
 
 abbrev pub sums_values : Sums → List Named
 sums_values sums =
-    (codes "flows", Number sums.flows) ∷ (codes "octets", Number sums.octets) ∷ (codes "packets", Number sums.packets) ∷ []
+    (codes "flows", Number sums.flows) ∷ (codes "octets", Number sums.octets)
+    ∷ (codes "packets", Number sums.packets) ∷ []
 
 -- Whether the width of a row's intervals is written: where it isn't the usual one, and in CSV and JSON always.
 abbrev pub shows_width : Layout → ℕ → ℕ → Bool
@@ -49,7 +51,8 @@ rows_text format usual rows = heading format.layout row_names ++ flat_map (row_l
 -- START DOMAIN PROTOCOL OCTETS PACKETS of a flow
 unfoldable pub flow_line : Format → Flow → List ℕ
 flow_line format f =
-    line_in format ((codes "start", Time f.start) ∷ (codes "domain", Number f.domain) ∷ (codes "protocol", number_or_none f.protocol)
+    line_in format ((codes "start", Time f.start) ∷ (codes "domain", Number f.domain)
+    ∷ (codes "protocol", number_or_none f.protocol)
     ∷ (codes "octets", Number f.octets) ∷ (codes "packets", Number f.packets) ∷ [])
 
 abbrev pub flow_names : List (List ℕ)

@@ -174,7 +174,8 @@ pub fn put_last<N: Integer>(line: &mut Vec<u8>, format: Format, name: &str, numb
 pub(crate) fn put_protocol(line: &mut Vec<u8>, format: Format, protocol: Option<u8>)
     requires { vec_len line.old + 61 ≤ vec_capacity line.old }
     ensures text { line.new.items
-        ≡ line.old.items ++ value_in format (codes "protocol", number_or_none protocol) ++ separator format.layout ∷ [] }
+        ≡ line.old.items ++ value_in format (codes "protocol", number_or_none protocol)
+        ++ separator format.layout ∷ [] }
     ensures len { vec_len line.new ≤ vec_len line.old + 61 }
     ensures room { vec_capacity line.old ≤ vec_capacity line.new }
 {

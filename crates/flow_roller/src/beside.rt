@@ -42,9 +42,9 @@ fn clear<D: Disk, J: Naming, W: Wait>(
 }
 
 /// Makes turns of rolling while others append, until they have ended and there is nothing left to do: all sealed
-/// segments but the newest ones that the bell says to keep are rolled then, and files that were replaced are removed. It
-/// waits for the bell where it is idle, and makes its turns 1,000,000 times at most. It stops at the first refusal, and
-/// answers that. Reads of a job's sources that fail raise `faults`.
+/// segments but the newest ones that the bell says to keep are rolled then, and files that were replaced are removed.
+/// It waits for the bell where it is idle, and makes its turns 1,000,000 times at most. It stops at the first refusal,
+/// and answers that. Reads of a job's sources that fail raise `faults`.
 pub fn roll_beside<D: Disk, J: Naming, W: Wait>(
     shared: &SharedArchive<D, J, W>,
     rt: &W,

@@ -57,8 +57,8 @@ pub fn scan_by_parts<S: SealedFile + Send + Sync, R: Threads + Sync, G: Gate + S
 ) -> Result<Vec<Row>, QueryError>
     requires workers { (0 < workers) × (workers ≤ 64) }
     ensures cause { HasCause QueryError.Fault faults.old faults.new result }
-    // On honest disks, also where files are damaged: the totals of all parts, each of which was read whole, with its own
-    // prefix.
+    // On honest disks, also where files are damaged: the totals of all parts, each of which was read whole, with its
+    // own prefix.
     ensures found { IsTrue snapshot.now.honest → IfOk result (λ rows. (wide : List (FinMap key_cmp Sums))
         × (narrow : List (FinMap key_cmp Sums)) × AreWide snapshot.now.shelf wide × AreNarrow snapshot.now.shelf narrow
         × (rows.items ≡ rows_of_both from to (summed snapshot.now.shelf.width narrow)

@@ -1,6 +1,7 @@
 //! The value under the lock.
 
-ghost use Rattle.std.specs.Prelude.{◌≡◌, ◌≢◌, ◌⊎◌, MatchBool, ◌++◌, ◌∷◌, [], ◌≤◌, ◌<◌, ◌↔◌, List, length, true, false, IfOk, IfErr, OnOk, IsTrue};
+ghost use Rattle.std.specs.Prelude.{◌≡◌, ◌≢◌, ◌⊎◌, MatchBool, ◌++◌, ◌∷◌, [], ◌≤◌, ◌<◌, ◌↔◌, List, length, true, false};
+ghost use Rattle.std.specs.Prelude.{IfOk, IfErr, OnOk, IsTrue};
 ghost use Rattle.std.specs.Option.{option_to_list};
 ghost use Rattle.left_right.specs.Handles.{published, pending};
 ghost use Rattle.flow_disk.specs.Cause.{HasCause};
@@ -11,7 +12,8 @@ ghost use Rattle.flow_snapshot.specs.Shelf.{position_of};
 ghost use Rattle.flow_recover.specs.Shelved.{shelf_of};
 ghost use Rattle.flow_manifest.specs.declared.following.JobKind.TheVariants.{Merge, Roll};
 ghost use Rattle.flow_turns.specs.Turns.{due, IsTurn};
-ghost use Rattle.flow_shared.specs.Calls.{added_by, by, AppendsOnce, AppendsSealed, Appends, IsClosedBy, IsRefusedBefore, IsSeal, IsTurnedBy};
+ghost use Rattle.flow_shared.specs.Calls.{added_by, by, AppendsOnce, AppendsSealed, Appends, IsClosedBy};
+ghost use Rattle.flow_shared.specs.Calls.{IsRefusedBefore, IsSeal, IsTurnedBy};
 ghost use Rattle.flow_shared.specs.Held.{all_of, Held};
 ghost use Rattle.flow_shared.specs.Told.{after, HasOwn};
 
@@ -78,9 +80,11 @@ where
     ghost view = { λ l. held_as l.archive (published l.writer) l.told l.backlog };
 
     ghost invariant = { λ l. ((s : List Change) → ⟦<Shown<D::Sealed, J> as Absorb<Telling<D::Sealed, J>>>⟧.state s ≡ s)
-        × ((s : List Change) (t : List Change × Change) → ⟦<Shown<D::Sealed, J> as Absorb<Telling<D::Sealed, J>>>⟧.applied s t ≡ t.0)
+        × ((s : List Change) (t : List Change × Change)
+        → ⟦<Shown<D::Sealed, J> as Absorb<Telling<D::Sealed, J>>>⟧.applied s t ≡ t.0)
         × IsInStep D.honest J.opening J.honest l.archive l.told l.backlog
-        × (fold (λ (xs : List Change) (t : List Change × Change). t.0) (published l.writer) (pending l.writer ++ option_to_list l.late) ≡ l.told)
+        × (fold (λ (xs : List Change) (t : List Change × Change). t.0) (published l.writer)
+        (pending l.writer ++ option_to_list l.late) ≡ l.told)
         × IsPrefix (published l.writer) l.told };
 }
 
@@ -353,9 +357,9 @@ where
         Ok(turn)
     }
 
-    /// The next step of the job that is under way, of whatever kind; without one it begins to roll all sealed segments but
-    /// the newest `keep`; where there are none, it removes the oldest file that waits for its removal, and is idle where
-    /// there is none that can be removed. Readers are shown an install.
+    /// The next step of the job that is under way, of whatever kind; without one it begins to roll all sealed segments
+    /// but the newest `keep`; where there are none, it removes the oldest file that waits for its removal, and is idle
+    /// where there is none that can be removed. Readers are shown an install.
     pub fn roll_turn(
         &mut self,
         alloc: Global,

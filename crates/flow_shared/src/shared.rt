@@ -62,8 +62,8 @@ where
         self.lock.lock(rt).seal(alloc)
     }
 
-    /// A turn of rolling: the next step of the job that is under way, else a job over all sealed segments but the newest
-    /// `keep`, else a removal.
+    /// A turn of rolling: the next step of the job that is under way, else a job over all sealed segments but the
+    /// newest `keep`, else a removal.
     pub fn roll_turn(
         &self,
         rt: &W,

@@ -139,8 +139,8 @@ where
     Ok(())
 }
 
-/// Lets threads share an archive, with four readers. What is sent to a thread has bounds that a trait's method can't have,
-/// so this is none of the trials.
+/// Lets threads share an archive, with four readers. What is sent to a thread has bounds that a trait's method can't
+/// have, so this is none of the trials.
 fn appended_by_two<
     D: Disk + Send,
     J: Naming + Send + Sync,

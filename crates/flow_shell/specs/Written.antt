@@ -39,8 +39,8 @@ abbrev pub IsEndedBy : ArchiveRefusal → Option (List ℕ) → Option (List ℕ
 IsEndedBy (Write failed) old new result = (result ≡ Err (Write failed)) × Keeps old new
 IsEndedBy e old new result = IsRefusalWritten (Archive e) old new result
 
--- The end of an answer after its lines: done 0; where there are none, what refused them; and nothing where they couldn't
--- be written.
+-- The end of an answer after its lines: done 0; where there are none, what refused them; and nothing where they
+-- couldn't be written.
 abbrev pub IsFinished : Result (Unit {0}) ShellRefusal → Option (List ℕ) → Option (List ℕ)
     → Result (Unit {0}) ArchiveRefusal → Type 0
 IsFinished (Ok done) old new result = IsWritten (done_line 0) old new result

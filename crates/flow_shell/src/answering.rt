@@ -34,7 +34,8 @@ fn find_rows<S: SealedFile + Send + Sync, J: Naming, H: Threads + Sync>(
 ) -> Result<Vec<Row>, ShellRefusal>
     ensures later { IsPrefix reader.old reader.new }
     ensures rows { IsTrue J.honest → (h : History) → HasView J.opening h
-        → IfOk result (λ rows. rows.items ≡ totals_in_view span.now.from span.now.to (view_after J.opening h reader.new)) }
+        → IfOk result
+        (λ rows. rows.items ≡ totals_in_view span.now.from span.now.to (view_after J.opening h reader.new)) }
     ensures unwritten { IfErr result (λ e. IsBeforeWriting e) }
 {
     let snapshot = reader.snapshot()?;
@@ -59,7 +60,8 @@ pub fn answer_totals<S: SealedFile + Send + Sync, J: Naming, H: Threads + Sync, 
         → OnOk result (Appends (W.contents output.old) (W.contents output.new)
         (rows_text Format.PLAIN width (totals_in_view span.now.from span.now.to (view_after J.opening h reader.new)))) }
     ensures written { OnOk result (Writes (AreRows Format.PLAIN) (W.contents output.old) (W.contents output.new)) }
-    ensures kept { IfErr result (λ e. WritesOrRefuses (AreRows Format.PLAIN) e (W.contents output.old) (W.contents output.new)) }
+    ensures kept { IfErr result
+        (λ e. WritesOrRefuses (AreRows Format.PLAIN) e (W.contents output.old) (W.contents output.new)) }
 {
     let rows = find_rows(rt, alloc, reader, span, workers)?;
     write_rows(alloc, rows.as_slice(), width, Format::PLAIN, output)?;
@@ -74,7 +76,8 @@ fn find_flows<S: SealedFile, J: Naming>(
 ) -> Result<Vec<Flow>, ShellRefusal>
     ensures later { IsPrefix reader.old reader.new }
     ensures flows { IsTrue J.honest → (h : History) → HasView J.opening h
-        → IfOk result (λ flows. flows.items ≡ flows_in_view span.now.from span.now.to (view_after J.opening h reader.new)) }
+        → IfOk result
+        (λ flows. flows.items ≡ flows_in_view span.now.from span.now.to (view_after J.opening h reader.new)) }
     ensures unwritten { IfErr result (λ e. IsBeforeWriting e) }
 {
     let snapshot = reader.snapshot()?;
@@ -95,7 +98,8 @@ pub fn answer_flows<S: SealedFile, J: Naming, W: Write>(
         → OnOk result (Appends (W.contents output.old) (W.contents output.new)
         (flows_text Format.PLAIN (flows_in_view span.now.from span.now.to (view_after J.opening h reader.new)))) }
     ensures written { OnOk result (Writes (AreFlows Format.PLAIN) (W.contents output.old) (W.contents output.new)) }
-    ensures kept { IfErr result (λ e. WritesOrRefuses (AreFlows Format.PLAIN) e (W.contents output.old) (W.contents output.new)) }
+    ensures kept { IfErr result
+        (λ e. WritesOrRefuses (AreFlows Format.PLAIN) e (W.contents output.old) (W.contents output.new)) }
 {
     let flows = find_flows(alloc, reader, span)?;
     write_flows(alloc, flows.as_slice(), Format::PLAIN, output)?;
@@ -122,7 +126,8 @@ fn find_message<S: SealedFile, J: Naming>(
 ) -> Result<String, ShellRefusal>
     ensures later { IsPrefix reader.old reader.new }
     ensures line { IsTrue J.honest → (h : History) → HasView J.opening h
-        → IfOk result (λ line. string_bytes line ≡ message_line (message_in_view number (view_after J.opening h reader.new))) }
+        → IfOk result (λ line. string_bytes line
+        ≡ message_line (message_in_view number (view_after J.opening h reader.new))) }
     ensures unwritten { IfErr result (λ e. IsBeforeWriting e) }
     ensures digits { IfOk result (λ line. AreDigits (string_bytes line)) }
 {

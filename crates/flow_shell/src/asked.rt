@@ -1,7 +1,8 @@
 //! What a line asks of the shell.
 
 ghost use Rattle.std.specs.Prelude.{◌≡◌, IfSome, ◌≤◌};
-ghost use Rattle.flow_shell.specs.Asked.{by_name, file_in, keep_in, message_in, name_of, query_by_name, request_in, rest_of, span_in};
+ghost use Rattle.flow_shell.specs.Asked.{by_name, file_in, keep_in, message_in, name_of, query_by_name, request_in};
+ghost use Rattle.flow_shell.specs.Asked.{rest_of, span_in};
 
 use flow_commands::StartSpan;
 use flow_report::number_between;

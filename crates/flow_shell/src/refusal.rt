@@ -36,7 +36,8 @@ impl fmt::Display for ShellRefusal {
 impl Error for ShellRefusal {}
 
 impl ShellRefusal {
-    /// The status of an answer: 1 for what is refused, 3 for a device or the reader's place, 4 for memory, 5 for damage.
+    /// The status of an answer: 1 for what is refused, 3 for a device or the reader's place, 4 for memory, 5 for
+    /// damage.
     pub fn status(&self) -> u8
         ensures value { result ≡ shell_status self.now }
         ensures other { result ≢ 2 }

@@ -590,8 +590,8 @@ where
 }
 
 /// Opens the archive of a folder, and answers the requests that `input` has, a line each, in their order: with their
-/// lines, and `done STATUS`. Files that are asked for are fed meanwhile, at most 8 at once, and the line of one that has
-/// ended is written before the next answer. The newest `keep` sealed segments are left as they are; older ones are
+/// lines, and `done STATUS`. Files that are asked for are fed meanwhile, at most 8 at once, and the line of one that
+/// has ended is written before the next answer. The newest `keep` sealed segments are left as they are; older ones are
 /// rolled meanwhile. After `quit`, and at the end of the input, Files end with what was read of them.
 pub fn shell_in<
     H: Files + AllocGlobal + Clone + Drop + Threads + Wait + Send + Sync,

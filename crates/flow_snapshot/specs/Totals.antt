@@ -31,7 +31,8 @@ pub record SumsFit (v : View) : Type 0 where
   pub wide : AllFit (wide_table_in v)
   pub both : v.width ≡ v.wide → AllFit (merged (narrow_table_in v) (wide_table_in v))
 
--- A history within the limits of an archive: its messages are fewer than 2^48, and consist of octets, numbers below 256.
+-- A history within the limits of an archive: its messages are fewer than 2^48, and consist of octets, numbers below
+-- 256.
 pub record IsWithinLimits (h : History) : Type 0 where
   pub few : length h.all < 2 ^ 48
   pub octets : AllByRecursion (λ a. IsOctets a.octets) h.all
