@@ -89,6 +89,7 @@ pub record IsNotRolled {D S X : Type 0} (g : Ghosts D S X) (disk : D) (old new :
   pub error_is : refused.error ≡ of_opening reason
   pub told : IsTrue (g.honest disk) → IsUnopened (reads_of (g.held disk)) reason
   pub cause : HasCause {T = Unit {0}} opening.Fault (g.faults disk) (g.faults refused.disk) (Err reason)
+  pub honest : g.honest refused.disk ≡ g.honest disk
   pub any_moment : KeepsArchive g disk refused.disk
   pub kept : Keeps old new
 
