@@ -2,6 +2,7 @@
 """play.py PROGRAM FILE..: plays cases of the command line, as docs/CASES.md has them, each in a new folder. It prints
 each difference, and ends with `N cases, M runs: D differ`, where D counts cases. Its status is 0 where D is 0, 1 where
 it isn't, and 2 where a file of cases can't be read."""
+import contextlib
 import ctypes
 import fcntl
 import os
@@ -14,6 +15,7 @@ import sys
 import tempfile
 import threading
 import time
+import tty
 
 SECONDS = 60
 
@@ -38,6 +40,32 @@ class Run:
         self.place, self.words, self.given = place, words, given
         self.out, self.err, self.status = [], [], 0
         self.begins, self.columns, self.by, self.lines = None, None, None, []
+        self.is_full, self.is_unread, self.shown = False, False, None
+
+    def ran(self, words, before):
+        """Runs these words, and answers how the run ended, and what it wrote."""
+        how = {"input": self.given, "stdout": subprocess.PIPE, "stderr": subprocess.PIPE}
+        with contextlib.ExitStack() as opened:
+            if self.is_full:
+                how["stdout"] = opened.enter_context(open("/dev/full", "wb"))
+            if self.is_unread:
+                del how["input"]
+                how["stdin"] = os.open(".", os.O_RDONLY)
+                opened.callback(os.close, how["stdin"])
+            screen = Screen() if self.shown is not None else None
+            if screen:
+                how["stderr"] = screen.end
+                opened.callback(screen.close)
+            got = subprocess.run(words, timeout=SECONDS, preexec_fn=before, **how)
+            got.stdout = got.stdout or b""
+            got.stderr = screen.close() if screen else got.stderr
+        return got
+
+    def told(self):
+        """What is wanted on standard error."""
+        if self.shown is not None:
+            return self.shown
+        return "".join(line + "\n" for line in self.err + self.see()).encode()
 
     def sorted(self, octets):
         """Lines in the order of the word that they are sorted by, if any; those with one such word stay in order."""
@@ -60,7 +88,7 @@ class Run:
                 yield "out", wanted, self.sorted(got.stdout)
         elif not got.stdout.startswith(self.begins.encode()) or not got.stdout:
             yield "out, from its start", self.begins.encode(), got.stdout
-        wanted = "".join(line + "\n" for line in self.err + self.see()).encode()
+        wanted = self.told()
         if self.err == ["*"]:
             if not re.match(rb"flowvault: [^\n]+\n", got.stderr):
                 yield "err", b"a line of flowvault", got.stderr
@@ -73,6 +101,30 @@ class Run:
         for wanted in self.lines:
             if wanted.split() not in [line.split() for line in lines]:
                 yield "has", wanted, "no such line"
+
+
+class Screen(threading.Thread):
+    """A terminal, and what is shown on it."""
+
+    def __init__(self):
+        super().__init__()
+        (self.begin, self.end), self.octets = os.openpty(), b""
+        tty.setraw(self.end)
+        self.start()
+
+    def run(self):
+        with contextlib.suppress(OSError):
+            while octets := os.read(self.begin, 4096):
+                self.octets += octets
+
+    def close(self):
+        """Closes it, and answers what was shown."""
+        if self.end is not None:
+            os.close(self.end)
+            self.end = None
+            self.join()
+            os.close(self.begin)
+        return self.octets
 
 
 class Case:
@@ -256,7 +308,7 @@ def bound(held):
 def run(held, program, wanted):
     words, before = [program, *wanted.words], bound(held)
     try:
-        got = subprocess.run(words, input=wanted.given, capture_output=True, timeout=SECONDS, preexec_fn=before)
+        got = wanted.ran(words, before)
     except subprocess.TimeoutExpired:
         return [("end", "within %d seconds" % SECONDS, "none")]
     return list(wanted.differs(got)) + poured(held)
@@ -304,7 +356,7 @@ class Reader:
             self.run = None
         elif not self.cases:
             raise Bad("'%s' stands before the first case" % word)
-        elif word in ("out", "out*", "lines", "has", "err", "status", "columns", "by"):
+        elif word in ("out", "out*", "lines", "has", "err", "status", "columns", "by", "full", "unread", "shown"):
             self.expect(word, rest)
         else:
             self.step(place, word, rest)
@@ -328,6 +380,12 @@ class Reader:
             self.run.status = int(rest)
         elif word == "by":
             self.run.by = int(rest)
+        elif word == "full":
+            self.run.is_full = True
+        elif word == "unread":
+            self.run.is_unread = True
+        elif word == "shown":
+            self.run.shown = octets_of(rest.split(), self.named)
         else:
             self.run.columns = int(rest)
 
