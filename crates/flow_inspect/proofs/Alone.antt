@@ -3,10 +3,10 @@ use Rattle.std.proofs.Common.{◌≡◌, ℕ, Bool, List, [], ◌∷◌, Option,
 use Rattle.std.specs.Prelude.{true, false, cond, fold, nat_eq, if◌then◌else◌}
 use Rattle.std.specs.Map.{lookup}
 use Rattle.indexmap.specs.IndexMap.{insert_entry}
-use Rattle.flow_codec.specs.Raw.{RawMessage}
+use Rattle.flow_codec.specs.declared.walk.Walked.{Walked}
 use Rattle.flow_inspect.specs.declared.counting.RecordCounts.{RecordCounts}
 use Rattle.flow_inspect.specs.declared.reporting.DomainReport.{DomainReport}
-use Rattle.flow_inspect.specs.Counting.{counts_of}
+use Rattle.flow_inspect.specs.Counting.{Inspected, counts_of, walked_of}
 use Rattle.flow_inspect.specs.Reports.{entries_after, own, report_after, report_of, reports_of}
 
 -- a look-up after a key has got a value
@@ -45,44 +45,47 @@ lookup_after {V} d k v (e ∷ es) = by (nat_eq k e.0) refl (lookup_after d k v e
         ∙ there (nat_eq d e.0) (nat_eq d k) apart
 
 -- from any entries on
-from_here : (d : ℕ) (es : List (ℕ × DomainReport)) (messages : List RawMessage)
-    → lookup (nat_eq d) (fold (λ (x : List (ℕ × DomainReport)) (m : RawMessage). entries_after x m.header
-    (counts_of m)) es messages)
-    ≡ fold (λ (r : Option DomainReport) (m : RawMessage). Some (report_after r m.header (counts_of m)))
+from_here : (d : ℕ) (es : List (ℕ × DomainReport)) (messages : List Inspected)
+    → lookup (nat_eq d) (fold (λ (x : List (ℕ × DomainReport)) (m : Inspected). entries_after x
+    (walked_of m) (counts_of m.message)) es messages)
+    ≡ fold (λ (r : Option DomainReport) (m : Inspected). Some (report_after r (walked_of m) (counts_of m.message)))
     (lookup (nat_eq d) es) (own d messages)
 from_here d es [] = refl
-from_here d es (m ∷ ms) = from_here d (entries_after es m.header counts) ms ∙ by (nat_eq d domain) refl
+from_here d es (m ∷ ms) = from_here d (entries_after es walked counts) ms ∙ by (nat_eq d domain) refl
   where
     domain : ℕ
-    domain = m.header.domain
+    domain = m.message.header.domain
+
+    walked : Walked
+    walked = walked_of m
 
     counts : RecordCounts
-    counts = counts_of m
+    counts = counts_of m.message
 
     here : Option DomainReport
     here = lookup (nat_eq d) es
 
-    goes_on : Option DomainReport → List RawMessage → Option DomainReport
+    goes_on : Option DomainReport → List Inspected → Option DomainReport
     goes_on r messages =
-        fold (λ (r : Option DomainReport) (m : RawMessage). Some (report_after r m.header (counts_of m))) r
+        fold (λ (r : Option DomainReport) (m : Inspected). Some (report_after r (walked_of m) (counts_of m.message))) r
         messages
 
-    found : lookup (nat_eq d) (entries_after es m.header counts)
-        ≡ cond (nat_eq d domain) (Some (report_after (lookup (nat_eq domain) es) m.header counts)) here
-    found = lookup_after d domain (report_after (lookup (nat_eq domain) es) m.header counts) es
+    found : lookup (nat_eq d) (entries_after es walked counts)
+        ≡ cond (nat_eq d domain) (Some (report_after (lookup (nat_eq domain) es) walked counts)) here
+    found = lookup_after d domain (report_after (lookup (nat_eq domain) es) walked counts) es
 
-    by : (b : Bool) → nat_eq d domain ≡ b → goes_on (lookup (nat_eq d) (entries_after es m.header counts)) (own d ms)
+    by : (b : Bool) → nat_eq d domain ≡ b → goes_on (lookup (nat_eq d) (entries_after es walked counts)) (own d ms)
         ≡ goes_on here (cond (nat_eq d domain) (m ∷ own d ms) (own d ms))
     by true s =
         ap (λ (r : Option DomainReport). goes_on r (own d ms))
-        (found ∙ ap (λ (b : Bool). cond b (Some (report_after (lookup (nat_eq domain) es) m.header counts)) here) s
-        ∙ ap (λ (n : ℕ). Some (report_after (lookup (nat_eq n) es) m.header counts)) (sym (eqb-true d domain s)))
+        (found ∙ ap (λ (b : Bool). cond b (Some (report_after (lookup (nat_eq domain) es) walked counts)) here) s
+        ∙ ap (λ (n : ℕ). Some (report_after (lookup (nat_eq n) es) walked counts)) (sym (eqb-true d domain s)))
         ∙ sym (ap (λ (b : Bool). goes_on here (cond b (m ∷ own d ms) (own d ms))) s)
     by false s =
         ap (λ (r : Option DomainReport). goes_on r (own d ms))
-        (found ∙ ap (λ (b : Bool). cond b (Some (report_after (lookup (nat_eq domain) es) m.header counts)) here) s)
+        (found ∙ ap (λ (b : Bool). cond b (Some (report_after (lookup (nat_eq domain) es) walked counts)) here) s)
         ∙ sym (ap (λ (b : Bool). goes_on here (cond b (m ∷ own d ms) (own d ms))) s)
 
-pub alone : (d : ℕ) (messages : List RawMessage)
+pub alone : (d : ℕ) (messages : List Inspected)
     → lookup (nat_eq d) (reports_of messages) ≡ report_of (own d messages)
 alone d messages = from_here d [] messages

@@ -17,15 +17,20 @@ use Rattle.flow_codec.specs.declared.sink.WalkError.TheVariants as walk
 use Rattle.flow_codec.specs.declared.stream.StreamError.{StreamError}
 use Rattle.flow_codec.specs.declared.stream.StreamError.TheVariants as stream
 use Rattle.flow_codec.specs.declared.message.Header.{Header}
+use Rattle.flow_codec.specs.declared.walk.UnreadSets.{UnreadSets}
+use Rattle.flow_codec.specs.declared.walk.Walked.{Walked}
 use Rattle.flow_codec.specs.declared.patient.ReadFailed.{ReadFailed}
 use Rattle.flow_codec.specs.Raw.{RawMessage, RawRecord, Placed, under}
 use Rattle.flow_codec.specs.Templates.{AllTemplates}
-use Rattle.flow_codec.specs.Message.{IsAccepted}
+use Rattle.flow_codec.specs.Message.{IsAccepted, joined}
+use Rattle.flow_codec.specs.Cutting.{IsCutOff}
+use Rattle.flow_codec.specs.Unread.{counted, unread_of}
 use Rattle.flow_codec.specs.Fault.{IsFault}
+use Rattle.std.specs.Io.KnownBytes.{Consumes, IsAtEnd}
 use Rattle.flow_codec.specs.Stream.{Progress, IsStep, IsStop, IsMessageNext}
-use Rattle.flow_codec.specs.File.{AcceptedFront, whole, broken, refused}
+use Rattle.flow_codec.specs.File.{AcceptedFront, broken, refused}
 use Rattle.flow_codec.specs.Walk.{IsWalkedBy, IsStopped}
-use Rattle.flow_codec.proofs.Following.{Follows, follows_none, follows_more, follows_end, follows_broken}
+use Rattle.flow_codec.proofs.Following.{Follows, follows_none, follows_more, follows_broken}
 use Rattle.flow_codec.proofs.Following.{follows_refused}
 use Rattle.flow_codec.proofs.Sizes.{few_records, short_enough}
 use Rattle.flow_report.specs.Refusals.{message_refusal, stream_refusal}
@@ -34,21 +39,85 @@ use Rattle.flow_report.specs.Fronts.{IsSpentFront, IsReadFront}
 use Rattle.flow_report.proofs.Reached.{IsShort, spent_at, read_up}
 use Rattle.flow_inspect.specs.declared.counting.RecordCounts.{RecordCounts}
 use Rattle.flow_inspect.specs.declared.reporting.DomainReport.{DomainReport}
+use Rattle.flow_inspect.specs.declared.lasting.Lasted.{Lasted}
 use Rattle.flow_inspect.specs.declared.span.Span.{Span}
 use Rattle.flow_inspect.specs.declared.tally.Tally.{Tally}
-use Rattle.flow_inspect.specs.Counting.{HasCounted, counts_of, is_flow, is_option, starts_of, widened}
+use Rattle.flow_inspect.specs.Lasting.{lasted_after, lastings_of, none_lasted}
+use Rattle.flow_inspect.specs.Counting.{HasCounted, Inspected, counts_of, is_flow, is_option, starts_of, walked_of}
+use Rattle.flow_inspect.specs.Counting.{widened}
 use Rattle.flow_report.specs.declared.format.Format.{Format}
 use Rattle.flow_report.specs.Formats.{heading}
 use Rattle.flow_inspect.specs.Reports.{domains_text, entries_after, report_in, report_names, reports_of, whole_of}
 use Rattle.flow_inspect.specs.Reports.{with_tally}
-use Rattle.flow_inspect.specs.Inspect.{HasReports, walk_refusal}
+use Rattle.flow_inspect.specs.Inspect.{AreInspected, HasReports, walk_refusal}
+
+-- these octets begin with these messages, and `rest` follows them
+pub record IsSeen (octets rest : List ℕ) (messages : List Inspected) (here : AllTemplates) : Type 0 where
+  pub parts : List (List ℕ)
+  pub divided : octets ≡ joined parts ++ rest
+  pub each : AreInspected [] parts messages here
+
+-- the same of a reader whose octets may be known: it began with `start`, and has `left` now
+abbrev pub Sees : Option (List ℕ) → Option (List ℕ) → List Inspected → AllTemplates → Type 0
+Sees start left messages here =
+    IfSome start (λ octets. (rest : List ℕ) × (left ≡ Some rest) × IsSeen octets rest messages here)
+
+sees_none : (start : Option (List ℕ)) → Sees start start [] []
+sees_none None = tt
+sees_none (Some octets) = (octets, refl, record { parts = []; divided = refl; each = refl })
+
+inspected_more : (before here next : AllTemplates) (parts : List (List ℕ)) (part : List ℕ) (ms : List Inspected)
+    (m : Inspected) → AreInspected before parts ms here → IsCutOff part → IsAccepted part here m.message next
+    → m.unread ≡ unread_of here part → AreInspected before (parts ++ part ∷ []) (ms ++ m ∷ []) next
+inspected_more before here next [] part [] m same cut accepted unread =
+    subst (λ (t : AllTemplates). AreInspected t (part ∷ []) (m ∷ []) next) same (next, cut, accepted, unread, refl)
+inspected_more before here next [] part (n ∷ ns) m none cut accepted unread = absurd none
+inspected_more before here next (p ∷ ps) part [] m none cut accepted unread = absurd none
+inspected_more before here next (p ∷ ps) part (n ∷ ns) m (mid, out, first, own, others) cut accepted unread =
+    (mid, out, first, own, inspected_more mid here next ps part ns m others cut accepted unread)
+
+seen_more : (octets part rest : List ℕ) (messages : List Inspected) (here next : AllTemplates) (m : Inspected)
+    → IsSeen octets (part ++ rest) messages here → IsCutOff part → IsAccepted part here m.message next
+    → m.unread ≡ unread_of here part → IsSeen octets rest (messages ++ m ∷ []) next
+seen_more octets part rest messages here next m so_far cut accepted unread =
+    let parts = so_far.parts in
+    let joint : joined (parts ++ part ∷ []) ≡ joined parts ++ part =
+    flat_map-append (λ (r : List ℕ). r) parts (part ∷ [])
+    ∙ ap (λ (xs : List ℕ). joined parts ++ xs) (append-nil part) in
+    record {
+      parts = parts ++ part ∷ [];
+      divided = so_far.divided ∙ sym (append_assoc (joined parts) part rest)
+          ∙ ap (λ (xs : List ℕ). xs ++ rest) (sym joint);
+      each = inspected_more [] here next parts part messages m so_far.each cut accepted unread;
+    }
+
+sees_more : (start : Option (List ℕ)) (old new : Progress) (messages : List Inspected) (here next : AllTemplates)
+    (m : Inspected) → Sees start old.rest messages here → IsStep old (Ok true) new
+    → IsAccepted new.message here m.message next → m.unread ≡ unread_of here new.message
+    → Sees start new.rest (messages ++ m ∷ []) next
+sees_more None old new messages here next m so_far step accepted unread = tt
+sees_more (Some octets) old new messages here next m so_far step accepted unread = by new.rest refl
+  where
+    by : (left : Option (List ℕ)) → new.rest ≡ left → (rest : List ℕ) × (new.rest ≡ Some rest)
+        × IsSeen octets rest (messages ++ m ∷ []) next
+    by None e = absurd (subst (λ (o : Option (List ℕ)). Consumes (Some so_far.0) o new.message) e
+        (subst (λ (o : Option (List ℕ)). Consumes o new.rest new.message) so_far.1 step.3))
+    by (Some left) e =
+        let parts : so_far.0 ≡ new.message ++ left =
+        subst (λ (o : Option (List ℕ)). Consumes (Some so_far.0) o new.message) e
+        (subst (λ (o : Option (List ℕ)). Consumes o new.rest new.message) so_far.1 step.3) in
+        let so : IsSeen octets (new.message ++ left) messages here =
+        subst (λ (xs : List ℕ). IsSeen octets xs messages here) parts so_far.2 in
+        (left, e, seen_more octets new.message left messages here next m so step.2 accepted unread)
 
 -- what is counted of the messages that a reader gave
 pub record HasInspected (old : Option (List ℕ)) (reader : Progress) (here : AllTemplates)
     (entries : List (ℕ × DomainReport)) : Type 0 where
-  pub messages : List RawMessage
-  pub run : Follows old reader.rest reader.at messages here
-  pub counted : reader.count ≡ length messages
+  pub plain : List RawMessage
+  pub run : Follows old reader.rest reader.at plain here
+  pub messages : List Inspected
+  pub seen : Sees old reader.rest messages here
+  pub counted : reader.count ≡ length plain
   pub going : reader.stopped ≡ None
   pub entries_are : entries ≡ reports_of messages
 
@@ -58,8 +127,10 @@ pub begun : (old : Option (List ℕ)) (reader : Progress) (here : AllTemplates) 
     → HasInspected old reader here entries
 begun old reader here entries is none empty =
     subst (λ (r : Progress). HasInspected old r here entries) (sym is) (record {
-      messages = [];
+      plain = [];
       run = subst (λ (t : AllTemplates). Follows old old 0 [] t) (sym none) (follows_none old);
+      messages = [];
+      seen = subst (λ (t : AllTemplates). Sees old old [] t) (sym none) (sees_none old);
       counted = refl;
       going = refl;
       entries_are = empty;
@@ -81,12 +152,14 @@ none_counted : (n : ℕ) → n ≡ 0 → n ≡ min (n + 0) (2 ^ 32 - 1)
 none_counted n zero = subst (λ (k : ℕ). k ≡ min (k + 0) (2 ^ 32 - 1)) (sym zero) refl
 
 pub counts_are : (m : RawMessage) (start now : RecordCounts) → start.records ≡ 0 → start.options ≡ 0
-    → start.starts ≡ None → length m.records < 65536 → HasCounted start (under m.header m.records) now
+    → start.starts ≡ None → start.lasted ≡ none_lasted
+    → length m.records < 65536 → HasCounted start (under m.header m.records) now
     → now ≡ counts_of m
-counts_are m start now none nought no_start few h =
+counts_are m start now none nought no_start no_flow few h =
     alike now (counts_of m) (of_kind is_flow start.records now.records none h.0)
     (of_kind is_option start.options now.options nought h.1)
     (h.2 ∙ ap (λ (s : Option Span). fold widened s (starts_of (under m.header m.records))) no_start)
+    (h.3 ∙ ap (λ (l : Lasted). fold lasted_after l (lastings_of (under m.header m.records))) no_flow)
   where
     of_kind : (p : RawRecord → Bool) (first last : ℕ) → first ≡ 0
         → last ≡ min (first + count_by (λ (x : Placed). p x.1) (under m.header m.records)) (2 ^ 32 - 1)
@@ -97,50 +170,63 @@ counts_are m start now none nought no_start few h =
         is ∙ ap (λ (n : ℕ). min n (2 ^ 32 - 1)) (omega (arith, zero, same))
         ∙ min-eq_left (omega (arith, le, few))
 
-    of_three : ℕ → ℕ → Option Span → RecordCounts
-    of_three x y s = record { records = x; options = y; starts = s }
+    of_four : ℕ → ℕ → Option Span → Lasted → RecordCounts
+    of_four x y s l = record { records = x; options = y; starts = s; lasted = l }
 
-    alike : (a b : RecordCounts) → a.records ≡ b.records → a.options ≡ b.options → a.starts ≡ b.starts → a ≡ b
-    alike a b records options starts =
-        ap₂ (λ (x y : ℕ). of_three x y a.starts) records options
-        ∙ ap (λ (s : Option Span). of_three b.records b.options s) starts
+    alike : (a b : RecordCounts) → a.records ≡ b.records → a.options ≡ b.options → a.starts ≡ b.starts
+        → a.lasted ≡ b.lasted → a ≡ b
+    alike a b records options starts lasted =
+        ap₂ (λ (x y : ℕ). of_four x y a.starts a.lasted) records options
+        ∙ ap₂ (λ (s : Option Span) (l : Lasted). of_four b.records b.options s l) starts lasted
 
 -- one message more
 pub stepped : (old : Option (List ℕ)) (r0 r1 : Progress) (h0 h1 : AllTemplates)
-    (before after : List (ℕ × DomainReport)) (start now : RecordCounts) (header : Header) (octets : List ℕ)
+    (before after : List (ℕ × DomainReport)) (start now : RecordCounts) (walked : Walked) (octets : List ℕ)
     → HasInspected old r0 h0 before → IsStep r0 (Ok true) r1 → octets ≡ r1.message
-    → start.records ≡ 0 → start.options ≡ 0 → start.starts ≡ None
-    → IsWalkedBy HasCounted octets h0 h1 start now header
-    → after ≡ entries_after before header now → HasInspected old r1 h1 after
-stepped old r0 r1 h0 h1 before after start now header octets s step is none nought no_start walked grown =
-    let m : RawMessage = record { header = header; records = walked.0 } in
-    let accepted : IsAccepted r1.message h0 m h1 = subst (λ (o : List ℕ). IsAccepted o h0 m h1) is walked.1 in
-    let took = walked.2 start [] (none_counted start.records none, none_counted start.options nought, refl) in
+    → start.records ≡ 0 → start.options ≡ 0 → start.starts ≡ None → start.lasted ≡ none_lasted
+    → IsWalkedBy HasCounted octets h0 h1 start now walked.header → walked.unread ≡ counted (unread_of h0 octets)
+    → after ≡ entries_after before walked now → HasInspected old r1 h1 after
+stepped old r0 r1 h0 h1 before after start now walked octets s step is none nought no_start no_flow found unread grown =
+    let m : RawMessage = record { header = walked.header; records = found.0 } in
+    let whole : Inspected = record { message = m; unread = unread_of h0 r1.message } in
+    let accepted : IsAccepted r1.message h0 m h1 = subst (λ (o : List ℕ). IsAccepted o h0 m h1) is found.1 in
+    let took = found.2 start [] (none_counted start.records none, none_counted start.options nought, refl, refl) in
     let records = few_records r1.message h0 m h1 accepted.0 in
     let short = short_enough r1.message h0 m h1 accepted.0 in
-    let counts = counts_are m start now none nought no_start (omega (arith, records, short.1)) took in
+    let counts = counts_are m start now none nought no_start no_flow (omega (arith, records, short.1)) took in
+    let walked_is : walked ≡ walked_of whole = ap (λ (u : UnreadSets). of_two walked.header u)
+    (unread ∙ ap (λ (o : List ℕ). counted (unread_of h0 o)) is) in
     record {
-      messages = s.messages ++ m ∷ [];
-      run = follows_more old r0 r1 s.messages h0 h1 m s.run step accepted;
-      counted = omega (arith, s.counted, step.4, length-append s.messages (m ∷ []));
+      plain = s.plain ++ m ∷ [];
+      run = follows_more old r0 r1 s.plain h0 h1 m s.run step accepted;
+      messages = s.messages ++ whole ∷ [];
+      seen = sees_more old r0 r1 s.messages h0 h1 whole s.seen step accepted refl;
+      counted = omega (arith, s.counted, step.4, length-append s.plain (m ∷ []));
       going = step.1;
       entries_are =
-          grown ∙ ap₂ (λ (es : List (ℕ × DomainReport)) (c : RecordCounts). entries_after es header c) s.entries_are counts
-          ∙ sym (fold-append (λ (es : List (ℕ × DomainReport)) (x : RawMessage).
-          entries_after es x.header (counts_of x)) [] s.messages (m ∷ []));
+          grown ∙ ap (λ (w : Walked). entries_after before w now) walked_is
+          ∙ ap₂ (λ (es : List (ℕ × DomainReport)) (c : RecordCounts). entries_after es (walked_of whole) c)
+          s.entries_are counts
+          ∙ sym (fold-append (λ (es : List (ℕ × DomainReport)) (x : Inspected).
+          entries_after es (walked_of x) (counts_of x.message)) [] s.messages (whole ∷ []));
     }
+  where
+    of_two : Header → UnreadSets → Walked
+    of_two header unread = record { header = header; unread = unread }
 
 -- at the File's end this is counted of all
 pub ended : (old : Option (List ℕ)) (reader next : Progress) (here : AllTemplates) (entries : List (ℕ × DomainReport))
     → HasInspected old reader here entries → IsStep reader (Ok false) next
     → IfSome old (λ octets. HasReports octets entries)
-ended old reader next here entries h step =
-    with_front old (follows_end old reader next h.messages here h.run step)
+ended old reader next here entries h step = by old h.seen
   where
-    with_front : (o : Option (List ℕ)) → IfSome o (λ octets. AcceptedFront octets h.messages here whole)
-        → IfSome o (λ octets. HasReports octets entries)
-    with_front None f = tt
-    with_front (Some octets) f = (h.messages, here, f, h.entries_are)
+    by : (o : Option (List ℕ)) → Sees o reader.rest h.messages here → IfSome o (λ octets. HasReports octets entries)
+    by None seen = tt
+    by (Some octets) (rest, left, seen) =
+        let none : rest ≡ [] = subst (λ (o : Option (List ℕ)). IsAtEnd o) left step.3 in
+        let all : octets ≡ joined seen.parts = seen.divided ∙ ap (λ (xs : List ℕ). joined seen.parts ++ xs) none
+        ∙ append-nil (joined seen.parts) in
+        (h.messages, (seen.parts, here, all, seen.each), h.entries_are)
 
 -- the line of one domain more
 pub one_line_more : (format : Format) (entries : List (ℕ × DomainReport)) (i : ℕ) (e : ℕ × DomainReport)
@@ -202,16 +288,16 @@ stopped_at holds refuses old left r0 r1 h0 entries start octets (walk.Message fa
     subst (λ (e : MessageError). IfSome old (λ file. IsRefusedBy file left (message_refusal e r1.count))) (sym none)
     (always old)
 stopped_at holds refuses old left r0 r1 h0 entries start octets (walk.Message fault) s step is (inr faulty) =
-    with_front old (follows_refused old r0 r1 s.messages h0 fault s.run step
+    with_front old (follows_refused old r0 r1 s.plain h0 fault s.run step
     (subst (λ (o : List ℕ). IsFault o h0 fault) is faulty))
   where
-    number : r1.count ≡ length s.messages + 1
+    number : r1.count ≡ length s.plain + 1
     number = omega (arith, step.4, s.counted)
 
-    with_front : (o : Option (List ℕ)) → IfSome o (λ file. AcceptedFront file s.messages h0 (refused fault))
+    with_front : (o : Option (List ℕ)) → IfSome o (λ file. AcceptedFront file s.plain h0 (refused fault))
         → IfSome o (λ file. IsRefusedBy file left (message_refusal fault r1.count))
     with_front None f = tt
-    with_front (Some file) f = as_message fault r1.count file left (s.messages, h0, f, number)
+    with_front (Some file) f = as_message fault r1.count file left (s.plain, h0, f, number)
 
 -- the reader stops
 pub ended_by : (old left : Option (List ℕ)) (ahead : List ℕ) (r0 r1 : Progress) (h0 : AllTemplates)
@@ -222,15 +308,15 @@ pub ended_by : (old left : Option (List ℕ)) (ahead : List ℕ) (r0 r1 : Progre
 ended_by old left ahead r0 r1 h0 entries e s step short = by e step short
   where
     broke : (o : Option (List ℕ)) (fault : FileError)
-        → IfSome o (λ file. AcceptedFront file s.messages h0 (broken fault))
+        → IfSome o (λ file. AcceptedFront file s.plain h0 (broken fault))
         → IfSome o (λ file. IsRefusedBy file left (stream_refusal (stream.File fault)))
     broke None fault f = tt
-    broke (Some file) fault f = (s.messages, h0, f)
+    broke (Some file) fault f = (s.plain, h0, f)
 
-    spent : (o : Option (List ℕ)) → IfSome o (λ file. IsSpentFront file s.messages)
+    spent : (o : Option (List ℕ)) → IfSome o (λ file. IsSpentFront file s.plain)
         → IfSome o (λ file. IsRefusedBy file left (stream_refusal stream.NumbersSpent))
     spent None f = tt
-    spent (Some file) f = (s.messages, f)
+    spent (Some file) f = (s.plain, f)
 
     full : (r0.stopped ≡ Some stream.NumbersSpent)
         ⊎ ((r0.stopped ≡ None) × IsStop r0.count r0.at r0.rest stream.NumbersSpent)
@@ -238,18 +324,18 @@ ended_by old left ahead r0 r1 h0 entries e s step short = by e step short
     full (inl was) = let none = sym s.going ∙ was in absurd cc
     full (inr h) = h.1
 
-    all : (o : Option (List ℕ)) (failed : ReadFailed) → IfSome o (λ file. IsReadFront file left s.messages)
+    all : (o : Option (List ℕ)) (failed : ReadFailed) → IfSome o (λ file. IsReadFront file left s.plain)
         → IfSome o (λ file. IsRefusedBy file left (stream_refusal (stream.Read failed)))
     all None failed f = tt
-    all (Some file) failed f = (s.messages, f)
+    all (Some file) failed f = (s.plain, f)
 
     by : (e : StreamError) → IsStep r0 (Err e) r1
         → ((failed : ReadFailed) → e ≡ stream.Read failed → IsShort r0 ahead left)
         → IfSome old (λ file. IsRefusedBy file left (stream_refusal e))
     by (stream.File fault) step short = broke old fault
-        (follows_broken old r0 r1 s.messages h0 fault s.going s.run step)
+        (follows_broken old r0 r1 s.plain h0 fault s.going s.run step)
     by (stream.Read failed) step short =
         let ahead_is = short failed refl in
-        all old failed (read_up old r0.rest left r0.at s.messages h0 ahead s.run ahead_is.0 ahead_is.1)
+        all old failed (read_up old r0.rest left r0.at s.plain h0 ahead s.run ahead_is.0 ahead_is.1)
     by stream.NumbersSpent step short = let h = full step.0 in
-        spent old (spent_at old r0.rest r0.at s.messages h0 s.run (sym s.counted ∙ h.0) h.1)
+        spent old (spent_at old r0.rest r0.at s.plain h0 s.run (sym s.counted ∙ h.0) h.1)

@@ -1,3 +1,4 @@
+pub mod EndsLoop
 pub mod Following
 pub mod Alone
 pub mod Taking

@@ -1,7 +1,10 @@
 -- One record more, for what counts records.
-use Rattle.std.proofs.Common.{◌≡◌, ◌∙◌, ℕ, ◌+◌, ◌-◌, ◌^◌, Bool, List, [], ◌∷◌, ◌++◌, Option, map, sym, ap, arith}
+use Rattle.std.proofs.Common.{◌≡◌, ◌∙◌, ℕ, ◌+◌, ◌-◌, ◌^◌, Bool, List, [], ◌∷◌, ◌++◌, Option, Some, None, map, sym, ap}
+use Rattle.std.proofs.Common.{refl, arith}
 use Rattle.std.specs.Prelude.{true, false, not, cond, min, count_by, fold}
-use Rattle.std.proofs.lemmas.List.{map-append}
+use Rattle.std.specs.List.{cons_option}
+use Rattle.std.proofs.lemmas.List.Elements.{filter_map-append}
+use Rattle.std.proofs.lemmas.List.{append-nil, map-append}
 use Rattle.std.proofs.lemmas.List.Sums.{fold-append}
 use Rattle.flow_codec.specs.declared.message.Header.{Header}
 use Rattle.flow_codec.specs.Fields.{fields_in}
@@ -13,6 +16,8 @@ use Rattle.flow_measure.specs.Flows.{flow_from, flows_of_records}
 use Rattle.flow_measure.proofs.SinkSteps.{one_more, none_more}
 use Rattle.flow_inspect.specs.declared.counting.RecordCounts.{RecordCounts}
 use Rattle.flow_inspect.specs.declared.span.Span.{Span}
+use Rattle.flow_inspect.specs.declared.lasting.Lasted.{Lasted}
+use Rattle.flow_inspect.specs.Lasting.{ends_of, lasted_after, lasting, lasting_of, lastings_of, with_lasting}
 use Rattle.flow_inspect.specs.Counting.{HasCounted, is_flow, is_option, starts_of, widened}
 
 -- a count of those that hold, with one more that does
@@ -38,28 +43,60 @@ module _ (start : RecordCounts) (taken : List Placed) (header : Header) (id : �
   abbrev x : Placed
   x = (header, raw id layout octets)
 
+  -- a record that isn't a flow, or has no start or no end
+  no_lasting : lasting_of x ≡ None → lastings_of (taken ++ x ∷ []) ≡ lastings_of taken
+  no_lasting none = filter_map-append lasting_of taken (x ∷ [])
+      ∙ ap (λ (o : Option ℕ). lastings_of taken ++ cons_option o []) none ∙ append-nil (lastings_of taken)
+
   -- a record of an Options Template
   pub option_more : layout.options ≡ true → (options : ℕ) → options ≡ min (old.options + 1) (2 ^ 32 - 1)
-      → HasCounted start (taken ++ x ∷ []) (record { records = old.records; options = options; starts = old.starts })
-  option_more kind options is = (
-    stayed (λ y. is_flow y.1) taken x start.records old.records (ap not kind) took.0,
-    risen (λ y. is_option y.1) taken x start.options old.options options kind took.1 is,
-    took.2 ∙ ap (λ (fs : List Flow). fold widened start.starts (map (λ (f : Flow). f.start) fs))
-        (sym (none_more taken header id layout octets kind)),
-  )
+      → HasCounted start (taken ++ x ∷ []) (record old { options = options })
+  option_more kind options is =
+      let none : lasting_of x ≡ None = rw kind refl in (
+        stayed (λ y. is_flow y.1) taken x start.records old.records (ap not kind) took.0,
+        risen (λ y. is_option y.1) taken x start.options old.options options kind took.1 is,
+        took.2 ∙ ap (λ (fs : List Flow). fold widened start.starts (map (λ (f : Flow). f.start) fs))
+            (sym (none_more taken header id layout octets kind)),
+        took.3 ∙ ap (fold lasted_after start.lasted) (sym (no_lasting none)),
+      )
+
+  -- how long one flow more lasts
+  lasted_more : layout.options ≡ false → (lasted : Lasted)
+      → lasted ≡ with_lasting old.lasted (lasting (ends_of (fields_in layout.fields octets)))
+      → lasted ≡ fold lasted_after start.lasted (lastings_of (taken ++ x ∷ []))
+  lasted_more kind lasted is = by (lasting (ends_of (fields_in layout.fields octets))) refl
+    where
+      own : lasting_of x ≡ lasting (ends_of (fields_in layout.fields octets))
+      own = rw kind refl
+
+      by : (o : Option ℕ) → lasting (ends_of (fields_in layout.fields octets)) ≡ o
+          → lasted ≡ fold lasted_after start.lasted (lastings_of (taken ++ x ∷ []))
+      by None none =
+          is ∙ ap (with_lasting old.lasted) none ∙ took.3
+          ∙ ap (fold lasted_after start.lasted) (sym (no_lasting (own ∙ none)))
+      by (Some seconds) some =
+          let all : lastings_of (taken ++ x ∷ []) ≡ lastings_of taken ++ seconds ∷ [] =
+          filter_map-append lasting_of taken (x ∷ [])
+          ∙ ap (λ (o : Option ℕ). lastings_of taken ++ cons_option o []) (own ∙ some) in
+          is ∙ ap (with_lasting old.lasted) some ∙ ap (λ (l : Lasted). lasted_after l seconds) took.3
+          ∙ sym (ap (fold lasted_after start.lasted) all
+          ∙ fold-append lasted_after start.lasted (lastings_of taken) (seconds ∷ []))
 
   -- a record of a Template
   pub flow_more : layout.options ≡ false → (records : ℕ) → records ≡ min (old.records + 1) (2 ^ 32 - 1) → (flow : Flow)
       → flow ≡ flow_from header (values_of (fields_in layout.fields octets)) → (starts : Option Span)
-      → starts ≡ widened old.starts flow.start
-      → HasCounted start (taken ++ x ∷ []) (record { records = records; options = old.options; starts = starts })
-  flow_more kind records is flow flow_is starts starts_are = (
+      → starts ≡ widened old.starts flow.start → (lasted : Lasted)
+      → lasted ≡ with_lasting old.lasted (lasting (ends_of (fields_in layout.fields octets)))
+      → HasCounted start (taken ++ x ∷ [])
+      (record { records = records; options = old.options; starts = starts; lasted = lasted })
+  flow_more kind records is flow flow_is starts starts_are lasted lasted_is = (
     risen (λ y. is_flow y.1) taken x start.records old.records records (ap not kind) took.0 is,
     stayed (λ y. is_option y.1) taken x start.options old.options kind took.1,
     starts_are ∙ ap (λ (s : Option Span). widened s flow.start) took.2
         ∙ sym (ap (λ (fs : List Flow). fold widened start.starts (map (λ (f : Flow). f.start) fs)) all
         ∙ ap (fold widened start.starts) (map-append (λ (f : Flow). f.start) (flows_of_records taken) (flow ∷ []))
         ∙ fold-append widened start.starts (starts_of taken) (flow.start ∷ [])),
+    lasted_more kind lasted lasted_is,
   )
     where
       all : flows_of_records (taken ++ x ∷ []) ≡ flows_of_records taken ++ flow ∷ []

@@ -1,9 +1,13 @@
 -- The data records of messages, by the kind of their definition, and when their flows start.
 use Rattle.std.specs.Prelude.{◌≡◌, ◌+◌, ◌-◌, ◌^◌, ℕ, min, max, Bool, not, List, Option, Some, None, count_by, fold, map}
+use Rattle.flow_codec.specs.declared.walk.Walked.{Walked}
 use Rattle.flow_codec.specs.Raw.{Placed, RawRecord, RawMessage, under}
+use Rattle.flow_codec.specs.Message.{Division}
+use Rattle.flow_codec.specs.Unread.{counted}
 use Rattle.flow_measure.specs.Flows.{flows_of_records}
 use Rattle.flow_inspect.specs.declared.counting.RecordCounts.{RecordCounts}
 use Rattle.flow_inspect.specs.declared.span.Span.{Span}
+use Rattle.flow_inspect.specs.Lasting.{lasted_after, lastings_of, none_lasted}
 
 -- a record of a Template, and one of an Options Template
 abbrev pub is_option : RawRecord → Bool
@@ -35,12 +39,23 @@ starts_of taken = map (λ flow. flow.start) (flows_of_records taken)
 
 -- ---- counts
 
--- The counts have risen by these records; they stop at 2^32 - 1. The span has widened by the starts of their flows.
+-- The counts have risen by these records; they stop at 2^32 - 1. The span has widened by the starts of their flows, and
+-- how long these last is counted.
 abbrev pub HasCounted : RecordCounts → List Placed → RecordCounts → Type 0
 HasCounted start taken now =
     (now.records ≡ min (start.records + count_by (λ x. is_flow x.1) taken) (2 ^ 32 - 1))
     × (now.options ≡ min (start.options + count_by (λ x. is_option x.1) taken) (2 ^ 32 - 1))
     × (now.starts ≡ fold widened start.starts (starts_of taken))
+    × (now.lasted ≡ fold lasted_after start.lasted (lastings_of taken))
+
+-- a message, beside its data Sets without a definition in force
+pub record Inspected : Type 0 where
+  pub message : RawMessage
+  pub unread : List Division
+
+-- its header, and how many such Sets it has
+abbrev pub walked_of : Inspected → Walked
+walked_of m = record { header = m.message.header; unread = counted m.unread }
 
 -- the data records of a message
 abbrev pub counts_of : RawMessage → RecordCounts
@@ -48,4 +63,5 @@ counts_of m = record {
   records = count_by is_flow m.records;
   options = count_by is_option m.records;
   starts = span_of (starts_of (under m.header m.records));
+  lasted = fold lasted_after none_lasted (lastings_of (under m.header m.records));
 }

@@ -1,12 +1,13 @@
 -- What `inspect` answers of a File.
-use Rattle.std.specs.Prelude.{◌≡◌, ℕ, List, Option, IfSome}
+use Rattle.std.specs.Prelude.{◌≡◌, ℕ, List, [], ◌∷◌, Option, IfSome}
 use Rattle.std.specs.Io.KnownBytes.{Keeps}
 use Rattle.std.specs.declared.convert.Infallible.{Infallible}
 use Rattle.flow_codec.specs.declared.sink.WalkError.{WalkError}
 use Rattle.flow_codec.specs.declared.sink.WalkError.TheVariants as walk
-use Rattle.flow_codec.specs.Raw.{RawMessage}
 use Rattle.flow_codec.specs.Templates.{AllTemplates}
-use Rattle.flow_codec.specs.File.{AcceptedFront, whole}
+use Rattle.flow_codec.specs.Message.{IsAccepted, joined}
+use Rattle.flow_codec.specs.Cutting.{IsCutOff}
+use Rattle.flow_codec.specs.Unread.{unread_of}
 use Rattle.flow_report.specs.declared.format.Format.{Format}
 use Rattle.flow_report.specs.declared.refusal.Refusal.{Refusal}
 use Rattle.flow_report.specs.declared.refusal.Refusal.TheVariants.{Message, File, OutOfMemory, SumSpent, NumbersSpent}
@@ -14,6 +15,7 @@ use Rattle.flow_report.specs.declared.refusal.Refusal.TheVariants.{Read, Write}
 use Rattle.flow_report.specs.Refusals.{message_refusal}
 use Rattle.flow_report.specs.Writing.{AppendsFront}
 use Rattle.flow_inspect.specs.declared.reporting.DomainReport.{DomainReport}
+use Rattle.flow_inspect.specs.Counting.{Inspected}
 use Rattle.flow_inspect.specs.Reports.{reports_of, reports_text}
 
 -- what counts records refuses none
@@ -21,15 +23,28 @@ abbrev pub walk_refusal : WalkError Infallible → ℕ → Refusal
 walk_refusal (walk.Message fault) number = message_refusal fault number
 walk_refusal (walk.Sink never) number = OutOfMemory
 
+-- the messages of a File in turn, each accepted under the templates of those before it, and its data Sets without a
+-- definition in force
+abbrev pub AreInspected : AllTemplates → List (List ℕ) → List Inspected → AllTemplates → Type 0
+AreInspected before [] [] after = after ≡ before
+AreInspected before [] (m ∷ ms) after = ⊥
+AreInspected before (o ∷ os) [] after = ⊥
+AreInspected before (o ∷ os) (m ∷ ms) after = (next : AllTemplates) × IsCutOff o × IsAccepted o before m.message next
+    × (m.unread ≡ unread_of before o) × AreInspected next os ms after
+
+-- the octets are a whole File of these messages, which are accepted
+abbrev pub IsWhole : List ℕ → List Inspected → Type 0
+IsWhole octets messages = (parts : List (List ℕ)) × (after : AllTemplates) × (octets ≡ joined parts)
+    × AreInspected [] parts messages after
+
 -- the octets are a whole File of accepted messages, and this is counted of its domains
 abbrev pub HasReports : List ℕ → List (ℕ × DomainReport) → Type 0
-HasReports octets entries = (messages : List RawMessage) × (after : AllTemplates)
-    × AcceptedFront octets messages after whole × (entries ≡ reports_of messages)
+HasReports octets entries = (messages : List Inspected) × IsWhole octets messages × (entries ≡ reports_of messages)
 
 -- the octets are a whole File of accepted messages, and these are the lines of its domains, in words with one of all
 abbrev pub HasLines : Format → List ℕ → List ℕ → Type 0
-HasLines format octets lines = (messages : List RawMessage) × (after : AllTemplates)
-    × AcceptedFront octets messages after whole × (lines ≡ reports_text format (reports_of messages))
+HasLines format octets lines = (messages : List Inspected) × IsWhole octets messages
+    × (lines ≡ reports_text format (reports_of messages))
 
 -- What a writer holds after a refusal: what it held, or, where writing failed, a prefix of the lines besides.
 abbrev pub KeepsOrFront : Format → Option (List ℕ) → Option (List ℕ) → Option (List ℕ) → Refusal → Type 0

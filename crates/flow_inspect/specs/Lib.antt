@@ -1,3 +1,4 @@
+pub mod Lasting
 pub mod Counting
 pub mod Reports
 pub mod Inspect

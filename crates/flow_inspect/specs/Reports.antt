@@ -6,18 +6,20 @@ use Rattle.std.specs.Fmt.{decimal}
 use Rattle.std.specs.Map.{lookup}
 use Rattle.indexmap.specs.IndexMap.{insert_entry}
 use Rattle.flow_codec.specs.declared.message.Header.{Header}
-use Rattle.flow_codec.specs.Raw.{RawMessage}
+use Rattle.flow_codec.specs.declared.walk.Walked.{Walked}
 use Rattle.flow_report.specs.declared.format.Format.{Format}
 use Rattle.flow_report.specs.declared.format.Layout.{Layout}
 use Rattle.flow_report.specs.declared.format.Layout.TheVariants.{Lines, Csv, Json}
 use Rattle.flow_report.specs.declared.format.Times.{Times}
-use Rattle.flow_report.specs.Formats.{Named, heading, line_in, second_text, time_or_none}
+use Rattle.flow_report.specs.Formats.{Named, heading, line_in, number_or_none, second_text, time_or_none}
 use Rattle.flow_report.specs.Formats.Value.{Number, Time}
 use Rattle.flow_inspect.specs.declared.counting.RecordCounts.{RecordCounts}
 use Rattle.flow_inspect.specs.declared.reporting.DomainReport.{DomainReport}
 use Rattle.flow_inspect.specs.declared.span.Span.{Span}
 use Rattle.flow_inspect.specs.declared.tally.Tally.{Tally}
-use Rattle.flow_inspect.specs.Counting.{counts_of, hull}
+use Rattle.flow_inspect.specs.declared.lasting.Lasted.{Lasted}
+use Rattle.flow_inspect.specs.Lasting.{both_lasted}
+use Rattle.flow_inspect.specs.Counting.{Inspected, counts_of, hull, walked_of}
 
 -- counts stop at 2^64 - 1
 abbrev pub plus : ℕ → ℕ → ℕ
@@ -40,66 +42,72 @@ abbrev pub is_before : ℕ → Bool
 is_before n = nat_le (2 ^ 31) n
 
 -- a domain's first message
-abbrev pub begun : Header → RecordCounts → DomainReport
-begun header counts = record {
+abbrev pub begun : Walked → RecordCounts → DomainReport
+begun walked counts = record {
   tally = record {
     messages = 1;
     records = counts.records;
     options = counts.options;
+    unread = walked.unread.sets;
+    unread_octets = walked.unread.octets;
     gaps = 0;
     missing = 0;
     backwards = 0;
-    first = header.time;
-    last = header.time;
+    first = walked.header.time;
+    last = walked.header.time;
     starts = counts.starts;
+    lasted = counts.lasted;
   };
-  due = due_after header counts;
+  due = due_after walked.header counts;
 }
 
 -- one message more, which is so far past the due number
-abbrev pub tally_after : Tally → ℕ → Header → RecordCounts → Tally
-tally_after tally far header counts = record {
+abbrev pub tally_after : Tally → ℕ → Walked → RecordCounts → Tally
+tally_after tally far walked counts = record {
   messages = plus tally.messages 1;
   records = plus tally.records counts.records;
   options = plus tally.options counts.options;
+  unread = plus tally.unread walked.unread.sets;
+  unread_octets = plus tally.unread_octets walked.unread.octets;
   gaps = if is_past far then plus tally.gaps 1 else tally.gaps;
   missing = if is_past far then plus tally.missing far else tally.missing;
   backwards = if is_before far then plus tally.backwards 1 else tally.backwards;
-  first = min tally.first header.time;
-  last = max tally.last header.time;
+  first = min tally.first walked.header.time;
+  last = max tally.last walked.header.time;
   starts = hull tally.starts counts.starts;
+  lasted = both_lasted tally.lasted counts.lasted;
 }
 
-abbrev pub continued : DomainReport → Header → RecordCounts → DomainReport
-continued report header counts = record {
-  tally = tally_after report.tally (distance report.due header.sequence) header counts;
-  due = due_after header counts;
+abbrev pub continued : DomainReport → Walked → RecordCounts → DomainReport
+continued report walked counts = record {
+  tally = tally_after report.tally (distance report.due walked.header.sequence) walked counts;
+  due = due_after walked.header counts;
 }
 
-abbrev pub report_after : Option DomainReport → Header → RecordCounts → DomainReport
-report_after None header counts = begun header counts
-report_after (Some report) header counts = continued report header counts
+abbrev pub report_after : Option DomainReport → Walked → RecordCounts → DomainReport
+report_after None walked counts = begun walked counts
+report_after (Some report) walked counts = continued report walked counts
 
 -- ---- of all domains
 
 -- A message counts for its own domain alone. Domains are in the order of their first messages.
-abbrev pub entries_after : List (ℕ × DomainReport) → Header → RecordCounts → List (ℕ × DomainReport)
-entries_after entries header counts =
-    insert_entry nat_eq entries header.domain
-    (report_after (lookup (nat_eq header.domain) entries) header counts)
+abbrev pub entries_after : List (ℕ × DomainReport) → Walked → RecordCounts → List (ℕ × DomainReport)
+entries_after entries walked counts =
+    insert_entry nat_eq entries walked.header.domain
+    (report_after (lookup (nat_eq walked.header.domain) entries) walked counts)
 
-abbrev pub reports_of : List RawMessage → List (ℕ × DomainReport)
-reports_of messages = fold (λ entries m. entries_after entries m.header (counts_of m)) [] messages
+abbrev pub reports_of : List Inspected → List (ℕ × DomainReport)
+reports_of messages = fold (λ entries m. entries_after entries (walked_of m) (counts_of m.message)) [] messages
 
 -- ---- of one domain
 
 -- the messages of a domain
-abbrev pub own : ℕ → List RawMessage → List RawMessage
-own domain messages = filter (λ m. nat_eq domain m.header.domain) messages
+abbrev pub own : ℕ → List Inspected → List Inspected
+own domain messages = filter (λ m. nat_eq domain m.message.header.domain) messages
 
 -- what is counted of messages of one domain, one after the other; nothing where there is none
-abbrev pub report_of : List RawMessage → Option DomainReport
-report_of messages = fold (λ report m. Some (report_after report m.header (counts_of m))) None messages
+abbrev pub report_of : List Inspected → Option DomainReport
+report_of messages = fold (λ report m. Some (report_after report (walked_of m) (counts_of m.message))) None messages
 
 -- ---- of the whole File
 
@@ -109,12 +117,15 @@ together a b = record {
   messages = plus a.messages b.messages;
   records = plus a.records b.records;
   options = plus a.options b.options;
+  unread = plus a.unread b.unread;
+  unread_octets = plus a.unread_octets b.unread_octets;
   gaps = plus a.gaps b.gaps;
   missing = plus a.missing b.missing;
   backwards = plus a.backwards b.backwards;
   first = min a.first b.first;
   last = max a.last b.last;
   starts = hull a.starts b.starts;
+  lasted = both_lasted a.lasted b.lasted;
 }
 
 abbrev pub with_tally : Option Tally → Tally → Tally
@@ -127,11 +138,12 @@ whole_of entries = fold (λ whole e. Some (with_tally whole e.1.tally)) None ent
 
 -- ---- lines
 
--- how many messages and data records
+-- how many messages and data records, and how many data Sets without a definition in force and octets of these
 unfoldable pub counts_text : Tally → List ℕ
 counts_text tally =
     codes " messages" ++ 32 ∷ decimal tally.messages ++ codes " records" ++ 32 ∷ decimal tally.records
-    ++ codes " options" ++ 32 ∷ decimal tally.options
+    ++ codes " options" ++ 32 ∷ decimal tally.options ++ codes " unread" ++ 32 ∷ decimal tally.unread
+    ++ 32 ∷ decimal tally.unread_octets
 
 -- how the Sequence Numbers follow
 unfoldable pub sequence_text : Tally → List ℕ
@@ -145,11 +157,21 @@ starts_text times None = codes " starts - -"
 starts_text times (Some span) =
     codes " starts" ++ 32 ∷ second_text times span.first ++ 32 ∷ second_text times span.last
 
--- messages N records N options N gaps N missing N backwards N from TIME to TIME starts FIRST LAST, with a line feed
+-- how long the flows last
+abbrev pub longest_text : Option ℕ → List ℕ
+longest_text None = codes " longest -"
+longest_text (Some seconds) = codes " longest" ++ 32 ∷ decimal seconds
+
+unfoldable pub lasted_text : Lasted → List ℕ
+lasted_text lasted = longest_text lasted.longest ++ codes " long" ++ 32 ∷ decimal lasted.long
+
+-- messages N records N options N unread SETS OCTETS gaps N missing N backwards N from TIME to TIME starts FIRST LAST
+-- longest SECONDS long N, with a line feed
 unfoldable pub tally_text : Times → Tally → List ℕ
 tally_text times tally =
     counts_text tally ++ sequence_text tally ++ codes " from" ++ 32 ∷ second_text times tally.first
-    ++ codes " to" ++ 32 ∷ second_text times tally.last ++ starts_text times tally.starts ++ 10 ∷ []
+    ++ codes " to" ++ 32 ∷ second_text times tally.last ++ starts_text times tally.starts ++ lasted_text tally.lasted
+    ++ 10 ∷ []
 
 -- domain DOMAIN, and what is counted of it
 unfoldable pub report_line : Times → ℕ × DomainReport → List ℕ
@@ -160,15 +182,19 @@ abbrev pub report_values : ℕ × DomainReport → List Named
 report_values e =
     let t = e.1.tally in
     (codes "domain", Number e.0) ∷ (codes "messages", Number t.messages) ∷ (codes "records", Number t.records)
-    ∷ (codes "options", Number t.options) ∷ (codes "gaps", Number t.gaps) ∷ (codes "missing", Number t.missing)
-    ∷ (codes "backwards", Number t.backwards) ∷ (codes "from", Time t.first) ∷ (codes "to", Time t.last)
+    ∷ (codes "options", Number t.options) ∷ (codes "unread_sets", Number t.unread)
+    ∷ (codes "unread_octets", Number t.unread_octets) ∷ (codes "gaps", Number t.gaps)
+    ∷ (codes "missing", Number t.missing) ∷ (codes "backwards", Number t.backwards) ∷ (codes "from", Time t.first)
+    ∷ (codes "to", Time t.last)
     ∷ (codes "first", time_or_none (option_map (λ span. span.first) t.starts))
-    ∷ (codes "last", time_or_none (option_map (λ span. span.last) t.starts)) ∷ []
+    ∷ (codes "last", time_or_none (option_map (λ span. span.last) t.starts))
+    ∷ (codes "longest", number_or_none t.lasted.longest) ∷ (codes "long", Number t.lasted.long) ∷ []
 
 abbrev pub report_names : List (List ℕ)
 report_names =
-    codes "domain" ∷ codes "messages" ∷ codes "records" ∷ codes "options" ∷ codes "gaps" ∷ codes "missing"
-    ∷ codes "backwards" ∷ codes "from" ∷ codes "to" ∷ codes "first" ∷ codes "last" ∷ []
+    codes "domain" ∷ codes "messages" ∷ codes "records" ∷ codes "options" ∷ codes "unread_sets" ∷ codes "unread_octets"
+    ∷ codes "gaps" ∷ codes "missing" ∷ codes "backwards" ∷ codes "from" ∷ codes "to" ∷ codes "first" ∷ codes "last"
+    ∷ codes "longest" ∷ codes "long" ∷ []
 
 -- the line of a domain in a format
 abbrev pub report_by : Layout → Format → ℕ × DomainReport → List ℕ
@@ -182,7 +208,8 @@ report_in format e = report_by format.layout format e
 -- all domains N, and what is counted of all together
 unfoldable pub whole_line : Times → ℕ → Option Tally → List ℕ
 whole_line times domains None =
-    codes "all domains 0 messages 0 records 0 options 0 gaps 0 missing 0 backwards 0 from - to - starts - -\n"
+    codes "all domains 0 messages 0 records 0 options 0 unread 0 0 gaps 0 missing 0 backwards 0"
+    ++ codes " from - to - starts - - longest - long 0\n"
 whole_line times domains (Some whole) = codes "all domains" ++ 32 ∷ decimal domains ++ tally_text times whole
 
 -- the line of the whole File, which is in words alone

@@ -1,13 +1,16 @@
 //! The data records of a message.
 
 ghost use Rattle.std.specs.Prelude.{◌≡◌};
+ghost use Rattle.flow_codec.specs.Fields.{fields_in};
+ghost use Rattle.flow_inspect.specs.Lasting.{ends_of, lasting, with_lasting};
 
+use crate::lasting::{Lasted, lasted_after, lasting};
 use crate::span::{Span, widened};
 use flow_codec::{Definition, Header, RecordSink};
 use flow_measure::flow_of;
 use std::convert::Infallible;
 
-/// How many data records a message has, by the kind of their definition, and when their flows start. Counts stop at
+/// How many data records a message has, by the kind of their definition, when their flows start, and how long they last. Counts stop at
 /// 2^32 - 1, which no message reaches.
 #[derive(Clone, Copy, Debug)]
 pub(crate) struct RecordCounts {
@@ -17,6 +20,18 @@ pub(crate) struct RecordCounts {
     pub(crate) options: u32,
     /// The least and the greatest start of the flows, which the records of Templates are.
     pub(crate) starts: Option<Span>,
+    /// How long the flows last.
+    pub(crate) lasted: Lasted,
+}
+
+/// What is counted of the flows so far, and of one more, where it has a start and an end.
+fn with_flow(lasted: Lasted, definition: &Definition, octets: &[u8]) -> Lasted
+    ensures { result ≡ with_lasting lasted (lasting (ends_of (fields_in definition.now.fields octets.now))) }
+{
+    match lasting(definition, octets) {
+        Some(seconds) => lasted_after(lasted, seconds),
+        None => lasted,
+    }
 }
 
 impl RecordSink for RecordCounts {
@@ -40,6 +55,7 @@ impl RecordSink for RecordCounts {
         } else {
             self.records = self.records.saturating_add(1);
             self.starts = widened(self.starts, flow_of(header, definition, octets).start);
+            self.lasted = with_flow(self.lasted, definition, octets);
         }
         Ok(())
     }

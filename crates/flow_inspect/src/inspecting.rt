@@ -8,10 +8,11 @@ ghost use Rattle.flow_inspect.specs.Inspect.{HasReports, HasLines, KeepsOrFront,
 ghost use Rattle.flow_inspect.specs.Reports.{domains_text, entries_after, reports_text, whole_in, whole_of};
 
 use crate::counting::RecordCounts;
+use crate::lasting::Lasted;
 use crate::reporting::{DomainReport, begun, continued, push_heading, push_in};
 use crate::tally::{Tally, with_tally};
 use crate::whole::push_whole;
-use flow_codec::{Header, MessageReader, Templates, WalkError, walk_message};
+use flow_codec::{MessageReader, Templates, WalkError, Walked, walk_sets};
 use flow_report::{Format, Layout, Patience, Refusal, write_patiently};
 use indexmap::IndexMap;
 use std::alloc::{AllocError, Global};
@@ -35,16 +36,16 @@ fn walk_refusal(stop: WalkError<Infallible>, number: u64) -> Refusal
 /// Counts one message more.
 fn add_message(
     reports: &mut Reports,
-    header: &Header,
+    walked: &Walked,
     counts: RecordCounts,
 ) -> Result<(), AllocError>
-    ensures { OnOk result (reports.new.entries ≡ entries_after reports.old.entries header.now counts) }
+    ensures { OnOk result (reports.new.entries ≡ entries_after reports.old.entries walked.now counts) }
 {
-    let report = match reports.get(&header.domain) {
-        Some(report) => continued(*report, header, counts),
-        None => begun(header, counts),
+    let report = match reports.get(&walked.header.domain) {
+        Some(report) => continued(*report, walked, counts),
+        None => begun(walked, counts),
     };
-    match reports.insert(header.domain, report) {
+    match reports.insert(walked.header.domain, report) {
         Ok(_) => Ok(()),
         Err(_) => Err(AllocError),
     }
@@ -52,7 +53,8 @@ fn add_message(
 
 /// What is counted of each domain of the File that `input` reads.
 fn reports_of<R: Read>(alloc: Global, input: &mut R) -> Result<Reports, Refusal>
-    ensures reports { IfOk result (λ reports. IfSome (R.remaining input.old) (λ octets. HasReports octets reports.entries)) }
+    ensures reports { IfOk result
+        (λ reports. IfSome (R.remaining input.old) (λ octets. HasReports octets reports.entries)) }
     ensures refused { IfErr result (λ e. IfSome (R.remaining input.old)
         (λ octets. IsRefusedBy octets (R.remaining input.new) e)) }
     ensures unwritten { IfErr result (λ e. IsOfInput e) }
@@ -65,9 +67,13 @@ fn reports_of<R: Read>(alloc: Global, input: &mut R) -> Result<Reports, Refusal>
             records: 0,
             options: 0,
             starts: None,
+            lasted: Lasted {
+                longest: None,
+                long: 0,
+            },
         };
-        match walk_message(&mut templates, alloc, reader.message(), &mut counts) {
-            Ok(header) => add_message(&mut reports, &header, counts)?,
+        match walk_sets(&mut templates, alloc, reader.message(), &mut counts) {
+            Ok(walked) => add_message(&mut reports, &walked, counts)?,
             Err(stop) => return Err(walk_refusal(stop, reader.count())),
         }
     }
@@ -124,15 +130,21 @@ fn text_of(alloc: Global, format: Format, reports: &Reports) -> Result<Vec<u8>, 
 }
 
 /// Reads a File and writes a line for each Observation Domain, in the order of their first messages: `domain DOMAIN
-/// messages N records N options N gaps N missing N backwards N from TIME to TIME starts FIRST LAST`, or the same
-/// values as CSV or JSON. In words one line of the whole File comes after them: `all domains N`, and the same of all
-/// domains together. Nothing is written unless the whole File was accepted.
+/// messages N records N options N unread SETS OCTETS gaps N missing N backwards N from TIME to TIME starts FIRST LAST
+/// longest SECONDS long N`, or the same values as CSV or JSON. In words one line of the whole File comes after them:
+/// `all domains N`, and the same of all domains together. Nothing is written unless the whole File was accepted.
 ///
-/// A message's Sequence Number is due where it is that of the domain's message before, with as many data records more as
-/// that one has, modulo 2^32 (RFC 7011, section 3.1). One past it is a gap, of as many missing records as it is past it.
-/// One that is before it counts as backwards. The first message of a domain has whichever it has. TIME is the least and
-/// the greatest Export Time, FIRST and LAST the least and the greatest start of the flows, which are the data records
-/// of Templates, in seconds since 1970-01-01 00:00 UTC.
+/// Data Sets without a definition in force are passed over: SETS is how many there are, and OCTETS what they have with
+/// their headers. How many records they hold can't be known.
+///
+/// A message's Sequence Number is due where it is that of the domain's message before, with as many data records more
+/// as that one has, modulo 2^32 (RFC 7011, section 3.1). One past it is a gap, of as many missing records as it is past
+/// it. One that is before it counts as backwards. The first message of a domain has whichever it has. TIME is the least
+/// and the greatest Export Time, FIRST and LAST the least and the greatest start of the flows, which are the data
+/// records of Templates, in seconds since 1970-01-01 00:00 UTC.
+///
+/// A flow lasts from its start to its end, where its record has both: flowStartMilliseconds or else flowStartSeconds,
+/// and flowEndMilliseconds or else flowEndSeconds. The longest one lasts SECONDS, and N of them last more than 300.
 pub fn inspect<R: Read, W: Write>(
     alloc: Global,
     format: Format,

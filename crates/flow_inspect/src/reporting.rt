@@ -3,17 +3,19 @@
 ghost use Rattle.std.specs.Prelude.{◌≡◌, ◌++◌, ◌∷◌, [], if◌then◌else◌, OnOk, option_map, codes};
 ghost use Rattle.std.specs.Fmt.{decimal};
 ghost use Rattle.flow_inspect.specs.Reports.{begun, continued, due_after, plus, tally_after};
-ghost use Rattle.flow_inspect.specs.Reports.{counts_text, report_line, sequence_text, starts_text, tally_text};
+ghost use Rattle.flow_inspect.specs.Reports.{counts_text, lasted_text, report_line, sequence_text, starts_text, tally_text};
 ghost use Rattle.flow_inspect.specs.Reports.{report_in, report_names, report_values};
-ghost use Rattle.flow_report.specs.Formats.{closing, heading, line_in, second_text, separator, time_or_none, value_in};
-ghost use Rattle.flow_report.specs.Formats.Value.{Nothing};
+ghost use Rattle.flow_report.specs.Formats.{closing, heading, line_in, number_or_none, second_text, separator};
+ghost use Rattle.flow_report.specs.Formats.{time_or_none, value_in};
+ghost use Rattle.flow_report.specs.Formats.Value.{Nothing, Number};
 
 use crate::counting::RecordCounts;
+use crate::lasting::{Lasted, both_lasted};
 use crate::span::{Span, hull};
 use crate::tally::Tally;
-use flow_codec::Header;
+use flow_codec::{Header, Walked};
 use flow_report::{
-    Format, Layout, MOST_VALUE, Times, push_count, push_time, put_last_time, put_opening, put_time,
+    Format, Layout, MOST_VALUE, Times, push_count, push_time, put_last, put_opening, put_time,
     put_value,
 };
 use std::alloc::AllocError;
@@ -51,28 +53,31 @@ fn counted(test: bool, count: u64, more: u64) -> u64
 }
 
 /// What is counted of a domain with its first message.
-pub(crate) fn begun(header: &Header, counts: RecordCounts) -> DomainReport
-    ensures { result ≡ begun header.now counts }
+pub(crate) fn begun(walked: &Walked, counts: RecordCounts) -> DomainReport
+    ensures { result ≡ begun walked.now counts }
 {
     DomainReport {
         tally: Tally {
             messages: 1,
             records: u64::from(counts.records),
             options: u64::from(counts.options),
+            unread: walked.unread.sets as u64,
+            unread_octets: walked.unread.octets as u64,
             gaps: 0,
             missing: 0,
             backwards: 0,
-            first: header.time,
-            last: header.time,
+            first: walked.header.time,
+            last: walked.header.time,
             starts: counts.starts,
+            lasted: counts.lasted,
         },
-        due: due_after(header, counts),
+        due: due_after(&walked.header, counts),
     }
 }
 
 /// What is counted with one message more, whose Sequence Number is so far past the due one.
-fn tally_after(tally: Tally, distance: u32, header: &Header, counts: RecordCounts) -> Tally
-    ensures { result ≡ tally_after tally distance header.now counts }
+fn tally_after(tally: Tally, distance: u32, walked: &Walked, counts: RecordCounts) -> Tally
+    ensures { result ≡ tally_after tally distance walked.now counts }
 {
     let is_past = 0 < distance && distance < HALF;
     let is_before = HALF <= distance;
@@ -80,23 +85,28 @@ fn tally_after(tally: Tally, distance: u32, header: &Header, counts: RecordCount
         messages: tally.messages.saturating_add(1),
         records: tally.records.saturating_add(u64::from(counts.records)),
         options: tally.options.saturating_add(u64::from(counts.options)),
+        unread: tally.unread.saturating_add(walked.unread.sets as u64),
+        unread_octets: tally
+            .unread_octets
+            .saturating_add(walked.unread.octets as u64),
         gaps: counted(is_past, tally.gaps, 1),
         missing: counted(is_past, tally.missing, u64::from(distance)),
         backwards: counted(is_before, tally.backwards, 1),
-        first: tally.first.min(header.time),
-        last: tally.last.max(header.time),
+        first: tally.first.min(walked.header.time),
+        last: tally.last.max(walked.header.time),
         starts: hull(tally.starts, counts.starts),
+        lasted: both_lasted(tally.lasted, counts.lasted),
     }
 }
 
 /// What is counted of a domain with one message more.
-pub(crate) fn continued(report: DomainReport, header: &Header, counts: RecordCounts) -> DomainReport
-    ensures { result ≡ continued report header.now counts }
+pub(crate) fn continued(report: DomainReport, walked: &Walked, counts: RecordCounts) -> DomainReport
+    ensures { result ≡ continued report walked.now counts }
 {
-    let distance = header.sequence.wrapping_sub(report.due);
+    let distance = walked.header.sequence.wrapping_sub(report.due);
     DomainReport {
-        tally: tally_after(report.tally, distance, header, counts),
-        due: due_after(header, counts),
+        tally: tally_after(report.tally, distance, walked, counts),
+        due: due_after(&walked.header, counts),
     }
 }
 
@@ -123,7 +133,8 @@ fn push_named_time(
     Ok(())
 }
 
-/// Puts after a text how many messages and data records there are.
+/// Puts after a text how many messages and data records there are, and how many data Sets without a definition in force,
+/// with their octets.
 #[tactic(auto, unfolding(crate::specs::Reports::counts_text))]
 fn push_counts(text: &mut Vec<u8>, tally: &Tally) -> Result<(), AllocError>
     ensures { OnOk result (text.new.items ≡ text.old.items ++ counts_text tally.now) }
@@ -131,6 +142,8 @@ fn push_counts(text: &mut Vec<u8>, tally: &Tally) -> Result<(), AllocError>
     push_named(text, " messages", tally.messages)?;
     push_named(text, " records", tally.records)?;
     push_named(text, " options", tally.options)?;
+    push_named(text, " unread", tally.unread)?;
+    push_count(text, tally.unread_octets)?;
     Ok(())
 }
 
@@ -160,8 +173,20 @@ fn push_starts(text: &mut Vec<u8>, times: Times, starts: Option<Span>) -> Result
     Ok(())
 }
 
-/// Puts after a text what was counted, and ends the line: ` messages N records N options N gaps N missing N backwards N
-/// from TIME to TIME starts FIRST LAST`.
+/// Puts after a text how long the flows last: ` longest SECONDS long N`, or ` longest - long 0` where none has an end.
+#[tactic(auto, unfolding(crate::specs::Reports::lasted_text))]
+fn push_lasted(text: &mut Vec<u8>, lasted: Lasted) -> Result<(), AllocError>
+    ensures { OnOk result (text.new.items ≡ text.old.items ++ lasted_text lasted) }
+{
+    match lasted.longest {
+        Some(seconds) => push_named(text, " longest", seconds)?,
+        None => text.extend_from_slice(" longest -".as_bytes())?,
+    }
+    push_named(text, " long", lasted.long)
+}
+
+/// Puts after a text what was counted, and ends the line: ` messages N records N options N unread SETS OCTETS gaps N
+/// missing N backwards N from TIME to TIME starts FIRST LAST longest SECONDS long N`.
 #[tactic(auto, unfolding(crate::specs::Reports::tally_text))]
 pub(crate) fn push_tally(text: &mut Vec<u8>, times: Times, tally: &Tally) -> Result<(), AllocError>
     ensures { OnOk result (text.new.items ≡ text.old.items ++ tally_text times tally.now) }
@@ -171,6 +196,7 @@ pub(crate) fn push_tally(text: &mut Vec<u8>, times: Times, tally: &Tally) -> Res
     push_named_time(text, " from", times, tally.first)?;
     push_named_time(text, " to", times, tally.last)?;
     push_starts(text, times, tally.starts)?;
+    push_lasted(text, tally.lasted)?;
     text.push(b'\n')?;
     Ok(())
 }
@@ -190,37 +216,70 @@ fn push_report(
     Ok(())
 }
 
-/// What is written for the last two values where there is no flow, and what the line ends with.
+/// What is written for the starts of the flows where there is none, and a separator.
 fn without_starts(format: Format) -> &'static str
     ensures { result.now ≡ value_in format (codes "first", Nothing) ++ separator format.layout
-        ∷ value_in format (codes "last", Nothing) ++ closing format.layout }
+        ∷ value_in format (codes "last", Nothing) ++ separator format.layout ∷ [] }
 {
     match format.layout {
-        Layout::Lines => "- -\n",
-        Layout::Csv => ",\n",
-        Layout::Json => "\"first\":null,\"last\":null}\n",
+        Layout::Lines => "- - ",
+        Layout::Csv => ",,",
+        Layout::Json => "\"first\":null,\"last\":null,",
     }
 }
 
-/// The most octets of a line of eleven values, and what it begins with.
-const MOST_REPORT: usize = 11 * MOST_VALUE + 1;
+/// What is written for the longest flow where there is none, and a separator.
+fn without_longest(format: Format) -> &'static str
+    ensures { result.now ≡ value_in format (codes "longest", Nothing) ++ separator format.layout ∷ [] }
+{
+    match format.layout {
+        Layout::Lines => "- ",
+        Layout::Csv => ",",
+        Layout::Json => "\"longest\":null,",
+    }
+}
 
-/// Puts after a text the last two values of a line, and what the line ends with.
-fn push_last(text: &mut Vec<u8>, format: Format, starts: Option<Span>) -> Result<(), AllocError>
+/// The most octets of a line of fifteen values, and what it begins with.
+const MOST_REPORT: usize = 15 * MOST_VALUE + 1;
+
+/// Puts after a text the starts of the flows, and a separator.
+fn push_start_values(
+    text: &mut Vec<u8>,
+    format: Format,
+    starts: Option<Span>,
+) -> Result<(), AllocError>
     ensures { OnOk result (text.new.items
         ≡ text.old.items ++ value_in format (codes "first", time_or_none (option_map (λ span. span.first) starts))
         ++ separator format.layout
         ∷ value_in format (codes "last", time_or_none (option_map (λ span. span.last) starts))
-        ++ closing format.layout) }
+        ++ separator format.layout ∷ []) }
 {
     match starts {
         Some(span) => {
             text.reserve(2 * MOST_VALUE)?;
             put_time(text, format, "first", span.first);
-            put_last_time(text, format, "last", span.last);
+            put_time(text, format, "last", span.last);
         }
         None => text.extend_from_slice(without_starts(format).as_bytes())?,
     }
+    Ok(())
+}
+
+/// Puts after a text how long the flows last, the last two values of a line, and what the line ends with.
+fn push_lasting_values(text: &mut Vec<u8>, format: Format, lasted: Lasted) -> Result<(), AllocError>
+    ensures { OnOk result (text.new.items
+        ≡ text.old.items ++ value_in format (codes "longest", number_or_none lasted.longest)
+        ++ separator format.layout ∷ value_in format (codes "long", Number lasted.long) ++ closing format.layout) }
+{
+    match lasted.longest {
+        Some(seconds) => {
+            text.reserve(MOST_VALUE)?;
+            put_value(text, format, "longest", seconds);
+        }
+        None => text.extend_from_slice(without_longest(format).as_bytes())?,
+    }
+    text.reserve(MOST_VALUE)?;
+    put_last(text, format, "long", lasted.long);
     Ok(())
 }
 
@@ -240,12 +299,15 @@ fn push_values(
     put_value(text, format, "messages", tally.messages);
     put_value(text, format, "records", tally.records);
     put_value(text, format, "options", tally.options);
+    put_value(text, format, "unread_sets", tally.unread);
+    put_value(text, format, "unread_octets", tally.unread_octets);
     put_value(text, format, "gaps", tally.gaps);
     put_value(text, format, "missing", tally.missing);
     put_value(text, format, "backwards", tally.backwards);
     put_time(text, format, "from", tally.first);
     put_time(text, format, "to", tally.last);
-    push_last(text, format, tally.starts)?;
+    push_start_values(text, format, tally.starts)?;
+    push_lasting_values(text, format, tally.lasted)?;
     Ok(())
 }
 
@@ -272,7 +334,7 @@ pub(crate) fn push_heading(text: &mut Vec<u8>, format: Format) -> Result<(), All
 {
     if let Layout::Csv = format.layout {
         text.extend_from_slice(
-            "domain,messages,records,options,gaps,missing,backwards,from,to,first,last\n".as_bytes(),
+            "domain,messages,records,options,unread_sets,unread_octets,gaps,missing,backwards,from,to,first,last,longest,long\n".as_bytes(),
         )?;
     }
     Ok(())

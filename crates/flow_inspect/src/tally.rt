@@ -3,6 +3,7 @@
 ghost use Rattle.std.specs.Prelude.{◌≡◌};
 ghost use Rattle.flow_inspect.specs.Reports.{together, with_tally};
 
+use crate::lasting::{Lasted, both_lasted};
 use crate::span::{Span, hull};
 
 /// What a File has of one Observation Domain, or of all. Counts stop at 2^64 - 1.
@@ -13,6 +14,10 @@ pub(crate) struct Tally {
     pub(crate) records: u64,
     /// Data records of Options Templates.
     pub(crate) options: u64,
+    /// Data Sets without a definition in force.
+    pub(crate) unread: u64,
+    /// The octets of these, with those of their headers.
+    pub(crate) unread_octets: u64,
     /// Messages whose Sequence Number is past the due one.
     pub(crate) gaps: u64,
     /// How many records are missing there.
@@ -25,6 +30,8 @@ pub(crate) struct Tally {
     pub(crate) last: u32,
     /// The least and the greatest start of the flows.
     pub(crate) starts: Option<Span>,
+    /// How long the flows last.
+    pub(crate) lasted: Lasted,
 }
 
 /// What is counted of two parts of a File, together.
@@ -35,12 +42,15 @@ fn together(a: Tally, b: Tally) -> Tally
         messages: a.messages.saturating_add(b.messages),
         records: a.records.saturating_add(b.records),
         options: a.options.saturating_add(b.options),
+        unread: a.unread.saturating_add(b.unread),
+        unread_octets: a.unread_octets.saturating_add(b.unread_octets),
         gaps: a.gaps.saturating_add(b.gaps),
         missing: a.missing.saturating_add(b.missing),
         backwards: a.backwards.saturating_add(b.backwards),
         first: a.first.min(b.first),
         last: a.last.max(b.last),
         starts: hull(a.starts, b.starts),
+        lasted: both_lasted(a.lasted, b.lasted),
     }
 }
 

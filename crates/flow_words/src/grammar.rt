@@ -47,14 +47,18 @@ const INSPECT_ABOUT: &str =
 /// What help has below the options of `inspect`.
 const INSPECT_HELP: &str =
     "The lines, a domain each, in the order of their first messages: domain DOMAIN\n\
-     messages N records N options N gaps N missing N backwards N from TIME to TIME\n\
-     starts FIRST LAST; then one of all together: all domains N messages N ..\n\
-     A gap is a message whose Sequence Number is past the one that the domain's data\n\
-     records so far make due: as many are missing, lost on their way or without a\n\
-     template in force. Backwards are those before it: sent twice, in another order,\n\
-     or by an exporter that began anew. TIME is the least and the greatest Export\n\
-     Time, FIRST and LAST the least and the greatest start of the flows, - without\n\
-     one. Nothing is written unless the whole File is accepted.\n\
+     messages N records N options N unread SETS OCTETS gaps N missing N backwards N\n\
+     from TIME to TIME starts FIRST LAST longest SECONDS long N; then one of all\n\
+     together: all domains N messages N ..\n\
+     Unread are the data Sets without a template in force, and their octets; how\n\
+     many records these hold isn't known. A gap is a message whose Sequence Number\n\
+     is past the one that the domain's data records so far make due: as many are\n\
+     missing, lost on their way or unread. Backwards are those before it: sent\n\
+     twice, in another order, or by an exporter that began anew. TIME is the least\n\
+     and the greatest Export Time, FIRST and LAST the least and the greatest start\n\
+     of the flows, SECONDS how long the longest one lasts, - without one; N flows\n\
+     last more than 300 seconds. Nothing is written unless the whole File is\n\
+     accepted.\n\
      \n\
      Example: flowvault inspect < FILE";
 

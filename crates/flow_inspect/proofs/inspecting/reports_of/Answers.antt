@@ -4,6 +4,7 @@ use Rattle.flow_codec.specs.Stream.{progress, IsStep}
 use Rattle.flow_report.specs.declared.refusal.Refusal.TheVariants as refusal
 use Rattle.flow_report.proofs.Reached.{opened}
 use Rattle.flow_report.proofs.Summing.{err_of, short_at}
+use Rattle.flow_inspect.specs.Lasting.{none_lasted}
 use Rattle.flow_inspect.specs.Counting.{HasCounted}
 use Rattle.flow_inspect.proofs.Following.{always, begun, ended_by, stepped, stopped_at}
 use Rattle.flow_inspect.proofs.inspecting.reports_of.Goals as goal
@@ -22,9 +23,9 @@ messages-preserved g c =
     stepped (g.R.Read.remaining c.args.input.now)
     (progress c.messages.reader (g.R.Read.remaining c.messages.input))
     (progress c.advance.new.self (g.R.Read.remaining c.advance.new.input))
-    c.messages.templates c.walk_message.new.templates c.messages.reports.entries c.add_message.new.reports.entries
-    (record { records = 0; options = 0; starts = None }) c.walk_message.new.sink c.in-Ok.header c.message.result.now
-    c.messages.invariant step c.message.ensures.value refl refl refl c.in-Ok.ensures.found
+    c.messages.templates c.walk_sets.new.templates c.messages.reports.entries c.add_message.new.reports.entries
+    (record { records = 0; options = 0; starts = None; lasted = none_lasted }) c.walk_sets.new.sink c.in-Ok.walked c.message.result.now
+    c.messages.invariant step c.message.ensures.value refl refl refl refl c.in-Ok.ensures.found c.in-Ok.ensures.unread
     c.in_ok-add_message-in-Ok.ensures
 
 pub returns-in_err-advance-clause-refused : goal.returns-in_err-advance-clause-refused
@@ -50,6 +51,6 @@ returns-in-Err-clause-refused g c =
     let refused = stopped_at HasCounted (λ _ _ _ _. ⊥)
     (g.R.Read.remaining c.args.input.now) _ (progress c.messages.reader (g.R.Read.remaining c.messages.input))
     (progress c.advance.new.self (g.R.Read.remaining c.advance.new.input)) c.messages.templates
-    c.messages.reports.entries (record { records = 0; options = 0; starts = None }) c.message.result.now c.in-Err.stop
+    c.messages.reports.entries (record { records = 0; options = 0; starts = None; lasted = none_lasted }) c.message.result.now c.in-Err.stop
     c.messages.invariant step c.message.ensures.value c.in-Err.ensures.fault in
     rw (c.walk_refusal.ensures.value, c.count.ensures.value) refused

@@ -1,11 +1,11 @@
 use Rattle.std.proofs.Common.{◌≡◌, ◌∙◌, ℕ, List, [], ◌∷◌, ◌++◌, codes, append_assoc, ap, sym}
 use Rattle.std.specs.Prelude.{option_map}
-use Rattle.flow_report.specs.Formats.{closing, opening, separator, time_or_none, value_in}
+use Rattle.flow_report.specs.Formats.{closing, number_or_none, opening, separator, time_or_none, value_in}
 use Rattle.flow_report.specs.Formats.Value.{Number, Time}
 use Rattle.flow_report.proofs.LineMade.{line_made}
 use Rattle.flow_inspect.proofs.reporting.push_values.Goals as goal
 
--- what is between the last two values goes with the first of them
+-- what is between two values goes with the first of them
 apart : (s : ℕ) (front last z : List ℕ) → front ++ s ∷ last ++ z ≡ front ++ s ∷ [] ++ last ++ z
 apart s front last z = ap (λ (l : List ℕ). l ++ z) (sym (append_assoc front (s ∷ []) last))
 
@@ -13,10 +13,17 @@ pub returns : goal.returns
 returns c =
     let f = c.args.format in
     let t = c.args.report.now.tally in
+    let s = separator f.layout in
+    let last = value_in f (codes "last", time_or_none (option_map (λ span. span.last) t.starts)) in
+    let longest = value_in f (codes "longest", number_or_none t.lasted.longest) in
+    let long = value_in f (codes "long", Number t.lasted.long) in
     rw (
-      c.in_ok-push_last.ensures,
+      c.in_ok-push_lasting_values.ensures,
+      c.in_ok-push_start_values.ensures,
       c.put_time-2.ensures.text,
       c.put_time.ensures.text,
+      c.put_value-9.ensures.text,
+      c.put_value-8.ensures.text,
       c.put_value-7.ensures.text,
       c.put_value-6.ensures.text,
       c.put_value-5.ensures.text,
@@ -27,11 +34,13 @@ returns c =
       c.put_opening.ensures.text,
       c.in_ok-reserve.ensures.items,
     )
-    (apart (separator f.layout) _ (value_in f (codes "last", time_or_none (option_map (λ span. span.last) t.starts))) (closing f.layout)
-    ∙ line_made (separator f.layout) c.args.text.now.items (opening f.layout) (closing f.layout)
+    (apart s _ long (closing f.layout)
+    ∙ ap (λ (l : List ℕ). l ++ longest ++ s ∷ [] ++ long ++ closing f.layout) (apart s _ last (s ∷ []))
+    ∙ line_made s c.args.text.now.items (opening f.layout) (closing f.layout)
     (value_in f (codes "domain", Number c.args.domain) ∷ value_in f (codes "messages", Number t.messages)
     ∷ value_in f (codes "records", Number t.records) ∷ value_in f (codes "options", Number t.options)
+    ∷ value_in f (codes "unread_sets", Number t.unread) ∷ value_in f (codes "unread_octets", Number t.unread_octets)
     ∷ value_in f (codes "gaps", Number t.gaps) ∷ value_in f (codes "missing", Number t.missing)
     ∷ value_in f (codes "backwards", Number t.backwards) ∷ value_in f (codes "from", Time t.first)
-    ∷ value_in f (codes "to", Time t.last) ∷ value_in f (codes "first", time_or_none (option_map (λ span. span.first) t.starts)) ∷ [])
-    (value_in f (codes "last", time_or_none (option_map (λ span. span.last) t.starts))))
+    ∷ value_in f (codes "to", Time t.last)
+    ∷ value_in f (codes "first", time_or_none (option_map (λ span. span.first) t.starts)) ∷ last ∷ longest ∷ []) long)

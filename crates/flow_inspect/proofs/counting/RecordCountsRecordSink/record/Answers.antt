@@ -12,4 +12,4 @@ returns-else-options-clause-taken c = λ start taken h.
     flow_more start taken c.args.header.now c.args._id c.args.definition.now c.args.octets.now c.args.self.now h
     (sym c.options.ensures ∙ c.if-options.false) c.saturating_add-self-else-options.result
     c.saturating_add-self-else-options.ensures c.flow_of.result c.flow_of.ensures c.widened-self.result
-    c.widened-self.ensures
+    c.widened-self.ensures c.with_flow-self.result c.with_flow-self.ensures
