@@ -1,5 +1,6 @@
 //! Tests on public calls of what archives are made of: the messages, sums and flows of sealed segments, and rolled
-//! files; and of the plain archive. Archives themselves are tested by the scripts of flow_replay.
+//! files; of the plain archive; and of the headline, archives in memory that are stopped and opened again. Archives
+//! themselves are tested by the scripts of flow_replay.
 #![tactic(auto)]
 
 #[cfg(test)]
@@ -14,6 +15,8 @@ mod rolled;
 mod segment_sums;
 #[cfg(test)]
 mod segments;
+#[cfg(test)]
+mod stops;
 #[cfg(test)]
 mod thawed;
 #[cfg(test)]

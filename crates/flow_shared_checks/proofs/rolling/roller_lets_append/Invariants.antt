@@ -1,8 +1,8 @@
 use Rattle.std.proofs.Common.{true}
 use Rattle.flow_recover.specs.Shelved.{shelf_of}
-use Rattle.flow_roller_checks.proofs.sharing.tried.Given as goal
+use Rattle.flow_shared_checks.proofs.rolling.roller_lets_append.Given as goal
 
 -- the start that is made
-abbrev pub ghosts-share : goal.ghosts-share
-ghosts-share g a =
+abbrev pub ghosts-let_in : goal.ghosts-let_in
+ghosts-let_in g a =
     record { book = a.opened.seen.book; opening = shelf_of a.archive.state; honest = true }
