@@ -33,6 +33,10 @@ class Bad(Exception):
     """A line that no case can have."""
 
 
+class Lacking(Exception):
+    """What a run needs, and this machine hasn't got."""
+
+
 class Run:
     """A run of the program: its words, its input, and what it must answer."""
 
@@ -45,6 +49,8 @@ class Run:
     def ran(self, words, before):
         """Runs these words, and answers how the run ended, and what it wrote."""
         how = {"input": self.given, "stdout": subprocess.PIPE, "stderr": subprocess.PIPE}
+        if self.is_full and not os.access("/dev/full", os.W_OK):
+            raise Lacking("no /dev/full")
         with contextlib.ExitStack() as opened:
             if self.is_full:
                 how["stdout"] = opened.enter_context(open("/dev/full", "wb"))
@@ -108,7 +114,10 @@ class Screen(threading.Thread):
 
     def __init__(self):
         super().__init__()
-        (self.begin, self.end), self.octets = os.openpty(), b""
+        try:
+            (self.begin, self.end), self.octets = os.openpty(), b""
+        except OSError:
+            raise Lacking("no terminal") from None
         tty.setraw(self.end)
         self.start()
 
@@ -441,6 +450,8 @@ def play(case):
                 for what, wanted, came in done(does, held, given):
                     good = False
                     print("%s: case %s: %s: wanted %s, came %s" % (place, case.name, what, wanted, came))
+        except Lacking as what:
+            print("%s: case %s: not played from here on: this machine has %s" % (place, case.name, what))
         finally:
             let_go(held)
             os.chdir(before)
