@@ -3,10 +3,10 @@
 //! Promised to the layers above: octets are one accepted message, or have one first fault, which is what a call
 //! answers. `walk_message` hands a message's data records to a sink, in order and each in its octets, and takes its
 //! templates in; a refusal leaves the templates as they were. It costs time in proportion to the message's octets,
-//! whatever templates are in force, and no memory for records or fields. `judge_message` answers the same and changes
-//! nothing, and `read_message` builds the fields. `MessageReader` reads the messages of a File one after the other and
-//! holds one. `write_templates` restates templates in messages without data records that, read from none, leave just
-//! these in their order.
+//! whatever templates are in force, and no memory for records or fields. `walk_sets` does the same, and counts the data
+//! Sets without a definition in force. `judge_message` answers the same and changes nothing, and `read_message` builds
+//! the fields. `MessageReader` reads the messages of a File one after the other and holds one. `write_templates`
+//! restates templates in messages without data records that, read from none, leave just these in their order.
 #![tactic(auto)]
 
 mod count;

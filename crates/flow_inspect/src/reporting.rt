@@ -3,8 +3,8 @@
 ghost use Rattle.std.specs.Prelude.{◌≡◌, ◌++◌, ◌∷◌, [], if◌then◌else◌, OnOk, option_map, codes};
 ghost use Rattle.std.specs.Fmt.{decimal};
 ghost use Rattle.flow_inspect.specs.Reports.{begun, continued, due_after, plus, tally_after};
-ghost use Rattle.flow_inspect.specs.Reports.{counts_text, lasted_text, report_line, sequence_text, starts_text, tally_text};
-ghost use Rattle.flow_inspect.specs.Reports.{report_in, report_names, report_values};
+ghost use Rattle.flow_inspect.specs.Reports.{counts_text, lasted_text, report_line, sequence_text, starts_text};
+ghost use Rattle.flow_inspect.specs.Reports.{report_in, report_names, report_values, tally_text};
 ghost use Rattle.flow_report.specs.Formats.{closing, heading, line_in, number_or_none, second_text, separator};
 ghost use Rattle.flow_report.specs.Formats.{time_or_none, value_in};
 ghost use Rattle.flow_report.specs.Formats.Value.{Nothing, Number};
@@ -133,8 +133,8 @@ fn push_named_time(
     Ok(())
 }
 
-/// Puts after a text how many messages and data records there are, and how many data Sets without a definition in force,
-/// with their octets.
+/// Puts after a text how many messages and data records there are, and how many data Sets without a definition in
+/// force, with their octets.
 #[tactic(auto, unfolding(crate::specs::Reports::counts_text))]
 fn push_counts(text: &mut Vec<u8>, tally: &Tally) -> Result<(), AllocError>
     ensures { OnOk result (text.new.items ≡ text.old.items ++ counts_text tally.now) }
@@ -334,7 +334,9 @@ pub(crate) fn push_heading(text: &mut Vec<u8>, format: Format) -> Result<(), All
 {
     if let Layout::Csv = format.layout {
         text.extend_from_slice(
-            "domain,messages,records,options,unread_sets,unread_octets,gaps,missing,backwards,from,to,first,last,longest,long\n".as_bytes(),
+            "domain,messages,records,options,unread_sets,unread_octets,gaps,missing,backwards,from,to,first,last,\
+                longest,long\n"
+                .as_bytes(),
         )?;
     }
     Ok(())

@@ -33,5 +33,5 @@ pub use refusal::Refusal;
 pub use rows::write_rows;
 pub use text::{push_count, push_time};
 pub use text_error::TextError;
-pub use values::{MOST_VALUE, put_last, put_last_time, put_opening, put_time, put_value};
+pub use values::{MOST_VALUE, put_last, put_opening, put_time, put_value};
 pub use width::Width;

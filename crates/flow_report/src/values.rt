@@ -128,20 +128,6 @@ pub fn put_time(line: &mut Vec<u8>, format: Format, name: &str, second: u32)
     line.push(format.layout.separator()).unwrap();
 }
 
-/// Appends a time that is a line's last value, with its name, and the line's closing, where there is room.
-pub fn put_last_time(line: &mut Vec<u8>, format: Format, name: &str, second: u32)
-    requires short { length name.now ≤ 16 }
-    requires room { vec_len line.old + 61 ≤ vec_capacity line.old }
-    ensures text { line.new.items
-        ≡ line.old.items ++ (name_before format.layout name.now ++ time_in format second) ++ closing format.layout }
-    ensures len { vec_len line.new ≤ vec_len line.old + 61 }
-    ensures room { vec_capacity line.old ≤ vec_capacity line.new }
-{
-    put_name(line, format, name);
-    put_second(line, format, second);
-    put_text(line, format.layout.closing());
-}
-
 /// Appends a number with its name, and a separator, where there is room.
 pub fn put_value<N: Integer>(line: &mut Vec<u8>, format: Format, name: &str, number: N)
     requires short { length name.now ≤ 16 }

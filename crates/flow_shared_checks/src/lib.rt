@@ -1,5 +1,5 @@
-//! Tests of archives that threads share, on public calls: of calls and readers' places; that workers of a scan run beside
-//! each other and answer what one thread answers; and that the thread that rolls lets others in.
+//! Tests of archives that threads share, on public calls: of calls and readers' places; that workers of a scan run
+//! beside each other and answer what one thread answers; and that the thread that rolls lets others in.
 #![tactic(auto)]
 
 #[cfg(test)]
