@@ -16,11 +16,11 @@ use Rattle.flow_rolled.specs.Rollup.{IsRollup}
 use Rattle.flow_rolled.specs.Stored.{export_time}
 use Rattle.flow_segment.specs.Carry.{Carry}
 use Rattle.flow_segment.specs.PartFlows.{greatest_time}
-use Rattle.flow_recover.specs.Chain.{IsSegment}
-use Rattle.flow_recover.specs.Jobs.{width_made, AreRolledMessages, IsJobSum}
-use Rattle.flow_recover.specs.Standing.{IsSealedAt}
-use Rattle.flow_recover.specs.State.{Part}
-use Rattle.flow_recover.proofs.Sourcing.{job_more}
+use Rattle.flow_model.specs.Chain.{IsSegment}
+use Rattle.flow_model.specs.Jobs.{width_made, AreRolledMessages, IsJobSum}
+use Rattle.flow_model.specs.Standing.{IsSealedAt}
+use Rattle.flow_model.specs.State.{Part}
+use Rattle.flow_model.proofs.Sourcing.{job_more}
 use Rattle.flow_archive.specs.declared.sources.Source.{Source}
 use Rattle.flow_archive.specs.declared.sources.SourceError.{SourceError}
 use Rattle.flow_archive.specs.declared.sources.SourceError.TheVariants.{Damaged, SumSpent, Fault, OutOfMemory}

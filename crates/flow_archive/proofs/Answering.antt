@@ -9,8 +9,8 @@ use Rattle.flow_codec.specs.Templates.{AllTemplates}
 use Rattle.flow_gate.specs.Gate.{octet_sum}
 use Rattle.flow_segment.specs.Batch.{IsFirstFault}
 use Rattle.flow_segment.specs.Carry.{Carry}
-use Rattle.flow_recover.specs.State.{State}
-use Rattle.flow_recover.specs.Chain.{IsSegment}
+use Rattle.flow_model.specs.State.{State}
+use Rattle.flow_model.specs.Chain.{IsSegment}
 use Rattle.flow_archive.specs.declared.refusal.ArchiveError.{ArchiveError}
 use Rattle.flow_archive.specs.declared.refusal.ArchiveError.TheVariants.{Message, OutOfMemory, NumbersSpent, NotEmpty}
 use Rattle.flow_archive.specs.declared.refusal.ArchiveError.TheVariants.{Fault, NoRoom, ManifestFull, NothingToSeal}

@@ -22,8 +22,8 @@ use Rattle.flow_segment.specs.Carry.{Carry, carry_from, no_carry, octets_of, pre
 use Rattle.flow_segment.specs.Carry.{IsReadBack}
 use Rattle.flow_segment.proofs.Batches.{carried_then, templates_carried}
 use Rattle.flow_segment.proofs.Carrying.{is_read_back}
-use Rattle.flow_recover.specs.State.{Part, State, appended, end_of, moved_on}
-use Rattle.flow_recover.specs.Chain.{ArePartsBehind, HandsOn, IsPartBehind, IsSegment}
+use Rattle.flow_model.specs.State.{Part, State, appended, end_of, moved_on}
+use Rattle.flow_model.specs.Chain.{ArePartsBehind, HandsOn, IsPartBehind, IsSegment}
 
 -- ---- messages after others
 

@@ -16,12 +16,12 @@ use Rattle.flow_manifest.proofs.EntryLists.{all_by}
 use Rattle.flow_manifest.proofs.Followers.{all_sum, are_entries, IsOther}
 use Rattle.flow_segment.specs.Segment.{part_octets}
 use Rattle.flow_snapshot.specs.declared.step.Mark.{Mark}
-use Rattle.flow_snapshot.specs.Changes.{applied, Change}
-use Rattle.flow_snapshot.specs.Changes.Change.{added, closed, installed, joined}
-use Rattle.flow_snapshot.specs.Shelf.{cut_of, messages_in, position_of, Rollup, Segment, Shelf}
+use Rattle.flow_model.specs.Changes.{applied, Change}
+use Rattle.flow_model.specs.Changes.Change.{added, closed, installed, joined}
+use Rattle.flow_model.specs.Shelf.{cut_of, messages_in, position_of, Rollup, Segment, Shelf}
 use Rattle.flow_snapshot.specs.Files.{cut_into}
-use Rattle.flow_recover.specs.Shelved as shelved
-use Rattle.flow_recover.specs.State.{Part, State}
+use Rattle.flow_model.specs.Shelved as shelved
+use Rattle.flow_model.specs.State.{Part, State}
 use Rattle.flow_archive.specs.Marks.{mark_of, numbered, IsMarkedAmong, IsNewestOf}
 use Rattle.flow_archive.specs.Owned.{octets_in, rolled_in, rollup_of, segment_in, segment_of, shelf_with, wide_in}
 use Rattle.flow_archive.specs.Owned.{Frozen}

@@ -7,10 +7,10 @@ use Rattle.flow_manifest.specs.declared.manifest.Manifest.{Manifest}
 use Rattle.flow_manifest.specs.declared.slots.Slots.{Slots}
 use Rattle.flow_manifest.specs.Following.{front_of}
 use Rattle.flow_segment.specs.Carry.{Carry}
-use Rattle.flow_recover.specs.State.{at_rest, Job, Part, State}
-use Rattle.flow_recover.specs.Chain.{HandsOn}
+use Rattle.flow_model.specs.State.{at_rest, Job, Part, State}
+use Rattle.flow_model.specs.Chain.{HandsOn}
 use Rattle.flow_recover.specs.Kept.{IsCounted}
-use Rattle.flow_recover.specs.Standing.{IsKnown}
+use Rattle.flow_model.specs.Standing.{IsKnown}
 use Rattle.flow_archive.specs.Owned.{unshared, AreHeldAs, Frozen}
 use Rattle.flow_archive.specs.Seen.{state_in, IsArchive}
 use Rattle.flow_archive.specs.UnderWay.{Work, job_in, numbers_of}

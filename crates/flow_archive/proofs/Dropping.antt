@@ -7,7 +7,7 @@ use Rattle.flow_disk.specs.Disk.{Held, Marks, IsImage}
 use Rattle.flow_manifest.specs.declared.manifest.Entry.{Entry}
 use Rattle.flow_manifest.specs.declared.slots.Slots.{Slots}
 use Rattle.flow_segment.specs.Carry.{Carry}
-use Rattle.flow_recover.specs.State.{Job, StagedFile, State}
+use Rattle.flow_model.specs.State.{Job, StagedFile, State}
 use Rattle.flow_archive.specs.JobAnswers.{IsStagedGone}
 use Rattle.flow_archive.specs.Owned.{Frozen}
 use Rattle.flow_archive.specs.UnderWay.{job_in, number_in, numbers_of, staged_in, work_in, AllDiffer}

@@ -8,10 +8,10 @@ use Rattle.flow_manifest.specs.Following.{active_entry}
 use Rattle.flow_manifest.specs.Manifest.{IsInRange, IsValidManifest, head_of}
 use Rattle.flow_manifest.specs.Slots.{AreSlots}
 use Rattle.flow_segment.specs.Carry.{no_carry}
-use Rattle.flow_recover.specs.State.{empty_state, first_manifest}
-use Rattle.flow_recover.specs.Chain.{HandsOn, IsSegment}
+use Rattle.flow_model.specs.State.{empty_state, first_manifest}
+use Rattle.flow_model.specs.Chain.{HandsOn, IsSegment}
 use Rattle.flow_recover.specs.Kept.{IsCounted, IsReadyFor}
-use Rattle.flow_recover.specs.Standing.{HoldsFiles, IsKnown}
+use Rattle.flow_model.specs.Standing.{HoldsFiles, IsKnown}
 use Rattle.flow_archive.specs.Beginning.{first_slots}
 use Rattle.flow_archive.specs.Seen.{IsArchive}
 use Rattle.flow_archive.proofs.Turning.{empty_list}

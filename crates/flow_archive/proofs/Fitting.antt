@@ -16,13 +16,13 @@ use Rattle.flow_segment.specs.Carry.{Carry}
 use Rattle.flow_segment.proofs.FewMessages.{few_fit_behind}
 use Rattle.flow_segment.proofs.FlowsFit.{messages_fit}
 use Rattle.flow_snapshot.specs.Totals.{IsWithinLimits}
-use Rattle.flow_snapshot.proofs.Accepting.{accepted_first, accepted_rest}
-use Rattle.flow_recover.specs.Chain.{HandsOn}
-use Rattle.flow_recover.specs.Jobs.{cut_before, source_parts, width_made, IsJobSum}
-use Rattle.flow_recover.specs.Shelved.{HasHistory}
-use Rattle.flow_recover.specs.Standing.{PartsStand}
-use Rattle.flow_recover.specs.State.{Job, Part, StagedFile, State}
-use Rattle.flow_recover.proofs.Replacing.{sources_hold}
+use Rattle.flow_model.proofs.Accepting.{accepted_first, accepted_rest}
+use Rattle.flow_model.specs.Chain.{HandsOn}
+use Rattle.flow_model.specs.Jobs.{cut_before, source_parts, width_made, IsJobSum}
+use Rattle.flow_model.specs.Shelved.{HasHistory}
+use Rattle.flow_model.specs.Standing.{PartsStand}
+use Rattle.flow_model.specs.State.{Job, Part, StagedFile, State}
+use Rattle.flow_model.proofs.Replacing.{sources_hold}
 use Rattle.flow_archive.specs.JobAnswers.{AnswersStep, IsSpent}
 use Rattle.flow_archive.specs.declared.refusal.ArchiveError.{ArchiveError}
 use Rattle.flow_archive.specs.declared.refusal.ArchiveError.TheVariants.{Damaged}

@@ -6,7 +6,7 @@ use Rattle.flow_manifest.specs.declared.following.JobKind.{JobKind}
 use Rattle.flow_manifest.specs.declared.manifest.Entry.{Entry}
 use Rattle.flow_manifest.specs.declared.manifest.Manifest.{Manifest}
 use Rattle.flow_manifest.specs.Following.{count_before, source_of}
-use Rattle.flow_recover.specs.State.{State}
+use Rattle.flow_model.specs.State.{State}
 use Rattle.flow_archive.specs.declared.archive.Archive.TheInside.{Inside}
 use Rattle.flow_archive.specs.Seen.{state_in}
 use Rattle.flow_archive.specs.UnderWay.{work_in, IsOnDisk, IsRolling, IsStaged, Made, Rolling, Work}

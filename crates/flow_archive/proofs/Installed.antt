@@ -20,13 +20,13 @@ use Rattle.flow_manifest.specs.Slots.{file_of, other}
 use Rattle.flow_manifest.proofs.EntryLists.{all_both, all_drop, all_join, all_left, all_take, own_apart, own_left, own_right, AreApart}
 use Rattle.flow_manifest.proofs.Followers.{are_entries}
 use Rattle.flow_segment.specs.Carry.{Carry}
-use Rattle.flow_recover.specs.State.{Part, StagedFile, State}
-use Rattle.flow_recover.specs.Chain.{HandsOn}
-use Rattle.flow_recover.specs.Jobs.{replaced, replaced_parts, staged_of}
+use Rattle.flow_model.specs.State.{Part, StagedFile, State}
+use Rattle.flow_model.specs.Chain.{HandsOn}
+use Rattle.flow_model.specs.Jobs.{replaced, replaced_parts, staged_of}
 use Rattle.flow_recover.specs.Kept.{IsCounted, IsReadyFor}
 use Rattle.flow_recover.specs.Opening.{FrozenStand}
-use Rattle.flow_recover.specs.Standing.{IsKnown, IsRolledAt, StandsAs}
-use Rattle.flow_recover.proofs.Replacing.{active_installed, front_installed, messages_installed, sources_are}
+use Rattle.flow_model.specs.Standing.{IsKnown, IsRolledAt, StandsAs}
+use Rattle.flow_model.proofs.Replacing.{active_installed, front_installed, messages_installed, sources_are}
 use Rattle.flow_archive.specs.Owned.{counted_of, octets_in, AreHeldAs, Frozen, IsAlone, IsHeldAs}
 use Rattle.flow_archive.specs.Parts.{part_at, parts_at}
 use Rattle.flow_archive.specs.Seen.{AreFrozen, IsArchive, state_in}

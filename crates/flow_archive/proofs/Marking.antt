@@ -16,9 +16,9 @@ use Rattle.flow_manifest.specs.Manifest.{IsValidManifest}
 use Rattle.flow_manifest.proofs.Followers.{are_entries, front_long}
 use Rattle.flow_snapshot.specs.declared.step.Mark.{Mark}
 use Rattle.flow_snapshot.specs.declared.step.Mark.TheVariants.{Added, Sealed, Installed, Merged}
-use Rattle.flow_snapshot.specs.Changes.{Change}
-use Rattle.flow_snapshot.specs.Changes.Change.{added}
-use Rattle.flow_recover.specs.State.{State}
+use Rattle.flow_model.specs.Changes.{Change}
+use Rattle.flow_model.specs.Changes.Change.{added}
+use Rattle.flow_model.specs.State.{State}
 use Rattle.flow_archive.specs.Marks.{numbered, HasKind, HasMark, HasMarkAmong, IsMarked, IsMarkedAmong}
 use Rattle.flow_archive.specs.Marks.{IsNewest, IsNewestOf}
 use Rattle.flow_archive.specs.Owned.{rollup_of, segment_of, unshared}

@@ -11,11 +11,11 @@ use Rattle.flow_manifest.specs.Slots.{file_of, other}
 use Rattle.flow_manifest.proofs.EntryLists.{all_join}
 use Rattle.flow_manifest.proofs.Followers.{are_entries, next_front}
 use Rattle.flow_segment.specs.Carry.{Carry, prefix_of, IsCarry}
-use Rattle.flow_recover.specs.State.{Part, State, end_of, moved_on}
-use Rattle.flow_recover.specs.Chain.{HandsOn}
+use Rattle.flow_model.specs.State.{Part, State, end_of, moved_on}
+use Rattle.flow_model.specs.Chain.{HandsOn}
 use Rattle.flow_recover.specs.Kept.{IsCounted}
 use Rattle.flow_recover.specs.Opening.{FrozenStand}
-use Rattle.flow_recover.specs.Standing.{IsKnown, IsSealedAt}
+use Rattle.flow_model.specs.Standing.{IsKnown, IsSealedAt}
 use Rattle.flow_archive.specs.Answers.{job_generations, IsMovedOn}
 use Rattle.flow_archive.specs.Moving.{MovesMarks}
 use Rattle.flow_archive.specs.Owned.{octets_in, AreHeldAs, Frozen, IsHeldAs}

@@ -8,9 +8,9 @@ use Rattle.flow_manifest.specs.declared.manifest.Kind.TheVariants.{Sealed}
 use Rattle.flow_manifest.specs.declared.manifest.Entry.{Entry}
 use Rattle.flow_segment.specs.Segment.{part_octets}
 use Rattle.flow_snapshot.specs.Files.{cut_into}
-use Rattle.flow_recover.specs.State.{Part}
+use Rattle.flow_model.specs.State.{Part}
 use Rattle.flow_recover.specs.Opening.{FrozenStand}
-use Rattle.flow_recover.specs.Standing.{IsSealedAt, StandsAs}
+use Rattle.flow_model.specs.Standing.{IsSealedAt, StandsAs}
 use Rattle.flow_archive.specs.Parts.{part_at, parts_at}
 
 pub parts_at_push : {S : Type 0} (octets : S → List ℕ) (e : Entry) (x : S) (entries : List Entry) (files : List S)

@@ -14,9 +14,9 @@ use Rattle.flow_manifest.specs.Manifest.{IsValidManifest}
 use Rattle.flow_manifest.specs.Following.{active_of, front_of, sealed_entry, active_entry, messages_of}
 use Rattle.flow_manifest.specs.Slots.{file_of, other}
 use Rattle.flow_manifest.proofs.Followers.{all_sum, next_active}
-use Rattle.flow_recover.specs.State.{State, appended, end_of, moved_on}
+use Rattle.flow_model.specs.State.{State, appended, end_of, moved_on}
 use Rattle.flow_recover.specs.Kept.{IsCounted, IsReadyFor}
-use Rattle.flow_recover.specs.Standing.{IsWithinLimits}
+use Rattle.flow_model.specs.Standing.{IsWithinLimits}
 use Rattle.flow_archive.specs.Moving.{MovesMarks}
 use Rattle.flow_archive.proofs.Stand.{slot_below}
 

@@ -17,9 +17,9 @@ use Rattle.flow_manifest.proofs.EntryLists.{all_both, all_by, all_left}
 use Rattle.flow_manifest.proofs.Followers.{split}
 use Rattle.flow_segment.specs.Carry.{Carry}
 use Rattle.flow_segment.specs.Steps.{IsAnything}
-use Rattle.flow_recover.specs.State.{State}
+use Rattle.flow_model.specs.State.{State}
 use Rattle.flow_recover.specs.Kept.{IsReadyFor}
-use Rattle.flow_recover.specs.Standing.{IsKnown}
+use Rattle.flow_model.specs.Standing.{IsKnown}
 use Rattle.flow_archive.specs.Owned.{AreHeldAs, Frozen}
 use Rattle.flow_archive.specs.Seen.{state_in, IsArchive, StandsBeforeOrAfter}
 use Rattle.flow_archive.specs.UnderWay.{job_in, job_numbers, number_in, numbers_of, staged_in, work_in, AllDiffer}

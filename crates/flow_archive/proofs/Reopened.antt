@@ -14,11 +14,11 @@ use Rattle.flow_manifest.specs.Manifest.{HasShape, IsValidManifest, rank}
 use Rattle.flow_manifest.proofs.EntryLists.{all_by}
 use Rattle.flow_manifest.proofs.Followers.{are_entries, IsOther}
 use Rattle.flow_segment.specs.Carry.{Carry}
-use Rattle.flow_recover.specs.State.{Part, State, at_rest}
-use Rattle.flow_recover.specs.Chain.{HandsOn}
+use Rattle.flow_model.specs.State.{Part, State, at_rest}
+use Rattle.flow_model.specs.Chain.{HandsOn}
 use Rattle.flow_recover.specs.Kept.{AreFilesOf, IsCounted}
 use Rattle.flow_recover.specs.Opening.{FrozenStand, IsRecovered}
-use Rattle.flow_recover.specs.Standing.{IsKnown, IsRolledAt, StandsAs, StandsFor}
+use Rattle.flow_model.specs.Standing.{IsKnown, IsRolledAt, StandsAs, StandsFor}
 use Rattle.flow_archive.specs.Owned.{all_frozen, counted_of, octets_in, AreHeldAs, Frozen, MayBeFrozen}
 use Rattle.flow_archive.specs.Parts.{part_at, parts_at}
 use Rattle.flow_archive.specs.UnderWay.{no_work}

@@ -5,8 +5,8 @@ use Rattle.flow_disk.specs.declared.disk.Disk.{Ghosts}
 use Rattle.flow_disk.specs.Cause.{HasCause, HasRisen}
 use Rattle.flow_disk.specs.Calls.{LeavesOnly}
 use Rattle.flow_disk.proofs.Moments.{by, one_run, started}
-use Rattle.flow_recover.specs.State.{State, reopened}
-use Rattle.flow_recover.specs.Standing.{StandsFor}
+use Rattle.flow_model.specs.State.{State, reopened}
+use Rattle.flow_model.specs.Standing.{StandsFor}
 use Rattle.flow_archive.specs.declared.event.Answer.{Answer}
 use Rattle.flow_archive.specs.declared.event.Event.{Event}
 use Rattle.flow_archive.specs.declared.refusal.ArchiveError.{ArchiveError}

@@ -6,7 +6,7 @@ use Rattle.std.specs.List.{flat_map, list_all, AllByRecursion}
 use Rattle.flow_manifest.specs.declared.manifest.Entry.{Entry}
 use Rattle.flow_manifest.specs.declared.manifest.Kind.{Kind}
 use Rattle.flow_manifest.specs.declared.manifest.Kind.TheVariants.{Wide, Rolled, Sealed, Active}
-use Rattle.flow_recover.specs.State.{Part}
+use Rattle.flow_model.specs.State.{Part}
 use Rattle.flow_recover.specs.Opening.{FrozenStand}
 use Rattle.flow_archive.specs.Owned.{all_frozen, octets_in, rolled_in, segment_in, shelf_with, unshared, wide_in}
 use Rattle.flow_archive.specs.Owned.{AreHeldAs, Frozen, IsAlone}

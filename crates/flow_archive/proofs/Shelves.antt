@@ -14,56 +14,21 @@ use Rattle.flow_manifest.specs.Following.{active_of, count_before, count_of, fro
 use Rattle.flow_manifest.specs.Following.{messages_of, source_of, sources_of}
 use Rattle.flow_manifest.specs.Manifest.{IsValidManifest, rank}
 use Rattle.flow_manifest.proofs.Followers.{next_front}
-use Rattle.flow_snapshot.specs.Changes.{added, applied, closed, installed, joined}
-use Rattle.flow_snapshot.specs.Shelf.{Rollup, Segment, Shelf}
-use Rattle.flow_recover.specs.Jobs.{replaced, replaced_parts, staged_of}
-use Rattle.flow_recover.specs.Shelved.{active_shelf, rollup_of, segment_of, shelf_of, shelved, shelved_first}
-use Rattle.flow_recover.specs.State.{Job, Part, StagedFile, State, appended, end_of, moved_on}
-use Rattle.flow_recover.proofs.Installing.{merge_front, no_merged, no_rolled, roll_front, rollups, shelved_join}
-use Rattle.flow_recover.proofs.Replacing.{are_behind, are_sources, first_same, front_installed, low, number, sources_same}
+use Rattle.flow_model.specs.Changes.{added, applied, closed, installed, joined}
+use Rattle.flow_model.specs.Shelf.{Rollup, Segment, Shelf}
+use Rattle.flow_model.specs.Jobs.{replaced, replaced_parts, staged_of}
+use Rattle.flow_model.specs.Shelved.{active_shelf, rollup_of, segment_of, shelf_of, shelved, shelved_first}
+use Rattle.flow_model.specs.State.{Job, Part, StagedFile, State, end_of, moved_on}
+use Rattle.flow_model.proofs.History.{appended_shelf, closed_last}
+use Rattle.flow_model.proofs.Installing.{merge_front, no_merged, no_rolled, roll_front, rollups, shelved_join}
+use Rattle.flow_model.proofs.Replacing.{are_behind, are_sources, first_same, front_installed, low, number, sources_same}
 use Rattle.flow_segment.specs.Carry.{prefix_of}
 use Rattle.flow_archive.specs.declared.event.Answer.{Answer}
 use Rattle.flow_archive.specs.Answers.{AnswersAppend, AnswersSeal}
 use Rattle.flow_archive.specs.JobAnswers.{AnswersInstall}
 use Rattle.flow_archive.specs.Marks.{made_change}
 
--- ---- messages more
-
-added_first : (more : List (List ℕ)) (kind : Kind) (e : Entry) (p : Part) (s : Shelf)
-    → shelved_first kind e p (applied s (added more)) ≡ applied (shelved_first kind e p s) (added more)
-added_first more Wide e p s = refl
-added_first more Rolled e p s = refl
-added_first more Sealed e p s = refl
-added_first more Active e p s = refl
-
-added_last : (more : List (List ℕ)) (es : List Entry) (ps : List Part) (s : Shelf)
-    → shelved es ps (applied s (added more)) ≡ applied (shelved es ps s) (added more)
-added_last more [] ps s = refl
-added_last more (e ∷ es) [] s = refl
-added_last more (e ∷ es) (p ∷ ps) s =
-    ap (λ (x : Shelf). shelved_first e.kind e p x) (added_last more es ps s)
-    ∙ added_first more e.kind e p (shelved es ps s)
-
-pub appended_shelf : (s : State) (more : List (List ℕ))
-    → shelf_of (appended s more) ≡ applied (shelf_of s) (added more)
-appended_shelf s more = added_last more (front_of s.manifest) s.parts (active_shelf s)
-
 -- ---- a seal
-
-closed_first : (g : Segment) (next : List ℕ) (kind : Kind) (e : Entry) (p : Part) (s : Shelf)
-    → shelved_first kind e p (applied s (closed g next)) ≡ applied (shelved_first kind e p s) (closed g next)
-closed_first g next Wide e p s = refl
-closed_first g next Rolled e p s = refl
-closed_first g next Sealed e p s = refl
-closed_first g next Active e p s = refl
-
-closed_last : (g : Segment) (next : List ℕ) (es : List Entry) (ps : List Part) (s : Shelf)
-    → shelved es ps (applied s (closed g next)) ≡ applied (shelved es ps s) (closed g next)
-closed_last g next [] ps s = refl
-closed_last g next (e ∷ es) [] s = refl
-closed_last g next (e ∷ es) (p ∷ ps) s =
-    ap (λ (x : Shelf). shelved_first e.kind e p x) (closed_last g next es ps s)
-    ∙ closed_first g next e.kind e p (shelved es ps s)
 
 -- the sealed segment, whatever its file holds
 abbrev pub closed_segment : State → Part → Segment

@@ -19,12 +19,12 @@ use Rattle.flow_manifest.specs.Following.{sources_of}
 use Rattle.flow_manifest.specs.Manifest.{rank, IsValidManifest}
 use Rattle.flow_manifest.proofs.Followers.{all_sum, behind_short, front_long}
 use Rattle.flow_segment.specs.Carry.{Carry}
-use Rattle.flow_recover.specs.State.{Part, State}
-use Rattle.flow_recover.specs.Chain.{ArePartsBehind, HandsOn, IsPartBehind}
-use Rattle.flow_recover.specs.Jobs.{source_parts, width_made, IsJobSum}
+use Rattle.flow_model.specs.State.{Part, State}
+use Rattle.flow_model.specs.Chain.{ArePartsBehind, HandsOn, IsPartBehind}
+use Rattle.flow_model.specs.Jobs.{source_parts, width_made, IsJobSum}
 use Rattle.flow_recover.specs.Opening.{FrozenStand}
-use Rattle.flow_recover.specs.Standing.{IsSealedAt, StandsAs}
-use Rattle.flow_recover.proofs.Replacing.{are_sources}
+use Rattle.flow_model.specs.Standing.{IsSealedAt, StandsAs}
+use Rattle.flow_model.proofs.Replacing.{are_sources}
 use Rattle.flow_archive.specs.Owned.{counted_of, octets_in, AreHeldAs, Frozen, IsHeldAs}
 use Rattle.flow_archive.specs.declared.refusal.ArchiveError.TheVariants as refusal
 use Rattle.flow_archive.specs.declared.sources.SourceError.{SourceError}

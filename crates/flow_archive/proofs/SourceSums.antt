@@ -37,11 +37,11 @@ use Rattle.flow_segment.specs.PartFlows.{greatest_time, with_flows, AreAdded, Ar
 use Rattle.flow_segment.specs.Segment.{part_octets}
 use Rattle.flow_segment.specs.Steps.{KeepsFront}
 use Rattle.flow_segment.proofs.FewMessages.{few_fit_behind}
-use Rattle.flow_recover.specs.State.{Part}
-use Rattle.flow_recover.specs.Chain.{IsSegment}
-use Rattle.flow_recover.specs.Standing.{IsSealedAt}
+use Rattle.flow_model.specs.State.{Part}
+use Rattle.flow_model.specs.Chain.{IsSegment}
+use Rattle.flow_model.specs.Standing.{IsSealedAt}
 use Rattle.flow_recover.proofs.Behind.{sealed_read}
-use Rattle.flow_recover.proofs.Stand.{part_cut}
+use Rattle.flow_model.proofs.Stand.{part_cut}
 use Rattle.flow_archive.specs.declared.sources.Source.{Source}
 use Rattle.flow_archive.specs.declared.sources.SourceError.{SourceError}
 use Rattle.flow_archive.specs.declared.sources.SourceError.TheVariants.{Fault}

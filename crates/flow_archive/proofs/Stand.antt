@@ -21,10 +21,10 @@ use Rattle.flow_manifest.proofs.EntryLists.{all_both, all_by}
 use Rattle.flow_manifest.proofs.Followers.{IsOther, AreEntries, are_entries}
 use Rattle.flow_manifest.proofs.Swaps.{same_slots}
 use Rattle.flow_segment.specs.Steps.{KeepsFront}
-use Rattle.flow_recover.specs.State.{Part, State, appended, end_of, reopened}
-use Rattle.flow_recover.specs.Chain.{IsChained}
-use Rattle.flow_recover.specs.Standing.{IsActiveAt, StandsAs, PartsStand, IsWithinLimits}
-use Rattle.flow_recover.specs.Standing.{HoldsFiles, StandsFor, StandsForEither, IsKnown}
+use Rattle.flow_model.specs.State.{Part, State, appended, end_of, reopened}
+use Rattle.flow_model.specs.Chain.{IsChained}
+use Rattle.flow_model.specs.Standing.{IsActiveAt, StandsAs, PartsStand, IsWithinLimits}
+use Rattle.flow_model.specs.Standing.{HoldsFiles, StandsFor, StandsForEither, IsKnown}
 use Rattle.flow_archive.specs.Seen.{AreFrozen}
 
 pub slot_below : (slot : Slot) → file_of slot < 3

@@ -10,10 +10,10 @@ use Rattle.flow_manifest.specs.Manifest.{IsValidManifest}
 use Rattle.flow_manifest.specs.Slots.{file_of, other, IsReady, IsInForce, MayClose, IsPrepared, MayOpen, Opens}
 use Rattle.flow_manifest.proofs.Followers.{are_entries}
 use Rattle.flow_manifest.proofs.Swaps.{still_in_force, prepared_ready, new_slots, old_or_new}
-use Rattle.flow_recover.specs.State.{StagedFile, State, reopened}
-use Rattle.flow_recover.specs.Jobs.{IsStagedAt, replaced}
-use Rattle.flow_recover.specs.Standing.{HoldsFiles, StandsForEither, IsKnown}
-use Rattle.flow_recover.proofs.Replacing.{holds_replaced}
+use Rattle.flow_model.specs.State.{StagedFile, State, reopened}
+use Rattle.flow_model.specs.Jobs.{IsStagedAt, replaced}
+use Rattle.flow_model.specs.Standing.{HoldsFiles, StandsForEither, IsKnown}
+use Rattle.flow_model.proofs.Replacing.{holds_replaced}
 use Rattle.flow_archive.specs.Installing.{IsInstall}
 use Rattle.flow_archive.proofs.Stand.{slot_below, files_below, files_at_rest, valid_of}
 

@@ -17,9 +17,9 @@ use Rattle.flow_manifest.proofs.EntryLists.{all_by, all_join}
 use Rattle.flow_manifest.proofs.Followers.{IsOther, AreEntries, are_entries, all_sum, next_active, next_front}
 use Rattle.flow_manifest.proofs.Swaps.{still_in_force, prepared_ready, new_slots, old_or_new}
 use Rattle.flow_segment.specs.Steps.{trailer, IsAnything, Becomes, KeepsFront}
-use Rattle.flow_recover.specs.State.{State, end_of, moved_on, reopened}
-use Rattle.flow_recover.specs.Standing.{IsSealedAt, IsActiveAt, PartsStand, HoldsFiles}
-use Rattle.flow_recover.specs.Standing.{StandsForEither, IsKnown}
+use Rattle.flow_model.specs.State.{State, end_of, moved_on, reopened}
+use Rattle.flow_model.specs.Standing.{IsSealedAt, IsActiveAt, PartsStand, HoldsFiles}
+use Rattle.flow_model.specs.Standing.{StandsForEither, IsKnown}
 use Rattle.flow_archive.specs.Moving.{IsMove}
 use Rattle.flow_archive.proofs.Stand.{slot_below, parts_push, parts_last, files_below, files_at_rest, valid_of}
 use Rattle.flow_archive.proofs.Stand.{stands_for, elsewhere, cutting}

@@ -14,10 +14,10 @@ use Rattle.flow_manifest.specs.declared.manifest.Manifest.{Manifest}
 use Rattle.flow_manifest.specs.Following.{count_of, source_of}
 use Rattle.flow_manifest.specs.Manifest.{head_of, IsInRange}
 use Rattle.flow_segment.specs.Carry.{Carry}
-use Rattle.flow_recover.specs.State.{Job, State, reopened}
-use Rattle.flow_recover.specs.Jobs.{width_made}
-use Rattle.flow_recover.specs.Standing.{StandsFor}
-use Rattle.flow_recover.proofs.Sourcing.{job_none}
+use Rattle.flow_model.specs.State.{Job, State, reopened}
+use Rattle.flow_model.specs.Jobs.{width_made}
+use Rattle.flow_model.specs.Standing.{StandsFor}
+use Rattle.flow_model.proofs.Sourcing.{job_none}
 use Rattle.flow_archive.specs.Owned.{Frozen}
 use Rattle.flow_archive.specs.Seen.{IsArchive, IsStep, StandsBeforeOrAfter}
 use Rattle.flow_archive.specs.Sources.{IsJobTime}

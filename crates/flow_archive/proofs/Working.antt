@@ -19,8 +19,8 @@ use Rattle.flow_manifest.proofs.EntryLists.{all_join, all_left, all_right}
 use Rattle.flow_manifest.proofs.Followers.{are_entries, behind_short, front_long, split}
 use Rattle.flow_measure.specs.Sums.{Table}
 use Rattle.flow_rolled.specs.Rollup.{IsRollup}
-use Rattle.flow_recover.specs.State.{end_of, moved_on, Part, State}
-use Rattle.flow_recover.specs.Jobs.{source_parts, width_made, IsJobSum}
+use Rattle.flow_model.specs.State.{end_of, moved_on, Part, State}
+use Rattle.flow_model.specs.Jobs.{source_parts, width_made, IsJobSum}
 use Rattle.flow_archive.specs.Answers.{job_generations, staged_generations}
 use Rattle.flow_archive.specs.Owned.{Frozen}
 use Rattle.flow_archive.specs.Sources.{IsJobTime}

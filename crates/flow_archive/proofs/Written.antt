@@ -16,11 +16,11 @@ use Rattle.flow_manifest.proofs.EntryLists.{all_by}
 use Rattle.flow_rolled.specs.Rollup.{IsRollup}
 use Rattle.flow_segment.specs.Carry.{Carry}
 use Rattle.flow_segment.specs.Steps.{Becomes}
-use Rattle.flow_recover.specs.State.{Job, Part, State}
-use Rattle.flow_recover.specs.Chain.{HandsOn}
-use Rattle.flow_recover.specs.Jobs.{source_parts, width_made, IsJobSum, IsStagedAt}
+use Rattle.flow_model.specs.State.{Job, Part, State}
+use Rattle.flow_model.specs.Chain.{HandsOn}
+use Rattle.flow_model.specs.Jobs.{source_parts, width_made, IsJobSum, IsStagedAt}
 use Rattle.flow_recover.specs.Kept.{IsCounted, IsReadyFor}
-use Rattle.flow_recover.specs.Standing.{IsKnown}
+use Rattle.flow_model.specs.Standing.{IsKnown}
 use Rattle.flow_archive.specs.declared.refusal.ArchiveError.{ArchiveError}
 use Rattle.flow_archive.specs.declared.refusal.ArchiveError.TheVariants.{Message, OutOfMemory, NumbersSpent, NotEmpty}
 use Rattle.flow_archive.specs.declared.refusal.ArchiveError.TheVariants.{Fault, NoRoom, ManifestFull, NothingToSeal}

@@ -3,8 +3,8 @@ use Rattle.std.specs.Prelude.{◌≡◌, ⊤, ◌⊎◌, ℕ, ◌+◌, max, List
 use Rattle.flow_manifest.specs.declared.following.JobKind.{JobKind}
 use Rattle.flow_manifest.specs.declared.manifest.Manifest.{Manifest}
 use Rattle.flow_measure.specs.Sums.{merged, AllFit, Table}
-use Rattle.flow_recover.specs.Jobs.{IsJobSum}
-use Rattle.flow_recover.specs.State.{Part}
+use Rattle.flow_model.specs.Jobs.{IsJobSum}
+use Rattle.flow_model.specs.State.{Part}
 use Rattle.flow_archive.specs.declared.sources.Source.{Source}
 use Rattle.flow_archive.specs.declared.sources.SourceError.{SourceError}
 use Rattle.flow_archive.specs.declared.sources.SourceError.TheVariants.{Damaged, SumSpent, Fault, OutOfMemory}

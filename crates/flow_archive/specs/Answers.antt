@@ -9,8 +9,8 @@ use Rattle.flow_manifest.specs.declared.manifest.Manifest.{Manifest}
 use Rattle.flow_manifest.specs.Following.{active_of, messages_of}
 use Rattle.flow_segment.specs.Batch.{AreTaken, IsFirstFault}
 use Rattle.flow_segment.specs.Carry.{Carry, prefix_of}
-use Rattle.flow_recover.specs.State.{Job, Part, StagedFile, State, appended, moved_on}
-use Rattle.flow_recover.specs.Chain.{IsSegment}
+use Rattle.flow_model.specs.State.{Job, Part, StagedFile, State, appended, moved_on}
+use Rattle.flow_model.specs.Chain.{IsSegment}
 use Rattle.flow_archive.specs.declared.event.Answer.{Answer}
 use Rattle.flow_archive.specs.declared.event.Answer.TheVariants.{Position, Sealed, Began, Left, Written, Dropped}
 use Rattle.flow_archive.specs.declared.event.Answer.TheVariants.{Retired}

@@ -5,7 +5,7 @@ use Rattle.flow_disk.specs.Disk.{Marks, IsDiskImage, Stays}
 use Rattle.flow_disk.specs.Calls.{LeavesOnly}
 use Rattle.flow_manifest.specs.declared.slots.Slot.TheVariants.{First}
 use Rattle.flow_manifest.specs.declared.slots.Slots.{Slots}
-use Rattle.flow_recover.specs.State.{first_manifest}
+use Rattle.flow_model.specs.State.{first_manifest}
 use Rattle.flow_archive.specs.declared.refusal.ArchiveError.{ArchiveError}
 use Rattle.flow_archive.specs.declared.refusal.ArchiveError.TheVariants.{OutOfMemory, NotEmpty, Fault}
 use Rattle.flow_archive.specs.declared.refusal.Refused.{Refused}

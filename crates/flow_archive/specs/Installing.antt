@@ -14,10 +14,10 @@ use Rattle.flow_manifest.specs.Slots.{file_of, other}
 use Rattle.flow_measure.specs.Sums.{Table}
 use Rattle.flow_rolled.specs.Rollup.{IsRollup}
 use Rattle.flow_segment.specs.Carry.{Carry}
-use Rattle.flow_recover.specs.State.{StagedFile, State}
-use Rattle.flow_recover.specs.Chain.{HandsOn}
-use Rattle.flow_recover.specs.Jobs.{IsStagedAt, replaced, staged_of, width_made}
-use Rattle.flow_recover.specs.Standing.{IsKnown}
+use Rattle.flow_model.specs.State.{StagedFile, State}
+use Rattle.flow_model.specs.Chain.{HandsOn}
+use Rattle.flow_model.specs.Jobs.{IsStagedAt, replaced, staged_of, width_made}
+use Rattle.flow_model.specs.Standing.{IsKnown}
 use Rattle.flow_archive.specs.declared.event.Answer.{Answer}
 use Rattle.flow_archive.specs.declared.event.Answer.TheVariants.{Installed, Merged}
 use Rattle.flow_archive.specs.declared.refusal.ArchiveError.{ArchiveError}

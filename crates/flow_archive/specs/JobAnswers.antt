@@ -7,8 +7,8 @@ use Rattle.flow_manifest.specs.declared.following.JobKind.TheVariants.{Roll, Mer
 use Rattle.flow_manifest.specs.Following.{count_of, source_of, sources_of}
 use Rattle.flow_measure.specs.Sums.{Table, AllFit}
 use Rattle.flow_rolled.specs.Rollup.{IsRollup}
-use Rattle.flow_recover.specs.State.{Job, StagedFile, State}
-use Rattle.flow_recover.specs.Jobs.{replaced, replaced_parts, source_parts, width_made, IsJobSum}
+use Rattle.flow_model.specs.State.{Job, StagedFile, State}
+use Rattle.flow_model.specs.Jobs.{replaced, replaced_parts, source_parts, width_made, IsJobSum}
 use Rattle.flow_archive.specs.declared.event.Answer.{Answer}
 use Rattle.flow_archive.specs.declared.event.Answer.TheVariants.{Installed, Merged}
 use Rattle.flow_archive.specs.declared.refusal.ArchiveError.{ArchiveError}

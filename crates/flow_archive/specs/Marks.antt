@@ -9,10 +9,10 @@ use Rattle.flow_manifest.specs.declared.manifest.Kind.TheVariants as kind
 use Rattle.flow_manifest.specs.Following.{messages_of}
 use Rattle.flow_snapshot.specs.declared.step.Mark.{Mark}
 use Rattle.flow_snapshot.specs.declared.step.Mark.TheVariants.{Added, Sealed, Installed, Merged}
-use Rattle.flow_snapshot.specs.Changes.{Change}
-use Rattle.flow_snapshot.specs.Changes.Change.{added, closed, installed, joined}
-use Rattle.flow_snapshot.specs.Shelf.{Rollup, Segment, Shelf, position_of}
-use Rattle.flow_recover.specs.State.{State}
+use Rattle.flow_model.specs.Changes.{Change}
+use Rattle.flow_model.specs.Changes.Change.{added, closed, installed, joined}
+use Rattle.flow_model.specs.Shelf.{Rollup, Segment, Shelf, position_of}
+use Rattle.flow_model.specs.State.{State}
 use Rattle.flow_archive.specs.Owned.{rollup_of, segment_of, Frozen}
 
 -- the mark of a change that is made to a shelf

@@ -5,9 +5,9 @@ use Rattle.flow_manifest.specs.declared.slots.Slots.{Slots}
 use Rattle.flow_manifest.specs.Manifest.{IsValidManifest, manifest_octets}
 use Rattle.flow_manifest.specs.Following.{active_of}
 use Rattle.flow_manifest.specs.Slots.{file_of, other}
-use Rattle.flow_recover.specs.State.{State, end_of, moved_on}
-use Rattle.flow_recover.specs.Chain.{IsChained}
-use Rattle.flow_recover.specs.Standing.{IsKnown}
+use Rattle.flow_model.specs.State.{State, end_of, moved_on}
+use Rattle.flow_model.specs.Chain.{IsChained}
+use Rattle.flow_model.specs.Standing.{IsKnown}
 
 -- These numbers are those of an archive that seals its active segment, which determines this prefix, and the body is
 -- that of its next manifest.

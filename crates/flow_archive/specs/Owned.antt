@@ -10,7 +10,7 @@ use Rattle.flow_rolled.specs.Stored as stored
 use Rattle.flow_segment.specs.declared.sealed.SealedPart.{SealedPart}
 use Rattle.flow_segment.specs.Segment.{part_octets}
 use Rattle.flow_snapshot.specs.Files.{cut_into}
-use Rattle.flow_snapshot.specs.Shelf.{Rollup, Segment, Shelf}
+use Rattle.flow_model.specs.Shelf.{Rollup, Segment, Shelf}
 use Rattle.flow_archive.specs.declared.owned.Held.{Held}
 use Rattle.flow_archive.specs.declared.owned.Held.TheVariants.{Rolled, Sealed, Wide}
 use Rattle.flow_archive.specs.declared.owned.Owned.{Owned}

@@ -5,7 +5,7 @@ use Rattle.flow_manifest.specs.declared.manifest.Kind.TheVariants.{Wide, Rolled,
 use Rattle.flow_manifest.specs.declared.manifest.Entry.{Entry}
 use Rattle.flow_segment.specs.Segment.{part_octets}
 use Rattle.flow_snapshot.specs.Files.{cut_into}
-use Rattle.flow_recover.specs.State.{Part}
+use Rattle.flow_model.specs.State.{Part}
 
 -- A segment is its prefix and its messages, cut off as a directory cuts them; a rolled or wide file is all `front`. On
 -- a disk that isn't honest a file may hold anything, and this is what it is taken for.

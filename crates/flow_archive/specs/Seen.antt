@@ -10,12 +10,12 @@ use Rattle.flow_manifest.specs.declared.manifest.Manifest.{Manifest}
 use Rattle.flow_manifest.specs.declared.slots.Slots.{Slots}
 use Rattle.flow_manifest.specs.Following.{front_of}
 use Rattle.flow_segment.specs.Carry.{Carry}
-use Rattle.flow_snapshot.specs.Shelf.{Shelf}
-use Rattle.flow_recover.specs.State.{State, at_rest, reopened}
-use Rattle.flow_recover.specs.Chain.{HandsOn, IsSegment}
+use Rattle.flow_model.specs.Shelf.{Shelf}
+use Rattle.flow_model.specs.State.{State, at_rest, reopened}
+use Rattle.flow_model.specs.Chain.{HandsOn, IsSegment}
 use Rattle.flow_recover.specs.Kept.{IsCounted, IsKept}
 use Rattle.flow_recover.specs.Opening.{FrozenStand}
-use Rattle.flow_recover.specs.Standing.{StandsFor}
+use Rattle.flow_model.specs.Standing.{StandsFor}
 use Rattle.flow_archive.specs.declared.refusal.ArchiveError.{ArchiveError}
 use Rattle.flow_archive.specs.declared.refusal.ArchiveError.TheVariants.{Fault}
 use Rattle.flow_archive.specs.Owned.{octets_in, AreHeldAs, Frozen}

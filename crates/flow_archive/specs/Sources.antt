@@ -24,10 +24,10 @@ use Rattle.flow_segment.specs.Prefix.{IsRestated}
 use Rattle.flow_segment.specs.Segment.{part_octets}
 use Rattle.flow_segment.specs.declared.error.PartSumError.{PartSumError}
 use Rattle.flow_segment.specs.declared.error.PartSumError.TheVariants as part
-use Rattle.flow_recover.specs.Chain.{IsSegment}
-use Rattle.flow_recover.specs.Jobs.{AreRolledMessages, IsSourceSum}
-use Rattle.flow_recover.specs.Standing.{IsSealedAt}
-use Rattle.flow_recover.specs.State.{Part}
+use Rattle.flow_model.specs.Chain.{IsSegment}
+use Rattle.flow_model.specs.Jobs.{AreRolledMessages, IsSourceSum}
+use Rattle.flow_model.specs.Standing.{IsSealedAt}
+use Rattle.flow_model.specs.State.{Part}
 use Rattle.flow_archive.specs.declared.refusal.ArchiveError.{ArchiveError}
 use Rattle.flow_archive.specs.declared.refusal.ArchiveError.TheVariants as answer
 use Rattle.flow_archive.specs.declared.sources.Source.{Source}

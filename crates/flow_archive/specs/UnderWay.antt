@@ -7,8 +7,8 @@ use Rattle.flow_manifest.specs.declared.following.JobKind.{JobKind}
 use Rattle.flow_manifest.specs.Following.{count_of, source_of}
 use Rattle.flow_measure.specs.Sums.{Table, empty_table}
 use Rattle.flow_rolled.specs.Rollup.{IsRollup}
-use Rattle.flow_recover.specs.State.{Job, StagedFile, State}
-use Rattle.flow_recover.specs.Jobs.{source_parts, width_made, IsJobSum, IsStagedAt}
+use Rattle.flow_model.specs.State.{Job, StagedFile, State}
+use Rattle.flow_model.specs.Jobs.{source_parts, width_made, IsJobSum, IsStagedAt}
 use Rattle.flow_archive.specs.declared.rolling.JobStatus.{JobStatus}
 use Rattle.flow_archive.specs.Owned.{Frozen, IsAlone}
 use Rattle.flow_archive.specs.Sources.{IsJobTime}

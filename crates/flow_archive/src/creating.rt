@@ -4,8 +4,8 @@ ghost use Rattle.std.specs.Prelude.{◌≡◌, ℕ, ◌≤◌, ◌%◌, false, I
 ghost use Rattle.flow_disk.specs.Disk.{AllImages};
 ghost use Rattle.flow_disk.specs.Cause.{FailsOnlyByFault, HasCause};
 ghost use Rattle.flow_manifest.specs.Manifest.{IsInRange, IsValidManifest, head_of, manifest_octets};
-ghost use Rattle.flow_recover.specs.State.{empty_state, first_manifest};
-ghost use Rattle.flow_recover.specs.Standing.{IsKnown, StandsFor};
+ghost use Rattle.flow_model.specs.State.{empty_state, first_manifest};
+ghost use Rattle.flow_model.specs.Standing.{IsKnown, StandsFor};
 ghost use Rattle.flow_recover.specs.Kept.{IsReadyFor};
 ghost use Rattle.flow_archive.specs.Beginning.{HasFiles, IsNotMade, answer_of, disk_of, first_slots, widest};
 

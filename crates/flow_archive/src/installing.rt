@@ -7,9 +7,9 @@ ghost use Rattle.flow_disk.specs.Cause.{FailsOnlyByFault};
 ghost use Rattle.flow_manifest.specs.declared.following.JobKind.{JobKind};
 ghost use Rattle.flow_manifest.specs.declared.slots.Slots.{Slots};
 ghost use Rattle.flow_manifest.specs.Slots.{HasGate, other};
-ghost use Rattle.flow_recover.specs.State.{reopened, StagedFile, State};
-ghost use Rattle.flow_recover.specs.Jobs.{replaced};
-ghost use Rattle.flow_recover.specs.Standing.{IsKnown, StandsForEither};
+ghost use Rattle.flow_model.specs.State.{reopened, StagedFile, State};
+ghost use Rattle.flow_model.specs.Jobs.{replaced};
+ghost use Rattle.flow_model.specs.Standing.{IsKnown, StandsForEither};
 ghost use Rattle.flow_archive.specs.Installing.{IsInstall};
 
 use flow_disk::{Disk, DiskError};

@@ -7,9 +7,9 @@ ghost use Rattle.flow_manifest.specs.declared.following.JobKind.TheVariants.{Mer
 ghost use Rattle.flow_manifest.specs.declared.manifest.Manifest.{Manifest};
 ghost use Rattle.flow_measure.specs.History.{History};
 ghost use Rattle.flow_snapshot.specs.Totals.{IsWithinLimits};
-ghost use Rattle.flow_recover.specs.Jobs.{width_made, IsJobSum};
-ghost use Rattle.flow_recover.specs.Shelved.{HasHistory};
-ghost use Rattle.flow_recover.specs.State.{Part};
+ghost use Rattle.flow_model.specs.Jobs.{width_made, IsJobSum};
+ghost use Rattle.flow_model.specs.Shelved.{HasHistory};
+ghost use Rattle.flow_model.specs.State.{Part};
 ghost use Rattle.flow_archive.specs.Advancing.{HasTaken, IsNotTaken, IsTaken, IsTakenIn};
 ghost use Rattle.flow_archive.specs.JobAnswers.{begun, dropped, AnswersBegin, AnswersDrop, AnswersStep};
 ghost use Rattle.flow_archive.specs.JobAnswers.{IsStagedGone, IsStepped};

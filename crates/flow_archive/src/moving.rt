@@ -7,8 +7,8 @@ ghost use Rattle.flow_disk.specs.Cause.{FailsOnlyByFault};
 ghost use Rattle.flow_manifest.specs.declared.slots.Slots.{Slots};
 ghost use Rattle.flow_manifest.specs.Following.{active_of, sealed_entry};
 ghost use Rattle.flow_manifest.specs.Slots.{HasGate, other};
-ghost use Rattle.flow_recover.specs.State.{State, end_of, moved_on, reopened};
-ghost use Rattle.flow_recover.specs.Standing.{IsKnown, IsSealedAt, StandsForEither};
+ghost use Rattle.flow_model.specs.State.{State, end_of, moved_on, reopened};
+ghost use Rattle.flow_model.specs.Standing.{IsKnown, IsSealedAt, StandsForEither};
 ghost use Rattle.flow_archive.specs.Moving.{IsMove, MovesMarks};
 
 use flow_disk::{Disk, DiskError};

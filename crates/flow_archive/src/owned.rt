@@ -13,9 +13,9 @@ ghost use Rattle.flow_archive.specs.Owned.{all_frozen, frozen_as, rolled_in, seg
 ghost use Rattle.flow_archive.specs.Owned.{is_shared, unshared, MayBeFrozen};
 ghost use Rattle.flow_archive.specs.Owned as own;
 ghost use Rattle.flow_archive.specs.Sources.{IsNotRead, IsRead, IsReadWhole, IsSource};
-ghost use Rattle.flow_recover.specs.Jobs.{width_made};
+ghost use Rattle.flow_model.specs.Jobs.{width_made};
 ghost use Rattle.flow_recover.specs.Kept.{AreFilesOf};
-ghost use Rattle.flow_recover.specs.State.{Part};
+ghost use Rattle.flow_model.specs.State.{Part};
 
 use crate::sources::{Source, SourceError, sum_file, sum_segment};
 use bytes::Bytes;

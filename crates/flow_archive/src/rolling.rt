@@ -2,7 +2,7 @@
 
 ghost use Rattle.std.specs.Prelude.{◌≡◌, ◌<◌};
 ghost use Rattle.flow_manifest.specs.Following.{count_before, source_of};
-ghost use Rattle.flow_recover.specs.Jobs.{width_made};
+ghost use Rattle.flow_model.specs.Jobs.{width_made};
 ghost use Rattle.flow_archive.specs.Answers.{job_generations};
 ghost use Rattle.flow_archive.specs.UnderWay.{fresh, job_in, made_in, status_of};
 

@@ -10,9 +10,9 @@ ghost use Rattle.flow_rolled.specs.Stored.{export_time};
 ghost use Rattle.flow_segment.specs.Carry.{Carry};
 ghost use Rattle.flow_segment.specs.PartFlows.{greatest_time};
 ghost use Rattle.flow_segment.specs.Segment.{part_octets};
-ghost use Rattle.flow_recover.specs.State.{Part};
-ghost use Rattle.flow_recover.specs.Chain.{IsSegment};
-ghost use Rattle.flow_recover.specs.Standing.{IsSealedAt};
+ghost use Rattle.flow_model.specs.State.{Part};
+ghost use Rattle.flow_model.specs.Chain.{IsSegment};
+ghost use Rattle.flow_model.specs.Standing.{IsSealedAt};
 ghost use Rattle.flow_archive.specs.Sources.{of_disk, of_part, of_rows, of_scan, of_source, of_sums, IsSummed};
 ghost use Rattle.flow_archive.specs.Sources.{IsFileRefusal, IsFileSum, IsSegmentRefusal, IsSegmentSum};
 

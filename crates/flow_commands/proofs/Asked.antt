@@ -12,15 +12,15 @@ use Rattle.flow_snapshot.specs.declared.error.QueryError.TheVariants as query
 use Rattle.flow_snapshot.specs.Sight.{Sight}
 use Rattle.flow_snapshot.specs.Told.{IsNoDamage}
 use Rattle.flow_snapshot.specs.Totals.{IsSpent, SumsFit}
-use Rattle.flow_snapshot.specs.Shelf.{Shelf}
-use Rattle.flow_snapshot.specs.Views.{IsViewOf}
+use Rattle.flow_model.specs.Shelf.{Shelf}
+use Rattle.flow_model.specs.Views.{IsViewOf}
 use Rattle.flow_recover.specs.declared.error.RecoverError.{RecoverError}
 use Rattle.flow_recover.specs.declared.error.RecoverError.TheVariants as opening
-use Rattle.flow_recover.specs.Chain.{IsChained}
-use Rattle.flow_recover.specs.Shelved.{active_shelf, shelf_of}
-use Rattle.flow_recover.specs.Standing.{StandsFor}
-use Rattle.flow_recover.specs.State.{State}
-use Rattle.flow_recover.proofs.Viewing.{widths}
+use Rattle.flow_model.specs.Chain.{IsChained}
+use Rattle.flow_model.specs.Shelved.{active_shelf, shelf_of}
+use Rattle.flow_model.specs.Standing.{StandsFor}
+use Rattle.flow_model.specs.State.{State}
+use Rattle.flow_model.proofs.Viewing.{widths}
 use Rattle.flow_commands.specs.declared.archive_refusal.ArchiveRefusal.{ArchiveRefusal}
 use Rattle.flow_commands.specs.declared.archive_refusal.ArchiveRefusal.TheVariants as refusal
 use Rattle.flow_report.specs.declared.text_error.TextError.{TextError}

@@ -12,14 +12,14 @@ use Rattle.flow_measure.specs.View.{View}
 use Rattle.flow_snapshot.specs.declared.error.QueryError.{QueryError}
 use Rattle.flow_snapshot.specs.declared.error.QueryError.TheVariants as query
 use Rattle.flow_snapshot.specs.Shares.{AllPartsFit, AreNarrow, AreWide}
-use Rattle.flow_snapshot.specs.Shelf.{Shelf}
+use Rattle.flow_model.specs.Shelf.{Shelf}
 use Rattle.flow_snapshot.specs.Totals.{IsSpent, SumsFit}
-use Rattle.flow_snapshot.specs.Views.{IsViewOf}
+use Rattle.flow_model.specs.Views.{IsViewOf}
 use Rattle.flow_snapshot.proofs.Dealing.{parts_fit, parts_of}
-use Rattle.flow_recover.specs.Chain.{IsChained}
-use Rattle.flow_recover.specs.Shelved.{shelf_of}
-use Rattle.flow_recover.specs.Standing.{StandsFor}
-use Rattle.flow_recover.specs.State.{end_of, State}
+use Rattle.flow_model.specs.Chain.{IsChained}
+use Rattle.flow_model.specs.Shelved.{shelf_of}
+use Rattle.flow_model.specs.Standing.{StandsFor}
+use Rattle.flow_model.specs.State.{end_of, State}
 use Rattle.flow_commands.specs.declared.archive_files.FileLine.{FileLine}
 use Rattle.flow_commands.specs.declared.archive_files.Starts.{Starts}
 use Rattle.flow_commands.specs.ArchiveFiles.{file_line, line_of, lines_from, lines_of, AreFileLines}

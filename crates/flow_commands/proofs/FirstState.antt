@@ -1,7 +1,7 @@
 -- The first state of an archive, by its numbers.
 use Rattle.std.proofs.Common.{◌≡◌, ◌∙◌, ap, ap₂, ℕ, Option, Some, None}
 use Rattle.std.specs.Prelude.{unwrap_or}
-use Rattle.flow_recover.specs.State.{State, empty_state}
+use Rattle.flow_model.specs.State.{State, empty_state}
 use Rattle.flow_archive.specs.Beginning.{widest}
 use Rattle.flow_commands.specs.Plans.{Plan}
 use Rattle.flow_commands.specs.Made.{first_state}

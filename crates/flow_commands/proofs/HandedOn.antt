@@ -4,8 +4,8 @@ use Rattle.std.specs.Prelude.{false, IsTrue}
 use Rattle.flow_disk.specs.declared.disk.Disk.{Ghosts}
 use Rattle.flow_disk.specs.Disk.{AllImages}
 use Rattle.flow_manifest.specs.Slots.{reads_of}
-use Rattle.flow_recover.specs.Standing.{StandsFor}
-use Rattle.flow_recover.specs.State.{State, reopened}
+use Rattle.flow_model.specs.Standing.{StandsFor}
+use Rattle.flow_model.specs.State.{State, reopened}
 use Rattle.flow_archive.specs.Seen.{Seen}
 use Rattle.flow_commands.specs.Opened.{IsAsked, IsHandedOn, KeepsArchive}
 

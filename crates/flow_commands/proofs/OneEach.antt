@@ -17,11 +17,11 @@ use Rattle.flow_measure.specs.declared.rows.Sums.{Sums}
 use Rattle.flow_measure.specs.declared.rows.Row.{Row}
 use Rattle.flow_measure.specs.Sums.{gathered, key_cmp}
 use Rattle.flow_measure.proofs.Gathering.{entries_of_none, gathered-entries}
-use Rattle.flow_recover.specs.Shelved.{active_shelf, shelf_of, shelved, shelved_first}
-use Rattle.flow_recover.specs.Standing.{PartsStand, StandsAs, StandsFor}
-use Rattle.flow_recover.specs.State.{Part, State}
+use Rattle.flow_model.specs.Shelved.{active_shelf, shelf_of, shelved, shelved_first}
+use Rattle.flow_model.specs.Standing.{PartsStand, StandsAs, StandsFor}
+use Rattle.flow_model.specs.State.{Part, State}
 use Rattle.flow_snapshot.specs.Shares.{narrow_turn, next_turn, own, summed, turn_after, AreNarrow, AreWide, IsFileSum, IsSegmentSum}
-use Rattle.flow_snapshot.specs.Shelf.{Shelf}
+use Rattle.flow_model.specs.Shelf.{Shelf}
 use Rattle.flow_commands.specs.declared.archive_files.Starts.{Starts}
 use Rattle.flow_commands.specs.ArchiveFiles.{alone, rows_in, starts_of, starts_of_file, starts_or}
 

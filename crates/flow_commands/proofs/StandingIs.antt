@@ -1,8 +1,8 @@
 -- What an archive has, by what an opening finds.
 use Rattle.std.proofs.Common.{◌≡◌, ◌∙◌, ap, ℕ, List}
 use Rattle.flow_manifest.specs.declared.manifest.Manifest.{Manifest}
-use Rattle.flow_recover.specs.Standing.{StandsFor}
-use Rattle.flow_recover.specs.State.{Part, State, at_rest}
+use Rattle.flow_model.specs.Standing.{StandsFor}
+use Rattle.flow_model.specs.State.{Part, State, at_rest}
 use Rattle.flow_archive.specs.Answers.{position_of}
 use Rattle.flow_commands.specs.declared.checking.Standing.{Standing}
 use Rattle.flow_commands.specs.Check.{standing_by, standing_of}

@@ -11,11 +11,11 @@ use Rattle.flow_manifest.specs.declared.manifest.Kind.TheVariants.{Active, Rolle
 use Rattle.flow_measure.specs.declared.rows.Row.{Row}
 use Rattle.flow_measure.specs.declared.rows.Sums.{Sums}
 use Rattle.flow_measure.specs.Sums.{key_cmp, rows_between, Table}
-use Rattle.flow_recover.specs.Shelved.{shelf_of}
-use Rattle.flow_recover.specs.Standing.{StandsFor}
-use Rattle.flow_recover.specs.State.{end_of, State}
+use Rattle.flow_model.specs.Shelved.{shelf_of}
+use Rattle.flow_model.specs.Standing.{StandsFor}
+use Rattle.flow_model.specs.State.{end_of, State}
 use Rattle.flow_snapshot.specs.Shares.{narrow_turn, own, summed, AreNarrow, AreWide}
-use Rattle.flow_snapshot.specs.Shelf.{Shelf}
+use Rattle.flow_model.specs.Shelf.{Shelf}
 use Rattle.flow_snapshot.specs.Totals.{SumsFit}
 use Rattle.flow_commands.specs.declared.archive_files.FileLine.{FileLine}
 use Rattle.flow_commands.specs.declared.archive_files.Starts.{Starts}

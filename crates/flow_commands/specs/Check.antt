@@ -7,8 +7,8 @@ use Rattle.flow_manifest.specs.declared.manifest.Kind.TheVariants.{Rolled, Seale
 use Rattle.flow_manifest.specs.declared.manifest.Manifest.{Manifest}
 use Rattle.flow_manifest.specs.Following.{count_of}
 use Rattle.flow_recover.specs.Opening.{IsDeviceOrMemory, StandsForNone}
-use Rattle.flow_recover.specs.Standing.{StandsFor}
-use Rattle.flow_recover.specs.State.{State}
+use Rattle.flow_model.specs.Standing.{StandsFor}
+use Rattle.flow_model.specs.State.{State}
 use Rattle.flow_archive.specs.Answers.{position_of}
 use Rattle.flow_commands.specs.declared.archive_refusal.ArchiveRefusal.{ArchiveRefusal}
 use Rattle.flow_commands.specs.declared.archive_refusal.ArchiveRefusal.TheVariants.{Folder, Opening, Archive}

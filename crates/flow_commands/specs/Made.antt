@@ -1,6 +1,6 @@
 -- A new archive, by what was asked for.
 use Rattle.std.specs.Prelude.{unwrap_or}
-use Rattle.flow_recover.specs.State.{State, empty_state}
+use Rattle.flow_model.specs.State.{State, empty_state}
 use Rattle.flow_archive.specs.Beginning.{widest}
 use Rattle.flow_commands.specs.Plans.{Plan}
 

@@ -4,8 +4,8 @@ use Rattle.flow_disk.specs.declared.disk.Disk.{Ghosts}
 use Rattle.flow_disk.specs.Disk.{AllImages}
 use Rattle.flow_disk.specs.Calls.{LeavesOnly}
 use Rattle.flow_manifest.specs.Slots.{reads_of}
-use Rattle.flow_recover.specs.Standing.{StandsFor, StandsForEither}
-use Rattle.flow_recover.specs.State.{State, reopened}
+use Rattle.flow_model.specs.Standing.{StandsFor, StandsForEither}
+use Rattle.flow_model.specs.State.{State, reopened}
 use Rattle.flow_archive.specs.Seen.{Seen}
 
 -- On an honest disk a stop at any moment leaves what represents the archive that was there: where a stop had left one

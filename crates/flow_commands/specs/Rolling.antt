@@ -10,7 +10,7 @@ use Rattle.flow_disk.specs.Disk.{AllImages}
 use Rattle.flow_manifest.specs.Slots.{reads_of}
 use Rattle.flow_recover.specs.declared.error.RecoverError.{RecoverError}
 use Rattle.flow_recover.specs.declared.error.RecoverError.TheVariants as opening
-use Rattle.flow_recover.specs.Standing.{StandsFor}
+use Rattle.flow_model.specs.Standing.{StandsFor}
 use Rattle.flow_archive.specs.declared.refusal.ArchiveError.{ArchiveError}
 use Rattle.flow_archive.specs.declared.refusal.ArchiveError.TheVariants as event
 use Rattle.flow_archive.specs.declared.refusal.Refused.{Refused}

@@ -1,13 +1,13 @@
 //! An archive that is asked.
 
 ghost use Rattle.std.specs.Prelude.{List, ℕ, IsTrue, IfOk};
-ghost use Rattle.flow_recover.specs.Standing.{StandsFor};
+ghost use Rattle.flow_model.specs.Standing.{StandsFor};
 ghost use Rattle.flow_commands.specs.Asking.{IsReadAs};
 ghost use Rattle.flow_commands.specs.Opened.{IsAsked};
 
 use flow_archive::Archive;
 use flow_disk::{Disk, SealedFile};
-use flow_recover::one_view_of_a_state;
+use flow_model::one_view_of_a_state;
 use flow_snapshot::Snapshot;
 use std::alloc::{AllocError, Global};
 

@@ -3,7 +3,7 @@
 ghost use Rattle.std.specs.Prelude.{◌≡◌, ℕ, false, IsTrue, OnOk, IfOk, IfErr};
 ghost use Rattle.flow_disk.specs.Disk.{AllImages};
 ghost use Rattle.flow_disk.specs.Cause.{HasCause};
-ghost use Rattle.flow_recover.specs.Standing.{StandsFor};
+ghost use Rattle.flow_model.specs.Standing.{StandsFor};
 ghost use Rattle.flow_archive.specs.Beginning.{HasFiles, IsNotMade, answer_of, disk_of};
 ghost use Rattle.flow_commands.specs.Made.{first_state};
 

@@ -5,7 +5,7 @@ ghost use Rattle.std.specs.Prelude.{IfOk, IfErr};
 ghost use Rattle.std.specs.Prelude.{IfSome};
 ghost use Rattle.std.specs.Io.KnownBytes.{Keeps};
 ghost use Rattle.flow_manifest.specs.Slots.{reads_of};
-ghost use Rattle.flow_recover.specs.Shelved.{shelf_of};
+ghost use Rattle.flow_model.specs.Shelved.{shelf_of};
 ghost use Rattle.flow_archive.specs.declared.refusal.ArchiveError.{ArchiveError as Refusal};
 ghost use Rattle.flow_feed.specs.declared.batch.Fed.{Fed as FedFile};
 ghost use Rattle.flow_commands.specs.Feeding.{FeedsLines, KeepsOrFeeds, TellsFed, TellsFile, TellsFiles};

@@ -4,9 +4,9 @@ ghost use Rattle.std.specs.Prelude.{◌≡◌, ◌<◌, ℕ, List, length};
 ghost use Rattle.std.specs.FinMap.{FinMap};
 ghost use Rattle.flow_measure.specs.declared.rows.Sums.{Sums};
 ghost use Rattle.flow_measure.specs.Sums.{key_cmp};
-ghost use Rattle.flow_recover.specs.Shelved.{shelf_of};
-ghost use Rattle.flow_recover.specs.Standing.{StandsFor};
-ghost use Rattle.flow_recover.specs.State.{State};
+ghost use Rattle.flow_model.specs.Shelved.{shelf_of};
+ghost use Rattle.flow_model.specs.Standing.{StandsFor};
+ghost use Rattle.flow_model.specs.State.{State};
 ghost use Rattle.flow_snapshot.specs.Shares.{AreNarrow, AreWide};
 ghost use Rattle.flow_commands.specs.ArchiveFiles.{alone, rows_in, starts_of, starts_of_file};
 

@@ -4,13 +4,13 @@ ghost use Rattle.std.specs.Prelude.{◌≡◌, ◌≢◌, List, ℕ, false, IsTr
 ghost use Rattle.flow_disk.specs.Cause.{HasCause};
 ghost use Rattle.flow_manifest.specs.Slots.{reads_of};
 ghost use Rattle.flow_archive.specs.Beginning.{answer_of, disk_of};
-ghost use Rattle.flow_recover.specs.Standing.{StandsFor};
+ghost use Rattle.flow_model.specs.Standing.{StandsFor};
 ghost use Rattle.flow_measure.specs.History.{History, IsHistory};
 ghost use Rattle.flow_measure.specs.Query.{totals_between, totals_in_view};
 ghost use Rattle.flow_measure.specs.View.{view_of, AreCountsOf, View};
 ghost use Rattle.flow_snapshot.specs.Told.{IsAnswered};
 ghost use Rattle.flow_snapshot.specs.Totals.{first_file, IsMade, IsWithinLimits, SumsFit};
-ghost use Rattle.flow_snapshot.specs.Views.{IsViewOf};
+ghost use Rattle.flow_model.specs.Views.{IsViewOf};
 ghost use Rattle.flow_commands.specs.declared.archive_refusal.ArchiveRefusal.TheVariants as refusal;
 ghost use Rattle.flow_commands.specs.Opened.{IsAsked, IsHandedOn, KeepsArchive};
 ghost use Rattle.flow_commands.specs.Asking.{AreLinesOf, AreRows, IsBeforeWriting, IsNotFound, TellsLines};

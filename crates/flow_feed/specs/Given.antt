@@ -4,7 +4,7 @@ use Rattle.std.specs.Prelude.{None, Result, Ok, Err, IfErr}
 use Rattle.flow_disk.specs.declared.disk.Disk.{Ghosts}
 use Rattle.flow_disk.specs.Cause.{HasCause}
 use Rattle.flow_gate.specs.Gate.{octet_sum}
-use Rattle.flow_snapshot.specs.Changes.{Change}
+use Rattle.flow_model.specs.Changes.{Change}
 use Rattle.flow_archive.specs.declared.refusal.ArchiveError.{ArchiveError}
 use Rattle.flow_archive.specs.declared.refusal.ArchiveError.TheVariants.{Fault, NoRoom}
 use Rattle.flow_archive.specs.declared.refusal.ArchiveError.TheVariants as archive

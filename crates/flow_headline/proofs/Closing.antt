@@ -7,7 +7,7 @@ use Rattle.flow_disk.specs.declared.disk.Disk.{Ghosts}
 use Rattle.flow_gate.specs.Scan.{texts}
 use Rattle.flow_manifest.specs.declared.following.JobKind.{JobKind}
 use Rattle.flow_manifest.specs.declared.following.JobKind.TheVariants.{Roll, Merge}
-use Rattle.flow_recover.specs.State.{State}
+use Rattle.flow_model.specs.State.{State}
 use Rattle.flow_archive.specs.declared.event.Answer.{Answer}
 use Rattle.flow_archive.specs.declared.event.Answer.TheVariants.{Position, Sealed, Began, Left, Written, Dropped, Retired}
 use Rattle.flow_archive.specs.declared.event.Event.{Event}

@@ -5,9 +5,9 @@ use Rattle.std.specs.Prelude.{IsErr}
 use Rattle.std.specs.List.{AllByRecursion}
 use Rattle.flow_disk.specs.declared.disk.Disk.{Ghosts}
 use Rattle.flow_measure.specs.History.{History}
-use Rattle.flow_recover.specs.State.{State, reopened}
-use Rattle.flow_recover.specs.Shelved.{HasHistory}
-use Rattle.flow_recover.specs.Standing.{StandsFor}
+use Rattle.flow_model.specs.State.{State, reopened}
+use Rattle.flow_model.specs.Shelved.{HasHistory}
+use Rattle.flow_model.specs.Standing.{StandsFor}
 use Rattle.flow_archive.specs.declared.event.Answer.{Answer}
 use Rattle.flow_archive.specs.declared.event.Event.{Event}
 use Rattle.flow_archive.specs.declared.refusal.ArchiveError.{ArchiveError}

@@ -16,19 +16,19 @@ use Rattle.flow_measure.proofs.Histories.{read_again}
 use Rattle.flow_measure.proofs.ViewLaws.{totals_same}
 use Rattle.flow_rolled.specs.Rollup.{IsRollup}
 use Rattle.flow_segment.specs.Carry.{Carry, octets_of, prefix_of}
-use Rattle.flow_snapshot.specs.Changes.{counts_of}
-use Rattle.flow_snapshot.specs.Shelf.{Shelf, cut_of, second_of}
-use Rattle.flow_snapshot.specs.Views.{IsViewOf}
-use Rattle.flow_snapshot.proofs.Accepting.{templates_then}
-use Rattle.flow_snapshot.proofs.Following.{all_counted}
-use Rattle.flow_recover.specs.Jobs.{history_made, replaced, replaced_parts, table_made, width_made}
-use Rattle.flow_recover.specs.State.{Job, Part, StagedFile, State, appended, moved_on, reopened}
-use Rattle.flow_recover.specs.Chain.{HandsOn, IsSegment}
-use Rattle.flow_recover.specs.Shelved.{HasHistory, shelf_of}
-use Rattle.flow_recover.specs.Standing.{PartsStand, StandsFor}
-use Rattle.flow_recover.proofs.History.{append_follows, seal_follows}
-use Rattle.flow_recover.proofs.Replacing.{history_replaced, sources_hold}
-use Rattle.flow_recover.proofs.Viewing.{handed_on, one_view_of}
+use Rattle.flow_model.specs.Changes.{counts_of}
+use Rattle.flow_model.specs.Shelf.{Shelf, cut_of, second_of}
+use Rattle.flow_model.specs.Views.{IsViewOf}
+use Rattle.flow_model.proofs.Accepting.{templates_then}
+use Rattle.flow_model.proofs.Following.{all_counted}
+use Rattle.flow_model.specs.Jobs.{history_made, replaced, replaced_parts, table_made, width_made}
+use Rattle.flow_model.specs.State.{Job, Part, StagedFile, State, appended, moved_on, reopened}
+use Rattle.flow_model.specs.Chain.{HandsOn, IsSegment}
+use Rattle.flow_model.specs.Shelved.{HasHistory, shelf_of}
+use Rattle.flow_model.specs.Standing.{PartsStand, StandsFor}
+use Rattle.flow_model.proofs.History.{append_follows, seal_follows}
+use Rattle.flow_model.proofs.Replacing.{history_replaced, sources_hold}
+use Rattle.flow_model.proofs.Viewing.{handed_on, one_view_of}
 use Rattle.flow_archive.specs.declared.event.Answer.{Answer}
 use Rattle.flow_archive.specs.declared.event.Answer.TheVariants.{Position, Sealed}
 use Rattle.flow_archive.specs.declared.event.Event.{Event}

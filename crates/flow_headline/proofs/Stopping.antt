@@ -9,8 +9,8 @@ use Rattle.flow_memory_disk.specs.Memory.{left_of, moment_of, story_of}
 use Rattle.flow_memory_disk.specs.Sound.{now_alone, now_counts, sound}
 use Rattle.flow_memory_disk.specs.Stopped.{stopped}
 use Rattle.flow_memory_disk.specs.Stopping.{CanCrash}
-use Rattle.flow_recover.specs.State.{State, reopened}
-use Rattle.flow_recover.specs.Standing.{StandsFor}
+use Rattle.flow_model.specs.State.{State, reopened}
+use Rattle.flow_model.specs.Standing.{StandsFor}
 use Rattle.flow_archive.specs.declared.event.Answer.{Answer}
 use Rattle.flow_archive.specs.declared.event.Event.{Event}
 use Rattle.flow_archive.specs.declared.refusal.ArchiveError.{ArchiveError}

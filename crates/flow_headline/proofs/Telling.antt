@@ -11,14 +11,14 @@ use Rattle.flow_measure.specs.Query.{totals_in_view}
 use Rattle.flow_measure.specs.View.{View, view_of, AreCountsOf}
 use Rattle.flow_snapshot.specs.declared.error.QueryError.{QueryError}
 use Rattle.flow_snapshot.specs.declared.error.QueryError.TheVariants as query
-use Rattle.flow_snapshot.specs.Changes.{counts_of}
-use Rattle.flow_snapshot.specs.Shelf.{Shelf}
+use Rattle.flow_model.specs.Changes.{counts_of}
+use Rattle.flow_model.specs.Shelf.{Shelf}
 use Rattle.flow_snapshot.specs.Told.{IsNoDamage}
 use Rattle.flow_snapshot.specs.Totals.{first_file, IsSpent, IsWithinLimits, SumsFit}
-use Rattle.flow_snapshot.specs.Views.{IsViewOf}
-use Rattle.flow_snapshot.proofs.Following.{all_counted}
-use Rattle.flow_recover.specs.State.{State}
-use Rattle.flow_recover.specs.Shelved.{shelf_of}
+use Rattle.flow_model.specs.Views.{IsViewOf}
+use Rattle.flow_model.proofs.Following.{all_counted}
+use Rattle.flow_model.specs.State.{State}
+use Rattle.flow_model.specs.Shelved.{shelf_of}
 use Rattle.flow_headline.specs.declared.error.NotOpened.TheVariants.{OutOfMemory, NoSuchStop}
 use Rattle.flow_headline.specs.declared.error.NotTold.{NotTold}
 use Rattle.flow_headline.specs.declared.error.NotTold.TheVariants.{NotOpened, NotAnswered}

@@ -9,11 +9,11 @@ use Rattle.flow_measure.specs.History.{Accepted, History}
 use Rattle.flow_measure.specs.Query.{totals_between, totals_in_view}
 use Rattle.flow_measure.specs.View.{View}
 use Rattle.flow_segment.specs.Carry.{octets_of}
-use Rattle.flow_snapshot.specs.Shelf.{cut_of, second_of}
-use Rattle.flow_snapshot.specs.Views.{IsViewOf}
-use Rattle.flow_recover.specs.State.{State, reopened}
-use Rattle.flow_recover.specs.Shelved.{HasHistory, shelf_of}
-use Rattle.flow_recover.specs.Standing.{StandsFor}
+use Rattle.flow_model.specs.Shelf.{cut_of, second_of}
+use Rattle.flow_model.specs.Views.{IsViewOf}
+use Rattle.flow_model.specs.State.{State, reopened}
+use Rattle.flow_model.specs.Shelved.{HasHistory, shelf_of}
+use Rattle.flow_model.specs.Standing.{StandsFor}
 use Rattle.flow_archive.specs.declared.event.Answer.{Answer}
 use Rattle.flow_archive.specs.declared.event.Event.{Event}
 use Rattle.flow_archive.specs.declared.event.Event.TheVariants.{Append, AppendBatch, Seal, RollBegin, MergeBegin}

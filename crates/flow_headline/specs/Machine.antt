@@ -19,10 +19,10 @@ use Rattle.flow_measure.specs.Query.{totals_between}
 use Rattle.flow_measure.specs.View.{View}
 use Rattle.flow_snapshot.specs.declared.error.QueryError.TheVariants as query
 use Rattle.flow_snapshot.specs.Totals.{first_file, IsSpent, IsWithinLimits, SumsFit}
-use Rattle.flow_snapshot.specs.Views.{IsViewOf}
-use Rattle.flow_recover.specs.State.{State}
-use Rattle.flow_recover.specs.Shelved.{HasHistory, shelf_of}
-use Rattle.flow_recover.specs.Standing.{StandsFor}
+use Rattle.flow_model.specs.Views.{IsViewOf}
+use Rattle.flow_model.specs.State.{State}
+use Rattle.flow_model.specs.Shelved.{HasHistory, shelf_of}
+use Rattle.flow_model.specs.Standing.{StandsFor}
 use Rattle.flow_archive.specs.declared.event.Answer.{Answer}
 use Rattle.flow_archive.specs.declared.event.Event.{Event}
 use Rattle.flow_archive.specs.declared.refusal.ArchiveError.{ArchiveError}

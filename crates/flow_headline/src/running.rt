@@ -3,8 +3,8 @@
 ghost use Rattle.std.specs.Prelude.{◌≡◌, ◌≤◌, ℕ, false, All, IfErr, IfOk, IsTrue, MatchResult};
 ghost use Rattle.flow_disk.specs.Disk.{AllImages};
 ghost use Rattle.flow_disk.specs.Calls.{LeavesOnly};
-ghost use Rattle.flow_recover.specs.State.{State};
-ghost use Rattle.flow_recover.specs.Standing.{StandsFor};
+ghost use Rattle.flow_model.specs.State.{State};
+ghost use Rattle.flow_model.specs.Standing.{StandsFor};
 ghost use Rattle.flow_archive.specs.Runs.{AreCaused, IsEvent, IsRun, IsSince, StandsForSome};
 ghost use Rattle.flow_headline.specs.Front.{EndsAtFault, IsFront, StopsBetween};
 

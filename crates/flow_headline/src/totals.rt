@@ -3,8 +3,8 @@
 ghost use Rattle.std.specs.Prelude.{◌≡◌, false, All, IfErr, IfOk};
 ghost use Rattle.flow_measure.specs.Query.{totals_in_view};
 ghost use Rattle.flow_measure.specs.View.{View};
-ghost use Rattle.flow_snapshot.specs.Views.{IsViewOf};
-ghost use Rattle.flow_recover.specs.Shelved.{shelf_of};
+ghost use Rattle.flow_model.specs.Views.{IsViewOf};
+ghost use Rattle.flow_model.specs.Shelved.{shelf_of};
 ghost use Rattle.flow_archive.specs.Runs.{IsEvent};
 ghost use Rattle.flow_headline.specs.Front.{EndsAtFault};
 ghost use Rattle.flow_headline.specs.Machine.{AreTotals, IsRefusal, IsUnanswered};

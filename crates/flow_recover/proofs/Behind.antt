@@ -22,11 +22,11 @@ use Rattle.flow_measure.specs.Sums.{Table}
 use Rattle.flow_rolled.specs.Rollup.{IsRollup}
 use Rattle.flow_segment.specs.Carry.{Carry, carry_from, no_carry, octets_of, prefix_of}
 use Rattle.flow_segment.specs.Prefix.{AreRead}
-use Rattle.flow_snapshot.proofs.Accepting.{read_as, read_once}
-use Rattle.flow_recover.specs.State.{Part}
-use Rattle.flow_recover.specs.Chain.{ArePartsBehind, IsCalledFor, IsPartBehind, IsSegment}
+use Rattle.flow_model.proofs.Accepting.{read_as, read_once}
+use Rattle.flow_model.specs.State.{Part}
+use Rattle.flow_model.specs.Chain.{ArePartsBehind, IsCalledFor, IsPartBehind, IsSegment}
 use Rattle.flow_recover.specs.Reading.{IsHeldBehind, IsCalled, IsRestatement}
-use Rattle.flow_recover.specs.Standing.{IsRolledAt, IsSealedAt, PartsStand, StandsAs}
+use Rattle.flow_model.specs.Standing.{IsRolledAt, IsSealedAt, PartsStand, StandsAs}
 use Rattle.flow_recover.proofs.Accepting.{carry_join, carry_templates}
 use Rattle.flow_recover.proofs.Recovering.{one_part}
 

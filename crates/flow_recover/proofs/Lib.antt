@@ -1,9 +1,3 @@
-pub mod Viewing
-pub mod History
-pub mod Stand
 pub mod Recovering
 pub mod Accepting
 pub mod Behind
-pub mod Installing
-pub mod Sourcing
-pub mod Replacing

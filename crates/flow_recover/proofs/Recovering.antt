@@ -20,10 +20,10 @@ use Rattle.flow_manifest.specs.Slots.{file_of, other, reads_of, AreSlots}
 use Rattle.flow_manifest.proofs.Swaps.{same_slots}
 use Rattle.flow_manifest.proofs.OneInForce.{one_in_force}
 use Rattle.flow_segment.specs.Steps.{KeepsFront}
-use Rattle.flow_recover.specs.State.{at_rest, Part, State, end_of, reopened}
+use Rattle.flow_model.specs.State.{at_rest, Part, State, end_of, reopened}
 use Rattle.flow_manifest.specs.Following.{active_of, front_of, no_entry}
-use Rattle.flow_recover.specs.Standing.{StandsForEither, IsActiveAt, StandsAs, PartsStand, HoldsFiles, StandsFor}
-use Rattle.flow_recover.specs.Standing.{IsKnown, is_file_of, SameNamed}
+use Rattle.flow_model.specs.Standing.{StandsForEither, IsActiveAt, StandsAs, PartsStand, HoldsFiles, StandsFor}
+use Rattle.flow_model.specs.Standing.{IsKnown, is_file_of, SameNamed}
 use Rattle.flow_recover.specs.declared.error.RecoverError.{RecoverError}
 use Rattle.flow_recover.specs.declared.error.RecoverError.TheVariants.{Damaged, Format, Entries, Cut, NoArchive, Fault}
 use Rattle.flow_recover.specs.declared.error.RecoverError.TheVariants.{OutOfMemory}
@@ -32,8 +32,8 @@ use Rattle.flow_recover.specs.Opening.{FilesStand, FrozenStand, IsDeviceOrMemory
 use Rattle.flow_segment.specs.Carry.{Carry}
 use Rattle.flow_manifest.proofs.Followers.{split, IsOther, AreEntries, are_entries}
 use Rattle.flow_manifest.proofs.EntryLists.{all_by}
-use Rattle.flow_recover.proofs.Stand.{all_first, all_last, own_first, slot_below, parts_along, files_same, valid_of}
-use Rattle.flow_recover.proofs.Stand.{cutting, keeps_shorter}
+use Rattle.flow_model.proofs.Stand.{all_first, all_last, own_first, slot_below, parts_along, files_same, valid_of}
+use Rattle.flow_model.proofs.Stand.{cutting, keeps_shorter}
 
 pub keeps_same : (count : ℕ) (a : List ℕ) → KeepsFront count a a
 keeps_same count a = record { front = refl; long = omega arith }

@@ -7,8 +7,8 @@ use Rattle.flow_manifest.specs.declared.slots.Slots.{Slots}
 use Rattle.flow_manifest.specs.Manifest.{IsValidManifest}
 use Rattle.flow_manifest.specs.Slots.{file_of}
 use Rattle.flow_manifest.specs.Following.{active_of, messages_of}
-use Rattle.flow_recover.specs.State.{State, end_of}
-use Rattle.flow_recover.specs.Standing.{IsKnown, IsWithinLimits}
+use Rattle.flow_model.specs.State.{State, end_of}
+use Rattle.flow_model.specs.Standing.{IsKnown, IsWithinLimits}
 
 -- What is counted of a state, whatever the disk: its last entry, the end of its messages, how many there are in all.
 pub record IsCounted (s : State) (last : Entry) (end total : ℕ) : Type 0 where

@@ -1,8 +1,8 @@
 -- Laws of what images represent.
 use Rattle.std.specs.Prelude.{◌≡◌, ℕ, List}
 use Rattle.flow_manifest.specs.declared.slots.Slots.{Slots}
-use Rattle.flow_recover.specs.State.{State, reopened}
-use Rattle.flow_recover.specs.Standing.{IsKnown, SameNamed, StandsFor}
+use Rattle.flow_model.specs.State.{State, reopened}
+use Rattle.flow_model.specs.Standing.{IsKnown, SameNamed, StandsFor}
 
 -- An image represents one state at most.
 abbrev pub OneState : Type 0

@@ -1,10 +1,5 @@
-pub mod State
-pub mod Chain
-pub mod Standing
 pub mod Kept
 pub mod Reading
 pub mod Opening
 pub mod Printed
-pub mod Jobs
 pub mod Laws
-pub mod Shelved

@@ -10,16 +10,16 @@ use Rattle.flow_manifest.specs.declared.error.OpenError.{OpenError}
 use Rattle.flow_manifest.specs.declared.error.OpenError.TheVariants as slot
 use Rattle.flow_manifest.specs.declared.manifest.Entry.{Entry}
 use Rattle.flow_manifest.specs.declared.manifest.Manifest.{Manifest}
-use Rattle.flow_recover.specs.Chain.{HandsOn, IsSegment}
+use Rattle.flow_model.specs.Chain.{HandsOn, IsSegment}
 use Rattle.flow_segment.specs.Carry.{Carry}
 use Rattle.flow_rolled.specs.declared.error.RowError.{RowError}
 use Rattle.flow_rolled.specs.declared.error.RowError.TheVariants as row
 use Rattle.flow_recover.specs.declared.error.RecoverError.{RecoverError}
 use Rattle.flow_recover.specs.declared.error.RecoverError.TheVariants.{Damaged, Format, Entries, Cut, NoArchive, Fault}
 use Rattle.flow_recover.specs.declared.error.RecoverError.TheVariants.{OutOfMemory}
-use Rattle.flow_recover.specs.State.{Part, State, at_rest}
-use Rattle.flow_recover.specs.Standing.{HoldsFiles, IsActiveAt, IsKnown, IsWithinLimits, PartsStand}
-use Rattle.flow_recover.specs.Standing.{StandsAs, StandsFor}
+use Rattle.flow_model.specs.State.{Part, State, at_rest}
+use Rattle.flow_model.specs.Standing.{HoldsFiles, IsActiveAt, IsKnown, IsWithinLimits, PartsStand}
+use Rattle.flow_model.specs.Standing.{StandsAs, StandsFor}
 use Rattle.flow_recover.specs.Kept.{AreFilesOf, IsCounted, IsReadyFor}
 use Rattle.flow_manifest.specs.Following.{active_of, front_of}
 use Rattle.flow_manifest.specs.Slots.{AreSlots}

@@ -5,8 +5,15 @@ use Rattle.std.specs.List.{AllByRecursion}
 use Rattle.flow_measure.specs.History.{Accepted}
 use Rattle.flow_segment.specs.Carry.{Carry, carry_from, no_carry, prefix_of}
 use Rattle.flow_segment.specs.Prefix.{AreRead}
+use Rattle.flow_gate.specs.Scan.{texts}
+use Rattle.flow_model.specs.State.{Part}
+use Rattle.flow_recover.specs.declared.active.ActiveSegment.{ActiveSegment}
 use Rattle.flow_recover.specs.declared.segments.Section.{Section}
 use Rattle.flow_recover.specs.declared.segments.Section.TheVariants.{Prefix, Messages}
+
+-- the active segment as it was read
+abbrev pub part_of : ActiveSegment → Part
+part_of segment = record { front = segment.prefix.items; messages = texts segment.messages.items }
 
 -- A message of a prefix has no data records.
 abbrev pub IsOf : Section → Accepted → Type 0

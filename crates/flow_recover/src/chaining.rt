@@ -6,10 +6,11 @@ ghost use Rattle.flow_measure.specs.Sums.{Table};
 ghost use Rattle.flow_rolled.specs.Rollup.{IsRollup};
 ghost use Rattle.flow_segment.specs.Carry.{no_carry, prefix_of, Carry};
 ghost use Rattle.flow_segment.specs.Prefix.{AreRead};
-ghost use Rattle.flow_recover.specs.State.{part_of, Part};
-ghost use Rattle.flow_recover.specs.Chain.{IsPartBehind, IsSegment};
+ghost use Rattle.flow_model.specs.State.{Part};
+ghost use Rattle.flow_recover.specs.Reading.{part_of};
+ghost use Rattle.flow_model.specs.Chain.{IsPartBehind, IsSegment};
 ghost use Rattle.flow_recover.specs.Reading.{AreOf, IsHeldBehind, IsCalled, IsRestatement};
-ghost use Rattle.flow_recover.specs.Standing.{IsSealedAt, StandsAs};
+ghost use Rattle.flow_model.specs.Standing.{IsSealedAt, StandsAs};
 
 use crate::active::ActiveSegment;
 use crate::error::RecoverError;

@@ -1,8 +1,8 @@
 //! Opening an archive: what an image of a disk represents, and the state that is found on it.
 //!
 //! Promised to the layers above: an image represents one state at most, files that its manifest doesn't name play no
-//! part, and what an open archive knows of an image is that it represents what is left of the archive on a disk.
-//! The shelf of a state has one view, and an archive's events move its history; a job moves its cuts alone.
+//! part, and what an open archive knows of an image is that it represents what is left of the archive on a disk. What
+//! states and images are, and what they mean, is in flow_model.
 //! Opening looks at what the files mean: messages are accepted, each prefix is the one that the segment before it
 //! determines, and rolled files are sums. It keeps at every moment what each image represented, and refuses for other
 //! reasons than the device and memory only where what is read represents no state. It finds the state that what is read
@@ -15,7 +15,6 @@ mod active;
 mod chaining;
 mod error;
 mod laws;
-mod meaning;
 mod opening;
 mod reading;
 mod segments;
@@ -25,5 +24,4 @@ mod tidying;
 pub use active::ActiveSegment;
 pub use error::RecoverError;
 pub use laws::what_an_image_stands_for;
-pub use meaning::{events_and_history, jobs_and_history, one_view_of_a_state};
 pub use opening::{Recovered, recover};

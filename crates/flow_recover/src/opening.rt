@@ -11,9 +11,10 @@ ghost use Rattle.flow_manifest.specs.declared.slots.Slot.{Slot};
 ghost use Rattle.flow_manifest.specs.Manifest.{IsValidManifest};
 ghost use Rattle.flow_manifest.specs.Slots.{file_of, reads_of};
 ghost use Rattle.flow_manifest.specs.Following.{active_of, front_of, no_entry};
-ghost use Rattle.flow_recover.specs.State.{Part, State, at_rest, part_of};
-ghost use Rattle.flow_recover.specs.Standing.{is_file_of, StandsForEither};
-ghost use Rattle.flow_recover.specs.Chain.{IsSegment};
+ghost use Rattle.flow_model.specs.State.{Part, State, at_rest};
+ghost use Rattle.flow_recover.specs.Reading.{part_of};
+ghost use Rattle.flow_model.specs.Standing.{is_file_of, StandsForEither};
+ghost use Rattle.flow_model.specs.Chain.{IsSegment};
 ghost use Rattle.flow_recover.specs.Kept.{IsCounted};
 ghost use Rattle.flow_recover.specs.Opening.{AreCutTo, IsDeviceOrMemory, IsRead, IsRecovered, StandsForNone};
 

@@ -8,7 +8,7 @@ ghost use Rattle.flow_disk.specs.Cause.{FailsOnlyByFault, HasCause};
 ghost use Rattle.flow_manifest.specs.declared.slots.Slot.{Slot};
 ghost use Rattle.flow_manifest.specs.Manifest.{IsValidManifest};
 ghost use Rattle.flow_manifest.specs.Slots.{file_of, reads_of, AreSlots};
-ghost use Rattle.flow_recover.specs.Standing.{is_file_of};
+ghost use Rattle.flow_model.specs.Standing.{is_file_of};
 ghost use Rattle.flow_recover.specs.Opening.{OnlySettles, IsDeviceOrMemory, StandsForNone};
 
 use crate::error::RecoverError;

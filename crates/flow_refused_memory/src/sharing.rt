@@ -2,7 +2,7 @@
 //! aren't shown because memory was refused are shown by `refresh`.
 
 ghost use Rattle.std.specs.Prelude.{◌≡◌};
-ghost use Rattle.flow_recover.specs.Shelved.{shelf_of};
+ghost use Rattle.flow_model.specs.Shelved.{shelf_of};
 
 use crate::events::Flow;
 use crate::run::{Ended, NEVER, TRIES, refused, write_row};

@@ -1,7 +1,7 @@
 //! Parts with an archive that threads share, and one reader, which learns each receipt.
 
 ghost use Rattle.std.specs.Prelude.{◌≡◌};
-ghost use Rattle.flow_recover.specs.Shelved.{shelf_of};
+ghost use Rattle.flow_model.specs.Shelved.{shelf_of};
 
 use crate::asked::asked;
 use crate::report::Report;

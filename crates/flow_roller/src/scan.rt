@@ -11,7 +11,7 @@ ghost use Rattle.flow_measure.specs.View.{view_of, AreCountsOf, View};
 ghost use Rattle.flow_snapshot.specs.Shares.{summed, AreNarrow, AreWide, IsShare};
 ghost use Rattle.flow_snapshot.specs.Told.{IsAnswered};
 ghost use Rattle.flow_snapshot.specs.Totals.{first_file, IsMade, IsWithinLimits, SumsFit};
-ghost use Rattle.flow_snapshot.specs.Views.{IsViewOf};
+ghost use Rattle.flow_model.specs.Views.{IsViewOf};
 
 use crate::gate::{Gate, Point};
 use flow_disk::{Faults, SealedFile};

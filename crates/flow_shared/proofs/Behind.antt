@@ -5,10 +5,10 @@ use Rattle.std.specs.Prelude.{IfErr}
 use Rattle.flow_disk.specs.declared.disk.Disk.{Ghosts}
 use Rattle.flow_gate.specs.Gate.{octet_sum}
 use Rattle.flow_segment.specs.Carry.{prefix_of}
-use Rattle.flow_snapshot.specs.Changes.{Change}
+use Rattle.flow_model.specs.Changes.{Change}
 use Rattle.flow_archive.specs.declared.refusal.ArchiveError.{ArchiveError}
 use Rattle.flow_archive.specs.declared.refusal.ArchiveError.TheVariants.{NoRoom}
-use Rattle.flow_recover.specs.State.{moved_on, State}
+use Rattle.flow_model.specs.State.{moved_on, State}
 use Rattle.flow_archive.specs.Answers.{AnswersAppend, AnswersSeal, HasRoom}
 use Rattle.flow_archive.specs.Seen.{Seen}
 use Rattle.flow_shared.specs.Calls.{added_by, by, AppendsOnce, AppendsSealed, IsAppend, IsClosedBy, IsRefusedBefore, IsSeal}

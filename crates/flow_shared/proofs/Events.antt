@@ -9,12 +9,12 @@ use Rattle.flow_manifest.specs.Manifest.{IsValidManifest}
 use Rattle.flow_segment.specs.Carry.{prefix_of}
 use Rattle.flow_snapshot.specs.declared.step.Mark.TheVariants.{Added, Sealed, Installed, Merged}
 use Rattle.flow_measure.specs.History.{History}
-use Rattle.flow_snapshot.specs.Changes.{added, applied, closed, history_after, installed, joined, Change}
-use Rattle.flow_snapshot.specs.Shelf.{cut_of, messages_in, Rollup, Segment, Shelf}
-use Rattle.flow_snapshot.specs.Shelf as shelf
-use Rattle.flow_recover.specs.Jobs.{history_made}
-use Rattle.flow_recover.specs.Shelved.{shelf_of, HasHistory}
-use Rattle.flow_recover.specs.State.{Part, StagedFile, State, appended}
+use Rattle.flow_model.specs.Changes.{added, applied, closed, history_after, installed, joined, Change}
+use Rattle.flow_model.specs.Shelf.{cut_of, messages_in, Rollup, Segment, Shelf}
+use Rattle.flow_model.specs.Shelf as shelf
+use Rattle.flow_model.specs.Jobs.{history_made}
+use Rattle.flow_model.specs.Shelved.{shelf_of, HasHistory}
+use Rattle.flow_model.specs.State.{Part, StagedFile, State, appended}
 use Rattle.flow_archive.specs.Answers.{IsMovedOn}
 use Rattle.flow_archive.specs.Answers as answers
 use Rattle.flow_archive.specs.Marks.{made_mark, numbered, HasMark}
@@ -23,7 +23,8 @@ use Rattle.flow_turns.specs.declared.turn.Turn.TheVariants as turn
 use Rattle.flow_shared.specs.Calls.{IsClosing, IsTurnedBy}
 use Rattle.flow_shared.specs.Held.{IsMarkedBy, IsMarkOf}
 use Rattle.flow_shared.specs.Told.{change_at, no_rollup, no_segment}
-use Rattle.flow_archive.proofs.Shelves.{appended_shelf, closed_segment, made_rollup, merged_shelf, moved_shelf}
+use Rattle.flow_model.proofs.History.{appended_shelf}
+use Rattle.flow_archive.proofs.Shelves.{closed_segment, made_rollup, merged_shelf, moved_shelf}
 use Rattle.flow_archive.proofs.Shelves.{rolled_shelf, with_octets}
 
 -- ---- an append

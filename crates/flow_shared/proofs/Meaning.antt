@@ -7,14 +7,14 @@ use Rattle.flow_manifest.specs.Manifest.{IsValidManifest}
 use Rattle.flow_measure.specs.History.{History}
 use Rattle.flow_rolled.specs.Rollup.{IsRollup}
 use Rattle.flow_segment.specs.Carry.{Carry, octets_of, prefix_of}
-use Rattle.flow_snapshot.specs.Changes.{added, history_after, installed, joined}
-use Rattle.flow_recover.specs.Jobs.{history_made, replaced, replaced_parts, table_made, width_made}
-use Rattle.flow_recover.specs.State.{Job, Part, StagedFile, State, appended, moved_on, reopened}
-use Rattle.flow_recover.specs.Chain.{HandsOn, IsSegment}
-use Rattle.flow_recover.specs.Shelved.{HasHistory}
-use Rattle.flow_recover.specs.Standing.{PartsStand, StandsFor}
-use Rattle.flow_recover.proofs.History.{append_follows, seal_follows}
-use Rattle.flow_recover.proofs.Replacing.{history_replaced, sources_hold}
+use Rattle.flow_model.specs.Changes.{added, history_after, installed, joined}
+use Rattle.flow_model.specs.Jobs.{history_made, replaced, replaced_parts, table_made, width_made}
+use Rattle.flow_model.specs.State.{Job, Part, StagedFile, State, appended, moved_on, reopened}
+use Rattle.flow_model.specs.Chain.{HandsOn, IsSegment}
+use Rattle.flow_model.specs.Shelved.{HasHistory}
+use Rattle.flow_model.specs.Standing.{PartsStand, StandsFor}
+use Rattle.flow_model.proofs.History.{append_follows, seal_follows}
+use Rattle.flow_model.proofs.Replacing.{history_replaced, sources_hold}
 use Rattle.flow_archive.specs.Answers.{AreAccepted, IsMovedOn, MaySeal}
 use Rattle.flow_archive.specs.JobAnswers.{IsMadeOf}
 use Rattle.flow_archive.proofs.Shelves.{made_rollup, with_octets}

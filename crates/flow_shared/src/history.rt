@@ -17,8 +17,8 @@ pub struct Entry {
 
 impl Model for Entry {
     ghost use Rattle.std.specs.Prelude.{[]};
-    ghost use Rattle.flow_snapshot.specs.Changes.{Change};
-    ghost use Rattle.flow_snapshot.specs.Changes.Change.{added};
+    ghost use Rattle.flow_model.specs.Changes.{Change};
+    ghost use Rattle.flow_model.specs.Changes.Change.{added};
 
     ghost Value = { Change };
 
@@ -78,7 +78,7 @@ impl<S: SealedFile> Plain<Step<S>, Entry, u64> for Add {
 pub trait Naming {
     ghost use Rattle.std.specs.Prelude.{Bool};
     ghost use Rattle.logbook.specs.Pages.{Book};
-    ghost use Rattle.flow_snapshot.specs.Shelf.{Shelf};
+    ghost use Rattle.flow_model.specs.Shelf.{Shelf};
 
     ghost book: { Book };
 
@@ -89,7 +89,7 @@ pub trait Naming {
 
 impl Naming for Brand {
     ghost use Rattle.std.specs.Prelude.{false};
-    ghost use Rattle.flow_snapshot.specs.Shelf.{new_shelf};
+    ghost use Rattle.flow_model.specs.Shelf.{new_shelf};
 
     ghost book = { record { number = 0; log_name = 0; cells_name = 0 } };
 
@@ -154,7 +154,7 @@ pub struct Told<J: Naming> {
 
 impl<J: Naming> Model for Told<J> {
     ghost use Rattle.std.specs.Prelude.{◌≡◌, List, length};
-    ghost use Rattle.flow_snapshot.specs.Changes.{Change};
+    ghost use Rattle.flow_model.specs.Changes.{Change};
 
     ghost Value = { List Change };
 

@@ -7,9 +7,9 @@ ghost use Rattle.left_right.specs.Handles.{published, pending};
 ghost use Rattle.flow_disk.specs.Cause.{HasCause};
 ghost use Rattle.flow_gate.specs.Gate.{octet_sum};
 ghost use Rattle.flow_gate.specs.Steps.{slices};
-ghost use Rattle.flow_snapshot.specs.Changes.{Change};
-ghost use Rattle.flow_snapshot.specs.Shelf.{position_of};
-ghost use Rattle.flow_recover.specs.Shelved.{shelf_of};
+ghost use Rattle.flow_model.specs.Changes.{Change};
+ghost use Rattle.flow_model.specs.Shelf.{position_of};
+ghost use Rattle.flow_model.specs.Shelved.{shelf_of};
 ghost use Rattle.flow_manifest.specs.declared.following.JobKind.TheVariants.{Merge, Roll};
 ghost use Rattle.flow_turns.specs.Turns.{due, IsTurn};
 ghost use Rattle.flow_shared.specs.Calls.{added_by, by, AppendsOnce, AppendsSealed, Appends, IsClosedBy};
@@ -72,7 +72,7 @@ where
     ghost use Rattle.std.specs.Option.{option_to_list};
     ghost use mathlib.Core.List.{IsPrefix};
     ghost use Rattle.left_right.specs.Handles.{published, pending};
-    ghost use Rattle.flow_snapshot.specs.Changes.{Change};
+    ghost use Rattle.flow_model.specs.Changes.{Change};
     ghost use Rattle.flow_shared.specs.Held.{held_as, Held, IsInStep};
 
     ghost Value = { Held D };

@@ -47,7 +47,7 @@ pub struct ArchiveReader<S: SealedFile, J: Naming> {
 
 impl<S: SealedFile, J: Naming> Model for ArchiveReader<S, J> {
     ghost use Rattle.std.specs.Prelude.{List};
-    ghost use Rattle.flow_snapshot.specs.Changes.{Change};
+    ghost use Rattle.flow_model.specs.Changes.{Change};
 
     ghost Value = { List Change };
 

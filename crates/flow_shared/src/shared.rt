@@ -4,7 +4,7 @@ ghost use Rattle.std.specs.Prelude.{◌≡◌, ◌<◌, ◌≤◌, ◌∷◌, []
 ghost use Rattle.left_right.specs.Handles.{published, pending};
 ghost use Rattle.flow_disk.specs.Cause.{HasCause};
 ghost use Rattle.flow_gate.specs.Steps.{slices};
-ghost use Rattle.flow_recover.specs.Shelved.{shelf_of};
+ghost use Rattle.flow_model.specs.Shelved.{shelf_of};
 ghost use Rattle.flow_shared.specs.Told.{after, HasOwn};
 
 use crate::history::{Entry, Naming, Opened, Told};

@@ -1,7 +1,7 @@
 //! The thread that rolls, over an archive that threads share.
 
 ghost use Rattle.std.specs.Prelude.{◌≡◌};
-ghost use Rattle.flow_recover.specs.Shelved.{shelf_of};
+ghost use Rattle.flow_model.specs.Shelved.{shelf_of};
 
 use crate::archives::FLOW;
 use crate::sharing::{Trial, one_sealed, tried};

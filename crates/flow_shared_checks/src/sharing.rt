@@ -1,7 +1,7 @@
 //! Archives that threads share.
 
 ghost use Rattle.std.specs.Prelude.{◌≡◌};
-ghost use Rattle.flow_recover.specs.Shelved.{shelf_of};
+ghost use Rattle.flow_model.specs.Shelved.{shelf_of};
 
 use crate::archives::{FLOW, in_memory, put};
 use flow_archive::{Archive, ArchiveError};

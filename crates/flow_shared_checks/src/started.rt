@@ -1,7 +1,7 @@
 //! Archives that threads share, over disks in memory, and messages for them.
 
 ghost use Rattle.std.specs.Prelude.{◌≡◌, ◌<◌, ◌≤◌};
-ghost use Rattle.flow_recover.specs.Shelved.{shelf_of};
+ghost use Rattle.flow_model.specs.Shelved.{shelf_of};
 
 use flow_archive::{Archive, ArchiveError};
 use flow_disk::Disk;

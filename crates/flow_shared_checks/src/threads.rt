@@ -1,7 +1,7 @@
 //! Threads that append to one archive while another reads it.
 
 ghost use Rattle.std.specs.Prelude.{◌≡◌};
-ghost use Rattle.flow_recover.specs.Shelved.{shelf_of};
+ghost use Rattle.flow_model.specs.Shelved.{shelf_of};
 
 use crate::calls::{append, ends_open, flows_in, has_flow, last_of, learn, shown};
 use crate::started::created;

@@ -2,9 +2,9 @@
 use Rattle.std.proofs.Common.{◌≡◌, List, subst}
 use Rattle.flow_measure.specs.History.{History}
 use Rattle.flow_measure.specs.View.{view_of}
-use Rattle.flow_snapshot.specs.Changes.{Change, counts_of}
-use Rattle.flow_snapshot.specs.Shelf.{Shelf}
-use Rattle.flow_snapshot.specs.Views.{IsViewOf}
+use Rattle.flow_model.specs.Changes.{Change, counts_of}
+use Rattle.flow_model.specs.Shelf.{Shelf}
+use Rattle.flow_model.specs.Views.{IsViewOf}
 use Rattle.flow_shared.specs.Meaning.{history_behind, HasView}
 use Rattle.flow_shared.specs.Told.{after}
 use Rattle.flow_shell.specs.Answers.{view_after}

@@ -5,8 +5,8 @@ use Rattle.hex.specs.Hex.{encode_lower}
 use Rattle.flow_measure.specs.History.{History}
 use Rattle.flow_measure.specs.Query.{flows_in_view, message_in_view, totals_in_view}
 use Rattle.flow_measure.specs.View.{View, view_of}
-use Rattle.flow_snapshot.specs.Changes.{Change, counts_of}
-use Rattle.flow_snapshot.specs.Shelf.{Shelf, cut_of, position_of}
+use Rattle.flow_model.specs.Changes.{Change, counts_of}
+use Rattle.flow_model.specs.Shelf.{Shelf, cut_of, position_of}
 use Rattle.flow_shared.specs.Meaning.{history_behind}
 use Rattle.flow_shared.specs.Told.{after}
 use Rattle.flow_commands.specs.Asking.{IsBeforeWriting as IsArchiveBeforeWriting, WritesOrNot}

@@ -5,7 +5,7 @@ ghost use Rattle.std.specs.Io.KnownBytes.{Appends};
 ghost use mathlib.Core.List.{IsPrefix};
 ghost use Rattle.flow_measure.specs.History.{History};
 ghost use Rattle.flow_shared.specs.Meaning.{HasView};
-ghost use Rattle.flow_recover.specs.Shelved.{shelf_of};
+ghost use Rattle.flow_model.specs.Shelved.{shelf_of};
 ghost use Rattle.flow_shell.specs.Answers.{query_lines, KeepsBefore};
 ghost use Rattle.flow_shell.specs.Written.{IsAnswer};
 ghost use Rattle.flow_shell.specs.Written.{began_line, done_line, refused_line, IsEndedBy};

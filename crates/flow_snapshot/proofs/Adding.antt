@@ -42,10 +42,10 @@ use Rattle.flow_segment.proofs.Taking.{flows_in_records}
 use Rattle.flow_snapshot.specs.declared.error.QueryError.{QueryError}
 use Rattle.flow_snapshot.specs.declared.error.QueryError.TheVariants.{Damaged, Fault, OutOfMemory}
 use Rattle.flow_snapshot.specs.Files.{is_honest, is_honest_sum, rollup_of, segment_of, shared}
-use Rattle.flow_snapshot.specs.Shelf.{Rollup}
+use Rattle.flow_model.specs.Shelf.{Rollup}
 use Rattle.flow_snapshot.specs.Told.{IsNoDamage}
 use Rattle.flow_snapshot.specs.Totals.{told_of_part, told_of_rows, with_maps, IsMade, IsSpent}
-use Rattle.flow_snapshot.specs.Views.{AreRolled}
+use Rattle.flow_model.specs.Views.{AreRolled}
 use Rattle.flow_snapshot.proofs.KeptFlows.{message_told, next_item, taken_next, Next, NextPart, Taken}
 use Rattle.flow_snapshot.proofs.Sharing.{all_rest, first_of_two}
 

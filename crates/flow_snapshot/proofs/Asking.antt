@@ -22,9 +22,9 @@ use Rattle.flow_segment.specs.Prefix.{AreTemplatesGiven, IsRestated}
 use Rattle.flow_segment.specs.Segment.{part_octets}
 use Rattle.flow_snapshot.specs.declared.error.QueryError.{QueryError}
 use Rattle.flow_snapshot.specs.Files.{cut_into, is_honest, segment_of, shared}
-use Rattle.flow_snapshot.specs.Shelf.{messages_in, Shelf}
+use Rattle.flow_model.specs.Shelf.{messages_in, Shelf}
 use Rattle.flow_snapshot.specs.Told.{told_of_scan, IsNoDamage}
-use Rattle.flow_snapshot.specs.Views.{AreRestated, IsViewOf}
+use Rattle.flow_model.specs.Views.{AreRestated, IsViewOf}
 use Rattle.flow_snapshot.proofs.KeptFlows.{more_flows, next_ones, Next}
 use Rattle.flow_snapshot.proofs.PartMessages.{cut_count}
 use Rattle.flow_snapshot.proofs.Sharing.{first_of_two, second_of_two}

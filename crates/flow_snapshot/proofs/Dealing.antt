@@ -31,10 +31,10 @@ use Rattle.flow_snapshot.specs.declared.error.QueryError.{QueryError}
 use Rattle.flow_snapshot.specs.Files.{cut_into, segment_of, shared}
 use Rattle.flow_snapshot.specs.Shares.{added_if, chosen, next_turn, own, summed, turn_after, AllPartsFit, AreNarrow}
 use Rattle.flow_snapshot.specs.Shares.{AreWide, IsFileSum, IsOwnSum, IsSegmentSum}
-use Rattle.flow_snapshot.specs.Shelf.{Rollup, Segment, Shelf, messages_in}
+use Rattle.flow_model.specs.Shelf.{Rollup, Segment, Shelf, messages_in}
 use Rattle.flow_snapshot.specs.Totals.{wide_table_in, with_maps, IsMade, IsSpent, SumsFit}
-use Rattle.flow_snapshot.specs.Views.{AreRestated, AreRolled, IsViewOf}
-use Rattle.flow_snapshot.proofs.Accepting.{accepted_first, accepted_rest, behind_own, own_first}
+use Rattle.flow_model.specs.Views.{AreRestated, AreRolled, IsViewOf}
+use Rattle.flow_model.proofs.Accepting.{accepted_first, accepted_rest, behind_own, own_first}
 use Rattle.flow_snapshot.proofs.Adding.{gathered-behind, made_err, no_maps, only_maps, with_nothing}
 use Rattle.flow_snapshot.proofs.KeptFlows.{next_item, of_part}
 use Rattle.flow_snapshot.proofs.Sharing.{all_rest, first_of_two}

@@ -25,7 +25,7 @@ use Rattle.flow_snapshot.specs.Files.{cut_into, segment_of, shared}
 use Rattle.flow_snapshot.specs.Found.{AreAccepted}
 use Rattle.flow_snapshot.specs.Shares.{narrow_turn, next_turn, own, turn_after, AreNarrow, AreWide, HaveSums}
 use Rattle.flow_snapshot.specs.Shares.{summed, IsFileSum, IsJoined, IsNarrowRead, IsOwnRead, IsOwnSum, IsSegmentSum}
-use Rattle.flow_snapshot.specs.Shelf.{Shelf}
+use Rattle.flow_model.specs.Shelf.{Shelf}
 use Rattle.flow_snapshot.specs.Totals.{IsMade}
 use Rattle.flow_snapshot.proofs.Dealing.{chosen_then, turn_then, turn_within}
 use Rattle.flow_snapshot.proofs.Finding.{honest_one, own_cut, shared_more}

@@ -27,9 +27,9 @@ use Rattle.flow_segment.specs.Segment.{part_octets}
 use Rattle.flow_segment.proofs.Restating.{none_more, one_more, some_seen, Behind}
 use Rattle.flow_snapshot.specs.Files.{cut_into, is_honest, is_honest_sum, rollup_of, segment_of, shared}
 use Rattle.flow_snapshot.specs.Found.{AreAccepted}
-use Rattle.flow_snapshot.specs.Shelf.{messages_in, Rollup}
-use Rattle.flow_snapshot.specs.Views.{AreRolled}
-use Rattle.flow_snapshot.proofs.Accepting.{accepted_then, templates_then}
+use Rattle.flow_model.specs.Shelf.{messages_in, Rollup}
+use Rattle.flow_model.specs.Views.{AreRolled}
+use Rattle.flow_model.proofs.Accepting.{accepted_then, templates_then}
 use Rattle.flow_snapshot.proofs.KeptFlows.{next_item}
 use Rattle.flow_snapshot.proofs.PartMessages.{messages_are}
 use Rattle.flow_snapshot.proofs.Sharing.{all_rest, first_of_two}

@@ -13,7 +13,7 @@ use Rattle.flow_snapshot.specs.declared.shares.PartSums.{PartSums}
 use Rattle.flow_snapshot.specs.declared.shares.Share.{Share}
 use Rattle.flow_snapshot.specs.Shares.{chosen, narrow_turn, own, summed, AllPartsFit, AreNarrow, AreShares, AreWide}
 use Rattle.flow_snapshot.specs.Shares.{IsJoined, IsRefusedAt, IsShare}
-use Rattle.flow_snapshot.specs.Shelf.{Shelf}
+use Rattle.flow_model.specs.Shelf.{Shelf}
 use Rattle.flow_snapshot.specs.Sight.{Sight}
 use Rattle.flow_snapshot.specs.Totals.{first_file, IsMade}
 use Rattle.flow_snapshot.proofs.Dealing.{all_shares, chosen_fit, made_as, none_summed_yet, shares_merged, turn_within}

@@ -22,10 +22,10 @@ use Rattle.flow_segment.specs.Part.{rest_of, Cursor, IsOn, IsPartStep}
 use Rattle.flow_segment.specs.Segment.{part_octets, AreMessagesOf}
 use Rattle.flow_segment.specs.declared.sealed.SealedPart.{SealedPart}
 use Rattle.flow_snapshot.specs.Files.{cut_into, is_honest, segment_of, shared}
-use Rattle.flow_snapshot.specs.Shelf.{cut_of, kept_of, messages_in, Shelf}
+use Rattle.flow_model.specs.Shelf.{cut_of, kept_of, messages_in, Shelf}
 use Rattle.flow_snapshot.specs.Told.{told_of_scan, IsFound, IsNoDamage}
-use Rattle.flow_snapshot.specs.Views.{IsViewOf}
-use Rattle.flow_snapshot.proofs.Accepting.{all_cut}
+use Rattle.flow_model.specs.Views.{IsViewOf}
+use Rattle.flow_model.proofs.Accepting.{all_cut}
 use Rattle.flow_snapshot.proofs.KeptFlows.{next_item}
 use Rattle.flow_snapshot.proofs.PartMessages.{cut_count, cut_whole}
 use Rattle.flow_snapshot.proofs.Sharing.{all_rest, first_of_two}

@@ -19,7 +19,7 @@ use Rattle.flow_segment.specs.Segment.{part_octets}
 use Rattle.flow_segment.specs.declared.sealed.SealedPart.{SealedPart}
 use Rattle.flow_snapshot.specs.Files.{cut_into, segment_of, shared}
 use Rattle.flow_snapshot.specs.Found.{IsCutBehind, IsMessageAt, IsSealedAt, StandsAt, StandsBehind}
-use Rattle.flow_snapshot.specs.Shelf.{cut_of, messages_in, Shelf}
+use Rattle.flow_model.specs.Shelf.{cut_of, messages_in, Shelf}
 use Rattle.flow_snapshot.proofs.KeptFlows.{next_item}
 
 -- ---- within a part

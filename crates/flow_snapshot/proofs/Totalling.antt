@@ -23,11 +23,11 @@ use Rattle.flow_segment.proofs.FewMessages.{few_fit_behind}
 use Rattle.flow_segment.proofs.FlowsFit.{messages_fit}
 use Rattle.flow_snapshot.specs.declared.error.QueryError.{QueryError}
 use Rattle.flow_snapshot.specs.declared.error.QueryError.TheVariants.{Damaged, Fault, OutOfMemory}
-use Rattle.flow_snapshot.specs.Shelf.{messages_in, Shelf}
+use Rattle.flow_model.specs.Shelf.{messages_in, Shelf}
 use Rattle.flow_snapshot.specs.Told.{IsAnswered}
 use Rattle.flow_snapshot.specs.Totals.{wide_table_in, with_maps, IsMade, IsWithinLimits, SumsFit}
-use Rattle.flow_snapshot.specs.Views.{IsViewOf}
-use Rattle.flow_snapshot.proofs.Accepting.{accepted_first, accepted_rest}
+use Rattle.flow_model.specs.Views.{IsViewOf}
+use Rattle.flow_model.proofs.Accepting.{accepted_first, accepted_rest}
 use Rattle.flow_snapshot.proofs.Asking.{kept_in_two}
 use Rattle.flow_snapshot.proofs.KeptFlows.{Next}
 use Rattle.flow_snapshot.proofs.Adding.{flows_both, made_err, only_maps, without_flows_fit}

@@ -21,11 +21,12 @@ use Rattle.flow_segment.specs.Prefix.{IsRestated}
 use Rattle.flow_segment.specs.Segment.{part_octets}
 use Rattle.flow_snapshot.specs.declared.error.QueryError.{QueryError}
 use Rattle.flow_snapshot.specs.Files.{is_honest, segment_of, shared}
-use Rattle.flow_snapshot.specs.Found.{first_prefix, AreAccepted, AreKept, IsReadIn}
-use Rattle.flow_snapshot.specs.Shelf.{cut_of, messages_in, position_of, second_of, Shelf}
+use Rattle.flow_snapshot.specs.Found.{AreAccepted}
+use Rattle.flow_model.specs.Views.{first_prefix, AreKept, IsReadIn}
+use Rattle.flow_model.specs.Shelf.{cut_of, messages_in, position_of, second_of, Shelf}
 use Rattle.flow_snapshot.specs.Totals.{with_maps, IsMade}
-use Rattle.flow_snapshot.specs.Views.{AreRolled, AreRolledInto}
-use Rattle.flow_snapshot.proofs.Accepting.{accepted_then}
+use Rattle.flow_model.specs.Views.{AreRolled, AreRolledInto}
+use Rattle.flow_model.proofs.Accepting.{accepted_then}
 use Rattle.flow_snapshot.proofs.Adding.{more_sums, only_maps}
 use Rattle.flow_snapshot.proofs.Sharing.{first_of_two, second_of_two}
 

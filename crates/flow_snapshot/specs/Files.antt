@@ -7,7 +7,7 @@ use Rattle.flow_disk.specs.declared.sealed.SealedFile.{Ghosts}
 use Rattle.flow_rolled.specs.Stored as stored
 use Rattle.flow_segment.specs.declared.sealed.SealedPart.{SealedPart}
 use Rattle.flow_segment.specs.Segment.{part_octets}
-use Rattle.flow_snapshot.specs.Shelf.{Rollup, Segment}
+use Rattle.flow_model.specs.Shelf.{Rollup, Segment}
 
 -- The messages of a sealed segment's octets, so many: each cut off by its Length field, and the last one all that is
 -- left, so that octets too few or too many are no messages.

@@ -4,11 +4,8 @@ use Rattle.std.specs.Prelude.{slice_get}
 use Rattle.flow_codec.specs.Cutting.{IsCutOff, IsDivided}
 use Rattle.flow_codec.specs.Templates.{AllTemplates}
 use Rattle.flow_measure.specs.History.{Accepted, AreAcceptedFrom}
-use Rattle.flow_measure.specs.View.{View}
 use Rattle.flow_segment.specs.Carry.{octets_of}
-use Rattle.flow_segment.specs.Prefix.{IsRestated}
-use Rattle.flow_snapshot.specs.Shelf.{Segment, Shelf, second_of, cut_of, kept_of, messages_in, position_of}
-use Rattle.flow_snapshot.specs.Views.{AreRolled, AreRolledInto}
+use Rattle.flow_model.specs.Shelf.{Segment, Shelf, cut_of, messages_in, position_of}
 
 -- ---- all files
 
@@ -16,30 +13,6 @@ use Rattle.flow_snapshot.specs.Views.{AreRolled, AreRolledInto}
 abbrev pub AreAccepted : AllTemplates → List (List ℕ) → Type 0
 AreAccepted before octets =
     (messages : List Accepted) × AreAcceptedFrom before messages × (octets_of messages ≡ octets)
-
--- the prefix of the first segment: of the active one, where there is no sealed one
-abbrev pub first_prefix : List Segment → List ℕ → List ℕ
-first_prefix [] active = active
-first_prefix (g ∷ gs) active = g.prefix
-
--- The kept messages are accepted, each after those before it, the first one after the templates that the first prefix
--- restates.
-pub record AreKept (s : Shelf) (before : AllTemplates) (kept : List Accepted) : Type 0 where
-  pub prefix : IsRestated (first_prefix s.sealed s.prefix) before
-  pub accepted : AreAcceptedFrom before kept
-  pub octets : octets_of kept ≡ kept_of s
-
--- The view of a shelf, as it is read from all its files: from each rolled file, each kept message, and the first
--- prefix. Later prefixes are not read, since they restate templates that are known by then.
-pub record IsReadIn (s : Shelf) (v : View) : Type 0 where
-  pub merged : AreRolledInto s.wide s.merged v.merged
-  pub rolled : AreRolled s.width s.rolled v.rolled
-  pub kept : AreKept s v.templates v.kept
-  pub second : v.second ≡ second_of s
-  pub cut : v.cut ≡ cut_of s
-  pub position : v.position ≡ position_of s
-  pub width : v.width ≡ s.width
-  pub wide : v.wide ≡ s.wide
 
 -- ---- one message
 

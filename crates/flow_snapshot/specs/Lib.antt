@@ -1,7 +1,4 @@
-pub mod Shelf
-pub mod Views
 pub mod Found
-pub mod Changes
 pub mod Sight
 pub mod Files
 pub mod Steps

@@ -16,7 +16,7 @@ use Rattle.flow_disk.specs.Cause.{HasCause}
 use Rattle.flow_snapshot.specs.declared.error.QueryError.TheVariants.{Fault}
 use Rattle.flow_snapshot.specs.declared.shares.PartSums.{PartSums}
 use Rattle.flow_snapshot.specs.declared.shares.Share.{Share}
-use Rattle.flow_snapshot.specs.Shelf.{Rollup, Segment, Shelf}
+use Rattle.flow_model.specs.Shelf.{Rollup, Segment, Shelf}
 use Rattle.flow_snapshot.specs.Sight.{Sight}
 use Rattle.flow_snapshot.specs.Totals.{first_file, IsMade}
 

@@ -4,8 +4,8 @@ use Rattle.std.specs.Arc.{arc_value}
 use Rattle.flow_disk.specs.declared.sealed.SealedFile.{Ghosts}
 use Rattle.flow_snapshot.specs.declared.step.Step.{Step}
 use Rattle.flow_snapshot.specs.declared.step.Step.TheVariants.{Added, Sealed, Installed, Merged}
-use Rattle.flow_snapshot.specs.Changes.{Change}
-use Rattle.flow_snapshot.specs.Changes.Change.{added, closed, installed, joined}
+use Rattle.flow_model.specs.Changes.{Change}
+use Rattle.flow_model.specs.Changes.Change.{added, closed, installed, joined}
 use Rattle.flow_snapshot.specs.Files.{is_honest, rollup_of, segment_of}
 
 -- the change that a step makes

@@ -16,7 +16,7 @@ use Rattle.flow_segment.specs.declared.error.PartSumError.{PartSumError}
 use Rattle.flow_segment.specs.declared.error.PartSumError.TheVariants as part
 use Rattle.flow_snapshot.specs.declared.error.QueryError.{QueryError}
 use Rattle.flow_snapshot.specs.declared.error.QueryError.TheVariants.{Damaged, Fault, OutOfMemory}
-use Rattle.flow_snapshot.specs.Shelf.{Shelf}
+use Rattle.flow_model.specs.Shelf.{Shelf}
 
 -- a table, with the sums of these maps added
 abbrev pub with_maps : List (FinMap key_cmp Sums) → Table → Table

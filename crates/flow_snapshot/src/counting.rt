@@ -2,7 +2,7 @@
 
 ghost use Rattle.std.specs.Prelude.{◌≡◌, length, map, min};
 ghost use Rattle.flow_snapshot.specs.Files.{rollup_of, segment_of, shared};
-ghost use Rattle.flow_snapshot.specs.Shelf.{messages_in, messages_of};
+ghost use Rattle.flow_model.specs.Shelf.{messages_in, messages_of};
 
 use flow_disk::SealedFile;
 use flow_rolled::RolledPart;

@@ -1,7 +1,7 @@
 //! A directory: what an archive consists of, without its disk.
 
 ghost use Rattle.std.specs.Prelude.{◌≡◌, ◌<◌, IsTrue, IfOk, OnErr, OnOk};
-ghost use Rattle.flow_snapshot.specs.Changes.{applied};
+ghost use Rattle.flow_model.specs.Changes.{applied};
 ghost use Rattle.flow_snapshot.specs.Directories.{sight_of};
 ghost use Rattle.flow_snapshot.specs.Steps.{change_of, has_honest};
 

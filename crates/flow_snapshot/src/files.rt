@@ -1,7 +1,7 @@
 //! The files of an archive, in their order.
 
 ghost use Rattle.std.specs.Prelude.{◌≡◌, ℕ, drop, IsTrue, IfOk, OnErr, OnOk};
-ghost use Rattle.flow_snapshot.specs.Changes.{applied};
+ghost use Rattle.flow_model.specs.Changes.{applied};
 ghost use Rattle.flow_snapshot.specs.Directories.{sight_of};
 ghost use Rattle.flow_snapshot.specs.Steps.{change_of, has_honest};
 

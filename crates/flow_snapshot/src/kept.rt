@@ -12,7 +12,7 @@ ghost use Rattle.flow_segment.specs.PartFlows.{flows_within, AreCollected};
 ghost use Rattle.flow_segment.specs.Prefix.{IsRestated};
 ghost use Rattle.flow_snapshot.specs.Files.{is_honest, segment_of, shared};
 ghost use Rattle.flow_snapshot.specs.Found.{AreAccepted};
-ghost use Rattle.flow_snapshot.specs.Shelf.{messages_in};
+ghost use Rattle.flow_model.specs.Shelf.{messages_in};
 ghost use Rattle.flow_snapshot.specs.Told.{IsAnswered};
 
 use crate::error::QueryError;

@@ -7,7 +7,7 @@ ghost use Rattle.flow_disk.specs.Cause.{HasCause};
 ghost use Rattle.flow_segment.specs.Segment.{part_octets, AreMessagesOf};
 ghost use Rattle.flow_snapshot.specs.Files.{is_honest, segment_of, shared};
 ghost use Rattle.flow_snapshot.specs.Found.{IsCutBehind, IsSealedAt};
-ghost use Rattle.flow_snapshot.specs.Shelf.{messages_in};
+ghost use Rattle.flow_model.specs.Shelf.{messages_in};
 ghost use Rattle.flow_snapshot.specs.Told.{octets_in, IsFound};
 
 use flow_disk::{Faults, SealedFile};

@@ -13,13 +13,14 @@ ghost use Rattle.flow_measure.specs.View.{view_of, AreCountsOf, View};
 ghost use Rattle.flow_segment.specs.PartFlows.{flows_within, with_flows};
 ghost use Rattle.flow_segment.specs.Prefix.{IsRestated};
 ghost use Rattle.flow_snapshot.specs.Directories.{sight_of};
-ghost use Rattle.flow_snapshot.specs.Found.{first_prefix, AreKept, IsMessageAt, IsReadIn};
+ghost use Rattle.flow_snapshot.specs.Found.{IsMessageAt};
+ghost use Rattle.flow_model.specs.Views.{first_prefix, AreKept, IsReadIn};
 ghost use Rattle.flow_snapshot.specs.Shares.{narrow_turn, own, summed, AllPartsFit, AreNarrow, AreShares, AreWide};
 ghost use Rattle.flow_snapshot.specs.Shares.{HaveSums, IsFileSum, IsNarrowRead, IsShare};
-ghost use Rattle.flow_snapshot.specs.Shelf.{cut_of, position_of, second_of};
+ghost use Rattle.flow_model.specs.Shelf.{cut_of, position_of, second_of};
 ghost use Rattle.flow_snapshot.specs.Told.{octets_in, IsAnswered};
 ghost use Rattle.flow_snapshot.specs.Totals.{first_file, wide_table_in, IsMade, IsWithinLimits, SumsFit};
-ghost use Rattle.flow_snapshot.specs.Views.{AreRestated, AreRolledInto, IsViewOf};
+ghost use Rattle.flow_model.specs.Views.{AreRestated, AreRolledInto, IsViewOf};
 
 use crate::counting::{rolled_count, sealed_count};
 use crate::error::QueryError;

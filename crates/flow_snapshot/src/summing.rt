@@ -14,9 +14,9 @@ ghost use Rattle.flow_segment.specs.PartFlows.{with_flows, ArePartMessages, HasM
 ghost use Rattle.flow_segment.specs.Segment.{part_octets};
 ghost use Rattle.flow_snapshot.specs.Files.{is_honest, is_honest_sum, rollup_of, segment_of, shared};
 ghost use Rattle.flow_snapshot.specs.Found.{AreAccepted};
-ghost use Rattle.flow_snapshot.specs.Shelf.{messages_in};
+ghost use Rattle.flow_model.specs.Shelf.{messages_in};
 ghost use Rattle.flow_snapshot.specs.Totals.{told_of_part, told_of_rows, with_maps, IsMade};
-ghost use Rattle.flow_snapshot.specs.Views.{AreRolled};
+ghost use Rattle.flow_model.specs.Views.{AreRolled};
 
 use crate::error::QueryError;
 use crate::kept::hand_over;

@@ -8,7 +8,7 @@ use Rattle.flow_manifest.specs.declared.following.JobKind.{JobKind}
 use Rattle.flow_manifest.specs.declared.following.JobKind.TheVariants.{Roll, Merge}
 use Rattle.flow_manifest.specs.Following.{count_of, source_of}
 use Rattle.flow_manifest.specs.Manifest.{IsValidManifest}
-use Rattle.flow_recover.specs.State.{State}
+use Rattle.flow_model.specs.State.{State}
 use Rattle.flow_archive.specs.declared.event.Event.{Event}
 use Rattle.flow_archive.specs.declared.event.Event.TheVariants.{RollStep, RollWrite, RollInstall, Retire}
 use Rattle.flow_archive.specs.Answers.{Answers}

@@ -4,8 +4,8 @@ use Rattle.std.proofs.Common.{◌++◌, map, Some, None, Result, Ok, Err, refl, 
 use Rattle.flow_manifest.specs.declared.following.JobKind.{JobKind}
 use Rattle.flow_manifest.specs.declared.following.JobKind.TheVariants.{Roll, Merge}
 use Rattle.flow_manifest.specs.Following.{count_of, installed_manifest, source_of, sources_of}
-use Rattle.flow_recover.specs.State.{Job, StagedFile, State}
-use Rattle.flow_recover.specs.Jobs.{replaced, replaced_parts, staged_of}
+use Rattle.flow_model.specs.State.{Job, StagedFile, State}
+use Rattle.flow_model.specs.Jobs.{replaced, replaced_parts, staged_of}
 use Rattle.flow_archive.specs.declared.event.Answer.{Answer}
 use Rattle.flow_archive.specs.declared.event.Answer.TheVariants.{Began, Left, Written}
 use Rattle.flow_archive.specs.declared.event.Event.TheVariants.{RollStep, RollWrite, RollInstall}

@@ -16,9 +16,9 @@ use Rattle.flow_manifest.specs.Following.{source_of, sources_of}
 use Rattle.flow_manifest.specs.Manifest.{IsValidManifest, rank}
 use Rattle.flow_manifest.proofs.EntryLists.{all_by, counted}
 use Rattle.flow_manifest.proofs.Followers.{behind_short}
-use Rattle.flow_recover.specs.State.{Part, State}
-use Rattle.flow_recover.specs.Jobs.{staged_of}
-use Rattle.flow_recover.proofs.Replacing.{are_sources, before_is, low, messages_installed, number, sources_are}
+use Rattle.flow_model.specs.State.{Part, State}
+use Rattle.flow_model.specs.Jobs.{staged_of}
+use Rattle.flow_model.proofs.Replacing.{are_sources, before_is, low, messages_installed, number, sources_are}
 use Rattle.flow_archive.specs.JobAnswers.{IsMadeOf}
 use Rattle.flow_turns.specs.Turns.{files_over}
 use Rattle.flow_turns.specs.Laws.{all_read, IsReplacement}

@@ -3,7 +3,7 @@ use Rattle.std.proofs.Common.{◌≡◌, ◌∙◌, ℕ, zero, suc, ◌-◌, ◌
 use Rattle.flow_manifest.specs.declared.following.JobKind.{JobKind}
 use Rattle.flow_manifest.specs.declared.manifest.Manifest.{Manifest}
 use Rattle.flow_manifest.specs.Following.{count_of, source_of}
-use Rattle.flow_recover.specs.State.{State}
+use Rattle.flow_model.specs.State.{State}
 use Rattle.flow_archive.specs.declared.event.Event.TheVariants.{RollStep, RollWrite, RollInstall}
 use Rattle.flow_archive.specs.UnderWay.{status_of}
 use Rattle.flow_turns.specs.Turns.{begun_by, begun_or_removal, due, due_with, files_over, removal_by, step_by}

@@ -9,8 +9,8 @@ use Rattle.flow_manifest.specs.declared.following.JobKind.TheVariants.{Roll, Mer
 use Rattle.flow_manifest.specs.declared.manifest.Entry.{Entry}
 use Rattle.flow_manifest.specs.Following.{count_of, cut_by, made_of, messages_of, second_cut_by, source_of}
 use Rattle.flow_manifest.specs.Manifest.{IsValidManifest}
-use Rattle.flow_recover.specs.State.{Job, State}
-use Rattle.flow_recover.specs.Jobs.{replaced_parts}
+use Rattle.flow_model.specs.State.{Job, State}
+use Rattle.flow_model.specs.Jobs.{replaced_parts}
 use Rattle.flow_archive.specs.declared.event.Answer.{Answer}
 use Rattle.flow_archive.specs.declared.event.Event.{Event}
 use Rattle.flow_archive.specs.declared.event.Event.TheVariants.{Retire}

@@ -4,7 +4,7 @@ use Rattle.flow_disk.specs.Disk.{Held, Marks, IsImage}
 use Rattle.flow_manifest.specs.declared.slots.Slot.{Slot}
 use Rattle.flow_manifest.specs.declared.slots.Slot.TheVariants.{First, Second}
 use Rattle.flow_manifest.specs.Slots.{file_of}
-use Rattle.flow_recover.specs.State.{first_manifest}
+use Rattle.flow_model.specs.State.{first_manifest}
 use Rattle.flow_archive.proofs.Empty.{known_empty}
 use Rattle.flow_archive.proofs.creating.make_files.Goals as goal
 

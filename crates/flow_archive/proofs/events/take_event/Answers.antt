@@ -1,7 +1,7 @@
 use Rattle.std.proofs.Common.{◌≡◌, ℕ, true, List, [], ◌∷◌, Result, Err, refl, sym, ◌∙◌, ap, subst}
 use Rattle.flow_gate.specs.Scan.{texts}
 use Rattle.flow_gate.specs.Steps.{slices}
-use Rattle.flow_recover.specs.State.{appended}
+use Rattle.flow_model.specs.State.{appended}
 use Rattle.flow_archive.specs.Answers.{Answers, IsMovedOn, Takes}
 use Rattle.flow_archive.specs.declared.event.Answer.{Answer}
 use Rattle.flow_archive.specs.declared.event.Answer.TheVariants.{Position, Sealed}

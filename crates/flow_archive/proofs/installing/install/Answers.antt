@@ -3,9 +3,9 @@ use Rattle.std.proofs.Common.{sym, subst}
 use Rattle.flow_disk.specs.Disk.{AllImages, InFile}
 use Rattle.flow_disk.proofs.Moments.{advance, arrive, comes_by}
 use Rattle.flow_manifest.specs.Slots.{MayClose, IsPrepared, MayOpen, Opens}
-use Rattle.flow_recover.specs.State.{reopened}
-use Rattle.flow_recover.specs.Jobs.{replaced}
-use Rattle.flow_recover.specs.Standing.{IsKnown, StandsForEither}
+use Rattle.flow_model.specs.State.{reopened}
+use Rattle.flow_model.specs.Jobs.{replaced}
+use Rattle.flow_model.specs.Standing.{IsKnown, StandsForEither}
 use Rattle.flow_archive.proofs.Swapping.{IsMade, IsAllPrepared, slots_after, ready_to, preparing, prepared, turning}
 use Rattle.flow_archive.proofs.Swapping.{turned}
 use Rattle.flow_archive.proofs.installing.install.Goals as goal

@@ -4,8 +4,9 @@ use Rattle.std.specs.Prelude.{None}
 use Rattle.flow_manifest.specs.declared.manifest.Entry.{Entry}
 use Rattle.flow_gate.specs.Gate.{octet_sum}
 use Rattle.flow_manifest.specs.Following.{active_of, front_of}
-use Rattle.flow_recover.specs.State.{State, part_of}
-use Rattle.flow_recover.specs.Standing.{IsKnown, StandsFor}
+use Rattle.flow_model.specs.State.{State}
+use Rattle.flow_recover.specs.Reading.{part_of}
+use Rattle.flow_model.specs.Standing.{IsKnown, StandsFor}
 use Rattle.flow_archive.specs.Owned.{all_frozen, Frozen, MayBeFrozen}
 use Rattle.flow_archive.specs.Seen.{IsArchive, state_in}
 use Rattle.flow_archive.specs.UnderWay.{work_in, HasOwnFiles, IsUnderWay}

@@ -1,8 +1,8 @@
 use Rattle.std.proofs.Common.{subst}
 use Rattle.std.specs.Prelude.{IfOk}
 use Rattle.flow_disk.specs.Disk.{AllImages}
-use Rattle.flow_recover.specs.State.{State}
-use Rattle.flow_recover.specs.Standing.{StandsFor}
+use Rattle.flow_model.specs.State.{State}
+use Rattle.flow_model.specs.Standing.{StandsFor}
 use Rattle.flow_commands.proofs.FirstState.{by_choice, without_wide}
 use Rattle.flow_commands.proofs.creating.create.Goals as goal
 

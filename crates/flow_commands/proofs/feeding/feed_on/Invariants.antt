@@ -1,4 +1,4 @@
-use Rattle.flow_recover.specs.Shelved.{shelf_of}
+use Rattle.flow_model.specs.Shelved.{shelf_of}
 use Rattle.flow_commands.proofs.feeding.feed_on.Given as goal
 
 -- the start that is made

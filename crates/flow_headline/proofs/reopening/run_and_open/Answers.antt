@@ -2,7 +2,7 @@ use Rattle.std.proofs.Common.{◌≡◌, refl, sym, subst, ⊎_elim}
 use Rattle.flow_manifest.specs.Slots.{reads_of}
 use Rattle.flow_memory_disk.specs.Calls.{held_of}
 use Rattle.flow_memory_disk.specs.Memory.{story_of}
-use Rattle.flow_recover.specs.State.{State}
+use Rattle.flow_model.specs.State.{State}
 use Rattle.flow_recover.proofs.Recovering.{one_state}
 use Rattle.flow_headline.specs.Front.{IsFront}
 use Rattle.flow_headline.specs.Machine.{IsStoppedRun}

@@ -1,6 +1,6 @@
 use Rattle.std.proofs.Common.{IsTrue, sym, subst, arith}
 use Rattle.flow_manifest.specs.Slots.{reads_of}
-use Rattle.flow_recover.specs.State.{reopened}
+use Rattle.flow_model.specs.State.{reopened}
 use Rattle.flow_headline.proofs.Between.{honest_after, stops_between}
 use Rattle.flow_headline.proofs.Closing.{ends_at_fault}
 use Rattle.flow_headline.proofs.Fronts.{front_of, image_of_run}

@@ -3,7 +3,7 @@ use Rattle.std.proofs.lemmas.List.{length-drop, take_all}
 use Rattle.flow_disk.proofs.Results.{passed_on}
 use Rattle.flow_segment.specs.Carry.{octets_of}
 use Rattle.flow_segment.specs.Prefix.{AreRead}
-use Rattle.flow_recover.specs.State.{Part}
+use Rattle.flow_model.specs.State.{Part}
 use Rattle.flow_recover.specs.Reading.{IsCalled}
 use Rattle.flow_recover.specs.declared.error.RecoverError.TheVariants.{OutOfMemory}
 use Rattle.flow_recover.proofs.Accepting.{any_messages}

@@ -1,4 +1,4 @@
-use Rattle.flow_recover.proofs.Stand.{stands_for}
+use Rattle.flow_model.proofs.Stand.{stands_for}
 use Rattle.flow_recover.proofs.Recovering.{one_state, unnamed_same}
 use Rattle.flow_recover.proofs.laws.what_an_image_stands_for.Goals as goal
 

@@ -7,11 +7,12 @@ use Rattle.flow_manifest.specs.declared.manifest.Entry.{Entry}
 use Rattle.flow_manifest.specs.Slots.{file_of, other, reads_of}
 use Rattle.flow_manifest.specs.Following.{no_entry}
 use Rattle.flow_manifest.proofs.EntryLists.{all_by}
-use Rattle.flow_recover.specs.State.{at_rest, part_of}
+use Rattle.flow_model.specs.State.{at_rest}
+use Rattle.flow_recover.specs.Reading.{part_of}
 use Rattle.flow_recover.specs.declared.error.RecoverError.{RecoverError}
 use Rattle.flow_recover.specs.declared.error.RecoverError.TheVariants.{Fault}
 use Rattle.flow_recover.specs.Opening.{IsDeviceOrMemory, StandsForNone}
-use Rattle.flow_recover.proofs.Stand.{slot_below}
+use Rattle.flow_model.proofs.Stand.{slot_below}
 use Rattle.flow_recover.proofs.Recovering.{agreed, files_along, told_of_files}
 use Rattle.flow_manifest.proofs.Swaps.{same_slots}
 use Rattle.flow_recover.proofs.opening.find.Goals as goal

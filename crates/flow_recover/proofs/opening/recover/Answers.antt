@@ -10,8 +10,9 @@ use Rattle.flow_manifest.proofs.EntryLists.{all_by}
 use Rattle.flow_manifest.specs.declared.manifest.Entry.{Entry}
 use Rattle.flow_manifest.specs.Following.{front_of}
 use Rattle.flow_manifest.specs.Slots.{file_of, reads_of}
-use Rattle.flow_recover.specs.State.{Part, at_rest, part_of}
-use Rattle.flow_recover.specs.Standing.{IsKnown, StandsForEither}
+use Rattle.flow_model.specs.State.{Part, at_rest}
+use Rattle.flow_recover.specs.Reading.{part_of}
+use Rattle.flow_model.specs.Standing.{IsKnown, StandsForEither}
 use Rattle.flow_recover.specs.declared.error.RecoverError.{RecoverError}
 use Rattle.flow_recover.specs.declared.error.RecoverError.TheVariants.{Fault}
 use Rattle.flow_recover.specs.Kept.{AreFilesOf}

@@ -7,11 +7,11 @@ use Rattle.flow_disk.proofs.Results.{passed_on}
 use Rattle.flow_manifest.specs.declared.manifest.Entry.{Entry}
 use Rattle.flow_manifest.specs.Following.{no_entry}
 use Rattle.flow_manifest.specs.Slots.{reads_of}
-use Rattle.flow_recover.specs.Chain.{ArePartsBehind}
-use Rattle.flow_recover.specs.Standing.{StandsAs, PartsStand}
+use Rattle.flow_model.specs.Chain.{ArePartsBehind}
+use Rattle.flow_model.specs.Standing.{StandsAs, PartsStand}
 use Rattle.flow_recover.specs.Opening.{IsDeviceOrMemory}
 use Rattle.flow_recover.proofs.Behind.{behind_push, next_part}
-use Rattle.flow_recover.proofs.Stand.{parts_push}
+use Rattle.flow_model.proofs.Stand.{parts_push}
 use Rattle.flow_recover.proofs.Recovering.{all_at}
 use Rattle.flow_recover.proofs.reading.read_entries.Goals as goal
 

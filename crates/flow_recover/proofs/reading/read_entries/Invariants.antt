@@ -2,11 +2,11 @@ use Rattle.std.proofs.Common.{◌≡◌, ℕ, ◌<◌, IsTrue, List, take, None,
 use Rattle.flow_disk.specs.Disk.{IsDiskImage, Stays}
 use Rattle.flow_disk.specs.Calls.{LeavesOnly}
 use Rattle.flow_manifest.specs.Slots.{reads_of}
-use Rattle.flow_recover.specs.Chain.{ArePartsBehind}
+use Rattle.flow_model.specs.Chain.{ArePartsBehind}
 use Rattle.flow_recover.specs.Reading.{IsHeldBehind}
 use Rattle.flow_segment.specs.Carry.{Carry}
-use Rattle.flow_recover.specs.Standing.{PartsStand}
-use Rattle.flow_recover.specs.State.{Part}
+use Rattle.flow_model.specs.Standing.{PartsStand}
+use Rattle.flow_model.specs.State.{Part}
 use Rattle.flow_recover.proofs.reading.read_entries.Given as goal
 
 abbrev pub invariant-entries : goal.invariant-entries

@@ -14,10 +14,11 @@ use Rattle.flow_manifest.specs.declared.manifest.Manifest.{Manifest}
 use Rattle.flow_manifest.specs.Following.{active_of, front_of, messages_of}
 use Rattle.flow_manifest.specs.Slots.{reads_of}
 use Rattle.flow_segment.specs.Carry.{Carry}
-use Rattle.flow_recover.specs.State.{Part, State, at_rest, part_of}
-use Rattle.flow_recover.specs.Chain.{ArePartsBehind, HandsOn, IsCalledFor, IsSegment}
+use Rattle.flow_model.specs.State.{Part, State, at_rest}
+use Rattle.flow_recover.specs.Reading.{part_of}
+use Rattle.flow_model.specs.Chain.{ArePartsBehind, HandsOn, IsCalledFor, IsSegment}
 use Rattle.flow_recover.specs.Reading.{IsHeldBehind}
-use Rattle.flow_recover.specs.Standing.{PartsStand, IsActiveAt, IsWithinLimits, HoldsFiles}
+use Rattle.flow_model.specs.Standing.{PartsStand, IsActiveAt, IsWithinLimits, HoldsFiles}
 use Rattle.flow_recover.specs.Opening.{IsDeviceOrMemory}
 use Rattle.flow_recover.proofs.Behind.{called_along, called_for, is_called, one_chain}
 use Rattle.flow_recover.proofs.Recovering.{one_active}

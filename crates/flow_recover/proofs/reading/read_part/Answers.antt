@@ -5,10 +5,10 @@ use Rattle.std.proofs.lemmas.List.{take-take}
 use Rattle.flow_disk.specs.Disk.{Held}
 use Rattle.flow_disk.proofs.Results.{if_ok_by, if_err_by}
 use Rattle.flow_segment.specs.Steps.{KeepsFront}
-use Rattle.flow_recover.specs.Standing.{StandsAs}
+use Rattle.flow_model.specs.Standing.{StandsAs}
 use Rattle.flow_recover.specs.Opening.{IsDeviceOrMemory}
 use Rattle.flow_recover.proofs.Behind.{IsKeptAs}
-use Rattle.flow_recover.proofs.Stand.{part_cut}
+use Rattle.flow_model.proofs.Stand.{part_cut}
 use Rattle.flow_recover.proofs.reading.read_part.Goals as goal
 
 front_of_all : (n : ℕ) (octets : List ℕ) → KeepsFront n (take n octets) octets

@@ -12,14 +12,14 @@ use Rattle.flow_manifest.specs.declared.slots.Slots.{Slots}
 use Rattle.flow_manifest.specs.Manifest.{HaveOwnFiles}
 use Rattle.flow_disk.proofs.Results.{passed_on}
 use Rattle.flow_segment.specs.Steps.{KeepsFront}
-use Rattle.flow_recover.specs.State.{Part, State}
-use Rattle.flow_recover.specs.Standing.{PartsStand, StandsAs, IsKnown}
+use Rattle.flow_model.specs.State.{Part, State}
+use Rattle.flow_model.specs.Standing.{PartsStand, StandsAs, IsKnown}
 use Rattle.flow_manifest.specs.Following.{no_entry, front_of}
 use Rattle.flow_recover.specs.Kept.{AreFilesOf}
 use Rattle.flow_recover.specs.Opening.{IsDeviceOrMemory, FrozenStand, shut_at}
 use Rattle.flow_manifest.proofs.Bodies.{all_more}
 use Rattle.flow_manifest.proofs.EntryLists.{all_both, all_take}
-use Rattle.flow_recover.proofs.Stand.{all_first, all_last}
+use Rattle.flow_model.proofs.Stand.{all_first, all_last}
 use Rattle.flow_recover.proofs.Recovering.{cutting_one, all_at, own_before, part_is, parts_count, frozen_push}
 use Rattle.flow_recover.proofs.Recovering.{files_push, no_part}
 use Rattle.flow_recover.proofs.tidying.freeze_files.Goals as goal

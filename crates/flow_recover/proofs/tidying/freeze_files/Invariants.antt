@@ -5,8 +5,8 @@ use Rattle.flow_disk.specs.Disk.{AllImages}
 use Rattle.flow_disk.specs.Calls.{LeavesOnly}
 use Rattle.flow_manifest.specs.declared.manifest.Entry.{Entry}
 use Rattle.flow_manifest.specs.declared.slots.Slots.{Slots}
-use Rattle.flow_recover.specs.State.{State}
-use Rattle.flow_recover.specs.Standing.{IsKnown}
+use Rattle.flow_model.specs.State.{State}
+use Rattle.flow_model.specs.Standing.{IsKnown}
 use Rattle.flow_manifest.specs.Following.{front_of}
 use Rattle.flow_recover.specs.Kept.{AreFilesOf}
 use Rattle.flow_recover.specs.Opening.{FrozenStand, shut_at}

@@ -3,7 +3,7 @@ use Rattle.flow_disk.specs.Disk.{InFile, ComesOf, Marks}
 use Rattle.flow_disk.proofs.Moments.{started, by}
 use Rattle.flow_disk.proofs.Calls.{starts, changes}
 use Rattle.flow_segment.specs.Steps.{IsAnything}
-use Rattle.flow_recover.specs.Standing.{is_file_of, SameNamed}
+use Rattle.flow_model.specs.Standing.{is_file_of, SameNamed}
 use Rattle.flow_recover.proofs.tidying.remove_one.Goals as goal
 
 pub returns-then-is_named-clause-any_moment : goal.returns-then-is_named-clause-any_moment

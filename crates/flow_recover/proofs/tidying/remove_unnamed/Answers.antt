@@ -6,7 +6,7 @@ use Rattle.std.proofs.lemmas.List.{drop_all, drop_more}
 use Rattle.std.proofs.lemmas.Map.Made.{Contains-tail}
 use Rattle.flow_disk.specs.Disk.{Marks, ComesOf}
 use Rattle.flow_disk.proofs.Moments.{started, goes_on, both}
-use Rattle.flow_recover.specs.Standing.{is_file_of, SameNamed}
+use Rattle.flow_model.specs.Standing.{is_file_of, SameNamed}
 use Rattle.flow_recover.proofs.tidying.remove_unnamed.Goals as goal
 
 absent : (n : ℕ) (files : List ℕ) → AllByRecursion (λ file. file ≢ n) files → Contains files n → ⊥

@@ -2,7 +2,7 @@ use Rattle.std.proofs.Common.{◌≡◌, ◌≢◌, ℕ, true, false, IsTrue, dr
 use Rattle.std.specs.List.{AllByRecursion}
 use Rattle.flow_disk.specs.Disk.{ComesOf}
 use Rattle.flow_disk.specs.Calls.{LeavesOnly}
-use Rattle.flow_recover.specs.Standing.{is_file_of, SameNamed}
+use Rattle.flow_model.specs.Standing.{is_file_of, SameNamed}
 use Rattle.flow_recover.proofs.tidying.remove_unnamed.Given as goal
 
 abbrev pub invariant-files : goal.invariant-files

@@ -1,5 +1,5 @@
 use Rattle.std.proofs.Common.{true}
-use Rattle.flow_recover.specs.Shelved.{shelf_of}
+use Rattle.flow_model.specs.Shelved.{shelf_of}
 use Rattle.flow_shared_checks.proofs.rolling.roller_lets_append.Given as goal
 
 -- the start that is made

@@ -1,4 +1,4 @@
-use Rattle.flow_recover.specs.Shelved.{shelf_of}
+use Rattle.flow_model.specs.Shelved.{shelf_of}
 use Rattle.flow_shell.proofs.shell.serve_disk.Given as goal
 
 -- the start that is made

@@ -1,7 +1,7 @@
 use Rattle.std.proofs.Common.{◌≡◌, take, map}
 use Rattle.std.specs.Prelude.{min}
 use Rattle.flow_snapshot.specs.Files.{rollup_of, shared}
-use Rattle.flow_snapshot.specs.Shelf.{messages_of}
+use Rattle.flow_model.specs.Shelf.{messages_of}
 use Rattle.flow_snapshot.proofs.counting.rolled_count.Given as goal
 
 abbrev pub invariant-loop-part : goal.invariant-loop-part

@@ -1,6 +1,6 @@
 use Rattle.std.proofs.Common.{◌≡◌, ◌+◌, length, take, map, min, arith}
 use Rattle.flow_snapshot.specs.Files.{segment_of, shared}
-use Rattle.flow_snapshot.specs.Shelf.{messages_in}
+use Rattle.flow_model.specs.Shelf.{messages_in}
 use Rattle.flow_snapshot.proofs.Asking.{sealed_more}
 use Rattle.flow_snapshot.proofs.counting.sealed_count.Goals as goal
 

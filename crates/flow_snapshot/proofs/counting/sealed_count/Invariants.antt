@@ -1,7 +1,7 @@
 use Rattle.std.proofs.Common.{◌≡◌, length, take, map}
 use Rattle.std.specs.Prelude.{min}
 use Rattle.flow_snapshot.specs.Files.{segment_of, shared}
-use Rattle.flow_snapshot.specs.Shelf.{messages_in}
+use Rattle.flow_model.specs.Shelf.{messages_in}
 use Rattle.flow_snapshot.proofs.counting.sealed_count.Given as goal
 
 abbrev pub invariant-loop-part : goal.invariant-loop-part

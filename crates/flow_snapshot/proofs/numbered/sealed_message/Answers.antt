@@ -1,7 +1,7 @@
 use Rattle.std.proofs.Common.{◌≡◌, ◌+◌, ◌<◌, ◌≤◌, length, map, subst, sym, ◌∙◌, arith}
 use Rattle.std.proofs.lemmas.List.{take_all}
 use Rattle.flow_snapshot.specs.Files.{segment_of, shared}
-use Rattle.flow_snapshot.specs.Shelf.{messages_in}
+use Rattle.flow_model.specs.Shelf.{messages_in}
 use Rattle.flow_snapshot.proofs.Asking.{sealed_more}
 use Rattle.flow_snapshot.proofs.Places.{found_err, is_own_honest, own_fill, own_place, passed_by}
 use Rattle.flow_snapshot.proofs.Standing.{stands_in}

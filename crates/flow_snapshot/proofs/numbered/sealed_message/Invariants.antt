@@ -1,7 +1,7 @@
 use Rattle.std.proofs.Common.{◌≡◌, ◌+◌, drop, length, map, take}
 use Rattle.std.specs.Prelude.{slice_get}
 use Rattle.flow_snapshot.specs.Files.{segment_of, shared}
-use Rattle.flow_snapshot.specs.Shelf.{messages_in}
+use Rattle.flow_model.specs.Shelf.{messages_in}
 use Rattle.flow_snapshot.proofs.numbered.sealed_message.Given as goal
 
 -- the message is one of the parts that are left

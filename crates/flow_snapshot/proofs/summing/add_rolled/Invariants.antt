@@ -5,7 +5,7 @@ use Rattle.std.specs.List.{list_all}
 use Rattle.flow_measure.specs.declared.rows.Sums.{Sums}
 use Rattle.flow_measure.specs.Sums.{key_cmp}
 use Rattle.flow_snapshot.specs.Files.{is_honest_sum, rollup_of, shared}
-use Rattle.flow_snapshot.specs.Views.{AreRolled}
+use Rattle.flow_model.specs.Views.{AreRolled}
 use Rattle.flow_snapshot.proofs.Adding.{Summed}
 use Rattle.flow_snapshot.proofs.Finding.{AreSummed}
 use Rattle.flow_snapshot.proofs.summing.add_rolled.Given as goal

@@ -1,7 +1,7 @@
 use Rattle.std.proofs.Common.{◌<◌, [], ap, refl, subst, sym, ◌∙◌, map, arith}
 use Rattle.std.proofs.lemmas.List.{drop_all, take_all}
 use Rattle.flow_snapshot.specs.Files.{segment_of, shared}
-use Rattle.flow_snapshot.specs.Shelf.{messages_in}
+use Rattle.flow_model.specs.Shelf.{messages_in}
 use Rattle.flow_snapshot.proofs.Finding.{all_accepted, none_behind, none_in_part, part_behind, AreBehind}
 use Rattle.flow_snapshot.proofs.KeptFlows.{next_part, skipped_part, taken_all}
 use Rattle.flow_snapshot.proofs.Adding.{sums_err, sums_step, with_nothing, HasSums}

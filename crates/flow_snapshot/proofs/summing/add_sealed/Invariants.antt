@@ -4,7 +4,7 @@ use Rattle.std.specs.List.{list_all}
 use Rattle.flow_measure.specs.History.{Accepted, AreAcceptedFrom}
 use Rattle.flow_segment.specs.Carry.{octets_of}
 use Rattle.flow_snapshot.specs.Files.{is_honest, segment_of, shared}
-use Rattle.flow_snapshot.specs.Shelf.{messages_in}
+use Rattle.flow_model.specs.Shelf.{messages_in}
 use Rattle.flow_snapshot.proofs.Finding.{AreBehind}
 use Rattle.flow_snapshot.proofs.KeptFlows.{Taken}
 use Rattle.flow_snapshot.proofs.Adding.{HasSums}

@@ -9,8 +9,8 @@ use Rattle.flow_gate.specs.Steps.{slices}
 use Rattle.flow_manifest.specs.declared.manifest.Entry.{Entry}
 use Rattle.flow_manifest.specs.Following.{active_of}
 use Rattle.flow_manifest.proofs.Followers.{are_entries}
-use Rattle.flow_recover.specs.State.{State, appended}
-use Rattle.flow_recover.specs.Chain.{HandsOn}
+use Rattle.flow_model.specs.State.{State, appended}
+use Rattle.flow_model.specs.Chain.{HandsOn}
 use Rattle.flow_recover.specs.Kept.{IsCounted}
 use Rattle.flow_archive.specs.Answers.{AnswersAppend, MayAppend}
 use Rattle.flow_archive.specs.Seen.{StandsBeforeOrAfter}

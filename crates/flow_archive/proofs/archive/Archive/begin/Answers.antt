@@ -1,7 +1,7 @@
 use Rattle.std.proofs.Common.{◌≡◌, ◌≤◌, refl, sym, ◌∙◌, ap, subst, arith, Some}
 use Rattle.flow_manifest.specs.declared.manifest.Kind.{Kind}
 use Rattle.flow_manifest.specs.Following.{count_of, source_of}
-use Rattle.flow_recover.specs.Jobs.{width_made}
+use Rattle.flow_model.specs.Jobs.{width_made}
 use Rattle.flow_archive.specs.JobAnswers.{begun}
 use Rattle.flow_archive.specs.Seen.{IsArchive}
 use Rattle.flow_archive.specs.UnderWay.{Rolling, Work, fresh, job_in, job_numbers, work_in}

@@ -1,7 +1,7 @@
 use Rattle.std.proofs.Common.{ℕ, IfOk, subst}
 use Rattle.flow_disk.specs.Disk.{AllImages}
-use Rattle.flow_recover.specs.State.{empty_state}
-use Rattle.flow_recover.specs.Standing.{StandsFor}
+use Rattle.flow_model.specs.State.{empty_state}
+use Rattle.flow_model.specs.Standing.{StandsFor}
 use Rattle.flow_archive.proofs.archive.Archive.create.Goals as goal
 
 pub returns-clause-stands : goal.returns-clause-stands

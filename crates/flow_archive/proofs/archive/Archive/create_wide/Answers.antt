@@ -3,7 +3,7 @@ use Rattle.std.specs.Prelude.{None}
 use Rattle.flow_manifest.specs.declared.slots.Slots.{Slots}
 use Rattle.flow_manifest.specs.Following.{active_entry}
 use Rattle.flow_segment.specs.Carry.{Carry, no_carry}
-use Rattle.flow_recover.specs.State.{State, empty_state}
+use Rattle.flow_model.specs.State.{State, empty_state}
 use Rattle.flow_archive.specs.Beginning.{first_slots}
 use Rattle.flow_archive.specs.Owned.{Frozen}
 use Rattle.flow_archive.specs.Seen.{IsArchive, state_in}

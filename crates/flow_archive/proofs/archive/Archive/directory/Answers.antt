@@ -1,11 +1,11 @@
 use Rattle.std.proofs.Common.{◌≡◌, true, Bool, IsTrue, refl, sym, ◌∙◌, ap, subst}
 use Rattle.flow_manifest.specs.Following.{front_of}
 use Rattle.flow_measure.specs.View.{view_of}
-use Rattle.flow_snapshot.specs.Changes.{counts_of}
-use Rattle.flow_snapshot.specs.Shelf.{Shelf}
+use Rattle.flow_model.specs.Changes.{counts_of}
+use Rattle.flow_model.specs.Shelf.{Shelf}
 use Rattle.flow_snapshot.specs.Sight.{Sight}
-use Rattle.flow_snapshot.specs.Views.{IsViewOf}
-use Rattle.flow_recover.specs.State.{State}
+use Rattle.flow_model.specs.Views.{IsViewOf}
+use Rattle.flow_model.specs.State.{State}
 use Rattle.flow_archive.specs.Owned.{shelf_with, AreHeldAs}
 use Rattle.flow_archive.specs.Seen.{state_in, IsArchive, Seen}
 use Rattle.flow_archive.specs.UnderWay.{work_in, HasOwnFiles, IsUnderWay}

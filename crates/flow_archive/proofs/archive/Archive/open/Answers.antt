@@ -7,8 +7,8 @@ use Rattle.flow_disk.specs.Cause.{HasCause}
 use Rattle.flow_manifest.specs.declared.manifest.Manifest.{Manifest}
 use Rattle.flow_manifest.specs.Slots.{file_of, reads_of}
 use Rattle.flow_recover.specs.Opening.{AreCutTo}
-use Rattle.flow_recover.specs.State.{end_of}
-use Rattle.flow_recover.specs.Standing.{is_file_of, StandsFor, StandsForEither}
+use Rattle.flow_model.specs.State.{end_of}
+use Rattle.flow_model.specs.Standing.{is_file_of, StandsFor, StandsForEither}
 use Rattle.flow_recover.specs.declared.error.RecoverError.TheVariants as refusal
 use Rattle.flow_recover.specs.declared.error.RecoverError.{RecoverError}
 use Rattle.flow_archive.specs.declared.refusal.Refused.{Refused}

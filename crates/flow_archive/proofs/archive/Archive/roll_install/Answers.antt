@@ -7,10 +7,10 @@ use Rattle.flow_manifest.specs.Manifest.{manifest_octets}
 use Rattle.flow_manifest.specs.Following.{front_of, made_entry, sources_of}
 use Rattle.flow_manifest.specs.Slots.{file_of, other}
 use Rattle.flow_manifest.proofs.Followers.{behind_short, front_long}
-use Rattle.flow_recover.specs.Jobs.{replaced, replaced_parts, staged_of}
-use Rattle.flow_recover.specs.State.{State, reopened}
-use Rattle.flow_recover.specs.Standing.{StandsForEither}
-use Rattle.flow_recover.proofs.Replacing.{hands_after}
+use Rattle.flow_model.specs.Jobs.{replaced, replaced_parts, staged_of}
+use Rattle.flow_model.specs.State.{State, reopened}
+use Rattle.flow_model.specs.Standing.{StandsForEither}
+use Rattle.flow_model.proofs.Replacing.{hands_after}
 use Rattle.flow_archive.specs.Installing.{IsInstall, IsMadeAs, IsNotInstalled}
 use Rattle.flow_archive.specs.JobAnswers.{AnswersInstall, IsInstalled}
 use Rattle.flow_archive.specs.Owned.{Frozen, IsAlone, IsHeldAs}

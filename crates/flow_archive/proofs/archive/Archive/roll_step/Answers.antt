@@ -1,7 +1,7 @@
 use Rattle.std.proofs.Common.{◌≡◌, ◌-◌, ◌<◌, ◌+◌, ℕ, refl, sym, ◌∙◌, ap, subst, arith, rules, Err, Option, Some, length}
 use Rattle.std.proofs.Common.{vec_len, Ok, ◌∷◌, Bool, List}
 use Rattle.flow_manifest.specs.Following.{count_before, front_of, source_of}
-use Rattle.flow_recover.specs.State.{State}
+use Rattle.flow_model.specs.State.{State}
 use Rattle.flow_archive.specs.declared.refusal.ArchiveError.{ArchiveError}
 use Rattle.flow_archive.specs.declared.refusal.ArchiveError.TheVariants as refusal
 use Rattle.flow_archive.specs.JobAnswers.{AnswersStep, IsStepped}

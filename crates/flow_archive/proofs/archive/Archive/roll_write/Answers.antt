@@ -8,7 +8,7 @@ use Rattle.flow_manifest.specs.declared.manifest.Entry.{Entry}
 use Rattle.flow_manifest.proofs.Followers.{are_entries}
 use Rattle.flow_rolled.specs.Rollup.{IsRollup}
 use Rattle.flow_segment.specs.Steps.{Becomes, IsAnything}
-use Rattle.flow_recover.specs.State.{State}
+use Rattle.flow_model.specs.State.{State}
 use Rattle.flow_archive.specs.Answers.{job_generations}
 use Rattle.flow_archive.specs.JobAnswers.{AnswersWrite, IsWritten}
 use Rattle.flow_archive.specs.Seen.{StandsBeforeOrAfter, state_in}

@@ -10,8 +10,8 @@ use Rattle.flow_manifest.specs.Following.{active_of, sealed_entry}
 use Rattle.flow_manifest.specs.Slots.{file_of, other}
 use Rattle.flow_manifest.proofs.Followers.{are_entries}
 use Rattle.flow_segment.specs.Carry.{prefix_of}
-use Rattle.flow_recover.specs.State.{State, end_of, moved_on, reopened}
-use Rattle.flow_recover.specs.Standing.{StandsFor, StandsForEither}
+use Rattle.flow_model.specs.State.{State, end_of, moved_on, reopened}
+use Rattle.flow_model.specs.Standing.{StandsFor, StandsForEither}
 use Rattle.flow_archive.specs.declared.archive.Archive.TheInside.{Inside}
 use Rattle.flow_archive.specs.Answers.{job_generations, AnswersSeal, IsMovedOn, IsNotFollowed, MaySeal}
 use Rattle.flow_archive.specs.Moving.{IsMove, MovesMarks}

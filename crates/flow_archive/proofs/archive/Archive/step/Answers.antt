@@ -1,7 +1,7 @@
 use Rattle.std.proofs.Common.{◌≡◌, ◌-◌, ℕ, Bool, true, List, length, refl, sym, ◌∙◌, ap, subst, arith, rules, vec_len}
 use Rattle.flow_manifest.specs.Following.{front_of, messages_of}
 use Rattle.flow_snapshot.specs.Steps.{change_of}
-use Rattle.flow_recover.specs.State.{State}
+use Rattle.flow_model.specs.State.{State}
 use Rattle.flow_archive.specs.Marks.{HasMark, HasMarkAmong, IsMarkedAmong}
 use Rattle.flow_archive.specs.Owned.{AreHeldAs}
 use Rattle.flow_archive.specs.Seen.{state_in, IsArchive, Seen}

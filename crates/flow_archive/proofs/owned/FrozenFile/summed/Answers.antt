@@ -3,8 +3,8 @@ use Rattle.std.specs.Prelude.{MatchResult}
 use Rattle.flow_manifest.specs.declared.following.JobKind.{JobKind}
 use Rattle.flow_manifest.specs.declared.manifest.Kind.TheVariants as kind
 use Rattle.flow_manifest.specs.declared.manifest.Manifest.{Manifest}
-use Rattle.flow_recover.specs.Jobs.{width_made}
-use Rattle.flow_recover.specs.State.{Part}
+use Rattle.flow_model.specs.Jobs.{width_made}
+use Rattle.flow_model.specs.State.{Part}
 use Rattle.flow_archive.specs.Owned.{frozen_of, is_shared, segment_file, sums_file, Frozen}
 use Rattle.flow_archive.specs.Sources.{IsNotRead, IsRead, IsReadWhole, IsSource}
 use Rattle.flow_archive.proofs.Advance.{rolled_read, sealed_read}

@@ -1,6 +1,6 @@
 use Rattle.std.proofs.Common.{ap, sym, subst, ◌∙◌, IsTrue}
 use Rattle.std.specs.List.{list_all}
-use Rattle.flow_snapshot.specs.Changes.{applied}
+use Rattle.flow_model.specs.Changes.{applied}
 use Rattle.flow_snapshot.specs.Directories.{sight_of}
 use Rattle.flow_snapshot.specs.Files.{is_honest, is_honest_sum, rollup_of, segment_of, shared}
 use Rattle.flow_snapshot.specs.Steps.{change_of, has_honest}

@@ -8,9 +8,9 @@ use Rattle.flow_segment.specs.PartFlows.{with_flows}
 use Rattle.flow_segment.specs.Prefix.{IsRestated}
 use Rattle.flow_snapshot.specs.Directories.{sight_of}
 use Rattle.flow_snapshot.specs.Files.{is_honest, is_honest_sum, shared}
-use Rattle.flow_snapshot.specs.Found.{first_prefix, AreKept}
+use Rattle.flow_model.specs.Views.{first_prefix, AreKept}
 use Rattle.flow_snapshot.specs.Sight.{Sight}
-use Rattle.flow_snapshot.specs.Views.{IsViewOf}
+use Rattle.flow_model.specs.Views.{IsViewOf}
 use Rattle.flow_snapshot.proofs.Adding.{made_blameless, made_err}
 use Rattle.flow_snapshot.proofs.Asking.{honest_sealed}
 use Rattle.flow_snapshot.proofs.Sharing.{second_of_two}

@@ -5,11 +5,11 @@ use Rattle.std.proofs.lemmas.Bool.{ltb-true, ltb-false}
 use Rattle.std.proofs.lemmas.Option.{slice_get-get_or, slice_get_past}
 use Rattle.flow_snapshot.specs.Directories.{sight_of}
 use Rattle.flow_snapshot.specs.Files.{is_honest, is_honest_sum, shared}
-use Rattle.flow_snapshot.specs.Shelf.{cut_of, messages_in}
+use Rattle.flow_model.specs.Shelf.{cut_of, messages_in}
 use Rattle.flow_snapshot.specs.Found.{IsMessageAt}
 use Rattle.flow_snapshot.specs.Sight.{Sight}
 use Rattle.flow_snapshot.specs.Told.{octets_in}
-use Rattle.flow_snapshot.specs.Views.{IsViewOf}
+use Rattle.flow_model.specs.Views.{IsViewOf}
 use Rattle.flow_snapshot.proofs.Asking.{honest_sealed}
 use Rattle.flow_snapshot.proofs.KeptFlows.{answered_err}
 use Rattle.flow_snapshot.proofs.Places.{in_active, in_sealed, sealed_cut}

@@ -9,9 +9,9 @@ use Rattle.flow_measure.specs.View.{View}
 use Rattle.flow_segment.specs.PartFlows.{with_flows}
 use Rattle.flow_snapshot.specs.Directories.{sight_of}
 use Rattle.flow_snapshot.specs.Files.{is_honest, is_honest_sum, shared}
-use Rattle.flow_snapshot.specs.Found.{AreKept, IsReadIn}
+use Rattle.flow_model.specs.Views.{AreKept, IsReadIn}
 use Rattle.flow_snapshot.specs.Sight.{Sight}
-use Rattle.flow_snapshot.specs.Views.{AreRolled, AreRolledInto, IsViewOf}
+use Rattle.flow_model.specs.Views.{AreRolled, AreRolledInto, IsViewOf}
 use Rattle.flow_snapshot.proofs.Adding.{made_err}
 use Rattle.flow_snapshot.proofs.Sharing.{first_of_two, second_of_two}
 use Rattle.flow_snapshot.proofs.Totalling.{narrow_is, rolled_fits}

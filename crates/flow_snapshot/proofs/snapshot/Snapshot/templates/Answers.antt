@@ -3,9 +3,9 @@ use Rattle.std.specs.Prelude.{IfOk, IsTrue, ◌&&◌}
 use Rattle.std.specs.List.{list_all}
 use Rattle.flow_segment.specs.Prefix.{IsRestated}
 use Rattle.flow_snapshot.specs.Files.{is_honest_sum, shared}
-use Rattle.flow_snapshot.specs.Found.{first_prefix}
+use Rattle.flow_model.specs.Views.{first_prefix}
 use Rattle.flow_snapshot.specs.Sight.{Sight}
-use Rattle.flow_snapshot.specs.Views.{AreRestated}
+use Rattle.flow_model.specs.Views.{AreRestated}
 use Rattle.flow_snapshot.proofs.Asking.{active_templates, first_item, first_templates, no_item, templates_blameless}
 use Rattle.flow_snapshot.proofs.KeptFlows.{answered_err}
 use Rattle.flow_snapshot.proofs.Whole.{active_found, first_found}

@@ -8,7 +8,7 @@ use Rattle.flow_snapshot.specs.Directories.{sight_of}
 use Rattle.flow_snapshot.specs.Files.{is_honest, is_honest_sum, shared}
 use Rattle.flow_snapshot.specs.Sight.{Sight}
 use Rattle.flow_snapshot.specs.Totals.{wide_table_in, with_maps}
-use Rattle.flow_snapshot.specs.Views.{AreRolled, AreRolledInto, IsViewOf}
+use Rattle.flow_model.specs.Views.{AreRolled, AreRolledInto, IsViewOf}
 use Rattle.flow_snapshot.proofs.Adding.{made_err}
 use Rattle.flow_snapshot.proofs.Sharing.{first_of_two}
 use Rattle.flow_snapshot.proofs.Totalling.{wide_is}

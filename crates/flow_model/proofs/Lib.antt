@@ -1,0 +1,10 @@
+pub mod Accepting
+pub mod Parting
+pub mod Meaning
+pub mod Following
+pub mod Viewing
+pub mod History
+pub mod Stand
+pub mod Installing
+pub mod Sourcing
+pub mod Replacing

@@ -1,5 +1,0 @@
-use Rattle.flow_snapshot.proofs.Meaning.{one_view}
-use Rattle.flow_snapshot.proofs.laws.one_view.Goals as goal
-
-pub returns : goal.returns
-returns c = λ s v w narrow wide h k. one_view s v w narrow wide h k
