@@ -57,37 +57,42 @@ def made_file(rng):
 # ---- The count ----
 
 def take_templates(octets, kind, here):
-    """Takes template records into the definitions of a domain: a kind and fields by ID."""
-    at = 0
+    """Takes template records into the definitions of a domain, a kind, scope fields and fields by ID. It answers how
+    many of them replace a different one."""
+    at = replaced = 0
     while len(octets) - at >= 4:
         template, count = struct.unpack_from(">HH", octets, at)
         if template == 0:
-            return
+            break
         at += 4
         if count == 0:
             gone = [each for each in here if here[each][0] == kind and template in (each, kind)]
             for each in gone:
                 del here[each]
             continue
+        (scope,) = struct.unpack_from(">H", octets, at) if kind == 3 else (0,)
         at += 2 if kind == 3 else 0
         fields = []
         for _ in range(count):
             element, length = struct.unpack_from(">HH", octets, at)
             of_enterprise = element >= 0x8000
+            (enterprise,) = struct.unpack_from(">I", octets, at + 4) if of_enterprise else (None,)
             at += 8 if of_enterprise else 4
-            fields.append((None if of_enterprise else element, length))
-        here[template] = kind, fields
+            fields.append((enterprise, element & 0x7FFF, length))
+        replaced += here.get(template, (kind, scope, fields)) != (kind, scope, fields)
+        here[template] = kind, scope, fields
+    return replaced
 
 
 def moments_of(octets, at, fields):
     """The first number of each moment in the record at a place, and the place after it."""
     found = {}
-    for element, length in fields:
+    for enterprise, element, length in fields:
         if length == 65535:
             length, at = octets[at], at + 1
             if length == 255:
                 (length,), at = struct.unpack_from(">H", octets, at), at + 2
-        if (element, length) in MOMENTS:
+        if enterprise is None and (element, length) in MOMENTS:
             found.setdefault(element, int.from_bytes(octets[at : at + length], "big"))
         at += length
     return found, at
@@ -112,15 +117,15 @@ def take_flow(row, time, found):
 def take_set(row, time, number, octets, here):
     """Counts a Set, and answers how many data records it has."""
     if number in (2, 3):
-        take_templates(octets, number, here)
+        row["replaced"] += take_templates(octets, number, here)
         return 0
     if number < 256:
         return 0
     if number not in here:
         row["unread_sets"], row["unread_octets"] = row["unread_sets"] + 1, row["unread_octets"] + 4 + len(octets)
         return 0
-    kind, fields = here[number]
-    smallest, at, count = sum(1 if length == 65535 else length for _, length in fields), 0, 0
+    kind, _, fields = here[number]
+    smallest, at, count = sum(1 if length == 65535 else length for _, _, length in fields), 0, 0
     while smallest and len(octets) - at >= smallest:
         found, at = moments_of(octets, at, fields)
         count += 1
@@ -141,12 +146,12 @@ def take_sequence(row, sequence):
 def counted(octets):
     """What there is of each domain, in the order of their first messages."""
     rows, templates, at = {}, {}, 0
-    names = ("messages", "records", "options", "unread_sets", "unread_octets", "gaps", "missing", "backwards", "long")
+    names = ("messages", "records", "options", "unread_sets", "unread_octets", "replaced", "gaps", "missing", "backwards")
     while at < len(octets):
         _, length, time, sequence, domain = struct.unpack_from(">HHIII", octets, at)
         if domain in rows:
             take_sequence(rows[domain], sequence)
-        row = rows.setdefault(domain, {"domain": domain, **dict.fromkeys(names, 0)})
+        row = rows.setdefault(domain, {"domain": domain, "long": 0, **dict.fromkeys(names, 0)})
         row["messages"] += 1
         row["from"], row["to"] = min(row.get("from", time), time), max(row.get("to", time), time)
         records, to, at = 0, at + length, at + 16

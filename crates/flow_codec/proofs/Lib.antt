@@ -10,6 +10,8 @@ pub mod WholeRecords
 pub mod SetLoop
 pub mod UnreadLoop
 pub mod UnreadLaws
+pub mod ReplacedLoop
+pub mod ReplacedLaws
 pub mod RoleLaws
 pub mod PlaceLoop
 pub mod PlanLoop

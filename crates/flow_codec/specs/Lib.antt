@@ -12,6 +12,7 @@ pub mod Reading
 pub mod Extent
 pub mod Walk
 pub mod Unread
+pub mod Replaced
 pub mod ShortList
 pub mod Slots
 pub mod Cutting

@@ -8,6 +8,7 @@ ghost use Rattle.flow_codec.specs.Templates.{AllTemplates, AreDefinitions, AreTe
 ghost use Rattle.flow_codec.specs.Templates.{definition_of, definitions_of, unless_own};
 ghost use Rattle.flow_codec.specs.Raw.{RawMessage, IsWhole};
 ghost use Rattle.flow_codec.specs.Message.{IsAccepted, IsMessage};
+ghost use Rattle.flow_codec.specs.Replaced.{AreReplaced, replaced_of};
 ghost use Rattle.flow_codec.specs.Unread.{AreUnread, unread_of};
 ghost use Rattle.flow_codec.specs.File.{IsFile, AcceptedFront, AreAccepted, whole, broken};
 ghost use Rattle.flow_codec.specs.Prefix.{prefix_messages, prefix_reads, AreDomains, AreNumbers};
@@ -52,6 +53,13 @@ pub fn one_division()
 pub fn unread_sets()
     ensures { (octets : List ℕ) (before after : AllTemplates) (m : RawMessage) (h : IsMessage octets before m after)
         → AreUnread m.header.domain before h.sets (unread_of before octets) }
+{}
+
+/// How many template records of a message replace a definition, which is found by reading, is how many of its Sets'
+/// template records define an ID otherwise than the definition in force before them.
+pub fn replaced_definitions()
+    ensures { (octets : List ℕ) (before after : AllTemplates) (m : RawMessage) (h : IsMessage octets before m after)
+        → AreReplaced m.header.domain before h.sets (replaced_of before octets) }
 {}
 
 /// A message has fewer than 65,536 octets, at least one for each data record after its header, and changes the

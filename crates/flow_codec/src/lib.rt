@@ -4,9 +4,10 @@
 //! answers. `walk_message` hands a message's data records to a sink, in order and each in its octets, and takes its
 //! templates in; a refusal leaves the templates as they were. It costs time in proportion to the message's octets,
 //! whatever templates are in force, and no memory for records or fields. `walk_sets` does the same, and counts the data
-//! Sets without a definition in force. `judge_message` answers the same and changes nothing, and `read_message` builds
-//! the fields. `MessageReader` reads the messages of a File one after the other and holds one. `write_templates`
-//! restates templates in messages without data records that, read from none, leave just these in their order.
+//! Sets without a definition in force and the template records that replace a definition. `judge_message` answers the
+//! same and changes nothing, and `read_message` builds the fields. `MessageReader` reads the messages of a File one
+//! after the other and holds one. `write_templates` restates templates in messages without data records that, read from
+//! none, leave just these in their order.
 #![tactic(auto)]
 
 mod count;
@@ -38,8 +39,8 @@ pub use fields::{read_message, split_field};
 pub use file::{FileError, Span, front_of, one_front, split_file};
 pub use kind::TemplateKind;
 pub use laws::{
-    files_and_fronts, message_bounds, one_answer, one_division, restated_templates,
-    template_changes, unread_sets,
+    files_and_fronts, message_bounds, one_answer, one_division, replaced_definitions,
+    restated_templates, template_changes, unread_sets,
 };
 pub use message::{DataRecord, Field, Header, Message};
 pub use patient::ReadFailed;

@@ -12,6 +12,7 @@ ghost use Rattle.flow_codec.specs.Extent.{step_at, extent_by};
 ghost use Rattle.flow_codec.specs.Message.{IsAccepted};
 ghost use Rattle.flow_codec.specs.Fault.{IsFault};
 ghost use Rattle.flow_codec.specs.Walk.{IsWalkedBy, IsWalkOf, IsStopped, IsJudgementOf};
+ghost use Rattle.flow_codec.specs.Replaced.{replaced_at, replaced_of, replacing_in};
 ghost use Rattle.flow_codec.specs.Unread.{counted, header_in, is_unread, unread_at, unread_of};
 
 use crate::count::Count;
@@ -45,6 +46,8 @@ pub struct UnreadSets {
 pub struct Walked {
     pub header: Header,
     pub unread: UnreadSets,
+    /// How many template records replace a different definition of their ID, which is in force (RFC 7011, section 8.1).
+    pub replaced: usize,
 }
 
 /// The octets of a field of fixed length in the record at `at`, by their count.
@@ -164,8 +167,9 @@ fn kind_of(id: u16) -> Option<TemplateKind>
 }
 
 /// Hands the records of a Set that ends at `end` to a sink, or applies its template records. `here` was in force in the
-/// message's domain before it. It answers whether the Set is a data Set without a definition in force.
-#[tactic(auto, unfolding(crate::specs::Reading::content_at, crate::specs::Reading::data_at))]
+/// message's domain before it. It answers whether the Set is a data Set without a definition in force, and how many of
+/// its template records replace a definition.
+#[tactic(auto, unfolding(crate::specs::Reading::content_at, crate::specs::Reading::data_at, crate::specs::Replaced::replacing_in))]
 fn content_of<S: RecordSink>(
     alloc: Global,
     end: usize,
@@ -176,20 +180,23 @@ fn content_of<S: RecordSink>(
     changed: &mut Option<Changed>,
     octets: &[u8],
     sink: &mut S,
-) -> Result<bool, WalkError<S::Error>>
+) -> Result<(bool, usize), WalkError<S::Error>>
     requires end { length octets.now ≤ end }
     requires here { here.now ≡ definitions_of header.now.domain before.now }
     requires changes { AreChanges header.now.domain before.now changed.old }
     ensures changes { OnOk result (AreChanges header.now.domain before.now changed.new) }
     ensures unread { IfOk result
-        (λ b. b ≡ is_unread header.now.domain (current header.now.domain before.now changed.old) id) }
+        (λ x. x.0 ≡ is_unread header.now.domain (current header.now.domain before.now changed.old) id) }
+    ensures replaced { IfOk result (λ x. x.1 ≡ replacing_in end header.now.domain id
+        (current header.now.domain before.now changed.old) octets.now) }
+    ensures few { IfOk result (λ x. x.1 ≤ length octets.now) }
     ensures exact { Feeds (λ records. Took S.holds header.now sink.old records sink.new
         × (length records ≤ length octets.now)) (IsRefused S.holds S.refuses header.now sink.old (length octets.now))
         (λ _. current header.now.domain before.now changed.new) result
         (content_at end header.now.domain id (current header.now.domain before.now changed.old) octets.now) }
 {
     if let Some(kind) = kind_of(id) {
-        templates_of(
+        let replaced = templates_of(
             alloc,
             end,
             before,
@@ -199,16 +206,16 @@ fn content_of<S: RecordSink>(
             changed,
             octets,
         )?;
-        return Ok(false);
+        return Ok((false, replaced));
     }
     if id < FIRST_DATA_SET {
-        return Ok(false);
+        return Ok((false, 0));
     }
     match find_in(before, header.domain, here, changed, id) {
-        None => Ok(true),
+        None => Ok((true, 0)),
         Some(definition) => {
             records_of(end, header, id, definition, octets, sink)?;
-            Ok(false)
+            Ok((false, 0))
         }
     }
 }
@@ -231,7 +238,7 @@ fn set_of(at: usize, octets: &[u8]) -> Result<(u16, &[u8], &[u8]), MessageError>
 }
 
 /// Hands the records of all Sets to a sink, and applies their template records. It counts the data Sets without a
-/// definition in force.
+/// definition in force, and the template records that replace a definition.
 fn sets_of<S: RecordSink>(
     alloc: Global,
     end: usize,
@@ -240,12 +247,14 @@ fn sets_of<S: RecordSink>(
     changed: &mut Option<Changed>,
     octets: &[u8],
     sink: &mut S,
-) -> Result<UnreadSets, WalkError<S::Error>>
+) -> Result<(UnreadSets, usize), WalkError<S::Error>>
     requires end { length octets.now ≤ end }
     requires changes { AreChanges header.now.domain before.now changed.old }
     ensures changes { OnOk result (AreChanges header.now.domain before.now changed.new) }
-    ensures unread { IfOk result (λ unread. unread ≡ counted (unread_at (length octets.now) end header.now.domain
+    ensures unread { IfOk result (λ x. x.0 ≡ counted (unread_at (length octets.now) end header.now.domain
         (current header.now.domain before.now changed.old) octets.now)) }
+    ensures replaced { IfOk result (λ x. x.1 ≡ replaced_at (length octets.now) end header.now.domain
+        (current header.now.domain before.now changed.old) octets.now) }
     ensures exact { Feeds (λ records. Took S.holds header.now sink.old records sink.new
         × (length records ≤ length octets.now)) (IsRefused S.holds S.refuses header.now sink.old (length octets.now))
         (λ _. current header.now.domain before.now changed.new) result
@@ -254,10 +263,11 @@ fn sets_of<S: RecordSink>(
 {
     let here = before.here(header.domain);
     let mut unread = UnreadSets { sets: 0, octets: 0 };
+    let mut replaced = 0;
     let mut rest = octets;
     'sets: while !rest.is_empty() {
         let (id, content, after) = set_of(end - rest.len(), rest)?;
-        let is_unread = content_of(
+        let (is_unread, more) = content_of(
             alloc,
             end - after.len(),
             before,
@@ -272,9 +282,10 @@ fn sets_of<S: RecordSink>(
             unread.sets += 1;
             unread.octets += SET_HEADER + content.len();
         }
+        replaced += more;
         rest = after;
     }
-    Ok(unread)
+    Ok((unread, replaced))
 }
 
 /// The header of a message of all these octets, and the octets after the header.
@@ -319,14 +330,19 @@ fn divided<S: RecordSink>(
     requires { changed.old ≡ None }
     ensures changes { IfOk result (λ w. AreChanges w.header.domain templates.now changed.new) }
     ensures unread { IfOk result (λ w. w.unread ≡ counted (unread_of templates.now octets.now)) }
+    ensures replaced { IfOk result (λ w. w.replaced ≡ replaced_of templates.now octets.now) }
     ensures exact { IsWalked S.holds (λ header. IsRefused S.holds S.refuses header sink.old (length octets.now))
         (λ w. (w.header, current w.header.domain templates.now changed.new)) sink.old sink.new result
         (message_at templates.now octets.now) }
 {
     let (header, rest) = header_of(octets)?;
-    let unread = sets_of(alloc, octets.len(), templates, &header, changed, rest, sink)?;
+    let (unread, replaced) = sets_of(alloc, octets.len(), templates, &header, changed, rest, sink)?;
     keep_limits(templates, &header, changed)?;
-    Ok(Walked { header, unread })
+    Ok(Walked {
+        header,
+        unread,
+        replaced,
+    })
 }
 
 fn message_of<S: RecordSink>(
@@ -336,6 +352,7 @@ fn message_of<S: RecordSink>(
     sink: &mut S,
 ) -> Result<Walked, WalkError<S::Error>>
     ensures unread { IfOk result (λ w. w.unread ≡ counted (unread_of templates.old octets.now)) }
+    ensures replaced { IfOk result (λ w. w.replaced ≡ replaced_of templates.old octets.now) }
     ensures exact { IsWalked S.holds (λ header. IsRefused S.holds S.refuses header sink.old (length octets.now))
         (λ w. (w.header, templates.new)) sink.old sink.new result (message_at templates.old octets.now) }
     ensures err { OnErr result (templates.new ≡ templates.old) }
@@ -376,7 +393,8 @@ pub fn walk_message<S: RecordSink>(
     }
 }
 
-/// Walks over a message as `walk_message` does, and also counts its data Sets without a definition in force.
+/// Walks over a message as `walk_message` does, and also counts its data Sets without a definition in force, and its
+/// template records that replace a definition.
 pub fn walk_sets<S: RecordSink>(
     templates: &mut Templates,
     alloc: Global,
@@ -392,6 +410,8 @@ pub fn walk_sets<S: RecordSink>(
     ensures err { OnErr result (templates.new ≡ templates.old) }
     // These are the data Sets without a definition in force, each under the templates of the Sets before it.
     ensures unread { IfOk result (λ w. w.unread ≡ counted (unread_of templates.old octets.now)) }
+    // So many template records define an ID otherwise than the definition in force before them.
+    ensures replaced { IfOk result (λ w. w.replaced ≡ replaced_of templates.old octets.now) }
 {
     message_of(templates, alloc, octets, sink)
 }

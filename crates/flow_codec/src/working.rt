@@ -6,6 +6,7 @@ ghost use Rattle.std.specs.Prelude.{◌≡◌, ◌≤◌, ◌||◌, List, true, 
 ghost use Rattle.std.specs.Option.{is_some, option_copied};
 ghost use Rattle.flow_codec.specs.Reading.{Gives, templates_at, limited};
 ghost use Rattle.flow_codec.specs.Raw.{RawRecord};
+ghost use Rattle.flow_codec.specs.Replaced.{replaces, replacing_at};
 ghost use Rattle.flow_codec.specs.Templates.{AllTemplates, applied, changed, definition_of, definitions_of};
 ghost use Rattle.flow_codec.specs.Templates.{domain_size, is_empty, AreTemplatesInForce};
 ghost use Rattle.flow_codec.specs.Working.{current, changed_in, AreOver, AreChanges};
@@ -202,8 +203,30 @@ fn apply_in(
     step_in(alloc, before, domain, here, changed, kind, change)
 }
 
-/// Applies the template records of a Set that ends at `end`, in a domain where `here` is in force. After an `Err`,
-/// `changed` is to be thrown away.
+/// Whether a template record defines its ID otherwise than the definition that is in force under it, in a domain where
+/// `here` was in force before the message.
+fn replaces(
+    before: &Templates,
+    domain: u32,
+    here: &DomainTemplates,
+    changed: &Option<Changed>,
+    change: &TemplateRecord,
+) -> bool
+    requires here { here.now ≡ definitions_of domain before.now }
+    requires changes { AreChanges domain before.now changed.now }
+    ensures { result ≡ replaces domain (current domain before.now changed.now) change.now }
+{
+    let TemplateRecord::Define(id, definition) = change else {
+        return false;
+    };
+    match find_in(before, domain, here, changed, *id) {
+        Some(other) => !other.is_same(definition),
+        None => false,
+    }
+}
+
+/// Applies the template records of a Set that ends at `end`, in a domain where `here` is in force, and counts those
+/// that replace a definition. After an `Err`, `changed` is to be thrown away.
 pub(crate) fn templates_of(
     alloc: Global,
     end: usize,
@@ -213,21 +236,28 @@ pub(crate) fn templates_of(
     kind: TemplateKind,
     changed: &mut Option<Changed>,
     octets: &[u8],
-) -> Result<(), MessageError>
+) -> Result<usize, MessageError>
     requires end { length octets.now ≤ end }
     requires here { here.now ≡ definitions_of domain before.now }
     requires changes { AreChanges domain before.now changed.old }
     ensures changes { OnOk result (AreChanges domain before.now changed.new) }
+    ensures replaced { IfOk result (λ count. count ≡ replacing_at (length octets.now) end domain kind
+        (current domain before.now changed.old) octets.now) }
+    ensures few { IfOk result (λ count. count ≤ length octets.now) }
     ensures exact { Gives (λ _. current domain before.now changed.new) result
         (templates_at (length octets.now) end domain kind (current domain before.now changed.old) octets.now) }
 {
+    let mut replaced = 0;
     let mut rest = octets;
-    while !is_ended(rest) {
+    'records: while !is_ended(rest) {
         let (change, after) = template_of(alloc, kind, end - rest.len(), rest)?;
+        if replaces(before, domain, here, changed, &change) {
+            replaced += 1;
+        }
         apply_in(alloc, before, domain, here, changed, kind, change)?;
         rest = after;
     }
-    Ok(())
+    Ok(replaced)
 }
 
 /// Refuses templates that pass a limit: that of the message's own domain first, then that on domains.

@@ -24,6 +24,7 @@ use Rattle.flow_codec.specs.Raw.{RawMessage, RawRecord, Placed, under}
 use Rattle.flow_codec.specs.Templates.{AllTemplates}
 use Rattle.flow_codec.specs.Message.{IsAccepted, joined}
 use Rattle.flow_codec.specs.Cutting.{IsCutOff}
+use Rattle.flow_codec.specs.Replaced.{replaced_of}
 use Rattle.flow_codec.specs.Unread.{counted, unread_of}
 use Rattle.flow_codec.specs.Fault.{IsFault}
 use Rattle.std.specs.Io.KnownBytes.{Consumes, IsAtEnd}
@@ -49,7 +50,7 @@ use Rattle.flow_report.specs.declared.format.Format.{Format}
 use Rattle.flow_report.specs.Formats.{heading}
 use Rattle.flow_inspect.specs.Reports.{domains_text, entries_after, report_in, report_names, reports_of, whole_of}
 use Rattle.flow_inspect.specs.Reports.{with_tally}
-use Rattle.flow_inspect.specs.Inspect.{AreInspected, HasReports, walk_refusal}
+use Rattle.flow_inspect.specs.Inspect.{AreInspected, HasReports, IsNoted, walk_refusal}
 
 -- these octets begin with these messages, and `rest` follows them
 pub record IsSeen (octets rest : List ℕ) (messages : List Inspected) (here : AllTemplates) : Type 0 where
@@ -68,18 +69,18 @@ sees_none (Some octets) = (octets, refl, record { parts = []; divided = refl; ea
 
 inspected_more : (before here next : AllTemplates) (parts : List (List ℕ)) (part : List ℕ) (ms : List Inspected)
     (m : Inspected) → AreInspected before parts ms here → IsCutOff part → IsAccepted part here m.message next
-    → m.unread ≡ unread_of here part → AreInspected before (parts ++ part ∷ []) (ms ++ m ∷ []) next
-inspected_more before here next [] part [] m same cut accepted unread =
-    subst (λ (t : AllTemplates). AreInspected t (part ∷ []) (m ∷ []) next) same (next, cut, accepted, unread, refl)
-inspected_more before here next [] part (n ∷ ns) m none cut accepted unread = absurd none
-inspected_more before here next (p ∷ ps) part [] m none cut accepted unread = absurd none
-inspected_more before here next (p ∷ ps) part (n ∷ ns) m (mid, out, first, own, others) cut accepted unread =
-    (mid, out, first, own, inspected_more mid here next ps part ns m others cut accepted unread)
+    → IsNoted here part m → AreInspected before (parts ++ part ∷ []) (ms ++ m ∷ []) next
+inspected_more before here next [] part [] m same cut accepted noted =
+    subst (λ (t : AllTemplates). AreInspected t (part ∷ []) (m ∷ []) next) same (next, cut, accepted, noted, refl)
+inspected_more before here next [] part (n ∷ ns) m none cut accepted noted = absurd none
+inspected_more before here next (p ∷ ps) part [] m none cut accepted noted = absurd none
+inspected_more before here next (p ∷ ps) part (n ∷ ns) m (mid, out, first, own, others) cut accepted noted =
+    (mid, out, first, own, inspected_more mid here next ps part ns m others cut accepted noted)
 
 seen_more : (octets part rest : List ℕ) (messages : List Inspected) (here next : AllTemplates) (m : Inspected)
     → IsSeen octets (part ++ rest) messages here → IsCutOff part → IsAccepted part here m.message next
-    → m.unread ≡ unread_of here part → IsSeen octets rest (messages ++ m ∷ []) next
-seen_more octets part rest messages here next m so_far cut accepted unread =
+    → IsNoted here part m → IsSeen octets rest (messages ++ m ∷ []) next
+seen_more octets part rest messages here next m so_far cut accepted noted =
     let parts = so_far.parts in
     let joint : joined (parts ++ part ∷ []) ≡ joined parts ++ part =
     flat_map-append (λ (r : List ℕ). r) parts (part ∷ [])
@@ -88,15 +89,15 @@ seen_more octets part rest messages here next m so_far cut accepted unread =
       parts = parts ++ part ∷ [];
       divided = so_far.divided ∙ sym (append_assoc (joined parts) part rest)
           ∙ ap (λ (xs : List ℕ). xs ++ rest) (sym joint);
-      each = inspected_more [] here next parts part messages m so_far.each cut accepted unread;
+      each = inspected_more [] here next parts part messages m so_far.each cut accepted noted;
     }
 
 sees_more : (start : Option (List ℕ)) (old new : Progress) (messages : List Inspected) (here next : AllTemplates)
     (m : Inspected) → Sees start old.rest messages here → IsStep old (Ok true) new
-    → IsAccepted new.message here m.message next → m.unread ≡ unread_of here new.message
+    → IsAccepted new.message here m.message next → IsNoted here new.message m
     → Sees start new.rest (messages ++ m ∷ []) next
-sees_more None old new messages here next m so_far step accepted unread = tt
-sees_more (Some octets) old new messages here next m so_far step accepted unread = by new.rest refl
+sees_more None old new messages here next m so_far step accepted noted = tt
+sees_more (Some octets) old new messages here next m so_far step accepted noted = by new.rest refl
   where
     by : (left : Option (List ℕ)) → new.rest ≡ left → (rest : List ℕ) × (new.rest ≡ Some rest)
         × IsSeen octets rest (messages ++ m ∷ []) next
@@ -108,7 +109,7 @@ sees_more (Some octets) old new messages here next m so_far step accepted unread
         (subst (λ (o : Option (List ℕ)). Consumes o new.rest new.message) so_far.1 step.3) in
         let so : IsSeen octets (new.message ++ left) messages here =
         subst (λ (xs : List ℕ). IsSeen octets xs messages here) parts so_far.2 in
-        (left, e, seen_more octets new.message left messages here next m so step.2 accepted unread)
+        (left, e, seen_more octets new.message left messages here next m so step.2 accepted noted)
 
 -- what is counted of the messages that a reader gave
 pub record HasInspected (old : Option (List ℕ)) (reader : Progress) (here : AllTemplates)
@@ -185,22 +186,29 @@ pub stepped : (old : Option (List ℕ)) (r0 r1 : Progress) (h0 h1 : AllTemplates
     → HasInspected old r0 h0 before → IsStep r0 (Ok true) r1 → octets ≡ r1.message
     → start.records ≡ 0 → start.options ≡ 0 → start.starts ≡ None → start.lasted ≡ none_lasted
     → IsWalkedBy HasCounted octets h0 h1 start now walked.header → walked.unread ≡ counted (unread_of h0 octets)
+    → walked.replaced ≡ replaced_of h0 octets
     → after ≡ entries_after before walked now → HasInspected old r1 h1 after
-stepped old r0 r1 h0 h1 before after start now walked octets s step is none nought no_start no_flow found unread grown =
+stepped old r0 r1 h0 h1 before after start now walked octets s step is none nought no_start no_flow found unread
+    replaced grown =
     let m : RawMessage = record { header = walked.header; records = found.0 } in
-    let whole : Inspected = record { message = m; unread = unread_of h0 r1.message } in
+    let whole : Inspected = record {
+      message = m;
+      unread = unread_of h0 r1.message;
+      replaced = replaced_of h0 r1.message;
+    } in
     let accepted : IsAccepted r1.message h0 m h1 = subst (λ (o : List ℕ). IsAccepted o h0 m h1) is found.1 in
     let took = found.2 start [] (none_counted start.records none, none_counted start.options nought, refl, refl) in
     let records = few_records r1.message h0 m h1 accepted.0 in
     let short = short_enough r1.message h0 m h1 accepted.0 in
     let counts = counts_are m start now none nought no_start no_flow (omega (arith, records, short.1)) took in
-    let walked_is : walked ≡ walked_of whole = ap (λ (u : UnreadSets). of_two walked.header u)
-    (unread ∙ ap (λ (o : List ℕ). counted (unread_of h0 o)) is) in
+    let walked_is : walked ≡ walked_of whole = ap₂ (λ (u : UnreadSets) (n : ℕ). of_three walked.header u n)
+    (unread ∙ ap (λ (o : List ℕ). counted (unread_of h0 o)) is)
+    (replaced ∙ ap (replaced_of h0) is) in
     record {
       plain = s.plain ++ m ∷ [];
       run = follows_more old r0 r1 s.plain h0 h1 m s.run step accepted;
       messages = s.messages ++ whole ∷ [];
-      seen = sees_more old r0 r1 s.messages h0 h1 whole s.seen step accepted refl;
+      seen = sees_more old r0 r1 s.messages h0 h1 whole s.seen step accepted (refl, refl);
       counted = omega (arith, s.counted, step.4, length-append s.plain (m ∷ []));
       going = step.1;
       entries_are =
@@ -211,8 +219,8 @@ stepped old r0 r1 h0 h1 before after start now walked octets s step is none noug
           entries_after es (walked_of x) (counts_of x.message)) [] s.messages (whole ∷ []));
     }
   where
-    of_two : Header → UnreadSets → Walked
-    of_two header unread = record { header = header; unread = unread }
+    of_three : Header → UnreadSets → ℕ → Walked
+    of_three header unread replaced = record { header = header; unread = unread; replaced = replaced }
 
 -- at the File's end this is counted of all
 pub ended : (old : Option (List ℕ)) (reader next : Progress) (here : AllTemplates) (entries : List (ℕ × DomainReport))

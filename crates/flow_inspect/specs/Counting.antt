@@ -48,14 +48,16 @@ HasCounted start taken now =
     × (now.starts ≡ fold widened start.starts (starts_of taken))
     × (now.lasted ≡ fold lasted_after start.lasted (lastings_of taken))
 
--- a message, beside its data Sets without a definition in force
+-- a message, beside its data Sets without a definition in force, and how many of its template records replace a
+-- definition
 pub record Inspected : Type 0 where
   pub message : RawMessage
   pub unread : List Division
+  pub replaced : ℕ
 
--- its header, and how many such Sets it has
+-- its header, how many such Sets it has, and how many such template records
 abbrev pub walked_of : Inspected → Walked
-walked_of m = record { header = m.message.header; unread = counted m.unread }
+walked_of m = record { header = m.message.header; unread = counted m.unread; replaced = m.replaced }
 
 -- the data records of a message
 abbrev pub counts_of : RawMessage → RecordCounts

@@ -7,6 +7,7 @@ use Rattle.flow_codec.specs.declared.sink.WalkError.TheVariants as walk
 use Rattle.flow_codec.specs.Templates.{AllTemplates}
 use Rattle.flow_codec.specs.Message.{IsAccepted, joined}
 use Rattle.flow_codec.specs.Cutting.{IsCutOff}
+use Rattle.flow_codec.specs.Replaced.{replaced_of}
 use Rattle.flow_codec.specs.Unread.{unread_of}
 use Rattle.flow_report.specs.declared.format.Format.{Format}
 use Rattle.flow_report.specs.declared.refusal.Refusal.{Refusal}
@@ -23,14 +24,17 @@ abbrev pub walk_refusal : WalkError Infallible → ℕ → Refusal
 walk_refusal (walk.Message fault) number = message_refusal fault number
 walk_refusal (walk.Sink never) number = OutOfMemory
 
--- the messages of a File in turn, each accepted under the templates of those before it, and its data Sets without a
--- definition in force
+-- the Sets of a message that aren't read under these templates, and how many of its template records replace one
+abbrev pub IsNoted : AllTemplates → List ℕ → Inspected → Type 0
+IsNoted before octets m = (m.unread ≡ unread_of before octets) × (m.replaced ≡ replaced_of before octets)
+
+-- the messages of a File in turn, each accepted under the templates of those before it, beside what is noted of it
 abbrev pub AreInspected : AllTemplates → List (List ℕ) → List Inspected → AllTemplates → Type 0
 AreInspected before [] [] after = after ≡ before
 AreInspected before [] (m ∷ ms) after = ⊥
 AreInspected before (o ∷ os) [] after = ⊥
 AreInspected before (o ∷ os) (m ∷ ms) after = (next : AllTemplates) × IsCutOff o × IsAccepted o before m.message next
-    × (m.unread ≡ unread_of before o) × AreInspected next os ms after
+    × IsNoted before o m × AreInspected next os ms after
 
 -- the octets are a whole File of these messages, which are accepted
 abbrev pub IsWhole : List ℕ → List Inspected → Type 0

@@ -50,6 +50,7 @@ begun walked counts = record {
     options = counts.options;
     unread = walked.unread.sets;
     unread_octets = walked.unread.octets;
+    replaced = walked.replaced;
     gaps = 0;
     missing = 0;
     backwards = 0;
@@ -69,6 +70,7 @@ tally_after tally far walked counts = record {
   options = plus tally.options counts.options;
   unread = plus tally.unread walked.unread.sets;
   unread_octets = plus tally.unread_octets walked.unread.octets;
+  replaced = plus tally.replaced walked.replaced;
   gaps = if is_past far then plus tally.gaps 1 else tally.gaps;
   missing = if is_past far then plus tally.missing far else tally.missing;
   backwards = if is_before far then plus tally.backwards 1 else tally.backwards;
@@ -119,6 +121,7 @@ together a b = record {
   options = plus a.options b.options;
   unread = plus a.unread b.unread;
   unread_octets = plus a.unread_octets b.unread_octets;
+  replaced = plus a.replaced b.replaced;
   gaps = plus a.gaps b.gaps;
   missing = plus a.missing b.missing;
   backwards = plus a.backwards b.backwards;
@@ -138,12 +141,13 @@ whole_of entries = fold (λ whole e. Some (with_tally whole e.1.tally)) None ent
 
 -- ---- lines
 
--- how many messages and data records, and how many data Sets without a definition in force and octets of these
+-- how many messages and data records, how many data Sets without a definition in force and octets of these, and how
+-- many definitions were replaced
 unfoldable pub counts_text : Tally → List ℕ
 counts_text tally =
     codes " messages" ++ 32 ∷ decimal tally.messages ++ codes " records" ++ 32 ∷ decimal tally.records
     ++ codes " options" ++ 32 ∷ decimal tally.options ++ codes " unread" ++ 32 ∷ decimal tally.unread
-    ++ 32 ∷ decimal tally.unread_octets
+    ++ 32 ∷ decimal tally.unread_octets ++ codes " replaced" ++ 32 ∷ decimal tally.replaced
 
 -- how the Sequence Numbers follow
 unfoldable pub sequence_text : Tally → List ℕ
@@ -165,8 +169,8 @@ longest_text (Some seconds) = codes " longest" ++ 32 ∷ decimal seconds
 unfoldable pub lasted_text : Lasted → List ℕ
 lasted_text lasted = longest_text lasted.longest ++ codes " long" ++ 32 ∷ decimal lasted.long
 
--- messages N records N options N unread SETS OCTETS gaps N missing N backwards N from TIME to TIME starts FIRST LAST
--- longest SECONDS long N, with a line feed
+-- messages N records N options N unread SETS OCTETS replaced N gaps N missing N backwards N from TIME to TIME starts
+-- FIRST LAST longest SECONDS long N, with a line feed
 unfoldable pub tally_text : Times → Tally → List ℕ
 tally_text times tally =
     counts_text tally ++ sequence_text tally ++ codes " from" ++ 32 ∷ second_text times tally.first
@@ -183,8 +187,8 @@ report_values e =
     let t = e.1.tally in
     (codes "domain", Number e.0) ∷ (codes "messages", Number t.messages) ∷ (codes "records", Number t.records)
     ∷ (codes "options", Number t.options) ∷ (codes "unread_sets", Number t.unread)
-    ∷ (codes "unread_octets", Number t.unread_octets) ∷ (codes "gaps", Number t.gaps)
-    ∷ (codes "missing", Number t.missing) ∷ (codes "backwards", Number t.backwards) ∷ (codes "from", Time t.first)
+    ∷ (codes "unread_octets", Number t.unread_octets) ∷ (codes "replaced", Number t.replaced)
+    ∷ (codes "gaps", Number t.gaps) ∷ (codes "missing", Number t.missing) ∷ (codes "backwards", Number t.backwards) ∷ (codes "from", Time t.first)
     ∷ (codes "to", Time t.last)
     ∷ (codes "first", time_or_none (option_map (λ span. span.first) t.starts))
     ∷ (codes "last", time_or_none (option_map (λ span. span.last) t.starts))
@@ -193,8 +197,8 @@ report_values e =
 abbrev pub report_names : List (List ℕ)
 report_names =
     codes "domain" ∷ codes "messages" ∷ codes "records" ∷ codes "options" ∷ codes "unread_sets" ∷ codes "unread_octets"
-    ∷ codes "gaps" ∷ codes "missing" ∷ codes "backwards" ∷ codes "from" ∷ codes "to" ∷ codes "first" ∷ codes "last"
-    ∷ codes "longest" ∷ codes "long" ∷ []
+    ∷ codes "replaced" ∷ codes "gaps" ∷ codes "missing" ∷ codes "backwards" ∷ codes "from" ∷ codes "to"
+    ∷ codes "first" ∷ codes "last" ∷ codes "longest" ∷ codes "long" ∷ []
 
 -- the line of a domain in a format
 abbrev pub report_by : Layout → Format → ℕ × DomainReport → List ℕ
@@ -208,7 +212,7 @@ report_in format e = report_by format.layout format e
 -- all domains N, and what is counted of all together
 unfoldable pub whole_line : Times → ℕ → Option Tally → List ℕ
 whole_line times domains None =
-    codes "all domains 0 messages 0 records 0 options 0 unread 0 0 gaps 0 missing 0 backwards 0"
+    codes "all domains 0 messages 0 records 0 options 0 unread 0 0 replaced 0 gaps 0 missing 0 backwards 0"
     ++ codes " from - to - starts - - longest - long 0\n"
 whole_line times domains (Some whole) = codes "all domains" ++ 32 ∷ decimal domains ++ tally_text times whole
 

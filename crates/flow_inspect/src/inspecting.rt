@@ -130,12 +130,16 @@ fn text_of(alloc: Global, format: Format, reports: &Reports) -> Result<Vec<u8>, 
 }
 
 /// Reads a File and writes a line for each Observation Domain, in the order of their first messages: `domain DOMAIN
-/// messages N records N options N unread SETS OCTETS gaps N missing N backwards N from TIME to TIME starts FIRST LAST
-/// longest SECONDS long N`, or the same values as CSV or JSON. In words one line of the whole File comes after them:
-/// `all domains N`, and the same of all domains together. Nothing is written unless the whole File was accepted.
+/// messages N records N options N unread SETS OCTETS replaced N gaps N missing N backwards N from TIME to TIME starts
+/// FIRST LAST longest SECONDS long N`, or the same values as CSV or JSON. In words one line of the whole File comes
+/// after them: `all domains N`, and the same of all domains together. Nothing is written unless the whole File was
+/// accepted.
 ///
 /// Data Sets without a definition in force are passed over: SETS is how many there are, and OCTETS what they have with
 /// their headers. How many records they hold can't be known.
+///
+/// A template record replaces a definition where its ID has one in force that differs, in its kind, its scope fields, or
+/// its fields' elements and lengths, and wasn't withdrawn (RFC 7011, section 8.1): two exporters may share the domain.
 ///
 /// A message's Sequence Number is due where it is that of the domain's message before, with as many data records more
 /// as that one has, modulo 2^32 (RFC 7011, section 3.1). One past it is a gap, of as many missing records as it is past

@@ -63,6 +63,7 @@ pub(crate) fn begun(walked: &Walked, counts: RecordCounts) -> DomainReport
             options: u64::from(counts.options),
             unread: walked.unread.sets as u64,
             unread_octets: walked.unread.octets as u64,
+            replaced: walked.replaced as u64,
             gaps: 0,
             missing: 0,
             backwards: 0,
@@ -89,6 +90,7 @@ fn tally_after(tally: Tally, distance: u32, walked: &Walked, counts: RecordCount
         unread_octets: tally
             .unread_octets
             .saturating_add(walked.unread.octets as u64),
+        replaced: tally.replaced.saturating_add(walked.replaced as u64),
         gaps: counted(is_past, tally.gaps, 1),
         missing: counted(is_past, tally.missing, u64::from(distance)),
         backwards: counted(is_before, tally.backwards, 1),
@@ -133,8 +135,8 @@ fn push_named_time(
     Ok(())
 }
 
-/// Puts after a text how many messages and data records there are, and how many data Sets without a definition in
-/// force, with their octets.
+/// Puts after a text how many messages and data records there are, how many data Sets without a definition in force,
+/// with their octets, and how many definitions were replaced.
 #[tactic(auto, unfolding(crate::specs::Reports::counts_text))]
 fn push_counts(text: &mut Vec<u8>, tally: &Tally) -> Result<(), AllocError>
     ensures { OnOk result (text.new.items ≡ text.old.items ++ counts_text tally.now) }
@@ -144,6 +146,7 @@ fn push_counts(text: &mut Vec<u8>, tally: &Tally) -> Result<(), AllocError>
     push_named(text, " options", tally.options)?;
     push_named(text, " unread", tally.unread)?;
     push_count(text, tally.unread_octets)?;
+    push_named(text, " replaced", tally.replaced)?;
     Ok(())
 }
 
@@ -185,8 +188,8 @@ fn push_lasted(text: &mut Vec<u8>, lasted: Lasted) -> Result<(), AllocError>
     push_named(text, " long", lasted.long)
 }
 
-/// Puts after a text what was counted, and ends the line: ` messages N records N options N unread SETS OCTETS gaps N
-/// missing N backwards N from TIME to TIME starts FIRST LAST longest SECONDS long N`.
+/// Puts after a text what was counted, and ends the line: ` messages N records N options N unread SETS OCTETS
+/// replaced N gaps N missing N backwards N from TIME to TIME starts FIRST LAST longest SECONDS long N`.
 #[tactic(auto, unfolding(crate::specs::Reports::tally_text))]
 pub(crate) fn push_tally(text: &mut Vec<u8>, times: Times, tally: &Tally) -> Result<(), AllocError>
     ensures { OnOk result (text.new.items ≡ text.old.items ++ tally_text times tally.now) }
@@ -239,8 +242,8 @@ fn without_longest(format: Format) -> &'static str
     }
 }
 
-/// The most octets of a line of fifteen values, and what it begins with.
-const MOST_REPORT: usize = 15 * MOST_VALUE + 1;
+/// The most octets of a line of sixteen values, and what it begins with.
+const MOST_REPORT: usize = 16 * MOST_VALUE + 1;
 
 /// Puts after a text the starts of the flows, and a separator.
 fn push_start_values(
@@ -301,6 +304,7 @@ fn push_values(
     put_value(text, format, "options", tally.options);
     put_value(text, format, "unread_sets", tally.unread);
     put_value(text, format, "unread_octets", tally.unread_octets);
+    put_value(text, format, "replaced", tally.replaced);
     put_value(text, format, "gaps", tally.gaps);
     put_value(text, format, "missing", tally.missing);
     put_value(text, format, "backwards", tally.backwards);
@@ -334,8 +338,8 @@ pub(crate) fn push_heading(text: &mut Vec<u8>, format: Format) -> Result<(), All
 {
     if let Layout::Csv = format.layout {
         text.extend_from_slice(
-            "domain,messages,records,options,unread_sets,unread_octets,gaps,missing,backwards,from,to,first,last,\
-                longest,long\n"
+            "domain,messages,records,options,unread_sets,unread_octets,replaced,gaps,missing,backwards,from,to,\
+             first,last,longest,long\n"
                 .as_bytes(),
         )?;
     }

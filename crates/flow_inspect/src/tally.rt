@@ -18,6 +18,8 @@ pub(crate) struct Tally {
     pub(crate) unread: u64,
     /// The octets of these, with those of their headers.
     pub(crate) unread_octets: u64,
+    /// Template records that replace a different definition of their ID, which is in force.
+    pub(crate) replaced: u64,
     /// Messages whose Sequence Number is past the due one.
     pub(crate) gaps: u64,
     /// How many records are missing there.
@@ -44,6 +46,7 @@ fn together(a: Tally, b: Tally) -> Tally
         options: a.options.saturating_add(b.options),
         unread: a.unread.saturating_add(b.unread),
         unread_octets: a.unread_octets.saturating_add(b.unread_octets),
+        replaced: a.replaced.saturating_add(b.replaced),
         gaps: a.gaps.saturating_add(b.gaps),
         missing: a.missing.saturating_add(b.missing),
         backwards: a.backwards.saturating_add(b.backwards),

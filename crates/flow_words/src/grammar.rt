@@ -47,18 +47,19 @@ const INSPECT_ABOUT: &str =
 /// What help has below the options of `inspect`.
 const INSPECT_HELP: &str =
     "The lines, a domain each, in the order of their first messages: domain DOMAIN\n\
-     messages N records N options N unread SETS OCTETS gaps N missing N backwards N\n\
-     from TIME to TIME starts FIRST LAST longest SECONDS long N; then one of all\n\
-     together: all domains N messages N ..\n\
+     messages N records N options N unread SETS OCTETS replaced N gaps N missing N\n\
+     backwards N from TIME to TIME starts FIRST LAST longest SECONDS long N; then\n\
+     one of all together: all domains N messages N ..\n\
      Unread are the data Sets without a template in force, and their octets; how\n\
-     many records these hold isn't known. A gap is a message whose Sequence Number\n\
-     is past the one that the domain's data records so far make due: as many are\n\
-     missing, lost on their way or unread. Backwards are those before it: sent\n\
-     twice, in another order, or by an exporter that began anew. TIME is the least\n\
-     and the greatest Export Time, FIRST and LAST the least and the greatest start\n\
-     of the flows, SECONDS how long the longest one lasts, - without one; N flows\n\
-     last more than 300 seconds. Nothing is written unless the whole File is\n\
-     accepted.\n\
+     many records these hold isn't known. Replaced are the templates whose ID had a\n\
+     different one in force, as where two exporters use the same IDs. A gap is a\n\
+     message whose Sequence Number is past the one that the domain's data records\n\
+     so far make due: as many are missing, lost on their way or unread. Backwards\n\
+     are those before it: sent twice, in another order, or by an exporter that\n\
+     began anew. TIME is the least and the greatest Export Time, FIRST and LAST the\n\
+     least and the greatest start of the flows, SECONDS how long the longest one\n\
+     lasts, - without one; N flows last more than 300 seconds. Nothing is written\n\
+     unless the whole File is accepted.\n\
      \n\
      Example: flowvault inspect < FILE";
 

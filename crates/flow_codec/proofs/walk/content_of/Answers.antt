@@ -7,7 +7,7 @@ pub returns-in-Some-clause-exact : goal.returns-in-Some-clause-exact
 unfolding content_at
 returns-in-Some-clause-exact g c = (
   [],
-  rw (← c.kind_of.ensures, c.in-Some.is, c.in_ok-templates_of.ensures.exact) refl,
+  rw (← c.kind_of.ensures, c.in-Some.is, c.in_ok-replaced.ensures.exact) refl,
   (
     (λ start before h. subst (λ (taken : List Placed). g.S.RecordSink.holds start taken c.args.sink.now)
         (sym (append-nil before)) h),

@@ -3,6 +3,7 @@ use Rattle.std.proofs.lemmas.Result.{err_from_is_err_and}
 use Rattle.flow_codec.specs.Working.{current}
 use Rattle.flow_codec.specs.Unread.{counted}
 use Rattle.flow_codec.proofs.UnreadLoop.{of_message}
+use Rattle.flow_codec.proofs.ReplacedLoop.{of_message as replaced_of_message}
 use Rattle.flow_codec.proofs.Walking.{header_fails, sets_stop, limits_fail, message_is}
 use Rattle.flow_codec.proofs.walk.divided.Goals as goal
 
@@ -44,3 +45,8 @@ pub returns-clause-unread : goal.returns-clause-unread
 returns-clause-unread g c =
     rw c.requires at c.in_ok-unread.ensures.unread ∙ ap counted (of_message c.args.templates.now c.args.octets.now
     c.in_ok-header.header c.in_ok-header.rest.now c.in_ok-header.ensures.exact)
+
+pub returns-clause-replaced : goal.returns-clause-replaced
+returns-clause-replaced g c =
+    rw c.requires at c.in_ok-unread.ensures.replaced ∙ replaced_of_message c.args.templates.now c.args.octets.now
+    c.in_ok-header.header c.in_ok-header.rest.now c.in_ok-header.ensures.exact

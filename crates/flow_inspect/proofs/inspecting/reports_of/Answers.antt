@@ -26,7 +26,7 @@ messages-preserved g c =
     c.messages.templates c.walk_sets.new.templates c.messages.reports.entries c.add_message.new.reports.entries
     (record { records = 0; options = 0; starts = None; lasted = none_lasted }) c.walk_sets.new.sink c.in-Ok.walked c.message.result.now
     c.messages.invariant step c.message.ensures.value refl refl refl refl c.in-Ok.ensures.found c.in-Ok.ensures.unread
-    c.in_ok-add_message-in-Ok.ensures
+    c.in-Ok.ensures.replaced c.in_ok-add_message-in-Ok.ensures
 
 pub returns-in_err-advance-clause-refused : goal.returns-in_err-advance-clause-refused
 returns-in_err-advance-clause-refused g c =

@@ -22,6 +22,7 @@ returns c =
       c.in_ok-push_start_values.ensures,
       c.put_time-2.ensures.text,
       c.put_time.ensures.text,
+      c.put_value-10.ensures.text,
       c.put_value-9.ensures.text,
       c.put_value-8.ensures.text,
       c.put_value-7.ensures.text,
@@ -40,7 +41,7 @@ returns c =
     (value_in f (codes "domain", Number c.args.domain) ∷ value_in f (codes "messages", Number t.messages)
     ∷ value_in f (codes "records", Number t.records) ∷ value_in f (codes "options", Number t.options)
     ∷ value_in f (codes "unread_sets", Number t.unread) ∷ value_in f (codes "unread_octets", Number t.unread_octets)
-    ∷ value_in f (codes "gaps", Number t.gaps) ∷ value_in f (codes "missing", Number t.missing)
-    ∷ value_in f (codes "backwards", Number t.backwards) ∷ value_in f (codes "from", Time t.first)
+    ∷ value_in f (codes "replaced", Number t.replaced) ∷ value_in f (codes "gaps", Number t.gaps)
+    ∷ value_in f (codes "missing", Number t.missing) ∷ value_in f (codes "backwards", Number t.backwards) ∷ value_in f (codes "from", Time t.first)
     ∷ value_in f (codes "to", Time t.last)
     ∷ value_in f (codes "first", time_or_none (option_map (λ span. span.first) t.starts)) ∷ last ∷ longest ∷ []) long)
