@@ -1,7 +1,7 @@
 #!/usr/bin/env python3
 """feed_times.py PROGRAM [OCTETS [FOLDER]]: times `flowvault feed --keep 8` on a File of bench/generate.py of so many
-octets (300 MB), as one File and as eight of an eighth of its messages each, and bench/feed_floor.c, which makes the same
-writes and syncs as one File without rolling; each three times, in turn. Then, by segment limit, what `roll` takes for
+octets (300 MB), as one File and as eight of an eighth of its messages each, and bench/feed_floor.c, which makes the
+same writes and syncs as one File without rolling; each three times, in turn. Then, by segment limit, what `roll` takes for
 each source: as long an append can wait for a turn of rolling. The archives are made in FOLDER (the system's for
 temporary files), which is left empty."""
 import os
@@ -15,10 +15,10 @@ HERE = os.path.dirname(os.path.realpath(__file__))
 FLOOR_LIMIT = 1 << 20
 
 
-def spent(words):
+def spent(words, **more):
     """The seconds that a command takes, and its lines."""
     begun = time.perf_counter()
-    ran = subprocess.run(words, stdout=subprocess.PIPE, check=True, text=True)
+    ran = subprocess.run(words, stdout=subprocess.PIPE, check=True, text=True, **more)
     return time.perf_counter() - begun, ran.stdout.splitlines()
 
 
@@ -71,9 +71,11 @@ def main():
             _, found = fed(files[:4], limit, "4294967295")
             sealed = int(found.split()[4])
             took, lines = spent([program, "roll", folder, "0"])
-            print("limit %8d: %s in %.2f s, %.2f ms a source" % (limit, lines[0], took, took * 1000 / sealed), flush=True)
+            said = (limit, lines[0], took, took * 1000 / sealed)
+            print("limit %8d: %s in %.2f s, %.2f ms a source" % said, flush=True)
     finally:
         shutil.rmtree(place)
 
 
-main()
+if __name__ == "__main__":
+    main()

@@ -9,7 +9,8 @@ import struct
 import subprocess
 import sys
 import tempfile
-import time
+
+from feed_times import spent
 
 MOST_RECORDS = 2500
 
@@ -27,12 +28,6 @@ def source(keys):
         data = b"".join(records[at : at + MOST_RECORDS])
         out += message(struct.pack(">HH", 256, 4 + len(data)) + data)
     return out
-
-
-def spent(words, **more):
-    begun = time.perf_counter()
-    ran = subprocess.run(words, stdout=subprocess.PIPE, check=True, **more)
-    return time.perf_counter() - begun, ran.stdout.decode().splitlines()
 
 
 def main():
@@ -61,4 +56,5 @@ def main():
         shutil.rmtree(place)
 
 
-main()
+if __name__ == "__main__":
+    main()

@@ -1,0 +1,70 @@
+#!/usr/bin/env python3
+"""ways.py PROGRAM [OCTETS [FOLDER]]: times the ways of the octets, each beside what it can't be faster than, in turn in
+one run, and prints a table of the least time of each: `feed` beside bench/feed_floor.c, which makes the same writes
+and syncs; `totals` by one worker, without its opening, and `roll` of all segments, beside `measure` of the same
+octets; an opening (`check`) beside `cat` and `measure`. The File is one of bench/generate.py of so many octets (300
+MB). The archives are made in FOLDER (the system's for temporary files), which is left empty."""
+import os
+import shutil
+import subprocess
+import sys
+import tempfile
+
+from feed_times import FLOOR_LIMIT, HERE, spent
+
+TURNS = 3
+ALL = "4294967295"
+
+
+def turn(program, floor, whole, folder, least):
+    """Times each way once, and keeps the least time of each."""
+
+    def timed(name, words, read=None):
+        took = spent(words, stdin=open(read, "rb"))[0] if read else spent(words)[0]
+        least[name] = min(took, least.get(name, took))
+
+    def emptied():
+        shutil.rmtree(folder, ignore_errors=True)
+        os.mkdir(folder)
+        os.sync()
+
+    timed("cat", ["sh", "-c", "cat > /dev/null"], whole)
+    timed("measure", [program, "measure", "300"], whole)
+    emptied()
+    timed("floor", [floor, str(FLOOR_LIMIT), folder, whole])
+    emptied()
+    subprocess.run([program, "create", folder, "300", "--limit", str(FLOOR_LIMIT)], check=True)
+    timed("feed", [program, "feed", folder, whole, "--keep", ALL])
+    timed("check", [program, "check", folder])
+    timed("totals", [program, "totals", folder, "0", "4294967296", "--workers", "1"])
+    timed("roll", [program, "roll", folder, "0"])
+
+
+def row(what, took, beside, other, goal):
+    print("| %s | %.2f s | %s %.2f s | %.2f | %s |" % (what, took, beside, other, took / other, goal), flush=True)
+
+
+def main():
+    program = os.path.realpath(sys.argv[1])
+    octets = sys.argv[2] if len(sys.argv) > 2 else "300000000"
+    place = tempfile.mkdtemp(prefix="ways.", dir=sys.argv[3] if len(sys.argv) > 3 else None)
+    try:
+        whole, floor = os.path.join(place, "whole.ipfix"), os.path.join(place, "floor")
+        with open(whole, "wb") as to:
+            subprocess.run([sys.executable, HERE + "/generate.py", octets], stdout=to, check=True)
+        subprocess.run(["cc", "-O2", HERE + "/feed_floor.c", "-o", floor], check=True)
+        least = {}
+        for _ in range(TURNS):
+            turn(program, floor, whole, os.path.join(place, "archive"), least)
+        print("| What | Time | Beside it | Ratio | Goal |\n|---|---|---|---|---|")
+        measured, asked = least["measure"], least["totals"] - least["check"]
+        row("`feed`, nothing rolled", least["feed"], "a C program's writes and syncs", least["floor"], "1.2")
+        row("`totals` by one worker, without its opening", asked, "`measure`", measured, "1.2")
+        row("`roll` of all segments", least["roll"], "`measure`", measured, "1.2")
+        row("an opening (`check`)", least["check"], "`cat` %.2f s, `measure`" % least["cat"], measured, "")
+    finally:
+        shutil.rmtree(place)
+
+
+if __name__ == "__main__":
+    main()
