@@ -26,6 +26,7 @@ use crate::refusal::ArchiveError;
 use crate::rolling::{JobStatus, Rolling, generations_kept, status};
 use crate::taking::{admitted, put_all};
 use bytes::Bytes;
+use flow_codec::Losses;
 use flow_disk::Disk;
 use flow_gate::add_batch;
 use flow_manifest::{Entry, Kind, Manifest, Slots, count_of};
@@ -155,6 +156,14 @@ impl<D: Disk> Archive<D> {
         ensures { result ≡ position_of self.now.state }
     {
         self.total
+    }
+
+    /// What the messages that were taken in since the last call, or since it was opened, show of records that aren't
+    /// read; those of the active segment count as taken in when it was opened.
+    pub fn take_losses(&mut self) -> Losses
+        ensures { self.new ≡ self.old }
+    {
+        self.carry.take_losses()
     }
 
     /// The job that is under way.

@@ -13,6 +13,7 @@ pub mod Extent
 pub mod Walk
 pub mod Unread
 pub mod Replaced
+pub mod Losses
 pub mod ShortList
 pub mod Slots
 pub mod Cutting

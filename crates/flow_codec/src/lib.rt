@@ -17,6 +17,7 @@ mod fields;
 mod file;
 mod kind;
 mod laws;
+mod losses;
 mod message;
 mod numbers;
 mod overlay;
@@ -42,6 +43,7 @@ pub use laws::{
     files_and_fronts, message_bounds, one_answer, one_division, replaced_definitions,
     restated_templates, template_changes, unread_sets,
 };
+pub use losses::Losses;
 pub use message::{DataRecord, Field, Header, Message};
 pub use patient::ReadFailed;
 pub use plan::{Place, Places, Plan, Role, Step, VARIABLE, Way};

@@ -19,8 +19,9 @@ use crate::ending::end_shared;
 use crate::feed_line::{fed_line, stop_status};
 use crate::plan::FeedPlan;
 use crate::progress::{Progress, Watched};
-use crate::warning::{StoppedFile, UnopenedFile};
+use crate::warning::{LossyFile, StoppedFile, UnopenedFile};
 use flow_archive::{Archive, ArchiveError};
+use flow_codec::Losses;
 use flow_disk::{Disk, Faults};
 use flow_feed::{Fed, FeedStop, SharedAppender, feed};
 use flow_folder::{FolderDisk, Lockable};
@@ -52,6 +53,31 @@ const UNFED: Fed = Fed {
     stop: None,
 };
 
+/// How far a File was taken in, and what its messages show of records that aren't read.
+#[derive(Clone, Copy)]
+struct Streamed {
+    fed: Fed,
+    losses: Losses,
+}
+
+/// Takes the File that `input` reads into an archive that threads share, after its first `passed` messages, shows its
+/// progress, and rings the bell for each `span` octets that are read.
+fn stream<H: AllocGlobal + Wait, D: Disk, J: Naming, R: Read, P: Write + Drop>(
+    rt: &H,
+    shared: &SharedArchive<D, J, H>,
+    bell: &Bell,
+    span: u32,
+    input: &mut R,
+    progress: &Progress<P>,
+    passed: u64,
+) -> Streamed {
+    let mut input = Watched::new(rt, input, progress, bell, span);
+    let mut appender = SharedAppender::new(rt, shared);
+    let fed = feed(&mut appender, rt.alloc(), &mut input, passed);
+    let losses = appender.losses();
+    Streamed { fed, losses }
+}
+
 /// Takes the File that `input` reads into an archive that threads share, after its first `passed` messages, shows its
 /// progress, and rings the bell for each `span` octets that are read.
 pub fn feed_stream<H: AllocGlobal + Wait, D: Disk, J: Naming, R: Read, P: Write + Drop>(
@@ -63,9 +89,26 @@ pub fn feed_stream<H: AllocGlobal + Wait, D: Disk, J: Naming, R: Read, P: Write 
     progress: &Progress<P>,
     passed: u64,
 ) -> Fed {
-    let mut input = Watched::new(rt, input, progress, bell, span);
-    let mut appender = SharedAppender::new(rt, shared);
-    feed(&mut appender, rt.alloc(), &mut input, passed)
+    stream(rt, shared, bell, span, input, progress, passed).fed
+}
+
+/// The same of the File of this number and path, and warns of records that its messages show not to be read.
+fn feed_named<H: AllocGlobal + Wait, D: Disk, J: Naming, R: Read, P: Write + Drop>(
+    rt: &H,
+    shared: &SharedArchive<D, J, H>,
+    bell: &Bell,
+    span: u32,
+    number: u64,
+    path: &str,
+    input: &mut R,
+    progress: &Progress<P>,
+    passed: u64,
+) -> Fed {
+    let streamed = stream(rt, shared, bell, span, input, progress, passed);
+    if let Some(line) = LossyFile::of(number, path, streamed.losses) {
+        progress.say(rt, &line);
+    }
+    streamed.fed
 }
 
 /// What comes of a File that can't be opened: 11 where memory is refused, else 31.
@@ -114,7 +157,9 @@ fn feed_path<H: Files + AllocGlobal + Clone + Drop + Wait, D: Disk, J: Naming, P
     match File::open(rt, path) {
         Ok(file) => {
             let mut file = file;
-            feed_stream(rt, shared, bell, span, &mut file, progress, passed)
+            feed_named(
+                rt, shared, bell, span, number, path, &mut file, progress, passed,
+            )
         }
         Err(error) => {
             warn_of_unopened(rt, number, path, &error, progress);
@@ -214,13 +259,26 @@ where
     let (Some(place), Some(input)) = (place_of_input(paths), input) else {
         return feed_each(rt, shared, bell, span, paths, progress, passed, feds);
     };
+    let number = (place as u64).saturating_add(1);
     let (feds, own) = thread::join(
         rt,
         move || -> Vec<Fed>
             requires { length feds.items ≡ length paths.now }
             ensures { length result.items ≡ length paths.entry.now }
         { feed_each(rt, shared, bell, span, paths, progress, passed, feds) },
-        move || feed_stream(rt, shared, bell, span, input, progress, passed),
+        move || {
+            feed_named(
+                rt,
+                shared,
+                bell,
+                span,
+                number,
+                STANDARD_INPUT,
+                input,
+                progress,
+                passed,
+            )
+        },
     );
     let mut feds = feds;
     feds[place] = own;

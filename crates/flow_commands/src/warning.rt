@@ -1,12 +1,16 @@
-//! What a warning says of a File that stopped.
+//! What a warning says of a File that stopped, or whose messages show that records aren't read.
 
 ghost use Rattle.std.specs.Prelude.{◌≡◌, Some};
-ghost use Rattle.flow_commands.specs.Warnings.{message_place, place_text, stop_place, stream_place};
+ghost use Rattle.flow_commands.specs.Warnings.{gap_part, gap_text, message_place, place_text, stop_place, stream_place};
+ghost use Rattle.flow_commands.specs.Warnings.{unread_part, unread_text};
 
 use crate::feed_line::stop_name;
+use crate::progress::Progress;
 use flow_archive::ArchiveError;
-use flow_codec::{FileError, MessageError, StreamError};
+use flow_codec::{FileError, Losses, MessageError, StreamError};
 use flow_feed::FeedStop;
+use std::io::Write;
+use std::sync::Wait;
 use std::{fmt, io};
 
 /// The octet at which reading stopped.
@@ -106,5 +110,172 @@ impl fmt::Display for UnopenedFile<'_> {
             "warning: file {} ({}): can't be opened: {}",
             self.number, self.path, self.error
         )
+    }
+}
+
+/// Data Sets of a File without a definition in force.
+#[derive(Clone, Copy, Debug, PartialEq, Eq)]
+enum UnreadPart {
+    Nothing,
+    /// So many of this domain.
+    OfDomain(u64, u32),
+    /// So many of this domain, and so many of others.
+    OfDomains(u64, u32, u64),
+}
+
+impl fmt::Display for UnreadPart {
+    ghost output = { λ part. Some (unread_text part) };
+
+    fn fmt<W: fmt::Write>(&self, f: &mut fmt::Formatter<W>) -> fmt::Result {
+        match self {
+            UnreadPart::Nothing => write!(f, ""),
+            UnreadPart::OfDomain(sets, domain) => {
+                write!(f, "{sets} data sets of domain {domain} had no template")
+            }
+            UnreadPart::OfDomains(sets, domain, others) => write!(
+                f,
+                "{sets} data sets of domain {domain} had no template, and {others} of other domains"
+            ),
+        }
+    }
+}
+
+/// What is said of Sets without a definition in force.
+fn unread_part(losses: Losses) -> UnreadPart
+    ensures { result ≡ unread_part losses }
+{
+    match losses.domain {
+        None => UnreadPart::Nothing,
+        Some(domain) => {
+            let own = losses.unread.saturating_sub(losses.elsewhere);
+            if losses.elsewhere == 0 {
+                UnreadPart::OfDomain(own, domain)
+            } else {
+                UnreadPart::OfDomains(own, domain, losses.elsewhere)
+            }
+        }
+    }
+}
+
+/// Records that a File's Sequence Numbers leave out.
+#[derive(Clone, Copy, Debug, PartialEq, Eq)]
+enum GapPart {
+    Nothing,
+    /// So many records, in so many gaps.
+    Gaps(u64, u64),
+}
+
+impl fmt::Display for GapPart {
+    ghost output = { λ part. Some (gap_text part) };
+
+    fn fmt<W: fmt::Write>(&self, f: &mut fmt::Formatter<W>) -> fmt::Result {
+        match self {
+            GapPart::Nothing => write!(f, ""),
+            GapPart::Gaps(missing, gaps) => {
+                write!(
+                    f,
+                    "{missing} records are missing, in {gaps} gaps of sequence numbers"
+                )
+            }
+        }
+    }
+}
+
+/// What is said of Sequence Numbers.
+fn gap_part(losses: Losses) -> GapPart
+    ensures { result ≡ gap_part losses }
+{
+    if losses.gaps == 0 {
+        GapPart::Nothing
+    } else {
+        GapPart::Gaps(losses.missing, losses.gaps)
+    }
+}
+
+/// What messages show of records that aren't read.
+#[derive(Clone, Copy, Debug)]
+struct Lacks {
+    unread: UnreadPart,
+    gaps: GapPart,
+}
+
+impl Lacks {
+    /// Nothing where they don't.
+    fn of(losses: Losses) -> Option<Lacks> {
+        let unread = unread_part(losses);
+        let gaps = gap_part(losses);
+        if unread == UnreadPart::Nothing && gaps == GapPart::Nothing {
+            return None;
+        }
+        Some(Lacks { unread, gaps })
+    }
+}
+
+impl fmt::Display for Lacks {
+    fn fmt<W: fmt::Write>(&self, f: &mut fmt::Formatter<W>) -> fmt::Result {
+        let between = if self.unread == UnreadPart::Nothing || self.gaps == GapPart::Nothing {
+            ""
+        } else {
+            "; "
+        };
+        write!(f, "{}{}{}", self.unread, between, self.gaps)
+    }
+}
+
+/// The messages of the File of this number and path show that records aren't read.
+#[derive(Debug, Drop)]
+pub(crate) struct LossyFile<'a> {
+    number: u64,
+    path: &'a str,
+    lacks: Lacks,
+}
+
+impl<'a> LossyFile<'a> {
+    /// Nothing where they don't.
+    pub(crate) fn of(number: u64, path: &'a str, losses: Losses) -> Option<LossyFile<'a>> {
+        let lacks = Lacks::of(losses)?;
+        Some(LossyFile {
+            number,
+            path,
+            lacks,
+        })
+    }
+}
+
+impl fmt::Display for LossyFile<'_> {
+    fn fmt<W: fmt::Write>(&self, f: &mut fmt::Formatter<W>) -> fmt::Result {
+        write!(
+            f,
+            "warning: file {} ({}): {}",
+            self.number, self.path, self.lacks
+        )
+    }
+}
+
+/// The messages of the File on standard input show that records aren't read.
+#[derive(Debug, Drop)]
+struct LossyInput {
+    lacks: Lacks,
+}
+
+impl fmt::Display for LossyInput {
+    fn fmt<W: fmt::Write>(&self, f: &mut fmt::Formatter<W>) -> fmt::Result {
+        write!(f, "warning: {}", self.lacks)
+    }
+}
+
+/// Warns of records of the File on standard input that its messages show not to be read: on a terminal, or anywhere
+/// where that is asked for.
+pub fn warn_of_input<H: Wait, P: Write + Drop>(
+    rt: &H,
+    is_asked: bool,
+    losses: Losses,
+    progress: &Progress<P>,
+) {
+    if is_asked {
+        progress.warn(rt);
+    }
+    if let Some(lacks) = Lacks::of(losses) {
+        progress.say(rt, &LossyInput { lacks });
     }
 }

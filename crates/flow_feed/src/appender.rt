@@ -5,6 +5,7 @@ ghost use Rattle.flow_gate.specs.Steps.{slices};
 ghost use Rattle.flow_archive.specs.declared.refusal.ArchiveError.{ArchiveError as Refusal};
 
 use flow_archive::ArchiveError;
+use flow_codec::Losses;
 use flow_disk::Disk;
 use flow_shared::{Locked, Naming, SharedArchive};
 use std::alloc::Global;
@@ -43,12 +44,22 @@ impl<D: Disk, J: Naming, W: Wait> Appender for Locked<D, J, W> {
 pub struct SharedAppender<'a, D: Disk, J: Naming, W: Wait> {
     shared: &'a SharedArchive<D, J, W>,
     rt: &'a W,
+    losses: Losses,
 }
 
 impl<'a, D: Disk, J: Naming, W: Wait> SharedAppender<'a, D, J, W> {
     /// One that waits by this handle.
     pub fn new(rt: &'a W, shared: &'a SharedArchive<D, J, W>) -> Self {
-        SharedAppender { shared, rt }
+        SharedAppender {
+            shared,
+            rt,
+            losses: Losses::none(),
+        }
+    }
+
+    /// What all messages that it appended show of records that aren't read.
+    pub fn losses(&self) -> Losses {
+        self.losses
     }
 }
 
@@ -57,6 +68,7 @@ impl<D: Disk, J: Naming, W: Wait> Appender for SharedAppender<'_, D, J, W> {
 
     fn append_batch(&mut self, alloc: Global, messages: &[&[u8]]) -> Result<u64, ArchiveError> {
         let receipt = self.shared.append_batch(self.rt, alloc, messages)?;
+        self.losses = self.losses.and(receipt.losses);
         Ok(receipt.position)
     }
 }

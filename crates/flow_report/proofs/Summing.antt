@@ -24,6 +24,7 @@ use Rattle.flow_codec.specs.declared.patient.ReadFailed.{ReadFailed}
 use Rattle.flow_codec.specs.File.{AcceptedFront, whole, broken, refused}
 use Rattle.flow_codec.specs.Walk.{IsWalkedBy, IsStopped}
 use Rattle.flow_measure.specs.declared.sinks.Totals.{Totals}
+use Rattle.flow_report.specs.declared.lacking.CountedTotals.{CountedTotals}
 use Rattle.flow_measure.specs.declared.error.SumError.{SumError}
 use Rattle.flow_measure.specs.declared.error.SumError.TheVariants as sum
 use Rattle.flow_measure.specs.declared.flow.Flow.{Flow}
@@ -98,6 +99,13 @@ abbrev pub Holds : Totals → List Placed → Totals → Type 0
 Holds start taken now = (now.rows.width ≡ start.rows.width) × ((flows : List Flow) → AreSums start.rows flows
     → AreSums now.rows (flows ++ flows_of_records taken)) × AllByRecursion FlowFits (flows_of_records taken)
 
+-- what the sink that counts records too has walked over, its sums have
+pub as_sums : (octets : List ℕ) (h0 h1 : AllTemplates) (c0 c1 : CountedTotals) (header : Header)
+    → IsWalkedBy (λ start taken now. Holds start.totals taken now.totals) octets h0 h1 c0 c1 header
+    → IsWalkedBy Holds octets h0 h1 c0.totals c1.totals header
+as_sums octets h0 h1 c0 c1 header walked =
+    (walked.0, walked.1, λ start taken h. walked.2 (record { totals = start; records = 0 }) taken h)
+
 nothing_taken : (t : Totals) → Holds t [] t
 nothing_taken t = (refl, λ flows h. subst (AreSums t.rows) (sym (append-nil flows)) h, tt)
 
@@ -151,7 +159,7 @@ stepped width old r0 r1 h0 h1 t0 t1 header octets s step is walked =
     }
 
 -- nothing is said where memory or a reader failed
-always : (old : Option (List ℕ)) → IfSome old (λ octets. ⊤)
+pub always : (old : Option (List ℕ)) → IfSome old (λ octets. ⊤)
 always None = tt
 always (Some octets) = tt
 
@@ -181,6 +189,15 @@ Refuses start taken x e =
     ((flows : List Flow) → AreSums start.rows flows
     → SumRefused e (table_of start.rows.width (flows ++ flows_of_records (taken ++ x ∷ []))))
     × AllByRecursion FlowFits (flows_of_records (taken ++ x ∷ []))
+
+-- where the sink that counts records too stops, its sums do
+pub as_stop : (octets : List ℕ) (h0 : AllTemplates) (c0 : CountedTotals) (stop : WalkError SumError)
+    → IsStopped (λ start taken now. Holds start.totals taken now.totals)
+    (λ start taken x e. Refuses start.totals taken x e) octets h0 c0 stop
+    → IsStopped Holds Refuses octets h0 c0.totals stop
+as_stop octets h0 c0 (walk.Message fault) h = h
+as_stop octets h0 c0 (walk.Sink e) (header, (front, r, most, why)) =
+    (header, (front, r, most, λ start taken h. why (record { totals = start; records = 0 }) taken h))
 
 -- a message at which the run stops
 pub stopped_at : (width : ℕ) (old left : Option (List ℕ)) (r0 r1 : Progress) (h0 : AllTemplates) (t0 : Totals)

@@ -10,6 +10,7 @@ mod dumping;
 mod flows;
 mod format;
 mod label;
+mod lacking;
 mod line;
 mod measuring;
 mod numbers;

@@ -7,34 +7,42 @@ ghost use Rattle.flow_report.specs.Writing.{AppendsFront};
 ghost use Rattle.flow_report.specs.Measure.{lines_of, HasTotals, HasSums, IsRefusedBy, KeepsOrFront};
 
 use crate::format::Format;
+use crate::lacking::{CountedTotals, Lacking};
 use crate::output::HeldText;
 use crate::patient::WriteFailed;
 use crate::refusal::Refusal;
 use crate::rows::put_rows_heading;
 use crate::width::Width;
-use flow_codec::{MessageReader, Templates, WalkError, walk_message};
+use flow_codec::{Losses, MessageReader, Templates, WalkError, walk_sets};
 use flow_measure::{Row, Rows, SumError, Totals};
 use std::alloc::Global;
 use std::io::{Read, Write};
 
-/// The sums of all flows of the File that `input` reads, over intervals of this width.
-fn sums_of<R: Read>(alloc: Global, width: Width, input: &mut R) -> Result<Rows, Refusal>
-    ensures sums { IfOk result (λ rows. IfSome (R.remaining input.old) (λ octets. HasSums width octets rows)) }
+/// The sums of all flows of the File that `input` reads, over intervals of this width, and what its messages show of
+/// records that aren't read.
+fn sums_of<R: Read>(alloc: Global, width: Width, input: &mut R) -> Result<(Rows, Losses), Refusal>
+    ensures sums { IfOk result (λ x. IfSome (R.remaining input.old) (λ octets. HasSums width octets x.0)) }
     ensures refused { IfErr result (λ e. IfSome (R.remaining input.old)
         (λ octets. IsRefusedBy octets (R.remaining input.new) e)) }
     ensures unwritten { IfErr result (λ e. IsOfInput e) }
 {
     let mut reader = MessageReader::new(alloc)?;
     let mut templates = Templates::new(alloc);
-    let mut totals = Totals {
-        rows: Rows::new(alloc, width.seconds()),
+    let mut lacking = Lacking::new(alloc);
+    let mut sums = CountedTotals {
+        totals: Totals {
+            rows: Rows::new(alloc, width.seconds()),
+        },
+        records: 0,
     };
     'messages: while reader.advance(input)? {
-        if let Err(stop) = walk_message(&mut templates, alloc, reader.message(), &mut totals) {
-            return Err(refusal_of(stop, reader.count()));
+        sums.records = 0;
+        match walk_sets(&mut templates, alloc, reader.message(), &mut sums) {
+            Ok(walked) => lacking.note(&walked, sums.records)?,
+            Err(stop) => return Err(refusal_of(stop, reader.count())),
         }
     }
-    Ok(totals.rows)
+    Ok((sums.totals.rows, lacking.losses()))
 }
 
 /// Why a run stops at the message of this number.
@@ -74,14 +82,15 @@ fn write_totals<W: Write>(
 
 /// Reads a File and writes the sums of all its flows: START DOMAIN PROTOCOL FLOWS OCTETS PACKETS, and in CSV and JSON
 /// the width, a row for each interval of this width, Observation Domain and protocol, in this order, none before
-/// protocol 0. Nothing is written unless the whole File was accepted.
+/// protocol 0. Nothing is written unless the whole File was accepted. It answers what the File's messages show of
+/// records that aren't read.
 pub fn measure<R: Read, W: Write>(
     alloc: Global,
     width: Width,
     format: Format,
     input: &mut R,
     output: &mut W,
-) -> Result<(), Refusal>
+) -> Result<Losses, Refusal>
     // The lines are those of a whole File.
     ensures lines { OnOk result
         (IfSome (R.remaining input.old) (λ octets. (lines : List ℕ) × HasTotals format width octets lines
@@ -93,8 +102,8 @@ pub fn measure<R: Read, W: Write>(
     ensures kept { IfErr result
         (λ e. KeepsOrFront format width (R.remaining input.old) (W.contents output.old) (W.contents output.new) e) }
 {
-    let rows = sums_of(alloc, width, input)?;
+    let (rows, losses) = sums_of(alloc, width, input)?;
     let mut lines = HeldText::new(alloc)?;
     write_totals(&rows, format, &mut lines, output)?;
-    Ok(())
+    Ok(losses)
 }

@@ -66,7 +66,11 @@ fn measured<W: Write>(
     output: &mut W,
 ) -> Result<String, Fail> {
     let width = Width::of(width).ok_or("a width")?;
-    Ok(printed(alloc, measure(alloc, width, format, &mut file, output))?)
+    let answer = match measure(alloc, width, format, &mut file, output) {
+        Ok(_) => Ok(()),
+        Err(refusal) => Err(refusal),
+    };
+    Ok(printed(alloc, answer)?)
 }
 
 /// Writes rows over intervals of 300 seconds: the refusal.

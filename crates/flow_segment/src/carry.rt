@@ -11,7 +11,7 @@ ghost use Rattle.flow_segment.specs.Carry.{IsTakenAs, TakesOnly};
 
 use crate::batch::Undo;
 use flow_codec::{
-    Count, Header, MessageError, Templates, WalkError, walk_message, write_templates,
+    Count, Losses, MessageError, Templates, WalkError, Walked, walk_sets, write_templates,
 };
 use indexmap::IndexMap;
 use std::alloc::{AllocError, Global};
@@ -24,6 +24,9 @@ pub struct Carry {
     templates: Templates,
     due: IndexMap<u32, u32>,
     time: u32,
+    /// What the messages that were taken in since the last `take_losses` show of records that aren't read. It is passed
+    /// on to nobody.
+    losses: Losses,
 }
 
 impl Model for Carry {
@@ -45,6 +48,7 @@ impl Carry {
             templates: Templates::new(alloc),
             due: IndexMap::new(alloc),
             time: 0,
+            losses: Losses::none(),
         }
     }
 
@@ -77,10 +81,13 @@ impl Carry {
         ensures kept { IfErr result (λ _. self.new ≡ self.old) }
     {
         self.due.reserve(1)?;
-        let (header, count) = counted(&mut self.templates, alloc, octets)?;
+        let (walked, count) = counted(&mut self.templates, alloc, octets)?;
+        let header = walked.header;
+        let losses = Losses::of(&walked, self.due.get(&header.domain).copied());
         let due = header.sequence.wrapping_add(count);
         put_due(&mut self.due, &self.templates, header.domain, due);
         self.time = header.time;
+        self.losses = self.losses.and(losses);
         Ok(is_none(count))
     }
 
@@ -101,7 +108,18 @@ impl Carry {
             templates: self.templates.try_copy()?,
             due: self.due.clone()?,
             time: self.time,
+            losses: self.losses,
         })
+    }
+
+    /// What the messages that were taken in since the last call show of records that aren't read. Those of a batch that
+    /// was refused show nothing.
+    pub fn take_losses(&mut self) -> Losses
+        ensures { self.new ≡ self.old }
+    {
+        let losses = self.losses;
+        self.losses = Losses::none();
+        losses
     }
 
     /// A copy of the templates.
@@ -118,10 +136,12 @@ impl Carry {
     {
         let due = self.due.clone()?;
         let time = self.time;
+        let losses = self.losses;
         Ok(Undo {
             templates: None,
             due,
             time,
+            losses,
         })
     }
 
@@ -135,6 +155,7 @@ impl Carry {
         }
         self.due = undo.due;
         self.time = undo.time;
+        self.losses = undo.losses;
     }
 }
 
@@ -143,16 +164,16 @@ fn counted(
     templates: &mut Templates,
     alloc: Global,
     octets: &[u8],
-) -> Result<(Header, u32), MessageError>
-    ensures found { IfOk result (λ x. IsCounted octets.now templates.old templates.new x.0 x.1) }
+) -> Result<(Walked, u32), MessageError>
+    ensures found { IfOk result (λ x. IsCounted octets.now templates.old templates.new x.0.header x.1) }
     ensures only { (a : Accepted) → IsAccepted octets.now templates.old a.message a.after
         → IfErr result (λ e. e ≡ MessageError.OutOfMemory) }
     ensures fault { IfErr result (λ e. (e ≡ MessageError.OutOfMemory) ⊎ IsFault octets.now templates.old e) }
     ensures err { OnErr result (templates.new ≡ templates.old) }
 {
     let mut count = Count { records: 0 };
-    match walk_message(templates, alloc, octets, &mut count) {
-        Ok(header) => Ok((header, count.records)),
+    match walk_sets(templates, alloc, octets, &mut count) {
+        Ok(walked) => Ok((walked, count.records)),
         Err(WalkError::Message(fault)) => Err(fault),
         Err(WalkError::Sink(never)) => match never {},
     }

@@ -212,6 +212,7 @@ where
             position,
             shown,
             told: self.writer.published().told().again(),
+            losses: self.archive.take_losses(),
         }
     }
 

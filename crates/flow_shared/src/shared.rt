@@ -184,6 +184,8 @@ pub fn start<D: Disk, J: Naming, W: Wait>(
 {
     let (tip, told) = opened.named::<J>();
     let mut archive = archive;
+    // What was taken in before counts for no append.
+    archive.take_losses();
     match places_of(alloc, &mut archive, &told, places) {
         Ok((writer, readers)) => {
             let locked: Locked<D, J, W> = Locked::new(archive, writer, tip, told);

@@ -11,7 +11,7 @@ use Rattle.clap.specs.Lexer.{has_byte, name_and_value}
 use Rattle.std.specs.List.{after_first, before_first, position_or_len}
 use Rattle.std.proofs.Common.{◌+◌, suc, take}
 use Rattle.flow_report.specs.declared.format.TheConstants.Format.{PLAIN}
-use Rattle.flow_words.specs.CommandLine.{asks_format, is_format}
+use Rattle.flow_words.specs.CommandLine.{asks_option, is_option}
 use Rattle.clap.specs.Walk.{Held, Row, Rule, Step, Text, Walk, after_step, answers_to, arg_by_long}
 use Rattle.clap.specs.Walk.{arg_by_short, finished, has_long, has_short, idle}
 use Rattle.clap.specs.Walk.{settled, subcommand_met, subcommand_or_other}
@@ -40,7 +40,7 @@ abbrev measure_built : Shape
 measure_built = get_or (built flowvault).subs 0 measure_shape
 
 abbrev help_built : Rule
-help_built = get_or measure_built.rules 4 width_rule
+help_built = get_or measure_built.rules 5 width_rule
 
 or_first : (a b : Bool) → (a || b) ≡ false → a ≡ false
 or_first true b e = e
@@ -74,33 +74,49 @@ with_value c again (Some a) v h none = rw none tt
 measure_takes_none : (name : Text) → option_map_or takes_values (arg_by_long measure_built.rules name) false ≡ false
 measure_takes_none name =
     by (bytes_eq (codes "csv") name) (bytes_eq (codes "json") name) (bytes_eq (codes "utc") name)
-    (bytes_eq (codes "help") name) refl refl refl refl
+    (bytes_eq (codes "warn") name) (bytes_eq (codes "help") name) refl refl refl refl refl
   where
-    by : (a b u d : Bool) → bytes_eq (codes "csv") name ≡ a → bytes_eq (codes "json") name ≡ b
-        → bytes_eq (codes "utc") name ≡ u → bytes_eq (codes "help") name ≡ d
+    by : (a b u w d : Bool) → bytes_eq (codes "csv") name ≡ a → bytes_eq (codes "json") name ≡ b
+        → bytes_eq (codes "utc") name ≡ u → bytes_eq (codes "warn") name ≡ w → bytes_eq (codes "help") name ≡ d
         → option_map_or takes_values (arg_by_long measure_built.rules name) false ≡ false
-    by true b u d ea eb eu ed = rw ea refl
-    by false true u d ea eb eu ed = rw (ea, eb) refl
-    by false false true d ea eb eu ed = rw (ea, eb, eu) refl
-    by false false false true ea eb eu ed = rw (ea, eb, eu, ed) refl
-    by false false false false ea eb eu ed = rw (ea, eb, eu, ed) refl
+    by true b u w d ea eb eu ew ed = rw ea refl
+    by false true u w d ea eb eu ew ed = rw (ea, eb) refl
+    by false false true w d ea eb eu ew ed = rw (ea, eb, eu) refl
+    by false false false true d ea eb eu ew ed = rw (ea, eb, eu, ew) refl
+    by false false false false true ea eb eu ew ed = rw (ea, eb, eu, ew, ed) refl
+    by false false false false false ea eb eu ew ed = rw (ea, eb, eu, ew, ed) refl
 
--- an option that asks for no format
+-- another option
 measure_long : (name : Text) → bytes_eq (codes "csv") name ≡ false → bytes_eq (codes "json") name ≡ false
-    → bytes_eq (codes "utc") name ≡ false → Asks (arg_by_long measure_built.rules name)
-measure_long name no_csv no_json no_utc =
-    rw (no_csv, no_json, no_utc) (asks_first help_built [] (λ a. not (is_some a.index) && has_long a name)
+    → bytes_eq (codes "utc") name ≡ false → bytes_eq (codes "warn") name ≡ false
+    → Asks (arg_by_long measure_built.rules name)
+measure_long name no_csv no_json no_utc no_warn =
+    rw (no_csv, no_json, no_utc, no_warn) (asks_first help_built [] (λ a. not (is_some a.index) && has_long a name)
     (refl, λ again rows. tt) tt)
 
-measure_refuses : (word : Text) → is_format word ≡ false → RefusesWord measure_built word
+measure_refuses : (word : Text) → is_option word ≡ false → RefusesWord measure_built word
 measure_refuses word none x xs is h = by (has_byte 61 (x ∷ xs)) refl
   where
-    here : is_format (45 ∷ 45 ∷ x ∷ xs) ≡ false
-    here = subst (λ (w : Text). is_format w ≡ false) is none
+    csv : Bool
+    csv = bytes_eq (codes "csv") (x ∷ xs)
 
-    words : (bytes_eq (codes "csv") (x ∷ xs) || bytes_eq (codes "json") (x ∷ xs)) ≡ false
-    words = or_first (bytes_eq (codes "csv") (x ∷ xs) || bytes_eq (codes "json") (x ∷ xs))
-        (bytes_eq (codes "utc") (x ∷ xs)) here
+    json : Bool
+    json = bytes_eq (codes "json") (x ∷ xs)
+
+    utc : Bool
+    utc = bytes_eq (codes "utc") (x ∷ xs)
+
+    warn : Bool
+    warn = bytes_eq (codes "warn") (x ∷ xs)
+
+    here : is_option (45 ∷ 45 ∷ x ∷ xs) ≡ false
+    here = subst (λ (w : Text). is_option w ≡ false) is none
+
+    three : (csv || json || utc) ≡ false
+    three = or_first (csv || json || utc) warn here
+
+    two : (csv || json) ≡ false
+    two = or_first (csv || json) utc three
 
     by : (b : Bool) → has_byte 61 (x ∷ xs) ≡ b
         → Fails (long_fault measure_built.rules measure_built.args_override_self
@@ -111,11 +127,8 @@ measure_refuses word none x xs is h = by (has_byte 61 (x ∷ xs)) refl
     by false e =
         let name_is = no_value (x ∷ xs) e in
         rw (name_is, e) (long_fails measure_built.rules measure_built.args_override_self
-        (arg_by_long measure_built.rules (x ∷ xs)) None h (measure_long (x ∷ xs)
-        (or_first (bytes_eq (codes "csv") (x ∷ xs)) (bytes_eq (codes "json") (x ∷ xs)) words)
-        (or_second (bytes_eq (codes "csv") (x ∷ xs)) (bytes_eq (codes "json") (x ∷ xs)) words)
-        (or_second (bytes_eq (codes "csv") (x ∷ xs) || bytes_eq (codes "json") (x ∷ xs))
-        (bytes_eq (codes "utc") (x ∷ xs)) here)))
+        (arg_by_long measure_built.rules (x ∷ xs)) None h (measure_long (x ∷ xs) (or_first csv json two)
+        (or_second csv json two) (or_second (csv || json) utc three) (or_second (csv || json || utc) warn here)))
 
 measure_short : (x : ℕ) → Asks (arg_by_short measure_built.rules x)
 measure_short x = asks_first help_built [] (λ a. not (is_some a.index) && has_short a x) (refl, λ again rows. tt) tt
@@ -127,24 +140,24 @@ and_false false = refl
 no_option : (r : Text) (tail : List Text) → measure_of ((45 ∷ r) ∷ tail) ≡ None
 no_option r [] =
     let n = number_of (45 ∷ r) in
-    ap (λ (b : Bool). option_map (λ width. Measure width PLAIN)
+    ap (λ (b : Bool). option_map (λ width. Measure width PLAIN false)
     (if b && nat_le 1 n && nat_le n 86400 then Some n else None))
     (and_false (nat_le 1 (length (45 ∷ r))))
 no_option r (y ∷ tail) = refl
 
 -- a first word that asks for no format, and the words after it
-no_format : (x : Text) (rest : List Text) → asks_format (x ∷ rest) ≡ false → is_format x ≡ false
-no_format x rest none = by (bytes_eq x dashes) refl
+no_option_word : (x : Text) (rest : List Text) → asks_option (x ∷ rest) ≡ false → is_option x ≡ false
+no_option_word x rest none = by (bytes_eq x dashes) refl
   where
-    by : (b : Bool) → bytes_eq x dashes ≡ b → is_format x ≡ false
-    by true e = subst (λ (w : Text). is_format w ≡ false) (sym ((bytes_eq-Decides x dashes).0 e)) refl
-    by false e = or_first (is_format x) (asks_format rest)
-        (sym (ap (λ (b : Bool). if b then false else is_format x || asks_format rest) e) ∙ none)
+    by : (b : Bool) → bytes_eq x dashes ≡ b → is_option x ≡ false
+    by true e = subst (λ (w : Text). is_option w ≡ false) (sym ((bytes_eq-Decides x dashes).0 e)) refl
+    by false e = or_first (is_option x) (asks_option rest)
+        (sym (ap (λ (b : Bool). if b then false else is_option x || asks_option rest) e) ∙ none)
 
-no_later_format : (x : Text) (rest : List Text) → bytes_eq x dashes ≡ false → asks_format (x ∷ rest) ≡ false
-    → asks_format rest ≡ false
-no_later_format x rest e none = or_second (is_format x) (asks_format rest)
-    (sym (ap (λ (b : Bool). if b then false else is_format x || asks_format rest) e) ∙ none)
+no_later_option : (x : Text) (rest : List Text) → bytes_eq x dashes ≡ false → asks_option (x ∷ rest) ≡ false
+    → asks_option rest ≡ false
+no_later_option x rest e none = or_second (is_option x) (asks_option rest)
+    (sym (ap (λ (b : Bool). if b then false else is_option x || asks_option rest) e) ∙ none)
 
 no_two : (x y : Text) (tail : List Text) → measure_of (x ∷ y ∷ tail) ≡ None
 no_two x y tail = refl
@@ -180,13 +193,13 @@ module _ (x : Text) where
   stray : step_fault measure_built 2 (held [] (Some (codes "WIDTH", x ∷ []))) value ≡ stray_fault measure_built
   stray = refl
 
-  measure_behind : (rest : List Text) → asks_format rest ≡ false
+  measure_behind : (rest : List Text) → asks_option rest ≡ false
       → Reads (from_here measure_built (behind x) rest) (measured (behind x) rest)
       (measure_of (x ∷ without_dashes rest))
   measure_behind [] none = inl nothing_more
   measure_behind (y ∷ rest) none =
       by (word_is measure_built measure_short [] (Some (codes "WIDTH", x ∷ [])) y
-      (measure_refuses y (no_format y rest none)))
+      (measure_refuses y (no_option_word y rest none)))
     where
       by : IsWord measure_built [] (Some (codes "WIDTH", x ∷ [])) y
           → Reads (from_here measure_built (behind x) (y ∷ rest)) (measured (behind x) (y ∷ rest))
@@ -210,13 +223,13 @@ to_width x = refl
 first_passes : step_fault measure_built 1 (held [] None) value ≡ []
 first_passes = refl
 
-pub measure_reads : (words : List Text) → asks_format words ≡ false
+pub measure_reads : (words : List Text) → asks_option words ≡ false
     → Reads (from_here measure_built (idle_at [] None 1) words) (measured (idle_at [] None 1) words)
     (measure_of (without_dashes words))
 unfolding clap_on_literals
 measure_reads [] none = inr (tt, refl)
 measure_reads (x ∷ rest) none =
-    by (word_is measure_built measure_short [] None x (measure_refuses x (no_format x rest none)))
+    by (word_is measure_built measure_short [] None x (measure_refuses x (no_option_word x rest none)))
   where
     by : IsWord measure_built [] None x
         → Reads (from_here measure_built (idle_at [] None 1) (x ∷ rest)) (measured (idle_at [] None 1) (x ∷ rest))
@@ -236,7 +249,7 @@ measure_reads (x ∷ rest) none =
         (value_turn measure_built [] None 1 x p.1 p.2 ∙ first_passes) walks in
         let made = ap (λ (w : Walk). measured w rest) walks in
         let wanted = ap measure_of (kept x rest p.0) in
-        moved (measure_behind x rest (no_later_format x rest p.0 none)) goes made wanted
+        moved (measure_behind x rest (no_later_option x rest p.0 none)) goes made wanted
 
 -- ---- `dump`
 
@@ -451,13 +464,13 @@ module _ (program command : Text) (arguments : List Text) where
   after_measure = if bytes_eq (codes "dump") command then dump_of (without_dashes arguments) else after_dump
 
   abbrev measure_asked : Option Request
-  measure_asked = if asks_format arguments then parsed words else measure_of (without_dashes arguments)
+  measure_asked = if asks_option arguments then parsed words else measure_of (without_dashes arguments)
 
   asked_first : (b : Bool) → bytes_eq (codes "measure") command ≡ b
       → asked words ≡ (if b then measure_asked else after_measure)
   asked_first b e = ap (λ (b : Bool). if b then measure_asked else after_measure) e
 
-  asked_measure : (b : Bool) → asks_format arguments ≡ b
+  asked_measure : (b : Bool) → asks_option arguments ≡ b
       → measure_asked ≡ (if b then parsed words else measure_of (without_dashes arguments))
   asked_measure b e = ap (λ (b : Bool). if b then parsed words else measure_of (without_dashes arguments)) e
 
@@ -494,9 +507,9 @@ module _ (program command : Text) (arguments : List Text) where
 
   named : (a b o h : Bool) → bytes_eq (codes "measure") command ≡ a → bytes_eq (codes "dump") command ≡ b
       → is_parsed command ≡ o → bytes_eq (codes "help") command ≡ h → Verdict words
-  named true b o h ea eb eo eh = by (asks_format arguments) refl
+  named true b o h ea eb eo eh = by (asks_option arguments) refl
     where
-      by : (f : Bool) → asks_format arguments ≡ f → Verdict words
+      by : (f : Bool) → asks_option arguments ≡ f → Verdict words
       by true ef =
           moved (reads_parsed (fault_of flowvault words) (request_in (subcommand_of flowvault words))) refl refl
           (asked_first true ea ∙ asked_measure true ef)

@@ -50,7 +50,8 @@ format_in rows = option_map (λ layout. record { layout = layout; times = times_
 -- what `measure` asks for
 abbrev pub measured_in : List Row → Option Request
 measured_in rows =
-    option_and_then (λ format. option_map (λ width. Measure width format) (width_in rows)) (format_in rows)
+    option_and_then (λ format. option_map (λ width. Measure width format (is_set (codes "warn") rows)) (width_in rows))
+    (format_in rows)
 
 -- the octets of messages that a segment takes: 1,048,576 where nothing else is asked for
 abbrev pub limit_in : List Row → Option ℕ

@@ -47,7 +47,8 @@ abbrev pub folder_rule : Rule
 folder_rule = needed (codes "DIR")
 
 abbrev pub measure_shape : Shape
-measure_shape = record (new_shape (codes "measure")) { rules = width_rule ∷ format_rules }
+measure_shape =
+    record (new_shape (codes "measure")) { rules = width_rule ∷ format_rules ++ flag (codes "warn") ∷ [] }
 
 abbrev pub dump_shape : Shape
 dump_shape = new_shape (codes "dump")
@@ -160,17 +161,18 @@ without_dashes (word ∷ rest) = if bytes_eq word (codes "--") then rest else wo
 -- one argument: digits alone, from 1 to 86,400
 abbrev pub measure_of : List (List ℕ) → Option Request
 measure_of [] = None
-measure_of (word ∷ []) = option_map (λ width. Measure width PLAIN) (number_between 1 86400 word)
+measure_of (word ∷ []) = option_map (λ width. Measure width PLAIN false) (number_between 1 86400 word)
 measure_of (word ∷ other ∷ rest) = None
 
--- a word that asks for a format
-abbrev pub is_format : List ℕ → Bool
-is_format word = bytes_eq (codes "--csv") word || bytes_eq (codes "--json") word || bytes_eq (codes "--utc") word
+-- an option of `measure`
+abbrev pub is_option : List ℕ → Bool
+is_option word = bytes_eq (codes "--csv") word || bytes_eq (codes "--json") word || bytes_eq (codes "--utc") word
+    || bytes_eq (codes "--warn") word
 
--- one is asked for before the first `--`
-abbrev pub asks_format : List (List ℕ) → Bool
-asks_format [] = false
-asks_format (word ∷ rest) = if bytes_eq word (codes "--") then false else is_format word || asks_format rest
+-- one of them is before the first `--`
+abbrev pub asks_option : List (List ℕ) → Bool
+asks_option [] = false
+asks_option (word ∷ rest) = if bytes_eq word (codes "--") then false else is_option word || asks_option rest
 
 -- no argument
 abbrev pub dump_of : List (List ℕ) → Option Request
@@ -189,14 +191,14 @@ unless (fault ∷ faults) made = None
 abbrev pub parsed : List (List ℕ) → Option Request
 parsed words = unless (fault_of flowvault words) (request_in (subcommand_of flowvault words))
 
--- The program's name, a command, and the command's arguments: of `dump`, and of `measure` without a format, word by
+-- The program's name, a command, and the command's arguments: of `dump`, and of `measure` without an option, word by
 -- word; of the others as the parser reads them.
 abbrev pub asked : List (List ℕ) → Option Request
 asked [] = None
 asked (name ∷ []) = None
 asked (name ∷ command ∷ arguments) =
     if bytes_eq (codes "measure") command then
-    if asks_format arguments then parsed (name ∷ command ∷ arguments) else measure_of (without_dashes arguments)
+    if asks_option arguments then parsed (name ∷ command ∷ arguments) else measure_of (without_dashes arguments)
     else if bytes_eq (codes "dump") command then dump_of (without_dashes arguments)
     else if is_parsed command then parsed (name ∷ command ∷ arguments)
     else None

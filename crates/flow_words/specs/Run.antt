@@ -85,7 +85,7 @@ IsShown before after status =
 -- lines of the whole File were written, and nothing on standard error; else that of the refusal, which is reported.
 abbrev pub Runs : Request → Option (List ℕ) → Option (List ℕ) → Option (List ℕ) → Option (List ℕ) → Option (List ℕ)
     → Option (List ℕ) → ℕ → Type 0
-Runs (Measure width format) input left old new before after status =
+Runs (Measure width format warn) input left old new before after status =
     ((status ≡ 0) × Keeps before after
     × IfSome input (λ octets. (lines : List ℕ) × HasTotals format width octets lines × Appends old new lines))
     ⊎ ((e : Refusal) × (status ≡ status_of e) × IsRefusalTold e before after

@@ -23,6 +23,9 @@ const MEASURE_HELP: &str =
     "Each line: START DOMAIN PROTOCOL FLOWS OCTETS PACKETS. START is in seconds since\n\
      1970-01-01 00:00 UTC; PROTOCOL is - where a flow has none. Nothing is written\n\
      unless the whole File is accepted.\n\
+     A terminal on standard error is told which records the File lacks: those\n\
+     without a template in force, and those that Sequence Numbers leave out; --warn\n\
+     says so anywhere.\n\
      \n\
      Example: flowvault measure 300 < FILE";
 
@@ -135,7 +138,9 @@ const FEED_HELP: &str =
      --from MESSAGES passes over what was taken in, where there is one FILE.\n\
      Meanwhile sealed segments but the newest --keep are rolled, as of roll; no more\n\
      than these are left in the end. A terminal on standard error is shown how much\n\
-     is read, and the octet at which a File stopped; --warn shows that anywhere.\n\
+     is read, the octet at which a File stopped, and which records it lacks: those\n\
+     without a template in force, and those that Sequence Numbers leave out; --warn\n\
+     shows these anywhere, but for how much is read.\n\
      The exit status is that of the first File that stopped. An archive that can't be\n\
      opened is told on standard error before a File is read.\n\
      \n\
@@ -199,8 +204,11 @@ const CSV: &str = "As CSV: a line of names first";
 /// What `--files` asks for.
 const FILES: &str = "List the archive's files too, each of which is read";
 
+/// What `--warn` asks for of `measure`.
+const MEASURE_WARN: &str = "Says on standard error which records the File lacks";
+
 /// What `--warn` asks for.
-const WARN: &str = "Says on standard error where a FILE stopped";
+const WARN: &str = "Says on standard error where FILEs stop and what they lack";
 
 /// What `--json` asks for.
 const JSON: &str = "As JSON, an object a line";
@@ -315,7 +323,7 @@ fn measure_command<'a>(alloc: Global) -> Result<Command<'a>, AllocError>
         .about(MEASURE_ABOUT)
         .after_help(MEASURE_HELP)
         .arg(width_argument(alloc))?;
-    in_formats(alloc, command)
+    in_formats(alloc, command)?.arg(flag(alloc, "warn", MEASURE_WARN))
 }
 
 /// The command `dump`, with its help.

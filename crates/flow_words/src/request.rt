@@ -32,6 +32,8 @@ pub enum Request<'a> {
     Measure {
         width: Width,
         format: Format,
+        /// Whether records that aren't read are warned of.
+        warn: bool,
     },
     /// Message and record lines of the File on standard input.
     Dump,
@@ -203,6 +205,7 @@ fn unfed<'a>(name: &str, arguments: &ArgMatches<'a>) -> Option<Request<'a>>
         "measure" => Some(Request::Measure {
             format: format_in(arguments)?,
             width: width_in(arguments)?,
+            warn: is_set(arguments, "warn"),
         }),
         "dump" => Some(Request::Dump),
         "inspect" => Some(Request::Inspect {

@@ -28,7 +28,7 @@ use clap::Error;
 use clap::error::ErrorKind;
 use flow_commands::{
     ArchiveRefusal, FeedPlan, FolderFault, NewArchive, Progress, StartSpan, Workers,
-    check_files_in, check_in, create_in, feed_in, flows_in, roll_in, totals_in,
+    check_files_in, check_in, create_in, feed_in, flows_in, roll_in, totals_in, warn_of_input,
 };
 use flow_folder::Lockable;
 use flow_inspect::inspect;
@@ -207,23 +207,28 @@ fn tell_of_archive<E: Write>(alloc: Global, errors: &mut E, refusal: &ArchiveRef
 }
 
 /// Runs `measure`.
-fn run_measure<R: Read, W: Write, E: Write>(
-    alloc: Global,
+fn run_measure<H: AllocGlobal + Wait, R: Read, W: Write, E: Write, P: Write + Drop>(
+    rt: &H,
     width: Width,
     format: Format,
+    warn: bool,
     input: &mut R,
     output: &mut W,
     errors: &mut E,
+    progress: &Progress<P>,
 ) -> u8
-    ensures runs { Runs (asked.Measure width format) (R.remaining input.old) (R.remaining input.new)
+    ensures runs { Runs (asked.Measure width format warn) (R.remaining input.old) (R.remaining input.new)
         (W.contents output.old) (W.contents output.new) (E.contents errors.old) (E.contents errors.new) result }
     ensures quiet { result ≡ 0 → Keeps (E.contents errors.old) (E.contents errors.new) }
     ensures status { result ≤ 5 }
     ensures other { result ≢ 2 }
 {
-    match measure(alloc, width, format, input, output) {
-        Ok(()) => DONE,
-        Err(refusal) => tell(alloc, errors, &refusal),
+    match measure(rt.alloc(), width, format, input, output) {
+        Ok(losses) => {
+            warn_of_input(rt, warn, losses, progress);
+            DONE
+        }
+        Err(refusal) => tell(rt.alloc(), errors, &refusal),
     }
 }
 
@@ -597,9 +602,11 @@ where
     ensures other { result ≢ 2 }
 {
     match request {
-        Request::Measure { width, format } => {
-            run_measure(rt.alloc(), width, format, input, output, errors)
-        }
+        Request::Measure {
+            width,
+            format,
+            warn,
+        } => run_measure(rt, width, format, warn, input, output, errors, progress),
         Request::Dump => run_dump(rt.alloc(), input, output, errors),
         Request::Inspect { format } => run_inspect(rt.alloc(), format, input, output, errors),
         Request::Create { folder, plan } => run_create(rt, &folder, &plan, errors),

@@ -7,7 +7,7 @@ returns-in-Ok-clause-found c =
     let w = c.in-Ok.ensures.found in (
       w.0,
       w.1,
-      λ sequence. lemmas.counted sequence c.walk_message.new.sink.records c.in-Ok.header w.0
+      λ sequence. lemmas.counted sequence c.walk_sets.new.sink.records c.in-Ok.walked.header w.0
           (w.2 (record { records = 0 }) [] refl),
     )
 

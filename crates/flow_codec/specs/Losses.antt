@@ -1,0 +1,53 @@
+-- What messages show of records that aren't read.
+use Rattle.std.specs.Prelude.{ℕ, ◌+◌, ◌-◌, ◌%◌, ◌^◌, min, Option, Some, None, nat_eq, nat_lt, if◌then◌else◌}
+use Rattle.std.specs.Option.{option_or}
+use Rattle.flow_codec.specs.declared.losses.Losses.{Losses}
+use Rattle.flow_codec.specs.declared.walk.Walked.{Walked}
+
+abbrev pub no_losses : Losses
+no_losses = record { unread = 0; domain = None; elsewhere = 0; gaps = 0; missing = 0 }
+
+-- how far a Sequence Number is past the due one, modulo 2^32
+abbrev pub distance : ℕ → ℕ → ℕ
+distance due sequence = (sequence + (2 ^ 32 - due)) % 2 ^ 32
+
+-- how many records it leaves out: it is past the due one by less than half of all numbers, or before it
+abbrev pub gap_of : ℕ → ℕ
+gap_of n = if nat_lt n (2 ^ 31) then n else 0
+
+abbrev pub gap_at : ℕ → Option ℕ → ℕ
+gap_at sequence None = 0
+gap_at sequence (Some due) = gap_of (distance due sequence)
+
+-- those of a message, at which a Sequence Number was due, or any was right
+abbrev pub losses_of : Walked → Option ℕ → Losses
+losses_of walked due = record {
+  unread = walked.unread.sets;
+  domain = if nat_eq walked.unread.sets 0 then None else Some walked.header.domain;
+  elsewhere = 0;
+  gaps = if nat_eq (gap_at walked.header.sequence due) 0 then 0 else 1;
+  missing = gap_at walked.header.sequence due;
+}
+
+abbrev pub elsewhere_than : ℕ → Option ℕ → Losses → ℕ
+elsewhere_than first None more = more.elsewhere
+elsewhere_than first (Some domain) more = if nat_eq first domain then more.elsewhere else more.unread
+
+-- how many unread Sets are of another domain than this first one
+abbrev pub elsewhere_of : Option ℕ → Losses → ℕ
+elsewhere_of None more = more.elsewhere
+elsewhere_of (Some first) more = elsewhere_than first more.domain more
+
+-- counts stop at 2^64 - 1
+abbrev pub up_to : ℕ → ℕ
+up_to count = min count (2 ^ 64 - 1)
+
+-- those of messages, and of messages after them
+abbrev pub both_losses : Losses → Losses → Losses
+both_losses a b = record {
+  unread = up_to (a.unread + b.unread);
+  domain = option_or a.domain b.domain;
+  elsewhere = up_to (a.elsewhere + elsewhere_of a.domain b);
+  gaps = up_to (a.gaps + b.gaps);
+  missing = up_to (a.missing + b.missing);
+}
