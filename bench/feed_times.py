@@ -1,8 +1,8 @@
 #!/usr/bin/env python3
 """feed_times.py PROGRAM [OCTETS [FOLDER]]: times `flowvault feed --keep 8` on a File of bench/generate.py of so many
 octets (300 MB), as one File and as eight of an eighth of its messages each, and bench/feed_floor.c, which makes the
-same writes and syncs as one File without rolling; each three times, in turn. Then, by segment limit, what `roll` takes for
-each source: as long an append can wait for a turn of rolling. The archives are made in FOLDER (the system's for
+same writes and syncs as one File without rolling; each three times, in turn. Then, by segment limit, what `roll` takes
+for each source: as long an append can wait for a turn of rolling. The archives are made in FOLDER (the system's for
 temporary files), which is left empty."""
 import os
 import shutil

@@ -47,25 +47,23 @@ use Rattle.flow_inspect.specs.Lasting.{lasted_after, lastings_of, none_lasted}
 use Rattle.flow_inspect.specs.Counting.{HasCounted, Inspected, counts_of, is_flow, is_option, starts_of, walked_of}
 use Rattle.flow_inspect.specs.Counting.{widened}
 use Rattle.flow_report.specs.declared.format.Format.{Format}
-use Rattle.flow_report.specs.Formats.{heading}
-use Rattle.flow_inspect.specs.Reports.{domains_text, entries_after, report_in, report_names, reports_of, whole_of}
+use Rattle.flow_inspect.specs.Reports.{domains_text, entries_after, heading_of, report_in, reports_of, whole_of}
 use Rattle.flow_inspect.specs.Reports.{with_tally}
-use Rattle.flow_inspect.specs.Inspect.{AreInspected, HasReports, IsNoted, walk_refusal}
+use Rattle.flow_inspect.specs.Inspect.{AreInspected, AreOf, HasReports, IsNoted, walk_refusal}
 
--- these octets begin with these messages, and `rest` follows them
-pub record IsSeen (octets rest : List ℕ) (messages : List Inspected) (here : AllTemplates) : Type 0 where
+-- The messages that a reader gave, in these octets each. Where it began with known octets, `start`, these begin with
+-- them, and it has the others left.
+pub record Sees (start left : Option (List ℕ)) (messages : List Inspected) (here : AllTemplates) : Type 0 where
   pub parts : List (List ℕ)
-  pub divided : octets ≡ joined parts ++ rest
   pub each : AreInspected [] parts messages here
-
--- the same of a reader whose octets may be known: it began with `start`, and has `left` now
-abbrev pub Sees : Option (List ℕ) → Option (List ℕ) → List Inspected → AllTemplates → Type 0
-Sees start left messages here =
-    IfSome start (λ octets. (rest : List ℕ) × (left ≡ Some rest) × IsSeen octets rest messages here)
+  pub divided : IfSome start (λ octets. (rest : List ℕ) × (left ≡ Some rest) × (octets ≡ joined parts ++ rest))
 
 sees_none : (start : Option (List ℕ)) → Sees start start [] []
-sees_none None = tt
-sees_none (Some octets) = (octets, refl, record { parts = []; divided = refl; each = refl })
+sees_none start = record { parts = []; each = refl; divided = from start }
+  where
+    from : (o : Option (List ℕ)) → IfSome o (λ octets. (rest : List ℕ) × (o ≡ Some rest) × (octets ≡ rest))
+    from None = tt
+    from (Some octets) = (octets, refl, refl)
 
 inspected_more : (before here next : AllTemplates) (parts : List (List ℕ)) (part : List ℕ) (ms : List Inspected)
     (m : Inspected) → AreInspected before parts ms here → IsCutOff part → IsAccepted part here m.message next
@@ -77,39 +75,34 @@ inspected_more before here next (p ∷ ps) part [] m none cut accepted noted = a
 inspected_more before here next (p ∷ ps) part (n ∷ ns) m (mid, out, first, own, others) cut accepted noted =
     (mid, out, first, own, inspected_more mid here next ps part ns m others cut accepted noted)
 
-seen_more : (octets part rest : List ℕ) (messages : List Inspected) (here next : AllTemplates) (m : Inspected)
-    → IsSeen octets (part ++ rest) messages here → IsCutOff part → IsAccepted part here m.message next
-    → IsNoted here part m → IsSeen octets rest (messages ++ m ∷ []) next
-seen_more octets part rest messages here next m so_far cut accepted noted =
-    let parts = so_far.parts in
+-- one part more of known octets
+divided_more : (start left after : Option (List ℕ)) (parts : List (List ℕ)) (part : List ℕ)
+    → IfSome start (λ octets. (rest : List ℕ) × (left ≡ Some rest) × (octets ≡ joined parts ++ rest))
+    → Consumes left after part
+    → IfSome start (λ octets. (rest : List ℕ) × (after ≡ Some rest) × (octets ≡ joined (parts ++ part ∷ []) ++ rest))
+divided_more None left after parts part so_far took = tt
+divided_more (Some octets) left None parts part (rest, is, divided) took =
+    absurd (subst (λ (o : Option (List ℕ)). Consumes o None part) is took)
+divided_more (Some octets) left (Some more) parts part (rest, is, divided) took =
+    let here : rest ≡ part ++ more = subst (λ (o : Option (List ℕ)). Consumes o (Some more) part) is took in
     let joint : joined (parts ++ part ∷ []) ≡ joined parts ++ part =
     flat_map-append (λ (r : List ℕ). r) parts (part ∷ [])
-    ∙ ap (λ (xs : List ℕ). joined parts ++ xs) (append-nil part) in
-    record {
-      parts = parts ++ part ∷ [];
-      divided = so_far.divided ∙ sym (append_assoc (joined parts) part rest)
-          ∙ ap (λ (xs : List ℕ). xs ++ rest) (sym joint);
-      each = inspected_more [] here next parts part messages m so_far.each cut accepted noted;
-    }
+    ∙ ap (λ (xs : List ℕ). joined parts ++ xs) (append-nil part) in (
+      more,
+      refl,
+      divided ∙ ap (λ (xs : List ℕ). joined parts ++ xs) here ∙ sym (append_assoc (joined parts) part more)
+          ∙ ap (λ (xs : List ℕ). xs ++ more) (sym joint),
+    )
 
 sees_more : (start : Option (List ℕ)) (old new : Progress) (messages : List Inspected) (here next : AllTemplates)
     (m : Inspected) → Sees start old.rest messages here → IsStep old (Ok true) new
     → IsAccepted new.message here m.message next → IsNoted here new.message m
     → Sees start new.rest (messages ++ m ∷ []) next
-sees_more None old new messages here next m so_far step accepted noted = tt
-sees_more (Some octets) old new messages here next m so_far step accepted noted = by new.rest refl
-  where
-    by : (left : Option (List ℕ)) → new.rest ≡ left → (rest : List ℕ) × (new.rest ≡ Some rest)
-        × IsSeen octets rest (messages ++ m ∷ []) next
-    by None e = absurd (subst (λ (o : Option (List ℕ)). Consumes (Some so_far.0) o new.message) e
-        (subst (λ (o : Option (List ℕ)). Consumes o new.rest new.message) so_far.1 step.3))
-    by (Some left) e =
-        let parts : so_far.0 ≡ new.message ++ left =
-        subst (λ (o : Option (List ℕ)). Consumes (Some so_far.0) o new.message) e
-        (subst (λ (o : Option (List ℕ)). Consumes o new.rest new.message) so_far.1 step.3) in
-        let so : IsSeen octets (new.message ++ left) messages here =
-        subst (λ (xs : List ℕ). IsSeen octets xs messages here) parts so_far.2 in
-        (left, e, seen_more octets new.message left messages here next m so step.2 accepted noted)
+sees_more start old new messages here next m so_far step accepted noted = record {
+  parts = so_far.parts ++ new.message ∷ [];
+  each = inspected_more [] here next so_far.parts new.message messages m so_far.each step.2 accepted noted;
+  divided = divided_more start old.rest new.rest so_far.parts new.message so_far.divided step.3;
+}
 
 -- what is counted of the messages that a reader gave
 pub record HasInspected (old : Option (List ℕ)) (reader : Progress) (here : AllTemplates)
@@ -225,29 +218,34 @@ stepped old r0 r1 h0 h1 before after start now walked octets s step is none noug
 -- at the File's end this is counted of all
 pub ended : (old : Option (List ℕ)) (reader next : Progress) (here : AllTemplates) (entries : List (ℕ × DomainReport))
     → HasInspected old reader here entries → IsStep reader (Ok false) next
-    → IfSome old (λ octets. HasReports octets entries)
-ended old reader next here entries h step = by old h.seen
+    → (octets : List ℕ) × AreOf old octets × HasReports octets entries
+ended old reader next here entries h step = (
+  joined h.seen.parts,
+  all old h.seen.divided,
+  (h.messages, (h.seen.parts, here, refl, h.seen.each), h.entries_are),
+)
   where
-    by : (o : Option (List ℕ)) → Sees o reader.rest h.messages here → IfSome o (λ octets. HasReports octets entries)
-    by None seen = tt
-    by (Some octets) (rest, left, seen) =
+    all : (o : Option (List ℕ))
+        → IfSome o (λ octets. (rest : List ℕ) × (reader.rest ≡ Some rest) × (octets ≡ joined h.seen.parts ++ rest))
+        → AreOf o (joined h.seen.parts)
+    all None divided = tt
+    all (Some octets) (rest, left, divided) =
         let none : rest ≡ [] = subst (λ (o : Option (List ℕ)). IsAtEnd o) left step.3 in
-        let all : octets ≡ joined seen.parts = seen.divided ∙ ap (λ (xs : List ℕ). joined seen.parts ++ xs) none
-        ∙ append-nil (joined seen.parts) in
-        (h.messages, (seen.parts, here, all, seen.each), h.entries_are)
+        sym (divided ∙ ap (λ (xs : List ℕ). joined h.seen.parts ++ xs) none ∙ append-nil (joined h.seen.parts))
 
 -- the line of one domain more
-pub one_line_more : (format : Format) (entries : List (ℕ × DomainReport)) (i : ℕ) (e : ℕ × DomainReport)
-    → slice_get entries i ≡ Some e
-    → domains_text format (take (i + 1) entries) ≡ domains_text format (take i entries) ++ report_in format e
-one_line_more format entries i e is =
-    let names = heading format.layout report_names in
-    let before = flat_map (report_in format) (take i entries) in
-    ap (domains_text format) (take_more entries i e (slice_get_within entries i e is)
+pub one_line_more : (format : Format) (file : Option ℕ) (entries : List (ℕ × DomainReport)) (i : ℕ)
+    (e : ℕ × DomainReport) → slice_get entries i ≡ Some e
+    → domains_text format file (take (i + 1) entries)
+    ≡ domains_text format file (take i entries) ++ report_in format file e
+one_line_more format file entries i e is =
+    let names = heading_of format.layout file in
+    let before = flat_map (report_in format file) (take i entries) in
+    ap (domains_text format file) (take_more entries i e (slice_get_within entries i e is)
     ∙ ap (λ (x : ℕ × DomainReport). take i entries ++ x ∷ []) (get_or_from_slice_get entries i e e is))
-    ∙ ap (λ (l : List ℕ). names ++ l) (flat_map-append (report_in format) (take i entries) (e ∷ [])
-    ∙ ap (λ (l : List ℕ). before ++ l) (append-nil (report_in format e)))
-    ∙ sym (append_assoc names before (report_in format e))
+    ∙ ap (λ (l : List ℕ). names ++ l) (flat_map-append (report_in format file) (take i entries) (e ∷ [])
+    ∙ ap (λ (l : List ℕ). before ++ l) (append-nil (report_in format file e)))
+    ∙ sym (append_assoc names before (report_in format file e))
 
 -- one domain more in the whole
 pub one_domain_more : (entries : List (ℕ × DomainReport)) (i : ℕ) (e : ℕ × DomainReport) → slice_get entries i ≡ Some e

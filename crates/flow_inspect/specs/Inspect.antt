@@ -1,6 +1,6 @@
 -- What `inspect` answers of a File.
-use Rattle.std.specs.Prelude.{◌≡◌, ℕ, List, [], ◌∷◌, Option, IfSome}
-use Rattle.std.specs.Io.KnownBytes.{Keeps}
+use Rattle.std.specs.Prelude.{◌≡◌, ℕ, List, [], ◌∷◌, Option, None, IfSome}
+use Rattle.std.specs.Io.KnownBytes.{Appends, Keeps}
 use Rattle.std.specs.declared.convert.Infallible.{Infallible}
 use Rattle.flow_codec.specs.declared.sink.WalkError.{WalkError}
 use Rattle.flow_codec.specs.declared.sink.WalkError.TheVariants as walk
@@ -48,7 +48,7 @@ HasReports octets entries = (messages : List Inspected) × IsWhole octets messag
 -- the octets are a whole File of accepted messages, and these are the lines of its domains, in words with one of all
 abbrev pub HasLines : Format → List ℕ → List ℕ → Type 0
 HasLines format octets lines = (messages : List Inspected) × IsWhole octets messages
-    × (lines ≡ reports_text format (reports_of messages))
+    × (lines ≡ reports_text format None (reports_of messages))
 
 -- What a writer holds after a refusal: what it held, or, where writing failed, a prefix of the lines besides.
 abbrev pub KeepsOrFront : Format → Option (List ℕ) → Option (List ℕ) → Option (List ℕ) → Refusal → Type 0
@@ -60,3 +60,33 @@ KeepsOrFront format input old new OutOfMemory = Keeps old new
 KeepsOrFront format input old new SumSpent = Keeps old new
 KeepsOrFront format input old new NumbersSpent = Keeps old new
 KeepsOrFront format input old new (Read failed) = Keeps old new
+
+-- ---- of a File with a number
+
+-- the octets are a whole File of accepted messages, and these are its lines, where it has this number
+abbrev pub HasFileLines : Format → Option ℕ → List ℕ → List ℕ → Type 0
+HasFileLines format file octets lines = (messages : List Inspected) × IsWhole octets messages
+    × (lines ≡ reports_text format file (reports_of messages))
+
+-- the octets are those of an input, where these are known
+abbrev pub AreOf : Option (List ℕ) → List ℕ → Type 0
+AreOf input octets = IfSome input (λ known. octets ≡ known)
+
+-- the lines of a whole File were written: of what the input has, where that is known
+abbrev pub WritesFile : Format → Option ℕ → Option (List ℕ) → Option (List ℕ) → Option (List ℕ) → Type 0
+WritesFile format file input old new =
+    (octets : List ℕ) × (lines : List ℕ) × AreOf input octets × HasFileLines format file octets lines
+    × Appends old new lines
+
+-- a prefix of them, where writing failed; else nothing
+abbrev pub KeepsOrFrontOfFile : Format → Option ℕ → Option (List ℕ) → Option (List ℕ) → Option (List ℕ) → Refusal
+    → Type 0
+KeepsOrFrontOfFile format file input old new (Write failed) =
+    (octets : List ℕ) × (lines : List ℕ) × AreOf input octets × HasFileLines format file octets lines
+    × AppendsFront old new lines
+KeepsOrFrontOfFile format file input old new (Message fault number) = Keeps old new
+KeepsOrFrontOfFile format file input old new (File fault) = Keeps old new
+KeepsOrFrontOfFile format file input old new OutOfMemory = Keeps old new
+KeepsOrFrontOfFile format file input old new SumSpent = Keeps old new
+KeepsOrFrontOfFile format file input old new NumbersSpent = Keeps old new
+KeepsOrFrontOfFile format file input old new (Read failed) = Keeps old new

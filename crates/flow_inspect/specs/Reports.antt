@@ -11,7 +11,8 @@ use Rattle.flow_report.specs.declared.format.Format.{Format}
 use Rattle.flow_report.specs.declared.format.Layout.{Layout}
 use Rattle.flow_report.specs.declared.format.Layout.TheVariants.{Lines, Csv, Json}
 use Rattle.flow_report.specs.declared.format.Times.{Times}
-use Rattle.flow_report.specs.Formats.{Named, heading, line_in, number_or_none, second_text, time_or_none}
+use Rattle.flow_report.specs.Formats.{Named, heading, line_in, number_or_none, opening, second_text, separator}
+use Rattle.flow_report.specs.Formats.{time_or_none, value_in}
 use Rattle.flow_report.specs.Formats.Value.{Number, Time}
 use Rattle.flow_inspect.specs.declared.counting.RecordCounts.{RecordCounts}
 use Rattle.flow_inspect.specs.declared.reporting.DomainReport.{DomainReport}
@@ -200,15 +201,6 @@ report_names =
     ∷ codes "replaced" ∷ codes "gaps" ∷ codes "missing" ∷ codes "backwards" ∷ codes "from" ∷ codes "to"
     ∷ codes "first" ∷ codes "last" ∷ codes "longest" ∷ codes "long" ∷ []
 
--- the line of a domain in a format
-abbrev pub report_by : Layout → Format → ℕ × DomainReport → List ℕ
-report_by Lines format e = report_line format.times e
-report_by Csv format e = line_in format (report_values e)
-report_by Json format e = line_in format (report_values e)
-
-unfoldable pub report_in : Format → ℕ × DomainReport → List ℕ
-report_in format e = report_by format.layout format e
-
 -- all domains N, and what is counted of all together
 unfoldable pub whole_line : Times → ℕ → Option Tally → List ℕ
 whole_line times domains None =
@@ -216,18 +208,52 @@ whole_line times domains None =
     ++ codes " from - to - starts - - longest - long 0\n"
 whole_line times domains (Some whole) = codes "all domains" ++ 32 ∷ decimal domains ++ tally_text times whole
 
--- the line of the whole File, which is in words alone
-abbrev pub whole_by : Layout → Times → List (ℕ × DomainReport) → List ℕ
-whole_by Lines times entries = whole_line times (length entries) (whole_of entries)
-whole_by Csv times entries = []
-whole_by Json times entries = []
+-- ---- of a File with a number
 
-unfoldable pub whole_in : Format → List (ℕ × DomainReport) → List ℕ
-whole_in format entries = whole_by format.layout format.times entries
+-- what a line in words begins with where its File has a number: file N
+abbrev pub file_words : Option ℕ → List ℕ
+file_words None = []
+file_words (Some number) = codes "file" ++ 32 ∷ decimal number ++ 32 ∷ []
+
+-- the first value of such a line, with its name
+abbrev pub file_values : Option ℕ → List Named
+file_values None = []
+file_values (Some number) = (codes "file", Number number) ∷ []
+
+-- what a line of values begins with, before the first one of its domain
+abbrev pub beginning_of : Format → Option ℕ → List ℕ
+beginning_of format None = opening format.layout
+beginning_of format (Some number) =
+    opening format.layout ++ value_in format (codes "file", Number number) ++ separator format.layout ∷ []
+
+-- what is before all lines; where Files have numbers, before those of the first alone
+abbrev pub heading_of : Layout → Option ℕ → List ℕ
+heading_of layout None = heading layout report_names
+heading_of layout (Some number) = if nat_eq number 1 then heading layout (codes "file" ∷ report_names) else []
+
+-- ---- in a format
+
+-- the line of a domain in a format
+abbrev pub report_by : Layout → Format → Option ℕ → ℕ × DomainReport → List ℕ
+report_by Lines format file e = file_words file ++ report_line format.times e
+report_by Csv format file e = line_in format (file_values file ++ report_values e)
+report_by Json format file e = line_in format (file_values file ++ report_values e)
+
+unfoldable pub report_in : Format → Option ℕ → ℕ × DomainReport → List ℕ
+report_in format file e = report_by format.layout format file e
+
+-- the line of the whole File, which is in words alone
+abbrev pub whole_by : Layout → Times → Option ℕ → List (ℕ × DomainReport) → List ℕ
+whole_by Lines times file entries = file_words file ++ whole_line times (length entries) (whole_of entries)
+whole_by Csv times file entries = []
+whole_by Json times file entries = []
+
+unfoldable pub whole_in : Format → Option ℕ → List (ℕ × DomainReport) → List ℕ
+whole_in format file entries = whole_by format.layout format.times file entries
 
 -- what is before all lines, and the lines of the domains
-abbrev pub domains_text : Format → List (ℕ × DomainReport) → List ℕ
-domains_text format entries = heading format.layout report_names ++ flat_map (report_in format) entries
+abbrev pub domains_text : Format → Option ℕ → List (ℕ × DomainReport) → List ℕ
+domains_text format file entries = heading_of format.layout file ++ flat_map (report_in format file) entries
 
-abbrev pub reports_text : Format → List (ℕ × DomainReport) → List ℕ
-reports_text format entries = domains_text format entries ++ whole_in format entries
+abbrev pub reports_text : Format → Option ℕ → List (ℕ × DomainReport) → List ℕ
+reports_text format file entries = domains_text format file entries ++ whole_in format file entries

@@ -1,19 +1,21 @@
 //! The command `inspect`.
 
-ghost use Rattle.std.specs.Prelude.{◌≡◌, ◌++◌, [], ℕ, List, OnOk, IfOk, IfErr, IfSome};
+ghost use Rattle.std.specs.Prelude.{◌≡◌, ◌++◌, [], ℕ, List, Some, OnOk, IfOk, IfErr, IfSome, length};
 ghost use Rattle.std.specs.Io.KnownBytes.{Appends};
 ghost use Rattle.flow_report.specs.Refusals.{IsOfInput};
 ghost use Rattle.flow_report.specs.Measure.{IsRefusedBy};
-ghost use Rattle.flow_inspect.specs.Inspect.{HasReports, HasLines, KeepsOrFront, walk_refusal};
-ghost use Rattle.flow_inspect.specs.Reports.{domains_text, entries_after, reports_text, whole_in, whole_of};
+ghost use Rattle.flow_inspect.specs.Inspect.{AreOf, HasReports, HasLines, KeepsOrFront, KeepsOrFrontOfFile, WritesFile};
+ghost use Rattle.flow_inspect.specs.Inspect.{walk_refusal};
+ghost use Rattle.flow_inspect.specs.Reports.{domains_text, entries_after, file_words, reports_text, whole_in};
+ghost use Rattle.flow_inspect.specs.Reports.{whole_line, whole_of};
 
 use crate::counting::RecordCounts;
 use crate::lasting::Lasted;
-use crate::reporting::{DomainReport, begun, continued, push_heading, push_in};
+use crate::reporting::{DomainReport, begun, continued, push_file, push_heading, push_in};
 use crate::tally::{Tally, with_tally};
 use crate::whole::push_whole;
 use flow_codec::{MessageReader, Templates, WalkError, Walked, walk_sets};
-use flow_report::{Format, Layout, Patience, Refusal, write_patiently};
+use flow_report::{Format, Layout, Patience, Refusal, Times, write_patiently};
 use indexmap::IndexMap;
 use std::alloc::{AllocError, Global};
 use std::convert::Infallible;
@@ -54,7 +56,7 @@ fn add_message(
 /// What is counted of each domain of the File that `input` reads.
 fn reports_of<R: Read>(alloc: Global, input: &mut R) -> Result<Reports, Refusal>
     ensures reports { IfOk result
-        (λ reports. IfSome (R.remaining input.old) (λ octets. HasReports octets reports.entries)) }
+        (λ reports. (octets : List ℕ) × AreOf (R.remaining input.old) octets × HasReports octets reports.entries) }
     ensures refused { IfErr result (λ e. IfSome (R.remaining input.old)
         (λ octets. IsRefusedBy octets (R.remaining input.new) e)) }
     ensures unwritten { IfErr result (λ e. IsOfInput e) }
@@ -81,14 +83,19 @@ fn reports_of<R: Read>(alloc: Global, input: &mut R) -> Result<Reports, Refusal>
 }
 
 /// What is before all lines, and the lines of the domains.
-fn domains_text_of(alloc: Global, format: Format, reports: &Reports) -> Result<Vec<u8>, AllocError>
-    ensures { IfOk result (λ text. text.items ≡ domains_text format reports.now.entries) }
+fn domains_text_of(
+    alloc: Global,
+    format: Format,
+    file: Option<u64>,
+    reports: &Reports,
+) -> Result<Vec<u8>, AllocError>
+    ensures { IfOk result (λ text. text.items ≡ domains_text format file reports.now.entries) }
 {
     let mut text = Vec::new(alloc);
-    push_heading(&mut text, format)?;
+    push_heading(&mut text, format, file)?;
     for i in 0..reports.len() {
         if let Some((domain, report)) = reports.get_index(i) {
-            push_in(&mut text, format, *domain, report)?;
+            push_in(&mut text, format, file, *domain, report)?;
         }
     }
     Ok(text)
@@ -108,25 +115,70 @@ fn whole_of(reports: &Reports) -> Option<Tally>
     whole
 }
 
+/// Puts the line of the whole File after a text, in words.
+fn push_whole_line(
+    text: &mut Vec<u8>,
+    times: Times,
+    file: Option<u64>,
+    reports: &Reports,
+) -> Result<(), AllocError>
+    ensures { OnOk result (text.new.items ≡ text.old.items
+        ++ (file_words file ++ whole_line times (length reports.now.entries) (whole_of reports.now.entries))) }
+{
+    push_file(text, file)?;
+    push_whole(text, times, reports.len() as u64, whole_of(reports))
+}
+
 /// Puts the line of the whole File after a text, in words alone.
 #[tactic(auto, unfolding(crate::specs::Reports::whole_in))]
-fn push_whole_in(text: &mut Vec<u8>, format: Format, reports: &Reports) -> Result<(), AllocError>
-    ensures { OnOk result (text.new.items ≡ text.old.items ++ whole_in format reports.now.entries) }
+fn push_whole_in(
+    text: &mut Vec<u8>,
+    format: Format,
+    file: Option<u64>,
+    reports: &Reports,
+) -> Result<(), AllocError>
+    ensures { OnOk result (text.new.items ≡ text.old.items ++ whole_in format file reports.now.entries) }
 {
     match format.layout {
-        Layout::Lines => push_whole(text, format.times, reports.len() as u64, whole_of(reports)),
+        Layout::Lines => push_whole_line(text, format.times, file, reports),
         Layout::Csv => Ok(()),
         Layout::Json => Ok(()),
     }
 }
 
 /// The lines of all domains, and that of the whole File.
-fn text_of(alloc: Global, format: Format, reports: &Reports) -> Result<Vec<u8>, AllocError>
-    ensures { IfOk result (λ text. text.items ≡ reports_text format reports.now.entries) }
+fn text_of(
+    alloc: Global,
+    format: Format,
+    file: Option<u64>,
+    reports: &Reports,
+) -> Result<Vec<u8>, AllocError>
+    ensures { IfOk result (λ text. text.items ≡ reports_text format file reports.now.entries) }
 {
-    let mut text = domains_text_of(alloc, format, reports)?;
-    push_whole_in(&mut text, format, reports)?;
+    let mut text = domains_text_of(alloc, format, file, reports)?;
+    push_whole_in(&mut text, format, file, reports)?;
     Ok(text)
+}
+
+/// Reads a File and writes its lines, with its number where it has one.
+fn write_lines<R: Read, W: Write>(
+    alloc: Global,
+    format: Format,
+    file: Option<u64>,
+    input: &mut R,
+    output: &mut W,
+) -> Result<(), Refusal>
+    ensures lines { OnOk result
+        (WritesFile format file (R.remaining input.old) (W.contents output.old) (W.contents output.new)) }
+    ensures refused { IfErr result (λ e. IfSome (R.remaining input.old)
+        (λ octets. IsRefusedBy octets (R.remaining input.new) e)) }
+    ensures kept { IfErr result (λ e. KeepsOrFrontOfFile format file (R.remaining input.old) (W.contents output.old)
+        (W.contents output.new) e) }
+{
+    let reports = reports_of(alloc, input)?;
+    let text = text_of(alloc, format, file, &reports)?;
+    write_patiently(output, text.as_slice(), &mut Patience::new())?;
+    Ok(())
 }
 
 /// Reads a File and writes a line for each Observation Domain, in the order of their first messages: `domain DOMAIN
@@ -166,8 +218,28 @@ pub fn inspect<R: Read, W: Write>(
     ensures kept { IfErr result
         (λ e. KeepsOrFront format (R.remaining input.old) (W.contents output.old) (W.contents output.new) e) }
 {
-    let reports = reports_of(alloc, input)?;
-    let text = text_of(alloc, format, &reports)?;
-    write_patiently(output, text.as_slice(), &mut Patience::new())?;
-    Ok(())
+    write_lines(alloc, format, None, input, output)
+}
+
+/// Reads one of several Files and writes the lines of `inspect`, each with the File's number: they begin with `file N `
+/// in words, CSV and JSON have it as their first value, `file`. The names of CSV are written before the lines of File 1
+/// alone. Nothing is written unless the whole File was accepted.
+pub fn inspect_file<R: Read, W: Write>(
+    alloc: Global,
+    format: Format,
+    number: u64,
+    input: &mut R,
+    output: &mut W,
+) -> Result<(), Refusal>
+    // The lines are those of a whole File, which is what `input` has, where that is known.
+    ensures lines { OnOk result
+        (WritesFile format (Some number) (R.remaining input.old) (W.contents output.old) (W.contents output.new)) }
+    // A refusal is that of the first fault by place.
+    ensures refused { IfErr result (λ e. IfSome (R.remaining input.old)
+        (λ octets. IsRefusedBy octets (R.remaining input.new) e)) }
+    // After one nothing is written, or, where writing failed, a prefix of the lines.
+    ensures kept { IfErr result (λ e. KeepsOrFrontOfFile format (Some number) (R.remaining input.old)
+        (W.contents output.old) (W.contents output.new) e) }
+{
+    write_lines(alloc, format, Some(number), input, output)
 }

@@ -18,5 +18,5 @@ mod span;
 mod tally;
 mod whole;
 
-pub use inspecting::inspect;
+pub use inspecting::{inspect, inspect_file};
 pub use laws::each_domain_alone;

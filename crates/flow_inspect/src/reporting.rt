@@ -4,7 +4,8 @@ ghost use Rattle.std.specs.Prelude.{◌≡◌, ◌++◌, ◌∷◌, [], if◌the
 ghost use Rattle.std.specs.Fmt.{decimal};
 ghost use Rattle.flow_inspect.specs.Reports.{begun, continued, due_after, plus, tally_after};
 ghost use Rattle.flow_inspect.specs.Reports.{counts_text, lasted_text, report_line, sequence_text, starts_text};
-ghost use Rattle.flow_inspect.specs.Reports.{report_in, report_names, report_values, tally_text};
+ghost use Rattle.flow_inspect.specs.Reports.{beginning_of, file_values, file_words, heading_of, report_in};
+ghost use Rattle.flow_inspect.specs.Reports.{report_names, report_values, tally_text};
 ghost use Rattle.flow_report.specs.Formats.{closing, heading, line_in, number_or_none, second_text, separator};
 ghost use Rattle.flow_report.specs.Formats.{time_or_none, value_in};
 ghost use Rattle.flow_report.specs.Formats.Value.{Nothing, Number};
@@ -242,8 +243,8 @@ fn without_longest(format: Format) -> &'static str
     }
 }
 
-/// The most octets of a line of sixteen values, and what it begins with.
-const MOST_REPORT: usize = 16 * MOST_VALUE + 1;
+/// The most octets of sixteen values, which a line of a domain has.
+const MOST_REPORT: usize = 16 * MOST_VALUE;
 
 /// Puts after a text the starts of the flows, and a separator.
 fn push_start_values(
@@ -286,18 +287,32 @@ fn push_lasting_values(text: &mut Vec<u8>, format: Format, lasted: Lasted) -> Re
     Ok(())
 }
 
-/// Puts the values of a domain after a text, a line in a format.
+/// Puts after a text what a line of values begins with: its opening, and the File's number, where it has one.
+fn push_beginning(text: &mut Vec<u8>, format: Format, file: Option<u64>) -> Result<(), AllocError>
+    ensures { OnOk result (text.new.items ≡ text.old.items ++ beginning_of format file) }
+{
+    text.reserve(MOST_VALUE + 1)?;
+    put_opening(text, format);
+    if let Some(number) = file {
+        put_value(text, format, "file", number);
+    }
+    Ok(())
+}
+
+/// Puts the values of a domain after a text, a line in a format; the File's number first, where it has one.
 fn push_values(
     text: &mut Vec<u8>,
     format: Format,
+    file: Option<u64>,
     domain: u32,
     report: &DomainReport,
 ) -> Result<(), AllocError>
-    ensures { OnOk result (text.new.items ≡ text.old.items ++ line_in format (report_values (domain, report.now))) }
+    ensures { OnOk result (text.new.items
+        ≡ text.old.items ++ line_in format (file_values file ++ report_values (domain, report.now))) }
 {
     let tally = report.tally;
+    push_beginning(text, format, file)?;
     text.reserve(MOST_REPORT)?;
-    put_opening(text, format);
     put_value(text, format, "domain", domain);
     put_value(text, format, "messages", tally.messages);
     put_value(text, format, "records", tally.records);
@@ -315,33 +330,89 @@ fn push_values(
     Ok(())
 }
 
+/// Puts after a text what a line in words begins with where the File has a number: `file N `.
+pub(crate) fn push_file(text: &mut Vec<u8>, file: Option<u64>) -> Result<(), AllocError>
+    ensures { OnOk result (text.new.items ≡ text.old.items ++ file_words file) }
+{
+    if let Some(number) = file {
+        push_named(text, "file", number)?;
+        text.push(b' ')?;
+    }
+    Ok(())
+}
+
+/// Puts the line of a domain after a text, in words.
+fn push_words(
+    text: &mut Vec<u8>,
+    times: Times,
+    file: Option<u64>,
+    domain: u32,
+    report: &DomainReport,
+) -> Result<(), AllocError>
+    ensures { OnOk result (text.new.items
+        ≡ text.old.items ++ (file_words file ++ report_line times (domain, report.now))) }
+{
+    push_file(text, file)?;
+    push_report(text, times, domain, report)
+}
+
 /// Puts the line of a domain after a text, in a format.
 #[tactic(auto, unfolding(crate::specs::Reports::report_in))]
 pub(crate) fn push_in(
     text: &mut Vec<u8>,
     format: Format,
+    file: Option<u64>,
     domain: u32,
     report: &DomainReport,
 ) -> Result<(), AllocError>
-    ensures { OnOk result (text.new.items ≡ text.old.items ++ report_in format (domain, report.now)) }
+    ensures { OnOk result (text.new.items ≡ text.old.items ++ report_in format file (domain, report.now)) }
 {
     match format.layout {
-        Layout::Lines => push_report(text, format.times, domain, report),
-        Layout::Csv => push_values(text, format, domain, report),
-        Layout::Json => push_values(text, format, domain, report),
+        Layout::Lines => push_words(text, format.times, file, domain, report),
+        Layout::Csv => push_values(text, format, file, domain, report),
+        Layout::Json => push_values(text, format, file, domain, report),
     }
 }
 
+/// The names of the values of a domain, in CSV.
+const NAMES: &str =
+    "domain,messages,records,options,unread_sets,unread_octets,replaced,gaps,missing,backwards,from,to,\
+     first,last,longest,long\n";
+
+/// Puts the name of a File's number and those of the values of a domain after a text, in CSV.
+fn push_numbered_names(text: &mut Vec<u8>) -> Result<(), AllocError>
+    ensures { OnOk result (text.new.items ≡ text.old.items ++ heading Layout.Csv (codes "file" ∷ report_names)) }
+{
+    text.extend_from_slice("file,".as_bytes())?;
+    text.extend_from_slice(NAMES.as_bytes())?;
+    Ok(())
+}
+
+/// Puts the names of values after a text, in CSV; where the File has a number, that of the first one alone.
+fn push_names(text: &mut Vec<u8>, file: Option<u64>) -> Result<(), AllocError>
+    ensures { OnOk result (text.new.items ≡ text.old.items ++ heading_of Layout.Csv file) }
+{
+    match file {
+        None => text.extend_from_slice(NAMES.as_bytes())?,
+        Some(number) => {
+            if number == 1 {
+                push_numbered_names(text)?;
+            }
+        }
+    }
+    Ok(())
+}
+
 /// Puts after a text what is before all lines: in CSV the names of the values.
-pub(crate) fn push_heading(text: &mut Vec<u8>, format: Format) -> Result<(), AllocError>
-    ensures { OnOk result (text.new.items ≡ text.old.items ++ heading format.layout report_names) }
+pub(crate) fn push_heading(
+    text: &mut Vec<u8>,
+    format: Format,
+    file: Option<u64>,
+) -> Result<(), AllocError>
+    ensures { OnOk result (text.new.items ≡ text.old.items ++ heading_of format.layout file) }
 {
     if let Layout::Csv = format.layout {
-        text.extend_from_slice(
-            "domain,messages,records,options,unread_sets,unread_octets,replaced,gaps,missing,backwards,from,to,\
-             first,last,longest,long\n"
-                .as_bytes(),
-        )?;
+        push_names(text, file)?;
     }
     Ok(())
 }

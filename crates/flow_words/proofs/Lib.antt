@@ -4,3 +4,4 @@ pub mod Verdicts
 pub mod Answered
 pub mod Reading
 mod Adding
+mod OneByOne

@@ -1,7 +1,7 @@
 -- What is read of values, and by the name of a command.
-use Rattle.std.proofs.Common.{◌≡◌, ◌∙◌, refl, sym, ap, ℕ, Bool, true, false}
-use Rattle.std.proofs.Common.{List, Option, Some, None, codes, length, arith, le-ltb, lt-ltb, ◌<◌, ◌≤◌}
-use Rattle.std.specs.Prelude.{option_map, option_and_then, if◌then◌else◌}
+use Rattle.std.proofs.Common.{◌≡◌, ◌∙◌, refl, sym, ap, Bool, true, false}
+use Rattle.std.proofs.Common.{List, Option, Some, codes}
+use Rattle.std.specs.Prelude.{option_map, if◌then◌else◌}
 use Rattle.std.specs.Str.{bytes_eq}
 use Rattle.std.proofs.lemmas.Slice.Eq.{bytes_eq-Decides}
 use Rattle.clap.specs.Walk.{Row, Text}
@@ -11,10 +11,9 @@ use Rattle.clap.specs.Matches.{first_value, matched_of, raw_values}
 use Rattle.clap.specs.declared.parser.matches.Found.{Found}
 use Rattle.clap.proofs.WalkLemmas.{first_value-rows, raw_values-rows}
 use Rattle.flow_words.specs.declared.request.Request.{Request}
-use Rattle.flow_words.specs.declared.request.Request.TheVariants.{Dump, Inspect, Explain}
-use Rattle.flow_words.specs.Arguments.{changing, checked_in, create_in, explained_in, fed_in, few_of, files_in, listed_in}
-use Rattle.flow_words.specs.Arguments.{folder_in, format_in, measured_in, queried, totalled_in}
-use Rattle.flow_words.specs.Arguments.{requested, unfed}
+use Rattle.flow_words.specs.declared.request.Request.TheVariants.{Dump, Explain}
+use Rattle.flow_words.specs.Arguments.{changing, checked_in, create_in, explained_in, fed_in, inspected_in}
+use Rattle.flow_words.specs.Arguments.{listed_in, measured_in, queried, requested, totalled_in, without_files}
 
 pub first_value_is : (f : Found) (id : Text) → first_value f id ≡ first_of id (rows_of f)
 first_value_is f id = first_value-rows f id
@@ -36,28 +35,29 @@ passed_over b this others e = ap (λ (b : Bool). if b then this else others) (sy
 
 -- the name of none of the first commands
 pub other_name : (name : Text) (rows : List Row) → (name ≡ codes "measure" → ⊥) → (name ≡ codes "dump" → ⊥)
-    → (name ≡ codes "inspect" → ⊥) → (name ≡ codes "create" → ⊥) → (name ≡ codes "check" → ⊥)
-    → queried name rows ≡ unfed name rows
-other_name name rows no_measure no_dump no_inspect no_create no_check =
+    → (name ≡ codes "create" → ⊥) → (name ≡ codes "check" → ⊥)
+    → queried name rows ≡ without_files name rows
+other_name name rows no_measure no_dump no_create no_check =
     let checked : Option Request = if bytes_eq (codes "check") name then checked_in rows
     else queried name rows in
     let created : Option Request = if bytes_eq (codes "create") name then create_in rows else checked in
-    let inspected : Option Request = if bytes_eq (codes "inspect") name then option_map Inspect (format_in rows)
-    else created in
-    let dumped : Option Request = if bytes_eq (codes "dump") name then Some Dump else inspected in
+    let dumped : Option Request = if bytes_eq (codes "dump") name then Some Dump else created in
     passed_over (bytes_eq (codes "check") name) (checked_in rows) (queried name rows)
     (differs (codes "check") name no_check)
     ∙ passed_over (bytes_eq (codes "create") name) (create_in rows) checked (differs (codes "create") name no_create)
-    ∙ passed_over (bytes_eq (codes "inspect") name) (option_map Inspect (format_in rows)) created
-    (differs (codes "inspect") name no_inspect)
-    ∙ passed_over (bytes_eq (codes "dump") name) (Some Dump) inspected (differs (codes "dump") name no_dump)
+    ∙ passed_over (bytes_eq (codes "dump") name) (Some Dump) created (differs (codes "dump") name no_dump)
     ∙ passed_over (bytes_eq (codes "measure") name) (measured_in rows) dumped
     (differs (codes "measure") name no_measure)
 
--- a name other than `feed`
-pub unfed_name : (name : Text) (rows : List Row) → (name ≡ codes "feed" → ⊥) → unfed name rows ≡ requested name rows
-unfed_name name rows no_feed =
-    passed_over (bytes_eq (codes "feed") name) (fed_in rows) (unfed name rows) (differs (codes "feed") name no_feed)
+-- a name other than `feed` and `inspect`
+pub without_files_name : (name : Text) (rows : List Row) → (name ≡ codes "feed" → ⊥) → (name ≡ codes "inspect" → ⊥)
+    → without_files name rows ≡ requested name rows
+without_files_name name rows no_feed no_inspect =
+    let inspected : Option Request = if bytes_eq (codes "inspect") name then inspected_in rows
+    else without_files name rows in
+    passed_over (bytes_eq (codes "inspect") name) (inspected_in rows) (without_files name rows)
+    (differs (codes "inspect") name no_inspect)
+    ∙ passed_over (bytes_eq (codes "feed") name) (fed_in rows) inspected (differs (codes "feed") name no_feed)
 
 -- the name of no command that is met before those that change an archive
 pub changing_name : (name : Text) (rows : List Row) → (name ≡ codes "totals" → ⊥) → (name ≡ codes "flows" → ⊥)
@@ -72,18 +72,3 @@ changing_name name rows no_totals no_flows no_explain =
     (differs (codes "flows") name no_flows)
     ∙ passed_over (bytes_eq (codes "totals") name) (totalled_in rows) shown
     (differs (codes "totals") name no_totals)
-
--- the Files that are given
-pub few_files : (f : Found) (files : List Text) (n : ℕ)
-    → Some files ≡ option_map raw_values (matched_of f (codes "FILE")) → n ≡ length files → n ≤ 8
-    → Some files ≡ files_in (rows_of f)
-few_files f files n found long few =
-    ap (λ (b : Bool). if b then None else Some files) (sym (le-ltb 8 (length files) (omega (arith, long, few))))
-    ∙ ap (option_and_then few_of) (found ∙ all_values_are f (codes "FILE"))
-
-pub many_files : (f : Found) (files : List Text) (n : ℕ)
-    → Some files ≡ option_map raw_values (matched_of f (codes "FILE")) → n ≡ length files → 8 < n
-    → None ≡ files_in (rows_of f)
-many_files f files n found long many =
-    ap (λ (b : Bool). if b then None else Some files) (sym (lt-ltb 8 (length files) (omega (arith, long, many))))
-    ∙ ap (option_and_then few_of) (found ∙ all_values_are f (codes "FILE"))

@@ -6,7 +6,8 @@ use Rattle.std.specs.Option.{option_map_or}
 use Rattle.std.specs.Str.{bytes_eq}
 use Rattle.clap.specs.Walk.{Row, Text, all_of, first_of}
 use Rattle.flow_words.specs.declared.request.Request.{Request}
-use Rattle.flow_words.specs.declared.request.Request.TheVariants.{Measure, Dump, Inspect, Create, Check, CheckFiles}
+use Rattle.flow_words.specs.declared.request.Request.TheVariants.{Measure, Dump, Inspect, InspectFiles}
+use Rattle.flow_words.specs.declared.request.Request.TheVariants.{Create, Check, CheckFiles}
 use Rattle.flow_words.specs.declared.request.Request.TheVariants.{Totals, Flows}
 use Rattle.flow_words.specs.declared.request.Request.TheVariants.{Feed, Shell, Roll, Merge, Explain}
 use Rattle.flow_words.specs.Explain.{is_refusal}
@@ -168,12 +169,24 @@ fed_alone folder plan files =
 abbrev pub few_of : List Text → Option (List Text)
 few_of files = if nat_lt 8 (length files) then None else Some files
 
+-- the Files that are given, where there is one
+abbrev pub given_in : List Row → Option (List Text)
+given_in rows = all_of (codes "FILE") rows
+
 abbrev pub files_in : List Row → Option (List Text)
-files_in rows = option_and_then few_of (all_of (codes "FILE") rows)
+files_in rows = option_and_then few_of (given_in rows)
 
 -- standard input is one of these Files
 abbrev pub has_input : List Text → Bool
 has_input files = list_any (λ file. bytes_eq file (codes "-")) files
+
+-- what `inspect` asks for: of standard input, or of the Files that are given
+abbrev pub inspected_of : Option (List Text) → Format → Request
+inspected_of None format = Inspect format
+inspected_of (Some files) format = InspectFiles format files
+
+abbrev pub inspected_in : List Row → Option Request
+inspected_in rows = option_map (inspected_of (given_in rows)) (format_in rows)
 
 -- what `feed` asks for
 abbrev pub fed_in : List Row → Option Request
@@ -211,19 +224,21 @@ abbrev pub checked_in : List Row → Option Request
 checked_in rows =
     option_map (λ folder. if is_set (codes "files") rows then CheckFiles folder else Check folder) (folder_in rows)
 
--- what the name of a command other than `feed`, and the values of its arguments, ask for
-abbrev pub unfed : Text → List Row → Option Request
-unfed name rows =
+-- what the name of a command that is given no Files, and the values of its arguments, ask for
+abbrev pub without_files : Text → List Row → Option Request
+without_files name rows =
     if bytes_eq (codes "measure") name then measured_in rows
     else if bytes_eq (codes "dump") name then Some Dump
-    else if bytes_eq (codes "inspect") name then option_map Inspect (format_in rows)
     else if bytes_eq (codes "create") name then create_in rows
     else if bytes_eq (codes "check") name then checked_in rows
     else queried name rows
 
 -- what a command's name and the values of its arguments ask for
 abbrev pub requested : Text → List Row → Option Request
-requested name rows = if bytes_eq (codes "feed") name then fed_in rows else unfed name rows
+requested name rows =
+    if bytes_eq (codes "feed") name then fed_in rows
+    else if bytes_eq (codes "inspect") name then inspected_in rows
+    else without_files name rows
 
 abbrev pub request_in : Option (Text × List Row) → Option Request
 request_in command = option_and_then (λ c. requested c.0 c.1) command

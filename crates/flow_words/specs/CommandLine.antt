@@ -24,6 +24,10 @@ needed id = record (new_rule id) { required = true; action = Some Set }
 abbrev pub optional : Text → Rule
 optional id = record (new_rule id) { action = Some Set }
 
+-- an argument that may be there, any number of times
+abbrev pub any_number : Text → Rule
+any_number id = record (new_rule id) { action = Some Append }
+
 -- an argument that has to be there, and may be there again
 abbrev pub several : Text → Rule
 several id = record (new_rule id) { required = true; action = Some Append }
@@ -63,7 +67,7 @@ abbrev pub create_shape : Shape
 create_shape = record sized_shape { rules = sized_shape.rules ++ option (codes "SECONDS") (codes "wide") ∷ [] }
 
 abbrev pub inspect_shape : Shape
-inspect_shape = record (new_shape (codes "inspect")) { rules = format_rules }
+inspect_shape = record (new_shape (codes "inspect")) { rules = any_number (codes "FILE") ∷ format_rules }
 
 abbrev pub check_shape : Shape
 check_shape = record (new_shape (codes "check")) { rules = folder_rule ∷ flag (codes "files") ∷ [] }

@@ -3,4 +3,5 @@ pub mod Arguments
 pub mod CommandLine
 pub mod Requested
 pub mod Printed
+pub mod Inspecting
 pub mod Run

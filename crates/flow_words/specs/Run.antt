@@ -11,8 +11,8 @@ use Rattle.flow_words.specs.declared.request.LineError.{LineError}
 use Rattle.flow_words.specs.declared.request.LineError.TheVariants.{Parser, Width, Plan, Span, Keep, Files}
 use Rattle.flow_words.specs.declared.request.LineError.TheVariants.{Formats, Number, OutOfMemory, Totals as TotalsWrong}
 use Rattle.flow_words.specs.declared.request.Request.{Request}
-use Rattle.flow_words.specs.declared.request.Request.TheVariants.{Measure, Dump, Inspect, Create, Check, CheckFiles}
-use Rattle.flow_words.specs.declared.request.Request.TheVariants.{Totals, Flows}
+use Rattle.flow_words.specs.declared.request.Request.TheVariants.{Measure, Dump, Inspect, InspectFiles}
+use Rattle.flow_words.specs.declared.request.Request.TheVariants.{Create, Check, CheckFiles, Totals, Flows}
 use Rattle.flow_words.specs.declared.request.Request.TheVariants.{Feed, Shell, Roll as RollAsked, Merge as MergeAsked}
 use Rattle.flow_words.specs.declared.request.Request.TheVariants.{Explain}
 use Rattle.flow_commands.specs.declared.archive_refusal.ArchiveRefusal.{ArchiveRefusal}
@@ -25,6 +25,7 @@ use Rattle.flow_commands.specs.ArchiveFiles.{AreListings}
 use Rattle.flow_commands.specs.Asking.{AreFlows, AreRows, Writes, WritesOrNot}
 use Rattle.flow_words.specs.Arguments.{has_input}
 use Rattle.flow_words.specs.CommandLine.{asked}
+use Rattle.flow_words.specs.Inspecting.{InspectEnds}
 use Rattle.flow_words.specs.Requested.{IsLineError}
 use Rattle.flow_report.specs.Refusals.{status_of}
 use Rattle.flow_words.specs.Printed.{kind_text, told_lines, words_text}
@@ -101,8 +102,10 @@ Runs (Inspect format) input left old new before after status =
     ⊎ ((e : Refusal) × (status ≡ status_of e) × IsRefusalTold e before after
     × IfSome input (λ octets. IsRefusedBy octets left e)
     × InspectKeepsOrFront format input old new e)
--- None of these reads standard input, but `feed` where it is one of the Files, and `shell`; and `create` writes
--- nothing.
+-- None of these reads standard input, but `inspect` and `feed` where it is one of the Files, and `shell`; and `create`
+-- writes nothing.
+Runs (InspectFiles format files) input left old new before after status =
+    (has_input files ≡ false → Keeps input left) × InspectEnds format files input left old new before after status
 Runs (Create folder plan) input left old new before after status =
     Keeps input left × Keeps old new × CreateEnds before after status
 Runs (Check folder) input left old new before after status =

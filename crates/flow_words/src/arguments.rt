@@ -5,8 +5,9 @@ ghost use Rattle.std.specs.List.{list_any};
 ghost use Rattle.std.specs.Str.{bytes_eq};
 ghost use Rattle.clap.specs.Matches.{found_of};
 ghost use Rattle.clap.specs.Walk.{rows_of};
-ghost use Rattle.flow_words.specs.Arguments.{explained_in, folder_in, limit_in, plan_in, second_in, span_in, wide_in};
-ghost use Rattle.flow_words.specs.Arguments.{feeding_in, files_in, format_in, is_given, is_set, keep_in, kept_in};
+ghost use Rattle.flow_words.specs.Arguments.{explained_in, few_of, folder_in, limit_in, plan_in, second_in, span_in, wide_in};
+ghost use Rattle.flow_words.specs.Arguments.{feeding_in, files_in, format_in, given_in, is_given, is_set, keep_in};
+ghost use Rattle.flow_words.specs.Arguments.{kept_in};
 ghost use Rattle.flow_words.specs.Arguments.{layout_in, times_in};
 ghost use Rattle.flow_words.specs.Arguments.{moment_in, numbered_span_in, passed_in, worded_span_in};
 ghost use Rattle.flow_words.specs.Arguments.{width_in, workers_in};
@@ -63,7 +64,7 @@ impl<'a> Model for FolderName<'a> {
     ghost view = { λ f. f.path.now };
 }
 
-/// Paths of 1 to 8 Files.
+/// Paths of Files.
 #[derive(Drop)]
 pub struct FileNames<'a> {
     pub(crate) paths: Vec<&'a str>,
@@ -114,7 +115,7 @@ impl MomentSpan {
 }
 
 /// Whether a path is that of standard input.
-fn is_input(path: &str) -> bool
+pub(crate) fn is_input(path: &str) -> bool
     ensures { result ≡ bytes_eq path.now (codes "-") }
 {
     path == "-"
@@ -347,22 +348,42 @@ pub(crate) fn feeding_in(arguments: &ArgMatches<'_>) -> Option<FeedPlan>
     Some(FeedPlan { keep, passed, warn })
 }
 
-/// The Files among the arguments of `feed`: at most 8.
+/// The Files among a command's arguments, where one is given.
 #[tactic(auto, using(crate::proofs::Reading::all_values_are))]
+pub(crate) fn given_in<'a>(
+    alloc: Global,
+    arguments: &ArgMatches<'a>,
+) -> Result<Option<FileNames<'a>>, AllocError>
+    ensures { IfOk result (λ files. files ≡ given_in (rows_of (found_of arguments.now))) }
+{
+    let Some(paths) = arguments.get_strs("FILE") else {
+        return Ok(None);
+    };
+    let paths = Vec::from_slice(alloc, paths)?;
+    Ok(Some(FileNames { paths }))
+}
+
+/// These Files, where they are at most 8.
+fn few_of(files: FileNames<'_>) -> Option<FileNames<'_>>
+    ensures { result ≡ few_of files.entry }
+{
+    if files.paths.len() > MOST_FILES {
+        return None;
+    }
+    Some(files)
+}
+
+/// The Files among the arguments of `feed`: at most 8.
 pub(crate) fn files_in<'a>(
     alloc: Global,
     arguments: &ArgMatches<'a>,
 ) -> Result<Option<FileNames<'a>>, AllocError>
     ensures { IfOk result (λ files. files ≡ files_in (rows_of (found_of arguments.now))) }
 {
-    let Some(paths) = arguments.get_strs("FILE") else {
-        return Ok(None);
-    };
-    if paths.len() > MOST_FILES {
-        return Ok(None);
+    match given_in(alloc, arguments)? {
+        Some(files) => Ok(few_of(files)),
+        None => Ok(None),
     }
-    let paths = Vec::from_slice(alloc, paths)?;
-    Ok(Some(FileNames { paths }))
 }
 
 /// What `explain` asks for.

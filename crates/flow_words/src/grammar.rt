@@ -4,7 +4,8 @@ ghost use Rattle.std.specs.Prelude.{◌≡◌, ◌++◌, false, IfOk};
 ghost use Rattle.clap.specs.Walk.{rule_of};
 ghost use Rattle.clap.specs.Simple.{app_of, shape_of};
 ghost use Rattle.clap.specs.declared.builder.command.Command.TheViews.{out-Command as fields_of};
-ghost use Rattle.flow_words.specs.CommandLine.{check_shape, create_shape, dump_shape, explain_shape, feed_shape, flag};
+ghost use Rattle.flow_words.specs.CommandLine.{any_number, check_shape, create_shape, dump_shape, explain_shape};
+ghost use Rattle.flow_words.specs.CommandLine.{feed_shape, flag};
 ghost use Rattle.flow_words.specs.CommandLine.{flowvault, folder_rule, keep_shape, measure_shape, needed, option};
 ghost use Rattle.flow_words.specs.CommandLine.{moments_shape, optional, program, several, sized_shape, span_shape};
 ghost use Rattle.flow_words.specs.CommandLine.{totals_shape, width_rule};
@@ -45,7 +46,7 @@ const DUMP_HELP: &str =
 
 /// What `inspect` does, in a line or two.
 const INSPECT_ABOUT: &str =
-    "Counts what the IPFIX File on standard input has of each Observation\nDomain, and how many records are missing";
+    "Counts what an IPFIX File has of each Observation Domain, and how\nmany records are missing";
 
 /// What help has below the options of `inspect`.
 const INSPECT_HELP: &str =
@@ -63,8 +64,12 @@ const INSPECT_HELP: &str =
      least and the greatest start of the flows, SECONDS how long the longest one\n\
      lasts, - without one; N flows last more than 300 seconds. Nothing is written\n\
      unless the whole File is accepted.\n\
+     Without a FILE standard input is read. The lines of FILEs begin with file N,\n\
+     which counts them from 1; file is the first name of CSV and JSON. Each is read\n\
+     by itself, in their order, up to the first that is refused: N is told with it.\n\
      \n\
-     Example: flowvault inspect < FILE";
+     Examples: flowvault inspect < FILE\n\
+     \x20         flowvault inspect --csv FILE OTHER";
 
 /// What `create` does, in a line or two.
 const CREATE_ABOUT: &str = "Makes an archive in a folder that exists";
@@ -241,15 +246,20 @@ fn needed<'a>(alloc: Global, id: &'a str, help: &'a str) -> Arg<'a>
         .help(help)
 }
 
+/// An argument that may be there, any number of times.
+fn any_number<'a>(alloc: Global, id: &'a str, help: &'a str) -> Arg<'a>
+    ensures rule { rule_of result ≡ any_number id.now }
+    ensures own { result.global ≡ false }
+{
+    Arg::new(alloc, id).action(ArgAction::Append).help(help)
+}
+
 /// An argument that has to be there, and may be there again.
 fn several<'a>(alloc: Global, id: &'a str, help: &'a str) -> Arg<'a>
     ensures rule { rule_of result ≡ several id.now }
     ensures own { result.global ≡ false }
 {
-    Arg::new(alloc, id)
-        .required(true)
-        .action(ArgAction::Append)
-        .help(help)
+    any_number(alloc, id, help).required(true)
 }
 
 /// An argument that may be there, once.
@@ -343,7 +353,8 @@ fn inspect_command<'a>(alloc: Global) -> Result<Command<'a>, AllocError>
 {
     let command = Command::new(alloc, "inspect")
         .about(INSPECT_ABOUT)
-        .after_help(INSPECT_HELP);
+        .after_help(INSPECT_HELP)
+        .arg(any_number(alloc, "FILE", "Paths of IPFIX Files; - is standard input"))?;
     in_formats(alloc, command)
 }
 

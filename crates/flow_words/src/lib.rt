@@ -8,6 +8,7 @@
 mod arguments;
 mod explaining;
 mod grammar;
+mod inspecting;
 mod request;
 mod run;
 

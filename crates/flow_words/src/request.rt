@@ -5,8 +5,8 @@ ghost use Rattle.clap.specs.Values.{kind_of};
 ghost use Rattle.clap.specs.Matches.{found_of};
 ghost use Rattle.clap.specs.Walk.{rows_of};
 ghost use Rattle.clap.specs.Simple.{subcommand_rows_of};
-ghost use Rattle.flow_words.specs.Arguments.{changing, checked_in, create_in, fed_alone, fed_in, queried, requested};
-ghost use Rattle.flow_words.specs.Arguments.{request_in, unfed};
+ghost use Rattle.flow_words.specs.Arguments.{changing, checked_in, create_in, fed_alone, fed_in, inspected_in, queried};
+ghost use Rattle.flow_words.specs.Arguments.{request_in, requested, without_files};
 ghost use Rattle.flow_words.specs.CommandLine.{asked};
 ghost use Rattle.flow_words.specs.Requested.{IsLineError, wrong_values, wrong_values_in, wrong_values_of};
 ghost use Rattle.clap.specs.declared.error.kind.ErrorKind.TheVariants as ErrorKind;
@@ -14,7 +14,7 @@ ghost use Rattle.flow_words.specs.declared.request.LineError.TheVariants as Line
 
 use crate::arguments::{
     FileNames, FolderName, MomentSpan, explained_in, feeding_in, files_in, folder_in, format_in,
-    is_set, keep_in, kept_in, plan_in, span_in, width_in, workers_in,
+    given_in, is_set, keep_in, kept_in, plan_in, span_in, width_in, workers_in,
 };
 use crate::explaining::Explanation;
 use crate::grammar::command_line;
@@ -40,6 +40,11 @@ pub enum Request<'a> {
     /// Lines of the Observation Domains of the File on standard input.
     Inspect {
         format: Format,
+    },
+    /// The same of each of these Files, with its number.
+    InspectFiles {
+        format: Format,
+        files: FileNames<'a>,
     },
     /// A new archive in a folder.
     Create {
@@ -197,9 +202,9 @@ fn queried<'a>(name: &str, arguments: &ArgMatches<'a>) -> Option<Request<'a>>
     }
 }
 
-/// What a command other than `feed` asks for, by its name and its arguments.
-fn unfed<'a>(name: &str, arguments: &ArgMatches<'a>) -> Option<Request<'a>>
-    ensures { result ≡ unfed name.now (rows_of (found_of arguments.now)) }
+/// What a command that is given no Files asks for, by its name and its arguments.
+fn without_files<'a>(name: &str, arguments: &ArgMatches<'a>) -> Option<Request<'a>>
+    ensures { result ≡ without_files name.now (rows_of (found_of arguments.now)) }
 {
     match name {
         "measure" => Some(Request::Measure {
@@ -208,9 +213,6 @@ fn unfed<'a>(name: &str, arguments: &ArgMatches<'a>) -> Option<Request<'a>>
             warn: is_set(arguments, "warn"),
         }),
         "dump" => Some(Request::Dump),
-        "inspect" => Some(Request::Inspect {
-            format: format_in(arguments)?,
-        }),
         "create" => create_in(arguments),
         "check" => checked_in(arguments),
         _ => queried(name, arguments),
@@ -246,6 +248,20 @@ fn fed_in<'a>(alloc: Global, arguments: &ArgMatches<'a>) -> Result<Option<Reques
     }
 }
 
+/// What `inspect` asks for: of standard input, or of the Files that are given.
+fn inspected_in<'a>(
+    alloc: Global,
+    arguments: &ArgMatches<'a>,
+) -> Result<Option<Request<'a>>, AllocError>
+    ensures { IfOk result (λ request. request ≡ inspected_in (rows_of (found_of arguments.now))) }
+{
+    match (format_in(arguments), given_in(alloc, arguments)?) {
+        (Some(format), Some(files)) => Ok(Some(Request::InspectFiles { format, files })),
+        (Some(format), None) => Ok(Some(Request::Inspect { format })),
+        _ => Ok(None),
+    }
+}
+
 /// What a command asks for, by its name and its arguments.
 fn requested<'a>(
     alloc: Global,
@@ -256,7 +272,8 @@ fn requested<'a>(
 {
     match name {
         "feed" => fed_in(alloc, arguments),
-        _ => Ok(unfed(name, arguments)),
+        "inspect" => inspected_in(alloc, arguments),
+        _ => Ok(without_files(name, arguments)),
     }
 }
 

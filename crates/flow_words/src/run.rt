@@ -23,6 +23,7 @@ ghost use Rattle.flow_words.specs.declared.request.Request.TheVariants as asked;
 
 use crate::arguments::{FileNames, FolderName, MomentSpan};
 use crate::explaining::Explanation;
+use crate::inspecting::run_inspect_files;
 use crate::request::{LineError, Request, parse};
 use clap::Error;
 use clap::error::ErrorKind;
@@ -46,7 +47,7 @@ use std::thread::Threads;
 use std::time::{Clock, SystemTime};
 
 /// The status of a run that did its work, or showed its help.
-const DONE: u8 = 0;
+pub(crate) const DONE: u8 = 0;
 
 /// The status of a run whose words ask for nothing.
 const WRONG_LINE: u8 = 2;
@@ -102,7 +103,7 @@ const WRONG_WORDS: &str =
     "flowvault: a word isn't understood; a File is read from standard input: flowvault measure 300 < FILE\n";
 
 /// Writes octets.
-fn write_octets<W: Write>(to: &mut W, octets: &[u8]) -> Result<(), Refusal>
+pub(crate) fn write_octets<W: Write>(to: &mut W, octets: &[u8]) -> Result<(), Refusal>
     ensures all { OnOk result (Appends (W.contents to.old) (W.contents to.new) octets.now) }
     ensures front { OnErr result (AppendsFront (W.contents to.old) (W.contents to.new) octets.now) }
 {
@@ -111,7 +112,7 @@ fn write_octets<W: Write>(to: &mut W, octets: &[u8]) -> Result<(), Refusal>
 }
 
 /// Writes a line on standard error, or as much of it as can be written: the status says the same.
-fn tell_line<E: Write>(errors: &mut E, line: &[u8])
+pub(crate) fn tell_line<E: Write>(errors: &mut E, line: &[u8])
     ensures { AppendsFront (E.contents errors.old) (E.contents errors.new) line.now }
 {
     let _ = write_octets(errors, line);
@@ -128,7 +129,7 @@ fn first_word(text: &str) -> &str
 }
 
 /// The lines of a refusal's text: it, and how to ask what its number means.
-fn told_lines(alloc: Global, text: &str) -> Result<String, AllocError>
+pub(crate) fn told_lines(alloc: Global, text: &str) -> Result<String, AllocError>
     ensures { IfOk result (λ lines. string_bytes lines ≡ told_lines text.now) }
 {
     let number = first_word(text);
@@ -609,6 +610,9 @@ where
         } => run_measure(rt, width, format, warn, input, output, errors, progress),
         Request::Dump => run_dump(rt.alloc(), input, output, errors),
         Request::Inspect { format } => run_inspect(rt.alloc(), format, input, output, errors),
+        Request::InspectFiles { format, files } => {
+            run_inspect_files(rt, format, &files, input, output, errors)
+        }
         Request::Create { folder, plan } => run_create(rt, &folder, &plan, errors),
         Request::Check { folder } => run_check(rt, &folder, output, errors),
         Request::CheckFiles { folder } => run_check_files(rt, &folder, output, errors),

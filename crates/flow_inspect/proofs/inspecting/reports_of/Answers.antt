@@ -6,7 +6,7 @@ use Rattle.flow_report.proofs.Reached.{opened}
 use Rattle.flow_report.proofs.Summing.{err_of, short_at}
 use Rattle.flow_inspect.specs.Lasting.{none_lasted}
 use Rattle.flow_inspect.specs.Counting.{HasCounted}
-use Rattle.flow_inspect.proofs.Following.{always, begun, ended_by, stepped, stopped_at}
+use Rattle.flow_inspect.proofs.Following.{always, begun, ended, ended_by, stepped, stopped_at}
 use Rattle.flow_inspect.proofs.inspecting.reports_of.Goals as goal
 
 pub messages-init : goal.messages-init
@@ -27,6 +27,16 @@ messages-preserved g c =
     (record { records = 0; options = 0; starts = None; lasted = none_lasted }) c.walk_sets.new.sink c.in-Ok.walked c.message.result.now
     c.messages.invariant step c.message.ensures.value refl refl refl refl c.in-Ok.ensures.found c.in-Ok.ensures.unread
     c.in-Ok.ensures.replaced c.in_ok-add_message-in-Ok.ensures
+
+pub returns-clause-reports : goal.returns-clause-reports
+returns-clause-reports g c =
+    let step = subst (λ (b : Bool). IsStep (progress c.messages.reader (g.R.Read.remaining c.messages.input)) (Ok b)
+    (progress c.advance.new.self (g.R.Read.remaining c.advance.new.input))) c.if-branch.false
+    c.in_ok-advance.ensures.step in
+    ended (g.R.Read.remaining c.args.input.now)
+    (progress c.messages.reader (g.R.Read.remaining c.messages.input))
+    (progress c.advance.new.self (g.R.Read.remaining c.advance.new.input))
+    c.messages.templates c.messages.reports.entries c.messages.invariant step
 
 pub returns-in_err-advance-clause-refused : goal.returns-in_err-advance-clause-refused
 returns-in_err-advance-clause-refused g c =
