@@ -1,10 +1,12 @@
-// Calls of a disk, as rows of tables.
+//! Calls of a disk, as rows of tables.
+
 ghost use Rattle.std.specs.Prelude.{◌≡◌, ℕ, true, false, IfOk};
 ghost use Rattle.flow_memory_disk.specs.Memory.{story_of};
 
 use flow_disk::{Disk, DiskError, Faults, SealedFile};
 use flow_memory_disk::{MemoryDisk, Room};
 use std::alloc::{AllocError, Global};
+use std::test::Fail;
 
 /// A call, and what it gives.
 #[derive(Clone, Copy)]
@@ -74,7 +76,7 @@ impl<D: Disk> Thawed<D> {
     }
 
     /// Makes a call: whether it gives what it says.
-    fn gives(&mut self, alloc: Global, call: Call<'_>) -> Result<bool, DiskError> {
+    pub(crate) fn gives(&mut self, alloc: Global, call: Call<'_>) -> Result<bool, DiskError> {
         match call {
             Call::Write(file, at, octets) => self.write(file, at, octets),
             Call::Cut(file, count) => self.cut(file, count),
@@ -105,6 +107,34 @@ impl<D: Disk> Thawed<D> {
             }
         }
         Ok((passed, is_so))
+    }
+
+    /// Makes calls, each of which gives what it says.
+    pub(crate) fn give(&mut self, alloc: Global, calls: &[Call<'_>]) -> Result<(), Fail> {
+        for (index, call) in calls.iter().enumerate() {
+            if !self.gives(alloc, *call)? {
+                return Err(Fail::new(format_args!("call {index} gives something else")));
+            }
+        }
+        Ok(())
+    }
+
+    /// Makes calls, each of which is refused as a fault.
+    pub(crate) fn refuse(&mut self, alloc: Global, calls: &[Call<'_>]) -> Result<(), Fail> {
+        for (index, call) in calls.iter().enumerate() {
+            if self.gives(alloc, *call) != Err(DiskError::Fault) {
+                return Err(Fail::new(format_args!("call {index} isn't a fault")));
+            }
+        }
+        Ok(())
+    }
+
+    /// Settles a file and freezes it. Then the disk is given up.
+    pub(crate) fn freeze(self, file: u64) -> Result<D::Sealed, Fail> {
+        let mut disk = self.disk;
+        disk.length(file)?;
+        disk.sync(file)?;
+        Ok(disk.freeze(file)?)
     }
 
     /// Freezes a file that has just these octets, and removes it: whether it is so before, while and after it is

@@ -2,7 +2,7 @@
 ghost use Rattle.std.specs.Prelude.{◌≡◌, ℕ, false};
 
 use crate::calls::{Call, Thawed, memory};
-use crate::same::holds;
+use crate::holds::holds_at;
 use flow_disk::{Disk, DiskError};
 use flow_memory_disk::{FusedDisk, LyingDisk, OneFaultDisk, Room};
 use std::alloc::Global;
@@ -78,10 +78,10 @@ fn made_by(calls: u64) -> u64 {
 
 #[test]
 fn a_fuse_passes_so_many_calls(rt: HostRuntime) -> Result<(), Fail> {
-    holds(told_in_memory(rt.alloc())? == (11, true), 0)?;
+    holds_at(told_in_memory(rt.alloc())? == (11, true), 0)?;
     for calls in 0..ALL + 2 {
         let told = told_by_fuse(rt.alloc(), calls)?;
-        holds(told == (made_by(calls), true), calls)?;
+        holds_at(told == (made_by(calls), true), calls)?;
     }
     Ok(())
 }
@@ -105,13 +105,13 @@ const BAD_READS: [(u64, u64, u64); 4] = [(7, 0, 10), (7, 3, 10), (7, 4, 11), (2,
 fn one_call_fails(rt: HostRuntime) -> Result<(), Fail> {
     for (file, from, made) in BAD_READS {
         let told = told_with_bad_reads(rt.alloc(), file, from)?;
-        holds(told == (made, true), from)?;
+        holds_at(told == (made, true), from)?;
     }
     for call in 0..ALL + 2 {
         let (made, is_so) = told_but_one(rt.alloc(), call)?;
         let is_whole = call == 0 || call > ALL;
         let wanted = if is_whole { 11 } else { 10 };
-        holds(made == wanted && (is_so || !is_whole), call)?;
+        holds_at(made == wanted && (is_so || !is_whole), call)?;
     }
     Ok(())
 }
@@ -179,11 +179,11 @@ fn is_retired(alloc: Global, calls: usize) -> Result<bool, DiskError> {
 #[test]
 fn each_change_of_a_disk_with_no_room(rt: HostRuntime) -> Result<(), Fail> {
     let alloc = rt.alloc();
-    holds(passed_in_memory(alloc)? == (3, true), 0)?;
-    holds(passed_by_fuse(alloc)? == (3, true), 1)?;
-    holds(passed_without_fault(alloc)? == (3, true), 2)?;
+    holds_at(passed_in_memory(alloc)? == (3, true), 0)?;
+    holds_at(passed_by_fuse(alloc)? == (3, true), 1)?;
+    holds_at(passed_without_fault(alloc)? == (3, true), 2)?;
     let (lying, _) = passed_lying(alloc)?;
-    holds(lying == 3, 3)?;
-    holds(!is_retired(alloc, 2)?, 4)?;
-    holds(is_retired(alloc, 3)?, 5)
+    holds_at(lying == 3, 3)?;
+    holds_at(!is_retired(alloc, 2)?, 4)?;
+    holds_at(is_retired(alloc, 3)?, 5)
 }

@@ -2,7 +2,7 @@
 ghost use Rattle.std.specs.Prelude.{◌≡◌, ◌<◌, ◌≤◌, false, true, OnOk, IfOk};
 
 use crate::calls::memory;
-use crate::same::holds;
+use crate::holds::holds_at;
 use flow_disk::{Disk, DiskError, Faults, SealedFile};
 use flow_memory_disk::{LyingDisk, Room};
 use std::alloc::Global;
@@ -92,9 +92,9 @@ fn a_disk_lies_now_and_then(rt: HostRuntime) -> Result<(), Fail> {
             true_ones = true_ones.saturating_add(1);
         }
     }
-    holds(true_ones > 0 && true_ones < 50, true_ones)?;
+    holds_at(true_ones > 0 && true_ones < 50, true_ones)?;
     for count in kinds(rt.alloc())? {
-        holds(count > 10, count)?;
+        holds_at(count > 10, count)?;
     }
     Ok(())
 }

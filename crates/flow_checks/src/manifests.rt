@@ -1,5 +1,5 @@
 // A manifest, read, written, and read again.
-use crate::same::holds;
+use crate::holds::holds_at;
 use flow_manifest::{ManifestError, decode, encode, read_back};
 use std::alloc::Global;
 use std::test::Fail;
@@ -39,5 +39,5 @@ fn is_read(alloc: Global) -> Result<bool, ManifestError> {
 
 #[test]
 fn a_manifest_with_an_entry_of_each_kind(rt: HostRuntime) -> Result<(), Fail> {
-    holds(is_read(rt.alloc())?, 0)
+    holds_at(is_read(rt.alloc())?, 0)
 }

@@ -2,7 +2,7 @@
 ghost use Rattle.std.specs.Prelude.{◌≡◌, ℕ, true, false, OnOk};
 
 use crate::calls::{Call, Thawed, memory};
-use crate::same::holds;
+use crate::holds::holds_at;
 use flow_disk::{Disk, DiskError, SealedFile};
 use flow_memory_disk::{Choice, FusedDisk, MemoryDisk, OneFaultDisk, Room};
 use std::alloc::Global;
@@ -29,7 +29,7 @@ fn after<D: Disk>(alloc: Global, disk: D, calls: &[Call<'_>], passed: u64) -> Re
     let mut thawed = Thawed { disk };
     let (made, _) = thawed.make(alloc, calls)?;
     let Thawed { disk } = thawed;
-    holds(made == passed, passed)?;
+    holds_at(made == passed, passed)?;
     Ok(disk)
 }
 
@@ -78,10 +78,10 @@ fn restarts_as(alloc: Global, octets: &[u8]) -> Result<bool, Fail> {
 fn a_stop_leaves_what_is_chosen(rt: HostRuntime) -> Result<(), Fail> {
     let mut case = 0u64;
     for (choice, wanted) in &CHOICES {
-        holds(leaves(rt.alloc(), *choice, *wanted)?, case)?;
+        holds_at(leaves(rt.alloc(), *choice, *wanted)?, case)?;
         case = case.saturating_add(1);
     }
-    holds(restarts_as(rt.alloc(), &[1, 2, 5, 4, 6, 7, 8])?, 6)
+    holds_at(restarts_as(rt.alloc(), &[1, 2, 5, 4, 6, 7, 8])?, 6)
 }
 
 /// Calls on file 7 of which one meets a fault, on a disk that fails after so many calls, and what the file then reads
@@ -138,7 +138,7 @@ fn a_failed_call_leaves_the_file_and_a_failed_write_half(rt: HostRuntime) -> Res
     for (calls, left, passed, octets) in &FAILURES {
         let by_fuse = is_left_by_fuse(alloc, calls, (*left, *passed), octets)?;
         let by_one_fault = is_left_by_one_fault(alloc, calls, (*left, *passed), octets)?;
-        holds(by_fuse && by_one_fault, *left)?;
+        holds_at(by_fuse && by_one_fault, *left)?;
     }
     Ok(())
 }
@@ -197,6 +197,6 @@ fn is_left(alloc: Global) -> Result<bool, DiskError> {
 
 #[test]
 fn a_failed_call_leaves_a_frozen_file(rt: HostRuntime) -> Result<(), Fail> {
-    holds(is_frozen_at_last(rt.alloc())?, 0)?;
-    holds(is_left(rt.alloc())?, 1)
+    holds_at(is_frozen_at_last(rt.alloc())?, 0)?;
+    holds_at(is_left(rt.alloc())?, 1)
 }

@@ -6,15 +6,8 @@ use std::alloc::{AllocError, Global};
 use std::io::{Read, Write};
 use std::test::Fail;
 
-/// A template of elements 150, 4, 1 and 2, and a flow: 57 octets.
-pub(crate) const PLAIN: [u8; 57] = [
-    0x00, 0x0a, 0x00, 0x39, 0x65, 0x53, 0xf1, 0x00, 0, 0, 0, 0, 0, 0, 0, 7, 0, 2, 0, 0x18, 1, 0, 0,
-    4, 0, 0x96, 0, 4, 0, 4, 0, 1, 0, 1, 0, 4, 0, 2, 0, 4, 1, 0, 0, 0x11, 0x65, 0x53, 0xf1, 0, 6, 0,
-    0, 5, 0xdc, 0, 0, 0, 0x0a,
-];
-
-/// Its lines.
-pub(crate) const PLAIN_LINES: &str =
+/// The lines of `FLOW`.
+pub(crate) const FLOW_LINES: &str =
     "message 57 1700000000 0 7\nrecord 256 flowStartSeconds=1700000000 protocolIdentifier=6 \
      octetDeltaCount=1500 packetDeltaCount=10\n";
 

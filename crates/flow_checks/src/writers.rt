@@ -1,7 +1,8 @@
 //! Writers that take few octets at a time, fail, or are interrupted: the millionth interrupted call ends a run, counted
 //! over all writes of the run, whatever the lines.
 
-use crate::tasks::{PLAIN, PLAIN_LINES, Task, written};
+use crate::holds::FLOW;
+use crate::tasks::{FLOW_LINES, Task, written};
 use flow_measure::{Flow, Key, Row, Sums};
 use flow_report::{Format, Layout, Times};
 use std::alloc::{AllocError, Global};
@@ -103,10 +104,10 @@ fn writers_that_are_slow_or_fail(rt: HostRuntime) -> Result<(), Fail> {
         (1, 1),
     ] {
         for (task, lines) in [
-            (Task::Dump(&PLAIN), PLAIN_LINES),
-            (Task::Measure(Format::PLAIN, "300", &PLAIN), PLAIN_LINE),
-            (Task::Measure(CSV, "300", &PLAIN), PLAIN_CSV),
-            (Task::Measure(JSON_DATES, "300", &PLAIN), PLAIN_JSON),
+            (Task::Dump(&FLOW), FLOW_LINES),
+            (Task::Measure(Format::PLAIN, "300", &FLOW), PLAIN_LINE),
+            (Task::Measure(CSV, "300", &FLOW), PLAIN_CSV),
+            (Task::Measure(JSON_DATES, "300", &FLOW), PLAIN_JSON),
         ] {
             let is_so = takes(rt.alloc(), task, lines, (piece, room))?;
             assert!(rt; is_so, "{piece} of {room}");

@@ -134,7 +134,7 @@ fn retires(rt: &HostRuntime, folder: &str, octets: &[u8]) -> Result<bool, Fail> 
     if !octets.is_empty() {
         disk.give(rt.alloc(), &[Call::Write(3, 0, octets)])?;
     }
-    disk.retire(rt.alloc(), 3, octets)
+    Ok(disk.retire(rt.alloc(), 3, octets)?)
 }
 
 #[test]

@@ -1,6 +1,7 @@
 //! A reader that fails.
 
-use crate::tasks::{PLAIN, PLAIN_LINES, dumped};
+use crate::holds::FLOW;
+use crate::tasks::{FLOW_LINES, dumped};
 use std::alloc::Global;
 use std::io;
 use std::io::{ErrorKind, Read};
@@ -39,10 +40,10 @@ fn dumped_before(alloc: Global, octets: &[u8]) -> Result<String, Fail> {
 #[test]
 fn keeps_the_lines_before_a_failed_read(rt: HostRuntime) -> Result<(), Fail> {
     let alloc = rt.alloc();
-    let mut file = Vec::from_slice(alloc, PLAIN.as_slice())?;
-    file.extend_from_slice(PLAIN.as_slice())?;
-    let one = format!(in alloc; "{PLAIN_LINES}31 Read")?;
-    let both = format!(in alloc; "{PLAIN_LINES}{one}")?;
+    let mut file = Vec::from_slice(alloc, FLOW.as_slice())?;
+    file.extend_from_slice(FLOW.as_slice())?;
+    let one = format!(in alloc; "{FLOW_LINES}31 Read")?;
+    let both = format!(in alloc; "{FLOW_LINES}{one}")?;
     for count in 0..=file.len() {
         let text = dumped_before(alloc, &file[..count])?;
         let want = match count / 57 {
