@@ -8,4 +8,5 @@ mod Lines
 mod Jobs
 mod FileLines
 mod HandedOn
+mod KeptLines
 mod OneEach

@@ -1,6 +1,7 @@
 -- What `totals` and `flows` answer of a disk, and what they write.
 use Rattle.std.specs.Prelude.{◌≡◌, ◌⊎◌, ⊤, ℕ, true, List, Option}
 use Rattle.std.specs.Io.KnownBytes.{Appends, Keeps}
+use Rattle.std.specs.List.{flat_map}
 use Rattle.flow_measure.specs.declared.flow.Flow.{Flow}
 use Rattle.flow_measure.specs.declared.rows.Row.{Row}
 use Rattle.flow_measure.specs.Query.{flows_in_view, totals_in_view}
@@ -8,6 +9,7 @@ use Rattle.flow_measure.specs.View.{View}
 use Rattle.flow_snapshot.specs.declared.error.QueryError.{QueryError}
 use Rattle.flow_snapshot.specs.declared.error.QueryError.TheVariants as query
 use Rattle.flow_snapshot.specs.Sight.{Sight}
+use Rattle.flow_snapshot.specs.Told.{IsNoDamage}
 use Rattle.flow_model.specs.Views.{IsViewOf}
 use Rattle.flow_recover.specs.declared.error.RecoverError.{RecoverError}
 use Rattle.flow_recover.specs.Opening.{IsDeviceOrMemory, StandsForNone}
@@ -19,7 +21,8 @@ use Rattle.flow_commands.specs.declared.archive_refusal.ArchiveRefusal.TheVarian
 use Rattle.flow_commands.specs.declared.archive_refusal.ArchiveRefusal.TheVariants.{Query}
 use Rattle.flow_commands.specs.declared.archive_refusal.ArchiveRefusal.TheVariants.{OutOfMemory, Write}
 use Rattle.flow_report.specs.declared.format.Format.{Format}
-use Rattle.flow_report.specs.ArchiveLines.{flows_text, rows_text}
+use Rattle.flow_report.specs.ArchiveLines.{flow_line, flows_text, rows_text}
+use Rattle.flow_report.specs.Telling.{Tells, TellsFront}
 use Rattle.flow_commands.specs.Plans.{Span}
 use Rattle.flow_report.specs.Writing.{AppendsFront}
 
@@ -94,6 +97,22 @@ TellsNoLines lines has_answer reads old new OutOfMemory = Keeps old new
 TellsNoLines lines has_answer reads old new (Archive e) = ⊥
 TellsNoLines lines has_answer reads old new (Folder why) = ⊥
 
+-- a prefix of them was written
+abbrev pub TellsSome : (View → List ℕ) → (ℕ → List ℕ) → Option (List ℕ) → Option (List ℕ) → Type 0
+TellsSome lines reads old new = (text : List ℕ) × AreLinesOf lines reads text × AppendsFront old new text
+
+-- Lines that are written while the files are read ended early: once the archive was opened, after a prefix of them;
+-- damage is reported only where the view has no answer.
+abbrev pub TellsUpTo : (View → List ℕ) → (View → Type 0) → (ℕ → List ℕ) → Option (List ℕ) → Option (List ℕ)
+    → ArchiveRefusal → Type 0
+TellsUpTo lines has_answer reads old new (Opening e) = IsUnopened reads e × Keeps old new
+TellsUpTo lines has_answer reads old new (Query e) =
+    IsQueryFault has_answer reads e × TellsSome lines reads old new
+TellsUpTo lines has_answer reads old new (Write failed) = TellsSome lines reads old new
+TellsUpTo lines has_answer reads old new OutOfMemory = Keeps old new ⊎ TellsSome lines reads old new
+TellsUpTo lines has_answer reads old new (Archive e) = ⊥
+TellsUpTo lines has_answer reads old new (Folder why) = ⊥
+
 -- a view whose flows are asked for always has an answer
 abbrev pub Always : View → Type 0
 Always v = ⊤
@@ -119,6 +138,39 @@ WritesOrNot are (Query e) old new = Keeps old new
 WritesOrNot are OutOfMemory old new = Keeps old new
 WritesOrNot are (Archive e) old new = Keeps old new
 WritesOrNot are (Folder why) old new = Keeps old new
+
+-- A prefix of such lines, where writing or a query failed, or memory ran out; else nothing.
+abbrev pub WritesUpTo : (List ℕ → Type 0) → ArchiveRefusal → Option (List ℕ) → Option (List ℕ) → Type 0
+WritesUpTo are (Write failed) old new = (text : List ℕ) × are text × AppendsFront old new text
+WritesUpTo are (Query e) old new = (text : List ℕ) × are text × AppendsFront old new text
+WritesUpTo are OutOfMemory old new = (text : List ℕ) × are text × AppendsFront old new text
+WritesUpTo are (Opening e) old new = Keeps old new
+WritesUpTo are (Archive e) old new = Keeps old new
+WritesUpTo are (Folder why) old new = Keeps old new
+
+-- a refusal of what asks an archive that is open: a query's, of writing, or out of memory
+abbrev pub IsWhileAsking : ArchiveRefusal → Type 0
+IsWhileAsking (Query e) = ⊤
+IsWhileAsking (Write failed) = ⊤
+IsWhileAsking OutOfMemory = ⊤
+IsWhileAsking (Opening e) = ⊥
+IsWhileAsking (Archive e) = ⊥
+IsWhileAsking (Folder why) = ⊥
+
+-- and no damage
+abbrev pub IsBlameless : ArchiveRefusal → Type 0
+IsBlameless (Query e) = IsNoDamage e
+IsBlameless e = ⊤
+
+-- ---- lines of flows on their way
+
+-- the lines of some flows came after what was held: what was written, and what is still held
+abbrev pub HasSome : Format → Option (List ℕ) → List ℕ → Option (List ℕ) → List ℕ → Type 0
+HasSome format old held now left = (flows : List Flow) × Tells old held now left (flat_map (flow_line format) flows)
+
+-- or a prefix of them was written
+abbrev pub HasFront : Format → Option (List ℕ) → List ℕ → Option (List ℕ) → Type 0
+HasFront format old held now = (flows : List Flow) × TellsFront old held now (flat_map (flow_line format) flows)
 
 -- a refusal before anything is written
 abbrev pub IsBeforeWriting : ArchiveRefusal → Type 0

@@ -12,6 +12,7 @@ use Rattle.flow_feed.specs.declared.batch.FeedStop.TheVariants as stop
 use Rattle.flow_codec.specs.declared.losses.Losses.{Losses}
 use Rattle.flow_commands.specs.declared.warning.GapPart.{GapPart}
 use Rattle.flow_commands.specs.declared.warning.GapPart.TheVariants as gap
+use Rattle.flow_commands.specs.declared.warning.Lacks.{Lacks}
 use Rattle.flow_commands.specs.declared.warning.StopPlace.{StopPlace}
 use Rattle.flow_commands.specs.declared.warning.StopPlace.TheVariants.{OfFile, OfMessage, Unknown}
 use Rattle.flow_commands.specs.declared.warning.UnreadPart.{UnreadPart}
@@ -69,3 +70,18 @@ abbrev pub gap_text : GapPart → List ℕ
 gap_text gap.Nothing = []
 gap_text (gap.Gaps missing gaps) =
     decimal missing ++ codes " records are missing, in " ++ decimal gaps ++ codes " gaps of sequence numbers"
+
+-- ---- both
+
+-- nothing is said where there is nothing of either
+abbrev pub lacks_in : UnreadPart → GapPart → Option Lacks
+lacks_in unread.Nothing gap.Nothing = None
+lacks_in unread gaps = Some (record { unread = unread; gaps = gaps })
+
+abbrev pub lacks_of : Losses → Option Lacks
+lacks_of losses = lacks_in (unread_part losses) (gap_part losses)
+
+abbrev pub lacks_text : UnreadPart → GapPart → List ℕ
+lacks_text unread.Nothing gaps = gap_text gaps
+lacks_text unread gap.Nothing = unread_text unread
+lacks_text unread gaps = unread_text unread ++ (codes "; " ++ gap_text gaps)

@@ -1,54 +1,98 @@
 //! The command `flows`.
 
 ghost use Rattle.std.specs.Prelude.{◌≡◌, ◌≢◌, List, ℕ, false, IsTrue, OnOk, IfOk, IfErr};
+ghost use Rattle.std.specs.List.{flat_map};
+ghost use Rattle.std.specs.Io.KnownBytes.{Appends};
 ghost use Rattle.flow_disk.specs.Cause.{HasCause};
 ghost use Rattle.flow_manifest.specs.Slots.{reads_of};
 ghost use Rattle.flow_archive.specs.Beginning.{answer_of, disk_of};
 ghost use Rattle.flow_model.specs.Standing.{StandsFor};
 ghost use Rattle.flow_commands.specs.declared.archive_refusal.ArchiveRefusal.TheVariants as refusal;
 ghost use Rattle.flow_commands.specs.Opened.{IsAsked, IsHandedOn, KeepsArchive};
-ghost use Rattle.flow_commands.specs.Asking.{Always, AreFlows, AreLinesOf, IsBeforeWriting, IsNotFound, TellsLines};
-ghost use Rattle.flow_commands.specs.Asking.{TellsNoLines};
-ghost use Rattle.flow_commands.specs.Asking.{Writes, WritesOrNot, flows_lines};
-ghost use Rattle.flow_report.specs.declared.format.Format.{Format};
-ghost use Rattle.flow_report.specs.ArchiveLines.{flows_text};
+ghost use Rattle.flow_commands.specs.Asking.{flows_lines, Always, AreFlows, IsBlameless, IsWhileAsking, TellsLines};
+ghost use Rattle.flow_commands.specs.Asking.{HasFront, HasSome, TellsUpTo, Writes, WritesUpTo};
+ghost use Rattle.flow_measure.specs.Query.{flows_in_view};
+ghost use Rattle.flow_measure.specs.View.{View};
+ghost use Rattle.flow_model.specs.Views.{IsViewOf};
+ghost use Rattle.flow_report.specs.ArchiveLines.{flow_line};
+ghost use Rattle.flow_report.specs.Telling.{Tells, TellsFront};
+ghost use Rattle.flow_report.specs.Writing.{AppendsFront};
 
 use crate::archive_refusal::ArchiveRefusal;
 use crate::asking::to_ask;
 use crate::ending::ended;
 use crate::plan::StartSpan;
 use flow_archive::{Archive, Refused};
-use flow_disk::{Disk, Faults};
+use flow_disk::{Disk, Faults, SealedFile};
 use flow_folder::{FolderDisk, Lockable};
-use flow_measure::Flow;
 use flow_recover::RecoverError;
-use flow_report::{Format, write_flows};
-use flow_snapshot::QueryError;
+use flow_report::{FlowLines, Format};
+use flow_snapshot::{QueryError, Snapshot};
 use std::alloc::{AllocGlobal, Global};
 use std::fs::Files;
 use std::io::Write;
 use std::os::unix::fs::FileExt;
 
-/// Asks an archive for the flows of its kept messages.
-fn find_flows<D: Disk>(
+/// Takes the lines of a snapshot's flows that start in a span, those of one file after the other: no more flows are held
+/// than one file has. They go to the writer as they come.
+fn tell_kept<S: SealedFile, W: Write>(
     alloc: Global,
-    archive: &mut Archive<D>,
+    snapshot: &Snapshot<S>,
     span: &StartSpan,
-    faults: &mut Faults<D::Sealed>,
-) -> Result<Vec<Flow>, ArchiveRefusal>
-    ensures asked { IsAsked archive.old archive.new }
-    ensures lines { IsTrue (D.honest archive.old.disk) → (reads : ℕ → List ℕ) → StandsFor reads archive.old.state
-        → IfOk result (λ found. (format : Format) → AreLinesOf (flows_lines format span.now) reads
-        (flows_text format found.items)) }
-    ensures refused { IsTrue (D.honest archive.old.disk) → (reads : ℕ → List ℕ) → StandsFor reads archive.old.state
-        → IfErr result (IsNotFound Always reads) }
-    ensures unwritten { IfErr result (λ e. IsBeforeWriting e) }
-    ensures opened { IfErr result (λ e. e ≢ refusal.Opening RecoverError.Fault) }
+    lines: &mut FlowLines,
+    output: &mut W,
+    faults: &mut Faults<S>,
+) -> Result<(), ArchiveRefusal>
+    // On every disk: the lines of some flows, or a prefix of such lines.
+    ensures all { OnOk result (HasSome lines.old.format (W.contents output.old) lines.old.held
+        (W.contents output.new) lines.new.held) }
+    ensures some { IfErr result (λ e. IsWhileAsking e × HasFront lines.old.format (W.contents output.old) lines.old.held
+        (W.contents output.new)) }
+    // On honest ones: those of each view of the files, or a prefix of these, and no damage is reported.
+    ensures told { IsTrue snapshot.now.honest → (v : View) → IsViewOf snapshot.now.shelf v
+        → OnOk result (Tells (W.contents output.old) lines.old.held (W.contents output.new) lines.new.held
+        (flat_map (flow_line lines.old.format) (flows_in_view span.now.from span.now.to v))) }
+    ensures cut { IsTrue snapshot.now.honest → (v : View) → IsViewOf snapshot.now.shelf v
+        → IfErr result (λ e. IsBlameless e × TellsFront (W.contents output.old) lines.old.held
+        (W.contents output.new) (flat_map (flow_line lines.old.format)
+        (flows_in_view span.now.from span.now.to v))) }
     ensures cause { HasCause (refusal.Query QueryError.Fault) faults.old faults.new result }
 {
-    let asked = to_ask(alloc, archive)?;
-    let flows = asked.snapshot.flows(alloc, span.from(), span.to(), faults)?;
-    Ok(flows)
+    let (from, to) = (span.from(), span.to());
+    let mut templates = snapshot.templates(alloc, faults)?;
+    let files = snapshot.kept_files();
+    for at in 0..files {
+        let flows = snapshot.flows_of_file(alloc, at, &mut templates, from, to, faults)?;
+        lines.put(output, flows.as_slice())?;
+    }
+    Ok(())
+}
+
+/// Writes the lines of a snapshot's flows that start in a span, with their heading.
+fn write_kept<S: SealedFile, W: Write>(
+    alloc: Global,
+    snapshot: &Snapshot<S>,
+    span: &StartSpan,
+    format: Format,
+    output: &mut W,
+    faults: &mut Faults<S>,
+) -> Result<(), ArchiveRefusal>
+    // On every disk: the lines of some flows, or a prefix of such lines.
+    ensures written { OnOk result (Writes (AreFlows format) (W.contents output.old) (W.contents output.new)) }
+    ensures some { IfErr result (λ e. IsWhileAsking e
+        × WritesUpTo (AreFlows format) e (W.contents output.old) (W.contents output.new)) }
+    // On honest ones: those of each view of the files, or a prefix of these, and no damage is reported.
+    ensures told { IsTrue snapshot.now.honest → (v : View) → IsViewOf snapshot.now.shelf v
+        → OnOk result (Appends (W.contents output.old) (W.contents output.new) (flows_lines format span.now v)) }
+    ensures cut { IsTrue snapshot.now.honest → (v : View) → IsViewOf snapshot.now.shelf v
+        → IfErr result (λ e. IsBlameless e
+        × AppendsFront (W.contents output.old) (W.contents output.new) (flows_lines format span.now v)) }
+    ensures cause { HasCause (refusal.Query QueryError.Fault) faults.old faults.new result }
+{
+    let mut lines = FlowLines::new(alloc, format)?;
+    tell_kept(alloc, snapshot, span, &mut lines, output, faults)?;
+    lines.end(output)?;
+    Ok(())
 }
 
 /// Writes the lines of an archive's flows.
@@ -65,21 +109,22 @@ fn list<D: Disk, W: Write>(
         → OnOk result (TellsLines (flows_lines format span.now) reads (W.contents output.old)
         (W.contents output.new)) }
     ensures refused { IsTrue (D.honest archive.old.disk) → (reads : ℕ → List ℕ) → StandsFor reads archive.old.state
-        → IfErr result (TellsNoLines (flows_lines format span.now) Always reads (W.contents output.old)
+        → IfErr result (TellsUpTo (flows_lines format span.now) Always reads (W.contents output.old)
         (W.contents output.new)) }
     ensures written { OnOk result (Writes (AreFlows format) (W.contents output.old) (W.contents output.new)) }
-    ensures kept { IfErr result (λ e. WritesOrNot (AreFlows format) e (W.contents output.old) (W.contents output.new)) }
+    ensures kept { IfErr result (λ e. WritesUpTo (AreFlows format) e (W.contents output.old) (W.contents output.new)) }
     ensures opened { IfErr result (λ e. e ≢ refusal.Opening RecoverError.Fault) }
     ensures cause { HasCause (refusal.Query QueryError.Fault) faults.old faults.new result }
 {
-    let found = find_flows(alloc, archive, span, faults)?;
-    write_flows(alloc, found.as_slice(), format, output)?;
-    Ok(())
+    let asked = to_ask(alloc, archive)?;
+    write_kept(alloc, &asked.snapshot, span, format, output, faults)
 }
 
 /// Opens the archive on a disk, of which nothing is frozen, and writes the lines of the flows that aren't rolled and
-/// start in a span: START DOMAIN PROTOCOL OCTETS PACKETS, in the order in which they were taken in. It hands the
-/// archive on, or gives the disk back.
+/// start in a span: START DOMAIN PROTOCOL OCTETS PACKETS, in the order in which they were taken in. They are written
+/// while the files are read, one after the other: a refusal of the opening comes before anything is written, and a later
+/// one, a read that failed or out of memory, after a prefix of the lines. It hands the archive on, or gives the disk
+/// back.
 pub fn flows<D: Disk, W: Write>(
     alloc: Global,
     disk: D,
@@ -94,12 +139,12 @@ pub fn flows<D: Disk, W: Write>(
     ensures told { IsTrue (D.honest disk) → OnOk result
         (TellsLines (flows_lines format span.now) (reads_of (D.held disk)) (W.contents output.old)
         (W.contents output.new)) }
-    ensures refused { IsTrue (D.honest disk) → IfErr result (λ r. TellsNoLines (flows_lines format span.now) Always
+    ensures refused { IsTrue (D.honest disk) → IfErr result (λ r. TellsUpTo (flows_lines format span.now) Always
         (reads_of (D.held disk)) (W.contents output.old) (W.contents output.new) r.error) }
     // And whatever the disk:
     ensures written { OnOk result (Writes (AreFlows format) (W.contents output.old) (W.contents output.new)) }
     ensures kept { IfErr result
-        (λ r. WritesOrNot (AreFlows format) r.error (W.contents output.old) (W.contents output.new)) }
+        (λ r. WritesUpTo (AreFlows format) r.error (W.contents output.old) (W.contents output.new)) }
     ensures honest { D.honest (disk_of result) ≡ D.honest disk }
     // A stop at any moment leaves what opens as the archive that was there, and that is the one that is handed on.
     ensures any_moment { KeepsArchive D.Disk disk (disk_of result) }
@@ -138,7 +183,7 @@ pub fn flows_in<H: Files + AllocGlobal + Clone + Drop, W: Write>(
 where
     H::File: FileExt + Lockable,
     ensures written { OnOk result (Writes (AreFlows format) (W.contents output.old) (W.contents output.new)) }
-    ensures kept { IfErr result (λ e. WritesOrNot (AreFlows format) e (W.contents output.old) (W.contents output.new)) }
+    ensures kept { IfErr result (λ e. WritesUpTo (AreFlows format) e (W.contents output.old) (W.contents output.new)) }
 {
     let disk = FolderDisk::new(rt, folder)?;
     let faults = &mut Faults::new();

@@ -1,8 +1,8 @@
 //! What a warning says of a File that stopped, or whose messages show that records aren't read.
 
 ghost use Rattle.std.specs.Prelude.{◌≡◌, Some};
-ghost use Rattle.flow_commands.specs.Warnings.{gap_part, gap_text, message_place, place_text, stop_place, stream_place};
-ghost use Rattle.flow_commands.specs.Warnings.{unread_part, unread_text};
+ghost use Rattle.flow_commands.specs.Warnings.{gap_part, gap_text, lacks_of, lacks_text, message_place, place_text};
+ghost use Rattle.flow_commands.specs.Warnings.{stop_place, stream_place, unread_part, unread_text};
 
 use crate::feed_line::stop_name;
 use crate::progress::Progress;
@@ -201,24 +201,25 @@ struct Lacks {
 
 impl Lacks {
     /// Nothing where they don't.
-    fn of(losses: Losses) -> Option<Lacks> {
-        let unread = unread_part(losses);
-        let gaps = gap_part(losses);
-        if unread == UnreadPart::Nothing && gaps == GapPart::Nothing {
-            return None;
+    fn of(losses: Losses) -> Option<Lacks>
+        ensures { result ≡ lacks_of losses }
+    {
+        match (unread_part(losses), gap_part(losses)) {
+            (UnreadPart::Nothing, GapPart::Nothing) => None,
+            (unread, gaps) => Some(Lacks { unread, gaps }),
         }
-        Some(Lacks { unread, gaps })
     }
 }
 
 impl fmt::Display for Lacks {
+    ghost output = { λ lacks. Some (lacks_text lacks.unread lacks.gaps) };
+
     fn fmt<W: fmt::Write>(&self, f: &mut fmt::Formatter<W>) -> fmt::Result {
-        let between = if self.unread == UnreadPart::Nothing || self.gaps == GapPart::Nothing {
-            ""
-        } else {
-            "; "
-        };
-        write!(f, "{}{}{}", self.unread, between, self.gaps)
+        match (self.unread, self.gaps) {
+            (UnreadPart::Nothing, gaps) => write!(f, "{gaps}"),
+            (unread, GapPart::Nothing) => write!(f, "{unread}"),
+            (unread, gaps) => write!(f, "{unread}; {gaps}"),
+        }
     }
 }
 

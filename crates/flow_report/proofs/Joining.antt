@@ -70,6 +70,28 @@ front_written a b text p =
       subst (λ (t : List ℕ). Appends a b t) (sym same) p.1.grown,
     )
 
+-- with what was held before
+pub with_held : (a b : Option (List ℕ)) (held left text : List ℕ) → Tells a held b left text
+    → Tells a [] b left (held ++ text)
+with_held a b held left text told =
+    tells_then a a b [] held left held text (holds_more a [] held held refl) told
+
+pub with_held_cut : (a b : Option (List ℕ)) (held text : List ℕ) → TellsFront a held b text
+    → AppendsFront a b (held ++ text)
+with_held_cut a b held text told =
+    front_written a b (held ++ text) (stops_then a a b [] held held text (holds_more a [] held held refl) told)
+
+-- what is held in the end is written too
+pub ends : (a b c : Option (List ℕ)) (held text : List ℕ) → Tells a [] b held text → Appends b c held → Appends a c text
+ends a b c held text p rest =
+    subst (λ (t : List ℕ). Appends a c t) (sym p.parts) (Appends-trans a b c p.written held p.grown rest)
+
+pub ends_cut : (a b c : Option (List ℕ)) (held text : List ℕ) → Tells a [] b held text → AppendsFront b c held
+    → AppendsFront a c text
+ends_cut a b c held text p rest =
+    front_written a c text (subst (λ (t : List ℕ). TellsFront a [] c t) (append-nil text)
+    (stops_then a b c [] held text [] p (front_told b c held rest)))
+
 -- ---- text of many pieces
 
 -- of this text a prefix has come, and the rest is still to come

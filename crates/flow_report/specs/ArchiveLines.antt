@@ -60,3 +60,8 @@ flow_names = codes "start" ∷ codes "domain" ∷ codes "protocol" ∷ codes "oc
 
 abbrev pub flows_text : Format → List Flow → List ℕ
 flows_text format flows = heading format.layout flow_names ++ flat_map (flow_line format) flows
+
+-- Lines of flows on their way to a writer: their format, and the octets that are not written yet.
+pub record FlowText : Type 0 where
+  pub format : Format
+  pub held : List ℕ

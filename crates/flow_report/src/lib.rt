@@ -25,7 +25,7 @@ mod values;
 mod width;
 
 pub use dumping::dump;
-pub use flows::write_flows;
+pub use flows::{FlowLines, write_flows};
 pub use format::{Format, Layout, Times};
 pub use measuring::measure;
 pub use numbers::number_between;

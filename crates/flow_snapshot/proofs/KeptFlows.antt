@@ -102,7 +102,7 @@ taken_next Has More before messages here left templates after n moved has = reco
   has = has;
 }
 
-no_octets : (ms : List Accepted) → octets_of ms ≡ [] → ms ≡ []
+pub no_octets : (ms : List Accepted) → octets_of ms ≡ [] → ms ≡ []
 no_octets [] h = refl
 no_octets (m ∷ ms) h = absurd cc
 

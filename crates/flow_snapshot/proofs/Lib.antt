@@ -12,3 +12,4 @@ pub mod Finding
 pub mod Whole
 pub mod Standing
 pub mod Dealt
+pub mod ByFile

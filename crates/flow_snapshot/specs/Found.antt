@@ -1,10 +1,12 @@
 -- What has been read where a query is answered, also of files that are damaged.
-use Rattle.std.specs.Prelude.{◌≡◌, ◌⊎◌, ℕ, zero, suc, ◌+◌, ◌≤◌, ◌<◌, List, [], ◌∷◌, ◌++◌, length, Option, Some, None}
+use Rattle.std.specs.Prelude.{◌≡◌, ◌⊎◌, ℕ, zero, suc, ◌+◌, ◌≤◌, ◌<◌, List, [], ◌∷◌, ◌++◌, length, map, Option, Some, None}
 use Rattle.std.specs.Prelude.{slice_get}
 use Rattle.flow_codec.specs.Cutting.{IsCutOff, IsDivided}
 use Rattle.flow_codec.specs.Templates.{AllTemplates}
-use Rattle.flow_measure.specs.History.{Accepted, AreAcceptedFrom}
+use Rattle.flow_measure.specs.declared.flow.Flow.{Flow}
+use Rattle.flow_measure.specs.History.{flows_in, templates_from, Accepted, AreAcceptedFrom}
 use Rattle.flow_segment.specs.Carry.{octets_of}
+use Rattle.flow_segment.specs.PartFlows.{flows_within}
 use Rattle.flow_model.specs.Shelf.{Segment, Shelf, cut_of, messages_in, position_of}
 
 -- ---- all files
@@ -13,6 +15,17 @@ use Rattle.flow_model.specs.Shelf.{Segment, Shelf, cut_of, messages_in, position
 abbrev pub AreAccepted : AllTemplates → List (List ℕ) → Type 0
 AreAccepted before octets =
     (messages : List Accepted) × AreAcceptedFrom before messages × (octets_of messages ≡ octets)
+
+-- These octets are messages, each accepted after those before it, the first one after the templates before; the flows
+-- are those of them that start in a span, and the templates after are those after the last one.
+abbrev pub HaveFlows : List (List ℕ) → AllTemplates → ℕ → ℕ → AllTemplates → List Flow → Type 0
+HaveFlows octets before from to after flows =
+    (messages : List Accepted) × AreAcceptedFrom before messages × (octets_of messages ≡ octets)
+    × (after ≡ templates_from before messages) × (flows ≡ flows_within from to (flows_in messages))
+
+-- the kept messages of each file: of the sealed segments, and of the active one
+abbrev pub kept_by_file : Shelf → List (List (List ℕ))
+kept_by_file s = map (λ g. g.messages) s.sealed ++ s.active ∷ []
 
 -- ---- one message
 

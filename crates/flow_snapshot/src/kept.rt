@@ -11,9 +11,9 @@ ghost use Rattle.flow_segment.specs.Carry.{octets_of};
 ghost use Rattle.flow_segment.specs.PartFlows.{flows_within, AreCollected};
 ghost use Rattle.flow_segment.specs.Prefix.{IsRestated};
 ghost use Rattle.flow_snapshot.specs.Files.{is_honest, segment_of, shared};
-ghost use Rattle.flow_snapshot.specs.Found.{AreAccepted};
+ghost use Rattle.flow_snapshot.specs.Found.{AreAccepted, HaveFlows};
 ghost use Rattle.flow_model.specs.Shelf.{messages_in};
-ghost use Rattle.flow_snapshot.specs.Told.{IsAnswered};
+ghost use Rattle.flow_snapshot.specs.Told.{IsAnswered, IsFound};
 
 use crate::error::QueryError;
 use bytes::Bytes;
@@ -124,7 +124,32 @@ pub(crate) fn collect_sealed<S: SealedFile>(
     Ok(())
 }
 
-/// The same of messages in memory.
+/// The flows of one sealed segment's messages that start from `from` on and before `to`.
+pub(crate) fn flows_of_segment<S: SealedFile>(
+    alloc: Global,
+    part: &SealedPart<S>,
+    templates: &mut Templates,
+    from: u64,
+    to: u64,
+    faults: &mut Faults<S>,
+) -> Result<Vec<Flow>, ScanError>
+    ensures cause { HasCause ScanError.Fault faults.old faults.new result }
+    // On an honest disk: all its messages are accepted after the templates given, and the flows are theirs.
+    ensures found { IsTrue (is_honest part.now) → IfOk result
+        (λ flows. HaveFlows (segment_of part.now).messages templates.old from to templates.new flows.items) }
+    ensures given { IsTrue (is_honest part.now) → (messages : List Accepted)
+        → AreAcceptedFrom templates.old messages → octets_of messages ≡ (segment_of part.now).messages
+        → IsFound (λ flows. (templates.new ≡ templates_from templates.old messages)
+        × (flows.items ≡ flows_within from to (flows_in messages))) result }
+{
+    let mut flows = Vec::new(alloc);
+    if part.messages > 0 {
+        collect_flows(alloc, part, templates, from, to, &mut flows, faults)?;
+    }
+    Ok(flows)
+}
+
+/// Appends the flows of messages in memory that start from `from` on and before `to` to a list.
 pub(crate) fn collect_active(
     alloc: Global,
     messages: &[Bytes],
@@ -149,4 +174,24 @@ pub(crate) fn collect_active(
     }
     *flows = chosen.flows;
     Ok(())
+}
+
+/// The flows of messages in memory that start from `from` on and before `to`.
+pub(crate) fn flows_of_active(
+    alloc: Global,
+    messages: &[Bytes],
+    templates: &mut Templates,
+    from: u64,
+    to: u64,
+) -> Result<Vec<Flow>, QueryError>
+    ensures found { IfOk result
+        (λ flows. HaveFlows messages.now templates.old from to templates.new flows.items) }
+    ensures given { (list : List Accepted) → AreAcceptedFrom templates.old list → octets_of list ≡ messages.now
+        → IsAnswered (λ flows. (templates.new ≡ templates_from templates.old list)
+        × (flows.items ≡ flows_within from to (flows_in list))) result }
+    ensures quiet { IfErr result (λ e. e ≢ QueryError.Fault) }
+{
+    let mut flows = Vec::new(alloc);
+    collect_active(alloc, messages, templates, from, to, &mut flows)?;
+    Ok(flows)
 }

@@ -1,19 +1,21 @@
 //! A snapshot, and what is asked of it.
 
-ghost use Rattle.std.specs.Prelude.{◌≡◌, ◌+◌, ◌<◌, ℕ, length, min, IfOk, IsTrue, List, OnOk};
+ghost use Rattle.std.specs.Prelude.{◌≡◌, ◌+◌, ◌<◌, ◌≤◌, ℕ, length, min, slice_get, IfOk, IsTrue, List, OnOk};
+ghost use Rattle.std.specs.Prelude.{Some};
 ghost use Rattle.std.specs.FinMap.{FinMap};
 ghost use Rattle.flow_codec.specs.Templates.{AllTemplates};
 ghost use Rattle.flow_disk.specs.Cause.{HasCause};
-ghost use Rattle.flow_measure.specs.History.{flows_in, Accepted, History, IsHistory};
+ghost use Rattle.flow_measure.specs.History.{flows_in, templates_from, Accepted, AreAcceptedFrom, History, IsHistory};
 ghost use Rattle.flow_measure.specs.Query.{flows_in_view, message_in_view, narrow_table_in, totals_between};
 ghost use Rattle.flow_measure.specs.Query.{rows_of_both, totals_in_view};
 ghost use Rattle.flow_measure.specs.declared.rows.Sums.{Sums};
 ghost use Rattle.flow_measure.specs.Sums.{key_cmp, AllFit};
 ghost use Rattle.flow_measure.specs.View.{view_of, AreCountsOf, View};
+ghost use Rattle.flow_segment.specs.Carry.{octets_of};
 ghost use Rattle.flow_segment.specs.PartFlows.{flows_within, with_flows};
 ghost use Rattle.flow_segment.specs.Prefix.{IsRestated};
 ghost use Rattle.flow_snapshot.specs.Directories.{sight_of};
-ghost use Rattle.flow_snapshot.specs.Found.{IsMessageAt};
+ghost use Rattle.flow_snapshot.specs.Found.{kept_by_file, HaveFlows, IsMessageAt};
 ghost use Rattle.flow_model.specs.Views.{first_prefix, AreKept, IsReadIn};
 ghost use Rattle.flow_snapshot.specs.Shares.{narrow_turn, own, summed, AllPartsFit, AreNarrow, AreShares, AreWide};
 ghost use Rattle.flow_snapshot.specs.Shares.{HaveSums, IsFileSum, IsNarrowRead, IsShare};
@@ -26,7 +28,7 @@ use crate::counting::{rolled_count, sealed_count};
 use crate::error::QueryError;
 use crate::files::Files;
 use crate::interleaving::rows_of_both;
-use crate::kept::{collect_active, collect_sealed, restated};
+use crate::kept::{collect_active, collect_sealed, flows_of_active, flows_of_segment, restated};
 use crate::numbered::sealed_message;
 use crate::shares::{
     PartSums, Share, add_own_active, add_own_files, add_own_segments, add_share, answer_of,
@@ -112,8 +114,8 @@ impl<S: SealedFile> Snapshot<S> {
         self.files.sealed.len() as u64
     }
 
-    /// The templates in force before the first kept message.
-    fn templates(&self, alloc: Global, faults: &mut Faults<S>) -> Result<Templates, QueryError>
+    /// The templates in force before the first kept message. It refuses as `flows` does.
+    pub fn templates(&self, alloc: Global, faults: &mut Faults<S>) -> Result<Templates, QueryError>
         ensures cause { HasCause QueryError.Fault faults.old faults.new result }
         ensures found { IsTrue self.now.honest → IfOk result
             (λ templates. IsRestated (first_prefix self.now.shelf.sealed self.now.shelf.prefix) templates) }
@@ -154,6 +156,46 @@ impl<S: SealedFile> Snapshot<S> {
         let active = self.files.active.as_slice();
         collect_active(alloc, active, &mut templates, from, to, &mut flows)?;
         Ok(flows)
+    }
+
+    /// How many files have kept messages: the sealed segments, and the active one.
+    pub fn kept_files(&self) -> u64
+        ensures { result ≡ length self.now.shelf.sealed + 1 }
+    {
+        self.files.sealed.len() as u64 + 1
+    }
+
+    /// The flows of one file's kept messages that start from `from` on and before `to`, as `flows` has them. Files have
+    /// places from 0 on: the sealed segments, the oldest first, and after them the active one. The templates given are
+    /// those in force before its first message, for the file at place 0 as `templates` answers them; after `Ok` they
+    /// are those after its last message, for the next file. It refuses as `flows` does. Only this file is read, a piece
+    /// at a time.
+    pub fn flows_of_file(
+        &self,
+        alloc: Global,
+        at: u64,
+        templates: &mut Templates,
+        from: u64,
+        to: u64,
+        faults: &mut Faults<S>,
+    ) -> Result<Vec<Flow>, QueryError>
+        requires { at ≤ length self.now.shelf.sealed }
+        ensures cause { HasCause QueryError.Fault faults.old faults.new result }
+        // On honest disks, also where files are damaged: its messages are accepted, and the flows are theirs.
+        ensures found { IsTrue self.now.honest → (octets : List (List ℕ))
+            → slice_get (kept_by_file self.now.shelf) at ≡ Some octets
+            → IfOk result (λ flows. HaveFlows octets templates.old from to templates.new flows.items) }
+        // Where these are accepted messages, their flows are answered; damage is reported only where they are none.
+        ensures given { IsTrue self.now.honest → (octets : List (List ℕ))
+            → slice_get (kept_by_file self.now.shelf) at ≡ Some octets → (messages : List Accepted)
+            → AreAcceptedFrom templates.old messages → octets_of messages ≡ octets
+            → IsAnswered (λ flows. (templates.new ≡ templates_from templates.old messages)
+            × (flows.items ≡ flows_within from to (flows_in messages))) result }
+    {
+        match self.files.sealed.get(at as usize) {
+            Some(part) => Ok(flows_of_segment(alloc, part, templates, from, to, faults)?),
+            None => flows_of_active(alloc, self.files.active.as_slice(), templates, from, to),
+        }
     }
 
     /// The octets of the message with this number, if it is kept: where it is above `cut` and not above `position`. It

@@ -22,7 +22,7 @@ use Rattle.flow_manifest.specs.declared.following.JobKind.TheVariants.{Roll, Mer
 use Rattle.flow_commands.specs.Feeding.{FeedsLines, KeepsOrFeeds}
 use Rattle.flow_commands.specs.Rolling.{IsJobLine}
 use Rattle.flow_commands.specs.ArchiveFiles.{AreListings}
-use Rattle.flow_commands.specs.Asking.{AreFlows, AreRows, Writes, WritesOrNot}
+use Rattle.flow_commands.specs.Asking.{AreFlows, AreRows, Writes, WritesOrNot, WritesUpTo}
 use Rattle.flow_words.specs.Arguments.{has_input}
 use Rattle.flow_words.specs.CommandLine.{asked}
 use Rattle.flow_words.specs.Inspecting.{InspectEnds}
@@ -64,6 +64,13 @@ abbrev pub AskEnds : (List ℕ → Type 0) → Option (List ℕ) → Option (Lis
 AskEnds are old new before after status =
     ((status ≡ 0) × Keeps before after × Writes are old new)
     ⊎ IsEndedBy (λ e. WritesOrNot are e old new) before after status
+
+-- a command that writes such lines while it reads the archive's files
+abbrev pub ListEnds : (List ℕ → Type 0) → Option (List ℕ) → Option (List ℕ) → Option (List ℕ) → Option (List ℕ) → ℕ
+    → Type 0
+ListEnds are old new before after status =
+    ((status ≡ 0) × Keeps before after × Writes are old new)
+    ⊎ IsEndedBy (λ e. WritesUpTo are e old new) before after status
 
 -- `feed` of so many Files: a line for each, with the status of the first that stopped, and nothing on standard error
 abbrev pub FeedEnds : ℕ → Option (List ℕ) → Option (List ℕ) → Option (List ℕ) → Option (List ℕ) → ℕ → Type 0
@@ -115,7 +122,7 @@ Runs (CheckFiles folder) input left old new before after status =
 Runs (Totals folder span workers format) input left old new before after status =
     Keeps input left × AskEnds (AreRows format) old new before after status
 Runs (Flows folder span format) input left old new before after status =
-    Keeps input left × AskEnds (AreFlows format) old new before after status
+    Keeps input left × ListEnds (AreFlows format) old new before after status
 Runs (Feed folder plan files) input left old new before after status =
     (has_input files ≡ false → Keeps input left) × FeedEnds (length files) old new before after status
 Runs (Shell folder keep) input left old new before after status = ShellEnds before after status

@@ -10,14 +10,14 @@ ghost use Rattle.flow_words.specs.Printed.{first_word, kind_text, told_lines, wo
 ghost use Rattle.flow_report.specs.Writing.{AppendsFront};
 ghost use Rattle.flow_commands.specs.Archives.{archive_printed, archive_status};
 ghost use Rattle.flow_commands.specs.ArchiveFiles.{AreListings};
-ghost use Rattle.flow_commands.specs.Asking.{AreFlows, AreRows, Writes, WritesOrNot};
+ghost use Rattle.flow_commands.specs.Asking.{AreFlows, AreRows, Writes, WritesOrNot, WritesUpTo};
 ghost use Rattle.flow_commands.specs.declared.archive_refusal.ArchiveRefusal.TheVariants as refusal;
 ghost use Rattle.flow_commands.specs.declared.folder_fault.FolderFault.TheVariants as fault;
 ghost use Rattle.flow_commands.specs.Feeding.{FeedsLines, KeepsOrFeeds};
 ghost use Rattle.flow_commands.specs.Rolling.{IsJobLine};
 ghost use Rattle.flow_words.specs.Arguments.{has_input, span_at};
-ghost use Rattle.flow_words.specs.Run.{AskEnds, CheckEnds, CreateEnds, FeedEnds, Runs, IsArchiveTold, IsHelp, IsTold};
-ghost use Rattle.flow_words.specs.Run.{ShellEnds, AreWordsLines, AreWordsTold};
+ghost use Rattle.flow_words.specs.Run.{AskEnds, CheckEnds, CreateEnds, FeedEnds, ListEnds, Runs, ShellEnds};
+ghost use Rattle.flow_words.specs.Run.{AreWordsLines, AreWordsTold, IsArchiveTold, IsHelp, IsTold};
 ghost use Rattle.flow_words.specs.Run.{IsRefusalTold, IsAnswered, IsShown};
 ghost use Rattle.flow_words.specs.declared.request.Request.TheVariants as asked;
 
@@ -420,7 +420,7 @@ fn write_flows<H: Files + AllocGlobal + Clock + Clone + Drop, W: Write>(
 where
     H::File: FileExt + Lockable,
     ensures written { OnOk result (Writes (AreFlows format) (W.contents output.old) (W.contents output.new)) }
-    ensures kept { IfErr result (λ e. WritesOrNot (AreFlows format) e (W.contents output.old) (W.contents output.new)) }
+    ensures kept { IfErr result (λ e. WritesUpTo (AreFlows format) e (W.contents output.old) (W.contents output.new)) }
 {
     let span = seconds_of(rt, span)?;
     flows_in(rt, folder.path, &span, format, output)
@@ -437,7 +437,7 @@ fn run_flows<H: Files + AllocGlobal + Clock + Clone + Drop, W: Write, E: Write>(
 ) -> u8
 where
     H::File: FileExt + Lockable,
-    ensures runs { AskEnds (AreFlows format) (W.contents output.old) (W.contents output.new) (E.contents errors.old)
+    ensures runs { ListEnds (AreFlows format) (W.contents output.old) (W.contents output.new) (E.contents errors.old)
         (E.contents errors.new) result }
     ensures quiet { result ≡ 0 → Keeps (E.contents errors.old) (E.contents errors.new) }
     ensures status { result ≤ 5 }

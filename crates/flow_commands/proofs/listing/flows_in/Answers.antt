@@ -1,9 +1,7 @@
-use Rattle.std.proofs.Common.{[], refl}
 use Rattle.std.specs.Prelude.{IfErr}
-use Rattle.flow_report.specs.ArchiveLines.{flows_text}
-use Rattle.flow_commands.specs.Asking.{AreFlows, Writes, WritesOrNot}
-use Rattle.flow_commands.proofs.Asked.{away_kept}
+use Rattle.flow_commands.specs.Asking.{AreFlows, Writes, WritesUpTo}
 use Rattle.flow_commands.proofs.Ended.{if_refused, on_ended}
+use Rattle.flow_commands.proofs.KeptLines.{away_up_to}
 use Rattle.flow_commands.proofs.listing.flows_in.Goals as goal
 
 pub returns-clause-written : goal.returns-clause-written
@@ -17,12 +15,12 @@ pub returns-clause-kept : goal.returns-clause-kept
 returns-clause-kept g c =
     let old = g.W.Write.contents c.args.output.now in
     let new = g.W.Write.contents c.flows.new.output in
-    if_refused c.flows.result c.ended.result (λ e. WritesOrNot (AreFlows c.args.format) e old new) c.ended.ensures
+    if_refused c.flows.result c.ended.result (λ e. WritesUpTo (AreFlows c.args.format) e old new) c.ended.ensures
     c.flows.ensures.kept
 
 pub returns-in_err-disk-clause-kept : goal.returns-in_err-disk-clause-kept
 returns-in_err-disk-clause-kept g c =
     let output = g.W.Write.contents c.args.output.now in
-    let kept : IfErr c.from_residual.result (λ e. WritesOrNot (AreFlows c.args.format) e output output) =
-    away_kept c.from_residual.result (AreFlows c.args.format) output (flows_text c.args.format []) ([], refl) in
+    let kept : IfErr c.from_residual.result (λ e. WritesUpTo (AreFlows c.args.format) e output output) =
+    away_up_to c.args.format c.from_residual.result output in
     kept

@@ -1,86 +1,52 @@
-use Rattle.std.proofs.Common.{◌≢◌, refl}
-use Rattle.flow_archive.proofs.SourceSums.{passed_on as fault_passed_on}
+use Rattle.std.proofs.Common.{◌≢◌, [], inl, refl}
+use Rattle.std.proofs.KnownBytes.{Keeps-refl}
 use Rattle.flow_disk.proofs.Results.{passed_on}
 use Rattle.flow_recover.specs.declared.error.RecoverError.TheVariants as opening
 use Rattle.flow_snapshot.specs.declared.error.QueryError.TheVariants as query
 use Rattle.flow_report.specs.ArchiveLines.{flows_text}
 use Rattle.flow_commands.specs.declared.archive_refusal.ArchiveRefusal.TheVariants as refusal
-use Rattle.flow_commands.specs.Archives.{of_text}
-use Rattle.flow_commands.specs.Asking.{Always, AreFlows, TellsNoLines, WritesOrNot, flows_lines}
-use Rattle.flow_commands.proofs.Asked.{cut_told, cut_written, none_told, none_written}
-use Rattle.flow_commands.proofs.Causes.{other_than, text_is_no_opening, text_is_no_query}
+use Rattle.flow_commands.specs.Asking.{flows_lines, Always, AreFlows, TellsUpTo, WritesUpTo}
+use Rattle.flow_commands.proofs.Causes.{memory_is_no_opening, memory_is_no_query, other_than}
+use Rattle.flow_commands.proofs.KeptLines.{lines_told, no_opening, none_alone, up_to, up_to_told, written_up_to}
 use Rattle.flow_commands.proofs.listing.list.Goals as goal
 
-pub returns-in_err-found-clause-refused : goal.returns-in_err-found-clause-refused
-returns-in_err-found-clause-refused g c h reads stands =
+pub returns-in_err-asked-clause-refused : goal.returns-in_err-asked-clause-refused
+returns-in_err-asked-clause-refused g c h reads stands =
     let output = g.W.Write.contents c.args.output.now in
-    passed_on c.from_residual.result (c.in_err-found.field-0).0
-    (λ e. TellsNoLines (flows_lines c.args.format c.args.span.now) Always reads output output e) c.from_residual.ensures.1
-    (none_told (flows_lines c.args.format c.args.span.now) Always reads output (c.in_err-found.field-0).0
-    (c.in_err-found.ensures.refused h reads stands))
+    passed_on c.from_residual.result refusal.OutOfMemory
+    (λ e. TellsUpTo (flows_lines c.args.format c.args.span.now) Always reads output output e) c.from_residual.ensures.1
+    (inl (Keeps-refl output))
 
-pub returns-in_err-found-clause-kept : goal.returns-in_err-found-clause-kept
-returns-in_err-found-clause-kept g c =
+pub returns-in_err-asked-clause-kept : goal.returns-in_err-asked-clause-kept
+returns-in_err-asked-clause-kept g c =
     let output = g.W.Write.contents c.args.output.now in
-    passed_on c.from_residual.result (c.in_err-found.field-0).0 (λ e. WritesOrNot (AreFlows c.args.format) e output output)
+    passed_on c.from_residual.result refusal.OutOfMemory (λ e. WritesUpTo (AreFlows c.args.format) e output output)
     c.from_residual.ensures.1
-    (none_written (AreFlows c.args.format) output (c.in_err-found.field-0).0 c.in_err-found.ensures.unwritten)
+    (up_to c.args.format refusal.OutOfMemory output output [] tt (none_alone output (flows_text c.args.format [])))
 
-pub returns-in_err-found-clause-opened : goal.returns-in_err-found-clause-opened
-returns-in_err-found-clause-opened g c =
-    passed_on c.from_residual.result (c.in_err-found.field-0).0 (λ e. e ≢ refusal.Opening opening.Fault)
-    c.from_residual.ensures.1 c.in_err-found.ensures.opened
+pub returns-in_err-asked-clause-opened : goal.returns-in_err-asked-clause-opened
+returns-in_err-asked-clause-opened g c =
+    passed_on c.from_residual.result refusal.OutOfMemory (λ e. e ≢ refusal.Opening opening.Fault)
+    c.from_residual.ensures.1 memory_is_no_opening
 
-pub returns-in_err-found-clause-cause : goal.returns-in_err-found-clause-cause
-returns-in_err-found-clause-cause g c =
-    let e = (c.in_err-found.field-0).0 in
-    fault_passed_on (refusal.Query query.Fault) (refusal.Query query.Fault) e e _ _ _ c.from_residual.result
-    c.in_err-found.ensures.cause refl c.from_residual.ensures.1 (λ is. is) (λ is. is)
-
-pub returns-in_err-write_flows-clause-refused : goal.returns-in_err-write_flows-clause-refused
-returns-in_err-write_flows-clause-refused g c h reads stands =
-    let found = c.in_ok-found.found in
-    passed_on c.from_residual-in_err-write_flows.result (of_text (c.in_err-write_flows.field-0).0)
-    (λ e. TellsNoLines (flows_lines c.args.format c.args.span.now) Always reads (g.W.Write.contents c.args.output.now)
-    (g.W.Write.contents c.write_flows.new.output) e) c.from_residual-in_err-write_flows.ensures.1
-    (cut_told (flows_lines c.args.format c.args.span.now) Always reads _ _ (flows_text c.args.format found.items)
-    (c.in_ok-found.ensures.lines h reads stands c.args.format) (c.in_err-write_flows.field-0).0
-    (rw c.as_slice.ensures.value at c.in_err-write_flows.ensures.cut))
-
-pub returns-in_err-write_flows-clause-kept : goal.returns-in_err-write_flows-clause-kept
-returns-in_err-write_flows-clause-kept g c =
-    let found = c.in_ok-found.found in
-    passed_on c.from_residual-in_err-write_flows.result (of_text (c.in_err-write_flows.field-0).0)
-    (λ e. WritesOrNot (AreFlows c.args.format) e (g.W.Write.contents c.args.output.now)
-    (g.W.Write.contents c.write_flows.new.output))
-    c.from_residual-in_err-write_flows.ensures.1
-    (cut_written (AreFlows c.args.format) _ _ (flows_text c.args.format found.items) (found.items, refl)
-    (c.in_err-write_flows.field-0).0 (rw c.as_slice.ensures.value at c.in_err-write_flows.ensures.cut))
-
-pub returns-in_err-write_flows-clause-opened : goal.returns-in_err-write_flows-clause-opened
-returns-in_err-write_flows-clause-opened g c =
-    passed_on c.from_residual-in_err-write_flows.result (of_text (c.in_err-write_flows.field-0).0)
-    (λ e. e ≢ refusal.Opening opening.Fault) c.from_residual-in_err-write_flows.ensures.1
-    (text_is_no_opening (c.in_err-write_flows.field-0).0)
-
-pub returns-in_err-write_flows-clause-cause : goal.returns-in_err-write_flows-clause-cause
-returns-in_err-write_flows-clause-cause g c =
-    let e = (c.in_err-write_flows.field-0).0 in
-    other_than (refusal.Query query.Fault) (of_text e) _ _ c.from_residual-in_err-write_flows.result
-    c.from_residual-in_err-write_flows.ensures.1 (text_is_no_query e) c.in_ok-found.ensures.cause.done
+pub returns-in_err-asked-clause-cause : goal.returns-in_err-asked-clause-cause
+returns-in_err-asked-clause-cause g c =
+    other_than (refusal.Query query.Fault) refusal.OutOfMemory _ _ c.from_residual.result c.from_residual.ensures.1
+    memory_is_no_query refl
 
 pub returns-clause-told : goal.returns-clause-told
 returns-clause-told g c h reads stands =
-    let found = c.in_ok-found.found in (
-      flows_text c.args.format found.items,
-      c.in_ok-found.ensures.lines h reads stands c.args.format,
-      rw c.as_slice.ensures.value at c.in_ok-write_flows.ensures.all,
-    )
+    lines_told c.args.format c.args.span.now reads c.in_ok-asked.asked.snapshot c.in_ok-asked.asked.width
+    c.write_kept.result _ _ (c.in_ok-asked.ensures.read h reads stands) c.write_kept.ensures.told
 
-pub returns-clause-written : goal.returns-clause-written
-returns-clause-written g c =
-    let found = c.in_ok-found.found in (
-      flows_text c.args.format found.items,
-      (found.items, refl),
-      rw c.as_slice.ensures.value at c.in_ok-write_flows.ensures.all,
-    )
+pub returns-clause-refused : goal.returns-clause-refused
+returns-clause-refused g c h reads stands =
+    up_to_told c.args.format c.args.span.now reads c.in_ok-asked.asked.snapshot c.in_ok-asked.asked.width
+    c.write_kept.result _ _ (c.in_ok-asked.ensures.read h reads stands) c.write_kept.ensures.some
+    c.write_kept.ensures.cut
+
+pub returns-clause-kept : goal.returns-clause-kept
+returns-clause-kept g c = written_up_to c.args.format c.write_kept.result _ _ c.write_kept.ensures.some
+
+pub returns-clause-opened : goal.returns-clause-opened
+returns-clause-opened g c = no_opening c.args.format c.write_kept.result _ _ c.write_kept.ensures.some

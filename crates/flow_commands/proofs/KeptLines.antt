@@ -1,0 +1,293 @@
+-- Lines of the flows of kept messages, taken from one file after the other.
+use Rattle.std.proofs.Common.{◌≡◌, ◌∙◌, ℕ, ◌+◌, ◌<◌, List, [], ◌∷◌, ◌++◌, Option, Some, length, map, drop, get_or}
+use Rattle.std.proofs.Common.{◌≢◌, refl, sym, ap, subst, append-nil, append_assoc, arith, inl, inr}
+use Rattle.std.specs.Io.KnownBytes.{Appends}
+use Rattle.std.proofs.KnownBytes.{Appends-nil, Keeps-refl}
+use Rattle.std.specs.Prelude.{slice_get, IfErr, IsTrue, OnOk, Result, Ok, Err}
+use Rattle.std.specs.List.{flat_map}
+use Rattle.std.proofs.lemmas.List.{drop_more, length-append, length-map}
+use Rattle.std.proofs.lemmas.List.Concat.{flat_map-append}
+use Rattle.std.proofs.lemmas.Option.{slice_get-get_or}
+use Rattle.flow_codec.specs.Templates.{AllTemplates}
+use Rattle.flow_measure.specs.declared.flow.Flow.{Flow}
+use Rattle.flow_measure.specs.History.{Accepted, AreAcceptedFrom, flows_in, templates_from}
+use Rattle.flow_segment.specs.Carry.{octets_of}
+use Rattle.flow_segment.specs.PartFlows.{flows_within}
+use Rattle.flow_model.specs.Shelf.{messages_in, Segment}
+use Rattle.flow_snapshot.proofs.KeptFlows.{more_flows, next_ones, taken_next, Next, Taken}
+use Rattle.flow_report.specs.declared.format.Format.{Format}
+use Rattle.flow_report.specs.ArchiveLines.{flow_line, flows_text}
+use Rattle.flow_report.specs.Telling.{Tells, TellsFront}
+use Rattle.flow_report.specs.Writing.{AppendsFront}
+use Rattle.flow_report.proofs.Joining.{ends, ends_cut, stops_more, stops_then, tells_then, with_held}
+use Rattle.flow_measure.specs.View.{View}
+use Rattle.flow_recover.specs.declared.error.RecoverError.{RecoverError}
+use Rattle.flow_recover.specs.declared.error.RecoverError.TheVariants as opening
+use Rattle.flow_snapshot.specs.declared.error.QueryError.{QueryError}
+use Rattle.flow_snapshot.specs.declared.error.QueryError.TheVariants as query
+use Rattle.flow_snapshot.specs.Sight.{Sight}
+use Rattle.flow_snapshot.specs.Told.{IsNoDamage}
+use Rattle.flow_model.specs.Views.{IsViewOf}
+use Rattle.flow_commands.specs.declared.archive_refusal.ArchiveRefusal.{ArchiveRefusal}
+use Rattle.flow_commands.specs.declared.archive_refusal.ArchiveRefusal.TheVariants as refusal
+use Rattle.flow_commands.specs.Archives.{of_opening, of_query}
+use Rattle.flow_commands.specs.Asking.{flows_lines, Always, AreFlows, HasFront, HasSome, IsBlameless, IsReadAs}
+use Rattle.flow_commands.specs.Asking.{IsUnopened, IsViewRead, IsWhileAsking, TellsLines, TellsUpTo, WritesUpTo}
+use Rattle.flow_commands.specs.Plans.{Span}
+
+abbrev pub lines_of : Format → List Flow → List ℕ
+lines_of format flows = flat_map (flow_line format) flows
+
+-- the lines of the flows of these messages that start in a span came
+abbrev pub HasTold : Format → ℕ → ℕ → Option (List ℕ) → List ℕ → Option (List ℕ) → List ℕ → List Accepted → Type 0
+HasTold format from to old held now left messages =
+    Tells old held now left (lines_of format (flows_within from to (flows_in messages)))
+
+more_lines : (format : Format) (from to : ℕ) (front own : List Accepted)
+    → lines_of format (flows_within from to (flows_in front)) ++ lines_of format (flows_within from to (flows_in own))
+    ≡ lines_of format (flows_within from to (flows_in (front ++ own)))
+more_lines format from to front own =
+    let first = flows_within from to (flows_in front) in
+    let more = flows_within from to (flows_in own) in
+    sym (flat_map-append (flow_line format) first more)
+    ∙ ap (lines_of format) (more_flows from to [] first (first ++ more) front own refl refl)
+
+-- ---- files of messages
+
+abbrev pub all_in : List (List (List ℕ)) → List (List ℕ)
+all_in files = flat_map (λ (messages : List (List ℕ)). messages) files
+
+pub all_kept : (segments : List Segment) (active : List (List ℕ))
+    → all_in (map (λ g. g.messages) segments ++ active ∷ []) ≡ messages_in segments ++ active
+all_kept [] active = append-nil active
+all_kept (g ∷ gs) active =
+    ap (λ (ms : List (List ℕ)). g.messages ++ ms) (all_kept gs active)
+    ∙ sym (append_assoc g.messages (messages_in gs) active)
+
+pub files_count : (segments : List Segment) (active : List (List ℕ))
+    → length (map (λ (g : Segment). g.messages) segments ++ active ∷ []) ≡ length segments + 1
+files_count segments active =
+    length-append (map (λ (g : Segment). g.messages) segments) (active ∷ [])
+    ∙ ap (λ (n : ℕ). n + 1) (length-map segments (λ (g : Segment). g.messages))
+
+next_file : (files : List (List (List ℕ))) (i : ℕ) → i < length files
+    → all_in (drop i files) ≡ get_or files i [] ++ all_in (drop (i + 1) files)
+next_file files i within = ap all_in (drop_more files i [] within)
+
+module _ (format : Format) (from to : ℕ) (old now : Option (List ℕ)) (held mid : List ℕ)
+    (before templates : AllTemplates) (messages : List Accepted) (left : List (List ℕ))
+    (taken : Taken (HasTold format from to old held now mid) before messages left templates) where
+  -- what came so far is a prefix of all
+  pub stopped : TellsFront old held now (lines_of format (flows_within from to (flows_in messages)))
+  stopped =
+      let first = lines_of format (flows_within from to (flows_in taken.front)) in
+      let more = lines_of format (flows_within from to (flows_in taken.rest)) in
+      subst (λ (ms : List Accepted).
+      TellsFront old held now (lines_of format (flows_within from to (flows_in ms)))) (sym taken.whole)
+      (subst (TellsFront old held now) (more_lines format from to taken.front taken.rest)
+      (stops_more old now held first more (mid, taken.has)))
+
+-- what is reported of a file that has accepted messages is no damage
+pub file_blameless : (Has : List Accepted → Type 0) (before templates : AllTemplates) (messages : List Accepted)
+    (files : List (List (List ℕ))) (i : ℕ) (e : QueryError) → i < length files → AreAcceptedFrom before messages
+    → Taken Has before messages (all_in (drop i files)) templates
+    → ((octets : List (List ℕ)) → slice_get files i ≡ Some octets → (own : List Accepted)
+    → AreAcceptedFrom templates own → octets_of own ≡ octets → IsNoDamage e)
+    → IsNoDamage e
+file_blameless Has before templates messages files i e within accepted taken given =
+    let n = next_ones Has before messages (get_or files i []) (all_in (drop (i + 1) files)) templates accepted
+    (subst (λ (os : List (List ℕ)). Taken Has before messages os templates) (next_file files i within) taken) in
+    given (get_or files i []) (slice_get-get_or files i [] within) n.own n.accepted n.octets
+
+module _ (format : Format) (from to : ℕ) (old now new : Option (List ℕ)) (held mid : List ℕ)
+    (before templates after : AllTemplates) (messages : List Accepted) (files : List (List (List ℕ))) (i : ℕ)
+    (flows : List Flow) (within : i < length files) (accepted : AreAcceptedFrom before messages)
+    (taken : Taken (HasTold format from to old held now mid) before messages (all_in (drop i files)) templates)
+    (given : (octets : List (List ℕ)) → slice_get files i ≡ Some octets → (own : List Accepted)
+    → AreAcceptedFrom templates own → octets_of own ≡ octets
+    → (after ≡ templates_from templates own) × (flows ≡ flows_within from to (flows_in own))) where
+  abbrev next : Next (HasTold format from to old held now mid) before messages (get_or files i [])
+      (all_in (drop (i + 1) files)) templates
+  next =
+      next_ones (HasTold format from to old held now mid) before messages (get_or files i [])
+      (all_in (drop (i + 1) files)) templates accepted
+      (subst (λ (os : List (List ℕ)). Taken (HasTold format from to old held now mid) before messages os templates)
+      (next_file files i within) taken)
+
+  right : (after ≡ templates_from templates next.own) × (flows ≡ flows_within from to (flows_in next.own))
+  right = given (get_or files i []) (slice_get-get_or files i [] within) next.own next.accepted next.octets
+
+  -- the lines of one file's flows more
+  pub one_more : (last : List ℕ) → Tells now mid new last (lines_of format flows)
+      → Taken (HasTold format from to old held new last) before messages (all_in (drop (i + 1) files)) after
+  one_more last told =
+      let own = flows_within from to (flows_in next.own) in
+      let first = flows_within from to (flows_in next.front) in
+      taken_next (HasTold format from to old held now mid) (HasTold format from to old held new last) before messages
+      (get_or files i []) (all_in (drop (i + 1) files)) templates after next right.0
+      (subst (Tells old held new last) (more_lines format from to next.front next.own)
+      (tells_then old now new held mid last (lines_of format first) (lines_of format own) next.has
+      (subst (λ (fs : List Flow). Tells now mid new last (lines_of format fs)) right.1 told)))
+
+  -- a prefix of them
+  pub cut_off : TellsFront now mid new (lines_of format flows)
+      → TellsFront old held new (lines_of format (flows_within from to (flows_in messages)))
+  cut_off told =
+      let own = flows_within from to (flows_in next.own) in
+      let first = flows_within from to (flows_in next.front) in
+      let both = next.front ++ next.own in
+      let these = lines_of format (flows_within from to (flows_in both)) in
+      let others = lines_of format (flows_within from to (flows_in next.rest)) in
+      subst (λ (ms : List Accepted).
+      TellsFront old held new (lines_of format (flows_within from to (flows_in ms)))) (sym next.whole)
+      (subst (TellsFront old held new) (more_lines format from to both next.rest)
+      (stops_more old new held these others
+      (subst (TellsFront old held new) (more_lines format from to next.front next.own)
+      (stops_then old now new held mid (lines_of format first) (lines_of format own) next.has
+      (subst (λ (fs : List Flow). TellsFront now mid new (lines_of format fs)) right.1 told)))))
+
+-- ---- lines of any flows
+
+pub some_more : (format : Format) (old now new : Option (List ℕ)) (held mid left : List ℕ) (more : List Flow)
+    → HasSome format old held now mid → Tells now mid new left (lines_of format more)
+    → HasSome format old held new left
+some_more format old now new held mid left more (flows, told) next = (
+  flows ++ more,
+  subst (Tells old held new left) (sym (flat_map-append (flow_line format) flows more))
+      (tells_then old now new held mid left (lines_of format flows) (lines_of format more) told next),
+)
+
+pub some_cut : (format : Format) (old now new : Option (List ℕ)) (held mid : List ℕ) (more : List Flow)
+    → HasSome format old held now mid → TellsFront now mid new (lines_of format more) → HasFront format old held new
+some_cut format old now new held mid more (flows, told) next = (
+  flows ++ more,
+  subst (TellsFront old held new) (sym (flat_map-append (flow_line format) flows more))
+      (stops_then old now new held mid (lines_of format flows) (lines_of format more) told next),
+)
+
+pub some_stopped : (format : Format) (old now : Option (List ℕ)) (held mid : List ℕ)
+    → HasSome format old held now mid → HasFront format old held now
+some_stopped format old now held mid (flows, told) = (flows, (mid, told))
+
+-- ---- with the heading
+
+pub all_ended : (old now new : Option (List ℕ)) (heading left lines : List ℕ) → Tells old heading now left lines
+    → Appends now new left → Appends old new (heading ++ lines)
+all_ended old now new heading left lines told rest =
+    ends old now new left (heading ++ lines) (with_held old now heading left lines told) rest
+
+pub end_cut : (old now new : Option (List ℕ)) (heading left lines : List ℕ) → Tells old heading now left lines
+    → AppendsFront now new left → AppendsFront old new (heading ++ lines)
+end_cut old now new heading left lines told rest =
+    ends_cut old now new left (heading ++ lines) (with_held old now heading left lines told) rest
+
+pub none_alone : (output : Option (List ℕ)) (text : List ℕ) → AppendsFront output output text
+none_alone output text = (0, omega arith, Appends-nil output)
+
+-- ---- refusals
+
+pub up_to : (format : Format) (e : ArchiveRefusal) (old new : Option (List ℕ)) (flows : List Flow) → IsWhileAsking e
+    → AppendsFront old new (flows_text format flows) → WritesUpTo (AreFlows format) e old new
+up_to format (refusal.Query e) old new flows asking front = (flows_text format flows, (flows, refl), front)
+up_to format (refusal.Write failed) old new flows asking front = (flows_text format flows, (flows, refl), front)
+up_to format refusal.OutOfMemory old new flows asking front = (flows_text format flows, (flows, refl), front)
+up_to format (refusal.Opening e) old new flows asking front = absurd asking
+up_to format (refusal.Archive e) old new flows asking front = absurd asking
+up_to format (refusal.Folder why) old new flows asking front = absurd asking
+
+told_up_to : (format : Format) (span : Span) (reads : ℕ → List ℕ) (v : View) (e : ArchiveRefusal)
+    (old new : Option (List ℕ)) → IsViewRead reads v → IsWhileAsking e
+    → IsBlameless e × AppendsFront old new (flows_lines format span v)
+    → TellsUpTo (flows_lines format span) Always reads old new e
+told_up_to format span reads v (refusal.Query (query.Damaged file at)) old new read asking told = absurd told.0
+told_up_to format span reads v (refusal.Query query.Fault) old new read asking told =
+    (tt, (flows_lines format span v, (v, read, refl), told.1))
+told_up_to format span reads v (refusal.Query query.OutOfMemory) old new read asking told =
+    (tt, (flows_lines format span v, (v, read, refl), told.1))
+told_up_to format span reads v (refusal.Write failed) old new read asking told =
+    (flows_lines format span v, (v, read, refl), told.1)
+told_up_to format span reads v refusal.OutOfMemory old new read asking told =
+    inr (flows_lines format span v, (v, read, refl), told.1)
+told_up_to format span reads v (refusal.Opening e) old new read asking told = absurd asking
+told_up_to format span reads v (refusal.Archive e) old new read asking told = absurd asking
+told_up_to format span reads v (refusal.Folder why) old new read asking told = absurd asking
+
+asking_is_no_opening : (e : ArchiveRefusal) → IsWhileAsking e → e ≢ refusal.Opening opening.Fault
+asking_is_no_opening (refusal.Query e) asking is = absurd (cc)
+asking_is_no_opening (refusal.Write failed) asking is = absurd (cc)
+asking_is_no_opening refusal.OutOfMemory asking is = absurd (cc)
+asking_is_no_opening (refusal.Opening e) asking is = absurd asking
+asking_is_no_opening (refusal.Archive e) asking is = absurd asking
+asking_is_no_opening (refusal.Folder why) asking is = absurd asking
+
+pub query_asks : (e : QueryError) → IsWhileAsking (of_query e)
+query_asks (query.Damaged file at) = tt
+query_asks query.Fault = tt
+query_asks query.OutOfMemory = tt
+
+pub query_blameless : (e : QueryError) → IsNoDamage e → IsBlameless (of_query e)
+query_blameless (query.Damaged file at) is = absurd is
+query_blameless query.Fault is = tt
+query_blameless query.OutOfMemory is = tt
+
+-- ---- what a command answers
+
+pub lines_told : {A : Type 0} (format : Format) (span : Span) (reads : ℕ → List ℕ) (sight : Sight) (width : ℕ)
+    (r : Result A ArchiveRefusal) (old new : Option (List ℕ)) → IsReadAs reads sight width
+    → (IsTrue sight.honest → (v : View) → IsViewOf sight.shelf v
+    → OnOk r (Appends old new (flows_lines format span v)))
+    → OnOk r (TellsLines (flows_lines format span) reads old new)
+lines_told format span reads sight width (Err e) old new is told = tt
+lines_told format span reads sight width (Ok x) old new (v, read, (honest, view, wide)) told =
+    (flows_lines format span v, (v, read, refl), told honest v view)
+
+pub up_to_told : {A : Type 0} (format : Format) (span : Span) (reads : ℕ → List ℕ) (sight : Sight) (width : ℕ)
+    (r : Result A ArchiveRefusal) (old new : Option (List ℕ)) → IsReadAs reads sight width
+    → IfErr r (λ e. IsWhileAsking e × WritesUpTo (AreFlows format) e old new)
+    → (IsTrue sight.honest → (v : View) → IsViewOf sight.shelf v
+    → IfErr r (λ e. IsBlameless e × AppendsFront old new (flows_lines format span v)))
+    → IfErr r (TellsUpTo (flows_lines format span) Always reads old new)
+up_to_told format span reads sight width (Ok x) old new is some cut = tt
+up_to_told format span reads sight width (Err e) old new (v, read, (honest, view, wide)) some cut =
+    told_up_to format span reads v e old new read some.0 (cut honest v view)
+
+pub written_up_to : {A : Type 0} (format : Format) (r : Result A ArchiveRefusal) (old new : Option (List ℕ))
+    → IfErr r (λ e. IsWhileAsking e × WritesUpTo (AreFlows format) e old new)
+    → IfErr r (λ e. WritesUpTo (AreFlows format) e old new)
+written_up_to format (Ok x) old new some = tt
+written_up_to format (Err e) old new some = some.1
+
+pub no_opening : {A : Type 0} (format : Format) (r : Result A ArchiveRefusal) (old new : Option (List ℕ))
+    → IfErr r (λ e. IsWhileAsking e × WritesUpTo (AreFlows format) e old new)
+    → IfErr r (λ e. e ≢ refusal.Opening opening.Fault)
+no_opening format (Ok x) old new some = tt
+no_opening format (Err e) old new some = asking_is_no_opening e some.0
+
+-- nothing was written
+pub none_up_to : (format : Format) (output : Option (List ℕ)) (e : ArchiveRefusal)
+    → WritesUpTo (AreFlows format) e output output
+none_up_to format output (refusal.Query e) =
+    up_to format (refusal.Query e) output output [] tt (none_alone output (flows_text format []))
+none_up_to format output (refusal.Write failed) =
+    up_to format (refusal.Write failed) output output [] tt (none_alone output (flows_text format []))
+none_up_to format output refusal.OutOfMemory =
+    up_to format refusal.OutOfMemory output output [] tt (none_alone output (flows_text format []))
+none_up_to format output (refusal.Opening e) = Keeps-refl output
+none_up_to format output (refusal.Archive e) = Keeps-refl output
+none_up_to format output (refusal.Folder why) = Keeps-refl output
+
+pub away_up_to : {A : Type 0} (format : Format) (r : Result A ArchiveRefusal) (output : Option (List ℕ))
+    → IfErr r (λ e. WritesUpTo (AreFlows format) e output output)
+away_up_to format (Ok x) output = tt
+away_up_to format (Err e) output = none_up_to format output e
+
+-- an archive that isn't opened
+pub unopened_up_to : (format : Format) (span : Span) (reads : ℕ → List ℕ) (output : Option (List ℕ)) (e : RecoverError)
+    → IsUnopened reads e → TellsUpTo (flows_lines format span) Always reads output output (of_opening e)
+unopened_up_to format span reads output (opening.Damaged file at) told = (told, Keeps-refl output)
+unopened_up_to format span reads output (opening.Format file) told = (told, Keeps-refl output)
+unopened_up_to format span reads output (opening.Entries file) told = (told, Keeps-refl output)
+unopened_up_to format span reads output (opening.Cut file) told = (told, Keeps-refl output)
+unopened_up_to format span reads output opening.NoArchive told = (told, Keeps-refl output)
+unopened_up_to format span reads output opening.Fault told = (told, Keeps-refl output)
+unopened_up_to format span reads output opening.OutOfMemory told = inl (Keeps-refl output)
