@@ -33,8 +33,8 @@ use std::fs::Files;
 use std::io::Write;
 use std::os::unix::fs::FileExt;
 
-/// Takes the lines of a snapshot's flows that start in a span, those of one file after the other: no more flows are held
-/// than one file has. They go to the writer as they come.
+/// Takes the lines of a snapshot's flows that start in a span, those of one file after the other: no more flows are
+/// held than one file has. They go to the writer as they come.
 fn tell_kept<S: SealedFile, W: Write>(
     alloc: Global,
     snapshot: &Snapshot<S>,
@@ -122,9 +122,9 @@ fn list<D: Disk, W: Write>(
 
 /// Opens the archive on a disk, of which nothing is frozen, and writes the lines of the flows that aren't rolled and
 /// start in a span: START DOMAIN PROTOCOL OCTETS PACKETS, in the order in which they were taken in. They are written
-/// while the files are read, one after the other: a refusal of the opening comes before anything is written, and a later
-/// one, a read that failed or out of memory, after a prefix of the lines. It hands the archive on, or gives the disk
-/// back.
+/// while the files are read, one after the other: a refusal of the opening comes before anything is written, and a
+/// later one, a read that failed or out of memory, after a prefix of the lines. It hands the archive on, or gives the
+/// disk back.
 pub fn flows<D: Disk, W: Write>(
     alloc: Global,
     disk: D,

@@ -10,8 +10,8 @@ use flow_codec::{Definition, Header, RecordSink};
 use flow_measure::flow_of;
 use std::convert::Infallible;
 
-/// How many data records a message has, by the kind of their definition, when their flows start, and how long they last.
-/// Counts stop at 2^32 - 1, which no message reaches.
+/// How many data records a message has, by the kind of their definition, when their flows start, and how long they
+/// last. Counts stop at 2^32 - 1, which no message reaches.
 #[derive(Clone, Copy, Debug)]
 pub(crate) struct RecordCounts {
     /// Those of Templates.

@@ -190,8 +190,9 @@ fn write_lines<R: Read, W: Write>(
 /// Data Sets without a definition in force are passed over: SETS is how many there are, and OCTETS what they have with
 /// their headers. How many records they hold can't be known.
 ///
-/// A template record replaces a definition where its ID has one in force that differs, in its kind, its scope fields, or
-/// its fields' elements and lengths, and wasn't withdrawn (RFC 7011, section 8.1): two exporters may share the domain.
+/// A template record replaces a definition where its ID has one in force that differs, in its kind, its scope fields,
+/// or its fields' elements and lengths, and wasn't withdrawn (RFC 7011, section 8.1): two exporters may share the
+/// domain.
 ///
 /// A message's Sequence Number is due where it is that of the domain's message before, with as many data records more
 /// as that one has, modulo 2^32 (RFC 7011, section 3.1). One past it is a gap, of as many missing records as it is past

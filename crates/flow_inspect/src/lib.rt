@@ -4,9 +4,9 @@
 //! Promised to the layer above: `inspect` writes exactly the lines of the whole File, or nothing and the first fault by
 //! place. A line counts the messages and data records of a domain, and says by how many records its Sequence Numbers
 //! leave some out (RFC 7011, section 3.1): records that were lost on their way, or are in a Set without a definition in
-//! force, which are counted too. It counts definitions that replace a different one of their ID, and says when the flows
-//! start, and how long they last. In words a line of all domains together comes last. Memory holds one message, and some
-//! 160 octets for each domain.
+//! force, which are counted too. It counts definitions that replace a different one of their ID, and says when the
+//! flows start, and how long they last. In words a line of all domains together comes last. Memory holds one message,
+//! and some 160 octets for each domain.
 #![tactic(auto)]
 
 mod counting;

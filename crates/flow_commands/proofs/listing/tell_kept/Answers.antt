@@ -119,9 +119,11 @@ returns-in_err-flows-clause-cut g c = λ honest v is.
     c.loop-at.templates v.kept (kept_by_file s) c.loop-at.at e within is.accepted taken
     (c.in_err-flows.ensures.given honest) in
     passed_on c.from_residual-in_err-flows.result (of_query e) (λ e. IsBlameless e × TellsFront old held now text)
-    c.from_residual-in_err-flows.ensures.1
-    (query_blameless e none, stopped format c.args.span.now.from c.args.span.now.to old now held mid v.templates
-    c.loop-at.templates v.kept (all_in (drop c.loop-at.at (kept_by_file s))) taken)
+    c.from_residual-in_err-flows.ensures.1 (
+      query_blameless e none,
+      stopped format c.args.span.now.from c.args.span.now.to old now held mid v.templates
+          c.loop-at.templates v.kept (all_in (drop c.loop-at.at (kept_by_file s))) taken,
+    )
 
 pub returns-in_err-put-clause-some : goal.returns-in_err-put-clause-some
 returns-in_err-put-clause-some g c =
@@ -154,8 +156,10 @@ returns-in_err-put-clause-cut g c = λ honest v is.
     let within : c.loop-at.at < length (kept_by_file s) =
     omega (arith, c.loop-at-test.true, c.kept_files-files.ensures, files_count s.sealed s.active) in
     passed_on c.from_residual-in_err-put.result (refusal.Write (c.in_err-put.field-0).0)
-    (λ e. IsBlameless e × TellsFront old held new text) c.from_residual-in_err-put.ensures.1
-    (tt, cut_off format c.args.span.now.from c.args.span.now.to old now new held mid v.templates c.loop-at.templates
-    c.flows_of_file.new.templates v.kept (kept_by_file s) c.loop-at.at flows within is.accepted
-    (c.loop-at.invariant.told honest v is)
-    ((rw (c.from-from.ensures, c.to-to.ensures) at c.in_ok-flows.ensures.given) honest) front)
+    (λ e. IsBlameless e × TellsFront old held new text) c.from_residual-in_err-put.ensures.1 (
+      tt,
+      cut_off format c.args.span.now.from c.args.span.now.to old now new held mid v.templates c.loop-at.templates
+          c.flows_of_file.new.templates v.kept (kept_by_file s) c.loop-at.at flows within is.accepted
+          (c.loop-at.invariant.told honest v is)
+          ((rw (c.from-from.ensures, c.to-to.ensures) at c.in_ok-flows.ensures.given) honest) front,
+    )
