@@ -4,45 +4,11 @@ use Rattle.std.specs.Prelude.{true, false, cond, fold, nat_eq, if◌then◌else�
 use Rattle.std.specs.Map.{lookup}
 use Rattle.indexmap.specs.IndexMap.{insert_entry}
 use Rattle.flow_codec.specs.declared.walk.Walked.{Walked}
+use Rattle.flow_report.proofs.Losing.{lookup_after}
 use Rattle.flow_inspect.specs.declared.counting.RecordCounts.{RecordCounts}
 use Rattle.flow_inspect.specs.declared.reporting.DomainReport.{DomainReport}
 use Rattle.flow_inspect.specs.Counting.{Inspected, counts_of, walked_of}
 use Rattle.flow_inspect.specs.Reports.{entries_after, own, report_after, report_of, reports_of}
-
--- a look-up after a key has got a value
-lookup_after : {V : Type 0} (d k : ℕ) (v : V) (es : List (ℕ × V))
-    → lookup (nat_eq d) (insert_entry nat_eq es k v) ≡ cond (nat_eq d k) (Some v) (lookup (nat_eq d) es)
-lookup_after d k v [] = refl
-lookup_after {V} d k v (e ∷ es) = by (nat_eq k e.0) refl (lookup_after d k v es)
-  where
-    here : (b c : Bool) → b ≡ c → cond b (Some v) (lookup (nat_eq d) es)
-        ≡ cond c (Some v) (cond b (Some e.1) (lookup (nat_eq d) es))
-    here true true s = refl
-    here false false s = refl
-    here true false s = absurd cc
-    here false true s = absurd cc
-
-    there : (b c : Bool) → (b ≡ true → c ≡ true → ⊥)
-        → cond b (Some e.1) (cond c (Some v) (lookup (nat_eq d) es))
-        ≡ cond c (Some v) (cond b (Some e.1) (lookup (nat_eq d) es))
-    there true true s = absurd (s refl refl)
-    there true false s = refl
-    there false true s = refl
-    there false false s = refl
-
-    by : (b : Bool) → nat_eq k e.0 ≡ b
-        → lookup (nat_eq d) (insert_entry nat_eq es k v) ≡ cond (nat_eq d k) (Some v) (lookup (nat_eq d) es)
-        → lookup (nat_eq d) (insert_entry nat_eq (e ∷ es) k v)
-        ≡ cond (nat_eq d k) (Some v) (lookup (nat_eq d) (e ∷ es))
-    by true s rest =
-        ap (λ (b : Bool). lookup (nat_eq d) (if b then (e.0, v) ∷ es else e ∷ insert_entry nat_eq es k v)) s
-        ∙ here (nat_eq d e.0) (nat_eq d k) (ap (nat_eq d) (sym (eqb-true k e.0 s)))
-    by false s rest =
-        let apart : nat_eq d e.0 ≡ true → nat_eq d k ≡ true → ⊥ = λ p q.
-        let wrong = sym (eq-eqb k e.0 (sym (eqb-true d k q) ∙ eqb-true d e.0 p)) ∙ s in absurd cc in
-        ap (λ (b : Bool). lookup (nat_eq d) (if b then (e.0, v) ∷ es else e ∷ insert_entry nat_eq es k v)) s
-        ∙ ap (λ (r : Option V). cond (nat_eq d e.0) (Some e.1) r) rest
-        ∙ there (nat_eq d e.0) (nat_eq d k) apart
 
 -- from any entries on
 from_here : (d : ℕ) (es : List (ℕ × DomainReport)) (messages : List Inspected)

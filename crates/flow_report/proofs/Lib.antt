@@ -8,3 +8,4 @@ pub mod Summing
 pub mod Putting
 pub mod Fields
 pub mod Digits
+pub mod Losing

@@ -1,5 +1,6 @@
 -- How the sums of a run over a File go on.
-use Rattle.std.proofs.Common.{◌≡◌, ℕ, suc, ◌*◌, ◌<◌, ◌≤◌, ◌+◌, ◌^◌, ◌-◌, List, [], ◌∷◌, ◌++◌, length, Option, None}
+use Rattle.std.proofs.Common.{◌≡◌, ℕ, suc, ◌*◌, ◌<◌, ◌≤◌, ◌+◌, ◌^◌, ◌%◌, ◌-◌, List, [], ◌∷◌, ◌++◌, length, Option}
+use Rattle.std.proofs.Common.{None}
 use Rattle.std.proofs.Common.{Some, IfSome, refl, sym, ap, ◌∙◌, subst, append-nil, length-append, arith, inl, inr, ◌⊎◌}
 use Rattle.std.specs.Prelude.{Result, Ok, Err, true, false, ⊤, IfErr, IsErrAnd}
 use Rattle.std.specs.Io.KnownBytes.{Keeps}
@@ -99,12 +100,10 @@ abbrev pub Holds : Totals → List Placed → Totals → Type 0
 Holds start taken now = (now.rows.width ≡ start.rows.width) × ((flows : List Flow) → AreSums start.rows flows
     → AreSums now.rows (flows ++ flows_of_records taken)) × AllByRecursion FlowFits (flows_of_records taken)
 
--- what the sink that counts records too has walked over, its sums have
-pub as_sums : (octets : List ℕ) (h0 h1 : AllTemplates) (c0 c1 : CountedTotals) (header : Header)
-    → IsWalkedBy (λ start taken now. Holds start.totals taken now.totals) octets h0 h1 c0 c1 header
-    → IsWalkedBy Holds octets h0 h1 c0.totals c1.totals header
-as_sums octets h0 h1 c0 c1 header walked =
-    (walked.0, walked.1, λ start taken h. walked.2 (record { totals = start; records = 0 }) taken h)
+-- what the sink that counts records too holds
+abbrev pub CountedHolds : CountedTotals → List Placed → CountedTotals → Type 0
+CountedHolds start taken now =
+    Holds start.totals taken now.totals × (now.records ≡ (start.records + length taken) % 2 ^ 32)
 
 nothing_taken : (t : Totals) → Holds t [] t
 nothing_taken t = (refl, λ flows h. subst (AreSums t.rows) (sym (append-nil flows)) h, tt)
@@ -123,40 +122,46 @@ fit_both : (fs gs : List Flow) → AllByRecursion FlowFits fs → AllByRecursion
 fit_both [] gs a b = b
 fit_both (f ∷ fs) gs a b = (a.0, fit_both fs gs a.1 b)
 
+none_counted : (n : ℕ) → n ≡ 0 → n ≡ (n + 0) % 2 ^ 32
+none_counted n none = subst (λ (k : ℕ). k ≡ (k + 0) % 2 ^ 32) (sym none) refl
+
 -- one message more
-pub stepped : (width : ℕ) (old : Option (List ℕ)) (r0 r1 : Progress) (h0 h1 : AllTemplates) (t0 t1 : Totals)
+pub stepped : (width : ℕ) (old : Option (List ℕ)) (r0 r1 : Progress) (h0 h1 : AllTemplates) (c0 c1 : CountedTotals)
     (header : Header) (octets : List ℕ)
-    → HasSummed width old r0 h0 t0 → IsStep r0 (Ok true) r1 → octets ≡ r1.message
-    → IsWalkedBy Holds octets h0 h1 t0 t1 header → HasSummed width old r1 h1 t1
-stepped width old r0 r1 h0 h1 t0 t1 header octets s step is walked =
+    → HasSummed width old r0 h0 c0.totals → c0.records ≡ 0 → IsStep r0 (Ok true) r1 → octets ≡ r1.message
+    → (walked : IsWalkedBy CountedHolds octets h0 h1 c0 c1 header)
+    → HasSummed width old r1 h1 c1.totals × (c1.records ≡ length walked.0)
+    × IsAccepted r1.message h0 (record { header = header; records = walked.0 }) h1
+stepped width old r0 r1 h0 h1 c0 c1 header octets s none step is walked =
     let m : RawMessage = record { header = header; records = walked.0 } in
     let accepted : IsAccepted r1.message h0 m h1 = subst (λ (o : List ℕ). IsAccepted o h0 m h1) is walked.1 in
-    let took = walked.2 t0 [] (nothing_taken t0) in
+    let both = walked.2 c0 [] (nothing_taken c0.totals, none_counted c0.records none) in
+    let took = both.0 in
     let more = flows_then s.messages m in
     let len = ap length more ∙ length-append (flows_of_all s.messages) (flows_of_records (under header walked.0)) in
     let few = flows_few (under header walked.0) in
     let records = few_records r1.message h0 m h1 accepted.0 in
     let short = short_enough r1.message h0 m h1 accepted.0 in
-    record {
-      messages = s.messages ++ m ∷ [];
-      run = follows_more old r0 r1 s.messages h0 h1 m s.run step accepted;
-      counted = omega (arith, s.counted, step.4, length-append s.messages (m ∷ []));
-      going = step.1;
-      across = took.0 ∙ s.across;
-      sums = subst (AreSums t1.rows) (sym more) (took.1 (flows_of_all s.messages) s.sums);
-      few = omega (
-        arith,
-        len,
-        few,
-        length-map {B = Placed} walked.0 (λ (r : RawRecord). (header, r)),
-        records,
-        short.1,
-        s.few,
-        step.4,
-      );
-      fit = subst (AllByRecursion FlowFits) (sym more)
-          (fit_both (flows_of_all s.messages) (flows_of_records (under header walked.0)) s.fit took.2);
-    }
+    let count = length-map {B = Placed} walked.0 (λ (r : RawRecord). (header, r)) in (
+      record {
+        messages = s.messages ++ m ∷ [];
+        run = follows_more old r0 r1 s.messages h0 h1 m s.run step accepted;
+        counted = omega (arith, s.counted, step.4, length-append s.messages (m ∷ []));
+        going = step.1;
+        across = took.0 ∙ s.across;
+        sums = subst (AreSums c1.totals.rows) (sym more) (took.1 (flows_of_all s.messages) s.sums);
+        few = omega (arith, len, few, count, records, short.1, s.few, step.4);
+        fit = subst (AllByRecursion FlowFits) (sym more)
+            (fit_both (flows_of_all s.messages) (flows_of_records (under header walked.0)) s.fit took.2);
+      },
+      both.1 ∙ small (c0.records + length (under header walked.0)) (length walked.0) (omega (arith, none, count))
+          (omega (arith, records, short.1)),
+      accepted,
+    )
+  where
+    -- a count below 2^32 is itself
+    small : (n k : ℕ) → n ≡ k → k < 2 ^ 32 → n % 2 ^ 32 ≡ k
+    small n k same less = omega (arith, same, less)
 
 -- nothing is said where memory or a reader failed
 pub always : (old : Option (List ℕ)) → IfSome old (λ octets. ⊤)
@@ -190,33 +195,28 @@ Refuses start taken x e =
     → SumRefused e (table_of start.rows.width (flows ++ flows_of_records (taken ++ x ∷ []))))
     × AllByRecursion FlowFits (flows_of_records (taken ++ x ∷ []))
 
--- where the sink that counts records too stops, its sums do
-pub as_stop : (octets : List ℕ) (h0 : AllTemplates) (c0 : CountedTotals) (stop : WalkError SumError)
-    → IsStopped (λ start taken now. Holds start.totals taken now.totals)
-    (λ start taken x e. Refuses start.totals taken x e) octets h0 c0 stop
-    → IsStopped Holds Refuses octets h0 c0.totals stop
-as_stop octets h0 c0 (walk.Message fault) h = h
-as_stop octets h0 c0 (walk.Sink e) (header, (front, r, most, why)) =
-    (header, (front, r, most, λ start taken h. why (record { totals = start; records = 0 }) taken h))
+-- what the sink that counts records too refuses
+abbrev pub CountedRefuses : CountedTotals → List Placed → Placed → SumError → Type 0
+CountedRefuses start taken x e = Refuses start.totals taken x e
 
 -- a message at which the run stops
-pub stopped_at : (width : ℕ) (old left : Option (List ℕ)) (r0 r1 : Progress) (h0 : AllTemplates) (t0 : Totals)
+pub stopped_at : (width : ℕ) (old left : Option (List ℕ)) (r0 r1 : Progress) (h0 : AllTemplates) (c0 : CountedTotals)
     (octets : List ℕ) (stop : WalkError SumError)
-    → HasSummed width old r0 h0 t0 → IsStep r0 (Ok true) r1 → octets ≡ r1.message → length octets < 65536
-    → IsStopped Holds Refuses octets h0 t0 stop
+    → HasSummed width old r0 h0 c0.totals → c0.records ≡ 0 → IsStep r0 (Ok true) r1 → octets ≡ r1.message → length octets < 65536
+    → IsStopped CountedHolds CountedRefuses octets h0 c0 stop
     → IfSome old (λ file. IsRefusedBy file left (refusal_of stop r1.count))
-stopped_at width old left r0 r1 h0 t0 octets (walk.Sink sum.OutOfMemory) s step is short h = always old
-stopped_at width old left r0 r1 h0 t0 octets (walk.Sink sum.SumSpent) s step is short h =
+stopped_at width old left r0 r1 h0 c0 octets (walk.Sink sum.OutOfMemory) s none step is short h = always old
+stopped_at width old left r0 r1 h0 c0 octets (walk.Sink sum.SumSpent) s none step is short h =
     let front = (h.1).0 in
     let r = (h.1).1 in
-    let refused = (h.1).3 t0 [] (nothing_taken t0) in
+    let refused = (h.1).3 c0 [] (nothing_taken c0.totals, none_counted c0.records none) in
     let taken = under h.0 front ++ (h.0, r) ∷ [] in
     let whole = flows_of_all s.messages ++ flows_of_records taken in
     let len = length-append (flows_of_all s.messages) (flows_of_records taken) in
     let few = flows_few taken in
     let some = length-append (under h.0 front) ((h.0, r) ∷ []) in
     absurd (refused.0 (flows_of_all s.messages) s.sums
-    (few_fit t0.rows.width whole (fit_both (flows_of_all s.messages) (flows_of_records taken) s.fit refused.1)
+    (few_fit c0.totals.rows.width whole (fit_both (flows_of_all s.messages) (flows_of_records taken) s.fit refused.1)
     (omega (
       arith,
       len,
@@ -229,10 +229,10 @@ stopped_at width old left r0 r1 h0 t0 octets (walk.Sink sum.SumSpent) s step is 
       step.4,
       step.5,
     ))))
-stopped_at width old left r0 r1 h0 t0 octets (walk.Message fault) s step is short (inl none) =
+stopped_at width old left r0 r1 h0 c0 octets (walk.Message fault) s zero step is short (inl none) =
     subst (λ (e : MessageError). IfSome old (λ file. IsRefusedBy file left (message_refusal e r1.count))) (sym none)
     (always old)
-stopped_at width old left r0 r1 h0 t0 octets (walk.Message fault) s step is short (inr faulty) =
+stopped_at width old left r0 r1 h0 c0 octets (walk.Message fault) s zero step is short (inr faulty) =
     with_front old (follows_refused old r0 r1 s.messages h0 fault s.run step
     (subst (λ (o : List ℕ). IsFault o h0 fault) is faulty))
   where

@@ -9,3 +9,4 @@ pub mod Fronts
 pub mod Measure
 pub mod Telling
 pub mod Dump
+pub mod Lacks

@@ -1,5 +1,10 @@
 //! What messages lack, counted beside their sums.
 
+ghost use Rattle.std.specs.Prelude.{◌≡◌, ◌+◌, ◌%◌, ◌^◌, [], nat_eq, OnOk};
+ghost use Rattle.std.specs.Map.{lookup};
+ghost use Rattle.indexmap.specs.IndexMap.{insert_entry};
+ghost use Rattle.flow_codec.specs.Losses.{both_losses, losses_of, no_losses};
+
 use flow_codec::{Definition, Header, Losses, RecordSink, Walked};
 use flow_measure::{SumError, Totals};
 use indexmap::IndexMap;
@@ -13,11 +18,13 @@ pub(crate) struct CountedTotals {
 }
 
 impl RecordSink for CountedTotals {
+    ghost use Rattle.std.specs.Prelude.{◌≡◌, ◌+◌, ◌%◌, ◌^◌, length};
     ghost use Rattle.flow_measure.specs.Sinks.{TookFlows, RefuseFlow};
 
     type Error = SumError;
 
-    ghost holds = { λ start taken now. TookFlows start.totals.rows taken now.totals.rows };
+    ghost holds = { λ start taken now. TookFlows start.totals.rows taken now.totals.rows
+        × (now.records ≡ (start.records + length taken) % 2 ^ 32) };
 
     ghost refuses = { λ start taken x e. RefuseFlow start.totals.rows taken x e };
 
@@ -42,7 +49,10 @@ pub(crate) struct Lacking {
 
 impl Lacking {
     /// Of no message.
-    pub(crate) fn new(alloc: Global) -> Lacking {
+    pub(crate) fn new(alloc: Global) -> Lacking
+        ensures losses { result.losses ≡ no_losses }
+        ensures due { result.due.entries ≡ [] }
+    {
         Lacking {
             losses: Losses::none(),
             due: IndexMap::new(alloc),
@@ -50,7 +60,13 @@ impl Lacking {
     }
 
     /// With one message more, which has so many data records.
-    pub(crate) fn note(&mut self, walked: &Walked, records: u32) -> Result<(), AllocError> {
+    pub(crate) fn note(&mut self, walked: &Walked, records: u32) -> Result<(), AllocError>
+        ensures losses { OnOk result (self.new.losses ≡ both_losses self.old.losses
+            (losses_of walked.now (lookup (nat_eq walked.now.header.domain) self.old.due.entries))) }
+        ensures due { OnOk result (self.new.due.entries
+            ≡ insert_entry nat_eq self.old.due.entries walked.now.header.domain
+            ((walked.now.header.sequence + records) % 2 ^ 32)) }
+    {
         let header = &walked.header;
         let losses = Losses::of(walked, self.due.get(&header.domain).copied());
         let due = header.sequence.wrapping_add(records);
@@ -63,7 +79,9 @@ impl Lacking {
     }
 
     /// What they show.
-    pub(crate) fn losses(&self) -> Losses {
+    pub(crate) fn losses(&self) -> Losses
+        ensures { result ≡ self.now.losses }
+    {
         self.losses
     }
 }

@@ -2,6 +2,7 @@
 
 ghost use Rattle.std.specs.Prelude.{◌≡◌, ◌≤◌, [], ℕ, List, vec_capacity, OnOk, IfOk, IfErr, IfSome};
 ghost use Rattle.std.specs.Io.KnownBytes.{Appends};
+ghost use Rattle.flow_report.specs.Lacks.{HasLosses};
 ghost use Rattle.flow_report.specs.Refusals.{refusal_of, IsOfInput};
 ghost use Rattle.flow_report.specs.Writing.{AppendsFront};
 ghost use Rattle.flow_report.specs.Measure.{lines_of, HasTotals, HasSums, IsRefusedBy, KeepsOrFront};
@@ -22,6 +23,7 @@ use std::io::{Read, Write};
 /// records that aren't read.
 fn sums_of<R: Read>(alloc: Global, width: Width, input: &mut R) -> Result<(Rows, Losses), Refusal>
     ensures sums { IfOk result (λ x. IfSome (R.remaining input.old) (λ octets. HasSums width octets x.0)) }
+    ensures losses { IfOk result (λ x. IfSome (R.remaining input.old) (λ octets. HasLosses octets x.1)) }
     ensures refused { IfErr result (λ e. IfSome (R.remaining input.old)
         (λ octets. IsRefusedBy octets (R.remaining input.new) e)) }
     ensures unwritten { IfErr result (λ e. IsOfInput e) }
@@ -95,6 +97,8 @@ pub fn measure<R: Read, W: Write>(
     ensures lines { OnOk result
         (IfSome (R.remaining input.old) (λ octets. (lines : List ℕ) × HasTotals format width octets lines
         × Appends (W.contents output.old) (W.contents output.new) lines)) }
+    // What is answered is what the messages of the whole File show.
+    ensures losses { IfOk result (λ losses. IfSome (R.remaining input.old) (λ octets. HasLosses octets losses)) }
     // A refusal is that of the first fault by place.
     ensures refused { IfErr result (λ e. IfSome (R.remaining input.old)
         (λ octets. IsRefusedBy octets (R.remaining input.new) e)) }

@@ -1,32 +1,55 @@
-use Rattle.std.proofs.Common.{ap, subst, ◌∙◌, arith}
+use Rattle.std.proofs.Common.{ap, refl, subst, ◌∙◌, arith, List, ℕ}
 use Rattle.std.specs.Prelude.{Ok, Bool}
-use Rattle.flow_codec.specs.Stream.{progress, IsStep}
+use Rattle.flow_codec.specs.Unread.{counted, unread_of}
+use Rattle.flow_codec.specs.Stream.{progress, IsStep, Progress}
 use Rattle.flow_measure.specs.Sums.{empty_table}
 use Rattle.flow_report.specs.declared.refusal.Refusal.TheVariants as refusal
 use Rattle.flow_report.proofs.Reached.{opened}
-use Rattle.flow_report.proofs.Summing.{always, as_stop, as_sums, short_at, begun, stepped, stopped_at, ended_by, summed, err_of, of_input}
+use Rattle.flow_report.proofs.Losing.{all_lacked, lacked_more, none_lacked}
+use Rattle.flow_report.proofs.Summing.{always, begun, ended_by, err_of, of_input, short_at, stepped, stopped_at, summed}
 use Rattle.flow_report.proofs.measuring.sums_of.Goals as goal
 
 pub messages-init : goal.messages-init
-messages-init g c = begun c.args.width
-    (g.R.Read.remaining c.args.input.now)
-    (progress c.in_ok-reader.reader (g.R.Read.remaining c.args.input.now)) c.new-templates.result
-    (record { rows = c.new-2.result }) (opened _ _ c.in_ok-reader.ensures) c.new-templates.ensures (c.new-2.ensures
-    ∙ ap empty_table c.seconds.ensures.value)
+messages-init g c =
+    let old = g.R.Read.remaining c.args.input.now in
+    let reader = progress c.in_ok-reader.reader old in
+    record {
+      sums = begun c.args.width old reader c.new-templates.result (record { rows = c.new-2.result })
+          (opened _ _ c.in_ok-reader.ensures) c.new-templates.ensures
+          (c.new-2.ensures ∙ ap empty_table c.seconds.ensures.value);
+      lacks = none_lacked old reader.rest c.new-templates.result c.new-lacking.result.losses
+          c.new-lacking.result.due.entries (ap (λ (p : Progress). p.rest) (opened _ _ c.in_ok-reader.ensures))
+          c.new-templates.ensures c.new-lacking.ensures.losses c.new-lacking.ensures.due;
+    }
 
 pub messages-preserved : goal.messages-preserved
 messages-preserved g c =
-    let step = subst (λ (b : Bool). IsStep (progress c.messages.reader (g.R.Read.remaining c.messages.input)) (Ok b)
-    (progress c.advance.new.self (g.R.Read.remaining c.advance.new.input))) c.if-branch.true
-    c.in_ok-advance.ensures.step in
-    stepped c.args.width (g.R.Read.remaining c.args.input.now)
-    (progress c.messages.reader (g.R.Read.remaining c.messages.input))
-    (progress c.advance.new.self (g.R.Read.remaining c.advance.new.input))
-    c.messages.templates c.walk_sets.new.templates c.messages.sums.totals c.walk_sets.new.sink.totals
-    c.in-Ok.walked.header c.message.result.now
-    c.messages.invariant step c.message.ensures.value
-    (as_sums c.message.result.now c.messages.templates c.walk_sets.new.templates
-    (record c.messages.sums { records = 0 }) c.walk_sets.new.sink c.in-Ok.walked.header c.in-Ok.ensures.found)
+    let old = g.R.Read.remaining c.args.input.now in
+    let before = progress c.messages.reader (g.R.Read.remaining c.messages.input) in
+    let after = progress c.advance.new.self (g.R.Read.remaining c.advance.new.input) in
+    let step = subst (λ (b : Bool). IsStep before (Ok b) after) c.if-branch.true c.in_ok-advance.ensures.step in
+    let found = c.in-Ok.ensures.found in
+    let next = stepped c.args.width old before after c.messages.templates c.walk_sets.new.templates
+    (record c.messages.sums { records = 0 }) c.walk_sets.new.sink c.in-Ok.walked.header c.message.result.now
+    c.messages.invariant.sums refl step c.message.ensures.value found in
+    let unread = c.in-Ok.ensures.unread
+    ∙ ap (λ (o : List ℕ). counted (unread_of c.messages.templates o)) c.message.ensures.value in
+    record {
+      sums = next.0;
+      lacks = lacked_more old before after c.messages.templates c.walk_sets.new.templates c.messages.lacking.losses
+          c.note.new.self.losses c.messages.lacking.due.entries c.note.new.self.due.entries c.in-Ok.walked
+          c.walk_sets.new.sink.records found.0 c.messages.invariant.lacks step next.2 unread next.1
+          c.in_ok-note-in-Ok.ensures.losses c.in_ok-note-in-Ok.ensures.due;
+    }
+
+pub returns-clause-losses : goal.returns-clause-losses
+returns-clause-losses g c =
+    let old = g.R.Read.remaining c.args.input.now in
+    let before = progress c.messages.reader (g.R.Read.remaining c.messages.input) in
+    let after = progress c.advance.new.self (g.R.Read.remaining c.advance.new.input) in
+    let step = subst (λ (b : Bool). IsStep before (Ok b) after) c.if-branch.false c.in_ok-advance.ensures.step in
+    rw c.losses.ensures (all_lacked old before after c.messages.templates c.messages.lacking.losses
+    c.messages.lacking.due.entries c.messages.invariant.lacks step)
 
 pub returns-in_err-advance-clause-refused : goal.returns-in_err-advance-clause-refused
 returns-in_err-advance-clause-refused g c =
@@ -35,8 +58,8 @@ returns-in_err-advance-clause-refused g c =
     (g.R.Read.remaining c.args.input.now) _ c.advance.new.self.ahead
     (progress c.messages.reader (g.R.Read.remaining c.messages.input))
     (progress c.advance.new.self (g.R.Read.remaining c.advance.new.input)) c.messages.templates
-    c.messages.sums.totals c.in_err-advance.field-0.0 c.messages.invariant c.in_err-advance.ensures.step
-    (short_at c.messages.reader c.advance.new.self _ _ _ c.messages.invariant.going c.in_err-advance.ensures.within))
+    c.messages.sums.totals c.in_err-advance.field-0.0 c.messages.invariant.sums c.in_err-advance.ensures.step
+    (short_at c.messages.reader c.advance.new.self _ _ _ c.messages.invariant.sums.going c.in_err-advance.ensures.within))
 
 pub returns-in-Err-clause-refused : goal.returns-in-Err-clause-refused
 returns-in-Err-clause-refused g c =
@@ -46,10 +69,9 @@ returns-in-Err-clause-refused g c =
     let refused = stopped_at c.args.width
     (g.R.Read.remaining c.args.input.now) _ (progress c.messages.reader (g.R.Read.remaining c.messages.input))
     (progress c.advance.new.self (g.R.Read.remaining c.advance.new.input)) c.messages.templates
-    c.messages.sums.totals c.message.result.now c.in-Err.stop
-    c.messages.invariant step c.message.ensures.value (omega (arith, c.message.ensures.most))
-    (as_stop c.message.result.now c.messages.templates (record c.messages.sums { records = 0 }) c.in-Err.stop
-    c.in-Err.ensures.fault) in
+    (record c.messages.sums { records = 0 }) c.message.result.now c.in-Err.stop
+    c.messages.invariant.sums refl step c.message.ensures.value (omega (arith, c.message.ensures.most))
+    c.in-Err.ensures.fault in
     rw (c.refusal_of.ensures.value, c.count.ensures.value) refused
 
 pub returns-clause-sums : goal.returns-clause-sums
@@ -60,7 +82,7 @@ returns-clause-sums g c =
     summed c.args.width (g.R.Read.remaining c.args.input.now)
     (progress c.messages.reader (g.R.Read.remaining c.messages.input))
     (progress c.advance.new.self (g.R.Read.remaining c.advance.new.input)) c.messages.templates
-    c.messages.sums.totals c.messages.invariant step
+    c.messages.sums.totals c.messages.invariant.sums step
 
 pub returns-in_err-advance-clause-unwritten : goal.returns-in_err-advance-clause-unwritten
 returns-in_err-advance-clause-unwritten g c =
