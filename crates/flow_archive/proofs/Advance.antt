@@ -24,10 +24,10 @@ use Rattle.flow_model.proofs.Sourcing.{job_more}
 use Rattle.flow_archive.specs.declared.sources.Source.{Source}
 use Rattle.flow_archive.specs.declared.sources.SourceError.{SourceError}
 use Rattle.flow_archive.specs.declared.sources.SourceError.TheVariants.{Damaged, SumSpent, Fault, OutOfMemory}
-use Rattle.flow_archive.specs.Owned.{Frozen}
+use Rattle.flow_archive.specs.Frozen.{Frozen}
 use Rattle.flow_archive.specs.Sources.{of_sums, IsJobTime, IsNotRead, IsRead, IsReadWhole, IsSource, IsSummed}
 use Rattle.flow_archive.specs.Advancing.{IsNotTaken, IsTakenIn}
-use Rattle.flow_archive.specs.UnderWay.{Rolling}
+use Rattle.flow_archive.specs.UnderWay.{RunningJob}
 use Rattle.flow_archive.proofs.SourceSums.{behind_fits}
 
 -- ---- one source
@@ -115,7 +115,7 @@ time_more Merge ps p t u is same =
 
 module _ (kind : JobKind) (m : Manifest) (ps : List Part) (p : Part) (rows : Table) (before : ℕ)
     (sums : IsJobSum kind m ps rows) (times : IsJobTime kind ps before) where
-  pub not_taken : (new : Rolling) (e : SourceError) → IsRead kind m p (Err e)
+  pub not_taken : (new : RunningJob) (e : SourceError) → IsRead kind m p (Err e)
       → IsTakenIn {X = Unit {0}} kind m (ps ++ p ∷ []) (Err e) new
   not_taken new (Damaged at) (one, time, source, its, never) = absurd never
   not_taken new SumSpent (one, time, source, its, spent) = (
@@ -126,7 +126,7 @@ module _ (kind : JobKind) (m : Manifest) (ps : List Part) (p : Part) (rows : Tab
   not_taken new Fault read = tt
   not_taken new OutOfMemory read = tt
 
-  pub not_merged : (new : Rolling) (source : Source) (e : SumError) → IsRead kind m p (Ok source)
+  pub not_merged : (new : RunningJob) (source : Source) (e : SumError) → IsRead kind m p (Ok source)
       → IsRefused e (merged rows source.rows) → IsTakenIn {X = Unit {0}} kind m (ps ++ p ∷ []) (Err (of_sums e)) new
   not_merged new source sum.SumSpent (one, time, its, times_are, is) spent = (
     merged rows source.rows,

@@ -18,7 +18,7 @@ use Rattle.flow_archive.specs.declared.refusal.ArchiveError.TheVariants.{Closed}
 use Rattle.flow_archive.specs.declared.refusal.ArchiveError.TheVariants.{Damaged, SourceFault, RollBusy, NoRoll}
 use Rattle.flow_archive.specs.declared.refusal.ArchiveError.TheVariants.{RollCount, RollNotDone, Pinned, NothingToRetire}
 use Rattle.flow_archive.specs.Answers.{AnswersAppend, AnswersSeal, HasPositions, HasRoom, IsNotAdmitted}
-use Rattle.flow_archive.specs.Answers.{job_generations, IsNotFollowed}
+use Rattle.flow_archive.specs.Answers.{job_generations, IsNotSealed}
 use Rattle.flow_archive.specs.Refusals.{refusal_of}
 
 -- what holds of a refusal that is passed on
@@ -88,7 +88,7 @@ not_fault octets carry room positions e is same =
 
 -- a seal that no manifest follows is refused, and nothing changes
 pub not_followed : (honest closed : Bool) (s : State) (count : ℕ) (e : ArchiveError) → closed ≡ false
-    → count ≡ length s.active.messages → IsNotFollowed s.manifest count s.next (job_generations s.job) e
+    → count ≡ length s.active.messages → IsNotSealed s.manifest count s.next (job_generations s.job) e
     → AnswersSeal honest closed s (Err e) s
 not_followed honest closed s count NothingToSeal still all is =
     (still, nil_from_length s.active.messages (omega (arith, all, is)), refl)

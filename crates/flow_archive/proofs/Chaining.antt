@@ -22,7 +22,7 @@ use Rattle.flow_segment.specs.Carry.{Carry, carry_from, no_carry, octets_of, pre
 use Rattle.flow_segment.specs.Carry.{IsReadBack}
 use Rattle.flow_segment.proofs.Batches.{carried_then, templates_carried}
 use Rattle.flow_segment.proofs.Carrying.{is_read_back}
-use Rattle.flow_model.specs.State.{Part, State, appended, end_of, moved_on}
+use Rattle.flow_model.specs.State.{Part, State, appended, end_of, after_seal}
 use Rattle.flow_model.specs.Chain.{ArePartsBehind, HandsOn, IsPartBehind, IsSegment}
 
 -- ---- messages after others
@@ -134,13 +134,13 @@ behind_push m n width wide entry part mid after last before (e ∷ entries) (p �
 
 -- after a seal
 pub hands_next : (s : State) (carry : Carry) → IsValidManifest s.manifest → IsCarry carry → HandsOn s carry
-    → HandsOn (moved_on s (prefix_of carry)) carry
+    → HandsOn (after_seal s (prefix_of carry)) carry
 hands_next s carry valid h hands = record {
   sealed = Some carry;
-  parts = subst (λ (l : List Entry). ArePartsBehind (moved_on s (prefix_of carry)).manifest None l
+  parts = subst (λ (l : List Entry). ArePartsBehind (after_seal s (prefix_of carry)).manifest None l
       (s.parts ++ s.active ∷ []) (Some carry))
       (sym (next_front s.manifest valid (end_of s) (length s.active.messages) s.next (length (prefix_of carry))))
-      (behind_push s.manifest (moved_on s (prefix_of carry)).manifest refl refl sealed s.active hands.sealed
+      (behind_push s.manifest (after_seal s (prefix_of carry)).manifest refl refl sealed s.active hands.sealed
       (Some carry) (carry, hands.active.1, handed_segment s carry hands, refl) None (front_of s.manifest) s.parts
       hands.parts);
   active = (carry, refl, segment_called carry h, refl);

@@ -23,8 +23,8 @@ use Rattle.flow_snapshot.specs.Files.{cut_into}
 use Rattle.flow_model.specs.Shelved as shelved
 use Rattle.flow_model.specs.State.{Part, State}
 use Rattle.flow_archive.specs.Marks.{mark_of, numbered, IsMarkedAmong, IsNewestOf}
-use Rattle.flow_archive.specs.Owned.{octets_in, rolled_in, rollup_of, segment_in, segment_of, shelf_with, wide_in}
-use Rattle.flow_archive.specs.Owned.{Frozen}
+use Rattle.flow_archive.specs.Frozen.{octets_in, rolled_in, rollup_of, segment_in, segment_of, shelf_with, wide_in}
+use Rattle.flow_archive.specs.Frozen.{Frozen}
 use Rattle.flow_archive.specs.Parts.{part_at, parts_at}
 
 -- ---- the last one of a kind

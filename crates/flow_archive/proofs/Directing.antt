@@ -11,9 +11,9 @@ use Rattle.flow_model.specs.State.{at_rest, Job, Part, State}
 use Rattle.flow_model.specs.Chain.{HandsOn}
 use Rattle.flow_recover.specs.Kept.{IsCounted}
 use Rattle.flow_model.specs.Standing.{IsKnown}
-use Rattle.flow_archive.specs.Owned.{unshared, AreHeldAs, Frozen}
+use Rattle.flow_archive.specs.Frozen.{unshared, AreHeldAs, Frozen}
 use Rattle.flow_archive.specs.Seen.{state_in, IsArchive}
-use Rattle.flow_archive.specs.UnderWay.{Work, job_in, numbers_of}
+use Rattle.flow_archive.specs.UnderWay.{UnderWay, job_in, numbers_of}
 use Rattle.flow_archive.proofs.Sharing.{same_held, same_parts, same_stand}
 
 -- ---- where nothing differs but what is under way, and whether it is shared
@@ -83,7 +83,7 @@ shared_archive honest marks held d slots last end total carry files s closed =
     beside_archive s s.job s.waiting true honest marks held d slots last end total carry files closed
 
 -- whoever has its files too
-pub same_state : (work : Work) (shared : Bool) (m : Manifest) (new old : List Frozen) (prefix : List ℕ)
+pub same_state : (work : UnderWay) (shared : Bool) (m : Manifest) (new old : List Frozen) (prefix : List ℕ)
     (messages : List (List ℕ)) → map unshared new ≡ map unshared old
     → state_in work shared m new prefix messages ≡ state_in work shared m old prefix messages
 same_state work shared m new old prefix messages same =

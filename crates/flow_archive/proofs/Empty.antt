@@ -14,7 +14,7 @@ use Rattle.flow_recover.specs.Kept.{IsCounted, IsReadyFor}
 use Rattle.flow_model.specs.Standing.{HoldsFiles, IsKnown}
 use Rattle.flow_archive.specs.Beginning.{first_slots}
 use Rattle.flow_archive.specs.Seen.{IsArchive}
-use Rattle.flow_archive.proofs.Turning.{empty_list}
+use Rattle.flow_archive.proofs.SealSwap.{empty_list}
 
 pub first_valid : (generation width wide limit : ℕ) → generation ≤ 1
     → IsInRange (head_of (first_manifest 1 width wide limit)) → IsValidManifest (first_manifest generation width wide

@@ -27,7 +27,7 @@ use Rattle.flow_recover.specs.Kept.{IsCounted, IsReadyFor}
 use Rattle.flow_recover.specs.Opening.{FrozenStand}
 use Rattle.flow_model.specs.Standing.{IsKnown, IsRolledAt, StandsAs}
 use Rattle.flow_model.proofs.Replacing.{active_installed, front_installed, messages_installed, sources_are}
-use Rattle.flow_archive.specs.Owned.{counted_of, octets_in, AreHeldAs, Frozen, IsAlone, IsHeldAs}
+use Rattle.flow_archive.specs.Frozen.{counted_of, octets_in, AreHeldAs, Frozen, IsAlone, IsHeldAs}
 use Rattle.flow_archive.specs.Parts.{part_at, parts_at}
 use Rattle.flow_archive.specs.Seen.{AreFrozen, IsArchive, state_in}
 use Rattle.flow_archive.specs.declared.refusal.ArchiveError.{ArchiveError}
@@ -37,10 +37,10 @@ use Rattle.flow_archive.specs.declared.refusal.ArchiveError.TheVariants.{Closed}
 use Rattle.flow_archive.specs.declared.refusal.ArchiveError.TheVariants.{Damaged, SourceFault, RollBusy, NoRoll}
 use Rattle.flow_archive.specs.declared.refusal.ArchiveError.TheVariants.{RollCount, RollNotDone, Pinned, NothingToRetire}
 use Rattle.flow_archive.specs.Installing.{cut_in, IsNotInstalled, MayInstall}
-use Rattle.flow_archive.specs.JobAnswers.{cut_moved, AnswersInstall, IsInstalled, IsMadeOf}
+use Rattle.flow_archive.specs.JobAnswers.{cut_moved, AnswersInstall, IsInstalled, IsJobFile}
 use Rattle.flow_archive.specs.UnderWay.{job_in, number_in, AllDiffer, HasOwnFiles}
-use Rattle.flow_archive.specs.UnderWay.{numbers_of, staged_file, staged_in, work_in, IsRolling, IsStaged}
-use Rattle.flow_archive.specs.UnderWay.{IsUnderWay, IsUnnamed, IsWaiting, Made, Rolling, Work}
+use Rattle.flow_archive.specs.UnderWay.{numbers_of, staged_file, staged_in, under_way_in, IsRunningJob, IsStaged}
+use Rattle.flow_archive.specs.UnderWay.{IsUnderWay, IsUnnamed, IsWaiting, FrozenStaged, RunningJob, UnderWay}
 use Rattle.flow_archive.specs.UnderWay as files
 use Rattle.flow_archive.proofs.Owning.{as_many}
 use Rattle.flow_archive.proofs.Ready.{which_slot}
@@ -261,9 +261,9 @@ in_three n k xs =
 
 -- ---- the archive
 
-module _ {D : Type 0} (honest : D → Bool) (marks : D → ℕ → Marks) (held : D → ℕ → Held) (work : Work) (shared : Bool)
+module _ {D : Type 0} (honest : D → Bool) (marks : D → ℕ → Marks) (held : D → ℕ → Held) (work : UnderWay) (shared : Bool)
     (d d1 : D) (slots : Slots) (last : Entry) (end total : ℕ) (carry : Carry) (files : List Frozen) (front : List ℕ)
-    (messages : List (List ℕ)) (kind : JobKind) (count : ℕ) (f : Made) (part : Frozen) where
+    (messages : List (List ℕ)) (kind : JobKind) (count : ℕ) (f : FrozenStaged) (part : Frozen) where
   abbrev s : State
   s = state_in work shared slots.current files front messages
 
@@ -291,8 +291,8 @@ module _ {D : Type 0} (honest : D → Bool) (marks : D → ℕ → Marks) (held 
   abbrev pub then_files : List Frozen
   then_files = take place files ++ part ∷ drop (place + count) files
 
-  abbrev pub then_work : Work
-  then_work = work_in work.next None (work.waiting ++ moved)
+  abbrev pub then_work : UnderWay
+  then_work = under_way_in work.next None (work.waiting ++ moved)
 
   abbrev pub then_state : State
   then_state = state_in then_work shared after.manifest then_files front messages
@@ -588,13 +588,13 @@ module _ (m : Manifest) (valid : IsValidManifest m) (kind : JobKind) (count : �
   among n all = subst (AllByRecursion (λ e. e.file ≢ n)) (sources_are m valid kind count few)
       (all_take (λ e. e.file ≢ n) count (drop from m.entries) (all_drop (λ e. e.file ≢ n) from m.entries all))
 
-  pub own_installed : (marks : ℕ → Marks) (s : State) (closed shared : Bool) (r : Rolling) (f : Made) (part : Frozen)
+  pub own_installed : (marks : ℕ → Marks) (s : State) (closed shared : Bool) (r : RunningJob) (f : FrozenStaged) (part : Frozen)
       (next : ℕ) (waiting : List Frozen) → s.manifest ≡ m → r.staged ≡ Some f → IsAlone part
-      → AllByRecursion (IsWaiting marks s closed) waiting → HasOwnFiles shared files (work_in next (Some r) waiting)
-      → HasOwnFiles shared (take from files ++ part ∷ drop (from + count) files) (work_in next None (waiting ++ taken))
+      → AllByRecursion (IsWaiting marks s closed) waiting → HasOwnFiles shared files (under_way_in next (Some r) waiting)
+      → HasOwnFiles shared (take from files ++ part ∷ drop (from + count) files) (under_way_in next None (waiting ++ taken))
   own_installed marks s closed shared r f part next waiting same staged alone waits own =
       let differ : AllDiffer (f.file ∷ numbers_of waiting) =
-      subst (λ (x : Option Made). AllDiffer (number_in (staged_in x) ++ numbers_of waiting)) staged own.differ in
+      subst (λ (x : Option FrozenStaged). AllDiffer (number_in (staged_in x) ++ numbers_of waiting)) staged own.differ in
       record {
         alone = λ not. alone_join (take from files) (part ∷ drop (from + count) files)
             (alone_take from files (own.alone not)) (alone, alone_drop (from + count) files (own.alone not));
@@ -609,17 +609,17 @@ module _ (m : Manifest) (valid : IsValidManifest m) (kind : JobKind) (count : �
       }
 
   -- and the file that was made isn't one of those that wait
-  pub made_apart : (shared : Bool) (r : Rolling) (f : Made) (next : ℕ) (waiting : List Frozen) → r.staged ≡ Some f
-      → HasOwnFiles shared files (work_in next (Some r) waiting)
+  pub made_apart : (shared : Bool) (r : RunningJob) (f : FrozenStaged) (next : ℕ) (waiting : List Frozen) → r.staged ≡ Some f
+      → HasOwnFiles shared files (under_way_in next (Some r) waiting)
       → AllByRecursion (λ x. x.entry.file ≢ f.file) waiting
   made_apart shared r f next waiting staged own =
       let differ : AllDiffer (f.file ∷ numbers_of waiting) =
-      subst (λ (x : Option Made). AllDiffer (number_in (staged_in x) ++ numbers_of waiting)) staged own.differ in
+      subst (λ (x : Option FrozenStaged). AllDiffer (number_in (staged_in x) ++ numbers_of waiting)) staged own.differ in
       numbered (λ n. n ≢ f.file) waiting differ.0
 
 -- ---- what is answered
 
-may_staged : (honest : Bool) (s : State) (r : Rolling) (f : Option Made) → IsRolling honest s r
+may_staged : (honest : Bool) (s : State) (r : RunningJob) (f : Option FrozenStaged) → IsRunningJob honest s r
     → IfSome f (IsStaged honest s r) → s.manifest.next ≤ s.next → IfSome f (MayInstall s.manifest s.next r)
 may_staged honest s r None is staged far = tt
 may_staged honest s r (Some f) is staged far = record {
@@ -632,16 +632,16 @@ may_staged honest s r (Some f) is staged far = record {
   later = far;
 }
 
-pub may_install : (honest : Bool) (s : State) (job : Option Rolling) → IfSome job (IsRolling honest s)
+pub may_install : (honest : Bool) (s : State) (job : Option RunningJob) → IfSome job (IsRunningJob honest s)
     → s.manifest.next ≤ s.next → IfSome job (λ r. IfSome r.staged (MayInstall s.manifest s.next r))
 may_install honest s None is far = tt
 may_install honest s (Some r) is far = may_staged honest s r r.staged is is.staged far
 
-pub some_made : (r : Rolling) (f : Made) → r.staged ≡ Some f → staged_in r.staged ≢ None
+pub some_made : (r : RunningJob) (f : FrozenStaged) → r.staged ≡ Some f → staged_in r.staged ≢ None
 some_made r f is none =
     let never : Some (staged_file f) ≡ None = sym (ap staged_in is) ∙ none in absurd (cc)
 
-pub not_installed : (honest closed : Bool) (s : State) (job : Option Rolling) (e : ArchiveError) → closed ≡ false
+pub not_installed : (honest closed : Bool) (s : State) (job : Option RunningJob) (e : ArchiveError) → closed ≡ false
     → s.job ≡ job_in job → IsNotInstalled job e → AnswersInstall honest closed s (Err e) s
 not_installed honest closed s job NoRoll still same is = (still, same ∙ ap job_in is, refl)
 not_installed honest closed s job RollNotDone still same (r, is, none) =
@@ -663,10 +663,10 @@ not_installed honest closed s job Pinned still same is = absurd is
 not_installed honest closed s job NothingToRetire still same is = absurd is
 not_installed honest closed s job Closed still same is = absurd is
 
-pub is_installed : (honest : Bool) (s : State) (r : Rolling) (f : Made) (job : Option Rolling) → job ≡ Some r
+pub is_installed : (honest : Bool) (s : State) (r : RunningJob) (f : FrozenStaged) (job : Option RunningJob) → job ≡ Some r
     → s.job ≡ job_in job → r.staged ≡ Some f → 1 ≤ r.sources
     → r.sources ≤ count_of (source_of r.kind) s.manifest.entries → (octets : List ℕ)
-    → (IsTrue honest → IsMadeOf s (told r) f.octets × (octets ≡ f.octets)) → (then : State)
+    → (IsTrue honest → IsJobFile s (told r) f.octets × (octets ≡ f.octets)) → (then : State)
     → then ≡ record (replaced s r.kind r.sources (staged_file f)) {
       parts = replaced_parts r.kind r.sources octets s.manifest.entries s.parts;
     } → IsInstalled honest s then
@@ -683,6 +683,6 @@ cut_is Merge then = refl
 -- ---- its octets
 
 pub made_long : {S : Type 0} (number size : S → ℕ) (honest : S → Bool) (octets : S → List ℕ) (x : S)
-    → length (files.made_of number size honest octets x).octets ≡ size x
+    → length (files.frozen_staged number size honest octets x).octets ≡ size x
 made_long number size honest octets x = length-take-le (size x) (octets x ++ replicate (size x) 0)
     (omega (arith, length-append (octets x) (replicate (size x) 0), length-replicate {A = ℕ} (size x) 0))

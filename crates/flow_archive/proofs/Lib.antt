@@ -1,12 +1,12 @@
 pub mod Appending
 pub mod Stand
-pub mod Turning
+pub mod SealSwap
 pub mod Chaining
 pub mod Ready
 pub mod Stepping
 pub mod Whole
 pub mod Parting
-pub mod Moved
+pub mod AfterSeal
 pub mod Answering
 pub mod Running
 pub mod Empty
@@ -14,7 +14,7 @@ pub mod Reopened
 pub mod Owning
 pub mod Shelving
 pub mod Directing
-pub mod Swapping
+pub mod InstallSwap
 pub mod SourceSums
 pub mod Working
 pub mod Written

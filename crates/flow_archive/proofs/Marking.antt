@@ -21,8 +21,8 @@ use Rattle.flow_model.specs.Changes.Change.{added}
 use Rattle.flow_model.specs.State.{State}
 use Rattle.flow_archive.specs.Marks.{numbered, HasKind, HasMark, HasMarkAmong, IsMarked, IsMarkedAmong}
 use Rattle.flow_archive.specs.Marks.{IsNewest, IsNewestOf}
-use Rattle.flow_archive.specs.Owned.{rollup_of, segment_of, unshared}
-use Rattle.flow_archive.specs.Owned.{AreHeldAs, Frozen}
+use Rattle.flow_archive.specs.Frozen.{rollup_of, segment_of, unshared}
+use Rattle.flow_archive.specs.Frozen.{AreHeldAs, Frozen}
 use Rattle.flow_archive.proofs.Owning.{as_many, honest_at}
 use Rattle.flow_archive.proofs.SourceStand.{all_at, entry_at}
 

@@ -6,7 +6,7 @@ use Rattle.std.specs.List.{flat_map, list_all, AllByRecursion}
 use Rattle.std.proofs.lemmas.Grind.{flat_map-append}
 use Rattle.std.proofs.lemmas.List.{append-nil, drop_more, take_more}
 use Rattle.flow_manifest.specs.declared.manifest.Entry.{Entry}
-use Rattle.flow_archive.specs.Owned.{all_frozen, frozen_as, AreHeldAs, Frozen, IsHeldAs, MayBeFrozen}
+use Rattle.flow_archive.specs.Frozen.{all_frozen, frozen_as, AreHeldAs, Frozen, IsHeldAs, MayBeFrozen}
 use Rattle.flow_recover.specs.Kept.{AreFilesOf, IsFileOf}
 
 pub as_many : (honest : Bool) (entries : List Entry) (files : List Frozen) → AreHeldAs honest entries files

@@ -14,10 +14,10 @@ use Rattle.flow_manifest.specs.Manifest.{IsValidManifest}
 use Rattle.flow_manifest.specs.Following.{active_of, front_of, sealed_entry, active_entry, messages_of}
 use Rattle.flow_manifest.specs.Slots.{file_of, other}
 use Rattle.flow_manifest.proofs.Followers.{all_sum, next_active}
-use Rattle.flow_model.specs.State.{State, appended, end_of, moved_on}
+use Rattle.flow_model.specs.State.{State, appended, end_of, after_seal}
 use Rattle.flow_recover.specs.Kept.{IsCounted, IsReadyFor}
 use Rattle.flow_model.specs.Standing.{IsWithinLimits}
-use Rattle.flow_archive.specs.Moving.{MovesMarks}
+use Rattle.flow_archive.specs.Sealing.{SealsMarks}
 use Rattle.flow_archive.proofs.Stand.{slot_below}
 
 -- a batch has 16 octets at least
@@ -81,8 +81,8 @@ which_slot P Second one two Second = one
 
 -- after a seal
 pub counted_moved : (s : State) (last : Entry) (end total : ℕ) (prefix : List ℕ) → IsCounted s last end total
-    → IsValidManifest (moved_on s prefix).manifest
-    → IsCounted (moved_on s prefix) (active_entry s.next (length prefix)) (length prefix) total
+    → IsValidManifest (after_seal s prefix).manifest
+    → IsCounted (after_seal s prefix) (active_entry s.next (length prefix)) (length prefix) total
 counted_moved s last end total prefix counted valid = record {
   valid = valid;
   next = omega arith;
@@ -99,7 +99,7 @@ counted_moved s last end total prefix counted valid = record {
     fresh : Entry
     fresh = active_entry s.next (length prefix)
 
-    fresh_is : active_of (moved_on s prefix).manifest ≡ fresh
+    fresh_is : active_of (after_seal s prefix).manifest ≡ fresh
     fresh_is = next_active s.manifest counted.valid (end_of s) (length s.active.messages) s.next (length prefix)
 
     sums : messages_of (front_of s.manifest ++ sealed ∷ fresh ∷ [])
@@ -113,7 +113,7 @@ counted_moved s last end total prefix counted valid = record {
     )
 
 pub ready_moved : (old new : ℕ → Marks) (active next end : ℕ) (slot : Slot) (prefix : ℕ) → 3 ≤ active → active < next
-    → IsReadyFor old active next end → MovesMarks old new active next (file_of (other slot)) prefix
+    → IsReadyFor old active next end → SealsMarks old new active next (file_of (other slot)) prefix
     → IsReadyFor new next (next + 1) prefix
 ready_moved old new active next end slot prefix from below ready moved = record {
   slot_room = which_slot (λ n. 1 ≤ (new n).size) slot

@@ -20,11 +20,11 @@ use Rattle.flow_segment.specs.Steps.{IsAnything}
 use Rattle.flow_model.specs.State.{State}
 use Rattle.flow_recover.specs.Kept.{IsReadyFor}
 use Rattle.flow_model.specs.Standing.{IsKnown}
-use Rattle.flow_archive.specs.Owned.{AreHeldAs, Frozen}
+use Rattle.flow_archive.specs.Frozen.{AreHeldAs, Frozen}
 use Rattle.flow_archive.specs.Seen.{state_in, IsArchive, StandsBeforeOrAfter}
-use Rattle.flow_archive.specs.UnderWay.{job_in, job_numbers, number_in, numbers_of, staged_in, work_in, AllDiffer}
-use Rattle.flow_archive.specs.UnderWay.{HasOwnFiles, IsOnDisk, Made, IsRolling, IsStaged, IsUnderWay, IsUnnamed, IsWaiting}
-use Rattle.flow_archive.specs.UnderWay.{Rolling}
+use Rattle.flow_archive.specs.UnderWay.{job_in, job_numbers, number_in, numbers_of, staged_in, under_way_in, AllDiffer}
+use Rattle.flow_archive.specs.UnderWay.{HasOwnFiles, IsOnDisk, FrozenStaged, IsRunningJob, IsStaged, IsUnderWay, IsUnnamed, IsWaiting}
+use Rattle.flow_archive.specs.UnderWay.{RunningJob}
 use Rattle.flow_archive.proofs.Directing.{beside_archive, failed_archive}
 use Rattle.flow_archive.proofs.Stand.{cutting, slot_below, stands_for, valid_of}
 use Rattle.flow_archive.proofs.Working.{goes_on, other_file}
@@ -151,7 +151,7 @@ module _ {D : Type 0} (honest : D → Bool) (marks : D → ℕ → Marks) (held 
   unnamed_too waiting k is = record { from = is.from; below = is.below; apart = is.apart }
 
   module _ (waiting : List ℕ) where
-    staged_too : (h : Bool) (r : Rolling) (f : Option Made) → IfSome f (IsStaged h s r)
+    staged_too : (h : Bool) (r : RunningJob) (f : Option FrozenStaged) → IfSome f (IsStaged h s r)
         → IfSome f (IsStaged h (with_waiting s waiting) r)
     staged_too h r None is = tt
     staged_too h r (Some f) is = record {
@@ -162,8 +162,8 @@ module _ {D : Type 0} (honest : D → Bool) (marks : D → ℕ → Marks) (held 
       made = is.made;
     }
 
-    rolling_too : (h : Bool) (job : Option Rolling) → IfSome job (IsRolling h s)
-        → IfSome job (IsRolling h (with_waiting s waiting))
+    rolling_too : (h : Bool) (job : Option RunningJob) → IfSome job (IsRunningJob h s)
+        → IfSome job (IsRunningJob h (with_waiting s waiting))
     rolling_too h None is = tt
     rolling_too h (Some r) is = record {
       some = is.some;
@@ -187,7 +187,7 @@ module _ {D : Type 0} (honest : D → Bool) (marks : D → ℕ → Marks) (held 
       waiting_too closed files apart.1 all.1,
     )
 
-  staged_there : (f : Option Made) → AllByRecursion (λ o. o ≢ n) (number_in (staged_in f))
+  staged_there : (f : Option FrozenStaged) → AllByRecursion (λ o. o ≢ n) (number_in (staged_in f))
       → IfSome f (IsOnDisk honest marks held d) → IfSome f (IsOnDisk honest marks held d1)
   staged_there None apart there = tt
   staged_there (Some f) apart there = record {
@@ -196,22 +196,22 @@ module _ {D : Type 0} (honest : D → Bool) (marks : D → ℕ → Marks) (held 
         (subst (λ (x : Held). IsImage x image) (held_too (back h1) f.file apart.0) left);
   }
 
-  job_there : (job : Option Rolling) → AllByRecursion (λ o. o ≢ n) (job_numbers (job_in job))
+  job_there : (job : Option RunningJob) → AllByRecursion (λ o. o ≢ n) (job_numbers (job_in job))
       → IfSome job (λ r. IfSome r.staged (IsOnDisk honest marks held d))
       → IfSome job (λ r. IfSome r.staged (IsOnDisk honest marks held d1))
   job_there None apart there = tt
   job_there (Some r) apart there = staged_there r.staged apart there
 
   -- the oldest of those that wait is removed
-  pub removed_work : (next : ℕ) (job : Option Rolling) (f : Frozen) (rest : List Frozen) (closed : Bool)
+  pub removed_work : (next : ℕ) (job : Option RunningJob) (f : Frozen) (rest : List Frozen) (closed : Bool)
       → f.entry.file ≡ n → AllDiffer (job_numbers (job_in job) ++ numbers_of (f ∷ rest))
-      → IsUnderWay honest marks held d s (work_in next job (f ∷ rest)) closed
-      → IsUnderWay honest marks held d1 (with_waiting s (numbers_of rest)) (work_in next job rest) closed
+      → IsUnderWay honest marks held d s (under_way_in next job (f ∷ rest)) closed
+      → IsUnderWay honest marks held d1 (with_waiting s (numbers_of rest)) (under_way_in next job rest) closed
   removed_work next job f rest closed same differ was =
       let numbers = job_numbers (job_in job) in
       let now = subst (λ (k : ℕ). AllDiffer (numbers ++ k ∷ numbers_of rest)) same differ in
       record {
-        job = subst (λ (h : Bool). IfSome job (IsRolling h (with_waiting s (numbers_of rest)))) (sym honest_too)
+        job = subst (λ (h : Bool). IfSome job (IsRunningJob h (with_waiting s (numbers_of rest)))) (sym honest_too)
             (rolling_too (numbers_of rest) (honest d) job was.job);
         on_disk = λ is. job_there job (differ_before numbers (numbers_of rest) n now) (was.on_disk is);
         waiting = waiting_too (numbers_of rest) closed rest (differ_behind numbers (numbers_of rest) n now)
@@ -220,9 +220,9 @@ module _ {D : Type 0} (honest : D → Bool) (marks : D → ℕ → Marks) (held 
 
 -- ---- the archive after it
 
-pub own_removed : (shared : Bool) (files : List Frozen) (next : ℕ) (job : Option Rolling) (f : Frozen)
-    (rest : List Frozen) → HasOwnFiles shared files (work_in next job (f ∷ rest))
-    → HasOwnFiles shared files (work_in next job rest)
+pub own_removed : (shared : Bool) (files : List Frozen) (next : ℕ) (job : Option RunningJob) (f : Frozen)
+    (rest : List Frozen) → HasOwnFiles shared files (under_way_in next job (f ∷ rest))
+    → HasOwnFiles shared files (under_way_in next job rest)
 own_removed shared files next job f rest own = record {
   alone = own.alone;
   waiting = λ not. (own.waiting not).1;
@@ -231,16 +231,16 @@ own_removed shared files next job f rest own = record {
 
 module _ {D : Type 0} (honest : D → Bool) (marks : D → ℕ → Marks) (held : D → ℕ → Held) (slots : Slots) (last : Entry)
     (end total : ℕ) (carry : Carry) (files : List Frozen) (prefix : List ℕ) (messages : List (List ℕ)) (next : ℕ)
-    (job : Option Rolling) (shared : Bool) where
+    (job : Option RunningJob) (shared : Bool) where
   abbrev pub state_of : List Frozen → State
-  state_of waiting = state_in (work_in next job waiting) shared slots.current files prefix messages
+  state_of waiting = state_in (under_way_in next job waiting) shared slots.current files prefix messages
 
   -- the archive's invariant
   abbrev pub Holds : D → Bool → List Frozen → Type 0
   Holds x closed waiting =
       IsArchive honest marks held x slots last end total carry files (state_of waiting) closed
-      × IsUnderWay honest marks held x (state_of waiting) (work_in next job waiting) closed
-      × HasOwnFiles shared files (work_in next job waiting)
+      × IsUnderWay honest marks held x (state_of waiting) (under_way_in next job waiting) closed
+      × HasOwnFiles shared files (under_way_in next job waiting)
 
   pub removed : (d d1 : D) (closed : Bool) (f : Frozen) (rest : List Frozen) (n : ℕ) → Holds d closed (f ∷ rest)
       → f.entry.file ≡ n → honest d1 ≡ honest d → ((k : ℕ) → k ≢ n → marks d1 k ≡ marks d k)
@@ -263,7 +263,7 @@ module _ {D : Type 0} (honest : D → Bool) (marks : D → ℕ → Marks) (held 
       let s = state_of waiting in (
         failed_archive honest marks held d d slots last end total carry carry files s closed was.0 refl,
         goes_on s s.active shared honest marks held d d closed true refl (λ is. absurd (cc)) (λ is. absurd (cc))
-            (λ is. absurd (cc)) (work_in next job waiting) was.1,
+            (λ is. absurd (cc)) (under_way_in next job waiting) was.1,
         was.2,
       )
 

@@ -19,9 +19,9 @@ use Rattle.flow_model.specs.Chain.{HandsOn}
 use Rattle.flow_recover.specs.Kept.{AreFilesOf, IsCounted}
 use Rattle.flow_recover.specs.Opening.{FrozenStand, IsRecovered}
 use Rattle.flow_model.specs.Standing.{IsKnown, IsRolledAt, StandsAs, StandsFor}
-use Rattle.flow_archive.specs.Owned.{all_frozen, counted_of, octets_in, AreHeldAs, Frozen, MayBeFrozen}
+use Rattle.flow_archive.specs.Frozen.{all_frozen, counted_of, octets_in, AreHeldAs, Frozen, MayBeFrozen}
 use Rattle.flow_archive.specs.Parts.{part_at, parts_at}
-use Rattle.flow_archive.specs.UnderWay.{no_work}
+use Rattle.flow_archive.specs.UnderWay.{none_under_way}
 use Rattle.flow_archive.specs.Seen.{IsArchive, state_in}
 use Rattle.flow_archive.proofs.Parting.{one_sealed}
 
@@ -128,7 +128,7 @@ module _ {D S : Type 0} (honest : D → Bool) (marks : D → ℕ → Marks) (hel
   found_files = all_frozen is_honest octets (front_of slots.current) frozen
 
   abbrev pub found_state : State
-  found_state = state_in (no_work slots.current.next) false slots.current found_files active.front active.messages
+  found_state = state_in (none_under_way slots.current.next) false slots.current found_files active.front active.messages
 
   stand : (found : Found) → IsTrue (honest disk)
       → FrozenStand octets_in (front_of slots.current) found.parts found_files

@@ -8,10 +8,10 @@ use Rattle.flow_manifest.specs.declared.manifest.Kind.{Kind}
 use Rattle.flow_manifest.specs.declared.manifest.Kind.TheVariants.{Wide, Rolled, Sealed, Active}
 use Rattle.flow_model.specs.State.{Part}
 use Rattle.flow_recover.specs.Opening.{FrozenStand}
-use Rattle.flow_archive.specs.Owned.{all_frozen, octets_in, rolled_in, segment_in, shelf_with, unshared, wide_in}
-use Rattle.flow_archive.specs.Owned.{AreHeldAs, Frozen, IsAlone}
+use Rattle.flow_archive.specs.Frozen.{all_frozen, octets_in, rolled_in, segment_in, shelf_with, unshared, wide_in}
+use Rattle.flow_archive.specs.Frozen.{AreHeldAs, Frozen, IsAlone}
 use Rattle.flow_archive.specs.Parts.{part_at, parts_at}
-use Rattle.flow_archive.specs.UnderWay.{job_in, job_numbers, no_work, numbers_of, work_in, AllDiffer, HasOwnFiles, Rolling, Work}
+use Rattle.flow_archive.specs.UnderWay.{job_in, job_numbers, none_under_way, numbers_of, under_way_in, AllDiffer, HasOwnFiles, RunningJob, UnderWay}
 
 -- ---- what they are
 
@@ -140,7 +140,7 @@ same_honest new old same all = subst IsTrue
 
 -- ---- which of them the archive alone has
 
-pub own_nothing : (shared : Bool) (next : ℕ) → HasOwnFiles shared [] (no_work next)
+pub own_nothing : (shared : Bool) (next : ℕ) → HasOwnFiles shared [] (none_under_way next)
 own_nothing shared next = record { alone = λ _. tt; waiting = λ _. tt; differ = tt }
 
 alone_push : (f : Frozen) → IsAlone f → (files : List Frozen) → AllByRecursion IsAlone files
@@ -148,9 +148,9 @@ alone_push : (f : Frozen) → IsAlone f → (files : List Frozen) → AllByRecur
 alone_push f is [] all = (is, tt)
 alone_push f is (x ∷ files) all = (all.0, alone_push f is files all.1)
 
-pub own_push : (shared : Bool) (files : List Frozen) (work : Work) (f : Frozen) → IsAlone f
+pub own_push : (shared : Bool) (files : List Frozen) (work : UnderWay) (f : Frozen) → IsAlone f
     → HasOwnFiles shared files work
-    → HasOwnFiles shared (files ++ f ∷ []) (work_in (work.next + 1) work.job work.waiting)
+    → HasOwnFiles shared (files ++ f ∷ []) (under_way_in (work.next + 1) work.job work.waiting)
 own_push shared files work f is own = record {
   alone = λ not. alone_push f is files (own.alone not);
   waiting = own.waiting;
@@ -158,7 +158,7 @@ own_push shared files work f is own = record {
 }
 
 -- whatever a directory has of them
-pub own_shared : (shared : Bool) (new old : List Frozen) (work : Work) → HasOwnFiles shared old work
+pub own_shared : (shared : Bool) (new old : List Frozen) (work : UnderWay) → HasOwnFiles shared old work
     → HasOwnFiles true new work
 own_shared shared new old work own =
     record { alone = λ is. absurd (cc); waiting = λ is. absurd (cc); differ = own.differ }
@@ -171,14 +171,14 @@ frozen_alone honest octets (e ∷ entries) [] = tt
 frozen_alone honest octets (e ∷ entries) (f ∷ files) = (refl, frozen_alone honest octets entries files)
 
 pub own_found : {S : Type 0} (honest : S → Bool) (octets : S → List ℕ) (entries : List Entry) (files : List S)
-    (shared : Bool) (next : ℕ) → HasOwnFiles shared (all_frozen honest octets entries files) (no_work next)
+    (shared : Bool) (next : ℕ) → HasOwnFiles shared (all_frozen honest octets entries files) (none_under_way next)
 own_found honest octets entries files shared next =
     record { alone = λ _. frozen_alone honest octets entries files; waiting = λ _. tt; differ = tt }
 
 -- with another job whose file has the same number, if any
-pub own_numbers : (shared : Bool) (files : List Frozen) (old : Work) (next : ℕ) (job : Option Rolling)
+pub own_numbers : (shared : Bool) (files : List Frozen) (old : UnderWay) (next : ℕ) (job : Option RunningJob)
     → job_numbers (job_in job) ≡ job_numbers (job_in old.job) → HasOwnFiles shared files old
-    → HasOwnFiles shared files (work_in next job old.waiting)
+    → HasOwnFiles shared files (under_way_in next job old.waiting)
 own_numbers shared files old next job same own = record {
   alone = own.alone;
   waiting = own.waiting;

@@ -18,7 +18,7 @@ use Rattle.flow_model.specs.Changes.{added, applied, closed, installed, joined}
 use Rattle.flow_model.specs.Shelf.{Rollup, Segment, Shelf}
 use Rattle.flow_model.specs.Jobs.{replaced, replaced_parts, staged_of}
 use Rattle.flow_model.specs.Shelved.{active_shelf, rollup_of, segment_of, shelf_of, shelved, shelved_first}
-use Rattle.flow_model.specs.State.{Job, Part, StagedFile, State, end_of, moved_on}
+use Rattle.flow_model.specs.State.{Job, Part, StagedFile, State, end_of, after_seal}
 use Rattle.flow_model.proofs.History.{appended_shelf, closed_last}
 use Rattle.flow_model.proofs.Installing.{merge_front, no_merged, no_rolled, roll_front, rollups, shelved_join}
 use Rattle.flow_model.proofs.Replacing.{are_behind, are_sources, first_same, front_installed, low, number, sources_same}
@@ -37,12 +37,12 @@ closed_segment s sealed =
 
 pub moved_shelf : (s : State) (prefix : List ℕ) (sealed : Part) → IsValidManifest s.manifest
     → length s.parts ≡ length (front_of s.manifest)
-    → shelf_of (record (moved_on s prefix) { parts = s.parts ++ sealed ∷ [] })
+    → shelf_of (record (after_seal s prefix) { parts = s.parts ++ sealed ∷ [] })
     ≡ applied (shelf_of s) (closed (closed_segment s sealed) prefix)
 moved_shelf s prefix sealed valid long =
     let entry = sealed_entry (active_of s.manifest) (end_of s) (length s.active.messages) in
     let front = next_front s.manifest valid (end_of s) (length s.active.messages) s.next (length prefix) in
-    let last = active_shelf (moved_on s prefix) in
+    let last = active_shelf (after_seal s prefix) in
     ap (λ (es : List Entry). shelved es (s.parts ++ sealed ∷ []) last) front
     ∙ shelved_join (front_of s.manifest) (entry ∷ []) s.parts (sealed ∷ []) last (sym long)
     ∙ closed_last (closed_segment s sealed) prefix (front_of s.manifest) s.parts (active_shelf s)

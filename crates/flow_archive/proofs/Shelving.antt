@@ -10,8 +10,8 @@ use Rattle.flow_manifest.specs.Following.{front_of}
 use Rattle.flow_model.specs.Shelf.{Rollup, Segment, Shelf}
 use Rattle.flow_model.specs.Shelved as shelved
 use Rattle.flow_model.specs.State.{Part, State}
-use Rattle.flow_archive.specs.Owned.{counted_of, octets_in, rolled_in, rollup_of, segment_in, segment_of, shelf_with}
-use Rattle.flow_archive.specs.Owned.{wide_in, AreHeldAs, Frozen}
+use Rattle.flow_archive.specs.Frozen.{counted_of, octets_in, rolled_in, rollup_of, segment_in, segment_of, shelf_with}
+use Rattle.flow_archive.specs.Frozen.{wide_in, AreHeldAs, Frozen}
 use Rattle.flow_archive.specs.Parts.{part_at, parts_at}
 
 -- ---- one file

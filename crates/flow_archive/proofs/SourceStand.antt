@@ -25,7 +25,7 @@ use Rattle.flow_model.specs.Jobs.{source_parts, width_made, IsJobSum}
 use Rattle.flow_recover.specs.Opening.{FrozenStand}
 use Rattle.flow_model.specs.Standing.{IsSealedAt, StandsAs}
 use Rattle.flow_model.proofs.Replacing.{are_sources}
-use Rattle.flow_archive.specs.Owned.{counted_of, octets_in, AreHeldAs, Frozen, IsHeldAs}
+use Rattle.flow_archive.specs.Frozen.{counted_of, octets_in, AreHeldAs, Frozen, IsHeldAs}
 use Rattle.flow_archive.specs.declared.refusal.ArchiveError.TheVariants as refusal
 use Rattle.flow_archive.specs.declared.sources.SourceError.{SourceError}
 use Rattle.flow_archive.specs.declared.sources.SourceError.TheVariants as source
@@ -33,7 +33,7 @@ use Rattle.flow_archive.specs.Advancing.{IsTaken, IsTakenIn}
 use Rattle.flow_archive.specs.JobAnswers.{left_of, stepped, AnswersStep, HasJob, IsFirstFile, IsNextFile}
 use Rattle.flow_archive.specs.Seen.{IsArchive}
 use Rattle.flow_archive.specs.Sources.{of_source, IsJobTime, IsSource}
-use Rattle.flow_archive.specs.UnderWay.{Made, Rolling, job_in, staged_in, IsRolling, IsStaged}
+use Rattle.flow_archive.specs.UnderWay.{FrozenStaged, RunningJob, job_in, staged_in, IsRunningJob, IsStaged}
 
 -- ---- a file, its entry and its part
 
@@ -191,29 +191,29 @@ module _ (s : State) (valid : IsValidManifest s.manifest) (kind : JobKind) (coun
 
 -- ---- the job
 
-no_staged : (honest : Bool) (s : State) (r : Rolling) (f : Option Made) → IfSome f (IsStaged honest s r)
+no_staged : (honest : Bool) (s : State) (r : RunningJob) (f : Option FrozenStaged) → IfSome f (IsStaged honest s r)
     → r.read < r.sources → f ≡ None
 no_staged honest s r None is lt = refl
 no_staged honest s r (Some f) is lt = absurd (omega (arith, is.all, lt))
 
-pub none_staged : (honest : Bool) (s : State) (r : Rolling) → IsRolling honest s r → r.read < r.sources
+pub none_staged : (honest : Bool) (s : State) (r : RunningJob) → IsRunningJob honest s r → r.read < r.sources
     → r.staged ≡ None
 none_staged honest s r is lt = no_staged honest s r r.staged is.staged lt
 
-pub taken_rolling : (honest : Bool) (s : State) (old new : Rolling) → IsRolling honest s old → old.read < old.sources
+pub taken_rolling : (honest : Bool) (s : State) (old new : RunningJob) → IsRunningJob honest s old → old.read < old.sources
     → IsTaken old new
     → (IsTrue honest → IsJobSum old.kind s.manifest (take (old.read + 1) (source_parts old.kind old.sources s)) new.rows
     × IsJobTime old.kind (take (old.read + 1) (source_parts old.kind old.sources s)) new.time)
-    → IsRolling honest s new
+    → IsRunningJob honest s new
 taken_rolling honest s old new is lt (same, width) sums =
-    subst (IsRolling honest s) (sym same) (record {
+    subst (IsRunningJob honest s) (sym same) (record {
       some = is.some;
       few = is.few;
       read = omega (arith, lt);
       width = width ∙ is.width;
       sums = λ h. (sums h).0;
       time = λ h. (sums h).1;
-      staged = subst (λ (f : Option Made). IfSome f (IsStaged honest s (record old {
+      staged = subst (λ (f : Option FrozenStaged). IfSome f (IsStaged honest s (record old {
         read = old.read + 1;
         rows = new.rows;
         time = new.time;
@@ -222,7 +222,7 @@ taken_rolling honest s old new is lt (same, width) sums =
 
 -- ---- what is answered
 
-pub at_end : (s : State) (j : Rolling) → s.job ≡ job_in (Some j) → j.read ≡ j.sources
+pub at_end : (s : State) (j : RunningJob) → s.job ≡ job_in (Some j) → j.read ≡ j.sources
     → HasJob s (λ job. (0 ≡ left_of (stepped job))
     × (record s { job = job_in (Some j) } ≡ record s { job = Some (stepped job) }))
 at_end s j is end = (
@@ -236,7 +236,7 @@ at_end s j is end = (
   ),
 )
 
-pub one_less : (s : State) (j new : Rolling) → s.job ≡ job_in (Some j) → j.read < j.sources → IsTaken j new
+pub one_less : (s : State) (j new : RunningJob) → s.job ≡ job_in (Some j) → j.read < j.sources → IsTaken j new
     → HasJob s (λ job. (new.sources - new.read ≡ left_of (stepped job))
     × (record s { job = job_in (Some new) } ≡ record s { job = Some (stepped job) }))
 one_less s j new is lt (same, width) =
@@ -244,8 +244,8 @@ one_less s j new is lt (same, width) =
       record { kind = j.kind; sources = j.sources; read = j.read; staged = staged_in j.staged },
       is,
       (
-        ap (λ (r : Rolling). r.sources - r.read) same ∙ ap (λ (n : ℕ). j.sources - n) next,
-        ap (λ (r : Rolling). record s { job = job_in (Some r) }) same
+        ap (λ (r : RunningJob). r.sources - r.read) same ∙ ap (λ (n : ℕ). j.sources - n) next,
+        ap (λ (r : RunningJob). record s { job = job_in (Some r) }) same
             ∙ ap (λ (n : ℕ). record s {
               job = Some (record { kind = j.kind; sources = j.sources; read = n; staged = staged_in j.staged });
             }) next,
@@ -253,7 +253,7 @@ one_less s j new is lt (same, width) =
     )
 
 -- a refusal changes nothing
-pub not_stepped : (honest closed : Bool) (s after : State) (j new : Rolling) (first number : ℕ) (e : SourceError)
+pub not_stepped : (honest closed : Bool) (s after : State) (j new : RunningJob) (first number : ℕ) (e : SourceError)
     → closed ≡ false → s.job ≡ job_in (Some j) → j.read < j.sources → after ≡ s
     → IsFirstFile s (record { kind = j.kind; sources = j.sources; read = j.read; staged = staged_in j.staged }) first
     → IsNextFile s (record { kind = j.kind; sources = j.sources; read = j.read; staged = staged_in j.staged }) number
@@ -315,8 +315,8 @@ as_long (e ∷ es) (p ∷ ps) (f ∷ fs) stand = omega (arith, as_long es ps fs 
 
 pub source_read : {D : Type 0} (honest : D → Bool) (marks : D → ℕ → Marks) (held : D → ℕ → Held) (d : D)
     (slots : Slots) (last : Entry) (end total : ℕ) (carry : Carry) (files : List Frozen) (s : State) (closed : Bool)
-    → closed ≡ false → IsArchive honest marks held d slots last end total carry files s closed → (j new : Rolling)
-    (f : Frozen) (r : Result (Unit {0}) SourceError) → IsRolling (honest d) s j → j.read < j.sources
+    → closed ≡ false → IsArchive honest marks held d slots last end total carry files s closed → (j new : RunningJob)
+    (f : Frozen) (r : Result (Unit {0}) SourceError) → IsRunningJob (honest d) s j → j.read < j.sources
     → f ≡ get_or files (count_before (source_of j.kind) s.manifest.entries + j.read) f
     → (IsTrue f.honest → (m : Manifest) (parts : List Part) (p : Part) → s.manifest.width ≡ m.width
     → j.rows.width ≡ width_made j.kind m → IsSource j.kind m f p → IsJobSum j.kind m parts j.rows

@@ -18,11 +18,11 @@ use Rattle.flow_model.specs.State.{Job, State, reopened}
 use Rattle.flow_model.specs.Jobs.{width_made}
 use Rattle.flow_model.specs.Standing.{StandsFor}
 use Rattle.flow_model.proofs.Sourcing.{job_none}
-use Rattle.flow_archive.specs.Owned.{Frozen}
+use Rattle.flow_archive.specs.Frozen.{Frozen}
 use Rattle.flow_archive.specs.Seen.{IsArchive, IsStep, StandsBeforeOrAfter}
 use Rattle.flow_archive.specs.Sources.{IsJobTime}
-use Rattle.flow_archive.specs.UnderWay.{IsOnDisk, IsRolling, IsStaged, IsUnderWay, IsUnnamed, IsWaiting}
-use Rattle.flow_archive.specs.UnderWay.{Made, Rolling, Work, fresh, job_in, work_in}
+use Rattle.flow_archive.specs.UnderWay.{IsOnDisk, IsRunningJob, IsStaged, IsUnderWay, IsUnnamed, IsWaiting}
+use Rattle.flow_archive.specs.UnderWay.{FrozenStaged, RunningJob, UnderWay, fresh, job_in, under_way_in}
 use Rattle.flow_archive.proofs.Directing.{beside_archive}
 
 -- ---- a state with another job
@@ -50,7 +50,7 @@ module _ (s : State) (job : Option Job) where
   waiting_too marks closed (f ∷ files) all =
       (record { unnamed = unnamed f.entry.file all.0.unnamed; frozen = all.0.frozen }, waiting_too marks closed files all.1)
 
-  staged_too : (honest : Bool) (r : Rolling) (f : Option Made) → IfSome f (IsStaged honest s r)
+  staged_too : (honest : Bool) (r : RunningJob) (f : Option FrozenStaged) → IfSome f (IsStaged honest s r)
       → IfSome f (IsStaged honest now r)
   staged_too honest r None is = tt
   staged_too honest r (Some f) is = record {
@@ -61,7 +61,7 @@ module _ (s : State) (job : Option Job) where
     made = is.made;
   }
 
-  rolling_too : (honest : Bool) (r : Rolling) → IsRolling honest s r → IsRolling honest now r
+  rolling_too : (honest : Bool) (r : RunningJob) → IsRunningJob honest s r → IsRunningJob honest now r
   rolling_too honest r is = record {
     some = is.some;
     few = is.few;
@@ -74,21 +74,21 @@ module _ (s : State) (job : Option Job) where
 
 -- ---- a job of which no file is made yet
 
-module _ (s : State) (r : Rolling) (none : r.staged ≡ None) {D : Type 0} (honest : D → Bool) (marks : D → ℕ → Marks)
-    (held : D → ℕ → Held) (d : D) (work : Work) (closed : Bool) where
-  pub job_work : IsRolling (honest d) s r → IsUnderWay honest marks held d s work closed
-      → IsUnderWay honest marks held d (with_job s (job_in (Some r))) (work_in work.next (Some r) work.waiting) closed
+module _ (s : State) (r : RunningJob) (none : r.staged ≡ None) {D : Type 0} (honest : D → Bool) (marks : D → ℕ → Marks)
+    (held : D → ℕ → Held) (d : D) (work : UnderWay) (closed : Bool) where
+  pub job_work : IsRunningJob (honest d) s r → IsUnderWay honest marks held d s work closed
+      → IsUnderWay honest marks held d (with_job s (job_in (Some r))) (under_way_in work.next (Some r) work.waiting) closed
   job_work is was = record {
     job = rolling_too s (job_in (Some r)) (honest d) r is;
-    on_disk = λ _. subst (λ (f : Option Made). IfSome f (IsOnDisk honest marks held d)) (sym none) tt;
+    on_disk = λ _. subst (λ (f : Option FrozenStaged). IfSome f (IsOnDisk honest marks held d)) (sym none) tt;
     waiting = waiting_too s (job_in (Some r)) (marks d) closed work.waiting was.waiting;
   }
 
 -- ---- no job
 
 pub no_job_work : {D : Type 0} (honest : D → Bool) (marks : D → ℕ → Marks) (held : D → ℕ → Held) (d : D) (s : State)
-    (work : Work) (closed : Bool) → IsUnderWay honest marks held d s work closed
-    → IsUnderWay honest marks held d (with_job s None) (work_in work.next None work.waiting) closed
+    (work : UnderWay) (closed : Bool) → IsUnderWay honest marks held d s work closed
+    → IsUnderWay honest marks held d (with_job s None) (under_way_in work.next None work.waiting) closed
 no_job_work honest marks held d s work closed was = record {
   job = tt;
   on_disk = λ _. tt;
@@ -103,7 +103,7 @@ time_none Merge = refl
 
 pub fresh_rolling : (honest : Bool) (s : State) (kind : JobKind) (count : ℕ) → 1 ≤ count
     → count ≤ count_of (source_of kind) s.manifest.entries
-    → IsRolling honest s (fresh kind count (width_made kind s.manifest))
+    → IsRunningJob honest s (fresh kind count (width_made kind s.manifest))
 fresh_rolling honest s kind count some few = record {
   some = some;
   few = few;
@@ -114,7 +114,7 @@ fresh_rolling honest s kind count some few = record {
   staged = tt;
 }
 
-pub no_job : (job : Option Rolling) → is_some job ≡ false → job_in job ≡ None
+pub no_job : (job : Option RunningJob) → is_some job ≡ false → job_in job ≡ None
 no_job None is = refl
 no_job (Some r) is = absurd (cc)
 

@@ -19,13 +19,13 @@ use Rattle.flow_manifest.proofs.EntryLists.{all_join, all_left, all_right}
 use Rattle.flow_manifest.proofs.Followers.{are_entries, behind_short, front_long, split}
 use Rattle.flow_measure.specs.Sums.{Table}
 use Rattle.flow_rolled.specs.Rollup.{IsRollup}
-use Rattle.flow_model.specs.State.{end_of, moved_on, Part, State}
+use Rattle.flow_model.specs.State.{end_of, after_seal, Part, State}
 use Rattle.flow_model.specs.Jobs.{source_parts, width_made, IsJobSum}
 use Rattle.flow_archive.specs.Answers.{job_generations, staged_generations}
-use Rattle.flow_archive.specs.Owned.{Frozen}
+use Rattle.flow_archive.specs.Frozen.{Frozen}
 use Rattle.flow_archive.specs.Sources.{IsJobTime}
-use Rattle.flow_archive.specs.UnderWay.{IsOnDisk, IsRolling, IsStaged, IsUnderWay, IsUnnamed, IsWaiting}
-use Rattle.flow_archive.specs.UnderWay.{Made, Rolling, Work, job_in, no_work, staged_in, work_in}
+use Rattle.flow_archive.specs.UnderWay.{IsOnDisk, IsRunningJob, IsStaged, IsUnderWay, IsUnnamed, IsWaiting}
+use Rattle.flow_archive.specs.UnderWay.{FrozenStaged, RunningJob, UnderWay, job_in, none_under_way, staged_in, under_way_in}
 
 -- the active file isn't one of these
 pub other_file : (s : State) (n : ℕ) → IsValidManifest s.manifest → IsUnnamed s n → n ≢ (active_of s.manifest).file
@@ -46,7 +46,7 @@ module _ (s : State) (active : Part) (shared : Bool) where
   unnamed_too : (n : ℕ) → IsUnnamed s n → IsUnnamed now n
   unnamed_too n is = record { from = is.from; below = is.below; apart = is.apart }
 
-  staged_too : (honest : Bool) (r : Rolling) (f : Option Made) → IfSome f (IsStaged honest s r)
+  staged_too : (honest : Bool) (r : RunningJob) (f : Option FrozenStaged) → IfSome f (IsStaged honest s r)
       → IfSome f (IsStaged honest now r)
   staged_too honest r None is = tt
   staged_too honest r (Some f) is = record {
@@ -57,8 +57,8 @@ module _ (s : State) (active : Part) (shared : Bool) where
     made = is.made;
   }
 
-  rolling_too : (honest : Bool) (job : Option Rolling) → IfSome job (IsRolling honest s)
-      → IfSome job (IsRolling honest now)
+  rolling_too : (honest : Bool) (job : Option RunningJob) → IfSome job (IsRunningJob honest s)
+      → IfSome job (IsRunningJob honest now)
   rolling_too honest None is = tt
   rolling_too honest (Some r) is = record {
     some = is.some;
@@ -74,7 +74,7 @@ module _ (s : State) (active : Part) (shared : Bool) where
       (closed later : Bool) (honest_too : honest d1 ≡ honest d) (still : later ≡ false → closed ≡ false)
       (marks_too : later ≡ false → (n : ℕ) → IsUnnamed s n → marks d1 n ≡ marks d n)
       (held_too : later ≡ false → IsTrue (honest d) → (n : ℕ) → IsUnnamed s n → held d1 n ≡ held d n) where
-    staged_there : later ≡ false → (r : Rolling) (f : Option Made) → IfSome f (IsStaged (honest d) s r)
+    staged_there : later ≡ false → (r : RunningJob) (f : Option FrozenStaged) → IfSome f (IsStaged (honest d) s r)
         → IfSome f (IsOnDisk honest marks held d) → IfSome f (IsOnDisk honest marks held d1)
     staged_there is r None staged there = tt
     staged_there is r (Some f) staged there = record {
@@ -85,7 +85,7 @@ module _ (s : State) (active : Part) (shared : Bool) where
           (subst (λ (x : Held). IsImage x image) (held_too is h f.file staged.unnamed) left);
     }
 
-    job_there : later ≡ false → (job : Option Rolling) → IfSome job (IsRolling (honest d) s)
+    job_there : later ≡ false → (job : Option RunningJob) → IfSome job (IsRunningJob (honest d) s)
         → IfSome job (λ r. IfSome r.staged (IsOnDisk honest marks held d))
         → IfSome job (λ r. IfSome r.staged (IsOnDisk honest marks held d1))
     job_there is None rolling there = tt
@@ -103,10 +103,10 @@ module _ (s : State) (active : Part) (shared : Bool) where
       waiting_too files all.1,
     )
 
-    pub goes_on : (work : Work) → IsUnderWay honest marks held d s work closed
+    pub goes_on : (work : UnderWay) → IsUnderWay honest marks held d s work closed
         → IsUnderWay honest marks held d1 now work later
     goes_on work was = record {
-      job = subst (λ (h : Bool). IfSome work.job (IsRolling h now)) (sym honest_too)
+      job = subst (λ (h : Bool). IfSome work.job (IsRunningJob h now)) (sym honest_too)
           (rolling_too (honest d) work.job was.job);
       on_disk = λ is. job_there is work.job was.job (was.on_disk (still is));
       waiting = waiting_too work.waiting was.waiting;
@@ -115,7 +115,7 @@ module _ (s : State) (active : Part) (shared : Bool) where
 -- ---- where nothing is under way
 
 pub nothing_under_way : {D : Type 0} (honest : D → Bool) (marks : D → ℕ → Marks) (held : D → ℕ → Held) (d : D)
-    (s : State) (next : ℕ) (closed : Bool) → IsUnderWay honest marks held d s (no_work next) closed
+    (s : State) (next : ℕ) (closed : Bool) → IsUnderWay honest marks held d s (none_under_way next) closed
 nothing_under_way honest marks held d s next closed = record { job = tt; on_disk = λ is. tt; waiting = tt }
 
 -- ---- a seal
@@ -166,7 +166,7 @@ module _ (s : State) (valid : IsValidManifest s.manifest) (prefix : List ℕ) (p
     (many : length s.parts ≡ length (front_of s.manifest)) where
   -- the state after it, whatever its new part is
   abbrev pub then : State
-  then = record (moved_on s prefix) { parts = s.parts ++ part ∷ [] }
+  then = record (after_seal s prefix) { parts = s.parts ++ part ∷ [] }
 
   abbrev m : Manifest
   m = s.manifest
@@ -197,7 +197,7 @@ module _ (s : State) (valid : IsValidManifest s.manifest) (prefix : List ℕ) (p
       ∙ take-append-le count (drop place s.parts) (part ∷ [])
       (omega (arith, short, long, many, length-drop place s.parts))
 
-  staged_then : (honest : Bool) (r : Rolling) (f : Option Made)
+  staged_then : (honest : Bool) (r : RunningJob) (f : Option FrozenStaged)
       → m.generation + 1 + staged_generations (staged_in f) < 2 ^ 64 → IfSome f (IsStaged honest s r)
       → IfSome f (IsStaged honest then r)
   staged_then honest r None left is = tt
@@ -210,8 +210,8 @@ module _ (s : State) (valid : IsValidManifest s.manifest) (prefix : List ℕ) (p
         (sym (width_next m (end_of s) (length s.active.messages) s.next (length prefix) r.kind)) (is.made h);
   }
 
-  rolling_then : (honest : Bool) (job : Option Rolling) → m.generation + 1 + job_generations (job_in job) < 2 ^ 64
-      → IfSome job (IsRolling honest s) → IfSome job (IsRolling honest then)
+  rolling_then : (honest : Bool) (job : Option RunningJob) → m.generation + 1 + job_generations (job_in job) < 2 ^ 64
+      → IfSome job (IsRunningJob honest s) → IfSome job (IsRunningJob honest then)
   rolling_then honest None left is = tt
   rolling_then honest (Some r) left is =
       let end = end_of s in
@@ -241,16 +241,16 @@ module _ (s : State) (valid : IsValidManifest s.manifest) (prefix : List ℕ) (p
   )
 
   pub sealed_too : {D : Type 0} (honest : D → Bool) (marks : D → ℕ → Marks) (held : D → ℕ → Held) (d d1 : D)
-      (work : Work) (closed : Bool) → honest d1 ≡ honest d
+      (work : UnderWay) (closed : Bool) → honest d1 ≡ honest d
       → ((n : ℕ) → IsUnnamed s n → marks d1 n ≡ marks d n)
       → (IsTrue (honest d) → (n : ℕ) → IsUnnamed s n → held d1 n ≡ held d n)
       → m.generation + 1 + job_generations (job_in work.job) < 2 ^ 64
       → IsUnderWay honest marks held d s work closed
-      → IsUnderWay honest marks held d1 then (work_in (work.next + 1) work.job work.waiting) closed
+      → IsUnderWay honest marks held d1 then (under_way_in (work.next + 1) work.job work.waiting) closed
   sealed_too honest marks held d d1 work closed honest_too marks_too held_too left was =
       let there = goes_on s s.active s.shared honest marks held d d1 closed closed honest_too (λ is. is)
       (λ _. marks_too) (λ _. held_too) work was in record {
-        job = subst (λ (h : Bool). IfSome work.job (IsRolling h then)) (sym honest_too)
+        job = subst (λ (h : Bool). IfSome work.job (IsRunningJob h then)) (sym honest_too)
             (rolling_then (honest d) work.job left was.job);
         on_disk = there.on_disk;
         waiting = waiting_then (marks d) (marks d1) closed marks_too work.waiting was.waiting;

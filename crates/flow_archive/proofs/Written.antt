@@ -28,13 +28,13 @@ use Rattle.flow_archive.specs.declared.refusal.ArchiveError.TheVariants.{Closed}
 use Rattle.flow_archive.specs.declared.refusal.ArchiveError.TheVariants.{Damaged, SourceFault, RollBusy, NoRoll}
 use Rattle.flow_archive.specs.declared.refusal.ArchiveError.TheVariants.{RollCount, RollNotDone, Pinned, NothingToRetire}
 use Rattle.flow_archive.specs.Answers.{job_generations, staged_generations}
-use Rattle.flow_archive.specs.JobAnswers.{with_staged, AnswersWrite, IsMadeOf, IsStagedIn, IsWritten, MayWrite}
-use Rattle.flow_archive.specs.Owned.{AreHeldAs, Frozen}
+use Rattle.flow_archive.specs.JobAnswers.{with_staged, AnswersWrite, IsJobFile, IsStagedIn, IsWritten, MayWrite}
+use Rattle.flow_archive.specs.Frozen.{AreHeldAs, Frozen}
 use Rattle.flow_archive.specs.Seen.{AreFrozen, IsArchive}
 use Rattle.flow_archive.specs.Sources.{IsJobTime}
-use Rattle.flow_archive.specs.Writing.{IsNotMade, MayMake}
-use Rattle.flow_archive.specs.UnderWay.{made_of, number_in, sized, numbers_of, staged_file, staged_in, job_in, work_in, AllDiffer, HasOwnFiles, IsOnDisk, IsRolling, IsStaged}
-use Rattle.flow_archive.specs.UnderWay.{IsUnderWay, IsUnnamed, IsWaiting, Made, Rolling}
+use Rattle.flow_archive.specs.Staging.{HasNoOctets, MayStage}
+use Rattle.flow_archive.specs.UnderWay.{frozen_staged, number_in, sized, numbers_of, staged_file, staged_in, job_in, under_way_in, AllDiffer, HasOwnFiles, IsOnDisk, IsRunningJob, IsStaged}
+use Rattle.flow_archive.specs.UnderWay.{IsUnderWay, IsUnnamed, IsWaiting, FrozenStaged, RunningJob}
 use Rattle.flow_archive.proofs.Stand.{elsewhere, slot_below}
 
 -- ---- a state with other work under way
@@ -138,7 +138,7 @@ beside on_disk slots s file Q far known image came =
 -- ---- its octets
 
 pub made_is : {S : Type 0} (number size : S → ℕ) (honest : S → Bool) (octets : S → List ℕ) (file : S) (given : List ℕ)
-    → size file ≡ length given → octets file ≡ given → (made_of number size honest octets file).octets ≡ given
+    → size file ≡ length given → octets file ≡ given → (frozen_staged number size honest octets file).octets ≡ given
 made_is number size honest octets file given long is =
     ap (λ (n : ℕ). sized n (octets file)) long ∙ ap (λ (l : List ℕ). sized (length given) l) is
     ∙ take_at given (replicate (length given) 0) (length given) refl
@@ -151,7 +151,7 @@ stands_alone before after reads file given are all image is =
     (with_image_is after reads file image is (λ n differs. are n)) in
     let step = came.2 in sym (image_here reads file image) ∙ step.here
 
-pub staged_at : (f : Made) (given image : List ℕ) → f.octets ≡ given → image ≡ given → IsStagedAt image (staged_file f)
+pub staged_at : (f : FrozenStaged) (given image : List ℕ) → f.octets ≡ given → image ≡ given → IsStagedAt image (staged_file f)
 staged_at f given image is same =
     let alike : image ≡ f.octets = same ∙ sym is in record {
       long = omega (arith, ap (λ (l : List ℕ). length l) alike);
@@ -160,10 +160,10 @@ staged_at f given image is same =
 
 -- ---- what is under way
 
-abbrev pub holding : Rolling → Made → Rolling
+abbrev pub holding : RunningJob → FrozenStaged → RunningJob
 holding r f = record r { staged = Some f }
 
-module _ (s : State) (r : Rolling) (f : Made) (waiting : List Frozen) where
+module _ (s : State) (r : RunningJob) (f : FrozenStaged) (waiting : List Frozen) where
   abbrev then : State
   then = with_work s (s.next + 1) (job_in (Some (holding r f))) s.waiting
 
@@ -195,10 +195,10 @@ module _ (s : State) (r : Rolling) (f : Made) (waiting : List Frozen) where
       → r.sources ≤ r.read → s.manifest.generation + 1 < 2 ^ 64 → f.honest ≡ honest d
       → (IsTrue (honest d) → (image : List ℕ) → IsImage (held d1 s.next) image → IsStagedAt image (staged_file f))
       → (IsTrue (honest d) → (rollup : IsRollup r.rows.width f.octets r.rows) × (rollup.time ≡ r.time))
-      → IsUnderWay honest marks held d s (work_in s.next (Some r) waiting) closed
-      → IsUnderWay honest marks held d1 then (work_in (s.next + 1) (Some (holding r f)) waiting) closed
+      → IsUnderWay honest marks held d s (under_way_in s.next (Some r) waiting) closed
+      → IsUnderWay honest marks held d1 then (under_way_in (s.next + 1) (Some (holding r f)) waiting) closed
   work_written honest marks held d d1 closed valid far from same others file frozen all generation is_honest at made was =
-      let rolling : IsRolling (honest d) s r = was.job in
+      let rolling : IsRunningJob (honest d) s r = was.job in
       let unnamed : IsUnnamed then f.file = record {
         from = omega (arith, file, from);
         below = omega (arith, file);
@@ -212,7 +212,7 @@ module _ (s : State) (r : Rolling) (f : Made) (waiting : List Frozen) where
         made = λ h. subst (λ (w : ℕ). (rollup : IsRollup w f.octets r.rows) × (rollup.time ≡ r.time)) rolling.width
             (made h);
       } in
-      let is : IsRolling (honest d) then (holding r f) = record {
+      let is : IsRunningJob (honest d) then (holding r f) = record {
         some = rolling.some;
         few = rolling.few;
         read = rolling.read;
@@ -226,64 +226,64 @@ module _ (s : State) (r : Rolling) (f : Made) (waiting : List Frozen) where
         octets = λ h image left. at (subst IsTrue same h) image (subst (λ (n : ℕ). IsImage (held d1 n) image) file left);
       } in
       record {
-        job = subst (λ (b : Bool). IsRolling b then (holding r f)) (sym same) is;
+        job = subst (λ (b : Bool). IsRunningJob b then (holding r f)) (sym same) is;
         on_disk = λ _. there;
         waiting = waiting_then (marks d) (marks d1) closed others waiting was.waiting;
       }
 
 -- whose files it has alone
-pub own_written : (s : State) (r : Rolling) (f : Made) (waiting files : List Frozen) (marks : ℕ → Marks)
+pub own_written : (s : State) (r : RunningJob) (f : FrozenStaged) (waiting files : List Frozen) (marks : ℕ → Marks)
     (closed shared : Bool) → r.staged ≡ None → f.file ≡ s.next → AllByRecursion (IsWaiting marks s closed) waiting
-    → HasOwnFiles shared files (work_in s.next (Some r) waiting)
-    → HasOwnFiles shared files (work_in (s.next + 1) (Some (holding r f)) waiting)
+    → HasOwnFiles shared files (under_way_in s.next (Some r) waiting)
+    → HasOwnFiles shared files (under_way_in (s.next + 1) (Some (holding r f)) waiting)
 own_written s r f waiting files marks closed shared none file waits own = record {
   alone = own.alone;
   waiting = own.waiting;
   differ = (
     below_next s r f waiting marks closed waiting waits file,
-    subst (λ (x : Option Made). AllDiffer (number_in (staged_in x) ++ numbers_of waiting)) none own.differ,
+    subst (λ (x : Option FrozenStaged). AllDiffer (number_in (staged_in x) ++ numbers_of waiting)) none own.differ,
   );
 }
 
 -- ---- what is answered
 
 -- a job, as the state has it
-abbrev pub told : Rolling → Job
+abbrev pub told : RunningJob → Job
 told r = record { kind = r.kind; sources = r.sources; read = r.read; staged = staged_in r.staged }
 
-pub none_staged : (f : Option Made) → staged_generations (staged_in f) ≡ 0 → f ≡ None
+pub none_staged : (f : Option FrozenStaged) → staged_generations (staged_in f) ≡ 0 → f ≡ None
 none_staged None is = refl
 none_staged (Some f) is = absurd (omega (arith, is))
 
-made_before : (honest was : Bool) (s : State) (r : Rolling) (f : Option Made) → r.staged ≡ f → s.job ≡ Some (told r)
+made_before : (honest was : Bool) (s : State) (r : RunningJob) (f : Option FrozenStaged) → r.staged ≡ f → s.job ≡ Some (told r)
     → IfSome f (IsStaged was s r) → 1 ≤ staged_generations (staged_in f) → IsWritten honest s s
 made_before honest was s r None at same is some = absurd (omega (arith, some))
 made_before honest was s r (Some f) at same is some = (
   told r,
   same,
-  (omega (arith, is.all), subst (λ (x : Option Made). IsStagedIn honest s (told r) (staged_in x) s) (sym at) refl),
+  (omega (arith, is.all), subst (λ (x : Option FrozenStaged). IsStagedIn honest s (told r) (staged_in x) s) (sym at) refl),
 )
 
 -- a file that was made before stays
-pub is_written_before : (honest was : Bool) (s : State) (job : Option Rolling) → s.job ≡ job_in job
-    → IfSome job (IsRolling was s) → 1 ≤ job_generations (job_in job) → IsWritten honest s s
+pub is_written_before : (honest was : Bool) (s : State) (job : Option RunningJob) → s.job ≡ job_in job
+    → IfSome job (IsRunningJob was s) → 1 ≤ job_generations (job_in job) → IsWritten honest s s
 is_written_before honest was s None same is some = absurd (omega (arith, some))
 is_written_before honest was s (Some r) same is some = made_before honest was s r r.staged refl same is.staged some
 
-pub none_made : (r : Rolling) (job : Option Rolling) → job ≡ Some r → job_generations (job_in job) ≡ 0 → r.staged ≡ None
+pub none_made : (r : RunningJob) (job : Option RunningJob) → job ≡ Some r → job_generations (job_in job) ≡ 0 → r.staged ≡ None
 none_made r job is none =
-    none_staged r.staged (sym (ap (λ (j : Option Rolling). job_generations (job_in j)) is) ∙ none)
+    none_staged r.staged (sym (ap (λ (j : Option RunningJob). job_generations (job_in j)) is) ∙ none)
 
-pub may_write : (s : State) (r : Rolling) (job : Option Rolling) → job ≡ Some r → job_generations (job_in job) ≡ 0
-    → MayMake s.next s.manifest.generation r → MayWrite s (told r)
+pub may_write : (s : State) (r : RunningJob) (job : Option RunningJob) → job ≡ Some r → job_generations (job_in job) ≡ 0
+    → MayStage s.next s.manifest.generation r → MayWrite s (told r)
 may_write s r job is none may = record {
   read = omega (arith, may.all);
   none = ap staged_in (none_made r job is none);
   numbers = (may.file, may.manifest);
 }
 
-pub not_written : (honest closed : Bool) (s : State) (job : Option Rolling) (e : ArchiveError) → closed ≡ false
-    → s.job ≡ job_in job → job_generations (job_in job) ≡ 0 → IsNotMade job s.next s.manifest.generation e
+pub not_written : (honest closed : Bool) (s : State) (job : Option RunningJob) (e : ArchiveError) → closed ≡ false
+    → s.job ≡ job_in job → job_generations (job_in job) ≡ 0 → HasNoOctets job s.next s.manifest.generation e
     → AnswersWrite {X = ⊤} honest closed s (Err e) s
 not_written honest closed s job NoRoll still same none is = (still, same ∙ ap job_in is, refl)
 not_written honest closed s job RollNotDone still same none (r, is, lt) =
@@ -312,10 +312,10 @@ not_written honest closed s job NothingToRetire still same none is = absurd is
 not_written honest closed s job Closed still same none is = absurd is
 
 -- the sums of all sources, and their Export Time
-pub is_made_of : (honest : Bool) (s : State) (r : Rolling) (octets : List ℕ) → IsRolling honest s r
+pub is_made_of : (honest : Bool) (s : State) (r : RunningJob) (octets : List ℕ) → IsRunningJob honest s r
     → r.sources ≤ r.read → IsTrue honest
     → (rollup : IsRollup (width_made r.kind s.manifest) octets r.rows) × (rollup.time ≡ r.time)
-    → IsMadeOf s (told r) octets
+    → IsJobFile s (told r) octets
 is_made_of honest s r octets is all h (rollup, time) =
     let parts = source_parts r.kind r.sources s in
     let whole : take r.read parts ≡ parts = take_all r.read parts (omega (
@@ -330,16 +330,16 @@ is_made_of honest s r octets is all h (rollup, time) =
           (subst (λ (l : List Part). IsJobTime r.kind l r.time) whole (is.time h)),
     )
 
-pub is_written : (honest was : Bool) (s : State) (r : Rolling) (f : Made) (job : Option Rolling) → job ≡ Some r
-    → s.job ≡ job_in job → job_generations (job_in job) ≡ 0 → MayMake s.next s.manifest.generation r
-    → (IsTrue honest → IsMadeOf s (told r) f.octets) → (after : State)
+pub is_written : (honest was : Bool) (s : State) (r : RunningJob) (f : FrozenStaged) (job : Option RunningJob) → job ≡ Some r
+    → s.job ≡ job_in job → job_generations (job_in job) ≡ 0 → MayStage s.next s.manifest.generation r
+    → (IsTrue honest → IsJobFile s (told r) f.octets) → (after : State)
     → after ≡ with_staged s (told r) f.octets → IsWritten honest s after
 is_written honest was s r f job is same none may made after after_is = (
   told r,
   same ∙ ap job_in is,
   (
     omega (arith, may.all),
-    subst (λ (x : Option Made). IsStagedIn honest s (told r) (staged_in x) after) (sym (none_made r job is none))
+    subst (λ (x : Option FrozenStaged). IsStagedIn honest s (told r) (staged_in x) after) (sym (none_made r job is none))
         ((may.file, may.manifest), (f.octets, made, after_is)),
   ),
 )

@@ -8,18 +8,18 @@ use Rattle.flow_model.specs.State.{Part}
 use Rattle.flow_archive.specs.declared.sources.Source.{Source}
 use Rattle.flow_archive.specs.declared.sources.SourceError.{SourceError}
 use Rattle.flow_archive.specs.declared.sources.SourceError.TheVariants.{Damaged, SumSpent, Fault, OutOfMemory}
-use Rattle.flow_archive.specs.Owned.{Frozen}
+use Rattle.flow_archive.specs.Frozen.{Frozen}
 use Rattle.flow_archive.specs.Sources.{IsJobTime, IsNotRead, IsReadWhole}
-use Rattle.flow_archive.specs.UnderWay.{Rolling}
+use Rattle.flow_archive.specs.UnderWay.{RunningJob}
 
 -- only its count of sources, its sums and its greatest Export Time are others
-abbrev pub IsTaken : Rolling → Rolling → Type 0
+abbrev pub IsTaken : RunningJob → RunningJob → Type 0
 IsTaken old new = (new ≡ record old { read = old.read + 1; rows = new.rows; time = new.time })
     × (new.rows.width ≡ old.rows.width)
 
 -- It has the sums and the greatest Export Time of these parts; or their sums pass their types, a read fails, or memory
 -- runs out.
-abbrev pub IsTakenIn : {X : Type 0} → JobKind → Manifest → List Part → Result X SourceError → Rolling → Type 0
+abbrev pub IsTakenIn : {X : Type 0} → JobKind → Manifest → List Part → Result X SourceError → RunningJob → Type 0
 IsTakenIn kind m parts (Ok x) new = IsJobSum kind m parts new.rows × IsJobTime kind parts new.time
 IsTakenIn kind m parts (Err (Damaged at)) new = ⊥
 IsTakenIn kind m parts (Err SumSpent) new = (table : Table) × IsJobSum kind m parts table × (AllFit table → ⊥)
@@ -27,7 +27,7 @@ IsTakenIn kind m parts (Err Fault) new = ⊤
 IsTakenIn kind m parts (Err OutOfMemory) new = ⊤
 
 -- The sums of a file that was read whole are merged into the job's, and its greatest Export Time counts.
-abbrev pub HasTaken : ℕ → Frozen → Rolling → Rolling → Type 0
+abbrev pub HasTaken : ℕ → Frozen → RunningJob → RunningJob → Type 0
 HasTaken width f old new =
     (read : Source) × IsReadWhole f.entry.kind width old.rows.width f read
     × (new.rows ≡ merged old.rows read.rows) × (new.time ≡ max old.time read.time)

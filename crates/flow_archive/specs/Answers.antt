@@ -9,7 +9,7 @@ use Rattle.flow_manifest.specs.declared.manifest.Manifest.{Manifest}
 use Rattle.flow_manifest.specs.Following.{active_of, messages_of}
 use Rattle.flow_segment.specs.Batch.{AreTaken, IsFirstFault}
 use Rattle.flow_segment.specs.Carry.{Carry, prefix_of}
-use Rattle.flow_model.specs.State.{Job, Part, StagedFile, State, appended, moved_on}
+use Rattle.flow_model.specs.State.{Job, Part, StagedFile, State, appended, after_seal}
 use Rattle.flow_model.specs.Chain.{IsSegment}
 use Rattle.flow_archive.specs.declared.event.Answer.{Answer}
 use Rattle.flow_archive.specs.declared.event.Answer.TheVariants.{Position, Sealed, Began, Left, Written, Dropped}
@@ -100,27 +100,27 @@ AnswersAppend closed s octets other after = ⊥
 
 -- The active segment is sealed, and a new one has the prefix that it determines. On a disk that isn't honest the sealed
 -- file may hold anything.
-abbrev pub IsMovedOn : Bool → State → State → Type 0
-IsMovedOn honest s after =
+abbrev pub IsSealed : Bool → State → State → Type 0
+IsSealed honest s after =
     (carry : Carry) × (sealed : Part) × IsSegment s.active carry × (IsTrue honest → sealed ≡ s.active)
-    × (after ≡ record (moved_on s (prefix_of carry)) { parts = s.parts ++ sealed ∷ [] })
+    × (after ≡ record (after_seal s (prefix_of carry)) { parts = s.parts ++ sealed ∷ [] })
 
 -- Nothing speaks against a seal: of a manifest, the count of its active segment's messages, the next file's number, and
 -- the generations that are kept for a staged file.
-pub record MayFollow (m : Manifest) (count file kept : ℕ) : Type 0 where
+pub record MayBeSealed (m : Manifest) (count file kept : ℕ) : Type 0 where
   pub some : 1 ≤ count
   pub few : length m.entries < 4096
   pub next : file + 1 < 2 ^ 64
   pub generation : m.generation + 1 + kept < 2 ^ 64
 
 -- Why no manifest follows: the first of the refusals 42, 41, 25 that holds, or 11.
-abbrev pub IsNotFollowed : Manifest → ℕ → ℕ → ℕ → ArchiveError → Type 0
-IsNotFollowed m count file kept NothingToSeal = count ≡ 0
-IsNotFollowed m count file kept ManifestFull = (1 ≤ count) × (4096 ≤ length m.entries)
-IsNotFollowed m count file kept NumbersSpent =
+abbrev pub IsNotSealed : Manifest → ℕ → ℕ → ℕ → ArchiveError → Type 0
+IsNotSealed m count file kept NothingToSeal = count ≡ 0
+IsNotSealed m count file kept ManifestFull = (1 ≤ count) × (4096 ≤ length m.entries)
+IsNotSealed m count file kept NumbersSpent =
     (1 ≤ count) × (length m.entries < 4096) × ((2 ^ 64 ≤ file + 1) ⊎ (2 ^ 64 ≤ m.generation + 1 + kept))
-IsNotFollowed m count file kept OutOfMemory = Unit {0}
-IsNotFollowed m count file kept e = ⊥
+IsNotSealed m count file kept OutOfMemory = Unit {0}
+IsNotSealed m count file kept e = ⊥
 
 -- nothing speaks against a seal
 pub record MaySeal (s : State) : Type 0 where
@@ -132,7 +132,7 @@ pub record MaySeal (s : State) : Type 0 where
 -- 11, in place of an Ok 30.
 abbrev pub AnswersSeal : Bool → Bool → State → Result ℕ ArchiveError → State → Type 0
 AnswersSeal honest closed s (Ok file) after =
-    (closed ≡ false) × MaySeal s × IsMovedOn honest s after × (file ≡ (active_of s.manifest).file)
+    (closed ≡ false) × MaySeal s × IsSealed honest s after × (file ≡ (active_of s.manifest).file)
 AnswersSeal honest closed s (Err Closed) after = (closed ≡ true) × (after ≡ s)
 AnswersSeal honest closed s (Err NothingToSeal) after =
     (closed ≡ false) × (s.active.messages ≡ []) × (after ≡ s)
@@ -150,7 +150,7 @@ AnswersSeal honest closed s other after = ⊥
 abbrev pub Takes : Bool → State → Event → State → Type 0
 Takes honest s (Append message) after = after ≡ appended s (message.items ∷ [])
 Takes honest s (AppendBatch messages) after = after ≡ appended s (texts messages.items)
-Takes honest s Seal after = IsMovedOn honest s after
+Takes honest s Seal after = IsSealed honest s after
 Takes honest s (RollBegin count) after = after ≡ begun s Roll count
 Takes honest s (MergeBegin count) after = after ≡ begun s Merge count
 Takes honest s RollStep after = IsStepped s after

@@ -10,7 +10,6 @@ use Rattle.flow_manifest.specs.declared.slots.Slots.{Slots}
 use Rattle.flow_manifest.specs.Following.{count_before, count_of, installed_manifest, made_entry, made_of, source_of}
 use Rattle.flow_manifest.specs.Following.{sources_of}
 use Rattle.flow_manifest.specs.Manifest.{IsValidManifest, manifest_octets}
-use Rattle.flow_manifest.specs.Slots.{file_of, other}
 use Rattle.flow_measure.specs.Sums.{Table}
 use Rattle.flow_rolled.specs.Rollup.{IsRollup}
 use Rattle.flow_segment.specs.Carry.{Carry}
@@ -22,14 +21,13 @@ use Rattle.flow_archive.specs.declared.event.Answer.{Answer}
 use Rattle.flow_archive.specs.declared.event.Answer.TheVariants.{Installed, Merged}
 use Rattle.flow_archive.specs.declared.refusal.ArchiveError.{ArchiveError}
 use Rattle.flow_archive.specs.declared.refusal.ArchiveError.TheVariants.{OutOfMemory, NoRoll, RollNotDone}
-use Rattle.flow_archive.specs.Owned.{Frozen, IsAlone, IsHeldAs}
-use Rattle.flow_archive.specs.UnderWay.{staged_file, Made, Rolling}
+use Rattle.flow_archive.specs.Frozen.{Frozen, IsAlone, IsHeldAs}
+use Rattle.flow_archive.specs.UnderWay.{staged_file, FrozenStaged, RunningJob}
 
 -- These numbers are those of an archive in which this file, of sums by the width of its job, is ready to take the place
 -- of so many sources, and the body is that of the manifest that says so.
-pub record IsInstall (files : ℕ → Held) (slots : Slots) (slot : ℕ) (body : List ℕ) (kind : JobKind) (count : ℕ)
+pub record IsInstall (files : ℕ → Held) (slots : Slots) (body : List ℕ) (kind : JobKind) (count : ℕ)
     (file : StagedFile) (s : State) : Type 0 where
-  pub slot_is : file_of (other slots.current_slot) ≡ slot
   pub few : count ≤ count_of (source_of kind) s.manifest.entries
   pub valid : IsValidManifest (replaced s kind count file).manifest
   pub body_is : body ≡ manifest_octets (replaced s kind count file).manifest
@@ -45,7 +43,7 @@ pub record IsInstall (files : ℕ → Held) (slots : Slots) (slot : ℕ) (body :
 
 -- What is known of the file that a job has made, before it is installed: no entry names it, its number is below the
 -- next one, and there is a generation for the manifest that will name it.
-pub record MayInstall (m : Manifest) (next : ℕ) (r : Rolling) (f : Made) : Type 0 where
+pub record MayInstall (m : Manifest) (next : ℕ) (r : RunningJob) (f : FrozenStaged) : Type 0 where
   pub some : 1 ≤ r.sources
   pub few : r.sources ≤ count_of (source_of r.kind) m.entries
   pub generation : m.generation + 1 < 2 ^ 64
@@ -61,10 +59,10 @@ cut_in Merge m = Merged m.second
 
 -- The manifest that names the file of a job in place of its sources, its octets, the entry of the file and its place,
 -- how many files it replaces, and the cut that it moves.
-pub record IsReplacement (m : Manifest) (next : ℕ) (job : Option Rolling) (now : Manifest) (body : List ℕ)
+pub record IsReplacement (m : Manifest) (next : ℕ) (job : Option RunningJob) (now : Manifest) (body : List ℕ)
     (entry : Entry) (place sources : ℕ) (answer : Answer) : Type 0 where
-  pub r : Rolling
-  pub f : Made
+  pub r : RunningJob
+  pub f : FrozenStaged
   pub job_is : job ≡ Some r
   pub staged_is : r.staged ≡ Some f
   pub now_is : now ≡ installed_manifest m r.kind r.sources (staged_of (staged_file f)) next
@@ -76,20 +74,20 @@ pub record IsReplacement (m : Manifest) (next : ℕ) (job : Option Rolling) (now
   pub answer_is : answer ≡ cut_in r.kind now
 
 -- why there is none: the first of the refusals 44, 46 that holds, or 11
-abbrev pub IsNotInstalled : Option Rolling → ArchiveError → Type 0
+abbrev pub IsNotInstalled : Option RunningJob → ArchiveError → Type 0
 IsNotInstalled job NoRoll = job ≡ None
-IsNotInstalled job RollNotDone = (r : Rolling) × (job ≡ Some r) × (r.staged ≡ None)
-IsNotInstalled job OutOfMemory = (r : Rolling) × (f : Made) × (job ≡ Some r) × (r.staged ≡ Some f)
+IsNotInstalled job RollNotDone = (r : RunningJob) × (job ≡ Some r) × (r.staged ≡ None)
+IsNotInstalled job OutOfMemory = (r : RunningJob) × (f : FrozenStaged) × (job ≡ Some r) × (r.staged ≡ Some f)
 IsNotInstalled job e = ⊥
 
 -- ---- the file of a job
 
 -- a job has made the file that this entry names, of sums
-abbrev pub IsMadeFor : Option Rolling → Entry → Type 0
-IsMadeFor job entry = (r : Rolling) × (f : Made) × (job ≡ Some r) × (r.staged ≡ Some f)
+abbrev pub IsStagedFor : Option RunningJob → Entry → Type 0
+IsStagedFor job entry = (r : RunningJob) × (f : FrozenStaged) × (job ≡ Some r) × (r.staged ≡ Some f)
     × (f.file ≡ entry.file) × (length f.octets ≡ entry.length) × (entry.prefix ≡ 0) × (entry.kind ≡ made_of r.kind)
 
 -- It is held as that entry says, by the archive alone, and on an honest disk it has the octets that were made.
-abbrev pub IsMadeAs : Option Rolling → Entry → Frozen → Type 0
-IsMadeAs job entry file = (r : Rolling) (f : Made) → job ≡ Some r → r.staged ≡ Some f
+abbrev pub IsStagedAs : Option RunningJob → Entry → Frozen → Type 0
+IsStagedAs job entry file = (r : RunningJob) (f : FrozenStaged) → job ≡ Some r → r.staged ≡ Some f
     → IsHeldAs f.honest entry file × IsAlone file × (IsTrue f.honest → file.octets ≡ f.octets)

@@ -99,8 +99,8 @@ AnswersStep honest closed s other after = ⊥
 -- ---- the file is made
 
 -- The file of a job: the rolled file of its sums, with the greatest Export Time of its sources.
-abbrev pub IsMadeOf : State → Job → List ℕ → Type 0
-IsMadeOf s job octets =
+abbrev pub IsJobFile : State → Job → List ℕ → Type 0
+IsJobFile s job octets =
     (table : Table) × (rollup : IsRollup (width_made job.kind s.manifest) octets table)
     × IsJobSum job.kind s.manifest (source_parts job.kind job.sources s) table
     × IsJobTime job.kind (source_parts job.kind job.sources s) rollup.time
@@ -127,7 +127,7 @@ abbrev pub IsStagedIn : Bool → State → Job → Option StagedFile → State �
 IsStagedIn honest s job (Some staged) after = after ≡ s
 IsStagedIn honest s job None after =
     HasStagedNumbers s
-    × ((octets : List ℕ) × (IsTrue honest → IsMadeOf s job octets) × (after ≡ with_staged s job octets))
+    × ((octets : List ℕ) × (IsTrue honest → IsJobFile s job octets) × (after ≡ with_staged s job octets))
 
 abbrev pub IsWritten : Bool → State → State → Type 0
 IsWritten honest s after = HasJob s (λ job. (left_of job ≡ 0) × IsStagedIn honest s job job.staged after)
@@ -158,7 +158,7 @@ cut_moved Merge after = Merged after.manifest.second
 abbrev pub IsInstalled : Bool → State → State → Type 0
 IsInstalled honest s after = HasJob s (λ job. (staged : StagedFile) × (octets : List ℕ) × (job.staged ≡ Some staged)
     × HasSources s job.kind job.sources
-    × (IsTrue honest → IsMadeOf s job staged.octets × (octets ≡ staged.octets))
+    × (IsTrue honest → IsJobFile s job staged.octets × (octets ≡ staged.octets))
     × (after ≡ record (replaced s job.kind job.sources staged) {
       parts = replaced_parts job.kind job.sources octets s.manifest.entries s.parts;
     }))

@@ -2,12 +2,12 @@ pub mod Plain
 pub mod Printed
 pub mod Refusals
 pub mod Parts
-pub mod Owned
+pub mod Frozen
 pub mod UnderWay
-pub mod Moving
+pub mod Sealing
 pub mod Installing
 pub mod Sources
-pub mod Writing
+pub mod Staging
 pub mod Seen
 pub mod Answers
 pub mod JobAnswers

@@ -13,7 +13,7 @@ use Rattle.flow_model.specs.Changes.{Change}
 use Rattle.flow_model.specs.Changes.Change.{added, closed, installed, joined}
 use Rattle.flow_model.specs.Shelf.{Rollup, Segment, Shelf, position_of}
 use Rattle.flow_model.specs.State.{State}
-use Rattle.flow_archive.specs.Owned.{rollup_of, segment_of, Frozen}
+use Rattle.flow_archive.specs.Frozen.{rollup_of, segment_of, Frozen}
 
 -- the mark of a change that is made to a shelf
 abbrev pub mark_of : Shelf → Change → Mark

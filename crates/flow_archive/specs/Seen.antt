@@ -18,9 +18,9 @@ use Rattle.flow_recover.specs.Opening.{FrozenStand}
 use Rattle.flow_model.specs.Standing.{StandsFor}
 use Rattle.flow_archive.specs.declared.refusal.ArchiveError.{ArchiveError}
 use Rattle.flow_archive.specs.declared.refusal.ArchiveError.TheVariants.{Fault}
-use Rattle.flow_archive.specs.Owned.{octets_in, AreHeldAs, Frozen}
+use Rattle.flow_archive.specs.Frozen.{octets_in, AreHeldAs, Frozen}
 use Rattle.flow_archive.specs.Parts.{parts_at}
-use Rattle.flow_archive.specs.UnderWay.{Work, job_in, numbers_of}
+use Rattle.flow_archive.specs.UnderWay.{UnderWay, job_in, numbers_of}
 
 pub record Seen (D : Type 0) : Type 0 where
   pub disk : D
@@ -30,7 +30,7 @@ pub record Seen (D : Type 0) : Type 0 where
 -- ---- what an archive keeps
 
 -- the state that it represents
-abbrev pub state_in : Work → Bool → Manifest → List Frozen → List ℕ → List (List ℕ) → State
+abbrev pub state_in : UnderWay → Bool → Manifest → List Frozen → List ℕ → List (List ℕ) → State
 state_in work shared m files prefix messages =
     record (at_rest m (parts_at octets_in (front_of m) files) (record { front = prefix; messages = messages })) {
       next = work.next;
@@ -45,20 +45,20 @@ AreFrozen marks entries = AllByRecursion (λ e. (marks e.file).frozen ≡ true) 
 
 -- while it is open
 pub record IsOpen {D : Type 0} (honest : D → Bool) (marks : D → ℕ → Marks) (held : D → ℕ → Held) (disk : D)
-    (slots : Slots) (last : Entry) (end total : ℕ) (carry : Carry) (s : State) : Type 0 where
-  pub kept : IsKept honest marks held disk slots last end total s
+    (slots : Slots) (active : Entry) (end total : ℕ) (carry : Carry) (s : State) : Type 0 where
+  pub kept : IsKept honest marks held disk slots active end total s
   pub segment : IsSegment s.active carry
   pub hands_on : IsTrue (honest disk) → HandsOn s carry
   pub frozen : AreFrozen (marks disk) (front_of s.manifest)
 
 -- and always
 pub record IsArchive {D : Type 0} (honest : D → Bool) (marks : D → ℕ → Marks) (held : D → ℕ → Held) (disk : D)
-    (slots : Slots) (last : Entry) (end total : ℕ) (carry : Carry) (files : List Frozen) (s : State) (closed : Bool)
+    (slots : Slots) (active : Entry) (end total : ℕ) (carry : Carry) (files : List Frozen) (s : State) (closed : Bool)
     : Type 0 where
-  pub counted : IsCounted s last end total
+  pub counted : IsCounted s active end total
   pub files_are : AreHeldAs (honest disk) (front_of s.manifest) files
   pub stand : IsTrue (honest disk) → FrozenStand octets_in (front_of s.manifest) s.parts files
-  pub still_open : closed ≡ false → IsOpen honest marks held disk slots last end total carry s
+  pub still_open : closed ≡ false → IsOpen honest marks held disk slots active end total carry s
 
 -- ---- a directory
 

@@ -33,7 +33,7 @@ use Rattle.flow_archive.specs.declared.refusal.ArchiveError.TheVariants as answe
 use Rattle.flow_archive.specs.declared.sources.Source.{Source}
 use Rattle.flow_archive.specs.declared.sources.SourceError.{SourceError}
 use Rattle.flow_archive.specs.declared.sources.SourceError.TheVariants.{Damaged, SumSpent, Fault, OutOfMemory}
-use Rattle.flow_archive.specs.Owned.{segment_of, Frozen}
+use Rattle.flow_archive.specs.Frozen.{segment_of, Frozen}
 
 -- The greatest Export Time of what a job reads of these parts: of the messages of segments, or of rolled files.
 abbrev pub IsJobTime : JobKind → List Part → ℕ → Type 0

@@ -9,8 +9,8 @@ use Rattle.flow_measure.specs.Sums.{Table, empty_table}
 use Rattle.flow_rolled.specs.Rollup.{IsRollup}
 use Rattle.flow_model.specs.State.{Job, StagedFile, State}
 use Rattle.flow_model.specs.Jobs.{source_parts, width_made, IsJobSum, IsStagedAt}
-use Rattle.flow_archive.specs.declared.rolling.JobStatus.{JobStatus}
-use Rattle.flow_archive.specs.Owned.{Frozen, IsAlone}
+use Rattle.flow_archive.specs.declared.job.JobStatus.{JobStatus}
+use Rattle.flow_archive.specs.Frozen.{Frozen, IsAlone}
 use Rattle.flow_archive.specs.Sources.{IsJobTime}
 
 -- so many of these octets, followed by zeros where they are fewer
@@ -19,59 +19,60 @@ sized count octets = take count (octets ++ replicate count 0)
 
 -- A file that a job has made: its number, whether it is on an honest disk, which reads as it is, and its octets. On a
 -- disk that isn't honest only their count is sure.
-pub record Made : Type 0 where
+pub record FrozenStaged : Type 0 where
   pub file : ℕ
   pub honest : Bool
   pub octets : List ℕ
 
 -- the file that a frozen one is, by its number, its size, whether it is honest, and its octets
-abbrev pub made_of : {S : Type 0} → (S → ℕ) → (S → ℕ) → (S → Bool) → (S → List ℕ) → S → Made
-made_of number size honest octets file =
+abbrev pub frozen_staged : {S : Type 0} → (S → ℕ) → (S → ℕ) → (S → Bool) → (S → List ℕ) → S → FrozenStaged
+frozen_staged number size honest octets file =
     record { file = number file; honest = honest file; octets = sized (size file) (octets file) }
 
-abbrev pub made_in : {S : Type 0} → (S → ℕ) → (S → ℕ) → (S → Bool) → (S → List ℕ) → Option S → Option Made
-made_in number size honest octets None = None
-made_in number size honest octets (Some file) = Some (made_of number size honest octets file)
+abbrev pub frozen_staged_in : {S : Type 0} → (S → ℕ) → (S → ℕ) → (S → Bool) → (S → List ℕ) → Option S
+    → Option FrozenStaged
+frozen_staged_in number size honest octets None = None
+frozen_staged_in number size honest octets (Some file) = Some (frozen_staged number size honest octets file)
 
 -- A job sums so many sources, the oldest of their kind: how many of them it has read, their sums, the greatest Export
 -- Time in them, and the file that it has made of them.
-pub record Rolling : Type 0 where
+pub record RunningJob : Type 0 where
   pub kind : JobKind
   pub sources : ℕ
   pub read : ℕ
   pub rows : Table
   pub time : ℕ
-  pub staged : Option Made
+  pub staged : Option FrozenStaged
 
 -- a job that has read nothing, and sums by this width
-abbrev pub fresh : JobKind → ℕ → ℕ → Rolling
+abbrev pub fresh : JobKind → ℕ → ℕ → RunningJob
 fresh kind sources width =
     record { kind = kind; sources = sources; read = 0; rows = empty_table width; time = 0; staged = None }
 
 -- The number of the next new file, the job, and the files that wait for their removal, the oldest first.
-pub record Work : Type 0 where
+pub record UnderWay : Type 0 where
   pub next : ℕ
-  pub job : Option Rolling
+  pub job : Option RunningJob
   pub waiting : List Frozen
 
 -- what an archive keeps of it
-abbrev pub work_in : ℕ → Option Rolling → List Frozen → Work
-work_in next job waiting = record { next = next; job = job; waiting = waiting }
+abbrev pub under_way_in : ℕ → Option RunningJob → List Frozen → UnderWay
+under_way_in next job waiting = record { next = next; job = job; waiting = waiting }
 
 -- nothing is under way
-abbrev pub no_work : ℕ → Work
-no_work next = record { next = next; job = None; waiting = [] }
+abbrev pub none_under_way : ℕ → UnderWay
+none_under_way next = record { next = next; job = None; waiting = [] }
 
 -- ---- in the state
 
-abbrev pub staged_file : Made → StagedFile
+abbrev pub staged_file : FrozenStaged → StagedFile
 staged_file f = record { file = f.file; octets = f.octets }
 
-abbrev pub staged_in : Option Made → Option StagedFile
+abbrev pub staged_in : Option FrozenStaged → Option StagedFile
 staged_in None = None
 staged_in (Some f) = Some (staged_file f)
 
-abbrev pub job_in : Option Rolling → Option Job
+abbrev pub job_in : Option RunningJob → Option Job
 job_in None = None
 job_in (Some r) =
     Some (record { kind = r.kind; sources = r.sources; read = r.read; staged = staged_in r.staged })
@@ -88,7 +89,7 @@ abbrev pub job_numbers : Option Job → List ℕ
 job_numbers None = []
 job_numbers (Some job) = number_in job.staged
 
-abbrev pub unnamed_in : Work → List ℕ
+abbrev pub unnamed_in : UnderWay → List ℕ
 unnamed_in work = job_numbers (job_in work.job) ++ numbers_of work.waiting
 
 -- the status of a job, as it is answered
@@ -115,7 +116,7 @@ pub record IsUnnamed (s : State) (file : ℕ) : Type 0 where
 
 -- The file that a job has made: all sources are read, a generation is left for the manifest that will name it, and on
 -- an honest disk it is the rolled file of the sums, with the job's Export Time.
-pub record IsStaged (honest : Bool) (s : State) (r : Rolling) (f : Made) : Type 0 where
+pub record IsStaged (honest : Bool) (s : State) (r : RunningJob) (f : FrozenStaged) : Type 0 where
   pub all : r.read ≡ r.sources
   pub generation : s.manifest.generation + 1 < 2 ^ 64
   pub unnamed : IsUnnamed s f.file
@@ -124,7 +125,7 @@ pub record IsStaged (honest : Bool) (s : State) (r : Rolling) (f : Made) : Type 
       → (rollup : IsRollup (width_made r.kind s.manifest) f.octets r.rows) × (rollup.time ≡ r.time)
 
 -- A job, whatever the disk; and on an honest one its sums and its Export Time are those of what it has read.
-pub record IsRolling (honest : Bool) (s : State) (r : Rolling) : Type 0 where
+pub record IsRunningJob (honest : Bool) (s : State) (r : RunningJob) : Type 0 where
   pub some : 1 ≤ r.sources
   pub few : r.sources ≤ count_of (source_of r.kind) s.manifest.entries
   pub read : r.read ≤ r.sources
@@ -135,7 +136,7 @@ pub record IsRolling (honest : Bool) (s : State) (r : Rolling) : Type 0 where
 
 -- The staged file is on the disk, and is frozen.
 pub record IsOnDisk {D : Type 0} (honest : D → Bool) (marks : D → ℕ → Marks) (held : D → ℕ → Held) (disk : D)
-    (f : Made) : Type 0 where
+    (f : FrozenStaged) : Type 0 where
   pub frozen : (marks disk f.file).frozen ≡ true
   pub octets : IsTrue (honest disk) → (image : List ℕ) → IsImage (held disk f.file) image
       → IsStagedAt image (staged_file f)
@@ -152,15 +153,15 @@ AllDiffer (n ∷ others) = AllByRecursion (λ o. o ≢ n) others × AllDiffer ot
 
 -- While an archive isn't shared, it alone has its files; and the files that no manifest names have numbers of their
 -- own.
-pub record HasOwnFiles (shared : Bool) (files : List Frozen) (work : Work) : Type 0 where
+pub record HasOwnFiles (shared : Bool) (files : List Frozen) (work : UnderWay) : Type 0 where
   pub alone : shared ≡ false → AllByRecursion IsAlone files
   pub waiting : shared ≡ false → AllByRecursion IsAlone work.waiting
   pub differ : AllDiffer (unnamed_in work)
 
 -- all that is under way
 pub record IsUnderWay {D : Type 0} (honest : D → Bool) (marks : D → ℕ → Marks) (held : D → ℕ → Held) (disk : D)
-    (s : State) (work : Work) (closed : Bool) : Type 0 where
-  pub job : IfSome work.job (IsRolling (honest disk) s)
+    (s : State) (work : UnderWay) (closed : Bool) : Type 0 where
+  pub job : IfSome work.job (IsRunningJob (honest disk) s)
   pub on_disk : closed ≡ false
       → IfSome work.job (λ r. IfSome r.staged (IsOnDisk honest marks held disk))
   pub waiting : AllByRecursion (IsWaiting (marks disk) s closed) work.waiting

@@ -100,7 +100,7 @@ impl<D: Disk> Archive<D> {
             Ok(slots) => Ok(Archive {
                 disk,
                 slots,
-                last: FIRST,
+                active: FIRST,
                 end: 0,
                 total: 0,
                 carry: Carry::new(alloc),

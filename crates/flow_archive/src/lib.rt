@@ -21,33 +21,28 @@
 //! any more; while a directory or a snapshot has it too, it is refused.
 #![tactic(auto)]
 
+mod append;
 mod archive;
 mod creating;
 mod error;
 mod event;
-mod events;
-mod installing;
-mod jobs;
-mod moving;
-mod next;
+mod frozen;
+mod install;
+mod job;
+mod laws;
 mod opening;
-mod owned;
 mod plain;
 mod refusal;
-mod removal;
-mod replacing;
-mod rolling;
+mod retire;
+mod roll;
+mod seal;
+mod share;
 mod sources;
-mod staged;
-mod staging;
-mod taking;
-mod telling;
 
 pub use archive::Archive;
 pub use error::PlainError;
-pub use event::{Answer, Event};
-pub use events::{run, take_event};
+pub use event::{Answer, Event, run, take_event};
+pub use job::JobStatus;
+pub use laws::{marks_of_answers, shelves_of_answers};
 pub use plain::PlainArchive;
 pub use refusal::{ArchiveError, Refused};
-pub use rolling::JobStatus;
-pub use telling::{marks_of_answers, shelves_of_answers};

@@ -14,10 +14,10 @@ ghost use Rattle.flow_recover.specs.Reading.{part_of};
 ghost use Rattle.flow_model.specs.Standing.{StandsFor, StandsForEither, is_file_of};
 ghost use Rattle.flow_recover.specs.Opening.{AreCutTo, IsDeviceOrMemory, IsRecovered, StandsForNone};
 ghost use Rattle.flow_archive.specs.Beginning.{answer_of, disk_of};
-ghost use Rattle.flow_archive.specs.Owned.{all_frozen, MayBeFrozen};
+ghost use Rattle.flow_archive.specs.Frozen.{all_frozen, MayBeFrozen};
 
 use crate::archive::Archive;
-use crate::owned::{FrozenFile, frozen_files};
+use crate::frozen::{FrozenFile, frozen_files};
 use crate::refusal::Refused;
 use bytes::Bytes;
 use flow_disk::{Disk, SealedFile};
@@ -149,7 +149,7 @@ pub(crate) fn resumed<D: Disk>(
     Ok(Archive {
         disk,
         slots: found.slots,
-        last: found.last,
+        active: found.last,
         end: found.end,
         total: found.total,
         carry: found.carry,

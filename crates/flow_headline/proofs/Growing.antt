@@ -22,7 +22,7 @@ use Rattle.flow_model.specs.Views.{IsViewOf}
 use Rattle.flow_model.proofs.Accepting.{templates_then}
 use Rattle.flow_model.proofs.Following.{all_counted}
 use Rattle.flow_model.specs.Jobs.{history_made, replaced, replaced_parts, table_made, width_made}
-use Rattle.flow_model.specs.State.{Job, Part, StagedFile, State, appended, moved_on, reopened}
+use Rattle.flow_model.specs.State.{Job, Part, StagedFile, State, appended, after_seal, reopened}
 use Rattle.flow_model.specs.Chain.{HandsOn, IsSegment}
 use Rattle.flow_model.specs.Shelved.{HasHistory, shelf_of}
 use Rattle.flow_model.specs.Standing.{PartsStand, StandsFor}
@@ -40,7 +40,7 @@ use Rattle.flow_archive.specs.declared.refusal.ArchiveError.TheVariants.{Fault, 
 use Rattle.flow_archive.specs.declared.refusal.ArchiveError.TheVariants.{Closed}
 use Rattle.flow_archive.specs.declared.refusal.ArchiveError.TheVariants.{Damaged, SourceFault, RollBusy, NoRoll}
 use Rattle.flow_archive.specs.declared.refusal.ArchiveError.TheVariants.{RollCount, RollNotDone, Pinned, NothingToRetire}
-use Rattle.flow_archive.specs.Answers.{Answers, AnswersAppend, AnswersSeal, AreAccepted, IsMovedOn, MayAppend, MaySeal}
+use Rattle.flow_archive.specs.Answers.{Answers, AnswersAppend, AnswersSeal, AreAccepted, IsSealed, MayAppend, MaySeal}
 use Rattle.flow_archive.specs.Answers.{Takes, told_as}
 use Rattle.flow_archive.specs.JobAnswers.{begun, dropped, stepped, with_staged, IsInstalled, IsStagedIn}
 use Rattle.flow_archive.specs.Runs.{Leads}
@@ -176,12 +176,12 @@ some_there : (xs : List (List ℕ)) → xs ≢ [] → 1 ≤ length xs
 some_there [] some = absurd (some refl)
 some_there (x ∷ xs) some = omega arith
 
-seal_adds : (s next : State) (h : History) → IsSound s → MaySeal s → IsMovedOn true s next → HasHistory s h
+seal_adds : (s next : State) (h : History) → IsSound s → MaySeal s → IsSealed true s next → HasHistory s h
     → IsGrown h [] next
 seal_adds s next h sound may (own, sealed, segment, same, is) has =
     let hands = hands_as s sound.carry own sound.hands segment in
-    let moved : next ≡ moved_on s (prefix_of own) =
-    is ∙ ap (λ (p : Part). record (moved_on s (prefix_of own)) { parts = s.parts ++ p ∷ [] }) (same refl) in
+    let moved : next ≡ after_seal s (prefix_of own) =
+    is ∙ ap (λ (p : Part). record (after_seal s (prefix_of own)) { parts = s.parts ++ p ∷ [] }) (same refl) in
     let followed = seal_follows s own h sound.valid hands (some_there s.active.messages may.some) has in
     same_history next next h refl (subst (λ (t : State). HasHistory t h) (sym moved) followed)
 

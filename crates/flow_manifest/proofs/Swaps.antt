@@ -12,7 +12,7 @@ use Rattle.flow_manifest.specs.declared.slots.Slot.TheVariants.{First, Second}
 use Rattle.flow_manifest.specs.declared.slots.Slots.{Slots}
 use Rattle.flow_manifest.specs.Manifest.{IsValidManifest, manifest_octets, format_2}
 use Rattle.flow_manifest.specs.Slots.{file_of, other, reads_of, IsClosed, Holds, IsOlder, AreSlots, IsReady, IsInForce}
-use Rattle.flow_manifest.specs.Slots.{MayClose, IsPrepared, MayOpen, Opens}
+use Rattle.flow_manifest.specs.Slots.{MayClose, IsPrepared, MayOpen, Opens, MaySwap, IsSwapped, IsNextBody, swapped}
 
 pub apart : (slot : Slot) → file_of slot ≢ file_of (other slot)
 apart First is = absurd (omega arith)
@@ -125,6 +125,64 @@ old_or_new slots m a b are step = ⊎_elim
     ))
     step.here
 
+-- ---- a whole swap
+
+-- one call on a file after another
+pub in_turn : (file : ℕ) (Q R T : List ℕ → List ℕ → Type 0) → ((x a b : List ℕ) → Q x a → R a b → T x b)
+    → (x a b : ℕ → List ℕ) → InFile file Q x a → InFile file R a b → InFile file T x b
+in_turn file Q R T then x a b one two = record {
+  others = λ n differs. two.others n differs ∙ one.others n differs;
+  here = then (x file) (a file) (b file) one.here two.here;
+}
+
+pub may_open_swaps : (body x a b : List ℕ) → IsPrepared body x a → MayOpen a b → MaySwap body x b
+may_open_swaps body x a b prepared may = ⊎_elim (λ closed. inr (inl closed))
+    (λ is. inr (inr (is ∙ ap (λ (l : List ℕ). 165 ∷ l) prepared.behind))) may
+
+pub opens_swaps : (body x a b : List ℕ) → IsPrepared body x a → Opens a b → IsSwapped body x b
+opens_swaps body x a b prepared is = is ∙ ap (λ (l : List ℕ). 165 ∷ l) prepared.behind
+
+-- a slot with a body alone after an open gate
+holds_body : (slots : Slots) (m : Manifest) (body octets : List ℕ) → IsNextBody slots m body → octets ≡ 165 ∷ body
+    → Holds octets m
+holds_body slots m body octets next is = record {
+  gate = ap (λ (l : List ℕ). get_or l 0 0) is;
+  body = record {
+    valid = next.valid;
+    format = format_2;
+    said = tt;
+    is = ap (λ (l : List ℕ). drop 1 l) is ∙ next.is;
+  };
+}
+
+pub swapped_slots : (slots : Slots) (m : Manifest) (body : List ℕ) (a b : ℕ → List ℕ) → AreSlots slots a
+    → IsNextBody slots m body → InFile (file_of (other slots.current_slot)) (IsSwapped body) a b
+    → AreSlots (swapped slots m) b
+swapped_slots slots m body a b are next step = record {
+  current = holds_body slots m body (b (file_of (other slots.current_slot))) next step.here;
+  beside = (
+    slots.current,
+    subst (λ (s : Slot). Holds (b (file_of s)) slots.current) (sym (other_other slots.current_slot))
+        (kept slots a b (IsSwapped body) are.current step),
+    omega (arith, next.follows),
+  );
+}
+
+pub old_or_swapped : (slots : Slots) (m : Manifest) (body : List ℕ) (a b : ℕ → List ℕ) → AreSlots slots a
+    → IsNextBody slots m body → InFile (file_of (other slots.current_slot)) (MaySwap body) a b
+    → IsInForce b slots.current ⊎ IsInForce b m
+old_or_swapped slots m body a b are next step = ⊎_elim
+    (λ same. inl (still_in_force slots a b are (record { others = step.others; here = inl same })))
+    (λ changed. ⊎_elim
+    (λ closed. inl (still_in_force slots a b are (record { others = step.others; here = inr closed })))
+    (λ is. inr (
+      swapped slots m,
+      refl,
+      swapped_slots slots m body a b are next (record { others = step.others; here = is }),
+    ))
+    changed)
+    step.here
+
 -- ---- the same over a disk whose two slots are settled
 
 module _ {D S X : Type 0} (g : Ghosts D S X) (old new : D) (slots : Slots) (file : ℕ)
@@ -142,6 +200,21 @@ module _ {D S X : Type 0} (g : Ghosts D S X) (old new : D) (slots : Slots) (file
         (λ image. IsInForce image slots.current) run
         (λ image comes. still_in_force slots comes.0 image (agrees comes.0 comes.1)
         (subst (λ (n : ℕ). InFile n MayClose comes.0 image) there comes.2))
+
+    pub current_or_next : (m : Manifest) (body : List ℕ) → IsNextBody slots m body
+        → LeavesOnly g old new (ComesOf (g.held old) (InFile file (MaySwap body)))
+        → LeavesOnly g old new (λ image. IsInForce image slots.current ⊎ IsInForce image m)
+    current_or_next m body next run = by g old new (ComesOf (g.held old) (InFile file (MaySwap body)))
+        (λ image. IsInForce image slots.current ⊎ IsInForce image m) run
+        (λ image comes. old_or_swapped slots m body comes.0 image (agrees comes.0 comes.1) next
+        (subst (λ (n : ℕ). InFile n (MaySwap body) comes.0 image) there comes.2))
+
+    pub next_slots : (m : Manifest) (body : List ℕ) → IsNextBody slots m body
+        → AllImages (g.held new) (ComesOf (g.held old) (InFile file (IsSwapped body)))
+        → AllImages (g.held new) (AreSlots (swapped slots m))
+    next_slots m body next after image is = let comes = after image is in
+        swapped_slots slots m body comes.0 image (agrees comes.0 comes.1) next
+        (subst (λ (n : ℕ). InFile n (IsSwapped body) comes.0 image) there comes.2)
 
     module _ (body : List ℕ) (after : AllImages (g.held new) (ComesOf (g.held old) (InFile file (IsPrepared body))))
         (image : ℕ → List ℕ) (is : IsDiskImage (g.held new) image) where

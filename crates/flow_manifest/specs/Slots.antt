@@ -58,6 +58,16 @@ pub record IsReady (slots : Slots) (m : Manifest) (image : ℕ → List ℕ) : T
   pub valid : IsValidManifest m
   pub follows : m.generation ≡ slots.current.generation + 1
 
+-- a body is the octets of a valid manifest that follows the current one
+pub record IsNextBody (slots : Slots) (m : Manifest) (body : List ℕ) : Type 0 where
+  pub valid : IsValidManifest m
+  pub follows : m.generation ≡ slots.current.generation + 1
+  pub is : body ≡ manifest_octets m
+
+-- the slots once this manifest is in force, in the one that wasn't
+abbrev pub swapped : Slots → Manifest → Slots
+swapped slots m = record { current = m; current_slot = other slots.current_slot; other_open = true }
+
 -- what each file reads as
 abbrev pub reads_of : (ℕ → Held) → ℕ → List ℕ
 reads_of files n = (files n).reads
@@ -106,3 +116,11 @@ MayOpen before after = IsClosed after ⊎ SetsGate open_gate before after
 -- opened, and nothing else changed
 abbrev pub Opens : List ℕ → List ℕ → Type 0
 Opens before after = SetsGate open_gate before after
+
+-- while it is swapped: as it was, closed, or an open gate and the body, and nothing more
+abbrev pub MaySwap : List ℕ → List ℕ → List ℕ → Type 0
+MaySwap body before after = (after ≡ before) ⊎ IsClosed after ⊎ (after ≡ open_gate ∷ body)
+
+-- swapped: an open gate and the body, and nothing more
+abbrev pub IsSwapped : List ℕ → List ℕ → List ℕ → Type 0
+IsSwapped body before after = after ≡ open_gate ∷ body

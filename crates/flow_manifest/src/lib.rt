@@ -2,9 +2,9 @@
 //! order, and what each of them counts.
 //!
 //! To the layers above: `encode` gives the octets of a valid manifest, and `decode` takes exactly those octets, of this
-//! format or of the one before it, and names the first fault of all others. Through `prepare` and `commit` the manifest
-//! in force of every image of every moment is the old one or the new one: the old one until `commit` begins, the new
-//! one after its Ok. `read_slots` answers which one it is.
+//! format or of the one before it, and names the first fault of all others. Through `swap_slots` the manifest in force
+//! of every image of every moment is the old one or the new one, and after its Ok the new one. `prepare` and `commit`
+//! are its two halves: the old one is in force until `commit` begins. `read_slots` answers which one is.
 #![tactic(auto)]
 
 mod checks;
@@ -28,5 +28,4 @@ pub use following::{JobKind, Staged, count_of, installed_manifest, next_manifest
 pub use laws::{one_answer, one_in_force, read_back};
 pub use manifest::{Entries, Entry, Kind, Manifest};
 pub use reading::read_slots;
-pub use slots::{Slot, Slots, commit, prepare};
-pub use swap::{open_slot, prepare_slot};
+pub use slots::{Slot, Slots, commit, prepare, swap_slots};

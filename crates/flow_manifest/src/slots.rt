@@ -6,10 +6,10 @@ ghost use Rattle.flow_disk.specs.Calls.{LeavesOnly, StopsBy, EndsBy, SettlesFile
 ghost use Rattle.flow_manifest.specs.declared.manifest.Manifest.{Manifest};
 ghost use Rattle.flow_manifest.specs.Manifest.{IsValidManifest, manifest_octets};
 ghost use Rattle.flow_manifest.specs.Slots.{file_of, other, reads_of, AreSlots, IsReady, IsInForce, MayClose};
-ghost use Rattle.flow_manifest.specs.Slots.{IsPrepared, MayOpen, Opens};
+ghost use Rattle.flow_manifest.specs.Slots.{swapped, IsNextBody, IsPrepared, IsSwapped, MayOpen, MaySwap, Opens};
 
 use crate::manifest::Manifest;
-use crate::swap::{open_slot, prepare_slot};
+use crate::swap::{open_slot, prepare_slot, swap_slot};
 use flow_disk::{Disk, DiskError};
 
 /// One of the two files that hold manifests.
@@ -52,6 +52,39 @@ pub struct Slots {
     pub current_slot: Slot,
     /// Whether the other slot's gate is open.
     pub other_open: bool,
+}
+
+/// Swaps: puts the manifest of a body in force, in the slot that isn't. Both slots are settled, and as `slots` says;
+/// after Ok they are as `swapped` says. It takes no memory.
+///
+/// At every moment the manifest in force is the current one or this one, and after Ok this one. After 30 Fault both
+/// slots are synced and read anew.
+pub fn swap_slots<D: Disk>(disk: &mut D, slots: &Slots, body: &[u8]) -> Result<(), DiskError>
+    requires room { 1 ≤ (D.marks disk.old (file_of (other slots.now.current_slot))).size }
+    requires thawed { (D.marks disk.old (file_of (other slots.now.current_slot))).frozen ≡ false }
+    requires settled { (D.marks disk.old (file_of (other slots.now.current_slot))).settled ≡ true }
+    requires settled_current { (D.marks disk.old (file_of slots.now.current_slot)).settled ≡ true }
+    requires told { IsTrue (D.honest disk.old) → AreSlots slots.now (reads_of (D.held disk.old)) }
+
+    ensures call { SettlesFile D.Disk disk.old disk.new (file_of (other slots.now.current_slot))
+        (1 + length body.now) result }
+
+    // A stop at any moment leaves the current manifest in force, or the one of this body.
+    ensures in_force { IsTrue (D.honest disk.old) → (m : Manifest) → IsNextBody slots.now m body.now
+        → LeavesOnly D.Disk disk.old disk.new (λ image. IsInForce image slots.now.current ⊎ IsInForce image m) }
+
+    // Afterwards the one of this body is in force.
+    ensures told { IsTrue (D.honest disk.old) → (m : Manifest) → IsNextBody slots.now m body.now
+        → OnOk result (AllImages (D.held disk.new) (AreSlots (swapped slots.now m))) }
+
+    // The same, of one slot alone.
+    ensures any_moment { StopsBy D.Disk disk.old disk.new
+        (InFile (file_of (other slots.now.current_slot)) (MaySwap body.now)) }
+    ensures after { EndsBy D.Disk disk.old disk.new result
+        (InFile (file_of (other slots.now.current_slot)) (IsSwapped body.now)) }
+{
+    let file = slots.current_slot.other().file();
+    swap_slot(disk, file, slots.other_open, body)
 }
 
 /// Makes ready for a swap: closes the slot that isn't in force where it is open, and writes the body of the next

@@ -4,7 +4,7 @@ ghost use Rattle.std.specs.Prelude.{◌≡◌, ◌≢◌, ℕ, ◌+◌, ◌≤�
 ghost use Rattle.flow_disk.specs.Disk.{InFile};
 ghost use Rattle.flow_disk.specs.Calls.{StopsBy, EndsBy, ChangesFile, SettlesFile};
 ghost use Rattle.flow_manifest.specs.Slots.{HasGate, HasSomeGate, SetsGate, IsClosed, MayClose, Closes, KeepsGate};
-ghost use Rattle.flow_manifest.specs.Slots.{HasBody, IsPrepared, MayOpen, Opens};
+ghost use Rattle.flow_manifest.specs.Slots.{HasBody, IsPrepared, IsSwapped, MayOpen, MaySwap, Opens};
 
 use flow_disk::{Disk, DiskError};
 
@@ -79,7 +79,7 @@ pub(crate) fn write_body<D: Disk>(disk: &mut D, file: u64, body: &[u8]) -> Resul
 
 /// Makes a closed slot of a body and nothing more, settled, whether it was open or closed. A closed gate is not
 /// written.
-pub fn prepare_slot<D: Disk>(
+pub(crate) fn prepare_slot<D: Disk>(
     disk: &mut D,
     file: u64,
     was_open: bool,
@@ -103,7 +103,7 @@ pub fn prepare_slot<D: Disk>(
 }
 
 /// Opens a closed slot, and settles it.
-pub fn open_slot<D: Disk>(disk: &mut D, file: u64) -> Result<(), DiskError>
+pub(crate) fn open_slot<D: Disk>(disk: &mut D, file: u64) -> Result<(), DiskError>
     requires room { 1 ≤ (D.marks disk.old file).size }
     requires thawed { (D.marks disk.old file).frozen ≡ false }
     requires settled { (D.marks disk.old file).settled ≡ true }
@@ -118,4 +118,29 @@ pub fn open_slot<D: Disk>(disk: &mut D, file: u64) -> Result<(), DiskError>
     ensures after { EndsBy D.Disk disk.old disk.new result (InFile file Opens) }
 {
     write_gate(disk, file, OPEN)
+}
+
+/// Makes an open slot of a body and nothing more, settled, whether it was open or closed. A closed gate is not written
+/// but to open it.
+pub(crate) fn swap_slot<D: Disk>(
+    disk: &mut D,
+    file: u64,
+    was_open: bool,
+    body: &[u8],
+) -> Result<(), DiskError>
+    requires room { 1 ≤ (D.marks disk.old file).size }
+    requires thawed { (D.marks disk.old file).frozen ≡ false }
+    requires settled { (D.marks disk.old file).settled ≡ true }
+    requires gate { IsTrue (D.honest disk.old) → HasGate was_open (D.held disk.old file).reads }
+
+    ensures call { SettlesFile D.Disk disk.old disk.new file (1 + length body.now) result }
+
+    // A stop at any moment leaves the slot as it was, closed, or open with the body.
+    ensures any_moment { StopsBy D.Disk disk.old disk.new (InFile file (MaySwap body.now)) }
+
+    // Afterwards it is open, and has the body.
+    ensures after { EndsBy D.Disk disk.old disk.new result (InFile file (IsSwapped body.now)) }
+{
+    prepare_slot(disk, file, was_open, body)?;
+    open_slot(disk, file)
 }

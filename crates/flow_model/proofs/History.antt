@@ -17,7 +17,7 @@ use Rattle.flow_model.specs.Shelf.{Segment, Shelf}
 use Rattle.flow_model.specs.Views.{IsViewOf}
 use Rattle.flow_model.specs.Changes.{CallsFor, added, applied, closed, counts_of, history_after, Allows, Change}
 use Rattle.flow_model.proofs.Following.{history_follows, view_follows}
-use Rattle.flow_model.specs.State.{Part, State, appended, end_of, moved_on}
+use Rattle.flow_model.specs.State.{Part, State, appended, end_of, after_seal}
 use Rattle.flow_model.specs.Chain.{ArePartsBehind, HandsOn, IsSegment, IsSegmentBehind}
 use Rattle.flow_model.specs.Shelved.{HasHistory, active_shelf, segment_of, shelf_of, shelved, shelved_first}
 use Rattle.flow_model.proofs.Viewing.{handed_on}
@@ -152,7 +152,7 @@ active_calls s c before e (own, called, g, is) some =
     (calls s.active own e g some)
 
 pub seal_follows : (s : State) (c : Carry) (h : History) → IsValidManifest s.manifest → HandsOn s c
-    → 1 ≤ length s.active.messages → HasHistory s h → HasHistory (moved_on s (prefix_of c)) h
+    → 1 ≤ length s.active.messages → HasHistory s h → HasHistory (after_seal s (prefix_of c)) h
 seal_follows s c h valid hands some has =
     let entry = sealed_entry (active_of s.manifest) (end_of s) (length s.active.messages) in
     let g = segment_of entry s.active in
@@ -165,12 +165,12 @@ seal_follows s c h valid hands some has =
       some,
       active_calls s c hands.sealed entry hands.active some,
     ) in
-    let front : front_of (moved_on s next).manifest ≡ front_of s.manifest ++ entry ∷ [] =
+    let front : front_of (after_seal s next).manifest ≡ front_of s.manifest ++ entry ∷ [] =
     front_then s.manifest entry (active_entry s.next (length next)) (front_of s.manifest) in
-    let same : shelf_of (moved_on s next) ≡ applied (shelf_of s) change =
-    ap (λ (es : List Entry). shelved es (s.parts ++ s.active ∷ []) (active_shelf (moved_on s next))) front
+    let same : shelf_of (after_seal s next) ≡ applied (shelf_of s) change =
+    ap (λ (es : List Entry). shelved es (s.parts ++ s.active ∷ []) (active_shelf (after_seal s next))) front
     ∙ shelved_then s.manifest None hands.sealed (front_of s.manifest) s.parts entry s.active
-    (active_shelf (moved_on s next)) hands.parts
+    (active_shelf (after_seal s next)) hands.parts
     ∙ closed_last g next (front_of s.manifest) s.parts (active_shelf s) in
     record {
       history = has.history;

@@ -62,8 +62,8 @@ abbrev pub appended : State → List (List ℕ) → State
 appended s more = record s { active = record { front = s.active.front; messages = s.active.messages ++ more } }
 
 -- the active segment sealed, and a new one with this prefix
-abbrev pub moved_on : State → List ℕ → State
-moved_on s prefix =
+abbrev pub after_seal : State → List ℕ → State
+after_seal s prefix =
     record s {
       manifest = next_manifest s.manifest (end_of s) (length s.active.messages) s.next (length prefix);
       parts = s.parts ++ s.active ∷ [];

@@ -12,7 +12,7 @@ ghost use Rattle.flow_rolled.specs.Rollup.{IsRollup};
 ghost use Rattle.flow_segment.specs.Carry.{octets_of, prefix_of, Carry};
 ghost use Rattle.flow_model.specs.Changes.{added, history_after, new_history};
 ghost use Rattle.flow_model.specs.Views.{IsViewOf};
-ghost use Rattle.flow_model.specs.State.{appended, empty_state, moved_on, Part, StagedFile, State};
+ghost use Rattle.flow_model.specs.State.{appended, empty_state, after_seal, Part, StagedFile, State};
 ghost use Rattle.flow_model.specs.Jobs.{IsJobSum, IsSourceSum, IsStagedAt};
 ghost use Rattle.flow_model.specs.Jobs.{history_made, replaced, source_parts, table_made, width_made};
 ghost use Rattle.flow_model.specs.Chain.{HandsOn, IsChained};
@@ -36,7 +36,7 @@ pub fn events_and_history()
         → HandsOn s c → AreAcceptedFrom c.templates more → HasHistory s h
         → HasHistory (appended s (octets_of more)) (history_after h (added (octets_of more))) }
     ensures closed { (s : State) (c : Carry) (h : History) → IsValidManifest s.manifest → HandsOn s c
-        → 1 ≤ length s.active.messages → HasHistory s h → HasHistory (moved_on s (prefix_of c)) h }
+        → 1 ≤ length s.active.messages → HasHistory s h → HasHistory (after_seal s (prefix_of c)) h }
 {}
 
 /// What jobs mean. A job adds the sums of one source after the other, which are the sums of the history's messages in

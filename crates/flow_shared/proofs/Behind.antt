@@ -8,7 +8,7 @@ use Rattle.flow_segment.specs.Carry.{prefix_of}
 use Rattle.flow_model.specs.Changes.{Change}
 use Rattle.flow_archive.specs.declared.refusal.ArchiveError.{ArchiveError}
 use Rattle.flow_archive.specs.declared.refusal.ArchiveError.TheVariants.{NoRoom}
-use Rattle.flow_model.specs.State.{moved_on, State}
+use Rattle.flow_model.specs.State.{after_seal, State}
 use Rattle.flow_archive.specs.Answers.{AnswersAppend, AnswersSeal, HasRoom}
 use Rattle.flow_archive.specs.Seen.{Seen}
 use Rattle.flow_shared.specs.Calls.{added_by, by, AppendsOnce, AppendsSealed, IsAppend, IsClosedBy, IsRefusedBefore, IsSeal}
@@ -84,7 +84,7 @@ module _ {D S Y : Type 0} (g : Ghosts D S Y) where
       → octet_sum messages ≤ old.state.manifest.limit → error ≢ NoRoom
   room_after old mid new messages file error seal append fit is =
       let moved = seal.answers.2 in
-      let room : HasRoom (record (moved_on old.state (prefix_of moved.0)) { parts = old.state.parts ++ moved.1 ∷ [] })
+      let room : HasRoom (record (after_seal old.state (prefix_of moved.0)) { parts = old.state.parts ++ moved.1 ∷ [] })
       (octet_sum messages) = omega (arith, fit) in
       let refused = subst (λ (e : ArchiveError). AnswersAppend mid.closed mid.state messages (Err e) new.state) is
       append.answers in

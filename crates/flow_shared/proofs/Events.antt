@@ -15,7 +15,7 @@ use Rattle.flow_model.specs.Shelf as shelf
 use Rattle.flow_model.specs.Jobs.{history_made}
 use Rattle.flow_model.specs.Shelved.{shelf_of, HasHistory}
 use Rattle.flow_model.specs.State.{Part, StagedFile, State, appended}
-use Rattle.flow_archive.specs.Answers.{IsMovedOn}
+use Rattle.flow_archive.specs.Answers.{IsSealed}
 use Rattle.flow_archive.specs.Answers as answers
 use Rattle.flow_archive.specs.Marks.{made_mark, numbered, HasMark}
 use Rattle.flow_turns.specs.declared.turn.Turn.{Turn}
@@ -74,7 +74,7 @@ last_there {X} xs x none =
     get_or_push xs x none (length (xs ++ x ∷ []) - 1) (omega (arith, length-append xs (x ∷ [])))
 
 pub sealed_marked : (honest : Bool) (s behind : State) (file : ℕ) → IsValidManifest s.manifest
-    → length s.parts ≡ length (front_of s.manifest) → IsMovedOn honest s behind
+    → length s.parts ≡ length (front_of s.manifest) → IsSealed honest s behind
     → file ≡ (active_of s.manifest).file → HasMark behind (Sealed file)
     → (IsTrue honest → (h : History) → HasHistory s h → HasHistory behind h)
     → (change : Change) × IsClosing honest s behind file change × IsMarkOf honest s behind (Sealed file) change

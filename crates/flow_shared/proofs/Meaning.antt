@@ -9,14 +9,14 @@ use Rattle.flow_rolled.specs.Rollup.{IsRollup}
 use Rattle.flow_segment.specs.Carry.{Carry, octets_of, prefix_of}
 use Rattle.flow_model.specs.Changes.{added, history_after, installed, joined}
 use Rattle.flow_model.specs.Jobs.{history_made, replaced, replaced_parts, table_made, width_made}
-use Rattle.flow_model.specs.State.{Job, Part, StagedFile, State, appended, moved_on, reopened}
+use Rattle.flow_model.specs.State.{Job, Part, StagedFile, State, appended, after_seal, reopened}
 use Rattle.flow_model.specs.Chain.{HandsOn, IsSegment}
 use Rattle.flow_model.specs.Shelved.{HasHistory}
 use Rattle.flow_model.specs.Standing.{PartsStand, StandsFor}
 use Rattle.flow_model.proofs.History.{append_follows, seal_follows}
 use Rattle.flow_model.proofs.Replacing.{history_replaced, sources_hold}
-use Rattle.flow_archive.specs.Answers.{AreAccepted, IsMovedOn, MaySeal}
-use Rattle.flow_archive.specs.JobAnswers.{IsMadeOf}
+use Rattle.flow_archive.specs.Answers.{AreAccepted, IsSealed, MaySeal}
+use Rattle.flow_archive.specs.JobAnswers.{IsJobFile}
 use Rattle.flow_archive.proofs.Shelves.{made_rollup, with_octets}
 
 -- ---- a state that an image represents
@@ -61,17 +61,17 @@ some_there : (xs : List (List ℕ)) → xs ≢ [] → 1 ≤ length xs
 some_there [] some = absurd (some refl)
 some_there (x ∷ xs) some = omega arith
 
-pub seal_means : (s behind : State) (h : History) → IsSound s → MaySeal s → IsMovedOn true s behind → HasHistory s h
+pub seal_means : (s behind : State) (h : History) → IsSound s → MaySeal s → IsSealed true s behind → HasHistory s h
     → HasHistory behind h
 seal_means s behind h sound may (own, sealed, segment, same, is) has =
     let hands = hands_as s sound.carry own sound.hands segment in
-    let moved : behind ≡ moved_on s (prefix_of own) =
-    is ∙ ap (λ (p : Part). record (moved_on s (prefix_of own)) { parts = s.parts ++ p ∷ [] }) (same refl) in
+    let moved : behind ≡ after_seal s (prefix_of own) =
+    is ∙ ap (λ (p : Part). record (after_seal s (prefix_of own)) { parts = s.parts ++ p ∷ [] }) (same refl) in
     subst (λ (t : State). HasHistory t h) (sym moved)
     (seal_follows s own h sound.valid hands (some_there s.active.messages may.some) has)
 
 pub install_means : (s behind : State) (job : Job) (file : StagedFile) (octets : List ℕ) (h : History) → IsSound s
-    → job.sources ≤ count_of (source_of job.kind) s.manifest.entries → IsMadeOf s job file.octets → octets ≡ file.octets
+    → job.sources ≤ count_of (source_of job.kind) s.manifest.entries → IsJobFile s job file.octets → octets ≡ file.octets
     → behind ≡ with_octets s job.kind job.sources file octets → HasHistory s h
     → HasHistory behind
     (history_made job.kind (messages_of (sources_of job.kind job.sources s.manifest.entries)) h)

@@ -17,7 +17,7 @@ use Rattle.flow_archive.specs.declared.event.Event.TheVariants.{RollStep, RollWr
 use Rattle.flow_archive.specs.declared.refusal.ArchiveError.{ArchiveError}
 use Rattle.flow_archive.specs.declared.refusal.ArchiveError.TheVariants.{Pinned, NothingToRetire}
 use Rattle.flow_archive.specs.Answers.{Answers, Takes, told_as}
-use Rattle.flow_archive.specs.JobAnswers.{AnswersRetire, IsMadeOf}
+use Rattle.flow_archive.specs.JobAnswers.{AnswersRetire, IsJobFile}
 use Rattle.flow_archive.specs.Runs.{IsRun}
 use Rattle.flow_archive.specs.Seen.{Seen, IsStep}
 use Rattle.flow_turns.specs.Turns.{begun_by, job_events}
@@ -108,7 +108,7 @@ still s after a (inr left) = (ap (λ (x : State). x.job) left.is, ap (λ (x : St
 -- what the events of a job up to its install make of a state
 pub record HasSums (honest : Bool) (s : State) (kind : JobKind) (count : ℕ) (after : State) : Type 0 where
   pub octets : List ℕ
-  pub sums : IsTrue honest → IsMadeOf s (all_read kind count) octets
+  pub sums : IsTrue honest → IsJobFile s (all_read kind count) octets
   pub read : List ℕ
   pub reads : IsTrue honest → read ≡ octets
   pub is : after ≡ with_sums s kind count octets read

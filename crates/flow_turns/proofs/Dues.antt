@@ -12,7 +12,7 @@ use Rattle.flow_model.specs.State.{State}
 use Rattle.flow_archive.specs.declared.event.Event.{Event}
 use Rattle.flow_archive.specs.declared.event.Event.TheVariants.{RollStep, RollWrite, RollInstall, Retire}
 use Rattle.flow_archive.specs.Answers.{Answers}
-use Rattle.flow_archive.specs.JobAnswers.{IsMadeOf}
+use Rattle.flow_archive.specs.JobAnswers.{IsJobFile}
 use Rattle.flow_archive.specs.Seen.{Seen}
 use Rattle.flow_turns.specs.Turns.{begun_by, due, files_over}
 use Rattle.flow_turns.specs.Laws.{all_read, turn_events, DueInTurn}
@@ -54,7 +54,7 @@ module _ {D S X : Type 0} (g : Ghosts D S X) (kind : JobKind) (keep : ℕ) where
         rest_along new replaced.no_job (none_over h kind count 0 s new.state replaced valid keep is some)
 
     install_along : (octets : List ℕ) (old : Seen D)
-        → (IsTrue (g.honest old.disk) → IsMadeOf s (all_read kind count) octets)
+        → (IsTrue (g.honest old.disk) → IsJobFile s (all_read kind count) octets)
         → old.state ≡ with_file s kind count octets → Along (RollInstall ∷ rest) old
     install_along octets old sums is = one_along RollInstall rest old
         (ap (λ (x : State). due kind keep x) is ∙ due_install kind kind keep count s octets) (λ new took.

@@ -12,7 +12,7 @@ use Rattle.flow_archive.specs.declared.event.Event.TheVariants.{RollStep, RollWr
 use Rattle.flow_archive.specs.declared.refusal.ArchiveError.{ArchiveError}
 use Rattle.flow_archive.specs.Answers.{Answers, told_as}
 use Rattle.flow_archive.specs.JobAnswers.{stepped, AnswersBegin, AnswersStep, AnswersWrite, HasJob}
-use Rattle.flow_archive.specs.JobAnswers.{IsMadeOf, IsStagedIn}
+use Rattle.flow_archive.specs.JobAnswers.{IsJobFile, IsStagedIn}
 use Rattle.flow_turns.specs.Turns.{begun_by}
 use Rattle.flow_turns.specs.Laws.{all_read}
 use Rattle.flow_turns.proofs.Passing.{no_begin, no_install, no_step, no_write, IsPassed}
@@ -99,7 +99,7 @@ after_step honest closed s after kind count read a passed answers =
 
 pub record IsMade (honest : Bool) (s : State) (kind : JobKind) (count : ℕ) (after : State) : Type 0 where
   pub octets : List ℕ
-  pub sums : IsTrue honest → IsMadeOf s (all_read kind count) octets
+  pub sums : IsTrue honest → IsJobFile s (all_read kind count) octets
   pub is : after ≡ with_file s kind count octets
 
 write_done : (honest closed : Bool) (s after : State) (kind : JobKind) (count : ℕ)

@@ -19,7 +19,7 @@ use Rattle.flow_manifest.proofs.Followers.{behind_short}
 use Rattle.flow_model.specs.State.{Part, State}
 use Rattle.flow_model.specs.Jobs.{staged_of}
 use Rattle.flow_model.proofs.Replacing.{are_sources, before_is, low, messages_installed, number, sources_are}
-use Rattle.flow_archive.specs.JobAnswers.{IsMadeOf}
+use Rattle.flow_archive.specs.JobAnswers.{IsJobFile}
 use Rattle.flow_turns.specs.Turns.{files_over}
 use Rattle.flow_turns.specs.Laws.{all_read, IsReplacement}
 use Rattle.flow_turns.proofs.Chains.{IsSummed}
@@ -89,7 +89,7 @@ module _ (honest : Bool) (s after : State) (kind : JobKind) (count removed : ℕ
         parts = ap (λ (x : State). x.parts) last;
         sums = λ h. (
           sym (ap (λ (l : List ℕ). length l) (is_summed.has.reads h)),
-          subst (λ (l : List ℕ). IsMadeOf s (all_read kind count) l) (sym (is_summed.has.reads h))
+          subst (λ (l : List ℕ). IsJobFile s (all_read kind count) l) (sym (is_summed.has.reads h))
               (is_summed.has.sums h),
         );
         all = all;

@@ -16,7 +16,7 @@ use Rattle.flow_archive.specs.declared.event.Event.{Event}
 use Rattle.flow_archive.specs.declared.event.Event.TheVariants.{Retire}
 use Rattle.flow_archive.specs.declared.refusal.ArchiveError.{ArchiveError}
 use Rattle.flow_archive.specs.Answers.{position_of}
-use Rattle.flow_archive.specs.JobAnswers.{IsMadeOf}
+use Rattle.flow_archive.specs.JobAnswers.{IsJobFile}
 use Rattle.flow_archive.specs.Runs.{IsRun}
 use Rattle.flow_archive.specs.Seen.{Seen}
 use Rattle.flow_turns.specs.declared.turn.Turn.{Turn}
@@ -60,7 +60,7 @@ pub record IsReplacement (honest : Bool) (kind : JobKind) (count removed : ℕ) 
   -- Its octets are in the place of its sources' parts. On an honest disk they are the file of the sources' sums.
   pub octets : List ℕ
   pub parts : new.parts ≡ replaced_parts kind count octets old.manifest.entries old.parts
-  pub sums : IsTrue honest → (long ≡ length octets) × IsMadeOf old (all_read kind count) octets
+  pub sums : IsTrue honest → (long ≡ length octets) × IsJobFile old (all_read kind count) octets
   -- there are as many messages as before: in all files that are named, in the active segment, and together
   pub all : messages_of new.manifest.entries ≡ messages_of old.manifest.entries
   pub active : new.active ≡ old.active

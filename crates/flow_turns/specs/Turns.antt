@@ -20,7 +20,7 @@ use Rattle.flow_archive.specs.declared.refusal.ArchiveError.TheVariants.{Closed}
 use Rattle.flow_archive.specs.declared.refusal.ArchiveError.TheVariants.{Damaged, SourceFault, RollBusy, NoRoll}
 use Rattle.flow_archive.specs.declared.refusal.ArchiveError.TheVariants.{RollCount, RollNotDone, Pinned}
 use Rattle.flow_archive.specs.declared.refusal.ArchiveError.TheVariants.{NothingToRetire}
-use Rattle.flow_archive.specs.declared.rolling.JobStatus.{JobStatus}
+use Rattle.flow_archive.specs.declared.job.JobStatus.{JobStatus}
 use Rattle.flow_archive.specs.Answers.{Answers, Takes}
 use Rattle.flow_archive.specs.Runs.{IsRun}
 use Rattle.flow_archive.specs.Seen.{Seen, IsStep}

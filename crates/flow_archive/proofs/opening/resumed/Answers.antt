@@ -7,9 +7,9 @@ use Rattle.flow_manifest.specs.Following.{active_of, front_of}
 use Rattle.flow_model.specs.State.{State}
 use Rattle.flow_recover.specs.Reading.{part_of}
 use Rattle.flow_model.specs.Standing.{IsKnown, StandsFor}
-use Rattle.flow_archive.specs.Owned.{all_frozen, Frozen, MayBeFrozen}
+use Rattle.flow_archive.specs.Frozen.{all_frozen, Frozen, MayBeFrozen}
 use Rattle.flow_archive.specs.Seen.{IsArchive, state_in}
-use Rattle.flow_archive.specs.UnderWay.{work_in, HasOwnFiles, IsUnderWay}
+use Rattle.flow_archive.specs.UnderWay.{under_way_in, HasOwnFiles, IsUnderWay}
 use Rattle.flow_archive.proofs.Reopened.{found_archive, found_read, front_frozen, front_is}
 use Rattle.flow_archive.proofs.Sharing.{own_found}
 use Rattle.flow_archive.proofs.Stand.{stands_for}
@@ -38,11 +38,11 @@ invariant_of-result g c =
     let files : c.in-Ok.kept.files.items ≡ all_frozen S.honest S.octets (front_of found.slots.current) found.parts.items =
     c.in-Ok.ensures.files ∙ ap (λ (l : List Entry). all_frozen S.honest S.octets l found.parts.items) front in
     let T : List Frozen → List ℕ → List (List ℕ) → List Frozen → State = λ f p ms w.
-    state_in (work_in found.slots.current.next None w) false found.slots.current f p ms in
+    state_in (under_way_in found.slots.current.next None w) false found.slots.current f p ms in
     let P : List Frozen → List ℕ → List (List ℕ) → List Frozen → Type 0 = λ f p ms w. IsArchive D.honest D.marks D.held c.args.disk
     found.slots found.last found.end found.total found.carry f (T f p ms w) false
-    × IsUnderWay D.honest D.marks D.held c.args.disk (T f p ms w) (work_in found.slots.current.next None w) false
-    × HasOwnFiles false f (work_in found.slots.current.next None w) in
+    × IsUnderWay D.honest D.marks D.held c.args.disk (T f p ms w) (under_way_in found.slots.current.next None w) false
+    × HasOwnFiles false f (under_way_in found.slots.current.next None w) in
     subst (λ (l : List Frozen). P l c.in-Ok.kept.prefix c.in-Ok.kept.messages.items c.new.result.items) (sym files)
     (subst (λ (l : List ℕ). P (all_frozen S.honest S.octets (front_of found.slots.current) found.parts.items) l
     c.in-Ok.kept.messages.items c.new.result.items) (sym c.in-Ok.ensures.prefix)
@@ -68,7 +68,7 @@ returns-clause-read g c reads is h =
     let files : c.in-Ok.kept.files.items ≡ all_frozen S.honest S.octets (front_of found.slots.current) found.parts.items =
     c.in-Ok.ensures.files ∙ ap (λ (l : List Entry). all_frozen S.honest S.octets l found.parts.items) front in
     let T : List Frozen → List ℕ → List (List ℕ) → List Frozen → State = λ f p ms w.
-    state_in (work_in found.slots.current.next None w) false found.slots.current f p ms in
+    state_in (under_way_in found.slots.current.next None w) false found.slots.current f p ms in
     let P : List Frozen → List ℕ → List (List ℕ) → List Frozen → Type 0 = λ f p ms w. StandsFor reads
     (T f p ms w) in
     subst (λ (l : List Frozen). P l c.in-Ok.kept.prefix c.in-Ok.kept.messages.items c.new.result.items) (sym files)
@@ -85,7 +85,7 @@ pub returns-clause-stands : goal.returns-clause-stands
 returns-clause-stands g c h image is =
     let found = c.args.found in
     let kept = c.in-Ok.kept in
-    let T : List Frozen → State = λ w. state_in (work_in found.slots.current.next None w) false found.slots.current
+    let T : List Frozen → State = λ w. state_in (under_way_in found.slots.current.next None w) false found.slots.current
     kept.files.items kept.prefix kept.messages.items in
     let still = (invariant_of-result g c).0.still_open refl in
     subst (λ (w : List Frozen). IsKnown found.slots (T w) image → StandsFor image (T w)) (sym c.new.ensures.items)

@@ -40,13 +40,13 @@ module _ (g : Over) (c : After-add_batch g) where
   abbrev more : List (List ℕ)
   more = slices c.args.messages.now
 
-  file_is : (active_of c.self.inside.slots.current).file ≡ c.self.inside.last.file
+  file_is : (active_of c.self.inside.slots.current).file ≡ c.self.inside.active.file
   file_is = ap (λ (x : Entry). x.file) (sym ((c.self.invariant.0).counted).last_is)
 
-  start : c.self.inside.last.prefix ≡ (active_of c.self.inside.slots.current).prefix
+  start : c.self.inside.active.prefix ≡ (active_of c.self.inside.slots.current).prefix
   start = ap (λ (x : Entry). x.prefix) ((c.self.invariant.0).counted).last_is
 
-  counted : IsCounted (appended was more) c.self.inside.last (c.self.inside.end + octet_sum more)
+  counted : IsCounted (appended was more) c.self.inside.active (c.self.inside.end + octet_sum more)
       (c.self.inside.total + length more)
   counted = counted_more was _ _ _ more (c.self.invariant.0).counted
       (omega (arith, c.in_ok-batch.ensures.room, c.in_ok-batch.ensures.count, start))
@@ -155,7 +155,7 @@ invariant_of-self-in-Ok-add_batch g c =
     let is = file_is g at in
     let active = (are_entries a.slots.current old.valid).active in
     let honest = λ (h : IsTrue (g.D.Disk.honest c.add_batch.new.disk)). subst IsTrue call.honest h in
-    let apart = λ (n : ℕ) (which : IsUnnamed (was g at) n) (same : n ≡ a.last.file).
+    let apart = λ (n : ℕ) (which : IsUnnamed (was g at) n) (same : n ≡ a.active.file).
     other_file (was g at) n old.valid which (same ∙ sym is) in
     rw (c.put_all.ensures, c.reserve.ensures.items, c.in_ok-batch.ensures.copies)
     (rw (c.in_ok-batch.ensures.count, ← slices_long c.args.messages.now) (
@@ -166,7 +166,7 @@ invariant_of-self-in-Ok-add_batch g c =
         still_open = λ _. record {
           kept = record {
             counted = counted g at;
-            ready = ready_more _ _ a.last.file a.next a.end _ (omega (arith, is, active.file_from))
+            ready = ready_more _ _ a.active.file a.next a.end _ (omega (arith, is, active.file_from))
                 (omega (arith, is, active.file_below, old.next)) still.kept.ready call.other_marks
                 (omega (arith, c.in-Ok-add_batch.ensures.call.size)) c.in-Ok-add_batch.ensures.call.settled call.thawed;
             known = λ h. arrive g.D.Disk _ _ _ _ _ (still.kept.known (honest h))

@@ -4,7 +4,7 @@ use Rattle.flow_manifest.specs.Following.{count_of, source_of}
 use Rattle.flow_model.specs.Jobs.{width_made}
 use Rattle.flow_archive.specs.JobAnswers.{begun}
 use Rattle.flow_archive.specs.Seen.{IsArchive}
-use Rattle.flow_archive.specs.UnderWay.{Rolling, Work, fresh, job_in, job_numbers, work_in}
+use Rattle.flow_archive.specs.UnderWay.{RunningJob, UnderWay, fresh, job_in, job_numbers, under_way_in}
 use Rattle.flow_archive.specs.UnderWay.{HasOwnFiles, IsUnderWay}
 use Rattle.flow_archive.proofs.Sharing.{own_numbers}
 use Rattle.flow_archive.specs.declared.refusal.ArchiveError.TheVariants as refusal
@@ -65,18 +65,18 @@ invariant_of-self g c =
     let d = inside.disk in
     let work = work_of inside in
     let s = state_of inside in
-    let W : Rolling → Work = λ r. work_in inside.next (Some r) inside.waiting.items in
+    let W : RunningJob → UnderWay = λ r. under_way_in inside.next (Some r) inside.waiting.items in
     let there : c.count_of-there.result ≡ count_of (source_of c.args.kind) m.entries = c.count_of-there.ensures
     ∙ ap (λ (k : Kind). count_of k c.as_slice.result.now) c.source.ensures
     ∙ ap (count_of (source_of c.args.kind)) c.as_slice.ensures in
     let some : 1 ≤ c.args.count = omega (arith, c.if-count-eq0.false) in
     let r = fresh c.args.kind c.args.count (width_made c.args.kind m) in
-    subst (λ (x : Rolling). IsArchive D.honest D.marks D.held d inside.slots inside.last inside.end inside.total
+    subst (λ (x : RunningJob). IsArchive D.honest D.marks D.held d inside.slots inside.active inside.end inside.total
     inside.carry inside.files.items (with_rolling inside (Some x)) inside.closed
     × IsUnderWay D.honest D.marks D.held d (with_rolling inside (Some x)) (W x) inside.closed
     × HasOwnFiles inside.shared inside.files.items (W x))
     (sym (c.new.ensures ∙ ap (fresh c.args.kind c.args.count) c.width_made-width.ensures)) (
-      job_archive s (job_in (Some r)) D.honest D.marks D.held d inside.slots inside.last inside.end inside.total
+      job_archive s (job_in (Some r)) D.honest D.marks D.held d inside.slots inside.active inside.end inside.total
           inside.carry inside.files.items inside.closed c.self.invariant.0,
       job_work s r refl D.honest D.marks D.held d work inside.closed
           (fresh_rolling (D.honest d) s c.args.kind c.args.count some
@@ -95,7 +95,7 @@ returns-clause-answers g c =
       c.if-self.false,
       no_job inside.job (sym c.is_some.ensures ∙ c.if-is_some.false),
       (omega (arith, c.if-count-eq0.false), omega (arith, c.if-there-count.false, there)),
-      ap (λ (r : Rolling). with_rolling inside (Some r)) c.new.ensures,
+      ap (λ (r : RunningJob). with_rolling inside (Some r)) c.new.ensures,
     )
 
 pub returns-clause-step : goal.returns-clause-step
@@ -105,7 +105,7 @@ returns-clause-step g c =
     let s = state_of inside in
     rw (← c.self.view_is) (without_device D inside.disk s
     (with_rolling inside (Some c.new.result)) inside.closed (λ after. after ≡ begun s c.args.kind c.args.count) tt
-    c.if-self.false (ap (λ (r : Rolling). with_rolling inside (Some r)) c.new.ensures) refl
+    c.if-self.false (ap (λ (r : RunningJob). with_rolling inside (Some r)) c.new.ensures) refl
     (λ h image left. g.met.D.Disk.only_now inside.disk image h left)
     (λ h image is. stands_for inside.slots _ image
     ((c.self.invariant.0.still_open c.if-self.false).kept.known h image is)))

@@ -5,9 +5,9 @@ use Rattle.flow_manifest.specs.Following.{active_entry}
 use Rattle.flow_segment.specs.Carry.{Carry, no_carry}
 use Rattle.flow_model.specs.State.{State, empty_state}
 use Rattle.flow_archive.specs.Beginning.{first_slots}
-use Rattle.flow_archive.specs.Owned.{Frozen}
+use Rattle.flow_archive.specs.Frozen.{Frozen}
 use Rattle.flow_archive.specs.Seen.{IsArchive, state_in}
-use Rattle.flow_archive.specs.UnderWay.{work_in, HasOwnFiles, IsUnderWay}
+use Rattle.flow_archive.specs.UnderWay.{under_way_in, HasOwnFiles, IsUnderWay}
 use Rattle.flow_archive.proofs.Empty.{empty_archive}
 use Rattle.flow_archive.proofs.Sharing.{own_nothing}
 use Rattle.flow_archive.proofs.Stand.{stands_for}
@@ -20,12 +20,12 @@ invariant_of-result g c =
     let d1 = c.begin.new.disk in
     let slots = first_slots c.args.width c.args.wide c.args.limit in
     let S : Slots → List Frozen → List ℕ → List (List ℕ) → List Frozen → State = λ x files prefix messages waiting.
-    state_in (work_in 4 None waiting) false x.current files prefix messages in
+    state_in (under_way_in 4 None waiting) false x.current files prefix messages in
     let P : Slots → Carry → List Frozen → List ℕ → List (List ℕ) → List Frozen → Type 0 =
     λ (x : Slots) (carry : Carry) files prefix messages waiting. IsArchive D.honest D.marks D.held d1 x
     (active_entry 3 0) 0 0 carry files (S x files prefix messages waiting) false
-    × IsUnderWay D.honest D.marks D.held d1 (S x files prefix messages waiting) (work_in 4 None waiting) false
-    × HasOwnFiles false files (work_in 4 None waiting) in
+    × IsUnderWay D.honest D.marks D.held d1 (S x files prefix messages waiting) (under_way_in 4 None waiting) false
+    × HasOwnFiles false files (under_way_in 4 None waiting) in
     let made : P slots (no_carry 0) [] [] [] [] = (
       empty_archive D.honest D.marks D.held d1 c.args.width c.args.wide
           c.args.limit c.in-Ok.ensures.valid c.in-Ok.ensures.ready

@@ -6,9 +6,9 @@ use Rattle.flow_model.specs.Shelf.{Shelf}
 use Rattle.flow_snapshot.specs.Sight.{Sight}
 use Rattle.flow_model.specs.Views.{IsViewOf}
 use Rattle.flow_model.specs.State.{State}
-use Rattle.flow_archive.specs.Owned.{shelf_with, AreHeldAs}
+use Rattle.flow_archive.specs.Frozen.{shelf_with, AreHeldAs}
 use Rattle.flow_archive.specs.Seen.{state_in, IsArchive, Seen}
-use Rattle.flow_archive.specs.UnderWay.{work_in, HasOwnFiles, IsUnderWay}
+use Rattle.flow_archive.specs.UnderWay.{under_way_in, HasOwnFiles, IsUnderWay}
 use Rattle.flow_archive.proofs.Directing.{once_shared, same_archive, same_state, shared_archive}
 use Rattle.flow_archive.proofs.Owning.{honest_all}
 use Rattle.flow_archive.proofs.Sharing.{own_shared}
@@ -26,13 +26,13 @@ invariant_of-self g c =
     let new = c.shared_files.new.files.items in
     let old = inside.files.items in
     let s : State = state_in work inside.shared m old inside.prefix inside.messages.items in
-    subst (λ (x : State). IsArchive D.honest D.marks D.held inside.disk inside.slots inside.last inside.end inside.total
+    subst (λ (x : State). IsArchive D.honest D.marks D.held inside.disk inside.slots inside.active inside.end inside.total
     inside.carry new x inside.closed × IsUnderWay D.honest D.marks D.held inside.disk x work inside.closed
     × HasOwnFiles true new work)
     (sym (same_state work true m new old inside.prefix inside.messages.items c.shared_files.ensures.same)) (
-      same_archive D.honest D.marks D.held inside.disk inside.slots inside.last inside.end inside.total inside.carry new
+      same_archive D.honest D.marks D.held inside.disk inside.slots inside.active inside.end inside.total inside.carry new
           old (once_shared s) inside.closed c.shared_files.ensures.same
-          (shared_archive D.honest D.marks D.held inside.disk inside.slots inside.last inside.end inside.total
+          (shared_archive D.honest D.marks D.held inside.disk inside.slots inside.active inside.end inside.total
           inside.carry old s inside.closed c.self.invariant.0),
       goes_on s s.active true D.honest D.marks D.held inside.disk inside.disk inside.closed inside.closed refl (λ is. is)
           (λ _ n is. refl) (λ _ h n is. refl) work (c.self.invariant.1),
@@ -48,13 +48,13 @@ invariant_of-self-2 g c =
     let new = c.shared_files.new.files.items in
     let old = inside.files.items in
     let s : State = state_in work inside.shared m old inside.prefix inside.messages.items in
-    subst (λ (x : State). IsArchive D.honest D.marks D.held inside.disk inside.slots inside.last inside.end inside.total
+    subst (λ (x : State). IsArchive D.honest D.marks D.held inside.disk inside.slots inside.active inside.end inside.total
     inside.carry new x inside.closed × IsUnderWay D.honest D.marks D.held inside.disk x work inside.closed
     × HasOwnFiles true new work)
     (sym (same_state work true m new old inside.prefix inside.messages.items c.shared_files.ensures.same)) (
-      same_archive D.honest D.marks D.held inside.disk inside.slots inside.last inside.end inside.total inside.carry new
+      same_archive D.honest D.marks D.held inside.disk inside.slots inside.active inside.end inside.total inside.carry new
           old (once_shared s) inside.closed c.shared_files.ensures.same
-          (shared_archive D.honest D.marks D.held inside.disk inside.slots inside.last inside.end inside.total
+          (shared_archive D.honest D.marks D.held inside.disk inside.slots inside.active inside.end inside.total
           inside.carry old s inside.closed c.self.invariant.0),
       goes_on s s.active true D.honest D.marks D.held inside.disk inside.disk inside.closed inside.closed refl (λ is. is)
           (λ _ n is. refl) (λ _ h n is. refl) work (c.self.invariant.1),
@@ -64,13 +64,13 @@ invariant_of-self-2 g c =
 pub returns-in_err-files-clause-state : goal.returns-in_err-files-clause-state
 returns-in_err-files-clause-state g c =
     let inside = c.self.inside in
-    rw (← c.self.view_is) (same_state (work_in inside.next inside.job inside.waiting.items) true inside.slots.current
+    rw (← c.self.view_is) (same_state (under_way_in inside.next inside.job inside.waiting.items) true inside.slots.current
     c.shared_files.new.files.items inside.files.items inside.prefix inside.messages.items c.shared_files.ensures.same)
 
 pub returns-clause-state : goal.returns-clause-state
 returns-clause-state g c =
     let inside = c.self.inside in
-    rw (← c.self.view_is) (same_state (work_in inside.next inside.job inside.waiting.items) true inside.slots.current
+    rw (← c.self.view_is) (same_state (under_way_in inside.next inside.job inside.waiting.items) true inside.slots.current
     c.shared_files.new.files.items inside.files.items inside.prefix inside.messages.items c.shared_files.ensures.same)
 
 pub returns-clause-active : goal.returns-clause-active

@@ -1,6 +1,6 @@
 use Rattle.std.proofs.Common.{refl}
 use Rattle.flow_manifest.specs.Following.{front_of}
-use Rattle.flow_archive.specs.Owned.{octets_in}
+use Rattle.flow_archive.specs.Frozen.{octets_in}
 use Rattle.flow_archive.proofs.Changed.{position_is}
 use Rattle.flow_archive.proofs.Inside.{state_of}
 use Rattle.flow_archive.proofs.Owning.{as_many}

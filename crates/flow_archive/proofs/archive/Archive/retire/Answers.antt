@@ -6,7 +6,7 @@ use Rattle.std.specs.List.{AllByRecursion}
 use Rattle.flow_segment.proofs.Making.{begun, changed_by}
 use Rattle.flow_model.specs.State.{State}
 use Rattle.flow_archive.specs.declared.refusal.ArchiveError.TheVariants as refusal
-use Rattle.flow_archive.specs.Owned.{Frozen}
+use Rattle.flow_archive.specs.Frozen.{Frozen}
 use Rattle.flow_archive.specs.UnderWay.{numbers_of, IsUnnamed, IsWaiting}
 use Rattle.flow_archive.proofs.Removing.{closed_now, is_shared_too, removed, removed_run, state_of, Holds}
 use Rattle.flow_archive.proofs.Stand.{stands_for}
@@ -40,10 +40,10 @@ invariant_of-self g c =
     let inside = c.self.inside in
     let d = inside.disk in
     let n = S.number c.in-Ok.file in
-    let was = subst (Holds D.honest D.marks D.held inside.slots inside.last inside.end inside.total inside.carry
+    let was = subst (Holds D.honest D.marks D.held inside.slots inside.active inside.end inside.total inside.carry
     inside.files.items inside.prefix inside.messages.items inside.next inside.job inside.shared d inside.closed)
     c.take_oldest-oldest.ensures.items c.self.invariant in
-    removed D.honest D.marks D.held inside.slots inside.last inside.end inside.total inside.carry inside.files.items
+    removed D.honest D.marks D.held inside.slots inside.active inside.end inside.total inside.carry inside.files.items
     inside.prefix inside.messages.items inside.next inside.job inside.shared d c.retire.new.self inside.closed
     c.take_oldest-oldest.result c.take_oldest-oldest.new.files.items n was (sym c.in-Ok.ensures.done)
     c.retire.ensures.honest c.retire.ensures.marks.others (λ h. (c.retire.ensures.held h).others)
@@ -57,12 +57,12 @@ invariant_of-self-in-Err-retire g c =
     let d = inside.disk in
     let n = S.number c.in-Ok.file in
     let rest = c.take_oldest-oldest.new.files.items in
-    let was = subst (Holds D.honest D.marks D.held inside.slots inside.last inside.end inside.total inside.carry
+    let was = subst (Holds D.honest D.marks D.held inside.slots inside.active inside.end inside.total inside.carry
     inside.files.items inside.prefix inside.messages.items inside.next inside.job inside.shared d inside.closed)
     c.take_oldest-oldest.ensures.items c.self.invariant in
-    closed_now D.honest D.marks D.held inside.slots inside.last inside.end inside.total inside.carry inside.files.items
+    closed_now D.honest D.marks D.held inside.slots inside.active inside.end inside.total inside.carry inside.files.items
     inside.prefix inside.messages.items inside.next inside.job inside.shared c.retire.new.self inside.closed rest
-    (removed D.honest D.marks D.held inside.slots inside.last inside.end inside.total inside.carry inside.files.items
+    (removed D.honest D.marks D.held inside.slots inside.active inside.end inside.total inside.carry inside.files.items
     inside.prefix inside.messages.items inside.next inside.job inside.shared d c.retire.new.self inside.closed
     c.take_oldest-oldest.result rest n was (sym c.in-Ok.ensures.done) c.retire.ensures.honest
     c.retire.ensures.marks.others (λ h. (c.retire.ensures.held h).others) (λ h. g.met.D.Disk.reads_image d n h))
@@ -90,7 +90,7 @@ returns-in-Ok-retire-clause-step g c =
     let n = S.number c.in-Ok.file in
     let f = c.take_oldest-oldest.result in
     let rest = c.take_oldest-oldest.new.files.items in
-    let s : State = state_of D.honest D.marks D.held inside.slots inside.last inside.end inside.total inside.carry
+    let s : State = state_of D.honest D.marks D.held inside.slots inside.active inside.end inside.total inside.carry
     inside.files.items inside.prefix inside.messages.items inside.next inside.job inside.shared inside.waiting.items in
     let all : AllByRecursion (IsWaiting (D.marks d) s inside.closed) (f ∷ rest) =
     subst (AllByRecursion (IsWaiting (D.marks d) s inside.closed)) c.take_oldest-oldest.ensures.items
@@ -133,7 +133,7 @@ returns-in-Err-retire-clause-step g c =
     let n = S.number c.in-Ok.file in
     let f = c.take_oldest-oldest.result in
     let rest = c.take_oldest-oldest.new.files.items in
-    let s : State = state_of D.honest D.marks D.held inside.slots inside.last inside.end inside.total inside.carry
+    let s : State = state_of D.honest D.marks D.held inside.slots inside.active inside.end inside.total inside.carry
     inside.files.items inside.prefix inside.messages.items inside.next inside.job inside.shared inside.waiting.items in
     let all : AllByRecursion (IsWaiting (D.marks d) s inside.closed) (f ∷ rest) =
     subst (AllByRecursion (IsWaiting (D.marks d) s inside.closed)) c.take_oldest-oldest.ensures.items
@@ -160,7 +160,7 @@ returns-in-Err-clause-answers g c =
     let is : inside.waiting.items ≡ f ∷ rest = c.take_oldest-oldest.ensures.items in
     let back : c.put_back.new.files.items ≡ inside.waiting.items =
     c.put_back.ensures ∙ ap (λ (x : Frozen). x ∷ rest) c.in-Err.ensures.refused.0 ∙ sym is in
-    let S : List Frozen → State = state_of D.honest D.marks D.held inside.slots inside.last inside.end inside.total
+    let S : List Frozen → State = state_of D.honest D.marks D.held inside.slots inside.active inside.end inside.total
     inside.carry inside.files.items inside.prefix inside.messages.items inside.next inside.job inside.shared in
     rw (← c.self.view_is) (
       c.if-self.false,
@@ -180,7 +180,7 @@ returns-in-Err-clause-step g c =
     let back : c.put_back.new.files.items ≡ inside.waiting.items =
     c.put_back.ensures ∙ ap (λ (x : Frozen). x ∷ rest) c.in-Err.ensures.refused.0
     ∙ sym c.take_oldest-oldest.ensures.items in
-    let S : List Frozen → State = state_of D.honest D.marks D.held inside.slots inside.last inside.end inside.total
+    let S : List Frozen → State = state_of D.honest D.marks D.held inside.slots inside.active inside.end inside.total
     inside.carry inside.files.items inside.prefix inside.messages.items inside.next inside.job inside.shared in
     rw (← c.self.view_is) (refused D _ _ _ refusal.Pinned
     (ap (λ (l : List Frozen). record { disk = inside.disk; state = S l; closed = inside.closed }) back) (λ is. cc)

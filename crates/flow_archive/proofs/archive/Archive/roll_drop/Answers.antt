@@ -6,7 +6,7 @@ use Rattle.flow_segment.proofs.Making.{begun, changed_by}
 use Rattle.flow_archive.specs.declared.refusal.ArchiveError.TheVariants as refusal
 use Rattle.flow_archive.specs.JobAnswers.{dropped}
 use Rattle.flow_archive.specs.declared.archive.Archive.TheInside.{Inside}
-use Rattle.flow_archive.specs.UnderWay.{job_in, made_in, made_of, Made, Rolling}
+use Rattle.flow_archive.specs.UnderWay.{job_in, frozen_staged_in, frozen_staged, FrozenStaged, RunningJob}
 use Rattle.flow_archive.specs.Seen.{StandsBeforeOrAfter}
 use Rattle.flow_archive.proofs.Dropping.{given_up, given_up_with, none_gone, staged_gone, unnamed, Has}
 use Rattle.flow_archive.proofs.Inside.{state_of, with_rolling}
@@ -29,8 +29,8 @@ returns-in_default-clause-step g c =
     (λ h still image is. stands_for inside.slots _ image
     ((c.self.invariant.0.still_open still).kept.known h image is))))
 
-abbrev HasIn : {D S X T F : Type 0} → Ghosts D S X → Inside D T F → D → Bool → Option Rolling → Type 0
-HasIn g a = Has g.honest g.marks g.held a.slots a.last a.end a.total a.carry a.files.items a.prefix a.messages.items
+abbrev HasIn : {D S X T F : Type 0} → Ghosts D S X → Inside D T F → D → Bool → Option RunningJob → Type 0
+HasIn g a = Has g.honest g.marks g.held a.slots a.active a.end a.total a.carry a.files.items a.prefix a.messages.items
     a.next a.shared a.waiting.items
 
 -- ---- where there is a job
@@ -44,19 +44,19 @@ module _ (g : Over) (c : In-Some g) where
 -- ---- where it has made a file
 module _ (g : Over) (c : After-retire g)
     (was : HasIn g.D.Disk c.self.inside c.self.inside.disk c.self.inside.closed (Some c.in-Some.job)) where
-  abbrev file : Made
-  file = made_of g.D.Sealed.SealedFile.number g.D.Sealed.SealedFile.size g.D.Sealed.SealedFile.honest
+  abbrev file : FrozenStaged
+  file = frozen_staged g.D.Sealed.SealedFile.number g.D.Sealed.SealedFile.size g.D.Sealed.SealedFile.honest
       g.D.Sealed.SealedFile.octets c.in-Some-into_file.file
 
   made : c.in-Some.job.staged ≡ Some file
-  made = sym c.into_file.ensures ∙ ap (made_in g.D.Sealed.SealedFile.number g.D.Sealed.SealedFile.size
+  made = sym c.into_file.ensures ∙ ap (frozen_staged_in g.D.Sealed.SealedFile.number g.D.Sealed.SealedFile.size
       g.D.Sealed.SealedFile.honest g.D.Sealed.SealedFile.octets) c.in-Some-into_file.is
 
   without : HasIn g.D.Disk c.self.inside c.retire.new.self c.self.inside.closed None
   without =
       let D = g.D.Disk in
       let a = c.self.inside in
-      given_up_with D.honest D.marks D.held a.slots a.last a.end a.total a.carry a.files.items a.prefix
+      given_up_with D.honest D.marks D.held a.slots a.active a.end a.total a.carry a.files.items a.prefix
       a.messages.items a.next a.shared a.waiting.items a.disk a.closed c.in-Some.job file made was c.retire.new.self
       c.retire.ensures.honest c.retire.ensures.marks.others (λ h. (c.retire.ensures.held h).others)
       (λ h. g.met.D.Disk.reads_image a.disk file.file h)
@@ -69,7 +69,7 @@ module _ (g : Over) (c : After-retire g)
       let a = c.self.inside in
       rw (sym c.take.ensures.value ∙ c.in-Some.is)
       (removed_run D.honest D.marks D.held a.disk c.retire.new.self (with_rolling a (Some c.in-Some.job)) file.file
-      (unnamed D.honest D.marks D.held a.slots a.last a.end a.total a.carry a.files.items a.prefix a.messages.items
+      (unnamed D.honest D.marks D.held a.slots a.active a.end a.total a.carry a.files.items a.prefix a.messages.items
       a.next a.shared a.waiting.items a.disk a.closed c.in-Some.job file made was) c.retire.ensures.honest
       c.retire.ensures.marks.others (λ t. (c.retire.ensures.held t).others)
       (λ t. g.met.D.Disk.reads_image a.disk file.file t) D a.slots _
@@ -82,10 +82,10 @@ invariant_of-self-in_default-into_file g c =
     let D = g.D.Disk in
     let S = g.D.Sealed.SealedFile in
     let a = c.self.inside in
-    rw c.take.ensures.after (given_up D.honest D.marks D.held a.slots a.last a.end a.total a.carry a.files.items
+    rw c.take.ensures.after (given_up D.honest D.marks D.held a.slots a.active a.end a.total a.carry a.files.items
     a.prefix a.messages.items a.next a.shared a.waiting.items a.disk a.closed c.in-Some.job
     (was g (goal.at.invariant_of-self-in_default-into_file g c).In-Some)
-    (sym c.into_file.ensures ∙ ap (made_in S.number S.size S.honest S.octets) c.in_default-into_file.is))
+    (sym c.into_file.ensures ∙ ap (frozen_staged_in S.number S.size S.honest S.octets) c.in_default-into_file.is))
 
 pub returns-in_default-into_file-clause-step : goal.returns-in_default-into_file-clause-step
 returns-in_default-into_file-clause-step g c =
@@ -107,7 +107,7 @@ invariant_of-self-in-Err g c =
     let at = goal.at.invariant_of-self-in-Err g c in
     let D = g.D.Disk in
     let a = c.self.inside in
-    rw c.take.ensures.after (closed_now D.honest D.marks D.held a.slots a.last a.end a.total a.carry a.files.items
+    rw c.take.ensures.after (closed_now D.honest D.marks D.held a.slots a.active a.end a.total a.carry a.files.items
     a.prefix a.messages.items a.next None a.shared c.retire.new.self a.closed a.waiting.items
     (without g at.After-retire (was g at.In-Some)))
 
@@ -158,7 +158,7 @@ returns-in_default-into_file-clause-removed g c =
     let S = g.D.Sealed.SealedFile in
     rw (← c.self.view_is) (none_gone (g.D.Disk.marks c.self.inside.disk) (state_of c.self.inside) c.in-Some.job
     (ap job_in (job_was g (goal.at.returns-in_default-into_file-clause-removed g c).In-Some))
-    (sym c.into_file.ensures ∙ ap (made_in S.number S.size S.honest S.octets) c.in_default-into_file.is))
+    (sym c.into_file.ensures ∙ ap (frozen_staged_in S.number S.size S.honest S.octets) c.in_default-into_file.is))
 
 pub returns-in-Ok-clause-removed : goal.returns-in-Ok-clause-removed
 returns-in-Ok-clause-removed g c =

@@ -5,17 +5,17 @@ use Rattle.flow_disk.specs.Calls.{LeavesOnly}
 use Rattle.flow_disk.proofs.Moments.{by}
 use Rattle.flow_manifest.specs.Manifest.{manifest_octets}
 use Rattle.flow_manifest.specs.Following.{front_of, made_entry, sources_of}
-use Rattle.flow_manifest.specs.Slots.{file_of, other}
+use Rattle.flow_manifest.specs.Slots.{other}
 use Rattle.flow_manifest.proofs.Followers.{behind_short, front_long}
 use Rattle.flow_model.specs.Jobs.{replaced, replaced_parts, staged_of}
 use Rattle.flow_model.specs.State.{State, reopened}
 use Rattle.flow_model.specs.Standing.{StandsForEither}
 use Rattle.flow_model.proofs.Replacing.{hands_after}
-use Rattle.flow_archive.specs.Installing.{IsInstall, IsMadeAs, IsNotInstalled}
+use Rattle.flow_archive.specs.Installing.{IsInstall, IsStagedAs, IsNotInstalled}
 use Rattle.flow_archive.specs.JobAnswers.{AnswersInstall, IsInstalled}
-use Rattle.flow_archive.specs.Owned.{Frozen, IsAlone, IsHeldAs}
+use Rattle.flow_archive.specs.Frozen.{Frozen, IsAlone, IsHeldAs}
 use Rattle.flow_archive.specs.Seen.{StandsBeforeOrAfter}
-use Rattle.flow_archive.specs.UnderWay.{job_in, staged_file, IsOnDisk, IsRolling, IsStaged, Made, Rolling}
+use Rattle.flow_archive.specs.UnderWay.{job_in, staged_file, IsOnDisk, IsRunningJob, IsStaged, FrozenStaged, RunningJob}
 use Rattle.flow_archive.specs.declared.refusal.ArchiveError.TheVariants as refusal
 use Rattle.flow_archive.proofs.Answering.{err_is}
 use Rattle.flow_archive.proofs.Directing.{failed_archive}
@@ -24,7 +24,6 @@ use Rattle.flow_archive.proofs.Installed.{made_apart, own_installed, some_made, 
 use Rattle.flow_archive.proofs.Owning.{as_many}
 use Rattle.flow_archive.proofs.Stand.{slot_below, stands_for}
 use Rattle.flow_archive.proofs.Stepping.{acknowledged, failed, refused, refused_by}
-use Rattle.flow_archive.proofs.Turning.{has_gate}
 use Rattle.flow_archive.proofs.Working.{goes_on}
 use Rattle.flow_archive.proofs.Written.{is_made_of, told}
 use Rattle.flow_archive.proofs.Inside.{made_there, state_of, the_rolling, the_staged, work_of}
@@ -53,18 +52,19 @@ returns-in_err-made-clause-step g c =
 
 pub install-requires-clause-room : goal.install-requires-clause-room
 install-requires-clause-room g c =
-    rw (c.file.ensures ∙ ap file_of c.other-slot.ensures)
-    (((c.self.invariant.0).still_open c.if-self.false).kept.ready.slot_room (other c.self.inside.slots.current_slot))
+    ((c.self.invariant.0).still_open c.if-self.false).kept.ready.slot_room (other c.self.inside.slots.current_slot)
 
 pub install-requires-clause-thawed : goal.install-requires-clause-thawed
 install-requires-clause-thawed g c =
-    rw (c.file.ensures ∙ ap file_of c.other-slot.ensures)
-    (((c.self.invariant.0).still_open c.if-self.false).kept.ready.slot_thawed (other c.self.inside.slots.current_slot))
+    ((c.self.invariant.0).still_open c.if-self.false).kept.ready.slot_thawed (other c.self.inside.slots.current_slot)
 
 pub install-requires-clause-settled : goal.install-requires-clause-settled
 install-requires-clause-settled g c =
-    rw (c.file.ensures ∙ ap file_of c.other-slot.ensures)
-    (((c.self.invariant.0).still_open c.if-self.false).kept.ready.slot_settled (other c.self.inside.slots.current_slot))
+    ((c.self.invariant.0).still_open c.if-self.false).kept.ready.slot_settled (other c.self.inside.slots.current_slot)
+
+pub install-requires-clause-settled_current : goal.install-requires-clause-settled_current
+install-requires-clause-settled_current g c =
+    ((c.self.invariant.0).still_open c.if-self.false).kept.ready.slot_settled c.self.inside.slots.current_slot
 
 -- ---- the install, and what is known of the job that has made its file
 module _ (g : Over) (c : After-install g) where
@@ -74,16 +74,16 @@ module _ (g : Over) (c : After-install g) where
   abbrev s : State
   s = state_of c.self.inside
 
-  abbrev r : Rolling
+  abbrev r : RunningJob
   r = c.in_ok-made.ensures.made.r
 
-  abbrev f : Made
+  abbrev f : FrozenStaged
   f = c.in_ok-made.ensures.made.f
 
   abbrev after : State
   after = replaced s r.kind r.sources (staged_file f)
 
-  rolling : IsRolling honest s r
+  rolling : IsRunningJob honest s r
   rolling = the_rolling honest s c.self.inside.job r c.in_ok-made.ensures.made.job_is c.self.invariant.1.job
 
   staged : IsStaged honest s r f
@@ -94,13 +94,12 @@ module _ (g : Over) (c : After-install g) where
       c.in_ok-made.ensures.made.job_is c.in_ok-made.ensures.made.staged_is
       (c.self.invariant.1.on_disk c.if-self.false)
 
-  ready : IsTrue honest → IsInstall (g.D.Disk.held c.self.inside.disk) c.self.inside.slots c.file.result
-      c.as_slice.result.now r.kind r.sources (staged_file f) s
+  ready : IsTrue honest → IsInstall (g.D.Disk.held c.self.inside.disk) c.self.inside.slots c.as_slice.result.now
+      r.kind r.sources (staged_file f) s
   ready h =
       let still = (c.self.invariant.0).still_open c.if-self.false in
       let is = c.in_ok-made.ensures.made in
       record {
-        slot_is = sym (c.file.ensures ∙ ap file_of c.other-slot.ensures);
         few = rolling.few;
         valid = rw is.now_is at is.valid;
         body_is = c.as_slice.ensures.value ∙ is.body_is ∙ ap manifest_octets is.now_is;
@@ -128,12 +127,12 @@ module _ (g : Over) (c : After-install g) where
       (StandsBeforeOrAfter s (λ x. IsInstalled true s x))
   run h = by g.D.Disk c.self.inside.disk c.install.new.disk (StandsForEither (reopened s) (reopened after))
       (StandsBeforeOrAfter s (λ x. IsInstalled true s x))
-      (c.install.ensures.any_moment h c.self.inside.slots r.kind r.sources (staged_file f) s (ready h))
+      (c.install.ensures.any_moment h r.kind r.sources (staged_file f) s (ready h))
       (λ image either. ⊎_elim (λ before. inl before)
       (λ later. inr (after, installed true f.octets (λ _. (h, refl)) after refl, later)) either)
 
   -- the archive with this file
-  module _ (part : Frozen) (is : IsMadeAs c.self.inside.job c.in_ok-made.made.entry part) where
+  module _ (part : Frozen) (is : IsStagedAs c.self.inside.job c.in_ok-made.made.entry part) where
     abbrev as_made : IsHeldAs f.honest c.in_ok-made.made.entry part × IsAlone part
         × (IsTrue f.honest → part.octets ≡ f.octets)
     as_made = is r f c.in_ok-made.ensures.made.job_is c.in_ok-made.ensures.made.staged_is
@@ -148,13 +147,13 @@ module _ (g : Over) (c : After-install g) where
     abbrev then : State
     then = let a = c.self.inside in
         then_state g.D.Disk.honest g.D.Disk.marks g.D.Disk.held (work_of a) a.shared a.disk c.install.new.disk a.slots
-        a.last a.end a.total a.carry a.files.items a.prefix a.messages.items r.kind r.sources f part
+        a.active a.end a.total a.carry a.files.items a.prefix a.messages.items r.kind r.sources f part
 
     in_force : (b : Bool) → (IsTrue b → IsTrue honest) → IsInstalled b s then
     in_force b so = let a = c.self.inside in
         installed b part.octets (λ h. (so h, octets_is (so h))) then
         (then_is g.D.Disk.honest g.D.Disk.marks g.D.Disk.held (work_of a) a.shared a.disk c.install.new.disk a.slots
-        a.last a.end a.total a.carry a.files.items a.prefix a.messages.items r.kind r.sources f part
+        a.active a.end a.total a.carry a.files.items a.prefix a.messages.items r.kind r.sources f part
         (c.self.invariant.0).counted.valid rolling.few (c.self.invariant.0).files_are part_held)
 
 pub exchange-requires-clause-within : goal.exchange-requires-clause-within
@@ -175,14 +174,12 @@ exchange-requires-clause-within g c =
       as_many (g.D.Disk.honest a.disk) (front_of m) a.files.items (c.self.invariant.0).files_are,
     )
 
-pub install-requires-clause-gate : goal.install-requires-clause-gate
-install-requires-clause-gate g c h =
+pub install-requires-clause-slots : goal.install-requires-clause-slots
+install-requires-clause-slots g c h =
     let inside = c.self.inside in
     let held = g.D.Disk.held inside.disk in
-    rw (c.file.ensures ∙ ap file_of c.other-slot.ensures)
-    (has_gate inside.slots.other_open inside.slots.current (held (file_of (other inside.slots.current_slot))).reads
     (((c.self.invariant.0).still_open c.if-self.false).kept.known h (λ n. (held n).reads)
-    (λ n. g.met.D.Disk.reads_image inside.disk n h)).slots_are.beside)
+    (λ n. g.met.D.Disk.reads_image inside.disk n h)).slots_are
 
 pub returns-in_default-clause-step : goal.returns-in_default-clause-step
 returns-in_default-clause-step g c =
@@ -211,7 +208,7 @@ invariant_of-self-in-Err-install g c =
     let s = state_of a in
     let d1 = c.install.new.disk in
     rw c.make_room.ensures.same (
-      failed_archive D.honest D.marks D.held a.disk d1 a.slots a.last a.end a.total a.carry a.carry a.files.items s
+      failed_archive D.honest D.marks D.held a.disk d1 a.slots a.active a.end a.total a.carry a.carry a.files.items s
           a.closed c.self.invariant.0 c.install.ensures.honest,
       goes_on s s.active a.shared D.honest D.marks D.held a.disk d1 a.closed true c.install.ensures.honest
           (λ is. absurd (cc)) (λ is. absurd (cc)) (λ is. absurd (cc)) (work_of a) (c.self.invariant.1),
@@ -242,8 +239,8 @@ returns-in-Err-clause-cause g c =
       other = λ differs. absurd (differs refl);
     })
 
-pub made_file-file-requires : goal.made_file-file-requires
-made_file-file-requires g c =
+pub take_staged-file-requires : goal.take_staged-file-requires
+take_staged-file-requires g c =
     let is = c.in_ok-made.ensures.made in
     rw is.entry_is (is.r, is.f, is.job_is, is.staged_is, refl, refl, refl, refl)
 
@@ -257,29 +254,27 @@ invariant_of-self-in-Ok-install g c =
     let was = c.self.invariant.0 in
     let is = c.in_ok-made.ensures.made in
     let d1 = c.install.new.disk in
-    let part : Frozen = c.made_file-file.result in
-    let file = c.made_file-file.ensures.file in
+    let part : Frozen = c.take_staged-file.result in
+    let file = c.take_staged-file.ensures.file in
     let held = part_held g at part file in
     let few = (rolling g at).few in
     let staged = staged g at in
     let own = rw is.job_is at c.self.invariant.2 in
-    let slot_is = c.file.ensures ∙ ap file_of c.other-slot.ensures in
     let low = slot_below (other a.slots.current_slot) in
-    let others = rw slot_is at c.install.ensures.other_marks in
-    rw c.other-slot.ensures (rw is.now_is (rw c.made_file-file.ensures.none (rw c.exchange.ensures.files
+    let others = c.install.ensures.other_marks in
+    rw c.other-slot.ensures (rw is.now_is (rw c.take_staged-file.ensures.none (rw c.exchange.ensures.files
     (rw c.exchange.ensures.waiting (rw c.make_room.ensures.same (rw is.place_is (rw is.sources_is (
-      archive_installed D.honest D.marks D.held (work_of a) a.shared d d1 a.slots a.last a.end a.total a.carry
+      archive_installed D.honest D.marks D.held (work_of a) a.shared d d1 a.slots a.active a.end a.total a.carry
           a.files.items a.prefix a.messages.items is.r.kind is.r.sources is.f part was.counted.valid few was.files_are
           held a.closed was c.if-self.false c.install.ensures.honest (rw is.now_is at is.valid) others
-          (rw slot_is at c.in-Ok-install.ensures.slot_room) (rw slot_is at c.in-Ok-install.ensures.slot_settled)
-          (rw slot_is at c.install.ensures.slot_thawed)
+          c.in-Ok-install.ensures.slot_room c.in-Ok-install.ensures.slot_settled c.install.ensures.slot_thawed
           (ap (λ (k : Marks). k.frozen)
           (others is.f.file (λ same. omega (arith, same, staged.unnamed.from, low))) ∙ (there g at).frozen)
-          (λ h. c.in-Ok-install.ensures.after h a.slots is.r.kind is.r.sources (staged_file is.f) (state_of a)
+          (λ h. c.in-Ok-install.ensures.after h is.r.kind is.r.sources (staged_file is.f) (state_of a)
           (ready g at h)) (octets_is g at part file)
           (λ h. hands_after (state_of a) a.carry was.counted.valid ((was.still_open c.if-self.false).hands_on h)
           is.r.kind is.r.sources few (staged_file is.f) is.r.rows (staged.made h).0),
-      work_installed D.honest D.marks D.held (work_of a) a.shared d d1 a.slots a.last a.end a.total a.carry
+      work_installed D.honest D.marks D.held (work_of a) a.shared d d1 a.slots a.active a.end a.total a.carry
           a.files.items a.prefix a.messages.items is.r.kind is.r.sources is.f part was.counted.valid few was.files_are
           held a.closed was c.if-self.false others staged.unnamed
           (made_apart m was.counted.valid is.r.kind is.r.sources few (D.honest d) a.files.items was.files_are a.shared
@@ -296,9 +291,9 @@ returns-in-Ok-install-clause-answers g c =
     let is = c.in_ok-made.ensures.made in
     rw (← c.self.view_is) (
       c.if-self.false,
-      rw is.now_is (rw c.made_file-file.ensures.none (rw c.exchange.ensures.files (rw c.exchange.ensures.waiting
-          (rw c.make_room.ensures.same (rw is.place_is (rw is.sources_is (in_force g at c.made_file-file.result
-          c.made_file-file.ensures.file (g.D.Disk.honest c.self.inside.disk) (λ h. h)))))))),
+      rw is.now_is (rw c.take_staged-file.ensures.none (rw c.exchange.ensures.files (rw c.exchange.ensures.waiting
+          (rw c.make_room.ensures.same (rw is.place_is (rw is.sources_is (in_force g at c.take_staged-file.result
+          c.take_staged-file.ensures.file (g.D.Disk.honest c.self.inside.disk) (λ h. h)))))))),
       (told is.r, ap job_in is.job_is, is.answer_is ∙ cut_is is.r.kind _),
     )
 
@@ -307,9 +302,9 @@ returns-in-Ok-install-clause-step g c =
     let at = (goal.at.returns-in-Ok-install-clause-step g c).After-install in
     let is = c.in_ok-made.ensures.made in
     rw (← c.self.view_is) (acknowledged g.D.Disk _ _ _ _ c.install.ensures.honest (run g at)
-    (λ h. rw is.now_is (rw c.made_file-file.ensures.none (rw c.exchange.ensures.files (rw c.exchange.ensures.waiting
+    (λ h. rw is.now_is (rw c.take_staged-file.ensures.none (rw c.exchange.ensures.files (rw c.exchange.ensures.waiting
     (rw c.make_room.ensures.same (rw is.place_is (rw is.sources_is
-    (in_force g at c.made_file-file.result c.made_file-file.ensures.file true (λ _. h)))))))))
+    (in_force g at c.take_staged-file.result c.take_staged-file.ensures.file true (λ _. h)))))))))
     c.if-self.false c.if-self.false
     (λ h image left. stands_for _ _ image
     (((invariant_of-self-in-Ok-install g c).0.still_open c.if-self.false).kept.known h image

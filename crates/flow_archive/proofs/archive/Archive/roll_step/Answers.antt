@@ -7,7 +7,7 @@ use Rattle.flow_archive.specs.declared.refusal.ArchiveError.TheVariants as refus
 use Rattle.flow_archive.specs.JobAnswers.{AnswersStep, IsStepped}
 use Rattle.flow_archive.specs.Seen.{Seen}
 use Rattle.flow_archive.specs.UnderWay.{job_in, job_numbers, number_in, staged_in}
-use Rattle.flow_archive.specs.UnderWay.{IsRolling, Made, Rolling}
+use Rattle.flow_archive.specs.UnderWay.{IsRunningJob, FrozenStaged, RunningJob}
 use Rattle.flow_archive.proofs.Fitting.{undamaged}
 use Rattle.flow_archive.proofs.Owning.{as_many}
 use Rattle.flow_archive.proofs.Sharing.{own_numbers}
@@ -33,7 +33,7 @@ pub returns-then-job-clause-answers : goal.returns-then-job-clause-answers
 returns-then-job-clause-answers g c =
     let inside = c.self.inside in
     let told = at_end (state_of inside) c.in-Some.job (ap job_in c.in-Some.is)
-    (sym (ap (λ (r : Rolling). r.read) c.job.view_is) ∙ c.if-job.true ∙ ap (λ (r : Rolling). r.sources) c.job.view_is)
+    (sym (ap (λ (r : RunningJob). r.read) c.job.view_is) ∙ c.if-job.true ∙ ap (λ (r : RunningJob). r.sources) c.job.view_is)
     in
     rw (← c.self.view_is) (c.if-self.false, told)
 
@@ -41,7 +41,7 @@ pub returns-then-job-clause-step : goal.returns-then-job-clause-step
 returns-then-job-clause-step g c =
     let inside = c.self.inside in
     let told = at_end (state_of inside) c.in-Some.job (ap job_in c.in-Some.is)
-    (sym (ap (λ (r : Rolling). r.read) c.job.view_is) ∙ c.if-job.true ∙ ap (λ (r : Rolling). r.sources) c.job.view_is)
+    (sym (ap (λ (r : RunningJob). r.read) c.job.view_is) ∙ c.if-job.true ∙ ap (λ (r : RunningJob). r.sources) c.job.view_is)
     in
     rw (← c.self.view_is) (without_device g.D.Disk inside.disk (state_of inside)
     (with_rolling inside (Some c.in-Some.job)) inside.closed (λ after. IsStepped (state_of inside) after) 0
@@ -51,26 +51,26 @@ returns-then-job-clause-step g c =
 
 -- ---- a source is left
 module _ (g : Over) (c : After-sources_from-from g) where
-  rolling : IsRolling (g.D.Disk.honest c.self.inside.disk) (state_of c.self.inside) c.in-Some.job
+  rolling : IsRunningJob (g.D.Disk.honest c.self.inside.disk) (state_of c.self.inside) c.in-Some.job
   rolling = the_rolling (g.D.Disk.honest c.self.inside.disk) (state_of c.self.inside) c.self.inside.job c.in-Some.job
       c.in-Some.is c.self.invariant.1.job
 
   lt : c.in-Some.job.read < c.in-Some.job.sources
-  lt = let read_is = ap (λ (r : Rolling). r.read) c.job.view_is in
-      let sources_is = ap (λ (r : Rolling). r.sources) c.job.view_is in
+  lt = let read_is = ap (λ (r : RunningJob). r.read) c.job.view_is in
+      let sources_is = ap (λ (r : RunningJob). r.sources) c.job.view_is in
       omega (arith, c.if-job.false, rolling.read, read_is, sources_is)
 
   first_is : c.sources_from-from.result
       ≡ count_before (source_of c.in-Some.job.kind) c.self.inside.slots.current.entries + 0
   first_is = first_place c.self.inside.slots.current c.in-Some.job c.as_slice.result.now c.job.inside.kind
       c.sources_from-from.result c.sources_from-from.ensures c.as_slice.ensures
-      (ap (λ (r : Rolling). r.kind) c.job.view_is)
+      (ap (λ (r : RunningJob). r.kind) c.job.view_is)
 
   index_is : c.sources_from-from.result + c.job.inside.read
       ≡ count_before (source_of c.in-Some.job.kind) c.self.inside.slots.current.entries + c.in-Some.job.read
   index_is = next_place c.self.inside.slots.current c.in-Some.job c.as_slice.result.now c.job.inside.kind
       c.sources_from-from.result c.job.inside.read c.sources_from-from.ensures c.as_slice.ensures
-      (ap (λ (r : Rolling). r.kind) c.job.view_is) (ap (λ (r : Rolling). r.read) c.job.view_is)
+      (ap (λ (r : RunningJob). r.kind) c.job.view_is) (ap (λ (r : RunningJob). r.read) c.job.view_is)
 
   in_files : (read : ℕ) → read < c.in-Some.job.sources
       → count_before (source_of c.in-Some.job.kind) c.self.inside.slots.current.entries + read
@@ -99,11 +99,11 @@ index-source-requires g c =
 
 pub invariant_of-self-in-Err : goal.invariant_of-self-in-Err
 invariant_of-self-in-Err g c =
-    rw (c.in-Some.is ∙ ap (λ (r : Rolling). Some r) (sym c.in-Err.ensures.kept)) at c.self.invariant
+    rw (c.in-Some.is ∙ ap (λ (r : RunningJob). Some r) (sym c.in-Err.ensures.kept)) at c.self.invariant
 
 module _ (g : Over) (c : In-Err g) where
   same : with_rolling c.self.inside (Some c.take_source.new.job) ≡ state_of c.self.inside
-  same = ap (λ (r : Rolling). with_rolling c.self.inside (Some r)) c.in-Err.ensures.kept
+  same = ap (λ (r : RunningJob). with_rolling c.self.inside (Some r)) c.in-Err.ensures.kept
       ∙ ap (with_rolling c.self.inside) (sym c.in-Some.is)
 
 pub returns-in-Err-clause-answers : goal.returns-in-Err-clause-answers
@@ -113,11 +113,11 @@ returns-in-Err-clause-answers g c =
     let inside = c.self.inside in
     let d = inside.disk in
     let s = state_of inside in
-    let j : Rolling = c.in-Some.job in
+    let j : RunningJob = c.in-Some.job in
     let valid = c.self.invariant.0.counted.valid in
     let few = (rolling g at).few in
     let source_is = rw (index_is g at) at c.index-source.ensures in
-    let told = source_read D.honest D.marks D.held d inside.slots inside.last inside.end inside.total inside.carry
+    let told = source_read D.honest D.marks D.held d inside.slots inside.active inside.end inside.total inside.carry
     inside.files.items s inside.closed c.if-self.false c.self.invariant.0 j c.take_source.new.job
     c.index-source.result.now (Err c.in-Err.e) (rolling g at) (lt g at) source_is c.in-Err.ensures.read in
     let oldest = next_file s valid j.kind j.sources 0 few (omega (arith, (rolling g at).some)) (D.honest d)
@@ -141,7 +141,7 @@ returns-in-Err-clause-fits g c =
     let inside = c.self.inside in
     let d = inside.disk in
     let s = state_of inside in
-    let j : Rolling = c.in-Some.job in
+    let j : RunningJob = c.in-Some.job in
     let after : State = with_rolling inside (Some c.take_source.new.job) in
     let told : AnswersStep (D.honest d) inside.closed s (Err c.of_source.result) after =
     subst (λ (x : Seen g.row.D.Denot). AnswersStep (D.honest x.disk) x.closed x.state (Err c.of_source.result) after)
@@ -173,20 +173,20 @@ invariant_of-self-2 g c =
     let inside = c.self.inside in
     let d = inside.disk in
     let s = state_of inside in
-    let j : Rolling = c.in-Some.job in
-    let new : Rolling = c.take_source.new.job in
-    let told = source_read D.honest D.marks D.held d inside.slots inside.last inside.end inside.total inside.carry
+    let j : RunningJob = c.in-Some.job in
+    let new : RunningJob = c.take_source.new.job in
+    let told = source_read D.honest D.marks D.held d inside.slots inside.active inside.end inside.total inside.carry
     inside.files.items s inside.closed c.if-self.false c.self.invariant.0 j new c.index-source.result.now
     (Ok c.in-Ok.field-0) (rolling g at) (lt g at) (rw (index_is g at) at c.index-source.ensures) c.in-Ok.ensures.read in
     let was = none_staged (D.honest d) s j (rolling g at) (lt g at) in
-    let none = ap (λ (r : Rolling). r.staged) c.in-Ok.ensures.taken.0 ∙ was in (
-      job_archive s (job_in (Some new)) D.honest D.marks D.held d inside.slots inside.last inside.end inside.total
+    let none = ap (λ (r : RunningJob). r.staged) c.in-Ok.ensures.taken.0 ∙ was in (
+      job_archive s (job_in (Some new)) D.honest D.marks D.held d inside.slots inside.active inside.end inside.total
           inside.carry inside.files.items inside.closed c.self.invariant.0,
       job_work s new none D.honest D.marks D.held d (work_of inside) inside.closed
           (taken_rolling (D.honest d) s j new (rolling g at) (lt g at) c.in-Ok.ensures.taken told) c.self.invariant.1,
       own_numbers inside.shared inside.files.items (work_of inside) inside.next (Some new)
-          (ap (λ (f : Option Made). number_in (staged_in f)) (none ∙ sym was)
-          ∙ ap (λ (o : Option Rolling). job_numbers (job_in o)) (sym c.in-Some.is)) c.self.invariant.2,
+          (ap (λ (f : Option FrozenStaged). number_in (staged_in f)) (none ∙ sym was)
+          ∙ ap (λ (o : Option RunningJob). job_numbers (job_in o)) (sym c.in-Some.is)) c.self.invariant.2,
     )
 
 pub returns-clause-answers : goal.returns-clause-answers
@@ -195,7 +195,7 @@ returns-clause-answers g c =
     (lt g (goal.at.returns-clause-answers g c).After-sources_from-from) c.in-Ok.ensures.taken in
     rw (← c.self.view_is) (
       c.if-self.false,
-      (told.0, told.1, (ap (λ (r : Rolling). r.sources - r.read) c.job-2.view_is ∙ told.2.0, told.2.1)),
+      (told.0, told.1, (ap (λ (r : RunningJob). r.sources - r.read) c.job-2.view_is ∙ told.2.0, told.2.1)),
     )
 
 pub returns-clause-step : goal.returns-clause-step

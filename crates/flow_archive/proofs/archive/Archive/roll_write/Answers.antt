@@ -12,8 +12,8 @@ use Rattle.flow_model.specs.State.{State}
 use Rattle.flow_archive.specs.Answers.{job_generations}
 use Rattle.flow_archive.specs.JobAnswers.{AnswersWrite, IsWritten}
 use Rattle.flow_archive.specs.Seen.{StandsBeforeOrAfter, state_in}
-use Rattle.flow_archive.specs.UnderWay.{job_in, made_of, work_in, Made, Rolling}
-use Rattle.flow_archive.specs.Writing.{with_made, IsNotMade}
+use Rattle.flow_archive.specs.UnderWay.{job_in, frozen_staged, under_way_in, FrozenStaged, RunningJob}
+use Rattle.flow_archive.specs.Staging.{job_with_staged, HasNoOctets}
 use Rattle.flow_archive.specs.declared.refusal.ArchiveError.TheVariants as refusal
 use Rattle.flow_archive.proofs.Answering.{err_is}
 use Rattle.flow_archive.proofs.Directing.{failed_archive}
@@ -64,7 +64,7 @@ pub returns-in_err-octets-clause-step : goal.returns-in_err-octets-clause-step
 returns-in_err-octets-clause-step g c =
     let inside = c.self.inside in
     rw (← c.self.view_is) (refused_by g.D.Disk _ _ _ c.in_err-octets.field-0.0 _ c.from_residual.ensures.1 refl
-    (λ same. subst (IsNotMade inside.job inside.next inside.slots.current.generation) same
+    (λ same. subst (HasNoOctets inside.job inside.next inside.slots.current.generation) same
     c.in_err-octets.ensures.refused) (λ h image left. g.met.D.Disk.only_now inside.disk image h left)
     (λ h still image is. stands_for inside.slots _ image
     (((c.self.invariant.0).still_open still).kept.known h image is)))
@@ -78,7 +78,7 @@ returns-in_err-octets-clause-cause g c =
       later = omega arith;
       done = tt;
       risen = λ same. let fault : e ≡ refusal.Fault = cc in absurd (subst
-          (IsNotMade inside.job inside.next inside.slots.current.generation) fault c.in_err-octets.ensures.refused);
+          (HasNoOctets inside.job inside.next inside.slots.current.generation) fault c.in_err-octets.ensures.refused);
       other = λ _. refl;
     })
 
@@ -109,18 +109,18 @@ module _ (g : Over) (c : After-hold g) where
   abbrev honest : Bool
   honest = g.D.Disk.honest c.self.inside.disk
 
-  abbrev r : Rolling
+  abbrev r : RunningJob
   r = c.in_ok-octets.ensures.made.0
 
-  abbrev f : Made
-  f = made_of g.D.Sealed.SealedFile.number g.D.Sealed.SealedFile.size g.D.Sealed.SealedFile.honest
+  abbrev f : FrozenStaged
+  f = frozen_staged g.D.Sealed.SealedFile.number g.D.Sealed.SealedFile.size g.D.Sealed.SealedFile.honest
       g.D.Sealed.SealedFile.octets c.in-Ok.file
 
   none : job_generations (job_in c.self.inside.job) ≡ 0
   none = omega (arith, c.if-generations_kept-gt0.false, c.generations_kept.ensures)
 
   held_is : c.hold.new.job ≡ Some (holding r f)
-  held_is = c.hold.ensures ∙ ap (with_made f) c.in_ok-octets.ensures.made.1
+  held_is = c.hold.ensures ∙ ap (job_with_staged f) c.in_ok-octets.ensures.made.1
 
   octets_is : IsTrue honest → f.octets ≡ c.as_slice.result.now
   octets_is h = made_is g.D.Sealed.SealedFile.number g.D.Sealed.SealedFile.size g.D.Sealed.SealedFile.honest
@@ -131,8 +131,8 @@ module _ (g : Over) (c : After-hold g) where
   rolled h = subst (λ (l : List ℕ). (rollup : IsRollup r.rows.width l r.rows) × (rollup.time ≡ r.time))
       (sym (octets_is h ∙ c.as_slice.ensures.value)) (c.in_ok-octets.ensures.made.3, c.in_ok-octets.ensures.made.4)
 
-  abbrev state_with : Option Rolling → State
-  state_with job = state_in (work_in (c.self.inside.next + 1) job c.self.inside.waiting.items) c.self.inside.shared
+  abbrev state_with : Option RunningJob → State
+  state_with job = state_in (under_way_in (c.self.inside.next + 1) job c.self.inside.waiting.items) c.self.inside.shared
       s.manifest c.self.inside.files.items c.self.inside.prefix c.self.inside.messages.items
 
   written : (b : Bool) → (IsTrue b → IsTrue honest) → IsWritten b s (state_with c.hold.new.job)
@@ -153,10 +153,10 @@ invariant_of-self g c =
     let d = inside.disk in
     let m = inside.slots.current in
     let made = c.in_ok-octets.ensures.made in
-    let r : Rolling = made.0 in
+    let r : RunningJob = made.0 in
     let given = c.as_slice.result.now in
     let d1 = c.stage.new.disk in
-    let f : Made = f g at in
+    let f : FrozenStaged = f g at in
     let told_of = c.in-Ok.ensures.staged in
     let inv = rw made.1 at c.self.invariant in
     let x : State = with_rolling inside (Some r) in
@@ -169,9 +169,9 @@ invariant_of-self g c =
     let above : 3 ≤ inside.next = omega (arith, far, are.active.file_from, are.active.file_below) in
     rw (held_is g at) (
       archive_with x (inside.next + 1) (job_in (Some (holding r f))) x.waiting D.honest D.marks D.held d d1 inside.slots
-          inside.last inside.end inside.total inside.carry inside.files.items inside.closed archive
+          inside.active inside.end inside.total inside.carry inside.files.items inside.closed archive
           c.stage.ensures.honest (omega (arith, far))
-          (λ _. ready_beside (D.marks d) (D.marks d1) inside.last.file inside.next inside.end
+          (λ _. ready_beside (D.marks d) (D.marks d1) inside.active.file inside.next inside.end
           (omega (arith, file, are.active.file_from)) (omega (arith, file, are.active.file_below, far))
           still.kept.ready c.stage.ensures.other_marks)
           (λ _ h image is. beside (D.held d) inside.slots x inside.next (Becomes given) far (still.kept.known h) image
@@ -211,7 +211,7 @@ invariant_of-self-in-Err g c =
     let a = c.self.inside in
     let s = state_of a in
     let d1 = c.stage.new.disk in (
-      failed_archive D.honest D.marks D.held a.disk d1 a.slots a.last a.end a.total a.carry a.carry a.files.items s
+      failed_archive D.honest D.marks D.held a.disk d1 a.slots a.active a.end a.total a.carry a.carry a.files.items s
           a.closed c.self.invariant.0 c.stage.ensures.honest,
       goes_on s s.active a.shared D.honest D.marks D.held a.disk d1 a.closed true c.stage.ensures.honest
           (λ is. absurd (cc)) (λ is. absurd (cc)) (λ is. absurd (cc)) (work_of a) (c.self.invariant.1),

@@ -10,39 +10,38 @@ use Rattle.flow_manifest.specs.Following.{active_of, sealed_entry}
 use Rattle.flow_manifest.specs.Slots.{file_of, other}
 use Rattle.flow_manifest.proofs.Followers.{are_entries}
 use Rattle.flow_segment.specs.Carry.{prefix_of}
-use Rattle.flow_model.specs.State.{State, end_of, moved_on, reopened}
+use Rattle.flow_model.specs.State.{State, end_of, after_seal, reopened}
 use Rattle.flow_model.specs.Standing.{StandsFor, StandsForEither}
 use Rattle.flow_archive.specs.declared.archive.Archive.TheInside.{Inside}
-use Rattle.flow_archive.specs.Answers.{job_generations, AnswersSeal, IsMovedOn, IsNotFollowed, MaySeal}
-use Rattle.flow_archive.specs.Moving.{IsMove, MovesMarks}
-use Rattle.flow_archive.specs.Owned.{frozen_as, Frozen}
+use Rattle.flow_archive.specs.Answers.{job_generations, AnswersSeal, IsSealed, IsNotSealed, MaySeal}
+use Rattle.flow_archive.specs.Sealing.{IsSealing, SealsMarks}
+use Rattle.flow_archive.specs.Frozen.{frozen_as, Frozen}
 use Rattle.flow_archive.specs.Seen.{StandsBeforeOrAfter}
 use Rattle.flow_archive.specs.declared.refusal.ArchiveError.TheVariants as refusal
 use Rattle.flow_archive.specs.UnderWay.{IsUnnamed}
 use Rattle.flow_archive.proofs.Answering.{err_is, not_followed}
 use Rattle.flow_archive.proofs.Chaining.{hands_next, prefix_fits}
 use Rattle.flow_archive.proofs.Directing.{failed_archive}
-use Rattle.flow_archive.proofs.Moved.{is_moved, moved_archive, moved_work, same_state}
+use Rattle.flow_archive.proofs.AfterSeal.{is_sealed, sealed_archive, sealed_work, same_state}
 use Rattle.flow_archive.proofs.Sharing.{own_push}
 use Rattle.flow_archive.proofs.Stand.{slot_below, stands_for}
 use Rattle.flow_archive.proofs.Stepping.{refused, refused_by, acknowledged, failed}
-use Rattle.flow_archive.proofs.Turning.{has_gate}
 use Rattle.flow_archive.proofs.Working.{goes_on, other_file}
 use Rattle.flow_archive.proofs.Inside.{state_of, work_of}
 use Rattle.flow_archive.proofs.archive.Archive.seal.Given.{Over}
-use Rattle.flow_archive.proofs.archive.Archive.seal.Goals.{After-move_on, After-new}
+use Rattle.flow_archive.proofs.archive.Archive.seal.Goals.{After-seal_segment, After-new}
 use Rattle.flow_archive.proofs.archive.Archive.seal.Goals as goal
 
 -- the manifest that comes
 abbrev next_of : {D S F : Type 0} → Inside D S F → Manifest
-next_of a = (moved_on (state_of a) (prefix_of a.carry)).manifest
+next_of a = (after_seal (state_of a) (prefix_of a.carry)).manifest
 
 -- how many messages it has
 many : {D S F : Type 0} (a : Inside D S F) → vec_len a.messages ≡ length a.messages.items
 many a = search rules
 
 -- ---- after the move
-module _ (g : Over) (c : After-move_on g) where
+module _ (g : Over) (c : After-seal_segment g) where
   abbrev was : State
   was = state_of c.self.inside
 
@@ -61,9 +60,6 @@ module _ (g : Over) (c : After-move_on g) where
   valid : IsValidManifest (next_of c.self.inside)
   valid = subst IsValidManifest made c.in_ok-next.ensures.valid
 
-  slot_is : c.file.result ≡ file_of (other c.self.inside.slots.current_slot)
-  slot_is = c.file.ensures ∙ ap file_of c.other-slot.ensures
-
   generations : c.self.inside.slots.current.generation + 1 + job_generations was.job < 2 ^ 64
   generations = omega (arith, (c.in_ok-next.ensures.may).generation, c.generations_kept-kept.ensures)
 
@@ -75,8 +71,8 @@ module _ (g : Over) (c : After-move_on g) where
   }
 
   move : IsTrue (g.D.Disk.honest c.self.inside.disk)
-      → IsMove (g.D.Disk.held c.self.inside.disk) c.self.inside.slots c.self.inside.last.file c.self.inside.end
-      c.self.inside.next c.file.result c.self.inside.slots.other_open c.as_slice.result.now c.as_slice-2.result.now was
+      → IsSealing (g.D.Disk.held c.self.inside.disk) c.self.inside.slots c.self.inside.active.file c.self.inside.end
+      c.self.inside.next c.as_slice.result.now c.as_slice-2.result.now was
   move h =
       let counted = (c.self.invariant.0).counted in
       let still = (c.self.invariant.0).still_open c.if-self.false in
@@ -86,8 +82,6 @@ module _ (g : Over) (c : After-move_on g) where
         next_is = refl;
         next_from = counted.next;
         end_is = sym counted.end_is;
-        slot_is = sym slot_is;
-        open_is = refl;
         valid = rw kept_prefix valid;
         chained = rw kept_prefix
             (carry, hands_next was carry counted.valid c.in_ok-next.ensures.carry (still.hands_on h));
@@ -95,23 +89,23 @@ module _ (g : Over) (c : After-move_on g) where
         known = still.kept.known h;
       }
 
-  leaves : IsTrue (g.D.Disk.honest c.self.inside.disk) → LeavesOnly g.D.Disk c.self.inside.disk c.move_on.new.disk
-      (StandsBeforeOrAfter was (λ x. IsMovedOn true was x))
-  leaves h = by g.D.Disk _ _ (StandsForEither (reopened was) (reopened (moved_on was c.as_slice.result.now))) _
-      (c.move_on.ensures.any_moment h c.self.inside.slots was (move h))
+  leaves : IsTrue (g.D.Disk.honest c.self.inside.disk) → LeavesOnly g.D.Disk c.self.inside.disk c.seal_segment.new.disk
+      (StandsBeforeOrAfter was (λ x. IsSealed true was x))
+  leaves h = by g.D.Disk _ _ (StandsForEither (reopened was) (reopened (after_seal was c.as_slice.result.now))) _
+      (c.seal_segment.ensures.any_moment h was (move h))
       (λ image either. ⊎_elim (λ before. inl before)
       (λ later. inr (
-        moved_on was prefix,
+        after_seal was prefix,
         (c.self.inside.carry, was.active, ((c.self.invariant.0).still_open c.if-self.false).segment, (λ t. refl), refl),
-        subst (λ (l : List ℕ). StandsFor image (reopened (moved_on was l))) kept_prefix later,
+        subst (λ (l : List ℕ). StandsFor image (reopened (after_seal was l))) kept_prefix later,
       )) either)
 
 -- ---- after a move that is Ok
 module _ (g : Over) (c : After-new g) where
   abbrev part : Frozen
   part = frozen_as (sealed_entry (active_of c.self.inside.slots.current) (end_of (state_of c.self.inside))
-      (length c.self.inside.messages.items)) (g.D.Sealed.SealedFile.honest c.in-Ok-move_on.part)
-      (g.D.Sealed.SealedFile.octets c.in-Ok-move_on.part)
+      (length c.self.inside.messages.items)) (g.D.Sealed.SealedFile.honest c.in-Ok-seal_segment.part)
+      (g.D.Sealed.SealedFile.octets c.in-Ok-seal_segment.part)
 
   new_files : c.push_reserved.new.self.items ≡ c.self.inside.files.items ++ part ∷ []
   new_files = let counted = (c.self.invariant.0).counted in
@@ -127,7 +121,7 @@ returns-in_err-next-clause-answers g c =
     rw (← c.self.view_is) (err_is c.from_residual.result e (λ r. AnswersSeal honest inside.closed s r s)
     c.from_residual.ensures.1 (not_followed honest inside.closed s c.len-count.result e c.if-self.false
     (c.len-count.ensures ∙ many inside)
-    (subst (λ (n : ℕ). IsNotFollowed inside.slots.current c.len-count.result inside.next n e)
+    (subst (λ (n : ℕ). IsNotSealed inside.slots.current c.len-count.result inside.next n e)
     c.generations_kept-kept.ensures c.in_err-next.ensures.refused)))
 
 pub returns-in_err-next-clause-step : goal.returns-in_err-next-clause-step
@@ -135,7 +129,7 @@ returns-in_err-next-clause-step g c =
     let inside = c.self.inside in
     let e = c.in_err-next.field-0.0 in
     rw (← c.self.view_is) (refused_by g.D.Disk _ _ _ e _ c.from_residual.ensures.1 refl
-    (λ same. subst (IsNotFollowed inside.slots.current c.len-count.result inside.next
+    (λ same. subst (IsNotSealed inside.slots.current c.len-count.result inside.next
     c.generations_kept-kept.result) same c.in_err-next.ensures.refused)
     (λ h image left. g.met.D.Disk.only_now inside.disk image h left)
     (λ h still image is. stands_for inside.slots _ image
@@ -172,111 +166,114 @@ pub next_segment-requires-clause-all : goal.next_segment-requires-clause-all
 next_segment-requires-clause-all g c =
     omega (arith, ((c.self.invariant.0).counted).within.all, c.len-count.ensures ∙ many c.self.inside)
 
-pub move_on-requires-clause-active : goal.move_on-requires-clause-active
-move_on-requires-clause-active g c =
+pub seal_segment-requires-clause-active : goal.seal_segment-requires-clause-active
+seal_segment-requires-clause-active g c =
     let counted = (c.self.invariant.0).counted in
     let are = are_entries c.self.inside.slots.current counted.valid in
     let file = ap (λ (x : Entry). x.file) counted.last_is in
     (omega (arith, file, are.active.file_from), omega (arith, file, are.active.file_below, counted.next))
 
-pub move_on-requires-clause-gate : goal.move_on-requires-clause-gate
-move_on-requires-clause-gate g c h =
+pub seal_segment-requires-clause-slots : goal.seal_segment-requires-clause-slots
+seal_segment-requires-clause-slots g c h =
     let held = g.D.Disk.held c.self.inside.disk in
     let still = (c.self.invariant.0).still_open c.if-self.false in
-    let known = still.kept.known h (λ n. (held n).reads) (λ n. g.met.D.Disk.reads_image c.self.inside.disk n h) in
-    rw (c.file.ensures, c.other-slot.ensures) (has_gate _ _ _ known.slots_are.beside)
+    (still.kept.known h (λ n. (held n).reads)
+    (λ n. g.met.D.Disk.reads_image c.self.inside.disk n h)).slots_are
+
+pub seal_segment-requires-clause-slot : goal.seal_segment-requires-clause-slot
+seal_segment-requires-clause-slot g c = slot_below (other c.self.inside.slots.current_slot)
 
 pub returns-in-Err-clause-answers : goal.returns-in-Err-clause-answers
 returns-in-Err-clause-answers g c =
-    let may = may g (goal.at.returns-in-Err-clause-answers g c).After-move_on in
+    let may = may g (goal.at.returns-in-Err-clause-answers g c).After-seal_segment in
     rw (← c.self.view_is, c.reserve.ensures.items) (c.if-self.false, may, refl)
 
 pub returns-in-Err-clause-step : goal.returns-in-Err-clause-step
 returns-in-Err-clause-step g c =
-    let leaves = leaves g (goal.at.returns-in-Err-clause-step g c).After-move_on in
+    let leaves = leaves g (goal.at.returns-in-Err-clause-step g c).After-seal_segment in
     rw (← c.self.view_is, c.reserve.ensures.items)
-    (failed g.D.Disk _ _ _ c.move_on.ensures.honest leaves refl refl c.if-self.false)
+    (failed g.D.Disk _ _ _ c.seal_segment.ensures.honest leaves refl refl c.if-self.false)
 
-pub invariant_of-self-in-Ok-move_on : goal.invariant_of-self-in-Ok-move_on
-invariant_of-self-in-Ok-move_on g c =
+pub invariant_of-self-in-Ok-seal_segment : goal.invariant_of-self-in-Ok-seal_segment
+invariant_of-self-in-Ok-seal_segment g c =
     let D = g.D.Disk in
     let a = c.self.inside in
-    let moved = (goal.at.invariant_of-self-in-Ok-move_on g c).After-move_on in
-    let end = (goal.at.invariant_of-self-in-Ok-move_on g c).After-new in
+    let moved = (goal.at.invariant_of-self-in-Ok-seal_segment g c).After-seal_segment in
+    let end = (goal.at.invariant_of-self-in-Ok-seal_segment g c).After-new in
     let archive = c.self.invariant.0 in
     let counted = archive.counted in
     let s = state_of a in
     let slot = file_of (other a.slots.current_slot) in
-    let d1 = c.move_on.new.disk in
-    let same = c.move_on.ensures.honest in
+    let d1 = c.seal_segment.new.disk in
+    let same = c.seal_segment.ensures.honest in
     let long = ap (λ (l : List ℕ). length l) c.in_ok-next.ensures.prefix in
     let first_long : c.len.result ≡ length (prefix_of a.carry) = omega (arith, c.len.ensures.value, long) in
-    let second_long : c.len-in-Ok-move_on.result ≡ length (prefix_of a.carry) =
-    omega (arith, c.len-in-Ok-move_on.ensures.value, long) in
-    let moves : MovesMarks (D.marks a.disk) (D.marks d1) a.last.file a.next slot (length (prefix_of a.carry)) =
-    rw (← slot_is g moved, ← kept_prefix g moved) c.in-Ok-move_on.ensures.marks in
-    let apart : (n : ℕ) → IsUnnamed s n → (n ≢ a.last.file) × (n ≢ a.next) × (n ≢ slot) = λ n is. (
+    let second_long : c.len-in-Ok-seal_segment.result ≡ length (prefix_of a.carry) =
+    omega (arith, c.len-in-Ok-seal_segment.ensures.value, long) in
+    let moves : SealsMarks (D.marks a.disk) (D.marks d1) a.active.file a.next slot (length (prefix_of a.carry)) =
+    rw (← kept_prefix g moved) c.in-Ok-seal_segment.ensures.marks in
+    let apart : (n : ℕ) → IsUnnamed s n → (n ≢ a.active.file) × (n ≢ a.next) × (n ≢ slot) = λ n is. (
       (λ same. other_file s n counted.valid is (same ∙ ap (λ (x : Entry). x.file) counted.last_is)),
       (λ same. omega (arith, same, is.below)),
       (λ same. omega (arith, same, is.from, slot_below (other a.slots.current_slot))),
     ) in
     rw (made g moved, c.other-slot.ensures, first_long, second_long)
     (rw (new_files g end, c.in_ok-next.ensures.prefix, c.new.ensures.items) (
-      moved_archive D.honest D.marks D.held (work_of a) a.shared a.disk d1 a.slots a.last a.end a.total a.carry
+      sealed_archive D.honest D.marks D.held (work_of a) a.shared a.disk d1 a.slots a.active a.end a.total a.carry
           a.files.items a.prefix a.messages.items (part g end) a.closed archive c.if-self.false
-          c.in_ok-next.ensures.carry same (valid g moved) moves c.in-Ok-move_on.ensures.frozen
-          (λ h. rw (← kept_prefix g moved) (c.in-Ok-move_on.ensures.after h a.slots s (move g moved h)))
-          (λ h. c.in-Ok-move_on.ensures.part h a.slots s (move g moved h))
-          (record { entry_is = refl; honest_is = (c.in-Ok-move_on.ensures.sealed).2; counted = refl }),
-      moved_work D.honest D.marks D.held (work_of a) a.shared a.disk d1 a.slots a.last a.end a.total a.carry
+          c.in_ok-next.ensures.carry same (valid g moved) moves c.in-Ok-seal_segment.ensures.frozen
+          (λ h. rw (← kept_prefix g moved) (c.in-Ok-seal_segment.ensures.after h s (move g moved h)))
+          (λ h. c.in-Ok-seal_segment.ensures.part h s (move g moved h))
+          (record { entry_is = refl; honest_is = (c.in-Ok-seal_segment.ensures.sealed).2; counted = refl }),
+      sealed_work D.honest D.marks D.held (work_of a) a.shared a.disk d1 a.slots a.active a.end a.total a.carry
           a.files.items a.prefix a.messages.items (part g end) a.closed archive same
           (λ n is. let not = apart n is in moves.others n not.0 not.1 not.2)
           (λ h n is. let not = apart n is in
-          c.move_on.ensures.other_files h n not.0 not.1 (λ same. not.2 (same ∙ slot_is g moved)))
+          c.seal_segment.ensures.other_files h n not.0 not.1 not.2)
           (generations g moved) c.self.invariant.1,
       own_push a.shared a.files.items (work_of a) (part g end) refl c.self.invariant.2,
     ))
 
-pub returns-in-Ok-move_on-clause-answers : goal.returns-in-Ok-move_on-clause-answers
-returns-in-Ok-move_on-clause-answers g c =
+pub returns-in-Ok-seal_segment-clause-answers : goal.returns-in-Ok-seal_segment-clause-answers
+returns-in-Ok-seal_segment-clause-answers g c =
     let D = g.D.Disk in
     let a = c.self.inside in
-    let moved = (goal.at.returns-in-Ok-move_on-clause-answers g c).After-move_on in
-    let end = (goal.at.returns-in-Ok-move_on-clause-answers g c).After-new in
+    let moved = (goal.at.returns-in-Ok-seal_segment-clause-answers g c).After-seal_segment in
+    let end = (goal.at.returns-in-Ok-seal_segment-clause-answers g c).After-new in
     let archive = c.self.invariant.0 in
     rw (← c.self.view_is) (
       c.if-self.false,
       may g moved,
       rw (made g moved, new_files g end, c.in_ok-next.ensures.prefix, c.new.ensures.items)
-          (is_moved D.honest D.marks D.held (work_of a) a.shared a.disk c.move_on.new.disk a.slots a.last a.end a.total
+          (is_sealed D.honest D.marks D.held (work_of a) a.shared a.disk c.seal_segment.new.disk a.slots a.active a.end a.total
           a.carry a.files.items a.prefix a.messages.items (part g end) (archive.counted).valid archive.files_are
           (archive.still_open c.if-self.false)
-          (λ h. c.in-Ok-move_on.ensures.part h a.slots (state_of a) (move g moved h))),
+          (λ h. c.in-Ok-seal_segment.ensures.part h (state_of a) (move g moved h))),
       ap (λ (x : Entry). x.file) (archive.counted).last_is,
     )
 
-pub returns-in-Ok-move_on-clause-step : goal.returns-in-Ok-move_on-clause-step
-returns-in-Ok-move_on-clause-step g c =
+pub returns-in-Ok-seal_segment-clause-step : goal.returns-in-Ok-seal_segment-clause-step
+returns-in-Ok-seal_segment-clause-step g c =
     let D = g.D.Disk in
     let a = c.self.inside in
-    let moved = (goal.at.returns-in-Ok-move_on-clause-step g c).After-move_on in
-    let end = (goal.at.returns-in-Ok-move_on-clause-step g c).After-new in
+    let moved = (goal.at.returns-in-Ok-seal_segment-clause-step g c).After-seal_segment in
+    let end = (goal.at.returns-in-Ok-seal_segment-clause-step g c).After-new in
     let archive = c.self.invariant.0 in
-    let d1 = c.move_on.new.disk in
-    rw (← c.self.view_is) (acknowledged D _ _ _ _ c.move_on.ensures.honest (leaves g moved)
+    let d1 = c.seal_segment.new.disk in
+    rw (← c.self.view_is) (acknowledged D _ _ _ _ c.seal_segment.ensures.honest (leaves g moved)
     (λ h. (
       a.carry,
       (state_of a).active,
       (archive.still_open c.if-self.false).segment,
       (λ t. refl),
       rw (made g moved, new_files g end, c.in_ok-next.ensures.prefix, c.new.ensures.items)
-          (same_state D.honest D.marks D.held (work_of a) a.shared a.disk d1 a.slots a.last a.end a.total a.carry
+          (same_state D.honest D.marks D.held (work_of a) a.shared a.disk d1 a.slots a.active a.end a.total a.carry
           a.files.items a.prefix a.messages.items (part g end) (archive.counted).valid archive.files_are
-          (c.in-Ok-move_on.ensures.part h a.slots (state_of a) (move g moved h))),
+          (c.in-Ok-seal_segment.ensures.part h (state_of a) (move g moved h))),
     ))
     c.if-self.false c.if-self.false
     (λ h image left. stands_for _ _ image
-    (((invariant_of-self-in-Ok-move_on g c).0.still_open c.if-self.false).kept.known h image
+    (((invariant_of-self-in-Ok-seal_segment g c).0.still_open c.if-self.false).kept.known h image
     (g.met.D.Disk.only_now d1 image h left))))
 
 pub overflow_cast-self : goal.overflow_cast-self
@@ -288,16 +285,16 @@ overflow_cast-self g c =
 pub invariant_of-self : goal.invariant_of-self
 invariant_of-self g c = rw c.reserve.ensures.items c.self.invariant
 
-pub invariant_of-self-in-Err-move_on : goal.invariant_of-self-in-Err-move_on
-invariant_of-self-in-Err-move_on g c =
+pub invariant_of-self-in-Err-seal_segment : goal.invariant_of-self-in-Err-seal_segment
+invariant_of-self-in-Err-seal_segment g c =
     let D = g.D.Disk in
     let a = c.self.inside in
-    let same = c.move_on.ensures.honest in
+    let same = c.seal_segment.ensures.honest in
     rw c.reserve.ensures.items (
-      failed_archive D.honest D.marks D.held a.disk c.move_on.new.disk a.slots a.last a.end a.total a.carry a.carry
+      failed_archive D.honest D.marks D.held a.disk c.seal_segment.new.disk a.slots a.active a.end a.total a.carry a.carry
           a.files.items (state_of a) a.closed c.self.invariant.0 same,
       goes_on (state_of a) (record { front = a.prefix; messages = a.messages.items }) a.shared D.honest D.marks D.held
-          a.disk c.move_on.new.disk a.closed true same (λ is. absurd (cc)) (λ is. absurd (cc)) (λ is. absurd (cc))
+          a.disk c.seal_segment.new.disk a.closed true same (λ is. absurd (cc)) (λ is. absurd (cc)) (λ is. absurd (cc))
           (work_of a) c.self.invariant.1,
       c.self.invariant.2,
     )

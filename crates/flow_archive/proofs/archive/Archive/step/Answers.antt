@@ -3,9 +3,9 @@ use Rattle.flow_manifest.specs.Following.{front_of, messages_of}
 use Rattle.flow_snapshot.specs.Steps.{change_of}
 use Rattle.flow_model.specs.State.{State}
 use Rattle.flow_archive.specs.Marks.{HasMark, HasMarkAmong, IsMarkedAmong}
-use Rattle.flow_archive.specs.Owned.{AreHeldAs}
+use Rattle.flow_archive.specs.Frozen.{AreHeldAs}
 use Rattle.flow_archive.specs.Seen.{state_in, IsArchive, Seen}
-use Rattle.flow_archive.specs.UnderWay.{work_in, HasOwnFiles, IsUnderWay}
+use Rattle.flow_archive.specs.UnderWay.{under_way_in, HasOwnFiles, IsUnderWay}
 use Rattle.flow_archive.proofs.Changed.{before_active, counted_in_front, told_is}
 use Rattle.flow_archive.proofs.Directing.{once_shared, same_archive, same_state, shared_archive}
 use Rattle.flow_archive.proofs.Marking.{among, as_marked, if_ok}
@@ -40,13 +40,13 @@ invariant_of-self g c =
     let new = c.named.new.files.items in
     let old = inside.files.items in
     let s : State = state_in work inside.shared m old inside.prefix inside.messages.items in
-    subst (λ (x : State). IsArchive D.honest D.marks D.held inside.disk inside.slots inside.last inside.end inside.total
+    subst (λ (x : State). IsArchive D.honest D.marks D.held inside.disk inside.slots inside.active inside.end inside.total
     inside.carry new x inside.closed × IsUnderWay D.honest D.marks D.held inside.disk x work inside.closed
     × HasOwnFiles true new work)
     (sym (same_state work true m new old inside.prefix inside.messages.items c.named.ensures.same)) (
-      same_archive D.honest D.marks D.held inside.disk inside.slots inside.last inside.end inside.total inside.carry new
+      same_archive D.honest D.marks D.held inside.disk inside.slots inside.active inside.end inside.total inside.carry new
           old (once_shared s) inside.closed c.named.ensures.same
-          (shared_archive D.honest D.marks D.held inside.disk inside.slots inside.last inside.end inside.total
+          (shared_archive D.honest D.marks D.held inside.disk inside.slots inside.active inside.end inside.total
           inside.carry old s inside.closed c.self.invariant.0),
       goes_on s s.active true D.honest D.marks D.held inside.disk inside.disk inside.closed inside.closed refl (λ is. is)
           (λ _ n is. refl) (λ _ h n is. refl) work (c.self.invariant.1),
@@ -56,7 +56,7 @@ invariant_of-self g c =
 pub returns-clause-state : goal.returns-clause-state
 returns-clause-state g c =
     let inside = c.self.inside in
-    rw (← c.self.view_is) (same_state (work_in inside.next inside.job inside.waiting.items) true inside.slots.current
+    rw (← c.self.view_is) (same_state (under_way_in inside.next inside.job inside.waiting.items) true inside.slots.current
     c.named.new.files.items inside.files.items inside.prefix inside.messages.items c.named.ensures.same)
 
 pub returns-clause-marked : goal.returns-clause-marked
