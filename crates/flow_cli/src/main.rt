@@ -5,7 +5,7 @@
 #![tactic(auto)]
 
 use flow_commands::Progress;
-use flow_words::run_line;
+use flow_program::run_line;
 use std::env;
 use std::io::{ErrorKind, IsTerminal};
 use std::process::ExitCode;

@@ -1,0 +1,74 @@
+-- What is read of values, and by the name of a command.
+use Rattle.std.proofs.Common.{◌≡◌, ◌∙◌, refl, sym, ap, Bool, true, false}
+use Rattle.std.proofs.Common.{List, Option, Some, codes}
+use Rattle.std.specs.Prelude.{option_map, if◌then◌else◌}
+use Rattle.std.specs.Str.{bytes_eq}
+use Rattle.std.proofs.lemmas.Slice.Eq.{bytes_eq-Decides}
+use Rattle.clap.specs.Walk.{Row, Text}
+use Rattle.clap.specs.Walk.{all_of, first_of}
+use Rattle.clap.specs.Walk.{rows_of}
+use Rattle.clap.specs.Matches.{first_value, matched_of, raw_values}
+use Rattle.clap.specs.declared.parser.matches.Found.{Found}
+use Rattle.clap.proofs.WalkLemmas.{first_value-rows, raw_values-rows}
+use Rattle.flow_program.specs.declared.request.Request.{Request}
+use Rattle.flow_program.specs.declared.request.Request.TheVariants.{Dump, Explain}
+use Rattle.flow_program.specs.Arguments.{changing, checked_in, create_in, explained_in, fed_in, inspected_in}
+use Rattle.flow_program.specs.Arguments.{listed_in, measured_in, queried, requested, totalled_in, without_files}
+
+pub first_value_is : (f : Found) (id : Text) → first_value f id ≡ first_of id (rows_of f)
+first_value_is f id = first_value-rows f id
+
+pub all_values_are : (f : Found) (id : Text) → option_map raw_values (matched_of f id) ≡ all_of id (rows_of f)
+all_values_are f id = raw_values-rows f id
+
+-- ---- a command by its name
+
+pub differs : (word name : Text) → (name ≡ word → ⊥) → bytes_eq word name ≡ false
+differs word name not_it = by (bytes_eq word name) refl
+  where
+    by : (b : Bool) → bytes_eq word name ≡ b → bytes_eq word name ≡ false
+    by true e = absurd (not_it (sym ((bytes_eq-Decides word name).0 e)))
+    by false e = e
+
+pub passed_over : {Z : Type 0} (b : Bool) (this others : Z) → b ≡ false → others ≡ (if b then this else others)
+passed_over b this others e = ap (λ (b : Bool). if b then this else others) (sym e)
+
+-- the name of none of the first commands
+pub other_name : (name : Text) (rows : List Row) → (name ≡ codes "measure" → ⊥) → (name ≡ codes "dump" → ⊥)
+    → (name ≡ codes "create" → ⊥) → (name ≡ codes "check" → ⊥)
+    → queried name rows ≡ without_files name rows
+other_name name rows no_measure no_dump no_create no_check =
+    let checked : Option Request = if bytes_eq (codes "check") name then checked_in rows
+    else queried name rows in
+    let created : Option Request = if bytes_eq (codes "create") name then create_in rows else checked in
+    let dumped : Option Request = if bytes_eq (codes "dump") name then Some Dump else created in
+    passed_over (bytes_eq (codes "check") name) (checked_in rows) (queried name rows)
+    (differs (codes "check") name no_check)
+    ∙ passed_over (bytes_eq (codes "create") name) (create_in rows) checked (differs (codes "create") name no_create)
+    ∙ passed_over (bytes_eq (codes "dump") name) (Some Dump) created (differs (codes "dump") name no_dump)
+    ∙ passed_over (bytes_eq (codes "measure") name) (measured_in rows) dumped
+    (differs (codes "measure") name no_measure)
+
+-- a name other than `feed` and `inspect`
+pub without_files_name : (name : Text) (rows : List Row) → (name ≡ codes "feed" → ⊥) → (name ≡ codes "inspect" → ⊥)
+    → without_files name rows ≡ requested name rows
+without_files_name name rows no_feed no_inspect =
+    let inspected : Option Request = if bytes_eq (codes "inspect") name then inspected_in rows
+    else without_files name rows in
+    passed_over (bytes_eq (codes "inspect") name) (inspected_in rows) (without_files name rows)
+    (differs (codes "inspect") name no_inspect)
+    ∙ passed_over (bytes_eq (codes "feed") name) (fed_in rows) inspected (differs (codes "feed") name no_feed)
+
+-- the name of no command that is met before those that change an archive
+pub changing_name : (name : Text) (rows : List Row) → (name ≡ codes "totals" → ⊥) → (name ≡ codes "flows" → ⊥)
+    → (name ≡ codes "explain" → ⊥) → changing name rows ≡ queried name rows
+changing_name name rows no_totals no_flows no_explain =
+    let explained : Option Request = if bytes_eq (codes "explain") name then option_map Explain (explained_in rows)
+    else changing name rows in
+    let shown : Option Request = if bytes_eq (codes "flows") name then listed_in rows else explained in
+    passed_over (bytes_eq (codes "explain") name) (option_map Explain (explained_in rows)) (changing name rows)
+    (differs (codes "explain") name no_explain)
+    ∙ passed_over (bytes_eq (codes "flows") name) (listed_in rows) explained
+    (differs (codes "flows") name no_flows)
+    ∙ passed_over (bytes_eq (codes "totals") name) (totalled_in rows) shown
+    (differs (codes "totals") name no_totals)

@@ -1,0 +1,10 @@
+use Rattle.std.proofs.Common.{◌∙◌}
+use Rattle.clap.specs.Matches.{found_of}
+use Rattle.clap.specs.Walk.{rows_of}
+use Rattle.flow_program.proofs.Reading.{changing_name}
+use Rattle.flow_program.proofs.request.queried.Goals as goal
+
+pub returns-in_default : goal.returns-in_default
+returns-in_default c =
+    c.changing.ensures ∙ changing_name c.args.name.now (rows_of (found_of c.args.arguments.now))
+    c.in_default.not-totals c.in_default.not-flows c.in_default.not-explain

@@ -1,0 +1,35 @@
+use Rattle.std.proofs.Common.{refl}
+use Rattle.std.proofs.KnownBytes.{Keeps-refl}
+use Rattle.flow_program.proofs.run.refuse.Goals as goal
+
+pub returns-in-Width-clause-told : goal.returns-in-Width-clause-told
+returns-in-Width-clause-told g c =
+    rw c.in-Width.is (refl, Keeps-refl _, rw c.as_bytes.ensures.value at c.tell_line.ensures)
+
+pub returns-in-Plan-clause-told : goal.returns-in-Plan-clause-told
+returns-in-Plan-clause-told g c =
+    rw c.in-Plan.is (refl, Keeps-refl _, rw c.as_bytes-in-Plan.ensures.value at c.tell_line-in-Plan.ensures)
+
+pub returns-in-Span-clause-told : goal.returns-in-Span-clause-told
+returns-in-Span-clause-told g c =
+    rw c.in-Span.is (refl, Keeps-refl _, rw c.as_bytes-in-Span.ensures.value at c.tell_line-in-Span.ensures)
+
+pub returns-in-Totals-clause-told : goal.returns-in-Totals-clause-told
+returns-in-Totals-clause-told g c =
+    rw c.in-Totals.is (refl, Keeps-refl _, rw c.as_bytes-in-Totals.ensures.value at c.tell_line-in-Totals.ensures)
+
+pub returns-in-Number-clause-told : goal.returns-in-Number-clause-told
+returns-in-Number-clause-told g c =
+    rw c.in-Number.is (refl, Keeps-refl _, rw c.as_bytes-in-Number.ensures.value at c.tell_line-in-Number.ensures)
+
+pub returns-in-Keep-clause-told : goal.returns-in-Keep-clause-told
+returns-in-Keep-clause-told g c =
+    rw c.in-Keep.is (refl, Keeps-refl _, rw c.as_bytes-in-Keep.ensures.value at c.tell_line-in-Keep.ensures)
+
+pub returns-in-Files-clause-told : goal.returns-in-Files-clause-told
+returns-in-Files-clause-told g c =
+    rw c.in-Files.is (refl, Keeps-refl _, rw c.as_bytes-in-Files.ensures.value at c.tell_line-in-Files.ensures)
+
+pub returns-in-Formats-clause-told : goal.returns-in-Formats-clause-told
+returns-in-Formats-clause-told g c =
+    rw c.in-Formats.is (refl, Keeps-refl _, rw c.as_bytes-in-Formats.ensures.value at c.tell_line-in-Formats.ensures)

@@ -1,0 +1,4 @@
+use Rattle.flow_program.proofs.run.tell_archive_refusal.Goals as goal
+
+pub returns-in-OutOfMemory : goal.returns-in-OutOfMemory
+returns-in-OutOfMemory g c = rw c.in-OutOfMemory.is (rw c.as_bytes.ensures.value at c.tell_line.ensures)

@@ -1,0 +1,244 @@
+-- What a command asks for, by its name and the values that were found for its arguments.
+use Rattle.std.specs.Prelude.{ℕ, ◌%◌, ◌==◌, ◌&&◌, ◌||◌, is_some, List, Option, Some, None, option_map, option_and_then}
+use Rattle.std.specs.Prelude.{codes, if◌then◌else◌, length, nat_lt, Bool, true, false}
+use Rattle.std.specs.List.{list_any}
+use Rattle.std.specs.Option.{option_map_or}
+use Rattle.std.specs.Str.{bytes_eq}
+use Rattle.clap.specs.Walk.{Row, Text, all_of, first_of}
+use Rattle.flow_program.specs.declared.request.Request.{Request}
+use Rattle.flow_program.specs.declared.request.Request.TheVariants.{Measure, Dump, Inspect, InspectFiles}
+use Rattle.flow_program.specs.declared.request.Request.TheVariants.{Create, Check, CheckFiles}
+use Rattle.flow_program.specs.declared.request.Request.TheVariants.{Totals, Flows}
+use Rattle.flow_program.specs.declared.request.Request.TheVariants.{Feed, Shell, Roll, Merge, Explain}
+use Rattle.flow_program.specs.Explain.{is_refusal}
+use Rattle.flow_program.specs.declared.arguments.MomentSpan.{MomentSpan}
+use Rattle.flow_moments.specs.declared.moment.Moment.{Moment}
+use Rattle.flow_moments.specs.declared.moment.Moment.TheVariants.{Second}
+use Rattle.flow_moments.specs.Moments.{is_relative, moment_of, second_at}
+use Rattle.flow_report.specs.declared.format.Format.{Format}
+use Rattle.flow_report.specs.declared.format.Layout.{Layout}
+use Rattle.flow_report.specs.declared.format.Layout.TheVariants.{Lines, Csv, Json}
+use Rattle.flow_report.specs.declared.format.Times.{Times}
+use Rattle.flow_report.specs.declared.format.Times.TheVariants.{Seconds, Dates}
+use Rattle.flow_report.specs.Numbers.{number_between}
+use Rattle.flow_commands.specs.declared.plan.FeedPlan.{FeedPlan}
+use Rattle.flow_commands.specs.Plans.{Plan, Span}
+
+abbrev pub width_in : List Row → Option ℕ
+width_in rows = option_and_then (number_between 1 86400) (first_of (codes "WIDTH") rows)
+
+-- an option without a value is there
+abbrev pub is_set : Text → List Row → Bool
+is_set id rows = option_map_or (bytes_eq (codes "true")) (first_of id rows) false
+
+-- one layout at most: lines where none is asked for
+abbrev pub layout_of : Bool → Bool → Option Layout
+layout_of true true = None
+layout_of true false = Some Csv
+layout_of false true = Some Json
+layout_of false false = Some Lines
+
+abbrev pub layout_in : List Row → Option Layout
+layout_in rows = layout_of (is_set (codes "csv") rows) (is_set (codes "json") rows)
+
+-- times as dates, where that is asked for
+abbrev pub times_in : List Row → Times
+times_in rows = if is_set (codes "utc") rows then Dates else Seconds
+
+abbrev pub format_in : List Row → Option Format
+format_in rows = option_map (λ layout. record { layout = layout; times = times_in rows }) (layout_in rows)
+
+-- what `measure` asks for
+abbrev pub measured_in : List Row → Option Request
+measured_in rows =
+    option_and_then (λ format. option_map (λ width. Measure width format (is_set (codes "warn") rows)) (width_in rows))
+    (format_in rows)
+
+-- the octets of messages that a segment takes: 1,048,576 where nothing else is asked for
+abbrev pub limit_in : List Row → Option ℕ
+limit_in rows = option_map_or (number_between 65535 16777216) (first_of (codes "N") rows) (Some 1048576)
+
+-- a multiple of the width, up to a day
+abbrev pub multiple_of : ℕ → Text → Option (Option ℕ)
+multiple_of width word =
+    option_and_then (λ n. if n % width == 0 then Some (Some n) else None) (number_between width 86400 word)
+
+-- the wide width, where one is asked for
+abbrev pub wide_in : ℕ → List Row → Option (Option ℕ)
+wide_in width rows = option_map_or (multiple_of width) (first_of (codes "SECONDS") rows) (Some None)
+
+abbrev pub plan_in : List Row → Option Plan
+plan_in rows =
+    option_and_then (λ width. option_and_then (λ limit. option_map (λ wide. record {
+      width = width;
+      wide = wide;
+      limit = limit;
+    }) (wide_in width rows)) (limit_in rows)) (width_in rows)
+
+-- seconds since 1970-01-01 00:00 UTC, up to 2^32
+abbrev pub second_in : Text → List Row → Option ℕ
+second_in id rows = option_and_then (number_between 0 4294967296) (first_of id rows)
+
+-- a span by its seconds, where it is now the second `now`
+abbrev pub span_at : ℕ → MomentSpan → Span
+span_at now span = record { from = second_at now span.from; to = second_at now span.to }
+
+-- one of them depends on what second it is now
+abbrev pub depends_on_now : MomentSpan → Bool
+depends_on_now span = is_relative span.from || is_relative span.to
+
+-- FROM and TO
+abbrev pub numbered_span_in : List Row → Option MomentSpan
+numbered_span_in rows =
+    option_and_then (λ from. option_map (λ to. record { from = Second from; to = Second to })
+    (second_in (codes "TO") rows)) (second_in (codes "FROM") rows)
+
+-- a moment by an option, or the usual one
+abbrev pub moment_in : Text → Moment → List Row → Option Moment
+moment_in id usual rows = option_map_or moment_of (first_of id rows) (Some usual)
+
+-- an argument is there
+abbrev pub is_given : Text → List Row → Bool
+is_given id rows = is_some (first_of id rows)
+
+-- `--since` and `--until`, and no number beside them: all seconds but where one of them says less
+abbrev pub worded_span_in : List Row → Option MomentSpan
+worded_span_in rows =
+    if is_given (codes "FROM") rows then None
+    else option_and_then (λ from. option_map (λ to. record { from = from; to = to })
+    (moment_in (codes "UNTIL") (Second 4294967296) rows)) (moment_in (codes "SINCE") (Second 0) rows)
+
+abbrev pub span_in : List Row → Option MomentSpan
+span_in rows =
+    if is_given (codes "SINCE") rows || is_given (codes "UNTIL") rows then worded_span_in rows
+    else numbered_span_in rows
+
+abbrev pub folder_in : List Row → Option Text
+folder_in rows = first_of (codes "DIR") rows
+
+-- what `create` asks for
+abbrev pub create_in : List Row → Option Request
+create_in rows = option_and_then (λ folder. option_map (Create folder) (plan_in rows)) (folder_in rows)
+
+-- how many workers scan, where that is said: 1 to 64
+abbrev pub workers_in : List Row → Option (Option ℕ)
+workers_in rows =
+    option_map_or (λ word. option_map Some (number_between 1 64 word)) (first_of (codes "WORKERS") rows) (Some None)
+
+-- what `totals` asks for
+abbrev pub totalled_in : List Row → Option Request
+totalled_in rows = option_and_then (λ folder. option_and_then (λ span. option_and_then (λ workers.
+    option_map (Totals folder span workers) (format_in rows)) (workers_in rows)) (span_in rows)) (folder_in rows)
+
+-- what `flows` asks for
+abbrev pub listed_in : List Row → Option Request
+listed_in rows = option_and_then (λ folder. option_and_then (λ span. option_map (Flows folder span) (format_in rows))
+    (span_in rows)) (folder_in rows)
+
+-- how many of the newest files are left
+abbrev pub keep_in : List Row → Option ℕ
+keep_in rows = option_and_then (number_between 0 4294967295) (first_of (codes "KEEP") rows)
+
+-- what `roll` and `merge` ask for
+abbrev pub rolled_in : (Text → ℕ → Request) → List Row → Option Request
+rolled_in request rows = option_and_then (λ folder. option_map (request folder) (keep_in rows)) (folder_in rows)
+
+-- how many of the newest segments `feed` and `shell` leave: 8 where nothing else is asked for
+abbrev pub kept_in : List Row → Option ℕ
+kept_in rows = option_map_or (number_between 0 4294967295) (first_of (codes "KEEP") rows) (Some 8)
+
+-- how many of the first messages of a File are only read: none where nothing is asked for
+abbrev pub passed_in : List Row → Option ℕ
+passed_in rows = option_map_or (number_between 0 281474976710655) (first_of (codes "COUNT") rows) (Some 0)
+
+-- how Files are fed
+abbrev pub feeding_in : List Row → Option FeedPlan
+feeding_in rows =
+    option_and_then (λ keep. option_map (λ passed. record {
+      keep = keep;
+      passed = passed;
+      warn = is_set (codes "warn") rows;
+    }) (passed_in rows)) (kept_in rows)
+
+-- Messages of one File alone are passed.
+abbrev pub fed_alone : Text → FeedPlan → List Text → Option Request
+fed_alone folder plan files =
+    if nat_lt 0 plan.passed && nat_lt 1 (length files) then None else Some (Feed folder plan files)
+
+-- at most 8 Files
+abbrev pub few_of : List Text → Option (List Text)
+few_of files = if nat_lt 8 (length files) then None else Some files
+
+-- the Files that are given, where there is one
+abbrev pub given_in : List Row → Option (List Text)
+given_in rows = all_of (codes "FILE") rows
+
+abbrev pub files_in : List Row → Option (List Text)
+files_in rows = option_and_then few_of (given_in rows)
+
+-- standard input is one of these Files
+abbrev pub has_input : List Text → Bool
+has_input files = list_any (λ file. bytes_eq file (codes "-")) files
+
+-- what `inspect` asks for: of standard input, or of the Files that are given
+abbrev pub inspected_of : Option (List Text) → Format → Request
+inspected_of None format = Inspect format
+inspected_of (Some files) format = InspectFiles format files
+
+abbrev pub inspected_in : List Row → Option Request
+inspected_in rows = option_map (inspected_of (given_in rows)) (format_in rows)
+
+-- what `feed` asks for
+abbrev pub fed_in : List Row → Option Request
+fed_in rows = option_and_then (λ folder. option_and_then (λ plan. option_and_then (fed_alone folder plan)
+    (files_in rows)) (feeding_in rows)) (folder_in rows)
+
+-- what `explain` asks for: the number of a refusal
+abbrev pub explained_in : List Row → Option ℕ
+explained_in rows =
+    option_and_then (λ n. if is_refusal n then Some n else None)
+    (option_and_then (number_between 0 99) (first_of (codes "NUMBER") rows))
+
+-- what `shell` asks for
+abbrev pub shelled_in : List Row → Option Request
+shelled_in rows = option_and_then (λ folder. option_map (Shell folder) (kept_in rows)) (folder_in rows)
+
+-- what the name of a command that changes an archive, and the values of its arguments, ask for
+abbrev pub changing : Text → List Row → Option Request
+changing name rows =
+    if bytes_eq (codes "roll") name then rolled_in Roll rows
+    else if bytes_eq (codes "merge") name then rolled_in Merge rows
+    else if bytes_eq (codes "shell") name then shelled_in rows
+    else None
+
+-- what a query's name and the values of its arguments ask for
+abbrev pub queried : Text → List Row → Option Request
+queried name rows =
+    if bytes_eq (codes "totals") name then totalled_in rows
+    else if bytes_eq (codes "flows") name then listed_in rows
+    else if bytes_eq (codes "explain") name then option_map Explain (explained_in rows)
+    else changing name rows
+
+-- what `check` asks for: with its files, or without
+abbrev pub checked_in : List Row → Option Request
+checked_in rows =
+    option_map (λ folder. if is_set (codes "files") rows then CheckFiles folder else Check folder) (folder_in rows)
+
+-- what the name of a command that is given no Files, and the values of its arguments, ask for
+abbrev pub without_files : Text → List Row → Option Request
+without_files name rows =
+    if bytes_eq (codes "measure") name then measured_in rows
+    else if bytes_eq (codes "dump") name then Some Dump
+    else if bytes_eq (codes "create") name then create_in rows
+    else if bytes_eq (codes "check") name then checked_in rows
+    else queried name rows
+
+-- what a command's name and the values of its arguments ask for
+abbrev pub requested : Text → List Row → Option Request
+requested name rows =
+    if bytes_eq (codes "feed") name then fed_in rows
+    else if bytes_eq (codes "inspect") name then inspected_in rows
+    else without_files name rows
+
+abbrev pub request_in : Option (Text × List Row) → Option Request
+request_in command = option_and_then (λ c. requested c.0 c.1) command

@@ -1,0 +1,52 @@
+-- Why words ask for nothing.
+use Rattle.std.specs.Prelude.{◌≡◌, ℕ, List, Option, None, ⊤, codes, is_some, if◌then◌else◌}
+use Rattle.std.specs.Option.{option_map_or}
+use Rattle.std.specs.Str.{bytes_eq}
+use Rattle.clap.specs.Kinds.{HasKind}
+use Rattle.clap.specs.Faults.{fault_of}
+use Rattle.clap.specs.Simple.{subcommand_of}
+use Rattle.clap.specs.Walk.{Row, Text}
+use Rattle.flow_program.specs.declared.request.LineError.{LineError}
+use Rattle.flow_program.specs.declared.request.LineError.TheVariants.{Parser, Width, Plan, Span, Keep, Files}
+use Rattle.flow_program.specs.declared.request.LineError.TheVariants.{Formats, Number, OutOfMemory, Totals}
+use Rattle.flow_program.specs.Arguments.{format_in}
+use Rattle.flow_program.specs.CommandLine.{asked, flowvault}
+
+-- what is said of the values of a command, by its name
+abbrev pub wrong_values_of : Text → LineError
+wrong_values_of name =
+    if bytes_eq (codes "create") name then Plan
+    else if bytes_eq (codes "totals") name then Totals
+    else if bytes_eq (codes "flows") name then Span
+    else if bytes_eq (codes "feed") name then Files
+    else if bytes_eq (codes "roll") name then Keep
+    else if bytes_eq (codes "merge") name then Keep
+    else if bytes_eq (codes "shell") name then Keep
+    else if bytes_eq (codes "explain") name then Number
+    else Width
+
+-- what is said of the values of a command: that two formats are asked for, or what is said by its name
+abbrev pub wrong_values_in : Text → List Row → LineError
+wrong_values_in name rows = if is_some (format_in rows) then wrong_values_of name else Formats
+
+-- what is said of the values of what the parser finds
+abbrev pub wrong_values : Option (Text × List Row) → LineError
+wrong_values command = option_map_or (λ c. wrong_values_in c.0 c.1) command Width
+
+-- The words don't ask, and this is said of their values, by their command.
+abbrev pub IsOfValues : List (List ℕ) → LineError → Type 0
+IsOfValues words e = (asked words ≡ None) × (e ≡ wrong_values (subcommand_of flowvault words))
+
+-- That memory ran out may be reported whatever the words; else they don't ask, and what the parser says is one of its
+-- faults of them.
+abbrev pub IsLineError : List (List ℕ) → LineError → Type 0
+IsLineError words OutOfMemory = ⊤
+IsLineError words Width = IsOfValues words Width
+IsLineError words Plan = IsOfValues words Plan
+IsLineError words Span = IsOfValues words Span
+IsLineError words Totals = IsOfValues words Totals
+IsLineError words Keep = IsOfValues words Keep
+IsLineError words Files = IsOfValues words Files
+IsLineError words Number = IsOfValues words Number
+IsLineError words Formats = IsOfValues words Formats
+IsLineError words (Parser error) = (asked words ≡ None) × HasKind (fault_of flowvault words) error

@@ -1,0 +1,183 @@
+-- What one run of the program answers.
+use Rattle.std.specs.Prelude.{◌≡◌, ◌≢◌, ◌⊎◌, ℕ, ◌++◌, false, List, Option, Some, IfSome, length, ⊤}
+use Rattle.std.specs.Io.KnownBytes.{Appends, Keeps}
+use Rattle.clap.specs.declared.error.kind.ErrorKind.{ErrorKind}
+use Rattle.clap.specs.declared.error.kind.ErrorKind.TheVariants.{DisplayHelp, DisplayVersion}
+use Rattle.clap.specs.declared.error.Error.{Error}
+use Rattle.clap.specs.Values.{kind_of}
+use Rattle.flow_report.specs.declared.refusal.Refusal.{Refusal}
+use Rattle.flow_report.specs.declared.refusal.Refusal.TheVariants as refusal
+use Rattle.flow_program.specs.declared.request.LineError.{LineError}
+use Rattle.flow_program.specs.declared.request.LineError.TheVariants.{Parser, Width, Plan, Span, Keep, Files}
+use Rattle.flow_program.specs.declared.request.LineError.TheVariants.{Formats, Number, OutOfMemory}
+use Rattle.flow_program.specs.declared.request.LineError.TheVariants.{Totals as TotalsWrong}
+use Rattle.flow_program.specs.declared.request.Request.{Request}
+use Rattle.flow_program.specs.declared.request.Request.TheVariants.{Measure, Dump, Inspect, InspectFiles}
+use Rattle.flow_program.specs.declared.request.Request.TheVariants.{Create, Check, CheckFiles, Totals, Flows}
+use Rattle.flow_program.specs.declared.request.Request.TheVariants.{Feed, Shell, Roll as RollAsked, Merge as MergeAsked}
+use Rattle.flow_program.specs.declared.request.Request.TheVariants.{Explain}
+use Rattle.flow_commands.specs.declared.archive_refusal.ArchiveRefusal.{ArchiveRefusal}
+use Rattle.flow_commands.specs.Archives.{archive_printed, archive_status}
+use Rattle.flow_commands.specs.Check.{IsChecked, KeepsOrChecks}
+use Rattle.flow_manifest.specs.declared.following.JobKind.TheVariants.{Roll, Merge}
+use Rattle.flow_commands.specs.Feeding.{FeedsLines, KeepsOrFeeds}
+use Rattle.flow_commands.specs.Rolling.{IsJobLine}
+use Rattle.flow_commands.specs.ArchiveFiles.{AreListings}
+use Rattle.flow_commands.specs.Asking.{AreFlows, AreRows, Writes, WritesOrNot, WritesUpTo}
+use Rattle.flow_program.specs.Arguments.{has_input}
+use Rattle.flow_program.specs.CommandLine.{asked}
+use Rattle.flow_program.specs.Inspecting.{InspectEnds}
+use Rattle.flow_program.specs.Requested.{IsLineError}
+use Rattle.flow_report.specs.Refusals.{status_of}
+use Rattle.flow_program.specs.Printed.{kind_text, told_lines, words_text}
+use Rattle.flow_report.specs.Printed.{printed, line_of}
+use Rattle.flow_report.specs.Writing.{AppendsFront}
+use Rattle.flow_report.specs.Dump.{IsDumped, IsDumpedUntil}
+use Rattle.flow_report.specs.Measure.{HasTotals, IsRefusedBy, KeepsOrFront}
+use Rattle.flow_inspect.specs.Inspect.{HasLines, KeepsOrFront as InspectKeepsOrFront}
+
+-- the lines of a refusal came on standard error, or a prefix of them where that could be written no further
+abbrev pub IsRefusalTold : Refusal → Option (List ℕ) → Option (List ℕ) → Type 0
+IsRefusalTold e before after = AppendsFront before after (told_lines (printed e))
+
+-- the lines of a refusal of a command over an archive, or a prefix of them
+abbrev pub IsArchiveTold : ArchiveRefusal → Option (List ℕ) → Option (List ℕ) → Type 0
+IsArchiveTold e before after = AppendsFront before after (told_lines (archive_printed e))
+
+-- A command over an archive was refused, and that is reported.
+abbrev pub IsEndedBy : (ArchiveRefusal → Type 0) → Option (List ℕ) → Option (List ℕ) → ℕ → Type 0
+IsEndedBy also before after status =
+    (e : ArchiveRefusal) × (status ≡ archive_status e) × IsArchiveTold e before after × also e
+
+-- Commands over an archive in a folder. No contract knows what a folder holds: clauses on any disk say what each does,
+-- and here how it ends.
+abbrev pub CreateEnds : Option (List ℕ) → Option (List ℕ) → ℕ → Type 0
+CreateEnds before after status = ((status ≡ 0) × Keeps before after) ⊎ IsEndedBy (λ e. ⊤) before after status
+
+abbrev pub CheckEnds : Option (List ℕ) → Option (List ℕ) → Option (List ℕ) → Option (List ℕ) → ℕ → Type 0
+CheckEnds old new before after status =
+    ((status ≡ 0) × Keeps before after × IsChecked old new)
+    ⊎ IsEndedBy (λ e. KeepsOrChecks e old new) before after status
+
+-- a command that writes such lines
+abbrev pub AskEnds : (List ℕ → Type 0) → Option (List ℕ) → Option (List ℕ) → Option (List ℕ) → Option (List ℕ) → ℕ
+    → Type 0
+AskEnds are old new before after status =
+    ((status ≡ 0) × Keeps before after × Writes are old new)
+    ⊎ IsEndedBy (λ e. WritesOrNot are e old new) before after status
+
+-- a command that writes such lines while it reads the archive's files
+abbrev pub ListEnds : (List ℕ → Type 0) → Option (List ℕ) → Option (List ℕ) → Option (List ℕ) → Option (List ℕ) → ℕ
+    → Type 0
+ListEnds are old new before after status =
+    ((status ≡ 0) × Keeps before after × Writes are old new)
+    ⊎ IsEndedBy (λ e. WritesUpTo are e old new) before after status
+
+-- `feed` of so many Files: a line for each, with the status of the first that stopped, and nothing on standard error
+abbrev pub FeedEnds : ℕ → Option (List ℕ) → Option (List ℕ) → Option (List ℕ) → Option (List ℕ) → ℕ → Type 0
+FeedEnds count old new before after status =
+    (Keeps before after × FeedsLines count status old new)
+    ⊎ IsEndedBy (λ e. KeepsOrFeeds count e old new) before after status
+
+-- `shell`: what it answers is written on standard output, and nothing on standard error; or it was refused.
+abbrev pub ShellEnds : Option (List ℕ) → Option (List ℕ) → ℕ → Type 0
+ShellEnds before after status = Keeps before after ⊎ IsEndedBy (λ e. ⊤) before after status
+
+-- Text is shown on standard output, with status 0 and nothing on standard error; or it couldn't be, and that is
+-- reported.
+abbrev pub IsShown : Option (List ℕ) → Option (List ℕ) → ℕ → Type 0
+IsShown before after status =
+    ((status ≡ 0) × Keeps before after) ⊎ ((e : Refusal) × (status ≡ status_of e) × IsRefusalTold e before after)
+
+-- A run of a command, by what standard input had and has left, and by what standard output (old, new) and standard
+-- error (before, after) hold: status 0 where the
+-- lines of the whole File were written, and nothing on standard error; else that of the refusal, which is reported.
+abbrev pub Runs : Request → Option (List ℕ) → Option (List ℕ) → Option (List ℕ) → Option (List ℕ) → Option (List ℕ)
+    → Option (List ℕ) → ℕ → Type 0
+Runs (Measure width format warn) input left old new before after status =
+    ((status ≡ 0) × Keeps before after
+    × IfSome input (λ octets. (lines : List ℕ) × HasTotals format width octets lines × Appends old new lines))
+    ⊎ ((e : Refusal) × (status ≡ status_of e) × IsRefusalTold e before after
+    × IfSome input (λ octets. IsRefusedBy octets left e)
+    × KeepsOrFront format width input old new e)
+Runs Dump input left old new before after status =
+    ((status ≡ 0) × Keeps before after × IfSome input (λ octets. IsDumped octets old new))
+    ⊎ ((e : Refusal) × (status ≡ status_of e) × IsRefusalTold e before after
+    × IfSome input (λ octets. IsDumpedUntil octets left old new e))
+Runs (Inspect format) input left old new before after status =
+    ((status ≡ 0) × Keeps before after
+    × IfSome input (λ octets. (lines : List ℕ) × HasLines format octets lines × Appends old new lines))
+    ⊎ ((e : Refusal) × (status ≡ status_of e) × IsRefusalTold e before after
+    × IfSome input (λ octets. IsRefusedBy octets left e)
+    × InspectKeepsOrFront format input old new e)
+-- None of these reads standard input, but `inspect` and `feed` where it is one of the Files, and `shell`; and `create`
+-- writes nothing.
+Runs (InspectFiles format files) input left old new before after status =
+    (has_input files ≡ false → Keeps input left) × InspectEnds format files input left old new before after status
+Runs (Create folder plan) input left old new before after status =
+    Keeps input left × Keeps old new × CreateEnds before after status
+Runs (Check folder) input left old new before after status =
+    Keeps input left × CheckEnds old new before after status
+Runs (CheckFiles folder) input left old new before after status =
+    Keeps input left × AskEnds AreListings old new before after status
+Runs (Totals folder span workers format) input left old new before after status =
+    Keeps input left × AskEnds (AreRows format) old new before after status
+Runs (Flows folder span format) input left old new before after status =
+    Keeps input left × ListEnds (AreFlows format) old new before after status
+Runs (Feed folder plan files) input left old new before after status =
+    (has_input files ≡ false → Keeps input left) × FeedEnds (length files) old new before after status
+Runs (Shell folder keep) input left old new before after status = ShellEnds before after status
+Runs (RollAsked folder keep) input left old new before after status =
+    Keeps input left × AskEnds (IsJobLine Roll) old new before after status
+Runs (MergeAsked folder keep) input left old new before after status =
+    Keeps input left × AskEnds (IsJobLine Merge) old new before after status
+Runs (Explain number) input left old new before after status = Keeps input left × IsShown before after status
+
+-- what was asked for is help, or the version
+abbrev pub IsHelp : ErrorKind → Type 0
+IsHelp kind = (kind ≡ DisplayHelp) ⊎ (kind ≡ DisplayVersion)
+
+-- and neither of them was
+abbrev pub IsNoHelp : ErrorKind → Type 0
+IsNoHelp kind = (kind ≢ DisplayHelp) × (kind ≢ DisplayVersion)
+
+-- words that ask for nothing: the output stays, and one line says why
+abbrev pub IsWrong : LineError → Option (List ℕ) → Option (List ℕ) → Option (List ℕ) → Option (List ℕ) → ℕ → Type 0
+IsWrong e old new before after status =
+    (status ≡ 2) × Keeps old new × AppendsFront before after (line_of (words_text e))
+
+-- The line for words that the parser refuses, and what it says of them.
+abbrev pub AreWordsLines : Error → List ℕ → Type 0
+AreWordsLines error text = (said : List ℕ) × (text ≡ line_of (kind_text (kind_of error)) ++ said)
+
+-- They came on standard error, or a prefix of them.
+abbrev pub AreWordsTold : Error → Option (List ℕ) → Option (List ℕ) → Type 0
+AreWordsTold error before after = (text : List ℕ) × AreWordsLines error text × AppendsFront before after text
+
+-- words that the parser refuses: the output stays, and that is said
+abbrev pub AreWrongWords : Error → Option (List ℕ) → Option (List ℕ) → Option (List ℕ) → Option (List ℕ) → ℕ → Type 0
+AreWrongWords error old new before after status =
+    (status ≡ 2) × Keeps old new × AreWordsTold error before after
+
+-- What is answered of words that ask for nothing, or for help.
+abbrev pub IsTold : LineError → Option (List ℕ) → Option (List ℕ) → Option (List ℕ) → Option (List ℕ) → ℕ → Type 0
+IsTold (Parser error) old new before after status =
+    (IsHelp (kind_of error) × IsShown before after status)
+    ⊎ (IsNoHelp (kind_of error) × AreWrongWords error old new before after status)
+IsTold Width old new before after status = IsWrong Width old new before after status
+IsTold Plan old new before after status = IsWrong Plan old new before after status
+IsTold Span old new before after status = IsWrong Span old new before after status
+IsTold TotalsWrong old new before after status = IsWrong TotalsWrong old new before after status
+IsTold Keep old new before after status = IsWrong Keep old new before after status
+IsTold Files old new before after status = IsWrong Files old new before after status
+IsTold Number old new before after status = IsWrong Number old new before after status
+IsTold Formats old new before after status = IsWrong Formats old new before after status
+IsTold OutOfMemory old new before after status =
+    (status ≡ 4) × Keeps old new × IsRefusalTold refusal.OutOfMemory before after
+
+-- What is answered of any words: the run of the request that they ask for, or why there is none.
+abbrev pub IsAnswered : List (List ℕ) → Option (List ℕ) → Option (List ℕ) → Option (List ℕ) → Option (List ℕ)
+    → Option (List ℕ) → Option (List ℕ) → ℕ → Type 0
+IsAnswered words input left old new before after status =
+    ((request : Request) × (asked words ≡ Some request) × Runs request input left old new before after status)
+    ⊎ ((e : LineError) × IsLineError words e × IsTold e old new before after status)

@@ -1,0 +1,397 @@
+//! What the values of a command's arguments are.
+
+ghost use Rattle.std.specs.Prelude.{◌≡◌, ◌≤◌, IfOk, IfSome, codes};
+ghost use Rattle.std.specs.List.{list_any};
+ghost use Rattle.std.specs.Str.{bytes_eq};
+ghost use Rattle.clap.specs.Matches.{found_of};
+ghost use Rattle.clap.specs.Walk.{rows_of};
+ghost use Rattle.flow_program.specs.Arguments.{explained_in, few_of, folder_in, limit_in, plan_in, second_in, span_in};
+ghost use Rattle.flow_program.specs.Arguments.{wide_in};
+ghost use Rattle.flow_program.specs.Arguments.{feeding_in, files_in, format_in, given_in, is_given, is_set, keep_in};
+ghost use Rattle.flow_program.specs.Arguments.{kept_in};
+ghost use Rattle.flow_program.specs.Arguments.{layout_in, times_in};
+ghost use Rattle.flow_program.specs.Arguments.{moment_in, numbered_span_in, passed_in, worded_span_in};
+ghost use Rattle.flow_program.specs.Arguments.{width_in, workers_in};
+ghost use Rattle.flow_commands.specs.Plans.{IsWide};
+
+use crate::explaining::Explanation;
+use clap::ArgMatches;
+use flow_commands::{FeedPlan, NewArchive, StartSpan, Workers};
+use flow_moments::{Moment, moment_of};
+use flow_report::{Format, Layout, Times, Width, number_between};
+use std::alloc::{AllocError, Global};
+use std::marker::Model;
+
+/// The octets of messages that a segment takes where nothing else is asked for.
+const USUAL_LIMIT: u32 = 1_048_576;
+
+/// The greatest second of a span: every flow starts before it.
+const MOST_SECOND: u64 = 4_294_967_296;
+
+/// The seconds at which a span begins and ends where nothing else is asked for.
+const FIRST: Moment = Moment::Second(0);
+
+const LAST: Moment = Moment::Second(MOST_SECOND);
+
+/// The most files that may be left.
+const MOST_KEEP: u64 = 4_294_967_295;
+
+/// How many of the newest segments `feed` and `shell` leave where nothing else is asked for.
+const USUAL_KEEP: u32 = 8;
+
+/// The most Files that are fed in one run.
+const MOST_FILES: usize = 8;
+
+/// The most messages of a File.
+const MOST_MESSAGES: u64 = 281_474_976_710_655;
+
+/// The most workers that scan.
+const MOST_WORKERS: u64 = 64;
+
+/// No refusal has a number above it.
+const MOST_NUMBER: u64 = 99;
+
+/// A path of a folder.
+#[derive(Drop)]
+pub struct FolderName<'a> {
+    pub(crate) path: &'a str,
+}
+
+impl<'a> Model for FolderName<'a> {
+    ghost use Rattle.std.specs.Prelude.{ℕ, List};
+
+    ghost Value = { List ℕ };
+
+    ghost view = { λ f. f.path.now };
+}
+
+/// Paths of Files.
+#[derive(Drop)]
+pub struct FileNames<'a> {
+    pub(crate) paths: Vec<&'a str>,
+}
+
+impl<'a> Model for FileNames<'a> {
+    ghost use Rattle.std.specs.Prelude.{ℕ, List, map};
+
+    ghost Value = { List (List ℕ) };
+
+    ghost view = { λ f. map (λ s. s.now) f.paths.items };
+}
+
+impl FileNames<'_> {
+    ghost use Rattle.flow_program.specs.Arguments.{has_input};
+
+    /// Whether standard input is one of them.
+    pub(crate) fn has_input(&self) -> bool
+        ensures { result ≡ has_input self.now }
+    {
+        are_with_input(self.paths.as_slice())
+    }
+}
+
+/// Flows that start from one moment on and before another.
+#[derive(Clone, Copy, Debug)]
+pub struct MomentSpan {
+    pub(crate) from: Moment,
+    pub(crate) to: Moment,
+}
+
+impl MomentSpan {
+    ghost use Rattle.flow_program.specs.Arguments.{depends_on_now, span_at};
+
+    /// Whether its seconds depend on what second it is now.
+    pub(crate) fn is_relative(self) -> bool
+        ensures { result ≡ depends_on_now self }
+    {
+        self.from.is_relative() || self.to.is_relative()
+    }
+
+    /// The same as seconds, where it is now the second `now` since 1970-01-01 00:00 UTC.
+    pub(crate) fn at(self, now: u64) -> StartSpan
+        ensures { result ≡ span_at now self }
+    {
+        StartSpan::new(self.from.second_at(now), self.to.second_at(now))
+    }
+}
+
+/// Whether a path is that of standard input.
+pub(crate) fn is_input(path: &str) -> bool
+    ensures { result ≡ bytes_eq path.now (codes "-") }
+{
+    path == "-"
+}
+
+/// Whether one of some paths is that of standard input.
+fn are_with_input(paths: &[&str]) -> bool
+    ensures { result ≡ list_any (λ path. bytes_eq path.now (codes "-")) paths.now }
+{
+    paths.iter().any(|path| is_input(path))
+}
+
+/// The width among the arguments of `measure` or `create`.
+#[tactic(auto, using(crate::proofs::Reading::first_value_is))]
+pub(crate) fn width_in(arguments: &ArgMatches<'_>) -> Option<Width>
+    ensures { result ≡ width_in (rows_of (found_of arguments.now)) }
+{
+    Width::of(arguments.get_str("WIDTH")?)
+}
+
+/// The folder among a command's arguments.
+#[tactic(auto, using(crate::proofs::Reading::first_value_is))]
+pub(crate) fn folder_in<'a>(arguments: &ArgMatches<'a>) -> Option<FolderName<'a>>
+    ensures { result ≡ folder_in (rows_of (found_of arguments.now)) }
+{
+    Some(FolderName {
+        path: arguments.get_str("DIR")?,
+    })
+}
+
+/// The limit of a segment among the arguments of `create`.
+#[tactic(auto, using(crate::proofs::Reading::first_value_is))]
+fn limit_in(arguments: &ArgMatches<'_>) -> Option<u32>
+    ensures value { result ≡ limit_in (rows_of (found_of arguments.now)) }
+    ensures from { IfSome result (λ limit. 65535 ≤ limit) }
+    ensures to { IfSome result (λ limit. limit ≤ 16777216) }
+{
+    let Some(word) = arguments.get_str("N") else {
+        return Some(USUAL_LIMIT);
+    };
+    let limit = number_between(65_535, 16_777_216, word.as_bytes())?;
+    Some(limit as u32)
+}
+
+/// The wide width among the arguments of `create`, where one is asked for: a multiple of the width, up to a day.
+#[tactic(auto, using(crate::proofs::Reading::first_value_is))]
+fn wide_in(arguments: &ArgMatches<'_>, width: u32) -> Option<Option<u32>>
+    requires { 1 ≤ width }
+    ensures value { result ≡ wide_in width (rows_of (found_of arguments.now)) }
+    ensures found { IfSome result (λ o. IfSome o (IsWide width)) }
+{
+    let Some(word) = arguments.get_str("SECONDS") else {
+        return Some(None);
+    };
+    let wide = number_between(u64::from(width), 86_400, word.as_bytes())?;
+    if wide % u64::from(width) == 0 {
+        Some(Some(wide as u32))
+    } else {
+        None
+    }
+}
+
+/// The numbers of a new archive among the arguments of `create`.
+pub(crate) fn plan_in(arguments: &ArgMatches<'_>) -> Option<NewArchive>
+    ensures { result ≡ plan_in (rows_of (found_of arguments.now)) }
+{
+    let width = width_in(arguments)?.seconds();
+    let limit = limit_in(arguments)?;
+    let wide = wide_in(arguments, width)?;
+    Some(NewArchive::new(width, wide, limit))
+}
+
+/// A second among the arguments of a command that asks for a span.
+#[tactic(auto, using(crate::proofs::Reading::first_value_is))]
+fn second_in(arguments: &ArgMatches<'_>, id: &str) -> Option<u64>
+    ensures value { result ≡ second_in id.now (rows_of (found_of arguments.now)) }
+    ensures most { IfSome result (λ second. second ≤ 4294967296) }
+{
+    number_between(0, MOST_SECOND, arguments.get_str(id)?.as_bytes())
+}
+
+/// The span that FROM and TO give, among the arguments of a command that asks for one.
+fn numbered_span_in(arguments: &ArgMatches<'_>) -> Option<MomentSpan>
+    ensures { result ≡ numbered_span_in (rows_of (found_of arguments.now)) }
+{
+    let from = second_in(arguments, "FROM")?;
+    let to = second_in(arguments, "TO")?;
+    Some(MomentSpan {
+        from: Moment::Second(from),
+        to: Moment::Second(to),
+    })
+}
+
+/// A moment among the arguments of a command that asks for a span, or a usual one.
+#[tactic(auto, using(crate::proofs::Reading::first_value_is))]
+fn moment_in(arguments: &ArgMatches<'_>, id: &str, usual: Moment) -> Option<Moment>
+    ensures { result ≡ moment_in id.now usual (rows_of (found_of arguments.now)) }
+{
+    match arguments.get_str(id) {
+        Some(word) => moment_of(word),
+        None => Some(usual),
+    }
+}
+
+/// Whether an argument is among a command's arguments.
+#[tactic(auto, using(crate::proofs::Reading::first_value_is))]
+fn is_given(arguments: &ArgMatches<'_>, id: &str) -> bool
+    ensures { result ≡ is_given id.now (rows_of (found_of arguments.now)) }
+{
+    arguments.get_str(id).is_some()
+}
+
+/// The span that `--since` and `--until` give, among the arguments of a command that asks for one.
+fn worded_span_in(arguments: &ArgMatches<'_>) -> Option<MomentSpan>
+    ensures { result ≡ worded_span_in (rows_of (found_of arguments.now)) }
+{
+    if is_given(arguments, "FROM") {
+        return None;
+    }
+    let from = moment_in(arguments, "SINCE", FIRST)?;
+    let to = moment_in(arguments, "UNTIL", LAST)?;
+    Some(MomentSpan { from, to })
+}
+
+/// The span among the arguments of a command that asks for one: by two numbers, or by options alone.
+pub(crate) fn span_in(arguments: &ArgMatches<'_>) -> Option<MomentSpan>
+    ensures { result ≡ span_in (rows_of (found_of arguments.now)) }
+{
+    if is_given(arguments, "SINCE") || is_given(arguments, "UNTIL") {
+        worded_span_in(arguments)
+    } else {
+        numbered_span_in(arguments)
+    }
+}
+
+/// Whether an option without a value is among a command's arguments.
+#[tactic(auto, using(crate::proofs::Reading::first_value_is))]
+pub(crate) fn is_set(arguments: &ArgMatches<'_>, id: &str) -> bool
+    ensures { result ≡ is_set id.now (rows_of (found_of arguments.now)) }
+{
+    match arguments.get_str(id) {
+        Some(word) => "true" == word,
+        None => false,
+    }
+}
+
+/// The layout among a command's arguments: one at most, lines where none is asked for.
+fn layout_in(arguments: &ArgMatches<'_>) -> Option<Layout>
+    ensures { result ≡ layout_in (rows_of (found_of arguments.now)) }
+{
+    match (is_set(arguments, "csv"), is_set(arguments, "json")) {
+        (true, true) => None,
+        (true, false) => Some(Layout::Csv),
+        (false, true) => Some(Layout::Json),
+        (false, false) => Some(Layout::Lines),
+    }
+}
+
+/// How times are to be written, among a command's arguments.
+fn times_in(arguments: &ArgMatches<'_>) -> Times
+    ensures { result ≡ times_in (rows_of (found_of arguments.now)) }
+{
+    if is_set(arguments, "utc") {
+        Times::Dates
+    } else {
+        Times::Seconds
+    }
+}
+
+/// The format among a command's arguments.
+pub(crate) fn format_in(arguments: &ArgMatches<'_>) -> Option<Format>
+    ensures { result ≡ format_in (rows_of (found_of arguments.now)) }
+{
+    let layout = layout_in(arguments)?;
+    let times = times_in(arguments);
+    Some(Format { layout, times })
+}
+
+/// How many workers scan, among the arguments of `totals`, where that is said.
+#[tactic(auto, using(crate::proofs::Reading::first_value_is))]
+pub(crate) fn workers_in(arguments: &ArgMatches<'_>) -> Option<Option<Workers>>
+    ensures { result ≡ workers_in (rows_of (found_of arguments.now)) }
+{
+    let Some(word) = arguments.get_str("WORKERS") else {
+        return Some(None);
+    };
+    let count = number_between(1, MOST_WORKERS, word.as_bytes())?;
+    Some(Some(Workers::new(count as u32)))
+}
+
+/// How many of the newest files are left, among the arguments of `roll` and `merge`.
+#[tactic(auto, using(crate::proofs::Reading::first_value_is))]
+pub(crate) fn keep_in(arguments: &ArgMatches<'_>) -> Option<u32>
+    ensures { result ≡ keep_in (rows_of (found_of arguments.now)) }
+{
+    let keep = number_between(0, MOST_KEEP, arguments.get_str("KEEP")?.as_bytes())?;
+    Some(keep as u32)
+}
+
+/// How many of the newest segments are left, among the arguments of `feed` and `shell`.
+#[tactic(auto, using(crate::proofs::Reading::first_value_is))]
+pub(crate) fn kept_in(arguments: &ArgMatches<'_>) -> Option<u32>
+    ensures { result ≡ kept_in (rows_of (found_of arguments.now)) }
+{
+    let Some(word) = arguments.get_str("KEEP") else {
+        return Some(USUAL_KEEP);
+    };
+    let keep = number_between(0, MOST_KEEP, word.as_bytes())?;
+    Some(keep as u32)
+}
+
+/// How many of the first messages of a File are only read, among the arguments of `feed`.
+#[tactic(auto, using(crate::proofs::Reading::first_value_is))]
+fn passed_in(arguments: &ArgMatches<'_>) -> Option<u64>
+    ensures { result ≡ passed_in (rows_of (found_of arguments.now)) }
+{
+    let Some(word) = arguments.get_str("COUNT") else {
+        return Some(0);
+    };
+    number_between(0, MOST_MESSAGES, word.as_bytes())
+}
+
+/// How the Files are fed, among the arguments of `feed`.
+pub(crate) fn feeding_in(arguments: &ArgMatches<'_>) -> Option<FeedPlan>
+    ensures { result ≡ feeding_in (rows_of (found_of arguments.now)) }
+{
+    let keep = kept_in(arguments)?;
+    let passed = passed_in(arguments)?;
+    let warn = is_set(arguments, "warn");
+    Some(FeedPlan { keep, passed, warn })
+}
+
+/// The Files among a command's arguments, where one is given.
+#[tactic(auto, using(crate::proofs::Reading::all_values_are))]
+pub(crate) fn given_in<'a>(
+    alloc: Global,
+    arguments: &ArgMatches<'a>,
+) -> Result<Option<FileNames<'a>>, AllocError>
+    ensures { IfOk result (λ files. files ≡ given_in (rows_of (found_of arguments.now))) }
+{
+    let Some(paths) = arguments.get_strs("FILE") else {
+        return Ok(None);
+    };
+    let paths = Vec::from_slice(alloc, paths)?;
+    Ok(Some(FileNames { paths }))
+}
+
+/// These Files, where they are at most 8.
+fn few_of(files: FileNames<'_>) -> Option<FileNames<'_>>
+    ensures { result ≡ few_of files.entry }
+{
+    if files.paths.len() > MOST_FILES {
+        return None;
+    }
+    Some(files)
+}
+
+/// The Files among the arguments of `feed`: at most 8.
+pub(crate) fn files_in<'a>(
+    alloc: Global,
+    arguments: &ArgMatches<'a>,
+) -> Result<Option<FileNames<'a>>, AllocError>
+    ensures { IfOk result (λ files. files ≡ files_in (rows_of (found_of arguments.now))) }
+{
+    match given_in(alloc, arguments)? {
+        Some(files) => Ok(few_of(files)),
+        None => Ok(None),
+    }
+}
+
+/// What `explain` asks for.
+#[tactic(auto, using(crate::proofs::Reading::first_value_is))]
+pub(crate) fn explained_in(arguments: &ArgMatches<'_>) -> Option<Explanation>
+    ensures { result ≡ explained_in (rows_of (found_of arguments.now)) }
+{
+    let number = number_between(0, MOST_NUMBER, arguments.get_str("NUMBER")?.as_bytes())?;
+    Explanation::of(number)
+}

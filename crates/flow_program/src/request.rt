@@ -1,0 +1,342 @@
+//! What the words of a command line ask for.
+
+ghost use Rattle.std.specs.Prelude.{◌≡◌, ◌≢◌, ◌⊎◌, Some, map, IfOk, IfErr};
+ghost use Rattle.clap.specs.Values.{kind_of};
+ghost use Rattle.clap.specs.Matches.{found_of};
+ghost use Rattle.clap.specs.Walk.{rows_of};
+ghost use Rattle.clap.specs.Simple.{subcommand_rows_of};
+ghost use Rattle.flow_program.specs.Arguments.{changing, checked_in, create_in, fed_alone, fed_in, inspected_in};
+ghost use Rattle.flow_program.specs.Arguments.{queried, request_in, requested, without_files};
+ghost use Rattle.flow_program.specs.CommandLine.{asked};
+ghost use Rattle.flow_program.specs.Requested.{IsLineError, wrong_values, wrong_values_in, wrong_values_of};
+ghost use Rattle.clap.specs.declared.error.kind.ErrorKind.TheVariants as ErrorKind;
+ghost use Rattle.flow_program.specs.declared.request.LineError.TheVariants as LineError;
+
+use crate::arguments::{
+    FileNames, FolderName, MomentSpan, explained_in, feeding_in, files_in, folder_in, format_in,
+    given_in, is_set, keep_in, kept_in, plan_in, span_in, width_in, workers_in,
+};
+use crate::explaining::Explanation;
+use crate::grammar::command_line;
+use clap::error::ErrorKind;
+use clap::{ArgMatches, Error};
+use flow_commands::{FeedPlan, NewArchive, Workers};
+use flow_report::{Format, Width};
+use std::alloc::{AllocError, Global};
+use std::convert::AsStr;
+
+/// A command with its arguments.
+#[derive(Drop)]
+pub enum Request<'a> {
+    /// Totals lines of the File on standard input.
+    Measure {
+        width: Width,
+        format: Format,
+        /// Whether records that aren't read are warned of.
+        warn: bool,
+    },
+    /// Message and record lines of the File on standard input.
+    Dump,
+    /// Lines of the Observation Domains of the File on standard input.
+    Inspect {
+        format: Format,
+    },
+    /// The same of each of these Files, with its number.
+    InspectFiles {
+        format: Format,
+        files: FileNames<'a>,
+    },
+    /// A new archive in a folder.
+    Create {
+        folder: FolderName<'a>,
+        plan: NewArchive,
+    },
+    /// The line of what the archive of a folder has.
+    Check {
+        folder: FolderName<'a>,
+    },
+    /// The same line, and one for each of its files.
+    CheckFiles {
+        folder: FolderName<'a>,
+    },
+    /// Totals lines of the archive of a folder.
+    Totals {
+        folder: FolderName<'a>,
+        span: MomentSpan,
+        /// How many workers scan it; as many as there are processors where nothing is said.
+        workers: Option<Workers>,
+        format: Format,
+    },
+    /// Lines of the flows in the archive of a folder that aren't rolled.
+    Flows {
+        folder: FolderName<'a>,
+        span: MomentSpan,
+        format: Format,
+    },
+    /// Files are taken into the archive of a folder.
+    Feed {
+        folder: FolderName<'a>,
+        plan: FeedPlan,
+        files: FileNames<'a>,
+    },
+    /// Requests about the archive of a folder are answered, and Files taken in meanwhile.
+    Shell {
+        folder: FolderName<'a>,
+        keep: u32,
+    },
+    /// All sealed segments but the newest become one rolled file.
+    Roll {
+        folder: FolderName<'a>,
+        keep: u32,
+    },
+    /// All rolled files but the newest become one file of wide intervals.
+    Merge {
+        folder: FolderName<'a>,
+        keep: u32,
+    },
+    /// What a refusal means.
+    Explain {
+        refusal: Explanation,
+    },
+}
+
+/// Why a command line asks for nothing.
+#[derive(Drop)]
+pub enum LineError {
+    /// The parser of the command line says why, or has the help that was asked for.
+    Parser(Error),
+    /// The width of `measure` isn't digits alone, from 1 to 86,400.
+    Width,
+    /// A number of a new archive isn't digits alone, or out of its range.
+    Plan,
+    /// The span of `flows` isn't two numbers, digits alone and at most 2^32, nor by moments in their place.
+    Span,
+    /// The same of the span of `totals`, or how many workers scan isn't digits alone, from 1 to 64.
+    Totals,
+    /// How many files are left isn't digits alone, or is past 2^32 - 1.
+    Keep,
+    /// There are more than 8 Files, or how many segments are left isn't digits alone, or is past 2^32 - 1; or how many
+    /// messages are passed isn't digits alone, or is past 2^48 - 1, or there are several Files of which some are
+    /// passed.
+    Files,
+    /// No refusal has the number.
+    Number,
+    /// Two formats are asked for.
+    Formats,
+    OutOfMemory,
+}
+
+/// Why the parser of the command line stopped.
+fn line_error(error: Error) -> LineError
+    ensures memory { kind_of error ≡ ErrorKind.OutOfMemory → result ≡ LineError.OutOfMemory }
+    ensures other { kind_of error ≢ ErrorKind.OutOfMemory → result ≡ LineError.Parser error }
+    ensures either { (result ≡ LineError.OutOfMemory) ⊎ (result ≡ LineError.Parser error) }
+{
+    if error.kind() == ErrorKind::OutOfMemory {
+        return LineError::OutOfMemory;
+    }
+    LineError::Parser(error)
+}
+
+/// What `create` asks for.
+fn create_in<'a>(arguments: &ArgMatches<'a>) -> Option<Request<'a>>
+    ensures { result ≡ create_in (rows_of (found_of arguments.now)) }
+{
+    let folder = folder_in(arguments)?;
+    let plan = plan_in(arguments)?;
+    Some(Request::Create { folder, plan })
+}
+
+/// What `check` asks for: with its files, or without.
+fn checked_in<'a>(arguments: &ArgMatches<'a>) -> Option<Request<'a>>
+    ensures { result ≡ checked_in (rows_of (found_of arguments.now)) }
+{
+    let folder = folder_in(arguments)?;
+    if is_set(arguments, "files") {
+        return Some(Request::CheckFiles { folder });
+    }
+    Some(Request::Check { folder })
+}
+
+/// What a command that changes an archive asks for, by its name and its arguments.
+fn changing<'a>(name: &str, arguments: &ArgMatches<'a>) -> Option<Request<'a>>
+    ensures { result ≡ changing name.now (rows_of (found_of arguments.now)) }
+{
+    match name {
+        "roll" => Some(Request::Roll {
+            folder: folder_in(arguments)?,
+            keep: keep_in(arguments)?,
+        }),
+        "merge" => Some(Request::Merge {
+            folder: folder_in(arguments)?,
+            keep: keep_in(arguments)?,
+        }),
+        "shell" => Some(Request::Shell {
+            folder: folder_in(arguments)?,
+            keep: kept_in(arguments)?,
+        }),
+        _ => None,
+    }
+}
+
+/// What a query asks for, by its name and its arguments.
+fn queried<'a>(name: &str, arguments: &ArgMatches<'a>) -> Option<Request<'a>>
+    ensures { result ≡ queried name.now (rows_of (found_of arguments.now)) }
+{
+    match name {
+        "totals" => Some(Request::Totals {
+            folder: folder_in(arguments)?,
+            span: span_in(arguments)?,
+            workers: workers_in(arguments)?,
+            format: format_in(arguments)?,
+        }),
+        "flows" => Some(Request::Flows {
+            folder: folder_in(arguments)?,
+            span: span_in(arguments)?,
+            format: format_in(arguments)?,
+        }),
+        "explain" => Some(Request::Explain {
+            refusal: explained_in(arguments)?,
+        }),
+        _ => changing(name, arguments),
+    }
+}
+
+/// What a command that is given no Files asks for, by its name and its arguments.
+fn without_files<'a>(name: &str, arguments: &ArgMatches<'a>) -> Option<Request<'a>>
+    ensures { result ≡ without_files name.now (rows_of (found_of arguments.now)) }
+{
+    match name {
+        "measure" => Some(Request::Measure {
+            format: format_in(arguments)?,
+            width: width_in(arguments)?,
+            warn: is_set(arguments, "warn"),
+        }),
+        "dump" => Some(Request::Dump),
+        "create" => create_in(arguments),
+        "check" => checked_in(arguments),
+        _ => queried(name, arguments),
+    }
+}
+
+/// What `feed` asks for: messages are passed of one File alone.
+fn fed_alone<'a>(
+    folder: FolderName<'a>,
+    plan: FeedPlan,
+    files: FileNames<'a>,
+) -> Option<Request<'a>>
+    ensures { result ≡ fed_alone folder.entry plan files.entry }
+{
+    if plan.passed > 0 && files.paths.len() > 1 {
+        return None;
+    }
+    Some(Request::Feed {
+        folder,
+        plan,
+        files,
+    })
+}
+
+/// What `feed` asks for.
+fn fed_in<'a>(alloc: Global, arguments: &ArgMatches<'a>) -> Result<Option<Request<'a>>, AllocError>
+    ensures { IfOk result (λ request. request ≡ fed_in (rows_of (found_of arguments.now))) }
+{
+    let files = files_in(alloc, arguments)?;
+    match (folder_in(arguments), feeding_in(arguments), files) {
+        (Some(folder), Some(plan), Some(files)) => Ok(fed_alone(folder, plan, files)),
+        _ => Ok(None),
+    }
+}
+
+/// What `inspect` asks for: of standard input, or of the Files that are given.
+fn inspected_in<'a>(
+    alloc: Global,
+    arguments: &ArgMatches<'a>,
+) -> Result<Option<Request<'a>>, AllocError>
+    ensures { IfOk result (λ request. request ≡ inspected_in (rows_of (found_of arguments.now))) }
+{
+    match (format_in(arguments), given_in(alloc, arguments)?) {
+        (Some(format), Some(files)) => Ok(Some(Request::InspectFiles { format, files })),
+        (Some(format), None) => Ok(Some(Request::Inspect { format })),
+        _ => Ok(None),
+    }
+}
+
+/// What a command asks for, by its name and its arguments.
+fn requested<'a>(
+    alloc: Global,
+    name: &str,
+    arguments: &ArgMatches<'a>,
+) -> Result<Option<Request<'a>>, AllocError>
+    ensures { IfOk result (λ request. request ≡ requested name.now (rows_of (found_of arguments.now))) }
+{
+    match name {
+        "feed" => fed_in(alloc, arguments),
+        "inspect" => inspected_in(alloc, arguments),
+        _ => Ok(without_files(name, arguments)),
+    }
+}
+
+/// What a command line asks for that its parser took.
+fn found<'a>(alloc: Global, matches: &ArgMatches<'a>) -> Result<Option<Request<'a>>, AllocError>
+    ensures { IfOk result (λ request. request ≡ request_in (subcommand_rows_of matches.now)) }
+{
+    match matches.subcommand() {
+        Some((name, arguments)) => requested(alloc, name, arguments),
+        None => Ok(None),
+    }
+}
+
+/// What is wrong with the values of the command of this name.
+fn wrong_values_of(name: &str) -> LineError
+    ensures { result ≡ wrong_values_of name.now }
+{
+    match name {
+        "create" => LineError::Plan,
+        "totals" => LineError::Totals,
+        "flows" => LineError::Span,
+        "feed" => LineError::Files,
+        "roll" => LineError::Keep,
+        "merge" => LineError::Keep,
+        "shell" => LineError::Keep,
+        "explain" => LineError::Number,
+        _ => LineError::Width,
+    }
+}
+
+/// What is wrong with the values of a command, by its name and its arguments.
+fn wrong_values_in(name: &str, arguments: &ArgMatches<'_>) -> LineError
+    ensures { result ≡ wrong_values_in name.now (rows_of (found_of arguments.now)) }
+{
+    match format_in(arguments) {
+        Some(_) => wrong_values_of(name),
+        None => LineError::Formats,
+    }
+}
+
+/// What is wrong with the values that a command line has.
+fn wrong_values(matches: &ArgMatches<'_>) -> LineError
+    ensures { result ≡ wrong_values (subcommand_rows_of matches.now) }
+{
+    match matches.subcommand() {
+        Some((name, arguments)) => wrong_values_in(name, arguments),
+        None => LineError::Width,
+    }
+}
+
+/// Reads the words, of which the first is the program's name.
+pub fn parse<'a, S: AsStr>(alloc: Global, words: &'a [S]) -> Result<Request<'a>, LineError>
+    ensures found { IfOk result (λ request. asked (map S.text words.now) ≡ Some request) }
+    ensures refused { IfErr result (λ e. IsLineError (map S.text words.now) e) }
+{
+    let Ok(command) = command_line(alloc) else {
+        return Err(LineError::OutOfMemory);
+    };
+    match command.try_get_matches_from(words) {
+        Ok(matches) => match found(alloc, &matches) {
+            Ok(request) => request.ok_or(wrong_values(&matches)),
+            Err(AllocError) => Err(LineError::OutOfMemory),
+        },
+        Err(error) => Err(line_error(error)),
+    }
+}

@@ -1,4 +1,0 @@
-use Rattle.flow_words.proofs.run.tell_refusal.Goals as goal
-
-pub returns-in-OutOfMemory : goal.returns-in-OutOfMemory
-returns-in-OutOfMemory g c = rw c.in-OutOfMemory.is (rw c.as_bytes.ensures.value at c.tell_line.ensures)
