@@ -85,7 +85,7 @@ fn seal<D: Disk>(archive: &mut Archive<D>, alloc: Global) -> Result<(), ArchiveE
 }
 
 /// Appends a message, and seals it.
-pub(crate) fn put<D: Disk>(
+fn put<D: Disk>(
     archive: &mut Archive<D>,
     alloc: Global,
     message: &[u8],
@@ -152,4 +152,11 @@ pub(crate) fn merge_three<D: Disk>(
 ) -> Result<(), ArchiveError> {
     roll(archive, alloc, 1, 4)?;
     merge(archive, alloc, 5)
+}
+
+/// An archive with one sealed segment, of one message.
+pub(crate) fn one_sealed(alloc: Global) -> Result<Archive<MemoryDisk>, ArchiveError> {
+    let mut archive = in_memory(alloc)?;
+    put(&mut archive, alloc, &FLOW)?;
+    Ok(archive)
 }

@@ -1,7 +1,7 @@
 //! The calls of a shared archive and of what its readers are shown. They are here alone, and promise nothing, so that
 //! the tests over them are proved without all that an archive promises.
 
-use crate::started::FLOW;
+use crate::archives::FLOW;
 use flow_disk::{Disk, Faults, SealedFile};
 use flow_measure::Row;
 use flow_shared::{ArchiveReader, Naming, ReaderError, Receipt, SharedArchive};

@@ -13,8 +13,6 @@ mod rolling;
 #[cfg(test)]
 mod scans;
 #[cfg(test)]
-mod sharing;
-#[cfg(test)]
 mod started;
 #[cfg(test)]
 mod threads;

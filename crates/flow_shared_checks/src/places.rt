@@ -1,5 +1,6 @@
 //! Places of readers.
 
+use crate::archives::in_memory;
 use crate::calls::{append, ends_open, has_flow, is_away, last_of, learn, shown};
 use crate::started::{Trial, tried};
 use flow_disk::{Disk, SealedFile};
@@ -50,7 +51,7 @@ fn written<D: Disk, J: Naming, W: Wait + Abort>(
 
 #[test]
 fn own_write(rt: HostRuntime) -> Result<(), Fail> {
-    tried::<OwnWrite, _>(&rt, rt.alloc(), 1)
+    tried::<OwnWrite, _>(&rt, rt.alloc(), in_memory(rt.alloc())?, 1)
 }
 
 /// Each of 16 places takes 100 snapshots while messages are added, and none is refused.
@@ -102,5 +103,5 @@ fn is_shown_to<S: SealedFile, J: Naming>(reader: &mut ArchiveReader<S, J>, posit
 
 #[test]
 fn places_enter(rt: HostRuntime) -> Result<(), Fail> {
-    tried::<Places, _>(&rt, rt.alloc(), 16)
+    tried::<Places, _>(&rt, rt.alloc(), in_memory(rt.alloc())?, 16)
 }

@@ -3,14 +3,14 @@
 ghost use Rattle.std.specs.Prelude.{◌≡◌};
 ghost use Rattle.flow_model.specs.Shelved.{shelf_of};
 
-use crate::archives::FLOW;
-use crate::sharing::{Trial, one_sealed, tried};
+use crate::archives::{FLOW, one_sealed};
+use crate::started::{Trial, tried};
 use crate::waiting::Held;
 use flow_archive::Archive;
 use flow_disk::{Disk, Faults};
 use flow_memory_disk::MemoryDisk;
 use flow_roller::{Gate, Open, roll_worker};
-use flow_shared::{Naming, Opened, SharedArchive, start};
+use flow_shared::{ArchiveReader, Naming, Opened, SharedArchive, start};
 use std::alloc::{AllocError, Global};
 use std::marker::Brand;
 use std::process::Abort;
@@ -47,6 +47,7 @@ impl Trial for Rolled {
         rt: &W,
         alloc: Global,
         shared: SharedArchive<D, J, W>,
+        _readers: Vec<ArchiveReader<D::Sealed, J>>,
     ) -> Result<(), Fail>
     where
         D::Sealed: Send + Sync,
@@ -60,7 +61,7 @@ impl Trial for Rolled {
 
 #[test]
 fn four_turns(rt: HostRuntime) -> Result<(), Fail> {
-    tried::<Rolled, _>(&rt, rt.alloc())
+    tried::<Rolled, _>(&rt, rt.alloc(), one_sealed(rt.alloc())?, 1)
 }
 
 /// Whether a message is appended.

@@ -1,11 +1,11 @@
-//! Archives that threads share, over disks in memory, and messages for them.
+//! Archives that threads share, over disks in memory.
 
 ghost use Rattle.std.specs.Prelude.{◌≡◌, ◌<◌, ◌≤◌};
 ghost use Rattle.flow_model.specs.Shelved.{shelf_of};
 
-use flow_archive::{Archive, ArchiveError};
+use flow_archive::Archive;
 use flow_disk::Disk;
-use flow_memory_disk::{MemoryDisk, Room};
+use flow_memory_disk::MemoryDisk;
 use flow_shared::{ArchiveReader, Naming, Opened, SharedArchive, start};
 use std::alloc::Global;
 use std::marker::Brand;
@@ -13,31 +13,6 @@ use std::process::Abort;
 use std::sync::Wait;
 use std::test::*;
 use std::thread::Threads;
-
-/// Room for a few small files.
-const ROOM: Room = Room {
-    files: 16,
-    octets: 2_048,
-    calls: 512,
-    written: 65_536,
-};
-
-/// A message of one flow from 2023-11-14 22:13:20, with the Template for it.
-pub(crate) const FLOW: [u8; 57] = [
-    0x00, 0x0A, 0x00, 0x39, 0x65, 0x53, 0xF1, 0x00, 0x00, 0x00, 0x00, 0x00, 0x00, 0x00, 0x00, 0x07,
-    0x00, 0x02, 0x00, 0x18, 0x01, 0x00, 0x00, 0x04, 0x00, 0x96, 0x00, 0x04, 0x00, 0x04, 0x00, 0x01,
-    0x00, 0x01, 0x00, 0x04, 0x00, 0x02, 0x00, 0x04, 0x01, 0x00, 0x00, 0x11, 0x65, 0x53, 0xF1, 0x00,
-    0x06, 0x00, 0x00, 0x05, 0xDC, 0x00, 0x00, 0x00, 0x0A,
-];
-
-/// An archive without messages, by intervals of 300 seconds.
-pub(crate) fn created(alloc: Global) -> Result<Archive<MemoryDisk>, ArchiveError> {
-    let disk = MemoryDisk::new(alloc, ROOM)?.restart();
-    match Archive::create(alloc, disk, 300, 65_535) {
-        Ok(archive) => Ok(archive),
-        Err(refused) => Err(refused.error),
-    }
-}
 
 /// What is tried with an archive that threads share, and with its readers.
 pub(crate) trait Trial {
@@ -71,14 +46,14 @@ where
     }
 }
 
-/// Tries it with an archive without messages.
+/// Lets threads share an archive on a disk in memory, with so many readers, and tries it.
 pub(crate) fn tried<T: Trial, W: Wait + Threads + Abort + Send + Sync>(
     rt: &W,
     alloc: Global,
+    archive: Archive<MemoryDisk>,
     places: usize,
 ) -> Result<(), Fail>
     requires { (0 < places) × (places ≤ 16) }
 {
-    let archive = created(alloc)?;
     share::<T, MemoryDisk, Brand, W>(rt, alloc, archive, Opened::new(), places)
 }

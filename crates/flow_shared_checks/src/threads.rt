@@ -3,8 +3,8 @@
 ghost use Rattle.std.specs.Prelude.{◌≡◌};
 ghost use Rattle.flow_model.specs.Shelved.{shelf_of};
 
+use crate::archives::in_memory;
 use crate::calls::{append, ends_open, flows_in, has_flow, last_of, learn, shown};
-use crate::started::created;
 use flow_archive::Archive;
 use flow_disk::{Disk, SealedFile};
 use flow_memory_disk::MemoryDisk;
@@ -160,6 +160,6 @@ where
 
 #[test]
 fn two_append_and_one_reads(rt: HostRuntime) -> Result<(), Fail> {
-    let archive = created(rt.alloc())?;
+    let archive = in_memory(rt.alloc())?;
     appended_by_two::<MemoryDisk, Brand, _>(&rt, rt.alloc(), archive, Opened::new())
 }
