@@ -4,7 +4,6 @@ use Rattle.std.proofs.Common.{arith, ◌++◌, inl, inr, Option, Some, None, Res
 use Rattle.std.specs.Prelude.{IfSome, MatchResult}
 use Rattle.std.specs.Result.{IsErrAnd}
 use Rattle.std.specs.FinMap.{entries}
-use Rattle.std.specs.List.{AllByRecursion}
 use Rattle.std.proofs.lemmas.List.{drop-take, length-map, length-take-le, take-take}
 use Rattle.flow_codec.specs.Templates.{AllTemplates}
 use Rattle.flow_disk.specs.Cause.{HasCause, HasRisen}
@@ -14,14 +13,13 @@ use Rattle.flow_gate.specs.declared.tail.ScanError.{ScanError}
 use Rattle.flow_gate.specs.declared.tail.ScanError.TheVariants as scan
 use Rattle.flow_manifest.specs.declared.manifest.Kind.TheVariants.{Sealed}
 use Rattle.flow_manifest.specs.declared.manifest.Entry.{Entry}
-use Rattle.flow_measure.specs.History.{Accepted, AreAcceptedFrom, flows_in, templates_from}
-use Rattle.flow_measure.specs.Flows.{FlowFits}
+use Rattle.flow_measure.specs.History.{Accepted, flows_in, templates_from}
 use Rattle.flow_measure.specs.declared.rows.Sums.{Sums}
-use Rattle.flow_measure.specs.Sums.{AllFit, Fits, Table, empty_table, merged, table_of, widened, with_entries}
+use Rattle.flow_measure.specs.declared.error.SumError.{SumError}
+use Rattle.flow_measure.specs.declared.error.SumError.TheVariants as sum
+use Rattle.flow_measure.specs.Sums.{IsRefused, AllFit, Fits, Table, empty_table, merged, table_of, widened, with_entries}
 use Rattle.flow_measure.proofs.Gathering.{get-gathered, joined, sum_at, sum_at-append, sum_at-entries}
 use Rattle.flow_measure.proofs.Merging.{with_empty}
-use Rattle.flow_measure.proofs.SinkSteps.{none_summed}
-use Rattle.flow_measure.proofs.SumLaws.{merged-table_of}
 use Rattle.flow_rolled.specs.declared.error.RowSumError.{RowSumError}
 use Rattle.flow_rolled.specs.declared.error.RowSumError.TheVariants as rows
 use Rattle.flow_rolled.specs.Rollup.{IsBroken, IsRollup}
@@ -36,7 +34,6 @@ use Rattle.flow_segment.specs.PartFlows as flows
 use Rattle.flow_segment.specs.PartFlows.{greatest_time, with_flows, AreAdded, ArePartMessages, HasMessages, IsDamage}
 use Rattle.flow_segment.specs.Segment.{part_octets}
 use Rattle.flow_segment.specs.Steps.{KeepsFront}
-use Rattle.flow_segment.proofs.FewMessages.{few_fit_behind}
 use Rattle.flow_model.specs.State.{Part}
 use Rattle.flow_model.specs.Chain.{IsSegment}
 use Rattle.flow_model.specs.Standing.{IsSealedAt}
@@ -44,9 +41,9 @@ use Rattle.flow_recover.proofs.Behind.{sealed_read}
 use Rattle.flow_model.proofs.Stand.{part_cut}
 use Rattle.flow_archive.specs.declared.sources.Source.{Source}
 use Rattle.flow_archive.specs.declared.sources.SourceError.{SourceError}
-use Rattle.flow_archive.specs.declared.sources.SourceError.TheVariants.{Fault}
-use Rattle.flow_archive.specs.Sources.{of_disk, of_part, of_rows, of_scan, IsFileRefusal, IsFileSum, IsSegmentRefusal}
-use Rattle.flow_archive.specs.Sources.{IsSegmentSum, IsSummed}
+use Rattle.flow_archive.specs.declared.sources.SourceError.TheVariants.{Damaged, SumSpent, Fault, OutOfMemory}
+use Rattle.flow_archive.specs.Sources.{of_disk, of_part, of_rows, of_scan, of_sums, IsFileRefusal, IsFileSum}
+use Rattle.flow_archive.specs.Sources.{IsMerged, IsNotTakenUp, IsSegmentRefusal, IsSegmentSum, IsSummed, IsTakenUp}
 
 -- ---- what the file holds
 
@@ -94,8 +91,9 @@ messages_there octets prefix end count e p carry prefix_is end_is count_is at g 
 
 -- ---- what is answered
 
-pub err_is : (answer : Result Source SourceError) (e : SourceError) → IsErrAnd answer (λ x. x ≡ e) → answer ≡ Err e
-err_is (Ok source) e never = absurd never
+pub err_is : {X : Type 0} (answer : Result X SourceError) (e : SourceError) → IsErrAnd answer (λ x. x ≡ e)
+    → answer ≡ Err e
+err_is (Ok x) e never = absurd never
 err_is (Err x) e is = ap Err is
 
 -- a refusal of a call below as one of these
@@ -130,38 +128,21 @@ not_read sums time disk.Fault answer is = subst (IsSummed sums time) (sym is) tt
 not_read sums time disk.OutOfMemory answer is = subst (IsSummed sums time) (sym is) tt
 
 -- restated templates aren't reported as damaged
-pub not_restated : (all : AllTemplates) (sums : Table) (time : ℕ) (e : ScanError) (answer : Result Source SourceError)
-    → AreTemplatesGiven all (Err e) → answer ≡ Err (of_scan e) → IsSummed sums time answer
-not_restated all sums time (scan.Damaged file at) answer never is = absurd never
-not_restated all sums time scan.Fault answer given is = subst (IsSummed sums time) (sym is) tt
-not_restated all sums time scan.OutOfMemory answer given is = subst (IsSummed sums time) (sym is) tt
+pub not_restated : (all : AllTemplates) (sums : Table) (time : ℕ) (old new : Table) (e : ScanError)
+    (answer : Result ℕ SourceError) → AreTemplatesGiven all (Err e) → answer ≡ Err (of_scan e)
+    → IsMerged sums time old new answer
+not_restated all sums time old new (scan.Damaged file at) answer never is = absurd never
+not_restated all sums time old new scan.Fault answer given is = subst (IsMerged sums time old new) (sym is) tt
+not_restated all sums time old new scan.OutOfMemory answer given is = subst (IsMerged sums time old new) (sym is) tt
 
--- the sums fit their types, since messages are few
-fit : (width : ℕ) (before : AllTemplates) (messages : List Accepted) → AreAcceptedFrom before messages
-    → AllByRecursion FlowFits (flows_in messages) → length messages < 2 ^ 48
-    → AllFit (with_flows (flows_in messages) (table_of width []))
-fit width before messages are fits few =
-    few_fit_behind width before [] messages are tt fits (omega (arith, few))
-
-pub not_added : (width : ℕ) (octets : List ℕ) (before after : AllTemplates) (messages : List Accepted)
-    (count : ℕ) (old new : Table) (time : ℕ) (e : PartSumError) (answer : Result Source SourceError)
-    → ArePartMessages octets before count messages → count < 2 ^ 48 → old ≡ empty_table width
-    → AreAdded {X = ℕ} before old messages (Err e) after new → answer ≡ Err (of_part e)
-    → IsSummed (table_of width (flows_in messages)) time answer
-not_added width octets before after messages count old new time (part.Damaged file at) answer are few none never is =
-    absurd never
-not_added width octets before after messages count old new time part.SumSpent answer are few none spent is =
-    absurd (spent.0 (subst (λ (t : Table). AllFit (with_flows (flows_in messages) t)) (none_summed width ∙ sym none)
-    (fit width before messages are.read.accepted spent.1 (omega (arith, are.all, few)))))
-not_added width octets before after messages count old new time part.Fault answer are few none given is =
-    subst (IsSummed (table_of width (flows_in messages)) time) (sym is) tt
-not_added width octets before after messages count old new time part.OutOfMemory answer are few none given is =
-    subst (IsSummed (table_of width (flows_in messages)) time) (sym is) tt
-
-pub sums_are : (width : ℕ) (messages : List Accepted) (old new : Table) → old ≡ empty_table width
-    → new ≡ with_flows (flows_in messages) old → new ≡ table_of width (flows_in messages)
-sums_are width messages old new none is =
-    is ∙ ap (with_flows (flows_in messages)) (none ∙ sym (none_summed width)) ∙ merged-table_of width [] (flows_in messages)
+-- flows that aren't added would pass their types, or a read failed, or memory ran out
+pub not_added : (before after : AllTemplates) (messages : List Accepted) (old some new : Table) (time : ℕ)
+    (e : PartSumError) → AreAdded {X = ℕ} before old messages (Err e) after some
+    → IsMerged (table_of old.width (flows_in messages)) time old new (Err (of_part e))
+not_added before after messages old some new time (part.Damaged file at) never = absurd never
+not_added before after messages old some new time part.SumSpent spent = spent.0
+not_added before after messages old some new time part.Fault given = tt
+not_added before after messages old some new time part.OutOfMemory given = tt
 
 -- ---- a rolled file
 
@@ -203,46 +184,82 @@ behind_fits a b all q =
 
 -- ---- what is read, damaged or not
 
-module _ (prefix octets : List ℕ) (number start end count : ℕ) (A : Source → Type 0) where
-  abbrev IsAnswered : Result Source SourceError → Type 0
-  IsAnswered answer = MatchResult answer A (IsSegmentRefusal prefix octets number start end count)
+module _ (prefix octets : List ℕ) (number start end count : ℕ) (A : ℕ → Type 0) (old : Table) where
+  abbrev IsNotTaken : SourceError → Type 0
+  IsNotTaken = IsNotTakenUp (IsSegmentSum old.width prefix octets count)
+      (IsSegmentRefusal prefix octets number start end count) old
 
-  pub prefix_refused : (e : ScanError) (answer : Result Source SourceError) → IsPrefixToldOf prefix number e
+  abbrev IsAnswered : Result ℕ SourceError → Type 0
+  IsAnswered answer = MatchResult answer A IsNotTaken
+
+  pub prefix_refused : (e : ScanError) (answer : Result ℕ SourceError) → IsPrefixToldOf prefix number e
       → answer ≡ Err (of_scan e)
-      → MatchResult answer A (IsSegmentRefusal prefix octets number start end count)
+      → MatchResult answer A (IsNotTakenUp (IsSegmentSum old.width prefix octets count)
+      (IsSegmentRefusal prefix octets number start end count) old)
   prefix_refused (scan.Damaged file at) answer why is =
       subst IsAnswered (sym is) (inl (subst (λ (n : ℕ). IsPrefixToldOf prefix number (scan.Damaged n at)) why.0 why))
   prefix_refused scan.Fault answer why is = subst IsAnswered (sym is) tt
   prefix_refused scan.OutOfMemory answer why is = subst IsAnswered (sym is) tt
 
-  pub messages_refused : (before : AllTemplates) (e : PartSumError) (answer : Result Source SourceError)
-      → IsRestated prefix before → flows.IsNotAdded octets before number start end count e → answer ≡ Err (of_part e)
-      → MatchResult answer A (IsSegmentRefusal prefix octets number start end count)
-  messages_refused before (part.Damaged file at) answer restated why is =
-      subst IsAnswered (sym is) (inr (
+  pub messages_refused : (before after : AllTemplates) (some : Table) (e : PartSumError) → IsRestated prefix before
+      → flows.IsNotAdded octets before number start end count e
+      → ((messages : List Accepted) → ArePartMessages octets before count messages
+      → AreAdded {X = ℕ} before old messages (Err e) after some)
+      → IsNotTakenUp (IsSegmentSum old.width prefix octets count) (IsSegmentRefusal prefix octets number start end count)
+      old (of_part e)
+  messages_refused before after some (part.Damaged file at) restated why given =
+      inr (
         before,
         restated,
         subst (λ (n : ℕ). IsDamage octets before number start end count (scan.Damaged n at)) why.0 why,
-      ))
-  messages_refused before part.SumSpent answer restated why is =
-      subst IsAnswered (sym is) (before, restated, why)
-  messages_refused before part.Fault answer restated why is = subst IsAnswered (sym is) tt
-  messages_refused before part.OutOfMemory answer restated why is = subst IsAnswered (sym is) tt
+      )
+  messages_refused before after some part.SumSpent restated (messages, are) given =
+      inr (
+        record { rows = table_of old.width (flows_in messages); time = greatest_time messages },
+        (before, messages, restated, are, refl, refl),
+        (given messages are).0,
+      )
+  messages_refused before after some part.Fault restated why given = tt
+  messages_refused before after some part.OutOfMemory restated why given = tt
 
-pub segment_summed : (width : ℕ) (prefix octets : List ℕ) (count : ℕ) (before after : AllTemplates) (old new : Table)
-    (time : ℕ) → IsRestated prefix before → HasMessages octets before count → old ≡ empty_table width
+pub segment_added : (prefix octets : List ℕ) (count : ℕ) (before after : AllTemplates) (old new : Table) (time : ℕ)
+    → IsRestated prefix before → HasMessages octets before count
     → ((messages : List Accepted) → ArePartMessages octets before count messages
     → AreAdded {X = ℕ} before old messages (Ok time) after new)
     → ((messages : List Accepted) → ArePartMessages octets before count messages → time ≡ greatest_time messages)
-    → IsSegmentSum width prefix octets count (record { rows = new; time = time })
-segment_summed width prefix octets count before after old new time restated (messages, are) none added latest = (
-  before,
-  messages,
-  restated,
-  are,
-  sums_are width messages old new none (added messages are).1,
+    → IsTakenUp (IsSegmentSum old.width prefix octets count) old new time
+segment_added prefix octets count before after old new time restated (messages, are) added latest = (
+  record { rows = table_of old.width (flows_in messages); time = greatest_time messages },
+  (before, messages, restated, are, refl, refl),
+  (added messages are).1,
   latest messages are,
 )
+
+-- ---- a source's own sums, added to others
+
+pub own_refused : (Holds : Source → Type 0) (Refuses : SourceError → Type 0) (old : Table) (e : SourceError) → Refuses e
+    → IsNotTakenUp Holds Refuses old e
+own_refused Holds Refuses old (Damaged at) h = h
+own_refused Holds Refuses old SumSpent h = inl h
+own_refused Holds Refuses old Fault h = tt
+own_refused Holds Refuses old OutOfMemory h = tt
+
+pub merge_refused : (Holds : Source → Type 0) (Refuses : SourceError → Type 0) (old : Table) (read : Source)
+    (e : SumError) → Holds read → IsRefused e (merged old read.rows) → IsNotTakenUp Holds Refuses old (of_sums e)
+merge_refused Holds Refuses old read sum.SumSpent holds spent = inr (read, holds, spent)
+merge_refused Holds Refuses old read sum.OutOfMemory holds spent = tt
+
+pub own_not_merged : (sums : Table) (time : ℕ) (old new : Table) (e : SourceError) → IsSummed sums time (Err e)
+    → IsMerged sums time old new (Err e)
+own_not_merged sums time old new (Damaged at) never = absurd never
+own_not_merged sums time old new SumSpent spent = λ all. spent (behind_fits old sums all)
+own_not_merged sums time old new Fault h = tt
+own_not_merged sums time old new OutOfMemory h = tt
+
+pub not_merged : (sums : Table) (time : ℕ) (old new : Table) (read : Source) (e : SumError)
+    → IsSummed sums time (Ok read) → IsRefused e (merged old read.rows) → IsMerged sums time old new (Err (of_sums e))
+not_merged sums time old new read sum.SumSpent is spent = subst (λ (t : Table). AllFit (merged old t) → ⊥) is.0 spent
+not_merged sums time old new read sum.OutOfMemory is spent = tt
 
 module _ (width wide : ℕ) (octets : List ℕ) (old : Table) (none : old ≡ empty_table wide) where
   pub file_summed : (new : Table) (time : ℕ) → IsAdded width octets old new → time ≡ export_time octets

@@ -9,7 +9,7 @@ use Rattle.flow_archive.specs.declared.sources.Source.{Source}
 use Rattle.flow_archive.specs.declared.sources.SourceError.{SourceError}
 use Rattle.flow_archive.specs.declared.sources.SourceError.TheVariants.{Damaged, SumSpent, Fault, OutOfMemory}
 use Rattle.flow_archive.specs.Frozen.{Frozen}
-use Rattle.flow_archive.specs.Sources.{IsJobTime, IsNotRead, IsReadWhole}
+use Rattle.flow_archive.specs.Sources.{IsJobTime, IsNotRead, IsNotTakenUp, IsReadWhole}
 use Rattle.flow_archive.specs.UnderWay.{RunningJob}
 
 -- only its count of sources, its sums and its greatest Export Time are others
@@ -34,9 +34,5 @@ HasTaken width f old new =
 
 -- Why a file isn't taken: it isn't read, or its sums and those of the job would pass their types together.
 abbrev pub IsNotTaken : ℕ → Frozen → Table → SourceError → Type 0
-IsNotTaken width f rows (Damaged at) = IsNotRead f.entry.kind width rows.width f (Damaged at)
-IsNotTaken width f rows SumSpent =
-    IsNotRead f.entry.kind width rows.width f SumSpent
-    ⊎ ((read : Source) × IsReadWhole f.entry.kind width rows.width f read × (AllFit (merged rows read.rows) → ⊥))
-IsNotTaken width f rows Fault = ⊤
-IsNotTaken width f rows OutOfMemory = ⊤
+IsNotTaken width f rows =
+    IsNotTakenUp (IsReadWhole f.entry.kind width rows.width f) (IsNotRead f.entry.kind width rows.width f) rows

@@ -1,5 +1,5 @@
 -- What a job reads of one source.
-use Rattle.std.specs.Prelude.{◌≡◌, ⊤, ℕ, ◌<◌, ◌^◌, List, [], ◌∷◌, fold, map, max, Result, Ok, Err}
+use Rattle.std.specs.Prelude.{◌≡◌, ◌⊎◌, ⊤, ℕ, ◌<◌, ◌^◌, List, [], ◌∷◌, fold, map, max, Result, Ok, Err}
 use Rattle.flow_codec.specs.Templates.{AllTemplates}
 use Rattle.flow_disk.specs.declared.error.DiskError.{DiskError}
 use Rattle.flow_disk.specs.declared.error.DiskError.TheVariants as disk
@@ -13,13 +13,13 @@ use Rattle.flow_manifest.specs.declared.manifest.Manifest.{Manifest}
 use Rattle.flow_measure.specs.declared.error.SumError.{SumError}
 use Rattle.flow_measure.specs.declared.error.SumError.TheVariants as sum
 use Rattle.flow_measure.specs.History.{Accepted, flows_in}
-use Rattle.flow_measure.specs.Sums.{table_of, widened, AllFit, Table}
+use Rattle.flow_measure.specs.Sums.{merged, table_of, widened, AllFit, Table}
 use Rattle.flow_rolled.specs.Rollup.{IsBroken, IsRollup}
 use Rattle.flow_rolled.specs.Stored.{export_time}
 use Rattle.flow_rolled.specs.declared.error.RowSumError.{RowSumError}
 use Rattle.flow_rolled.specs.declared.error.RowSumError.TheVariants as rolled
 use Rattle.flow_segment.specs.Carry.{Carry}
-use Rattle.flow_segment.specs.PartFlows.{greatest_time, ArePartMessages, HasMessages, IsPartToldOf}
+use Rattle.flow_segment.specs.PartFlows.{greatest_time, ArePartMessages, IsPartToldOf}
 use Rattle.flow_segment.specs.Prefix.{IsRestated}
 use Rattle.flow_segment.specs.Segment.{part_octets}
 use Rattle.flow_segment.specs.declared.error.PartSumError.{PartSumError}
@@ -86,6 +86,15 @@ IsSummed sums time (Err SumSpent) = AllFit sums → ⊥
 IsSummed sums time (Err Fault) = ⊤
 IsSummed sums time (Err OutOfMemory) = ⊤
 
+-- These sums were added to others, and this greatest Export Time is answered, unless they pass their types together, a
+-- read fails, or memory runs out.
+abbrev pub IsMerged : Table → ℕ → Table → Table → Result ℕ SourceError → Type 0
+IsMerged sums time old new (Ok latest) = (new ≡ merged old sums) × (latest ≡ time)
+IsMerged sums time old new (Err (Damaged at)) = ⊥
+IsMerged sums time old new (Err SumSpent) = AllFit (merged old sums) → ⊥
+IsMerged sums time old new (Err Fault) = ⊤
+IsMerged sums time old new (Err OutOfMemory) = ⊤
+
 -- A file is a source for a job of this kind, and holds this part.
 abbrev pub IsSource : JobKind → Manifest → Frozen → Part → Type 0
 IsSource Roll m f p = (f.entry.kind ≡ Sealed) × (f.entry.messages < 2 ^ 48) × IsSealedAt f.octets f.entry p
@@ -93,10 +102,11 @@ IsSource Roll m f p = (f.entry.kind ≡ Sealed) × (f.entry.messages < 2 ^ 48) �
 IsSource Merge m f p = (f.entry.kind ≡ Rolled) × (f.octets ≡ p.front)
     × ((table : Table) × IsRollup m.width p.front table)
 
--- What a job of this kind reads of this part is answered.
-abbrev pub IsRead : JobKind → Manifest → Part → Result Source SourceError → Type 0
-IsRead kind m p result =
-    (sums : Table) × (time : ℕ) × IsSourceSum kind m p sums × IsJobTime kind (p ∷ []) time × IsSummed sums time result
+-- What a job of this kind reads of this part is added to its sums.
+abbrev pub IsRead : JobKind → Manifest → Part → Table → Table → Result ℕ SourceError → Type 0
+IsRead kind m p old new result =
+    (sums : Table) × (time : ℕ) × IsSourceSum kind m p sums × IsJobTime kind (p ∷ []) time
+    × IsMerged sums time old new result
 
 -- ---- a source that is read, damaged or not
 
@@ -122,12 +132,11 @@ IsReadWhole Sealed width made f source =
     IsSegmentSum made (segment_of f).prefix (part_octets f.entry.prefix f.entry.length f.octets) f.entry.messages source
 IsReadWhole Active width made f source = ⊥
 
--- Why a segment isn't summed: it is damaged at this place, or its messages are whole and a sum would pass its type.
+-- Why a segment isn't summed: it is damaged at this place.
 abbrev pub IsSegmentRefusal : List ℕ → List ℕ → ℕ → ℕ → ℕ → ℕ → SourceError → Type 0
 IsSegmentRefusal prefix octets number start end count (Damaged at) =
     IsPartToldOf prefix octets number start end count (scan.Damaged number at)
-IsSegmentRefusal prefix octets number start end count SumSpent =
-    (before : AllTemplates) × IsRestated prefix before × HasMessages octets before count
+IsSegmentRefusal prefix octets number start end count SumSpent = ⊥
 IsSegmentRefusal prefix octets number start end count Fault = ⊤
 IsSegmentRefusal prefix octets number start end count OutOfMemory = ⊤
 
@@ -147,3 +156,17 @@ IsNotRead Sealed width made f e =
     IsSegmentRefusal (segment_of f).prefix (part_octets f.entry.prefix f.entry.length f.octets) f.entry.file
     f.entry.prefix f.entry.length f.entry.messages e
 IsNotRead Active width made f e = ⊥
+
+-- ---- a source whose sums are added to others
+
+-- All that it holds is added, and its greatest Export Time is answered.
+abbrev pub IsTakenUp : (Source → Type 0) → Table → Table → ℕ → Type 0
+IsTakenUp Holds old new time = (read : Source) × Holds read × (new ≡ merged old read.rows) × (time ≡ read.time)
+
+-- Why it isn't: it isn't read, or its sums and the others would pass their types together.
+abbrev pub IsNotTakenUp : (Source → Type 0) → (SourceError → Type 0) → Table → SourceError → Type 0
+IsNotTakenUp Holds Refuses old (Damaged at) = Refuses (Damaged at)
+IsNotTakenUp Holds Refuses old SumSpent =
+    Refuses SumSpent ⊎ ((read : Source) × Holds read × (AllFit (merged old read.rows) → ⊥))
+IsNotTakenUp Holds Refuses old Fault = ⊤
+IsNotTakenUp Holds Refuses old OutOfMemory = ⊤

@@ -1,6 +1,6 @@
 //! The frozen files of an archive, and what directories have of them.
 
-ghost use Rattle.std.specs.Prelude.{◌≡◌, ◌++◌, ◌<◌, ◌≤◌, ◌≢◌, ℕ, Bool, true, false, IsTrue, OnOk, IfOk, IfErr, map};
+ghost use Rattle.std.specs.Prelude.{◌≡◌, ◌++◌, ◌<◌, ◌≤◌, ◌≢◌, ℕ, Bool, true, false, IsTrue, OnErr, OnOk, IfOk, IfErr, map};
 ghost use Rattle.std.specs.Prelude.{take, vec_len, MatchResult};
 ghost use Rattle.std.specs.List.{list_all, AllByRecursion};
 ghost use Rattle.std.specs.Arc.{arc_value};
@@ -11,16 +11,18 @@ ghost use Rattle.flow_snapshot.specs.Directories.{sight_of};
 ghost use Rattle.flow_snapshot.specs.Files.{is_honest, rollup_of, segment_of, shared};
 ghost use Rattle.flow_archive.specs.Frozen.{all_frozen, frozen_as, is_shared, rolled_in, segment_in, shelf_with};
 ghost use Rattle.flow_archive.specs.Frozen.{unshared, value_of, wide_in, MayBeFrozen};
-ghost use Rattle.flow_archive.specs.Sources.{IsNotRead, IsRead, IsReadWhole, IsSource};
+ghost use Rattle.flow_archive.specs.Advancing.{IsNotTaken};
+ghost use Rattle.flow_archive.specs.Sources.{IsRead, IsReadWhole, IsSource, IsTakenUp};
 ghost use Rattle.flow_model.specs.Jobs.{width_made};
 ghost use Rattle.flow_recover.specs.Kept.{AreFilesOf};
 ghost use Rattle.flow_model.specs.State.{Part};
 ghost use Rattle.flow_archive.specs.Frozen as own;
 
-use crate::sources::{Source, SourceError, sum_file, sum_segment};
+use crate::sources::{SourceError, add_file, add_segment};
 use bytes::Bytes;
 use flow_disk::{Faults, SealedFile};
 use flow_manifest::{Entry, Kind};
+use flow_measure::Rows;
 use flow_rolled::RolledPart;
 use flow_segment::SealedPart;
 use flow_snapshot::Files;
@@ -146,31 +148,32 @@ impl<S: SealedFile> FrozenFile<S> {
         }
     }
 
-    /// Its sums over intervals of `made` seconds, and its greatest Export Time. A file of sums was rolled by `width`
-    /// seconds. It is read once, a piece at a time.
-    pub(crate) fn summed(
+    /// Adds what it holds to sums, and answers its greatest Export Time, in seconds since 1970-01-01 00:00 UTC. A file
+    /// of sums was rolled by `width` seconds. It is read once, a piece at a time. A refusal leaves the sums as they were.
+    pub(crate) fn add_to(
         &self,
         alloc: Global,
         width: u32,
-        made: u32,
+        rows: &mut Rows,
         faults: &mut Faults<S>,
-    ) -> Result<Source, SourceError>
-        requires width { 0 < width }
-        requires made { 0 < made }
-        ensures width { IfOk result (λ source. source.rows.width ≡ made) }
+    ) -> Result<u32, SourceError>
+        requires { 0 < width }
+        ensures kept { OnErr result (rows.new ≡ rows.old) }
+        ensures width { rows.new.width ≡ rows.old.width }
         ensures cause { HasCause SourceError.Fault faults.old faults.new result }
-        // On an honest disk, damaged or not: all that it holds is summed; or why not.
-        ensures found { IsTrue self.now.honest
-            → MatchResult result (IsReadWhole self.now.entry.kind width made self.now)
-            (IsNotRead self.now.entry.kind width made self.now) }
+        // On an honest disk, damaged or not: all that it holds is added; or why not.
+        ensures found { IsTrue self.now.honest → MatchResult result
+            (IsTakenUp (IsReadWhole self.now.entry.kind width rows.old.width self.now) rows.old rows.new)
+            (IsNotTaken width self.now rows.old) }
         // On an honest disk: where it is a source for a job, it is read as one.
         ensures read { IsTrue self.now.honest → (kind : JobKind) (m : Manifest) (p : Part) → width ≡ m.width
-            → made ≡ width_made kind m → IsSource kind m self.now p → IsRead kind m p result }
+            → rows.old.width ≡ width_made kind m → IsSource kind m self.now p
+            → IsRead kind m p rows.old rows.new result }
     {
         match &self.held {
-            FrozenPart::Sealed(part) => sum_segment(alloc, part.value(), made, faults),
-            FrozenPart::Rolled(part) => sum_file(alloc, part.value(), width, made, faults),
-            FrozenPart::Wide(part) => sum_file(alloc, part.value(), width, made, faults),
+            FrozenPart::Sealed(part) => add_segment(alloc, part.value(), rows, faults),
+            FrozenPart::Rolled(part) => add_file(alloc, part.value(), width, rows, faults),
+            FrozenPart::Wide(part) => add_file(alloc, part.value(), width, rows, faults),
         }
     }
 

@@ -175,8 +175,8 @@ impl<D: Disk> Archive<D> {
     }
 }
 
-/// Reads the next source of a job, and merges its sums into those of the job. A refusal changes nothing. It takes
-/// memory for the sums of both, besides what the reading takes.
+/// Reads the next source of a job, and adds what it holds to the sums of the job. A refusal changes nothing. Beside what
+/// the reading takes, it takes memory for a change of each key of the job that a segment has too, and for new keys.
 fn take_source<S: SealedFile>(
     alloc: Global,
     job: &mut RunningJob<S>,
@@ -198,9 +198,8 @@ fn take_source<S: SealedFile>(
         → IsJobSum job.old.kind m parts job.old.rows → IsJobTime job.old.kind parts job.old.time
         → IsTakenIn job.old.kind m (parts ++ p ∷ []) result job.new }
 {
-    let read = source.summed(alloc, width, job.rows.width(), faults)?;
-    job.rows.merge(&read.rows)?;
-    job.time = job.time.max(read.time);
+    let time = source.add_to(alloc, width, &mut job.rows, faults)?;
+    job.time = job.time.max(time);
     job.read += 1;
     Ok(())
 }

@@ -1,6 +1,6 @@
 //! What a job reads of one source.
 
-ghost use Rattle.std.specs.Prelude.{◌≡◌, ◌<◌, ◌^◌, IsTrue, IfOk, MatchResult};
+ghost use Rattle.std.specs.Prelude.{◌≡◌, ◌<◌, IsTrue, IfOk, OnErr, MatchResult};
 ghost use Rattle.flow_disk.specs.Cause.{HasCause};
 ghost use Rattle.flow_manifest.specs.declared.manifest.Entry.{Entry};
 ghost use Rattle.flow_measure.specs.History.{flows_in};
@@ -15,16 +15,18 @@ ghost use Rattle.flow_model.specs.Chain.{IsSegment};
 ghost use Rattle.flow_model.specs.Standing.{IsSealedAt};
 ghost use Rattle.flow_archive.specs.Sources.{of_disk, of_part, of_rows, of_scan, of_source, of_sums, IsSummed};
 ghost use Rattle.flow_archive.specs.Sources.{IsFileRefusal, IsFileSum, IsSegmentRefusal, IsSegmentSum};
+ghost use Rattle.flow_archive.specs.Sources.{IsMerged, IsNotTakenUp, IsTakenUp};
 
 use crate::refusal::ArchiveError;
 use flow_disk::{DiskError, Faults, SealedFile};
 use flow_gate::ScanError;
-use flow_measure::{Rows, SumError};
+use flow_measure::{Rows, SumError, Trial};
 use flow_rolled::{RolledPart, RowSumError, sum_rows};
-use flow_segment::{PartSumError, SealedPart, add_flows, templates_of};
+use flow_segment::{Adding, PartSumError, SealedPart, add_flows, templates_of};
 use std::alloc::Global;
+use std::mem::replace;
 
-/// What is read of one source.
+/// What is read of a rolled file.
 #[derive(Drop)]
 pub(crate) struct Source {
     /// Its sums.
@@ -120,39 +122,55 @@ impl From<SumError> for SourceError {
     }
 }
 
-/// The sums of a sealed segment's flows over intervals of `width` seconds. Its file is read once, a piece at a time.
-pub(crate) fn sum_segment<S: SealedFile>(
+/// Adds the flows of a sealed segment to sums, and answers the greatest Export Time of its messages, in seconds since
+/// 1970-01-01 00:00 UTC. Its file is read once, a piece at a time. A refusal leaves the sums as they were.
+pub(crate) fn add_segment<S: SealedFile>(
     alloc: Global,
     part: &SealedPart<S>,
-    width: u32,
+    rows: &mut Rows,
     faults: &mut Faults<S>,
-) -> Result<Source, SourceError>
-    requires { 0 < width }
-    ensures width { IfOk result (λ source. source.rows.width ≡ width) }
+) -> Result<u32, SourceError>
+    ensures kept { OnErr result (rows.new ≡ rows.old) }
+    ensures width { rows.new.width ≡ rows.old.width }
     ensures cause { HasCause SourceError.Fault faults.old faults.new result }
-    // On an honest disk, damaged or not: the sums of a segment that was read whole; or why it has none.
+    // On an honest disk, damaged or not: the flows of a segment that was read whole are added; or why they aren't.
     ensures found { IsTrue (S.honest part.now.reader) → MatchResult result
-        (IsSegmentSum width (part_octets 0 part.now.prefix (S.octets part.now.reader))
+        (IsTakenUp (IsSegmentSum rows.old.width (part_octets 0 part.now.prefix (S.octets part.now.reader))
+        (part_octets part.now.prefix part.now.length (S.octets part.now.reader)) part.now.messages) rows.old rows.new)
+        (IsNotTakenUp (IsSegmentSum rows.old.width (part_octets 0 part.now.prefix (S.octets part.now.reader))
         (part_octets part.now.prefix part.now.length (S.octets part.now.reader)) part.now.messages)
         (IsSegmentRefusal (part_octets 0 part.now.prefix (S.octets part.now.reader))
         (part_octets part.now.prefix part.now.length (S.octets part.now.reader)) (S.number part.now.reader)
-        part.now.prefix part.now.length part.now.messages) }
-    // On an honest disk: where the file holds a segment of accepted messages, the sums are those of its flows, and the
-    // greatest Export Time is that of its messages.
+        part.now.prefix part.now.length part.now.messages) rows.old) }
+    // On an honest disk: where the file holds a segment of accepted messages, its flows are added, and the greatest
+    // Export Time is that of its messages.
     ensures given { IsTrue (S.honest part.now.reader) → (entry : Entry) (p : Part) (carry : Carry)
         → part.now.prefix ≡ entry.prefix → part.now.length ≡ entry.length → part.now.messages ≡ entry.messages
-        → entry.messages < 2 ^ 48 → IsSealedAt (S.octets part.now.reader) entry p → (segment : IsSegment p carry)
-        → IsSummed (table_of width (flows_in segment.messages)) (greatest_time segment.messages) result }
+        → IsSealedAt (S.octets part.now.reader) entry p → (segment : IsSegment p carry)
+        → IsMerged (table_of rows.old.width (flows_in segment.messages)) (greatest_time segment.messages) rows.old
+        rows.new result }
 {
     let mut templates = templates_of(alloc, part, faults)?;
-    let mut rows = Rows::new(alloc, width);
-    let time = add_flows(alloc, part, &mut templates, &mut rows, faults)?;
-    Ok(Source { rows, time })
+    let none = Rows::new(alloc, rows.width());
+    let mut adding = Adding {
+        rows: Trial::new(alloc, replace(rows, none)),
+        spent: false,
+    };
+    match add_flows(alloc, part, &mut templates, &mut adding, faults) {
+        Ok(time) => {
+            *rows = adding.rows.keep();
+            Ok(time)
+        }
+        Err(error) => {
+            *rows = adding.rows.take_back();
+            Err(SourceError::from(error))
+        }
+    }
 }
 
 /// The sums of a rolled file, which was rolled by `width`, over intervals of `wide`, both in seconds. It is read once,
 /// a piece at a time.
-pub(crate) fn sum_file<S: SealedFile>(
+fn sum_file<S: SealedFile>(
     alloc: Global,
     part: &RolledPart<S>,
     width: u32,
@@ -174,4 +192,32 @@ pub(crate) fn sum_file<S: SealedFile>(
     let mut rows = Rows::new(alloc, wide);
     sum_rows(alloc, faults, part, width, &mut rows)?;
     Ok(Source { rows, time })
+}
+
+/// Adds the sums of a rolled file, which was rolled by `width` in seconds, to sums of the same or another width, and
+/// answers its greatest Export Time, in seconds since 1970-01-01 00:00 UTC. It is read once, a piece at a time. A
+/// refusal leaves the sums as they were.
+pub(crate) fn add_file<S: SealedFile>(
+    alloc: Global,
+    part: &RolledPart<S>,
+    width: u32,
+    rows: &mut Rows,
+    faults: &mut Faults<S>,
+) -> Result<u32, SourceError>
+    requires { 0 < width }
+    ensures kept { OnErr result (rows.new ≡ rows.old) }
+    ensures width { rows.new.width ≡ rows.old.width }
+    ensures cause { HasCause SourceError.Fault faults.old faults.new result }
+    // On an honest disk, damaged or not: the sums of a file that was read whole are added; or why they aren't.
+    ensures found { IsTrue part.now.honest → MatchResult result
+        (IsTakenUp (IsFileSum width rows.old.width part.now.octets) rows.old rows.new)
+        (IsNotTakenUp (IsFileSum width rows.old.width part.now.octets)
+        (IsFileRefusal width rows.old.width part.now.octets) rows.old) }
+    // On an honest disk: of the rolled file of a table, that table's sums are added.
+    ensures given { IsTrue part.now.honest → (table : Table) → IsRollup width part.now.octets table
+        → IsMerged (widened rows.old.width table) (export_time part.now.octets) rows.old rows.new result }
+{
+    let source = sum_file(alloc, part, width, rows.width(), faults)?;
+    rows.merge(&source.rows)?;
+    Ok(source.time)
 }

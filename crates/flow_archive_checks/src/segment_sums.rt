@@ -5,9 +5,10 @@ use crate::segments::{FILE, FLOW, FLOW_ALONE, THE_FLOW, part_of};
 use flow_codec::Templates;
 use flow_disk::Faults;
 use flow_gate::ScanError;
-use flow_measure::{Flow, Key, Row, Rows, Sums};
-use flow_segment::{PartSumError, SealedPart, add_flows, collect_flows, few_messages_fit};
+use flow_measure::{Flow, Key, Row, Rows, Sums, Trial};
+use flow_segment::{Adding, PartSumError, SealedPart, add_flows, collect_flows, few_messages_fit};
 use std::alloc::{AllocError, Global};
+use std::mem::replace;
 use std::test::Fail;
 
 /// An octet after the end of each file here.
@@ -36,15 +37,29 @@ fn part(
     Ok(part_of(held, 0, messages))
 }
 
-/// Adds the flows of a segment, and answers the greatest Export Time. It promises nothing, so that what is built of it
-/// is proved without all that sums promise.
+/// Adds the flows of a segment on trial, and answers the greatest Export Time. It promises nothing, so that what is
+/// built of it is proved without all that sums promise.
 fn sum(
     alloc: Global,
     part: &SealedPart<Held>,
     templates: &mut Templates,
     rows: &mut Rows,
 ) -> Result<u32, PartSumError> {
-    add_flows(alloc, part, templates, rows, &mut Faults::new())
+    let none = Rows::new(alloc, rows.width());
+    let mut adding = Adding {
+        rows: Trial::new(alloc, replace(rows, none)),
+        spent: false,
+    };
+    match add_flows(alloc, part, templates, &mut adding, &mut Faults::new()) {
+        Ok(time) => {
+            *rows = adding.rows.keep();
+            Ok(time)
+        }
+        Err(error) => {
+            *rows = adding.rows.take_back();
+            Err(error)
+        }
+    }
 }
 
 /// The row of so many flows like that of the message.
@@ -129,7 +144,7 @@ fn answer(alloc: Global, octets: &[u8], messages: u64, bad: u64) -> Result<u32, 
     )
 }
 
-/// Whether the message is refused that is added to as many flows as fit, and no row is left.
+/// Whether the message is refused that is added to as many flows as fit, and these are left.
 fn is_spent(alloc: Global) -> Result<bool, Fail> {
     let mut rows = Rows::new(alloc, 300);
     let key = Key {
@@ -145,7 +160,8 @@ fn is_spent(alloc: Global) -> Result<bool, Fail> {
     rows.put(key, sums)?;
     let part = part(alloc, &FLOW, 1, NEVER)?;
     let answer = sum(alloc, &part, &mut Templates::new(alloc), &mut rows);
-    Ok(answer == Err(PartSumError::SumSpent) && rows.entries()?.is_empty())
+    let left = rows.entries()?;
+    Ok(answer == Err(PartSumError::SumSpent) && left.as_slice() == [(key, sums)].as_slice())
 }
 
 #[test]

@@ -18,9 +18,13 @@ impl RecordSink for Count {
 
     type Error = Infallible;
 
+    type Kept = ();
+
     ghost holds = { λ s taken t. t.records % 2 ^ 32 ≡ (s.records + length taken) % 2 ^ 32 };
 
     ghost refuses = { λ _ _ _ _. ⊥ };
+
+    ghost kept = { λ _. tt };
 
     fn record(
         &mut self,

@@ -93,9 +93,13 @@ impl RecordSink for Records {
 
     type Error = AllocError;
 
+    type Kept = ();
+
     ghost holds = { λ s taken t. t.records.items ≡ s.records.items ++ map (λ x. interpreted x.1) taken };
 
     ghost refuses = { λ _ _ _ _. Unit {0} };
+
+    ghost kept = { λ _. tt };
 
     fn record(
         &mut self,

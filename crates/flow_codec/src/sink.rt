@@ -1,6 +1,6 @@
 //! Sinks, which take a message's data records.
 
-ghost use Rattle.std.specs.Prelude.{◌++◌, ◌∷◌, [], List, OnOk, IfErr};
+ghost use Rattle.std.specs.Prelude.{◌≡◌, ◌++◌, ◌∷◌, [], List, OnOk, IfErr};
 ghost use Rattle.flow_codec.specs.Raw.{Placed, RawRecord, raw, IsWhole};
 
 use crate::error::MessageError;
@@ -13,13 +13,19 @@ pub trait RecordSink {
     /// Why a sink refuses a record.
     type Error;
 
+    /// What a sink has that no record changes.
+    type Kept;
+
     // From the first state on, the sink has taken these records, and is now in the second.
     ghost holds: { Self → List Placed → Self → Type 0 };
 
     // From that state on, after these records, this record is refused with this error.
     ghost refuses: { Self → List Placed → Placed → Self.Error → Type 0 };
 
-    /// Takes a whole record of a message with this header. After an `Err` the sink is of no use.
+    // What no record changes, whether it is taken or refused.
+    ghost kept: { Self → Self.Kept };
+
+    /// Takes a whole record of a message with this header. After an `Err` the sink is of no use, but for what it keeps.
     fn record(
         &mut self,
         header: &Header,
@@ -31,7 +37,8 @@ pub trait RecordSink {
         ensures taken { OnOk result ((start : Self) (taken : List Placed) → holds start taken self.old
             → holds start (taken ++ (header.now, raw id definition.now octets.now) ∷ []) self.new) }
         ensures refused { IfErr result (λ e. (start : Self) (taken : List Placed) → holds start taken self.old
-            → refuses start taken (header.now, raw id definition.now octets.now) e) };
+            → refuses start taken (header.now, raw id definition.now octets.now) e) }
+        ensures kept { kept self.new ≡ kept self.old };
 }
 
 /// Why a walk over a message stopped.

@@ -135,10 +135,11 @@ fn records_of<S: RecordSink>(
     sink: &mut S,
 ) -> Result<(), WalkError<S::Error>>
     requires { length octets.now ≤ end }
-    ensures { FeedsAlone (λ records. Took S.holds header.now sink.old records sink.new
+    ensures exact { FeedsAlone (λ records. Took S.holds header.now sink.old records sink.new
         × (length records ≤ length octets.now))
         (IsRefused S.holds S.refuses header.now sink.old (length octets.now)) result
         (records_of end id definition.now octets.now) }
+    ensures kept { S.kept sink.new ≡ S.kept sink.old }
 {
     let smallest = definition.plan().smallest;
     if smallest == 0 {
@@ -194,6 +195,7 @@ fn content_of<S: RecordSink>(
         × (length records ≤ length octets.now)) (IsRefused S.holds S.refuses header.now sink.old (length octets.now))
         (λ _. current header.now.domain before.now changed.new) result
         (content_at end header.now.domain id (current header.now.domain before.now changed.old) octets.now) }
+    ensures kept { S.kept sink.new ≡ S.kept sink.old }
 {
     if let Some(kind) = kind_of(id) {
         let replaced = templates_of(
@@ -260,6 +262,7 @@ fn sets_of<S: RecordSink>(
         (λ _. current header.now.domain before.now changed.new) result
         (sets_at (length octets.now) end header.now.domain
         (current header.now.domain before.now changed.old) octets.now) }
+    ensures kept { S.kept sink.new ≡ S.kept sink.old }
 {
     let here = before.here(header.domain);
     let mut unread = UnreadSets { sets: 0, octets: 0 };
@@ -334,6 +337,7 @@ fn divided<S: RecordSink>(
     ensures exact { IsWalked S.holds (λ header. IsRefused S.holds S.refuses header sink.old (length octets.now))
         (λ w. (w.header, current w.header.domain templates.now changed.new)) sink.old sink.new result
         (message_at templates.now octets.now) }
+    ensures kept { S.kept sink.new ≡ S.kept sink.old }
 {
     let (header, rest) = header_of(octets)?;
     let (unread, replaced) = sets_of(alloc, octets.len(), templates, &header, changed, rest, sink)?;
@@ -356,6 +360,7 @@ fn message_of<S: RecordSink>(
     ensures exact { IsWalked S.holds (λ header. IsRefused S.holds S.refuses header sink.old (length octets.now))
         (λ w. (w.header, templates.new)) sink.old sink.new result (message_at templates.old octets.now) }
     ensures err { OnErr result (templates.new ≡ templates.old) }
+    ensures kept { S.kept sink.new ≡ S.kept sink.old }
 {
     templates.are_in_force();
     let mut changed = None;
@@ -386,6 +391,8 @@ pub fn walk_message<S: RecordSink>(
     // Other octets are refused by their first fault, or by the sink before it.
     ensures fault { IfErr result (λ e. IsStopped S.holds S.refuses octets.now templates.old sink.old e) }
     ensures err { OnErr result (templates.new ≡ templates.old) }
+    // What the sink keeps is as it was, whatever is answered.
+    ensures kept { S.kept sink.new ≡ S.kept sink.old }
 {
     match walk_sets(templates, alloc, octets, sink) {
         Ok(walked) => Ok(walked.header),
@@ -408,6 +415,8 @@ pub fn walk_sets<S: RecordSink>(
         (header_in result) m after }
     ensures fault { IfErr result (λ e. IsStopped S.holds S.refuses octets.now templates.old sink.old e) }
     ensures err { OnErr result (templates.new ≡ templates.old) }
+    // What the sink keeps is as it was, whatever is answered.
+    ensures kept { S.kept sink.new ≡ S.kept sink.old }
     // These are the data Sets without a definition in force, each under the templates of the Sets before it.
     ensures unread { IfOk result (λ w. w.unread ≡ counted (unread_of templates.old octets.now)) }
     // So many template records define an ID otherwise than the definition in force before them.

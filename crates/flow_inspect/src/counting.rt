@@ -39,9 +39,13 @@ impl RecordSink for RecordCounts {
 
     type Error = Infallible;
 
+    type Kept = ();
+
     ghost holds = { λ start taken now. HasCounted start taken now };
 
     ghost refuses = { λ _ _ _ _. ⊥ };
+
+    ghost kept = { λ _. tt };
 
     fn record(
         &mut self,

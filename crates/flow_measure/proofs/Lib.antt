@@ -7,6 +7,7 @@ pub mod Interleaving
 pub mod Intervals
 pub mod Keys
 pub mod Merging
+pub mod Noting
 pub mod NumberPlaces
 pub mod Places
 pub mod Putting

@@ -1,6 +1,6 @@
 -- A sum put in its place in rows.
 use Rattle.std.proofs.Common.{◌≡◌, ℕ, ◌<◌, cond, [], ◌∷◌, ◌++◌, Some, None, refl, sym, ap, subst, ◌∙◌, arith}
-use Rattle.std.specs.Prelude.{IfErr, IsErrAnd, IfSome, Option, Result, Ok, Err}
+use Rattle.std.specs.Prelude.{MatchResult, OnErr, IfErr, IsErrAnd, IfSome, Option, Result, Ok, Err}
 use Rattle.std.specs.FinMap.{FinMap, entries, get, insert}
 use Rattle.flow_measure.specs.declared.error.SumError.{SumError}
 use Rattle.flow_measure.specs.declared.error.SumError.TheVariants.{SumSpent, OutOfMemory}
@@ -97,6 +97,34 @@ module _ {X : Type 0} where
   gives_flow r w m n f v is well h =
       subst (λ u. Becomes r (with_flow f u) u (table w n)) is
       (gives r w m n (key_of w f) (counted f) (table w m) refl well h)
+
+  -- what is true of rows stays true once sums were added, or refused
+  pub stays_well : (r : Result X SumError) (w : ℕ) (m n : FinMap key_cmp Sums) (k : Key) (s : Sums) → IsKeyBy w k
+      → (get m k ≡ None → 0 < s.flows) → AreWell w m
+      → MatchResult r (λ _. Fits (added_to (get m k) s) × (n ≡ insert m k (added_to (get m k) s)))
+      (λ e. IsRefused e (with_sums k s (table 0 m))) → OnErr r (n ≡ m) → AreWell w n
+  stays_well (Ok x) w m n k s is_key first well h same =
+      well_put w m n k (added_to (get m k) s) h.1 is_key (counts_more (get m k) s (IsKeyBy w k) first (well.1 k)) h.0
+      well
+  stays_well (Err e) w m n k s is_key first well h same = subst (AreWell w) (sym same) well
+
+  -- the table becomes that with the sums, or stays as it was
+  pub becomes_so : (r : Result X SumError) (w : ℕ) (m n : FinMap key_cmp Sums) (k : Key) (s : Sums) (v : Table)
+      → table w m ≡ v → AreWell w m
+      → MatchResult r (λ _. Fits (added_to (get m k) s) × (n ≡ insert m k (added_to (get m k) s)))
+      (λ e. IsRefused e (with_sums k s (table 0 m))) → OnErr r (n ≡ m) → Becomes r (with_sums k s v) v (table w n)
+  becomes_so (Ok x) w m n k s v is well h same =
+      became w m n k s (added_to (get m k) s) v is h.1 (sum_is (get m k) s) h.0 well.2
+  becomes_so (Err SumSpent) w m n k s v is well h same =
+      (subst (λ u. AllFit (with_sums k s u) → ⊥) is h, ap (table w) same ∙ is)
+  becomes_so (Err OutOfMemory) w m n k s v is well h same = (tt, ap (table w) same ∙ is)
+
+  -- a refusal, less exactly
+  pub judged : (r : Result X SumError) (m n : FinMap key_cmp Sums) (k : Key) (s : Sums) → Adds r k s m n
+      → MatchResult r (λ _. Fits (added_to (get m k) s) × (n ≡ insert m k (added_to (get m k) s)))
+      (λ e. IsRefused e (with_sums k s (table 0 m)))
+  judged (Ok x) m n k s h = h
+  judged (Err e) m n k s h = not_added X e 0 m n k s h
 
   -- memory is wanted for a new key alone
   pub wants_room : (r : Result X SumError) (m n : FinMap key_cmp Sums) (k : Key) (s : Sums) → Adds r k s m n

@@ -1,6 +1,6 @@
 -- Sums by key as a list, in the order in which their keys came.
 use Rattle.std.specs.Prelude.{◌≡◌, ℕ, suc, List, [], ◌∷◌, Option, Some, None, option_map, if◌then◌else◌, Result}
-use Rattle.std.specs.Prelude.{Ok, Err}
+use Rattle.std.specs.Prelude.{Ok, Err, Bool, false, ◌==◌, ◌||◌}
 use Rattle.std.specs.Prelude.{slice_index_or, slice_set, take, length, ◌-◌}
 use Rattle.std.specs.FinMap.{FinMap, from_entries, get, insert}
 use Rattle.std.specs.Coded.{Coded, coded×, coded_list}
@@ -60,6 +60,12 @@ undone (Added place sums) es = with_sums_at place sums es
 unfoldable pub all_undone : List Change → List (Key × Sums) → List (Key × Sums)
 all_undone [] es = es
 all_undone (c ∷ cs) es = undone c (all_undone cs es)
+
+-- whether the changes have one of this place
+unfoldable pub is_noted : ℕ → List Change → Bool
+is_noted place [] = false
+is_noted place (Pushed ∷ cs) = is_noted place cs
+is_noted place (Added here sums ∷ cs) = here == place || is_noted place cs
 
 -- a key with the sums at its place
 unfoldable pub resolved : List (Key × Sums) → Key × ℕ → Key × Sums

@@ -1,10 +1,10 @@
 //! Sums by key, in the order in which their keys came, and the place of each key.
 
 ghost use Rattle.std.specs.Prelude.{◌<◌, ◌≡◌, ◌++◌, ◌∷◌, [], List, None, Some, slice_get, IfOk, OnOk, OnErr};
-ghost use Rattle.std.specs.Prelude.{ℕ, MatchResult};
+ghost use Rattle.std.specs.Prelude.{ℕ, MatchResult, true};
 ghost use Rattle.std.specs.FinMap.{entries, get, insert};
 ghost use Rattle.flow_measure.specs.Entries.{place_of, map_of, added_to, table_at, Adds, AreOnce};
-ghost use Rattle.flow_measure.specs.Entries.{with_sums_at, without_last, undone, all_undone};
+ghost use Rattle.flow_measure.specs.Entries.{with_sums_at, without_last, undone, all_undone, is_noted};
 ghost use Rattle.flow_measure.specs.Sums.{Fits, AllFit, IsRefused, Becomes, merged, with_sums};
 ghost use Rattle.flow_measure.specs.declared.entries.Change.TheVariants as Change;
 
@@ -30,7 +30,7 @@ pub(crate) struct Entries {
 
 /// How the sums under a key were changed, so that it can be taken back.
 #[derive(Clone, Copy)]
-enum Change {
+pub(crate) enum Change {
     /// A new key came, at the place after all others.
     Pushed,
     /// Sums were added at this place, where the sums were these.
@@ -174,7 +174,7 @@ impl Entries {
     }
 
     /// Takes all changes back, the last one first.
-    fn undo_all(&mut self, changes: Vec<Change>)
+    pub(crate) fn undo_all(&mut self, changes: Vec<Change>)
         ensures { self.new ≡ all_undone changes.items self.old }
     {
         let mut changes = changes;
@@ -202,16 +202,45 @@ impl Entries {
     }
 
     /// Adds sums under a key, and notes the change.
+    #[inline(never)]
     fn add_noted(&mut self, key: Key, sums: Sums, changes: &mut Vec<Change>) -> Result<(), SumError>
         ensures adds { MatchResult result (λ _. Fits (added_to (get (map_of self.old) key) sums)
             × (map_of self.new ≡ insert (map_of self.old) key (added_to (get (map_of self.old) key) sums)))
             (λ e. IsRefused e (with_sums key sums (table_at 0 self.old))) }
+        ensures err { OnErr result (map_of self.new ≡ map_of self.old) }
         ensures back { all_undone changes.new.items self.new ≡ all_undone changes.old.items self.old }
     {
         changes.reserve(1)?;
         let change = self.change(key, sums)?;
         changes.push(change).unwrap();
         Ok(())
+    }
+
+    /// Adds sums under a key. Where they are the first for this key since the changes began, it notes the change; `noted`
+    /// has for each place where its change may be.
+    #[inline(always)]
+    pub(crate) fn add_once(
+        &mut self,
+        key: Key,
+        sums: Sums,
+        changes: &mut Vec<Change>,
+        noted: &mut Vec<usize>,
+    ) -> Result<(), SumError>
+        ensures adds { MatchResult result (λ _. Fits (added_to (get (map_of self.old) key) sums)
+            × (map_of self.new ≡ insert (map_of self.old) key (added_to (get (map_of self.old) key) sums)))
+            (λ e. IsRefused e (with_sums key sums (table_at 0 self.old))) }
+        ensures err { OnErr result (map_of self.new ≡ map_of self.old) }
+        ensures back { all_undone changes.new.items self.new ≡ all_undone changes.old.items self.old }
+    {
+        let slot = recent_slot(&key);
+        if let Some(place) = self.find(self.recent[slot], key) {
+            self.recent[slot] = place;
+            if is_noted(noted.as_slice(), changes.as_slice(), place) {
+                return self.increase(place, key, sums);
+            }
+            note(noted, place, changes.len())?;
+        }
+        self.add_noted(key, sums, changes)
     }
 
     /// Adds the sums of others, key by key. Where one is refused, all that were added before it are taken back.
@@ -278,4 +307,26 @@ fn recent_slot(key: &Key) -> usize
         .wrapping_mul(257)
         .wrapping_add(protocol);
     (mixed.wrapping_mul(2654435769) >> 22) as usize
+}
+
+/// Whether the changes have one of this place.
+fn is_noted(noted: &[usize], changes: &[Change], place: usize) -> bool
+    ensures { result ≡ true → is_noted place changes.now ≡ true }
+{
+    let Some(at) = noted.get(place) else {
+        return false;
+    };
+    match changes.get(*at) {
+        Some(Change::Added(here, _)) => *here == place,
+        _ => false,
+    }
+}
+
+/// Notes where the change of a place will be.
+fn note(noted: &mut Vec<usize>, place: usize, at: usize) -> Result<(), AllocError> {
+    while noted.len() <= place {
+        noted.push(0)?;
+    }
+    noted[place] = at;
+    Ok(())
 }

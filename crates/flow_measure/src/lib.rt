@@ -7,6 +7,7 @@
 //! its type or no memory is left. Adding to a key that has sums takes no memory.
 #![tactic(auto)]
 
+mod adder;
 mod counts;
 mod entries;
 mod error;
@@ -15,12 +16,15 @@ mod flow;
 pub mod laws;
 mod rows;
 mod sinks;
+mod trial;
 mod walk;
 
+pub use adder::Adder;
 pub use counts::flow_of;
 pub use error::SumError;
 pub use fields::flows_of_message;
 pub use flow::{Flow, interval_of};
 pub use rows::{Key, Row, Rows, Sums};
 pub use sinks::{Flows, Totals};
+pub use trial::Trial;
 pub use walk::InOrder;

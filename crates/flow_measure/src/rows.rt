@@ -6,6 +6,7 @@ ghost use Rattle.std.specs.List.{AllByRecursion};
 ghost use Rattle.std.specs.Option.{SomeIff};
 ghost use Rattle.flow_measure.specs.Sums.{key_of, plus, Fits, empty_table, with_flow, with_sums, with_entries, merged};
 ghost use Rattle.flow_measure.specs.Sums.{widened, rows_between, AreSound, AreSums, AllFit, Becomes, IsRefused};
+ghost use Rattle.flow_measure.specs.Entries.{map_of, table_at};
 ghost use Rattle.flow_measure.specs.declared.flow.Flow.{Flow};
 
 use crate::entries::Entries;
@@ -98,6 +99,26 @@ impl Rows {
         ensures fit { AllFit self.now }
     {
         self.width
+    }
+
+    /// The width, and the sums by key.
+    pub(crate) fn into_parts(self) -> (u32, Entries)
+        ensures parts { table_at result.0 result.1 ≡ self }
+        ensures positive { 0 < result.0 }
+        ensures sound { AreSound result.0 (map_of result.1) }
+        ensures fit { AllFit (table_at result.0 result.1) }
+    {
+        (self.width, self.entries)
+    }
+
+    /// Rows of this width with these sums.
+    pub(crate) fn from_parts(width: u32, entries: Entries) -> Self
+        requires positive { 0 < width }
+        requires sound { AreSound width (map_of entries) }
+        requires fit { AllFit (table_at width entries) }
+        ensures { result ≡ table_at width entries }
+    {
+        Rows { width, entries }
     }
 
     /// Adds sums under a key. The first sums of a key have flows; those that are added to them may have none.

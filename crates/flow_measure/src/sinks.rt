@@ -34,9 +34,13 @@ impl RecordSink for Flows {
 
     type Error = AllocError;
 
+    type Kept = ();
+
     ghost holds = { λ start taken now. now.flows.items ≡ start.flows.items ++ flows_of_records taken };
 
     ghost refuses = { λ start taken x e. Unit {0} };
+
+    ghost kept = { λ _. tt };
 
     fn record(
         &mut self,
@@ -64,9 +68,13 @@ impl RecordSink for Totals {
 
     type Error = SumError;
 
+    type Kept = ();
+
     ghost holds = { λ start taken now. TookFlows start.rows taken now.rows };
 
     ghost refuses = { λ start taken x e. RefuseFlow start.rows taken x e };
+
+    ghost kept = { λ _. tt };
 
     fn record(
         &mut self,

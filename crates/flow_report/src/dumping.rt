@@ -65,9 +65,13 @@ impl RecordSink for HeldRecords {
 
     type Error = AllocError;
 
+    type Kept = ();
+
     ghost holds = { λ s taken t. HasTaken s taken t };
 
     ghost refuses = { λ _ _ _ _. Unit {0} };
+
+    ghost kept = { λ _. tt };
 
     fn record(
         &mut self,

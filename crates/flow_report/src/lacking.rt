@@ -23,10 +23,14 @@ impl RecordSink for CountedTotals {
 
     type Error = SumError;
 
+    type Kept = ();
+
     ghost holds = { λ start taken now. TookFlows start.totals.rows taken now.totals.rows
         × (now.records ≡ (start.records + length taken) % 2 ^ 32) };
 
     ghost refuses = { λ start taken x e. RefuseFlow start.totals.rows taken x e };
+
+    ghost kept = { λ _. tt };
 
     fn record(
         &mut self,

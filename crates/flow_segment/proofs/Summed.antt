@@ -55,24 +55,26 @@ found_is holds octets before after count old new messages are (ms, found, state,
 
 -- ---- sums
 
-abbrev pub Adds : Adding → List Placed → Adding → Type 0
-Adds start taken now = HasAdded start.rows taken now.rows now.spent
+abbrev pub Adds : {T : Type 0} → (T → Table) → Adding T → List Placed → Adding T → Type 0
+Adds table start taken now = HasAdded (table start.rows) taken (table now.rows) now.spent
 
-sums_of : (t first : Table) (records : List Placed) (now : Adding) → first ≡ t
-    → TookAll Adds (record { rows = first; spent = false }) records now → HasAdded t records now.rows now.spent
-sums_of t first records now is took =
-    let start : Adding = record { rows = first; spent = false } in
-    subst (λ (s : Table). HasAdded s records now.rows now.spent) is (took start [] (sym (with_nothing first), tt))
+nothing_added : (t : Table) (spent : Bool) → spent ≡ false → HasAdded t [] t spent
+nothing_added t false is = (sym (with_nothing t), tt)
+nothing_added t true is = absurd cc
+
+sums_of : {T : Type 0} (table : T → Table) (old now : Adding T) (records : List Placed) → old.spent ≡ false
+    → TookAll (Adds table) old records now → HasAdded (table old.rows) records (table now.rows) now.spent
+sums_of table old now records fresh took = took old [] (nothing_added (table old.rows) old.spent fresh)
 
 width_of : (t now : Table) (records : List Placed) (spent : Bool) → spent ≡ false → HasAdded t records now spent
     → now.width ≡ t.width
 width_of t now records false is h = ap (λ (s : Table). s.width) h.0
 width_of t now records true is h = absurd cc
 
-pub width_kept : (t first : Table) (records : List Placed) (now : Adding) → first ≡ t
-    → TookAll Adds (record { rows = first; spent = false }) records now → now.spent ≡ false → now.rows.width ≡ t.width
-width_kept t first records now is took going = width_of t now.rows records now.spent going
-    (sums_of t first records now is took)
+pub width_kept : {T : Type 0} (table : T → Table) (old now : Adding T) (records : List Placed) → old.spent ≡ false
+    → TookAll (Adds table) old records now → now.spent ≡ false → (table now.rows).width ≡ (table old.rows).width
+width_kept table old now records fresh took going =
+    width_of (table old.rows) (table now.rows) records now.spent going (sums_of table old now records fresh took)
 
 by_flows : (t now : Table) (messages : List Accepted) (spent : Bool) → spent ≡ false
     → HasAdded t (records_in messages) now spent
@@ -92,23 +94,23 @@ too_much t now messages true is h =
     )
 too_much t now messages false is h = absurd cc
 
-module _ (octets : List ℕ) (before after : AllTemplates) (count : ℕ) (t first : Table) (now : Adding) (is : first ≡ t)
-    (found : IsFound Adds octets before count after (record { rows = first; spent = false }) now)
+module _ {T : Type 0} (table : T → Table) (octets : List ℕ) (before after : AllTemplates) (count : ℕ)
+    (old now : Adding T) (fresh : old.spent ≡ false) (found : IsFound (Adds table) octets before count after old now)
     (messages : List Accepted) (are : ArePartMessages octets before count messages) where
   pub added : now.spent ≡ false → (after ≡ templates_from before messages)
-      × (now.rows ≡ with_flows (flows_in messages) t) × AllByRecursion FlowFits (flows_in messages)
+      × (table now.rows ≡ with_flows (flows_in messages) (table old.rows)) × AllByRecursion FlowFits (flows_in messages)
   added going =
-      let start : Adding = record { rows = first; spent = false } in
-      let x = found_is Adds octets before after count start now messages are found in
-      let y = by_flows t now.rows messages now.spent going (sums_of t first (records_in messages) now is x.1) in
+      let x = found_is (Adds table) octets before after count old now messages are found in
+      let y = by_flows (table old.rows) (table now.rows) messages now.spent going
+      (sums_of table old now (records_in messages) fresh x.1) in
       (x.0, y.0, y.1)
 
   pub spent : now.spent ≡ true
-      → (AllFit (with_flows (flows_in messages) t) → ⊥) × AllByRecursion FlowFits (flows_in messages)
+      → (AllFit (with_flows (flows_in messages) (table old.rows)) → ⊥) × AllByRecursion FlowFits (flows_in messages)
   spent stopped =
-      let start : Adding = record { rows = first; spent = false } in
-      let x = found_is Adds octets before after count start now messages are found in
-      too_much t now.rows messages now.spent stopped (sums_of t first (records_in messages) now is x.1)
+      let x = found_is (Adds table) octets before after count old now messages are found in
+      too_much (table old.rows) (table now.rows) messages now.spent stopped
+      (sums_of table old now (records_in messages) fresh x.1)
 
 -- no damage is reported where messages fill a part
 pub not_damaged : (octets : List ℕ) (before : AllTemplates) (number start end count : ℕ) (messages : List Accepted)

@@ -1,10 +1,9 @@
 //! The flows of a sealed segment, and their sums.
 
-ghost use Rattle.std.specs.Prelude.{◌≡◌, ◌≤◌, List, [], IsTrue, IfOk, IfErr, OnOk, OnErr};
+ghost use Rattle.std.specs.Prelude.{◌≡◌, ◌≤◌, false, List, [], IsTrue, IfOk, IfErr, OnOk, OnErr};
 ghost use Rattle.flow_disk.specs.Cause.{HasCause};
 ghost use Rattle.flow_measure.specs.declared.flow.Flow.{Flow};
 ghost use Rattle.flow_measure.specs.History.{Accepted};
-ghost use Rattle.flow_measure.specs.Sums.{empty_table};
 ghost use Rattle.flow_segment.specs.PartFlows.{AreAdded, AreBehind, AreCollected, AreFlowsGiven, ArePartFlows};
 ghost use Rattle.flow_segment.specs.PartFlows.{ArePartMessages, greatest_time, HasMessages, IsDamage, IsNotAdded};
 ghost use Rattle.flow_segment.specs.PartFlows.{IsPartToldOf};
@@ -18,7 +17,7 @@ use crate::walking::walk_part;
 use flow_codec::Templates;
 use flow_disk::{Faults, SealedFile};
 use flow_gate::ScanError;
-use flow_measure::{Flow, Flows, Rows};
+use flow_measure::{Adder, Flow, Flows};
 use std::alloc::Global;
 use std::mem::replace;
 
@@ -28,21 +27,23 @@ use std::mem::replace;
 ///
 /// Where the octets are no accepted message it answers `Damaged`, with the file and the place; where there is another
 /// count of messages, with the file and its length; `SumSpent` where all messages are accepted and a sum would pass its
-/// type; `Fault` exactly where a read has raised `faults`; and `OutOfMemory`. After an `Err` the rows are empty, and
-/// the templates are those after some accepted messages.
+/// type; `Fault` exactly where a read has raised `faults`; and `OutOfMemory`. After an `Err` the rows have some of the
+/// flows: rows on trial can be taken back. The templates are then those after some accepted messages.
 ///
 /// It answers the greatest Export Time of the messages, in seconds since 1970-01-01 00:00 UTC, and 0 where there are
 /// none.
-pub fn add_flows<S: SealedFile>(
+pub fn add_flows<S: SealedFile, T: Adder>(
     alloc: Global,
     part: &SealedPart<S>,
     templates: &mut Templates,
-    rows: &mut Rows,
+    adding: &mut Adding<T>,
     faults: &mut Faults<S>,
 ) -> Result<u32, PartSumError>
+    requires { adding.old.spent ≡ false }
     // On every disk.
-    ensures width { rows.new.width ≡ rows.old.width }
-    ensures none { OnErr result (rows.new ≡ empty_table rows.old.width) }
+    ensures width { OnOk result ((T.table adding.new.rows).width ≡ (T.table adding.old.rows).width) }
+    ensures kept { T.kept adding.new.rows ≡ T.kept adding.old.rows }
+    ensures going { OnOk result (adding.new.spent ≡ false) }
     ensures templates { AreBehind templates.old templates.new }
     ensures cause { HasCause PartSumError.Fault faults.old faults.new result }
     // On an honest one: accepted messages fill the part; or why nothing is added.
@@ -55,21 +56,16 @@ pub fn add_flows<S: SealedFile>(
     // Where messages fill the part, their flows are added, unless a sum would pass its type.
     ensures given { IsTrue (S.honest part.now.reader) → (messages : List Accepted)
         → ArePartMessages (part_octets part.now.prefix part.now.length (S.octets part.now.reader)) templates.old
-        part.now.messages messages → AreAdded templates.old rows.old messages result templates.new rows.new }
+        part.now.messages messages → AreAdded templates.old (T.table adding.old.rows) messages result templates.new
+        (T.table adding.new.rows) }
     ensures time { IsTrue (S.honest part.now.reader) → (messages : List Accepted)
         → ArePartMessages (part_octets part.now.prefix part.now.length (S.octets part.now.reader)) templates.old
         part.now.messages messages → IfOk result (λ time. time ≡ greatest_time messages) }
 {
-    let none = Rows::new(alloc, rows.width());
-    let mut adding = Adding {
-        rows: replace(rows, none),
-        spent: false,
-    };
-    let time = walk_part(alloc, part, templates, &mut adding, faults)?;
+    let time = walk_part(alloc, part, templates, adding, faults)?;
     if adding.spent {
         return Err(PartSumError::SumSpent);
     }
-    *rows = adding.rows;
     Ok(time)
 }
 

@@ -27,9 +27,13 @@ impl RecordSink for Seen {
 
     type Error = Infallible;
 
+    type Kept = ();
+
     ghost holds = { λ start taken now. AreSeen start.any taken now.any };
 
     ghost refuses = { λ _ _ _ _. ⊥ };
+
+    ghost kept = { λ _. tt };
 
     fn record(
         &mut self,

@@ -3,26 +3,30 @@
 ghost use Rattle.std.specs.Prelude.{◌≡◌, nat_le, nat_lt, ◌&&◌};
 
 use flow_codec::{Definition, Header, RecordSink};
-use flow_measure::{Flow, Rows, SumError, flow_of};
+use flow_measure::{Adder, Flow, SumError, flow_of};
 use std::alloc::AllocError;
 
 /// Adds flows to rows, up to the first with which a sum would pass its type.
 #[derive(Drop)]
-pub struct Adding {
+pub struct Adding<T> {
     /// The sums, with the flows of the records taken.
-    pub rows: Rows,
+    pub rows: T,
     /// Whether a sum would pass its type.
     pub spent: bool,
 }
 
-impl RecordSink for Adding {
+impl<T: Adder> RecordSink for Adding<T> {
     ghost use Rattle.flow_segment.specs.PartFlows.{HasAdded};
 
     type Error = AllocError;
 
-    ghost holds = { λ start taken now. HasAdded start.rows taken now.rows now.spent };
+    type Kept = T::Kept;
+
+    ghost holds = { λ start taken now. HasAdded (T.table start.rows) taken (T.table now.rows) now.spent };
 
     ghost refuses = { λ _ _ _ _. Unit {0} };
+
+    ghost kept = { λ sink. T.kept sink.rows };
 
     fn record(
         &mut self,
@@ -38,7 +42,7 @@ impl RecordSink for Adding {
         if self.spent {
             return Ok(());
         }
-        match self.rows.add(&flow) {
+        match self.rows.add_flow(&flow) {
             Ok(()) => Ok(()),
             Err(SumError::SumSpent) => {
                 self.spent = true;
@@ -75,10 +79,14 @@ impl RecordSink for Chosen {
 
     type Error = AllocError;
 
+    type Kept = ();
+
     ghost holds = { λ start taken now. HasChosen start.from start.to start.flows.items taken now.from now.to
         now.flows.items };
 
     ghost refuses = { λ _ _ _ _. Unit {0} };
+
+    ghost kept = { λ _. tt };
 
     fn record(
         &mut self,

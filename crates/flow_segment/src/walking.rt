@@ -28,6 +28,7 @@ fn hand_over<R: RecordSink<Error = AllocError>>(
     ensures walked { IsWalkedInto (λ time m. Took R.holds m.header sink.old m.records sink.new
         × (time ≡ m.header.time)) file at octets.now templates.old templates.new result }
     ensures kept { OnErr result (templates.new ≡ templates.old) }
+    ensures same { R.kept sink.new ≡ R.kept sink.old }
 {
     match walk_message(templates, alloc, octets, sink) {
         Ok(header) => Ok(header.time),
@@ -66,6 +67,8 @@ pub(crate) fn walk_part<S: SealedFile, R: RecordSink<Error = AllocError>>(
     ensures time { IsTrue (S.honest part.now.reader) → (messages : List Accepted)
         → ArePartMessages (part_octets part.now.prefix part.now.length (S.octets part.now.reader)) templates.old
         part.now.messages messages → IfOk result (λ time. time ≡ greatest_time messages) }
+    // What the sink keeps is as it was, whatever is answered.
+    ensures same { R.kept sink.new ≡ R.kept sink.old }
 {
     let mut cursor = Cursor::new(alloc, part.prefix, part.length);
     let mut count = 0;

@@ -372,17 +372,17 @@ sums_err old rows Q before templates messages left part first r e p some is give
 
 -- ---- messages in memory
 
-abbrev pub adding_holds : Adding → List Placed → Adding → Type 0
+abbrev pub adding_holds : Adding Table → List Placed → Adding Table → Type 0
 adding_holds start taken now = HasAdded start.rows taken now.rows now.spent
 
-abbrev pub HasAddedFlows : Table → Adding → List Accepted → Type 0
+abbrev pub HasAddedFlows : Table → Adding Table → List Accepted → Type 0
 HasAddedFlows old sink messages = HasAdded old (records_in messages) sink.rows sink.spent
 
-pub nothing_added : (old : Table) (sink : Adding) → sink.rows ≡ old → sink.spent ≡ false → HasAddedFlows old sink []
+pub nothing_added : (old : Table) (sink : Adding Table) → sink.rows ≡ old → sink.spent ≡ false → HasAddedFlows old sink []
 nothing_added old sink rows spent =
     subst (λ (b : Bool). HasAdded old [] sink.rows b) (sym spent) (rows ∙ sym (with_nothing old), tt)
 
-pub adding_step : (old : Table) (before templates after : AllTemplates) (list : List Accepted) (sink new : Adding)
+pub adding_step : (old : Table) (before templates after : AllTemplates) (list : List Accepted) (sink new : Adding Table)
     (here : List ℕ) (left : List (List ℕ)) → AreAcceptedFrom before list
     → Taken (HasAddedFlows old sink) before list (here ∷ left) templates
     → ((a : Accepted) → a.octets ≡ here → IsAccepted here templates a.message a.after
@@ -397,7 +397,7 @@ adding_step old before templates after list sink new here left accepted t told =
         × (n.own ≡ a ∷ []) × ((after ≡ a.after) × Took adding_holds a.message.header sink a.message.records new)
         → Taken (HasAddedFlows old new) before list left after
     by (a, n, own, right) =
-        let start : Adding = record { rows = old; spent = false } in
+        let start : Adding Table = record { rows = old; spent = false } in
         let took = right.1 start (records_in n.front) n.has in
         let records : records_in n.front ++ under a.message.header a.message.records ≡ records_in (n.front ++ n.own) =
         ap (λ (rs : List Placed). records_in n.front ++ rs)
@@ -418,3 +418,15 @@ pub spent_all : (old now : Table) (messages : List Accepted) (spent : Bool) → 
 spent_all old now messages true is h fit =
     h.0 (subst (λ (fs : List Flow). AllFit (with_flows fs old)) (sym (flows_in_records messages)) fit)
 spent_all old now messages false is h fit = absurd cc
+
+-- ---- flows that aren't added
+
+-- they would pass their types, or a read failed, or memory ran out
+pub part_spent : (first : ℕ) (before after : AllTemplates) (old rows new : Table) (messages : List Accepted)
+    (e : PartSumError) → old ≡ rows → AreAdded {X = ℕ} before old messages (Err e) after new
+    → IsSpent first (AllFit (with_flows (flows_in messages) rows)) (told_of_part first e)
+part_spent first before after old rows new messages (part.Damaged file at) is never = absurd never
+part_spent first before after old rows new messages part.SumSpent is spent =
+    (refl, refl, subst (λ (t : Table). AllFit (with_flows (flows_in messages) t) → ⊥) is spent.0)
+part_spent first before after old rows new messages part.Fault is given = tt
+part_spent first before after old rows new messages part.OutOfMemory is given = tt

@@ -126,8 +126,16 @@ pub(crate) fn add_part<S: SealedFile>(
         (λ _. (templates.new ≡ templates_from templates.old messages)
         × (rows.new ≡ with_flows (flows_in messages) rows.old)) result }
 {
-    match add_flows(alloc, part, templates, rows, faults) {
-        Ok(_) => Ok(()),
+    let none = Rows::new(alloc, rows.width());
+    let mut adding = Adding {
+        rows: replace(rows, none),
+        spent: false,
+    };
+    match add_flows(alloc, part, templates, &mut adding, faults) {
+        Ok(_) => {
+            *rows = adding.rows;
+            Ok(())
+        }
         Err(error) => Err(told_of_part(error, first)),
     }
 }

@@ -18,6 +18,7 @@ sets-init g c = (
       (current c.args.header.now.domain c.args.before.now c.args.changed.now) c.args.octets.now refl refl,
   none_yet c.args.end c.args.header.now.domain (length c.args.octets.now) _
       (current c.args.header.now.domain c.args.before.now c.args.changed.now) c.args.octets.now refl refl,
+  refl,
 )
 
 pub returns-in_err-id-clause-exact : goal.returns-in_err-id-clause-exact
@@ -79,6 +80,7 @@ sets-preserved g c =
           c.in_ok-id.ensures.exact c.in_ok-id.ensures.len given.0
           (current c.args.header.now.domain c.args.before.now c.content_of.new.changed) given.1
           c.in_ok-is_unread.more c.in_ok-is_unread.ensures.replaced c.in_ok-is_unread.ensures.few,
+      c.content_of.ensures.kept ∙ c.sets.invariant.4,
     )
 
 pub returns-clause-exact : goal.returns-clause-exact

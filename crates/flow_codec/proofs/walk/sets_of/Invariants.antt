@@ -1,4 +1,4 @@
-use Rattle.std.proofs.Common.{length}
+use Rattle.std.proofs.Common.{◌≡◌, length}
 use Rattle.flow_codec.specs.Working.{current, AreChanges}
 use Rattle.flow_codec.specs.Reading.{sets_at}
 use Rattle.flow_codec.specs.Unread.{unread_at}
@@ -19,6 +19,7 @@ invariant-sets g l = AreChanges l.header.domain l.before l.changed
     × HasReplaced l.end l.header.domain (length l.octets)
     (replaced_at (length l.octets) l.end l.header.domain (current l.header.domain l.before l.initial.changed) l.octets)
     l.replaced (current l.header.domain l.before l.changed) l.rest
+    × (g.S.RecordSink.kept l.sink ≡ g.S.RecordSink.kept l.initial.sink)
 
 abbrev pub decreases-sets : goal.decreases-sets
 decreases-sets g l = length l.rest

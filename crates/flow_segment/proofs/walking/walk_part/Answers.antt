@@ -57,6 +57,7 @@ messages-preserved g c =
       ),
       behind_more c.args.templates.now c.messages.templates c.hand_over.new.templates c.message.result.now x.0
           c.messages.invariant.6 x.1,
+      c.in_ok-hand_over.ensures.same ∙ c.messages.invariant.7,
     )
 
 pub returns-in_err-hand_over-clause-templates : goal.returns-in_err-hand_over-clause-templates

@@ -12,7 +12,7 @@ invariant-messages g l =
     l.part.prefix l.part.length l.initial.templates l.templates l.cursor
     × (l.cursor.end ≡ l.part.length) × (l.cursor.place ≤ l.cursor.end) × (l.faults ≡ l.initial.faults)
     × (l.count ≤ l.cursor.place) × ((records : List Placed) × TookAll holds l.initial.sink records l.sink)
-    × AreBehind l.initial.templates l.templates
+    × AreBehind l.initial.templates l.templates × (g.R.RecordSink.kept l.sink ≡ g.R.RecordSink.kept l.initial.sink)
 
 abbrev pub decreases-messages : goal.decreases-messages
 decreases-messages g l = l.cursor.end - l.cursor.place
