@@ -55,30 +55,48 @@ class Edit:
         return bool(texts)
 
     def functions(self, folder):
-        """The functions that it changes, each as its module and name; none where a change is outside of functions."""
+        """The functions that it changes, each as its module, whose it is and its name; none where a change is outside of
+        functions."""
         found = set()
         for file, old, _ in self.pairs:
             with open(os.path.join(folder, file)) as text:
                 text = text.read()
             line = text.count("\n", 0, text.find(old) + len(old) - len(old.lstrip()))
-            inside = [name for name, first, last in functions_in(text) if first <= line <= last]
+            inside = [(owner, name) for owner, name, first, last in functions_in(text) if first <= line <= last]
             if not file.startswith("src/") or not inside:
                 return set()
-            found.add((file[len("src/") : -len(".rt")].replace("/", "::"), inside[-1]))
+            module = file[len("src/") : -len(".rt")].replace("/", "::")
+            found.add((module.removesuffix("::mod"), *inside[-1]))
         return found
 
 
 def functions_in(text):
-    """Each function of a text as its name, and its first and last line, counted from 0."""
-    lines, found = text.split("\n"), []
+    """Each function of a text: whose it is, its name, and its first and last line, counted from 0. Whose it is: the type
+    of the `impl` that it is in, with the trait's name after it where there is one; nothing for one in no `impl`."""
+    lines, found, owner = text.split("\n"), [], ""
     for first, line in enumerate(lines):
+        if line.startswith("impl"):
+            owner = owner_of(line)
+        elif line.startswith("}"):
+            owner = ""
         head = re.match(r"(\s*)(?:pub(?:\([a-z]+\))? )?(?:const )?fn (\w+)", line)
         if head:
             last = first
             while last + 1 < len(lines) and lines[last] not in (head[1] + "}", head[1] + "{}"):
                 last += 1
-            found.append((head[2], first, last))
+            found.append((owner if head[1] else "", head[2], first, last))
     return found
+
+
+def owner_of(head):
+    """The type of an `impl` by its first line, with the name of the trait after it where there is one."""
+    head, inner = head.removeprefix("impl").split("{")[0], re.compile(r"<[^<>]*>")
+    while inner.search(head):
+        head = inner.sub("", head)
+    trait, parted, of_it = head.partition(" for ")
+    names = [it.strip().split("::")[-1] for it in ((of_it, trait) if parted else (head,))]
+    # (a trait's name has its own types after it)
+    return "".join(re.sub(r"\W.*", "", it.removeprefix("&")) for it in names) + (r"\w*" if parted else "")
 
 
 def verdict(edit, places, said):
@@ -89,8 +107,10 @@ def verdict(edit, places, said):
     if not places:
         return (REFUSED, "alone") if "logic=not-proved" in lines else (PROVED, "")
     found = []
-    for module, name in places:
-        of_it = r"fn %s::%s::(?:\w+::)?%s: (.*)" % (edit.crate, module.removesuffix("::mod"), name)
+    for module, owner, name in places:
+        # (a method is named by its type's module, which needn't be that of the `impl`)
+        before = r"(?:\w+::)*%s" % owner if owner else module
+        of_it = r"fn %s::%s::%s: (.*)" % (edit.crate, before, name)
         own = [it[1] for it in map(re.compile(of_it).match, lines) if it]
         bad = [it for it in own if it != "proved"]
         if [it for it in bad if not BLOCKED.match(it)]:
@@ -106,7 +126,7 @@ def verdict(edit, places, said):
 
 
 def sets_of(edits, folder):
-    """Divides wrong bodies into sets with at most one of each name of a function in a module."""
+    """Divides wrong bodies into sets with at most one of each function."""
     sets = []
     for edit in edits:
         places = edit.functions(folder)
