@@ -10,8 +10,8 @@ top=$(cd -- "$(dirname -- "$(readlink -f -- "$0")")/.." && pwd)
 place=${TMPDIR:-/tmp}/flowvault_archive
 rt=${RT:-rt}
 mkdir -p "$place/crates/archive_bench/src"
-crates="flow_elements flow_disk flow_codec flow_measure flow_memory_disk flow_gate flow_manifest flow_segment
-    flow_rolled flow_model flow_snapshot flow_recover flow_archive"
+crates="flow_refusals flow_elements flow_disk flow_codec flow_measure flow_memory_disk flow_gate flow_manifest
+    flow_segment flow_rolled flow_model flow_snapshot flow_recover flow_archive"
 for crate in $crates; do
     cp -au "$top/crates/$crate" "$place/crates/"
 done

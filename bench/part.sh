@@ -10,7 +10,7 @@ times=${2:-300}
 place=${TMPDIR:-/tmp}/flowvault_part
 rt=${RT:-rt}
 mkdir -p "$place/crates/part_bench/src"
-crates="flow_elements flow_disk flow_codec flow_measure flow_memory_disk flow_gate flow_segment"
+crates="flow_refusals flow_elements flow_disk flow_codec flow_measure flow_memory_disk flow_gate flow_segment"
 for crate in $crates; do
     cp -au "$top/crates/$crate" "$place/crates/"
 done

@@ -19,8 +19,8 @@ use Rattle.flow_model.specs.Jobs.{width_made, AreRolledMessages, IsJobSum}
 use Rattle.flow_model.specs.Standing.{IsSealedAt}
 use Rattle.flow_model.specs.State.{Part}
 use Rattle.flow_model.proofs.Sourcing.{job_more}
-use Rattle.flow_archive.specs.declared.sources.SourceError.{SourceError}
-use Rattle.flow_archive.specs.declared.sources.SourceError.TheVariants.{Damaged, SumSpent, Fault, OutOfMemory}
+use Rattle.flow_refusals.specs.declared.sum_refusal.SumRefusal.{SumRefusal}
+use Rattle.flow_refusals.specs.declared.sum_refusal.SumRefusal.TheVariants.{Damaged, SumSpent, Fault, OutOfMemory}
 use Rattle.flow_archive.specs.Frozen.{Frozen}
 use Rattle.flow_archive.specs.Sources.{IsJobTime, IsMerged, IsRead, IsSource}
 use Rattle.flow_archive.specs.Advancing.{IsTakenIn}
@@ -29,7 +29,7 @@ use Rattle.flow_archive.specs.UnderWay.{RunningJob}
 -- ---- one source
 
 pub segment_read : (made : ℕ) (m : Manifest) (p : Part) (carry : Carry) (segment : IsSegment p carry) (old new : Table)
-    (r : Result ℕ SourceError) → made ≡ m.width
+    (r : Result ℕ SumRefusal) → made ≡ m.width
     → IsMerged (table_of made (flows_in segment.messages)) (greatest_time segment.messages) old new r
     → IsRead Roll m p old new r
 segment_read made m p carry segment old new r is added = (
@@ -44,7 +44,7 @@ segment_read made m p carry segment old new r is added = (
 one_time : (n : ℕ) → n ≡ fold max 0 (n ∷ [])
 one_time n = omega arith
 
-pub file_read : (made : ℕ) (m : Manifest) (p : Part) (octets : List ℕ) (table old new : Table) (r : Result ℕ SourceError)
+pub file_read : (made : ℕ) (m : Manifest) (p : Part) (octets : List ℕ) (table old new : Table) (r : Result ℕ SumRefusal)
     → made ≡ m.wide → octets ≡ p.front → IsRollup m.width p.front table
     → IsMerged (widened made table) (export_time octets) old new r → IsRead Merge m p old new r
 file_read made m p octets table old new r is here rollup added = (
@@ -56,7 +56,7 @@ file_read made m p octets table old new r is here rollup added = (
       (subst (λ (w : ℕ). IsMerged (widened w table) (export_time octets) old new r) is added),
 )
 
-pub sealed_read : (f : Frozen) (old new : Table) (r : Result ℕ SourceError) → f.entry.kind ≡ Sealed
+pub sealed_read : (f : Frozen) (old new : Table) (r : Result ℕ SumRefusal) → f.entry.kind ≡ Sealed
     → ((p : Part) (carry : Carry) → IsSealedAt f.octets f.entry p → (segment : IsSegment p carry)
     → IsMerged (table_of old.width (flows_in segment.messages)) (greatest_time segment.messages) old new r)
     → (kind : JobKind) (m : Manifest) (p : Part) → old.width ≡ width_made kind m → IsSource kind m f p
@@ -65,7 +65,7 @@ sealed_read f old new r sealed given Roll m p is (k, few, at, own) =
     segment_read old.width m p own.0 own.1 old new r is (given p own.0 at own.1)
 sealed_read f old new r sealed given Merge m p is (k, here, own) = let no = sym sealed ∙ k in absurd (cc)
 
-pub rolled_read : (f : Frozen) (width : ℕ) (old new : Table) (r : Result ℕ SourceError) → f.entry.kind ≡ Rolled
+pub rolled_read : (f : Frozen) (width : ℕ) (old new : Table) (r : Result ℕ SumRefusal) → f.entry.kind ≡ Rolled
     → ((table : Table) → IsRollup width f.octets table
     → IsMerged (widened old.width table) (export_time f.octets) old new r)
     → (kind : JobKind) (m : Manifest) (p : Part) → width ≡ m.width → old.width ≡ width_made kind m
@@ -114,9 +114,9 @@ time_more Merge ps p t u is same =
 
 module _ (kind : JobKind) (m : Manifest) (ps : List Part) (p : Part) (rows : Table) (before : ℕ)
     (sums : IsJobSum kind m ps rows) (times : IsJobTime kind ps before) where
-  pub not_taken : (after : Table) (new : RunningJob) (e : SourceError) → IsRead kind m p rows after (Err e)
+  pub not_taken : (after : Table) (new : RunningJob) (e : SumRefusal) → IsRead kind m p rows after (Err e)
       → IsTakenIn {X = Unit {0}} kind m (ps ++ p ∷ []) (Err e) new
-  not_taken after new (Damaged at) (one, time, source, its, never) = absurd never
+  not_taken after new (Damaged file at) (one, time, source, its, never) = absurd never
   not_taken after new SumSpent (one, time, source, its, spent) = (
     merged rows one,
     job_more kind m ps p rows one sums source,
@@ -133,13 +133,13 @@ module _ (kind : JobKind) (m : Manifest) (ps : List Part) (p : Part) (rows : Tab
         (time_more kind ps p before time times times_are),
   )
 
-pub source_err : {X : Type 0} (r : Result X SourceError) (e : SourceError) (P : Result X SourceError → Type 0)
+pub source_err : {X : Type 0} (r : Result X SumRefusal) (e : SumRefusal) (P : Result X SumRefusal → Type 0)
     → IsErrAnd r (λ x. x ≡ e) → P (Err e) → P r
 source_err (Ok x) e P is holds = absurd is
 source_err (Err x) e P is holds = subst (λ y. P (Err y)) (sym is) holds
 
 -- ---- what is taken, damaged or not
 
-pub refused_so : {X : Type 0} (r : Result X SourceError) (e : SourceError) → IsErrAnd r (λ x. x ≡ e) → r ≡ Err e
+pub refused_so : {X : Type 0} (r : Result X SumRefusal) (e : SumRefusal) → IsErrAnd r (λ x. x ≡ e) → r ≡ Err e
 refused_so (Ok x) e is = absurd is
 refused_so (Err x) e is = ap Err is

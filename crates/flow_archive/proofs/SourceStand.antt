@@ -27,8 +27,8 @@ use Rattle.flow_model.specs.Standing.{IsSealedAt, StandsAs}
 use Rattle.flow_model.proofs.Replacing.{are_sources}
 use Rattle.flow_archive.specs.Frozen.{counted_of, octets_in, AreHeldAs, Frozen, IsHeldAs}
 use Rattle.flow_archive.specs.declared.refusal.ArchiveError.TheVariants as refusal
-use Rattle.flow_archive.specs.declared.sources.SourceError.{SourceError}
-use Rattle.flow_archive.specs.declared.sources.SourceError.TheVariants as source
+use Rattle.flow_refusals.specs.declared.sum_refusal.SumRefusal.{SumRefusal}
+use Rattle.flow_refusals.specs.declared.sum_refusal.SumRefusal.TheVariants as source
 use Rattle.flow_archive.specs.Advancing.{IsTaken, IsTakenIn}
 use Rattle.flow_archive.specs.JobAnswers.{left_of, stepped, AnswersStep, HasJob, IsFirstFile, IsNextFile}
 use Rattle.flow_archive.specs.Seen.{IsArchive}
@@ -253,14 +253,14 @@ one_less s j new is lt (same, width) =
     )
 
 -- a refusal changes nothing
-pub not_stepped : (honest closed : Bool) (s after : State) (j new : RunningJob) (first number : ℕ) (e : SourceError)
+pub not_stepped : (honest closed : Bool) (s after : State) (j new : RunningJob) (first number : ℕ) (e : SumRefusal)
     → closed ≡ false → s.job ≡ job_in (Some j) → j.read < j.sources → after ≡ s
     → IsFirstFile s (record { kind = j.kind; sources = j.sources; read = j.read; staged = staged_in j.staged }) first
     → IsNextFile s (record { kind = j.kind; sources = j.sources; read = j.read; staged = staged_in j.staged }) number
     → (IsTrue honest → IsTakenIn {X = Unit {0}} j.kind s.manifest
     (take (j.read + 1) (source_parts j.kind j.sources s)) (Err e) new)
     → AnswersStep honest closed s (Err (of_source first number e)) after
-not_stepped honest closed s after j new first number (source.Damaged at) up is lt same oldest next told = (
+not_stepped honest closed s after j new first number (source.Damaged file at) up is lt same oldest next told = (
   up,
   (
     record { kind = j.kind; sources = j.sources; read = j.read; staged = staged_in j.staged },
@@ -289,15 +289,15 @@ not_stepped honest closed s after j new first number source.OutOfMemory up is lt
   same,
 )
 
-pub source_fault : (first number : ℕ) (e : SourceError) → of_source first number e ≡ refusal.SourceFault
+pub source_fault : (first number : ℕ) (e : SumRefusal) → of_source first number e ≡ refusal.SourceFault
     → e ≡ source.Fault
-source_fault first number (source.Damaged at) is = absurd (cc)
+source_fault first number (source.Damaged file at) is = absurd (cc)
 source_fault first number source.SumSpent is = absurd (cc)
 source_fault first number source.Fault is = refl
 source_fault first number source.OutOfMemory is = absurd (cc)
 
-pub not_closing : (first number : ℕ) (e : SourceError) → of_source first number e ≡ refusal.Fault → ⊥
-not_closing first number (source.Damaged at) is = cc
+pub not_closing : (first number : ℕ) (e : SumRefusal) → of_source first number e ≡ refusal.Fault → ⊥
+not_closing first number (source.Damaged file at) is = cc
 not_closing first number source.SumSpent is = cc
 not_closing first number source.Fault is = cc
 not_closing first number source.OutOfMemory is = cc
@@ -316,7 +316,7 @@ as_long (e ∷ es) (p ∷ ps) (f ∷ fs) stand = omega (arith, as_long es ps fs 
 pub source_read : {D : Type 0} (honest : D → Bool) (marks : D → ℕ → Marks) (held : D → ℕ → Held) (d : D)
     (slots : Slots) (last : Entry) (end total : ℕ) (carry : Carry) (files : List Frozen) (s : State) (closed : Bool)
     → closed ≡ false → IsArchive honest marks held d slots last end total carry files s closed → (j new : RunningJob)
-    (f : Frozen) (r : Result (Unit {0}) SourceError) → IsRunningJob (honest d) s j → j.read < j.sources
+    (f : Frozen) (r : Result (Unit {0}) SumRefusal) → IsRunningJob (honest d) s j → j.read < j.sources
     → f ≡ get_or files (count_before (source_of j.kind) s.manifest.entries + j.read) f
     → (IsTrue f.honest → (m : Manifest) (parts : List Part) (p : Part) → s.manifest.width ≡ m.width
     → j.rows.width ≡ width_made j.kind m → IsSource j.kind m f p → IsJobSum j.kind m parts j.rows

@@ -7,31 +7,31 @@ use Rattle.std.specs.FinMap.{entries}
 use Rattle.std.proofs.lemmas.List.{drop-take, length-map, length-take-le, take-take}
 use Rattle.flow_codec.specs.Templates.{AllTemplates}
 use Rattle.flow_disk.specs.Cause.{HasCause, HasRisen}
+use Rattle.flow_disk.specs.Printed.{read_refusal}
 use Rattle.flow_disk.specs.declared.error.DiskError.{DiskError}
 use Rattle.flow_disk.specs.declared.error.DiskError.TheVariants as disk
-use Rattle.flow_gate.specs.declared.tail.ScanError.{ScanError}
-use Rattle.flow_gate.specs.declared.tail.ScanError.TheVariants as scan
+use Rattle.flow_refusals.specs.Printed.{sum_of_read}
+use Rattle.flow_refusals.specs.declared.read_refusal.ReadRefusal.{ReadRefusal}
+use Rattle.flow_refusals.specs.declared.read_refusal.ReadRefusal.TheVariants as read
 use Rattle.flow_manifest.specs.declared.manifest.Kind.TheVariants.{Sealed}
 use Rattle.flow_manifest.specs.declared.manifest.Entry.{Entry}
 use Rattle.flow_measure.specs.History.{Accepted, flows_in, templates_from}
+use Rattle.flow_measure.specs.Printed.{sum_refusal}
 use Rattle.flow_measure.specs.declared.rows.Sums.{Sums}
 use Rattle.flow_measure.specs.declared.error.SumError.{SumError}
 use Rattle.flow_measure.specs.declared.error.SumError.TheVariants as sum
 use Rattle.flow_measure.specs.Sums.{IsRefused, AllFit, Fits, Table, empty_table, merged, table_of, widened, with_entries}
 use Rattle.flow_measure.proofs.Gathering.{get-gathered, joined, sum_at, sum_at-append, sum_at-entries}
 use Rattle.flow_measure.proofs.Merging.{with_empty}
-use Rattle.flow_rolled.specs.declared.error.RowSumError.{RowSumError}
-use Rattle.flow_rolled.specs.declared.error.RowSumError.TheVariants as rows
+use Rattle.flow_refusals.specs.declared.sum_refusal.SumRefusal.{SumRefusal}
 use Rattle.flow_rolled.specs.Rollup.{IsBroken, IsRollup}
 use Rattle.flow_rolled.specs.Stored as stored
 use Rattle.flow_rolled.specs.Stored.{export_time, IsAdded, IsNotAdded}
 use Rattle.flow_rolled.proofs.Breaking.{one_table}
-use Rattle.flow_segment.specs.declared.error.PartSumError.{PartSumError}
-use Rattle.flow_segment.specs.declared.error.PartSumError.TheVariants as part
 use Rattle.flow_segment.specs.Carry.{Carry}
 use Rattle.flow_segment.specs.Prefix.{AreRead, AreTemplatesGiven, IsPrefixToldOf, IsRestated}
 use Rattle.flow_segment.specs.PartFlows as flows
-use Rattle.flow_segment.specs.PartFlows.{greatest_time, with_flows, AreAdded, ArePartMessages, HasMessages, IsDamage}
+use Rattle.flow_segment.specs.PartFlows.{greatest_time, AreAdded, ArePartMessages, HasMessages}
 use Rattle.flow_segment.specs.Segment.{part_octets}
 use Rattle.flow_segment.specs.Steps.{KeepsFront}
 use Rattle.flow_model.specs.State.{Part}
@@ -40,9 +40,8 @@ use Rattle.flow_model.specs.Standing.{IsSealedAt}
 use Rattle.flow_recover.proofs.Behind.{sealed_read}
 use Rattle.flow_model.proofs.Stand.{part_cut}
 use Rattle.flow_archive.specs.declared.sources.Source.{Source}
-use Rattle.flow_archive.specs.declared.sources.SourceError.{SourceError}
-use Rattle.flow_archive.specs.declared.sources.SourceError.TheVariants.{Damaged, SumSpent, Fault, OutOfMemory}
-use Rattle.flow_archive.specs.Sources.{of_disk, of_part, of_rows, of_scan, of_sums, IsFileRefusal, IsFileSum}
+use Rattle.flow_refusals.specs.declared.sum_refusal.SumRefusal.TheVariants.{Damaged, SumSpent, Fault, OutOfMemory}
+use Rattle.flow_archive.specs.Sources.{IsFileRefusal, IsFileSum}
 use Rattle.flow_archive.specs.Sources.{IsMerged, IsNotTakenUp, IsSegmentRefusal, IsSegmentSum, IsSummed, IsTakenUp}
 
 -- ---- what the file holds
@@ -91,7 +90,7 @@ messages_there octets prefix end count e p carry prefix_is end_is count_is at g 
 
 -- ---- what is answered
 
-pub err_is : {X : Type 0} (answer : Result X SourceError) (e : SourceError) → IsErrAnd answer (λ x. x ≡ e)
+pub err_is : {X : Type 0} (answer : Result X SumRefusal) (e : SumRefusal) → IsErrAnd answer (λ x. x ≡ e)
     → answer ≡ Err e
 err_is (Ok x) e never = absurd never
 err_is (Err x) e is = ap Err is
@@ -109,40 +108,28 @@ passed_on {E} {F} {T} {U} fault told e f start before now (Err x) was still is t
   other = λ differs. was.other (λ same. differs (is ∙ back same)) ∙ still;
 }
 
-pub part_fault : (e : PartSumError) → of_part e ≡ Fault → e ≡ part.Fault
-part_fault (part.Damaged file at) is = absurd (cc)
-part_fault part.SumSpent is = absurd (cc)
-part_fault part.Fault is = refl
-part_fault part.OutOfMemory is = absurd (cc)
-
-pub rows_fault : (e : RowSumError) → of_rows e ≡ Fault → e ≡ rows.Fault
-rows_fault (rows.Damaged file at) is = absurd (cc)
-rows_fault rows.SumSpent is = absurd (cc)
-rows_fault rows.Fault is = refl
-rows_fault rows.OutOfMemory is = absurd (cc)
-
 -- a refusal of the disk, whatever the octets
-pub not_read : (sums : Table) (time : ℕ) (e : DiskError) (answer : Result Source SourceError)
-    → answer ≡ Err (of_disk e) → IsSummed sums time answer
+pub not_read : (sums : Table) (time : ℕ) (e : DiskError) (answer : Result Source SumRefusal)
+    → answer ≡ Err (sum_of_read (read_refusal e)) → IsSummed sums time answer
 not_read sums time disk.Fault answer is = subst (IsSummed sums time) (sym is) tt
 not_read sums time disk.OutOfMemory answer is = subst (IsSummed sums time) (sym is) tt
 
 -- restated templates aren't reported as damaged
-pub not_restated : (all : AllTemplates) (sums : Table) (time : ℕ) (old new : Table) (e : ScanError)
-    (answer : Result ℕ SourceError) → AreTemplatesGiven all (Err e) → answer ≡ Err (of_scan e)
+pub not_restated : (all : AllTemplates) (sums : Table) (time : ℕ) (old new : Table) (e : ReadRefusal)
+    (answer : Result ℕ SumRefusal) → AreTemplatesGiven all (Err e) → answer ≡ Err (sum_of_read e)
     → IsMerged sums time old new answer
-not_restated all sums time old new (scan.Damaged file at) answer never is = absurd never
-not_restated all sums time old new scan.Fault answer given is = subst (IsMerged sums time old new) (sym is) tt
-not_restated all sums time old new scan.OutOfMemory answer given is = subst (IsMerged sums time old new) (sym is) tt
+not_restated all sums time old new (read.Damaged file at) answer never is = absurd never
+not_restated all sums time old new read.Fault answer given is = subst (IsMerged sums time old new) (sym is) tt
+not_restated all sums time old new read.OutOfMemory answer given is = subst (IsMerged sums time old new) (sym is) tt
 
 -- flows that aren't added would pass their types, or a read failed, or memory ran out
 pub not_added : (before after : AllTemplates) (messages : List Accepted) (old some new : Table) (time : ℕ)
-    (e : PartSumError) → AreAdded {X = ℕ} before old messages (Err e) after some
-    → IsMerged (table_of old.width (flows_in messages)) time old new (Err (of_part e))
-not_added before after messages old some new time (part.Damaged file at) never = absurd never
-not_added before after messages old some new time part.SumSpent spent = spent.0
-not_added before after messages old some new time part.Fault given = tt
-not_added before after messages old some new time part.OutOfMemory given = tt
+    (e : SumRefusal) → AreAdded {X = ℕ} before old messages (Err e) after some
+    → IsMerged (table_of old.width (flows_in messages)) time old new (Err e)
+not_added before after messages old some new time (Damaged file at) never = absurd never
+not_added before after messages old some new time SumSpent spent = spent.0
+not_added before after messages old some new time Fault given = tt
+not_added before after messages old some new time OutOfMemory given = tt
 
 -- ---- a rolled file
 
@@ -154,18 +141,18 @@ module _ (width wide : ℕ) (small : width < 2 ^ 32) (octets : List ℕ) (table 
       ∙ ap (λ (t : Table). with_entries (entries t.sums) old) (one_table width small octets a.table table a.rollup is)
       ∙ ap (with_entries (entries table.sums)) none ∙ with_empty wide table (entries table.sums) refl
 
-  pub file_refused : (file : stored.Rollup) (e : RowSumError) (answer : Result Source SourceError)
-      → file.octets ≡ octets → IsNotAdded file width old e → answer ≡ Err (of_rows e)
+  pub file_refused : (file : stored.Rollup) (e : SumRefusal) (answer : Result Source SumRefusal)
+      → file.octets ≡ octets → IsNotAdded file width old e → answer ≡ Err e
       → IsSummed (widened wide table) time answer
-  file_refused file (rows.Damaged number at) answer here h same =
+  file_refused file (Damaged number at) answer here h same =
       absurd ((h.1).none table (subst (λ (os : List ℕ). IsRollup width os table) (sym here) is))
-  file_refused file rows.SumSpent answer here h same =
+  file_refused file SumSpent answer here h same =
       subst (IsSummed (widened wide table) time) (sym same)
       (λ fit. h table (subst (λ (os : List ℕ). IsRollup width os table) (sym here) is)
       (subst AllFit (sym (ap (with_entries (entries table.sums)) none
       ∙ with_empty wide table (entries table.sums) refl)) fit))
-  file_refused file rows.Fault answer here h same = subst (IsSummed (widened wide table) time) (sym same) tt
-  file_refused file rows.OutOfMemory answer here h same = subst (IsSummed (widened wide table) time) (sym same) tt
+  file_refused file Fault answer here h same = subst (IsSummed (widened wide table) time) (sym same) tt
+  file_refused file OutOfMemory answer here h same = subst (IsSummed (widened wide table) time) (sym same) tt
 
 -- ---- sums that pass their types
 
@@ -185,42 +172,38 @@ behind_fits a b all q =
 -- ---- what is read, damaged or not
 
 module _ (prefix octets : List ℕ) (number start end count : ℕ) (A : ℕ → Type 0) (old : Table) where
-  abbrev IsNotTaken : SourceError → Type 0
+  abbrev IsNotTaken : SumRefusal → Type 0
   IsNotTaken = IsNotTakenUp (IsSegmentSum old.width prefix octets count)
       (IsSegmentRefusal prefix octets number start end count) old
 
-  abbrev IsAnswered : Result ℕ SourceError → Type 0
+  abbrev IsAnswered : Result ℕ SumRefusal → Type 0
   IsAnswered answer = MatchResult answer A IsNotTaken
 
-  pub prefix_refused : (e : ScanError) (answer : Result ℕ SourceError) → IsPrefixToldOf prefix number e
-      → answer ≡ Err (of_scan e)
+  pub prefix_refused : (e : ReadRefusal) (answer : Result ℕ SumRefusal) → IsPrefixToldOf prefix number e
+      → answer ≡ Err (sum_of_read e)
       → MatchResult answer A (IsNotTakenUp (IsSegmentSum old.width prefix octets count)
       (IsSegmentRefusal prefix octets number start end count) old)
-  prefix_refused (scan.Damaged file at) answer why is =
-      subst IsAnswered (sym is) (inl (subst (λ (n : ℕ). IsPrefixToldOf prefix number (scan.Damaged n at)) why.0 why))
-  prefix_refused scan.Fault answer why is = subst IsAnswered (sym is) tt
-  prefix_refused scan.OutOfMemory answer why is = subst IsAnswered (sym is) tt
+  prefix_refused (read.Damaged file at) answer why is =
+      subst IsAnswered (sym is) (inl why)
+  prefix_refused read.Fault answer why is = subst IsAnswered (sym is) tt
+  prefix_refused read.OutOfMemory answer why is = subst IsAnswered (sym is) tt
 
-  pub messages_refused : (before after : AllTemplates) (some : Table) (e : PartSumError) → IsRestated prefix before
+  pub messages_refused : (before after : AllTemplates) (some : Table) (e : SumRefusal) → IsRestated prefix before
       → flows.IsNotAdded octets before number start end count e
       → ((messages : List Accepted) → ArePartMessages octets before count messages
       → AreAdded {X = ℕ} before old messages (Err e) after some)
       → IsNotTakenUp (IsSegmentSum old.width prefix octets count) (IsSegmentRefusal prefix octets number start end count)
-      old (of_part e)
-  messages_refused before after some (part.Damaged file at) restated why given =
-      inr (
-        before,
-        restated,
-        subst (λ (n : ℕ). IsDamage octets before number start end count (scan.Damaged n at)) why.0 why,
-      )
-  messages_refused before after some part.SumSpent restated (messages, are) given =
+      old e
+  messages_refused before after some (Damaged file at) restated why given =
+      inr (before, restated, why)
+  messages_refused before after some SumSpent restated (messages, are) given =
       inr (
         record { rows = table_of old.width (flows_in messages); time = greatest_time messages },
         (before, messages, restated, are, refl, refl),
         (given messages are).0,
       )
-  messages_refused before after some part.Fault restated why given = tt
-  messages_refused before after some part.OutOfMemory restated why given = tt
+  messages_refused before after some Fault restated why given = tt
+  messages_refused before after some OutOfMemory restated why given = tt
 
 pub segment_added : (prefix octets : List ℕ) (count : ℕ) (before after : AllTemplates) (old new : Table) (time : ℕ)
     → IsRestated prefix before → HasMessages octets before count
@@ -237,27 +220,28 @@ segment_added prefix octets count before after old new time restated (messages, 
 
 -- ---- a source's own sums, added to others
 
-pub own_refused : (Holds : Source → Type 0) (Refuses : SourceError → Type 0) (old : Table) (e : SourceError) → Refuses e
+pub own_refused : (Holds : Source → Type 0) (Refuses : SumRefusal → Type 0) (old : Table) (e : SumRefusal) → Refuses e
     → IsNotTakenUp Holds Refuses old e
-own_refused Holds Refuses old (Damaged at) h = h
+own_refused Holds Refuses old (Damaged file at) h = h
 own_refused Holds Refuses old SumSpent h = inl h
 own_refused Holds Refuses old Fault h = tt
 own_refused Holds Refuses old OutOfMemory h = tt
 
-pub merge_refused : (Holds : Source → Type 0) (Refuses : SourceError → Type 0) (old : Table) (read : Source)
-    (e : SumError) → Holds read → IsRefused e (merged old read.rows) → IsNotTakenUp Holds Refuses old (of_sums e)
+pub merge_refused : (Holds : Source → Type 0) (Refuses : SumRefusal → Type 0) (old : Table) (read : Source)
+    (e : SumError) → Holds read → IsRefused e (merged old read.rows) → IsNotTakenUp Holds Refuses old (sum_refusal e)
 merge_refused Holds Refuses old read sum.SumSpent holds spent = inr (read, holds, spent)
 merge_refused Holds Refuses old read sum.OutOfMemory holds spent = tt
 
-pub own_not_merged : (sums : Table) (time : ℕ) (old new : Table) (e : SourceError) → IsSummed sums time (Err e)
+pub own_not_merged : (sums : Table) (time : ℕ) (old new : Table) (e : SumRefusal) → IsSummed sums time (Err e)
     → IsMerged sums time old new (Err e)
-own_not_merged sums time old new (Damaged at) never = absurd never
+own_not_merged sums time old new (Damaged file at) never = absurd never
 own_not_merged sums time old new SumSpent spent = λ all. spent (behind_fits old sums all)
 own_not_merged sums time old new Fault h = tt
 own_not_merged sums time old new OutOfMemory h = tt
 
 pub not_merged : (sums : Table) (time : ℕ) (old new : Table) (read : Source) (e : SumError)
-    → IsSummed sums time (Ok read) → IsRefused e (merged old read.rows) → IsMerged sums time old new (Err (of_sums e))
+    → IsSummed sums time (Ok read) → IsRefused e (merged old read.rows)
+    → IsMerged sums time old new (Err (sum_refusal e))
 not_merged sums time old new read sum.SumSpent is spent = subst (λ (t : Table). AllFit (merged old t) → ⊥) is.0 spent
 not_merged sums time old new read sum.OutOfMemory is spent = tt
 
@@ -271,25 +255,25 @@ module _ (width wide : ℕ) (octets : List ℕ) (old : Table) (none : old ≡ em
     at,
   )
 
-  pub file_not_summed : (A : Source → Type 0) (file : stored.Rollup) (e : RowSumError)
-      (answer : Result Source SourceError) → file.octets ≡ octets → IsNotAdded file width old e
-      → answer ≡ Err (of_rows e) → MatchResult answer A (IsFileRefusal width wide octets)
-  file_not_summed A file (rows.Damaged number at) answer here why is =
-      subst (λ (r : Result Source SourceError). MatchResult r A (IsFileRefusal width wide octets)) (sym is)
+  pub file_not_summed : (A : Source → Type 0) (file : stored.Rollup) (e : SumRefusal)
+      (answer : Result Source SumRefusal) → file.octets ≡ octets → IsNotAdded file width old e
+      → answer ≡ Err e → MatchResult answer A (IsFileRefusal width wide octets)
+  file_not_summed A file (Damaged number at) answer here why is =
+      subst (λ (r : Result Source SumRefusal). MatchResult r A (IsFileRefusal width wide octets)) (sym is)
       (subst (λ (os : List ℕ). IsBroken width os at) here (why.1))
-  file_not_summed A file rows.SumSpent answer here why is =
-      subst (λ (r : Result Source SourceError). MatchResult r A (IsFileRefusal width wide octets)) (sym is)
+  file_not_summed A file SumSpent answer here why is =
+      subst (λ (r : Result Source SumRefusal). MatchResult r A (IsFileRefusal width wide octets)) (sym is)
       (λ table rollup fit. why table (subst (λ (os : List ℕ). IsRollup width os table) (sym here) rollup)
       (subst AllFit (sym (ap (with_entries (entries table.sums)) none
       ∙ with_empty wide table (entries table.sums) refl)) fit))
-  file_not_summed A file rows.Fault answer here why is =
-      subst (λ (r : Result Source SourceError). MatchResult r A (IsFileRefusal width wide octets)) (sym is) tt
-  file_not_summed A file rows.OutOfMemory answer here why is =
-      subst (λ (r : Result Source SourceError). MatchResult r A (IsFileRefusal width wide octets)) (sym is) tt
+  file_not_summed A file Fault answer here why is =
+      subst (λ (r : Result Source SumRefusal). MatchResult r A (IsFileRefusal width wide octets)) (sym is) tt
+  file_not_summed A file OutOfMemory answer here why is =
+      subst (λ (r : Result Source SumRefusal). MatchResult r A (IsFileRefusal width wide octets)) (sym is) tt
 
-  pub file_unread : (A : Source → Type 0) (e : DiskError) (answer : Result Source SourceError)
-      → answer ≡ Err (of_disk e) → MatchResult answer A (IsFileRefusal width wide octets)
+  pub file_unread : (A : Source → Type 0) (e : DiskError) (answer : Result Source SumRefusal)
+      → answer ≡ Err (sum_of_read (read_refusal e)) → MatchResult answer A (IsFileRefusal width wide octets)
   file_unread A disk.Fault answer is =
-      subst (λ (r : Result Source SourceError). MatchResult r A (IsFileRefusal width wide octets)) (sym is) tt
+      subst (λ (r : Result Source SumRefusal). MatchResult r A (IsFileRefusal width wide octets)) (sym is) tt
   file_unread A disk.OutOfMemory answer is =
-      subst (λ (r : Result Source SourceError). MatchResult r A (IsFileRefusal width wide octets)) (sym is) tt
+      subst (λ (r : Result Source SumRefusal). MatchResult r A (IsFileRefusal width wide octets)) (sym is) tt

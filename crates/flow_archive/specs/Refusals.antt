@@ -1,32 +1,40 @@
 -- The refusals of an archive, and how they are printed: the number, the name, and what they carry.
-use Rattle.std.specs.Prelude.{ℕ, List, ◌++◌, codes}
-use Rattle.std.specs.Fmt.{decimal}
+use Rattle.std.specs.Prelude.{ℕ, List}
 use Rattle.flow_codec.specs.declared.error.MessageError.{MessageError}
 use Rattle.flow_codec.specs.declared.error.MessageError.TheVariants as message
-use Rattle.flow_codec.specs.Printed.{message_text}
+use Rattle.flow_codec.specs.Printed.{message_code, message_text}
 use Rattle.flow_disk.specs.declared.error.DiskError.{DiskError}
 use Rattle.flow_disk.specs.declared.error.DiskError.TheVariants as disk
+use Rattle.flow_refusals.specs.Printed.{damage_text}
+use Rattle.flow_refusals.specs.Table.{code_text}
+use Rattle.flow_refusals.specs.declared.code.RefusalCode.{RefusalCode}
+use Rattle.flow_refusals.specs.declared.code.RefusalCode.TheVariants as code
 use Rattle.flow_archive.specs.declared.refusal.ArchiveError.{ArchiveError}
 use Rattle.flow_archive.specs.declared.refusal.ArchiveError.TheVariants as refusal
 
+abbrev pub archive_code : ArchiveError → RefusalCode
+archive_code (refusal.Message fault) = message_code fault
+archive_code refusal.OutOfMemory = code.OutOfMemory
+archive_code (refusal.Damaged file at) = code.Damaged
+archive_code refusal.NumbersSpent = code.NumbersSpent
+archive_code refusal.NotEmpty = code.NotEmpty
+archive_code refusal.Fault = code.Fault
+archive_code refusal.SourceFault = code.Fault
+archive_code refusal.NoRoom = code.NoRoom
+archive_code refusal.ManifestFull = code.ManifestFull
+archive_code refusal.NothingToSeal = code.NothingToSeal
+archive_code refusal.RollBusy = code.RollBusy
+archive_code refusal.NoRoll = code.NoRoll
+archive_code refusal.RollCount = code.RollCount
+archive_code refusal.RollNotDone = code.RollNotDone
+archive_code refusal.Pinned = code.Pinned
+archive_code refusal.NothingToRetire = code.NothingToRetire
+archive_code refusal.Closed = code.Closed
+
 abbrev pub archive_text : ArchiveError → List ℕ
 archive_text (refusal.Message fault) = message_text fault
-archive_text refusal.OutOfMemory = codes "11 OutOfMemory"
-archive_text refusal.NumbersSpent = codes "25 NumbersSpent"
-archive_text (refusal.Damaged file at) = codes "20 Damaged " ++ decimal file ++ codes " " ++ decimal at
-archive_text refusal.NotEmpty = codes "27 NotEmpty"
-archive_text refusal.Fault = codes "30 Fault"
-archive_text refusal.SourceFault = codes "30 Fault"
-archive_text refusal.NoRoom = codes "40 NoRoom"
-archive_text refusal.ManifestFull = codes "41 ManifestFull"
-archive_text refusal.NothingToSeal = codes "42 NothingToSeal"
-archive_text refusal.RollBusy = codes "43 RollBusy"
-archive_text refusal.NoRoll = codes "44 NoRoll"
-archive_text refusal.RollCount = codes "45 RollCount"
-archive_text refusal.RollNotDone = codes "46 RollNotDone"
-archive_text refusal.Pinned = codes "47 Pinned"
-archive_text refusal.NothingToRetire = codes "48 NothingToRetire"
-archive_text refusal.Closed = codes "49 Closed"
+archive_text (refusal.Damaged file at) = damage_text file at
+archive_text e = code_text (archive_code e)
 
 -- the fault of a message, as a refusal
 abbrev pub refusal_of : MessageError → ArchiveError

@@ -6,6 +6,7 @@ ghost use Rattle.flow_archive.specs.Printed.{printed};
 ghost use Rattle.flow_archive.specs.declared.error.PlainError.TheVariants.{OutOfMemory};
 
 use flow_codec::MessageError;
+use flow_refusals::RefusalCode;
 use std::alloc::{AllocError, AllocFailed};
 use std::error::Error;
 use std::fmt;
@@ -27,8 +28,8 @@ impl fmt::Display for PlainError {
     fn fmt<W: fmt::Write>(&self, f: &mut fmt::Formatter<W>) -> fmt::Result {
         match self {
             PlainError::Message(fault) => write!(f, "{fault}"),
-            PlainError::NumbersSpent => write!(f, "25 NumbersSpent"),
-            PlainError::OutOfMemory => write!(f, "11 OutOfMemory"),
+            PlainError::NumbersSpent => write!(f, "{}", RefusalCode::NumbersSpent),
+            PlainError::OutOfMemory => write!(f, "{}", RefusalCode::OutOfMemory),
         }
     }
 }

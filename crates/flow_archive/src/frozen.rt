@@ -18,11 +18,12 @@ ghost use Rattle.flow_recover.specs.Kept.{AreFilesOf};
 ghost use Rattle.flow_model.specs.State.{Part};
 ghost use Rattle.flow_archive.specs.Frozen as own;
 
-use crate::sources::{SourceError, add_file, add_segment};
+use crate::sources::{add_file, add_segment};
 use bytes::Bytes;
 use flow_disk::{Faults, SealedFile};
 use flow_manifest::{Entry, Kind};
 use flow_measure::Rows;
+use flow_refusals::SumRefusal;
 use flow_rolled::RolledPart;
 use flow_segment::SealedPart;
 use flow_snapshot::Files;
@@ -156,11 +157,11 @@ impl<S: SealedFile> FrozenFile<S> {
         width: u32,
         rows: &mut Rows,
         faults: &mut Faults<S>,
-    ) -> Result<u32, SourceError>
+    ) -> Result<u32, SumRefusal>
         requires { 0 < width }
         ensures kept { OnErr result (rows.new ≡ rows.old) }
         ensures width { rows.new.width ≡ rows.old.width }
-        ensures cause { HasCause SourceError.Fault faults.old faults.new result }
+        ensures cause { HasCause SumRefusal.Fault faults.old faults.new result }
         // On an honest disk, damaged or not: all that it holds is added; or why not.
         ensures found { IsTrue self.now.honest → MatchResult result
             (IsTakenUp (IsReadWhole self.now.entry.kind width rows.old.width self.now) rows.old rows.new)

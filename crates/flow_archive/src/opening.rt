@@ -21,8 +21,8 @@ use crate::frozen::{FrozenFile, frozen_files};
 use crate::refusal::Refused;
 use bytes::Bytes;
 use flow_disk::{Disk, SealedFile};
-use flow_manifest::Entry;
-use flow_recover::{ActiveSegment, RecoverError, Recovered, recover};
+use flow_manifest::{Entry, OpenError};
+use flow_recover::{ActiveSegment, Recovered, recover};
 use std::alloc::{AllocError, Global};
 
 impl<D: Disk> Archive<D> {
@@ -31,7 +31,7 @@ impl<D: Disk> Archive<D> {
     /// Refusals, with the disk: 20 Damaged, 21 Format, 22 Entries, 23 Cut and 24 NoArchive where what is read
     /// represents no archive; 30 Fault and 11 OutOfMemory. Whatever is answered, a stop at any moment leaves what
     /// represents the archive that the disk held. Files of a disk that is given back may be frozen.
-    pub fn open(alloc: Global, disk: D) -> Result<Archive<D>, Refused<D, RecoverError>>
+    pub fn open(alloc: Global, disk: D) -> Result<Archive<D>, Refused<D, OpenError>>
         requires thawed { (n : ℕ) → (D.marks disk n).frozen ≡ false }
         ensures honest { D.honest (disk_of result) ≡ D.honest disk }
         ensures opened { IfOk result (λ a. (a.closed ≡ false) × (a.state ≡ reopened a.state)) }
@@ -60,9 +60,9 @@ impl<D: Disk> Archive<D> {
         // failed they read as before.
         ensures slots { IsTrue (D.honest disk) → (slot : Slot)
             → IsWithin (D.held (disk_of result) (file_of slot)) (D.held disk (file_of slot)) }
-        ensures kept { IsTrue (D.honest disk) → (IsErrOf (answer_of result) RecoverError.Fault → ⊥)
+        ensures kept { IsTrue (D.honest disk) → (IsErrOf (answer_of result) OpenError.Fault → ⊥)
             → (slot : Slot) → (D.held (disk_of result) (file_of slot)).reads ≡ (D.held disk (file_of slot)).reads }
-        ensures cause { HasCause RecoverError.Fault (D.faults disk) (D.faults (disk_of result)) (answer_of result) }
+        ensures cause { HasCause OpenError.Fault (D.faults disk) (D.faults (disk_of result)) (answer_of result) }
     {
         let mut disk = disk;
         match recover(alloc, &mut disk) {
@@ -119,12 +119,12 @@ pub(crate) fn resumed<D: Disk>(
     alloc: Global,
     disk: D,
     found: Recovered<D>,
-) -> Result<Archive<D>, Refused<D, RecoverError>>
+) -> Result<Archive<D>, Refused<D, OpenError>>
     requires { (reads : ℕ → List ℕ) × IsRecovered D.honest D.marks D.held D.Sealed.octets D.Sealed.number D.Sealed.size
         D.Sealed.honest reads disk found.slots found.last found.end found.total (part_of found.active) found.carry
         found.parts.items }
     ensures disk { disk_of result ≡ disk }
-    ensures refused { IfErr result (λ r. r.error ≡ RecoverError.OutOfMemory) }
+    ensures refused { IfErr result (λ r. r.error ≡ OpenError.OutOfMemory) }
     ensures still_open { IfOk result (λ a. a.closed ≡ false) }
     ensures at_rest { IfOk result (λ a. a.state ≡ reopened a.state) }
     ensures counted { IfOk result
@@ -143,7 +143,7 @@ pub(crate) fn resumed<D: Disk>(
     let Ok(kept) = kept_of(alloc, named, files, active) else {
         return Err(Refused {
             disk,
-            error: RecoverError::OutOfMemory,
+            error: OpenError::OutOfMemory,
         });
     };
     Ok(Archive {

@@ -1,11 +1,12 @@
 //! Why an archive refuses an event.
 
 ghost use Rattle.std.specs.Prelude.{◌≡◌, Some};
-ghost use Rattle.flow_archive.specs.Refusals.{archive_text, of_disk, refusal_of};
+ghost use Rattle.flow_archive.specs.Refusals.{archive_code, archive_text, of_disk, refusal_of};
 ghost use Rattle.flow_archive.specs.declared.refusal.ArchiveError.TheVariants.{OutOfMemory};
 
 use flow_codec::MessageError;
 use flow_disk::DiskError;
+use flow_refusals::RefusalCode;
 use std::alloc::{AllocError, AllocFailed};
 use std::error::Error;
 use std::fmt;
@@ -50,27 +51,40 @@ pub enum ArchiveError {
     Closed,
 }
 
+impl ArchiveError {
+    /// The refusal, without what it carries.
+    pub fn code(self) -> RefusalCode
+        ensures { result ≡ archive_code self }
+    {
+        match self {
+            ArchiveError::Message(fault) => fault.code(),
+            ArchiveError::OutOfMemory => RefusalCode::OutOfMemory,
+            ArchiveError::Damaged(_, _) => RefusalCode::Damaged,
+            ArchiveError::NumbersSpent => RefusalCode::NumbersSpent,
+            ArchiveError::NotEmpty => RefusalCode::NotEmpty,
+            ArchiveError::Fault | ArchiveError::SourceFault => RefusalCode::Fault,
+            ArchiveError::NoRoom => RefusalCode::NoRoom,
+            ArchiveError::ManifestFull => RefusalCode::ManifestFull,
+            ArchiveError::NothingToSeal => RefusalCode::NothingToSeal,
+            ArchiveError::RollBusy => RefusalCode::RollBusy,
+            ArchiveError::NoRoll => RefusalCode::NoRoll,
+            ArchiveError::RollCount => RefusalCode::RollCount,
+            ArchiveError::RollNotDone => RefusalCode::RollNotDone,
+            ArchiveError::Pinned => RefusalCode::Pinned,
+            ArchiveError::NothingToRetire => RefusalCode::NothingToRetire,
+            ArchiveError::Closed => RefusalCode::Closed,
+        }
+    }
+}
+
 impl fmt::Display for ArchiveError {
     ghost output = { λ e. Some (archive_text e) };
 
     fn fmt<W: fmt::Write>(&self, f: &mut fmt::Formatter<W>) -> fmt::Result {
         match self {
             ArchiveError::Message(fault) => write!(f, "{fault}"),
-            ArchiveError::OutOfMemory => write!(f, "11 OutOfMemory"),
-            ArchiveError::Damaged(file, at) => write!(f, "20 Damaged {file} {at}"),
-            ArchiveError::NumbersSpent => write!(f, "25 NumbersSpent"),
-            ArchiveError::NotEmpty => write!(f, "27 NotEmpty"),
-            ArchiveError::Fault | ArchiveError::SourceFault => write!(f, "30 Fault"),
-            ArchiveError::NoRoom => write!(f, "40 NoRoom"),
-            ArchiveError::ManifestFull => write!(f, "41 ManifestFull"),
-            ArchiveError::NothingToSeal => write!(f, "42 NothingToSeal"),
-            ArchiveError::RollBusy => write!(f, "43 RollBusy"),
-            ArchiveError::NoRoll => write!(f, "44 NoRoll"),
-            ArchiveError::RollCount => write!(f, "45 RollCount"),
-            ArchiveError::RollNotDone => write!(f, "46 RollNotDone"),
-            ArchiveError::Pinned => write!(f, "47 Pinned"),
-            ArchiveError::NothingToRetire => write!(f, "48 NothingToRetire"),
-            ArchiveError::Closed => write!(f, "49 Closed"),
+            ArchiveError::Damaged(file, at) => write!(f, "{} {file} {at}", self.code()),
+            _ => write!(f, "{}", self.code()),
         }
     }
 }

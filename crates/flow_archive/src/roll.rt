@@ -25,9 +25,10 @@ use crate::archive::Archive;
 use crate::frozen::FrozenFile;
 use crate::job::{RunningJob, generations_kept, sources_from, width_made};
 use crate::refusal::ArchiveError;
-use crate::sources::SourceError;
+use crate::sources::of_source;
 use flow_disk::{Disk, DiskError, Faults, SealedFile};
 use flow_manifest::{JobKind, count_of};
+use flow_refusals::SumRefusal;
 use flow_rolled::encode_rows;
 use std::alloc::Global;
 
@@ -90,7 +91,7 @@ impl<D: Disk> Archive<D> {
             Err(e) => {
                 let oldest = first.number();
                 let next = source.number();
-                return Err(e.of_source(oldest, next));
+                return Err(of_source(e, oldest, next));
             }
         }
         Ok(job.sources - job.read)
@@ -183,12 +184,12 @@ fn take_source<S: SealedFile>(
     source: &FrozenFile<S>,
     width: u32,
     faults: &mut Faults<S>,
-) -> Result<(), SourceError>
+) -> Result<(), SumRefusal>
     requires width { 0 < width }
     requires left { job.old.read < job.old.sources }
     ensures kept { OnErr result (job.new ≡ job.old) }
     ensures taken { OnOk result (IsTaken job.old job.new) }
-    ensures cause { HasCause SourceError.Fault faults.old faults.new result }
+    ensures cause { HasCause SumRefusal.Fault faults.old faults.new result }
     // On an honest disk, damaged or not: what is taken is all that the source holds; or why nothing is.
     ensures found { IsTrue source.now.honest → MatchResult result (λ x. HasTaken width source.now job.old job.new)
         (IsNotTaken width source.now job.old.rows) }

@@ -13,16 +13,16 @@ ghost use Rattle.flow_segment.specs.Segment.{part_octets};
 ghost use Rattle.flow_model.specs.State.{Part};
 ghost use Rattle.flow_model.specs.Chain.{IsSegment};
 ghost use Rattle.flow_model.specs.Standing.{IsSealedAt};
-ghost use Rattle.flow_archive.specs.Sources.{of_disk, of_part, of_rows, of_scan, of_source, of_sums, IsSummed};
+ghost use Rattle.flow_archive.specs.Sources.{of_source, IsSummed};
 ghost use Rattle.flow_archive.specs.Sources.{IsFileRefusal, IsFileSum, IsSegmentRefusal, IsSegmentSum};
 ghost use Rattle.flow_archive.specs.Sources.{IsMerged, IsNotTakenUp, IsTakenUp};
 
 use crate::refusal::ArchiveError;
-use flow_disk::{DiskError, Faults, SealedFile};
-use flow_gate::ScanError;
-use flow_measure::{Rows, SumError, Trial};
-use flow_rolled::{RolledPart, RowSumError, sum_rows};
-use flow_segment::{Adding, PartSumError, SealedPart, add_flows, templates_of};
+use flow_disk::{Faults, SealedFile};
+use flow_measure::{Rows, Trial};
+use flow_refusals::SumRefusal;
+use flow_rolled::{RolledPart, sum_rows};
+use flow_segment::{Adding, SealedPart, add_flows, templates_of};
 use std::alloc::Global;
 use std::mem::replace;
 
@@ -35,90 +35,16 @@ pub(crate) struct Source {
     pub(crate) time: u32,
 }
 
-/// Why a source isn't summed.
-#[derive(Clone, Copy)]
-pub(crate) enum SourceError {
-    /// It isn't what its entry says, from this octet on.
-    Damaged(u64),
-    /// A sum would pass its type.
-    SumSpent,
-    /// The device failed in that call.
-    Fault,
-    /// A growth of memory was refused.
-    OutOfMemory,
-}
-
-impl SourceError {
-    /// What an archive answers, of the source with this number, of a job whose first source has the number `first`.
-    pub(crate) fn of_source(self, first: u64, file: u64) -> ArchiveError
-        ensures { result ≡ of_source first file self }
-    {
-        match self {
-            SourceError::Damaged(at) => ArchiveError::Damaged(file, at),
-            SourceError::SumSpent => ArchiveError::Damaged(first, 0),
-            SourceError::Fault => ArchiveError::SourceFault,
-            SourceError::OutOfMemory => ArchiveError::OutOfMemory,
-        }
-    }
-}
-
-impl From<DiskError> for SourceError {
-    ghost from_gives = { λ d e. e ≡ of_disk d };
-
-    fn from(error: DiskError) -> SourceError {
-        match error {
-            DiskError::Fault => SourceError::Fault,
-            DiskError::OutOfMemory => SourceError::OutOfMemory,
-        }
-    }
-}
-
-impl From<ScanError> for SourceError {
-    ghost from_gives = { λ s e. e ≡ of_scan s };
-
-    fn from(error: ScanError) -> SourceError {
-        match error {
-            ScanError::Damaged(_, at) => SourceError::Damaged(at),
-            ScanError::Fault => SourceError::Fault,
-            ScanError::OutOfMemory => SourceError::OutOfMemory,
-        }
-    }
-}
-
-impl From<PartSumError> for SourceError {
-    ghost from_gives = { λ s e. e ≡ of_part s };
-
-    fn from(error: PartSumError) -> SourceError {
-        match error {
-            PartSumError::Damaged(_, at) => SourceError::Damaged(at),
-            PartSumError::SumSpent => SourceError::SumSpent,
-            PartSumError::Fault => SourceError::Fault,
-            PartSumError::OutOfMemory => SourceError::OutOfMemory,
-        }
-    }
-}
-
-impl From<RowSumError> for SourceError {
-    ghost from_gives = { λ s e. e ≡ of_rows s };
-
-    fn from(error: RowSumError) -> SourceError {
-        match error {
-            RowSumError::Damaged(_, at) => SourceError::Damaged(at),
-            RowSumError::SumSpent => SourceError::SumSpent,
-            RowSumError::Fault => SourceError::Fault,
-            RowSumError::OutOfMemory => SourceError::OutOfMemory,
-        }
-    }
-}
-
-impl From<SumError> for SourceError {
-    ghost from_gives = { λ s e. e ≡ of_sums s };
-
-    fn from(error: SumError) -> SourceError {
-        match error {
-            SumError::SumSpent => SourceError::SumSpent,
-            SumError::OutOfMemory => SourceError::OutOfMemory,
-        }
+/// What an archive answers where the source with the number `file` isn't summed, of a job whose first source has the
+/// number `first`.
+pub(crate) fn of_source(error: SumRefusal, first: u64, file: u64) -> ArchiveError
+    ensures { result ≡ of_source first file error }
+{
+    match error {
+        SumRefusal::Damaged(_, at) => ArchiveError::Damaged(file, at),
+        SumRefusal::SumSpent => ArchiveError::Damaged(first, 0),
+        SumRefusal::Fault => ArchiveError::SourceFault,
+        SumRefusal::OutOfMemory => ArchiveError::OutOfMemory,
     }
 }
 
@@ -129,10 +55,10 @@ pub(crate) fn add_segment<S: SealedFile>(
     part: &SealedPart<S>,
     rows: &mut Rows,
     faults: &mut Faults<S>,
-) -> Result<u32, SourceError>
+) -> Result<u32, SumRefusal>
     ensures kept { OnErr result (rows.new ≡ rows.old) }
     ensures width { rows.new.width ≡ rows.old.width }
-    ensures cause { HasCause SourceError.Fault faults.old faults.new result }
+    ensures cause { HasCause SumRefusal.Fault faults.old faults.new result }
     // On an honest disk, damaged or not: the flows of a segment that was read whole are added; or why they aren't.
     ensures found { IsTrue (S.honest part.now.reader) → MatchResult result
         (IsTakenUp (IsSegmentSum rows.old.width (part_octets 0 part.now.prefix (S.octets part.now.reader))
@@ -163,7 +89,7 @@ pub(crate) fn add_segment<S: SealedFile>(
         }
         Err(error) => {
             *rows = adding.rows.take_back();
-            Err(SourceError::from(error))
+            Err(error)
         }
     }
 }
@@ -176,11 +102,11 @@ fn sum_file<S: SealedFile>(
     width: u32,
     wide: u32,
     faults: &mut Faults<S>,
-) -> Result<Source, SourceError>
+) -> Result<Source, SumRefusal>
     requires width { 0 < width }
     requires wide { 0 < wide }
     ensures width { IfOk result (λ source. source.rows.width ≡ wide) }
-    ensures cause { HasCause SourceError.Fault faults.old faults.new result }
+    ensures cause { HasCause SumRefusal.Fault faults.old faults.new result }
     // On an honest disk, damaged or not: the sums of a file that was read whole; or why it has none.
     ensures found { IsTrue part.now.honest
         → MatchResult result (IsFileSum width wide part.now.octets) (IsFileRefusal width wide part.now.octets) }
@@ -203,11 +129,11 @@ pub(crate) fn add_file<S: SealedFile>(
     width: u32,
     rows: &mut Rows,
     faults: &mut Faults<S>,
-) -> Result<u32, SourceError>
+) -> Result<u32, SumRefusal>
     requires { 0 < width }
     ensures kept { OnErr result (rows.new ≡ rows.old) }
     ensures width { rows.new.width ≡ rows.old.width }
-    ensures cause { HasCause SourceError.Fault faults.old faults.new result }
+    ensures cause { HasCause SumRefusal.Fault faults.old faults.new result }
     // On an honest disk, damaged or not: the sums of a file that was read whole are added; or why they aren't.
     ensures found { IsTrue part.now.honest → MatchResult result
         (IsTakenUp (IsFileSum width rows.old.width part.now.octets) rows.old rows.new)

@@ -3,9 +3,9 @@
 use crate::held::Held;
 use flow_disk::{DiskError, Faults};
 use flow_measure::{Flow, Key, Rows, SumError, Sums};
+use flow_refusals::{ReadRefusal, SumRefusal};
 use flow_rolled::{
-    RolledError, RolledPart, RolledRow, RowError, RowReader, RowSumError, decode_rows, encode_rows,
-    sum_rows,
+    RolledError, RolledPart, RolledRow, RowReader, decode_rows, encode_rows, sum_rows,
 };
 use std::alloc::{AllocError, Global};
 use std::test::Fail;
@@ -68,12 +68,12 @@ fn part(octets: Vec<u8>) -> RolledPart<Held> {
 fn next(
     alloc: Global,
     reader: &mut RowReader<'_, Held>,
-) -> Result<Option<Vec<RolledRow>>, RowError> {
+) -> Result<Option<Vec<RolledRow>>, ReadRefusal> {
     reader.next(alloc, &mut Faults::new())
 }
 
 /// How many rows a reader gives.
-fn count_all(alloc: Global, reader: &mut RowReader<'_, Held>) -> Result<usize, RowError> {
+fn count_all(alloc: Global, reader: &mut RowReader<'_, Held>) -> Result<usize, ReadRefusal> {
     let mut count = 0usize;
     for _ in 0..1_000 {
         match next(alloc, reader)? {
@@ -81,17 +81,17 @@ fn count_all(alloc: Global, reader: &mut RowReader<'_, Held>) -> Result<usize, R
             None => return Ok(count),
         }
     }
-    Err(RowError::Fault)
+    Err(ReadRefusal::Fault)
 }
 
 /// How many rows a reader gives of a file of these octets.
-fn count_of(alloc: Global, octets: Vec<u8>) -> Result<usize, RowError> {
+fn count_of(alloc: Global, octets: Vec<u8>) -> Result<usize, ReadRefusal> {
     let part = part(octets);
     count_all(alloc, &mut RowReader::new(alloc, &part, 300))
 }
 
 /// Adds the sums of a file.
-fn sum(alloc: Global, file: &RolledPart<Held>, rows: &mut Rows) -> Result<(), RowSumError> {
+fn sum(alloc: Global, file: &RolledPart<Held>, rows: &mut Rows) -> Result<(), SumRefusal> {
     sum_rows(alloc, &mut Faults::new(), file, 300, rows)
 }
 
@@ -225,7 +225,7 @@ fn is_file(alloc: Global, octets: Vec<u8>) -> Result<bool, Fail> {
 /// Whether both readers refuse octets at this place.
 fn are_refused(alloc: Global, octets: Vec<u8>, at: usize) -> bool {
     let first = decoded(alloc, &octets).err();
-    let damaged = Some(RowError::Damaged(FILE, at as u64));
+    let damaged = Some(ReadRefusal::Damaged(FILE, at as u64));
     first == Some(RolledError::NotRolled(at)) && count_of(alloc, octets).err() == damaged
 }
 
@@ -311,7 +311,10 @@ fn broken(alloc: Global) -> Result<RolledPart<Held>, Fail> {
 }
 
 /// How many rows a reader gives in so many messages, and whether it then meets a fault, twice.
-fn read_broken(alloc: Global, reader: &mut RowReader<'_, Held>) -> Result<(usize, bool), RowError> {
+fn read_broken(
+    alloc: Global,
+    reader: &mut RowReader<'_, Held>,
+) -> Result<(usize, bool), ReadRefusal> {
     let mut count = 0usize;
     for _ in 0..7 {
         if let Some(rows) = next(alloc, reader)? {
@@ -320,7 +323,7 @@ fn read_broken(alloc: Global, reader: &mut RowReader<'_, Held>) -> Result<(usize
     }
     let first = next(alloc, reader).err();
     let second = next(alloc, reader).err();
-    Ok((count, first == Some(RowError::Fault) && second == first))
+    Ok((count, first == Some(ReadRefusal::Fault) && second == first))
 }
 
 /// The second piece can't be read: a fault each time, after the head and the six messages of the first.
@@ -348,7 +351,7 @@ const KEY: Key = Key {
 };
 
 /// The octets under the wide interval once the sums of the file are added to a flow of so many.
-fn widened(alloc: Global, file: &RolledPart<Held>, octets: u128) -> Result<u128, RowSumError> {
+fn widened(alloc: Global, file: &RolledPart<Held>, octets: u128) -> Result<u128, SumRefusal> {
     let mut wide = Rows::new(alloc, 3600);
     let first = Sums {
         flows: 1,
@@ -372,6 +375,6 @@ fn wide_sums(rt: HostRuntime) -> Result<(), Fail> {
     let most = u128::MAX - 3000;
     assert!(rt; widened(rt.alloc(), &file, most)? == u128::MAX);
     let spent = widened(rt.alloc(), &file, most + 1).err();
-    assert!(rt; spent == Some(RowSumError::SumSpent));
+    assert!(rt; spent == Some(SumRefusal::SumSpent));
     Ok(())
 }

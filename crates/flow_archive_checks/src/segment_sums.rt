@@ -4,9 +4,9 @@ use crate::held::Held;
 use crate::segments::{FILE, FLOW, FLOW_ALONE, THE_FLOW, part_of};
 use flow_codec::Templates;
 use flow_disk::Faults;
-use flow_gate::ScanError;
 use flow_measure::{Flow, Key, Row, Rows, Sums, Trial};
-use flow_segment::{Adding, PartSumError, SealedPart, add_flows, collect_flows, few_messages_fit};
+use flow_refusals::{ReadRefusal, SumRefusal};
+use flow_segment::{Adding, SealedPart, add_flows, collect_flows, few_messages_fit};
 use std::alloc::{AllocError, Global};
 use std::mem::replace;
 use std::test::Fail;
@@ -28,7 +28,7 @@ fn part(
     octets: &[u8],
     messages: u64,
     bad: u64,
-) -> Result<SealedPart<Held>, ScanError> {
+) -> Result<SealedPart<Held>, ReadRefusal> {
     let held = Held {
         number: FILE,
         octets: octets.to_vec(alloc)?,
@@ -44,7 +44,7 @@ fn sum(
     part: &SealedPart<Held>,
     templates: &mut Templates,
     rows: &mut Rows,
-) -> Result<u32, PartSumError> {
+) -> Result<u32, SumRefusal> {
     let none = Rows::new(alloc, rows.width());
     let mut adding = Adding {
         rows: Trial::new(alloc, replace(rows, none)),
@@ -86,7 +86,7 @@ fn sum_all(
     segments: &[&[u8]],
     templates: &mut Templates,
     rows: &mut Rows,
-) -> Result<(), PartSumError> {
+) -> Result<(), SumRefusal> {
     for octets in segments {
         let part = part(alloc, octets, 1, NEVER)?;
         sum(alloc, &part, templates, rows)?;
@@ -134,7 +134,7 @@ fn flow_and(alloc: Global, more: &[u8]) -> Result<Vec<u8>, AllocError> {
 }
 
 /// What is answered to the sums of a segment without a prefix where reads fail that reach this octet.
-fn answer(alloc: Global, octets: &[u8], messages: u64, bad: u64) -> Result<u32, PartSumError> {
+fn answer(alloc: Global, octets: &[u8], messages: u64, bad: u64) -> Result<u32, SumRefusal> {
     let part = part(alloc, octets, messages, bad)?;
     sum(
         alloc,
@@ -161,13 +161,13 @@ fn is_spent(alloc: Global) -> Result<bool, Fail> {
     let part = part(alloc, &FLOW, 1, NEVER)?;
     let answer = sum(alloc, &part, &mut Templates::new(alloc), &mut rows);
     let left = rows.entries()?;
-    Ok(answer == Err(PartSumError::SumSpent) && left.as_slice() == [(key, sums)].as_slice())
+    Ok(answer == Err(SumRefusal::SumSpent) && left.as_slice() == [(key, sums)].as_slice())
 }
 
 #[test]
 fn damage_and_spent_sums_are_reported(rt: HostRuntime) -> Result<(), Fail> {
     let alloc = rt.alloc();
-    let damaged = Err(PartSumError::Damaged(FILE, 57));
+    let damaged = Err(SumRefusal::Damaged(FILE, 57));
     for (more, messages) in [
         (&FLOW[..56], 2),
         (REFUSED.as_slice(), 2),
@@ -198,10 +198,10 @@ fn many(alloc: Global, count: u64) -> Result<Vec<u8>, AllocError> {
 fn each_read_fails(rt: HostRuntime) -> Result<(), Fail> {
     let octets = many(rt.alloc(), 18_000)?;
     for (bad, wanted) in [
-        (0, Err(PartSumError::Fault)),
-        (262_200, Err(PartSumError::Fault)),
-        (524_400, Err(PartSumError::Fault)),
-        (594_056, Err(PartSumError::Fault)),
+        (0, Err(SumRefusal::Fault)),
+        (262_200, Err(SumRefusal::Fault)),
+        (524_400, Err(SumRefusal::Fault)),
+        (594_056, Err(SumRefusal::Fault)),
         (594_057, Ok(0x6553_f100)),
     ] {
         assert!(rt;
@@ -213,7 +213,7 @@ fn each_read_fails(rt: HostRuntime) -> Result<(), Fail> {
 }
 
 /// The flows of the message and one after it that start within.
-fn chosen(alloc: Global, (from, to): (u64, u64), flows: &mut Vec<Flow>) -> Result<(), ScanError> {
+fn chosen(alloc: Global, (from, to): (u64, u64), flows: &mut Vec<Flow>) -> Result<(), ReadRefusal> {
     let octets = flow_and(alloc, FLOW_ALONE.as_slice())?;
     let part = part(alloc, &octets, 2, NEVER)?;
     let mut templates = Templates::new(alloc);

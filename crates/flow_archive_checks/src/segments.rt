@@ -2,13 +2,13 @@
 
 use crate::held::Held;
 use crate::thawed::{Thawed, memory};
-use flow_disk::{Disk, Faults, SealedFile};
-use flow_gate::ScanError;
+use flow_disk::{Disk, Faults, SealedFile, Window};
 use flow_measure::Flow;
 use flow_memory_disk::Room;
+use flow_refusals::ReadRefusal;
 use flow_segment::{
-    Cursor, PartReader, SealedPart, advance, advance_on, flows_of, handed_on, make_segment,
-    messages_of, read_to_the_end, seal_tail,
+    PartReader, SealedPart, advance, advance_on, flows_of, handed_on, make_segment, messages_of,
+    read_to_the_end, seal_tail,
 };
 use std::alloc::{AllocError, Global};
 use std::test::Fail;
@@ -43,12 +43,12 @@ const ROOM: Room = Room {
 };
 
 /// How many octets the first message of a frozen file has, and whether there is another one after it.
-fn first_of<F: SealedFile>(alloc: Global, file: &F) -> Result<(usize, bool), ScanError> {
+fn first_of<F: SealedFile>(alloc: Global, file: &F) -> Result<(usize, bool), ReadRefusal> {
     let mut faults = Faults::new();
-    let mut cursor = Cursor::new(alloc, 0, file.length());
-    advance(&mut cursor, alloc, file, &mut faults)?;
-    let count = cursor.message().len();
-    Ok((count, advance(&mut cursor, alloc, file, &mut faults)?))
+    let mut window = Window::new(alloc, 0, file.length());
+    advance(&mut window, alloc, file, &mut faults)?;
+    let count = window.held().len();
+    Ok((count, advance(&mut window, alloc, file, &mut faults)?))
 }
 
 /// A segment of one message of 40 octets: how many octets are read as a message before it is sealed; and afterwards,
@@ -56,12 +56,12 @@ fn first_of<F: SealedFile>(alloc: Global, file: &F) -> Result<(usize, bool), Sca
 fn made_and_read<D: Disk>(
     alloc: Global,
     disk: Thawed<D>,
-) -> Result<(usize, (usize, bool)), ScanError> {
+) -> Result<(usize, (usize, bool)), ReadRefusal> {
     let Thawed { mut disk } = disk;
     make_segment(&mut disk, FILE, &PREFIX)?;
-    let mut cursor = Cursor::new(alloc, 0, 40);
-    advance_on(&mut cursor, alloc, &mut disk, FILE)?;
-    let count = cursor.message().len();
+    let mut window = Window::new(alloc, 0, 40);
+    advance_on(&mut window, alloc, &mut disk, FILE)?;
+    let count = window.held().len();
     seal_tail(&mut disk, FILE, 40)?;
     let file = disk.freeze(FILE)?;
     Ok((count, first_of(alloc, &file)?))
@@ -89,13 +89,13 @@ fn part(
 }
 
 /// How many octets the next message has, if there is one.
-fn next(alloc: Global, reader: &mut PartReader<'_, Held>) -> Result<Option<usize>, ScanError> {
+fn next(alloc: Global, reader: &mut PartReader<'_, Held>) -> Result<Option<usize>, ReadRefusal> {
     let message = reader.next(alloc, &mut Faults::new())?;
     Ok(message.map(|message| message.len()))
 }
 
 /// How many octets each message has, read one by one up to the end, which is asked for twice.
-fn one_by_one(alloc: Global, part: &SealedPart<Held>) -> Result<[Option<usize>; 3], ScanError> {
+fn one_by_one(alloc: Global, part: &SealedPart<Held>) -> Result<[Option<usize>; 3], ReadRefusal> {
     let mut reader = PartReader::new(alloc, part);
     let first = next(alloc, &mut reader)?;
     let second = next(alloc, &mut reader)?;
@@ -103,7 +103,7 @@ fn one_by_one(alloc: Global, part: &SealedPart<Held>) -> Result<[Option<usize>; 
 }
 
 /// How many octets each message has, read at once.
-fn at_once(alloc: Global, part: &SealedPart<Held>) -> Result<Vec<usize>, ScanError> {
+fn at_once(alloc: Global, part: &SealedPart<Held>) -> Result<Vec<usize>, ReadRefusal> {
     let messages = messages_of(alloc, part, &mut Faults::new())?;
     let mut counts = Vec::new(alloc);
     for message in &messages {
@@ -117,7 +117,7 @@ fn damage(
     alloc: Global,
     octets: &[u8],
     messages: u64,
-) -> Result<(Option<ScanError>, Option<ScanError>), AllocError> {
+) -> Result<(Option<ReadRefusal>, Option<ReadRefusal>), AllocError> {
     let part = part(alloc, octets, 0, messages)?;
     Ok((one_by_one(alloc, &part).err(), at_once(alloc, &part).err()))
 }
@@ -138,14 +138,14 @@ fn the_messages_of_a_segment(rt: HostRuntime) -> Result<(), Fail> {
     assert!(rt; one_by_one(alloc, &flow)? == [Some(57), None, None]);
     assert!(rt; at_once(alloc, &flow)?.as_slice() == [57].as_slice());
     let (first, second) = damage(alloc, &FLOW, 2)?;
-    assert!(rt; first.is_none() && second == Some(ScanError::Damaged(FILE, 57)));
+    assert!(rt; first.is_none() && second == Some(ReadRefusal::Damaged(FILE, 57)));
     let (first, second) = damage(alloc, &FLOW[..56], 1)?;
-    assert!(rt; first == Some(ScanError::Damaged(FILE, 0)) && second == first);
+    assert!(rt; first == Some(ReadRefusal::Damaged(FILE, 0)) && second == first);
     Ok(())
 }
 
 /// The flows of a sealed segment of this prefix and one message.
-fn flows_after(alloc: Global, prefix: &[u8], message: &[u8]) -> Result<Vec<Flow>, ScanError> {
+fn flows_after(alloc: Global, prefix: &[u8], message: &[u8]) -> Result<Vec<Flow>, ReadRefusal> {
     let mut octets = Vec::from_slice(alloc, prefix)?;
     octets.extend_from_slice(message)?;
     let part = part_of(Held::whole(FILE, octets), prefix.len() as u64, 1);
@@ -169,6 +169,6 @@ fn the_flows_of_a_sealed_segment(rt: HostRuntime) -> Result<(), Fail> {
         assert!(rt; flows.as_slice() == [THE_FLOW].as_slice());
     }
     let other = flows_after(alloc, &FLOW, &FLOW_ALONE).err();
-    assert!(rt; other == Some(ScanError::Damaged(FILE, 0)));
+    assert!(rt; other == Some(ReadRefusal::Damaged(FILE, 0)));
     Ok(())
 }

@@ -2,8 +2,9 @@
 
 ghost use Rattle.std.specs.Prelude.{◌≡◌, Some};
 ghost use Rattle.flow_codec.specs.declared.error.MessageError.TheVariants.{OutOfMemory};
-ghost use Rattle.flow_codec.specs.Printed.{message_text};
+ghost use Rattle.flow_codec.specs.Printed.{message_code, message_text};
 
+use flow_refusals::RefusalCode;
 use std::alloc::{AllocError, AllocFailed};
 use std::error::Error;
 use std::fmt;
@@ -36,22 +37,43 @@ pub enum MessageError {
     OutOfMemory,
 }
 
+impl MessageError {
+    /// The refusal, without what it carries.
+    pub fn code(self) -> RefusalCode
+        ensures { result ≡ message_code self }
+    {
+        match self {
+            MessageError::Short => RefusalCode::Short,
+            MessageError::Version => RefusalCode::Version,
+            MessageError::Length => RefusalCode::Length,
+            MessageError::SetLength(_) => RefusalCode::SetLength,
+            MessageError::TemplateCut(_) => RefusalCode::TemplateCut,
+            MessageError::TemplateId(_) => RefusalCode::TemplateId,
+            MessageError::ScopeCount(_) => RefusalCode::ScopeCount,
+            MessageError::RecordCut(_) => RefusalCode::RecordCut,
+            MessageError::TemplatesFull(_) => RefusalCode::TemplatesFull,
+            MessageError::DomainsFull => RefusalCode::DomainsFull,
+            MessageError::OutOfMemory => RefusalCode::OutOfMemory,
+        }
+    }
+}
+
 impl fmt::Display for MessageError {
     ghost output = { λ e. Some (message_text e) };
 
     fn fmt<W: fmt::Write>(&self, f: &mut fmt::Formatter<W>) -> fmt::Result {
         match self {
-            MessageError::Short => write!(f, "1 Short"),
-            MessageError::Version => write!(f, "2 Version"),
-            MessageError::Length => write!(f, "3 Length"),
-            MessageError::SetLength(at) => write!(f, "4 SetLength {at}"),
-            MessageError::TemplateCut(at) => write!(f, "5 TemplateCut {at}"),
-            MessageError::TemplateId(at) => write!(f, "6 TemplateId {at}"),
-            MessageError::ScopeCount(at) => write!(f, "7 ScopeCount {at}"),
-            MessageError::RecordCut(at) => write!(f, "8 RecordCut {at}"),
-            MessageError::TemplatesFull(domain) => write!(f, "9 TemplatesFull {domain}"),
-            MessageError::DomainsFull => write!(f, "10 DomainsFull"),
-            MessageError::OutOfMemory => write!(f, "11 OutOfMemory"),
+            MessageError::SetLength(at)
+            | MessageError::TemplateCut(at)
+            | MessageError::TemplateId(at)
+            | MessageError::ScopeCount(at)
+            | MessageError::RecordCut(at) => write!(f, "{} {at}", self.code()),
+            MessageError::TemplatesFull(domain) => write!(f, "{} {domain}", self.code()),
+            MessageError::Short
+            | MessageError::Version
+            | MessageError::Length
+            | MessageError::DomainsFull
+            | MessageError::OutOfMemory => write!(f, "{}", self.code()),
         }
     }
 }

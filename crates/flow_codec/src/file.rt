@@ -2,7 +2,7 @@
 
 ghost use Rattle.std.specs.Prelude.{Some, ◌≡◌, ◌⊎◌, ◌≤◌, ◌<◌, List, [], ℕ, length, take, IfOk, IfErr, MatchResult};
 ghost use Rattle.flow_codec.specs.declared.file.FileError.TheVariants.{OutOfMemory};
-ghost use Rattle.flow_codec.specs.Printed.{file_text};
+ghost use Rattle.flow_codec.specs.Printed.{file_code, file_text};
 ghost use Rattle.flow_codec.specs.Cutting.{IsCutOff, IsHeaderRefused, IsFileFault, IsDivided, HasOneDivision};
 ghost use Rattle.flow_codec.specs.Cutting.{spans_from, version_of, length_of};
 ghost use Rattle.flow_codec.specs.File.{HasOneFront};
@@ -12,6 +12,7 @@ ghost use Rattle.flow_codec.specs.Templates.{AllTemplates};
 
 use crate::message::{HEADER, VERSION};
 use flow_elements::Items;
+use flow_refusals::RefusalCode;
 use std::alloc::{AllocError, AllocFailed, Global};
 use std::error::Error;
 use std::fmt;
@@ -29,15 +30,29 @@ pub enum FileError {
     OutOfMemory,
 }
 
+impl FileError {
+    /// The refusal, without what it carries.
+    pub fn code(self) -> RefusalCode
+        ensures { result ≡ file_code self }
+    {
+        match self {
+            FileError::Cut(_) => RefusalCode::FileCut,
+            FileError::Version(_) => RefusalCode::FileVersion,
+            FileError::Length(_) => RefusalCode::FileLength,
+            FileError::OutOfMemory => RefusalCode::OutOfMemory,
+        }
+    }
+}
+
 impl fmt::Display for FileError {
     ghost output = { λ e. Some (file_text e) };
 
     fn fmt<W: fmt::Write>(&self, f: &mut fmt::Formatter<W>) -> fmt::Result {
         match self {
-            FileError::Cut(at) => write!(f, "15 Cut {at}"),
-            FileError::Version(at) => write!(f, "16 Version {at}"),
-            FileError::Length(at) => write!(f, "17 Length {at}"),
-            FileError::OutOfMemory => write!(f, "11 OutOfMemory"),
+            FileError::Cut(at) | FileError::Version(at) | FileError::Length(at) => {
+                write!(f, "{} {at}", self.code())
+            }
+            FileError::OutOfMemory => write!(f, "{}", self.code()),
         }
     }
 }

@@ -1,8 +1,11 @@
 //! Reading that tries again after interrupted calls.
 
-ghost use Rattle.std.specs.Prelude.{Some, codes, ◌≡◌, ◌≤◌, length, IfOk};
+ghost use Rattle.std.specs.Prelude.{Some, ◌≡◌, ◌≤◌, length, IfOk};
 ghost use Rattle.std.specs.Io.KnownBytes.{ReadConsumes};
+ghost use Rattle.flow_refusals.specs.Table.{code_text};
+ghost use Rattle.flow_refusals.specs.declared.code.RefusalCode.TheVariants.{Read as ReadCode};
 
+use flow_refusals::RefusalCode;
 use std::error::Error;
 use std::fmt;
 use std::io::{ErrorKind, Read};
@@ -18,10 +21,10 @@ pub struct ReadFailed {
 }
 
 impl fmt::Display for ReadFailed {
-    ghost output = { λ _. Some (codes "31 Read") };
+    ghost output = { λ _. Some (code_text ReadCode) };
 
     fn fmt<W: fmt::Write>(&self, f: &mut fmt::Formatter<W>) -> fmt::Result {
-        write!(f, "31 Read")
+        write!(f, "{}", RefusalCode::Read)
     }
 }
 

@@ -6,12 +6,13 @@ ghost use Rattle.std.specs.Io.KnownBytes.{prepend_known};
 ghost use Rattle.flow_codec.specs.declared.stream.StreamError.TheVariants.{File, Read as ReadStopped};
 ghost use Rattle.flow_codec.specs.Stream.{held, progress, IsFound, IsReadNext, IsStep, IsUnfinished, IsWholeFront};
 ghost use Rattle.flow_codec.specs.Stream.{StopsWithin};
-ghost use Rattle.flow_codec.specs.Printed.{stream_text};
+ghost use Rattle.flow_codec.specs.Printed.{stream_code, stream_text};
 
 use crate::file::{FileError, length_in};
 use crate::message::HEADER;
 use crate::patient::ReadFailed;
 use crate::window::Window;
+use flow_refusals::RefusalCode;
 use std::alloc::{AllocError, Global};
 use std::error::Error;
 use std::fmt;
@@ -32,6 +33,19 @@ pub enum StreamError {
     NumbersSpent,
 }
 
+impl StreamError {
+    /// The refusal, without what it carries.
+    pub fn code(self) -> RefusalCode
+        ensures { result ≡ stream_code self }
+    {
+        match self {
+            StreamError::File(fault) => fault.code(),
+            StreamError::Read(_) => RefusalCode::Read,
+            StreamError::NumbersSpent => RefusalCode::NumbersSpent,
+        }
+    }
+}
+
 impl fmt::Display for StreamError {
     ghost output = { λ e. Some (stream_text e) };
 
@@ -39,7 +53,7 @@ impl fmt::Display for StreamError {
         match self {
             StreamError::File(fault) => write!(f, "{fault}"),
             StreamError::Read(failed) => write!(f, "{failed}"),
-            StreamError::NumbersSpent => write!(f, "25 NumbersSpent"),
+            StreamError::NumbersSpent => write!(f, "{}", RefusalCode::NumbersSpent),
         }
     }
 }

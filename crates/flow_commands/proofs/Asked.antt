@@ -7,15 +7,15 @@ use Rattle.flow_measure.specs.declared.flow.Flow.{Flow}
 use Rattle.flow_measure.specs.declared.rows.Row.{Row}
 use Rattle.flow_measure.specs.Query.{flows_in_view, totals_in_view}
 use Rattle.flow_measure.specs.View.{View}
-use Rattle.flow_snapshot.specs.declared.error.QueryError.{QueryError}
-use Rattle.flow_snapshot.specs.declared.error.QueryError.TheVariants as query
+use Rattle.flow_refusals.specs.declared.read_refusal.ReadRefusal.{ReadRefusal}
+use Rattle.flow_refusals.specs.declared.read_refusal.ReadRefusal.TheVariants as query
 use Rattle.flow_snapshot.specs.Sight.{Sight}
 use Rattle.flow_snapshot.specs.Told.{IsNoDamage}
 use Rattle.flow_snapshot.specs.Totals.{IsSpent, SumsFit}
 use Rattle.flow_model.specs.Shelf.{Shelf}
 use Rattle.flow_model.specs.Views.{IsViewOf}
-use Rattle.flow_recover.specs.declared.error.RecoverError.{RecoverError}
-use Rattle.flow_recover.specs.declared.error.RecoverError.TheVariants as opening
+use Rattle.flow_manifest.specs.declared.error.OpenError.{OpenError}
+use Rattle.flow_manifest.specs.declared.error.OpenError.TheVariants as opening
 use Rattle.flow_model.specs.Chain.{IsChained}
 use Rattle.flow_model.specs.Shelved.{active_shelf, shelf_of}
 use Rattle.flow_model.specs.Standing.{StandsFor}
@@ -51,7 +51,7 @@ read_as reads sight width s stands wide there shown =
 
 -- ---- refusals of a command
 
-pub unopened_told : (reads : ℕ → List ℕ) (e : RecoverError) → IsUnopened reads e → IsNotAsked reads (of_opening e)
+pub unopened_told : (reads : ℕ → List ℕ) (e : OpenError) → IsUnopened reads e → IsNotAsked reads (of_opening e)
 unopened_told reads (opening.Damaged file at) told = told
 unopened_told reads (opening.Format file) told = told
 unopened_told reads (opening.Entries file) told = told
@@ -60,7 +60,7 @@ unopened_told reads opening.NoArchive told = told
 unopened_told reads opening.Fault told = told
 unopened_told reads opening.OutOfMemory told = tt
 
-pub opening_unwritten : (e : RecoverError) → IsBeforeWriting (of_opening e)
+pub opening_unwritten : (e : OpenError) → IsBeforeWriting (of_opening e)
 opening_unwritten (opening.Damaged file at) = tt
 opening_unwritten (opening.Format file) = tt
 opening_unwritten (opening.Entries file) = tt
@@ -79,18 +79,18 @@ not_found has_answer reads (refusal.Archive e) told = absurd told
 not_found has_answer reads (refusal.Folder why) told = absurd told
 
 pub sums_told : (fit : View → Type 0) (reads : ℕ → List ℕ) (first : ℕ) (v : View) → IsViewRead reads v
-    → (e : QueryError) → IsSpent first (fit v) e → IsNotFound fit reads (of_query e)
+    → (e : ReadRefusal) → IsSpent first (fit v) e → IsNotFound fit reads (of_query e)
 sums_told fit reads first v read (query.Damaged file at) spent = (v, read, spent.2)
 sums_told fit reads first v read query.Fault spent = tt
 sums_told fit reads first v read query.OutOfMemory spent = tt
 
-pub flows_told : (has_answer : View → Type 0) (reads : ℕ → List ℕ) (e : QueryError) → IsNoDamage e
+pub flows_told : (has_answer : View → Type 0) (reads : ℕ → List ℕ) (e : ReadRefusal) → IsNoDamage e
     → IsNotFound has_answer reads (of_query e)
 flows_told has_answer reads (query.Damaged file at) told = absurd told
 flows_told has_answer reads query.Fault told = tt
 flows_told has_answer reads query.OutOfMemory told = tt
 
-pub query_unwritten : (e : QueryError) → IsBeforeWriting (of_query e)
+pub query_unwritten : (e : ReadRefusal) → IsBeforeWriting (of_query e)
 query_unwritten (query.Damaged file at) = tt
 query_unwritten query.Fault = tt
 query_unwritten query.OutOfMemory = tt
@@ -141,7 +141,7 @@ rows_read format reads sight width span from to rows (v, read, (honest, view, wi
     ∙ ap₂ (λ (a : ℕ) (b : ℕ). totals_in_view a b v) from_is to_is in
     (v, read, ap₂ (rows_text format) wide rows_are)
 
-pub rows_refused : (reads : ℕ → List ℕ) (sight : Sight) (width first : ℕ) (e : QueryError)
+pub rows_refused : (reads : ℕ → List ℕ) (sight : Sight) (width first : ℕ) (e : ReadRefusal)
     → IsReadAs reads sight width
     → (IsTrue sight.honest → (v : View) → IsViewOf sight.shelf v → IsSpent first (SumsFit v) e)
     → IsNotFound SumsFit reads (of_query e)
@@ -159,7 +159,7 @@ flows_read format reads sight width span from to flows (v, read, (honest, view, 
     ∙ ap₂ (λ (a : ℕ) (b : ℕ). flows_in_view a b v) from_is to_is in
     (v, read, ap (flows_text format) flows_are)
 
-pub flows_refused : (reads : ℕ → List ℕ) (sight : Sight) (width : ℕ) (e : QueryError)
+pub flows_refused : (reads : ℕ → List ℕ) (sight : Sight) (width : ℕ) (e : ReadRefusal)
     → IsReadAs reads sight width
     → (IsTrue sight.honest → (v : View) → IsViewOf sight.shelf v → IsNoDamage e)
     → IsNotFound Always reads (of_query e)

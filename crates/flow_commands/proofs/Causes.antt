@@ -1,10 +1,10 @@
 -- Which refusals are faults of the device, and where they come from.
 use Rattle.std.proofs.Common.{◌≡◌, ◌≢◌, ◌∙◌, ℕ, Result, Ok, Err, IsErrAnd, refl, sym, ap, arith}
 use Rattle.flow_disk.specs.Cause.{HasCause}
-use Rattle.flow_recover.specs.declared.error.RecoverError.{RecoverError}
-use Rattle.flow_recover.specs.declared.error.RecoverError.TheVariants as opening
-use Rattle.flow_snapshot.specs.declared.error.QueryError.{QueryError}
-use Rattle.flow_snapshot.specs.declared.error.QueryError.TheVariants as query
+use Rattle.flow_manifest.specs.declared.error.OpenError.{OpenError}
+use Rattle.flow_manifest.specs.declared.error.OpenError.TheVariants as opening
+use Rattle.flow_refusals.specs.declared.read_refusal.ReadRefusal.{ReadRefusal}
+use Rattle.flow_refusals.specs.declared.read_refusal.ReadRefusal.TheVariants as query
 use Rattle.flow_report.specs.declared.text_error.TextError.{TextError}
 use Rattle.flow_report.specs.declared.text_error.TextError.TheVariants as text
 use Rattle.flow_commands.specs.declared.archive_refusal.ArchiveRefusal.TheVariants as refusal
@@ -23,7 +23,7 @@ other_than {E} {T} fault e before now (Err x) is differs same = record {
 
 -- ---- faults of opening
 
-pub opening_fault : (e : RecoverError) → of_opening e ≡ refusal.Opening opening.Fault → e ≡ opening.Fault
+pub opening_fault : (e : OpenError) → of_opening e ≡ refusal.Opening opening.Fault → e ≡ opening.Fault
 opening_fault (opening.Damaged file at) is = absurd (cc)
 opening_fault (opening.Format file) is = absurd (cc)
 opening_fault (opening.Entries file) is = absurd (cc)
@@ -32,10 +32,10 @@ opening_fault opening.NoArchive is = absurd (cc)
 opening_fault opening.Fault is = refl
 opening_fault opening.OutOfMemory is = absurd (cc)
 
-pub opening_is_told : (e : RecoverError) → e ≡ opening.Fault → of_opening e ≡ refusal.Opening opening.Fault
+pub opening_is_told : (e : OpenError) → e ≡ opening.Fault → of_opening e ≡ refusal.Opening opening.Fault
 opening_is_told e is = ap of_opening is
 
-pub opening_is_no_query : (e : RecoverError) → of_opening e ≢ refusal.Query query.Fault
+pub opening_is_no_query : (e : OpenError) → of_opening e ≢ refusal.Query query.Fault
 opening_is_no_query (opening.Damaged file at) is = absurd (cc)
 opening_is_no_query (opening.Format file) is = absurd (cc)
 opening_is_no_query (opening.Entries file) is = absurd (cc)
@@ -46,15 +46,15 @@ opening_is_no_query opening.OutOfMemory is = absurd (cc)
 
 -- ---- faults of asking
 
-pub query_fault : (e : QueryError) → of_query e ≡ refusal.Query query.Fault → e ≡ query.Fault
+pub query_fault : (e : ReadRefusal) → of_query e ≡ refusal.Query query.Fault → e ≡ query.Fault
 query_fault (query.Damaged file at) is = absurd (cc)
 query_fault query.Fault is = refl
 query_fault query.OutOfMemory is = absurd (cc)
 
-pub query_is_told : (e : QueryError) → e ≡ query.Fault → of_query e ≡ refusal.Query query.Fault
+pub query_is_told : (e : ReadRefusal) → e ≡ query.Fault → of_query e ≡ refusal.Query query.Fault
 query_is_told e is = ap of_query is
 
-pub query_is_no_opening : (e : QueryError) → of_query e ≢ refusal.Opening opening.Fault
+pub query_is_no_opening : (e : ReadRefusal) → of_query e ≢ refusal.Opening opening.Fault
 query_is_no_opening (query.Damaged file at) is = absurd (cc)
 query_is_no_opening query.Fault is = absurd (cc)
 query_is_no_opening query.OutOfMemory is = absurd (cc)

@@ -9,8 +9,8 @@ use Rattle.flow_manifest.specs.declared.manifest.Entry.{Entry}
 use Rattle.flow_measure.specs.declared.rows.Sums.{Sums}
 use Rattle.flow_measure.specs.Sums.{key_cmp}
 use Rattle.flow_measure.specs.View.{View}
-use Rattle.flow_snapshot.specs.declared.error.QueryError.{QueryError}
-use Rattle.flow_snapshot.specs.declared.error.QueryError.TheVariants as query
+use Rattle.flow_refusals.specs.declared.read_refusal.ReadRefusal.{ReadRefusal}
+use Rattle.flow_refusals.specs.declared.read_refusal.ReadRefusal.TheVariants as query
 use Rattle.flow_snapshot.specs.Shares.{AllPartsFit, AreNarrow, AreWide}
 use Rattle.flow_model.specs.Shelf.{Shelf}
 use Rattle.flow_snapshot.specs.Totals.{IsSpent, SumsFit}
@@ -30,7 +30,7 @@ use Rattle.flow_commands.specs.Asking.{IsNotFound}
 use Rattle.flow_commands.proofs.Asked.{sums_told}
 
 -- where less fits, a sum is spent for more
-pub spent_for : (first : ℕ) (fit other : Type 0) → (other → fit) → (e : QueryError) → IsSpent first fit e
+pub spent_for : (first : ℕ) (fit other : Type 0) → (other → fit) → (e : ReadRefusal) → IsSpent first fit e
     → IsSpent first other e
 spent_for first fit other by (query.Damaged file at) h = (h.0, h.1, λ o. h.2 (by o))
 spent_for first fit other by query.Fault h = tt
@@ -63,7 +63,7 @@ pub record SumsOf (reads : ℕ → List ℕ) (shelf : Shelf) : Type 0 where
   pub narrow : List (FinMap key_cmp Sums)
   pub are_wide : AreWide shelf wide
   pub are_narrow : AreNarrow shelf narrow
-  pub spent : (first : ℕ) (e : QueryError) → IsSpent first (AllPartsFit shelf wide narrow) e
+  pub spent : (first : ℕ) (e : ReadRefusal) → IsSpent first (AllPartsFit shelf wide narrow) e
       → IsNotFound SumsFit reads (of_query e)
 
 pub sums_of : (reads : ℕ → List ℕ) (s : State) → StandsFor reads s
@@ -81,7 +81,7 @@ sums_of reads s stands there =
     }
 
 -- nothing is written where a query is refused
-pub query_listed : (reads : ℕ → List ℕ) (output : Option (List ℕ)) (e : QueryError)
+pub query_listed : (reads : ℕ → List ℕ) (output : Option (List ℕ)) (e : ReadRefusal)
     → IsNotFound SumsFit reads (of_query e) → ListsNoFiles reads output output (of_query e)
 query_listed reads output (query.Damaged file at) told = (told, Keeps-refl output)
 query_listed reads output query.Fault told = (told, Keeps-refl output)

@@ -21,10 +21,10 @@ use Rattle.flow_report.specs.Telling.{Tells, TellsFront}
 use Rattle.flow_report.specs.Writing.{AppendsFront}
 use Rattle.flow_report.proofs.Joining.{ends, ends_cut, stops_more, stops_then, tells_then, with_held}
 use Rattle.flow_measure.specs.View.{View}
-use Rattle.flow_recover.specs.declared.error.RecoverError.{RecoverError}
-use Rattle.flow_recover.specs.declared.error.RecoverError.TheVariants as opening
-use Rattle.flow_snapshot.specs.declared.error.QueryError.{QueryError}
-use Rattle.flow_snapshot.specs.declared.error.QueryError.TheVariants as query
+use Rattle.flow_manifest.specs.declared.error.OpenError.{OpenError}
+use Rattle.flow_manifest.specs.declared.error.OpenError.TheVariants as opening
+use Rattle.flow_refusals.specs.declared.read_refusal.ReadRefusal.{ReadRefusal}
+use Rattle.flow_refusals.specs.declared.read_refusal.ReadRefusal.TheVariants as query
 use Rattle.flow_snapshot.specs.Sight.{Sight}
 use Rattle.flow_snapshot.specs.Told.{IsNoDamage}
 use Rattle.flow_model.specs.Views.{IsViewOf}
@@ -89,7 +89,7 @@ module _ (format : Format) (from to : ℕ) (old now : Option (List ℕ)) (held m
 
 -- what is reported of a file that has accepted messages is no damage
 pub file_blameless : (Has : List Accepted → Type 0) (before templates : AllTemplates) (messages : List Accepted)
-    (files : List (List (List ℕ))) (i : ℕ) (e : QueryError) → i < length files → AreAcceptedFrom before messages
+    (files : List (List (List ℕ))) (i : ℕ) (e : ReadRefusal) → i < length files → AreAcceptedFrom before messages
     → Taken Has before messages (all_in (drop i files)) templates
     → ((octets : List (List ℕ)) → slice_get files i ≡ Some octets → (own : List Accepted)
     → AreAcceptedFrom templates own → octets_of own ≡ octets → IsNoDamage e)
@@ -220,12 +220,12 @@ asking_is_no_opening (refusal.Opening e) asking is = absurd asking
 asking_is_no_opening (refusal.Archive e) asking is = absurd asking
 asking_is_no_opening (refusal.Folder why) asking is = absurd asking
 
-pub query_asks : (e : QueryError) → IsWhileAsking (of_query e)
+pub query_asks : (e : ReadRefusal) → IsWhileAsking (of_query e)
 query_asks (query.Damaged file at) = tt
 query_asks query.Fault = tt
 query_asks query.OutOfMemory = tt
 
-pub query_blameless : (e : QueryError) → IsNoDamage e → IsBlameless (of_query e)
+pub query_blameless : (e : ReadRefusal) → IsNoDamage e → IsBlameless (of_query e)
 query_blameless (query.Damaged file at) is = absurd is
 query_blameless query.Fault is = tt
 query_blameless query.OutOfMemory is = tt
@@ -282,7 +282,7 @@ away_up_to format (Ok x) output = tt
 away_up_to format (Err e) output = none_up_to format output e
 
 -- an archive that isn't opened
-pub unopened_up_to : (format : Format) (span : Span) (reads : ℕ → List ℕ) (output : Option (List ℕ)) (e : RecoverError)
+pub unopened_up_to : (format : Format) (span : Span) (reads : ℕ → List ℕ) (output : Option (List ℕ)) (e : OpenError)
     → IsUnopened reads e → TellsUpTo (flows_lines format span) Always reads output output (of_opening e)
 unopened_up_to format span reads output (opening.Damaged file at) told = (told, Keeps-refl output)
 unopened_up_to format span reads output (opening.Format file) told = (told, Keeps-refl output)

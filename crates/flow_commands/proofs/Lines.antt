@@ -9,8 +9,8 @@ use Rattle.flow_archive.specs.declared.refusal.ArchiveError.{ArchiveError}
 use Rattle.flow_archive.specs.declared.refusal.ArchiveError.TheVariants as archive
 use Rattle.flow_folder.specs.declared.system.FolderError.{FolderError}
 use Rattle.flow_folder.specs.declared.system.FolderError.TheVariants as folder
-use Rattle.flow_recover.specs.declared.error.RecoverError.{RecoverError}
-use Rattle.flow_recover.specs.declared.error.RecoverError.TheVariants as opening
+use Rattle.flow_manifest.specs.declared.error.OpenError.{OpenError}
+use Rattle.flow_manifest.specs.declared.error.OpenError.TheVariants as opening
 use Rattle.flow_feed.specs.declared.batch.Fed.{Fed}
 use Rattle.flow_feed.specs.declared.batch.FeedStop.{FeedStop}
 use Rattle.flow_report.specs.Writing.{AppendsFront}
@@ -291,7 +291,7 @@ module _ (count : ℕ) (before after : Option (List ℕ)) where
   result_not_fed reads (Err e) (feds, refused, all, told) = not_fed reads feds refused before after e told
 
 -- an archive that isn't opened
-pub opening_kept : (count : ℕ) (output : Option (List ℕ)) (e : RecoverError)
+pub opening_kept : (count : ℕ) (output : Option (List ℕ)) (e : OpenError)
     → KeepsOrFeeds count (of_opening e) output output
 opening_kept count output (opening.Damaged file at) = Keeps-refl output
 opening_kept count output (opening.Format file) = Keeps-refl output
@@ -301,7 +301,7 @@ opening_kept count output opening.NoArchive = Keeps-refl output
 opening_kept count output opening.Fault = Keeps-refl output
 opening_kept count output opening.OutOfMemory = ([], (0, omega arith, Appends-nil output))
 
-pub opening_not_fed : (reads : ℕ → List ℕ) (e : RecoverError) → IsUnopened reads e → IsNotFed reads (of_opening e)
+pub opening_not_fed : (reads : ℕ → List ℕ) (e : OpenError) → IsUnopened reads e → IsNotFed reads (of_opening e)
 opening_not_fed reads (opening.Damaged file at) why = why
 opening_not_fed reads (opening.Format file) why = why
 opening_not_fed reads (opening.Entries file) why = why

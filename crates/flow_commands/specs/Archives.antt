@@ -2,16 +2,19 @@
 use Rattle.std.specs.Prelude.{ℕ, List, ◌++◌, codes}
 use Rattle.flow_archive.specs.declared.refusal.ArchiveError.{ArchiveError}
 use Rattle.flow_archive.specs.declared.refusal.ArchiveError.TheVariants as archive
-use Rattle.flow_archive.specs.Refusals.{archive_text}
+use Rattle.flow_archive.specs.Refusals.{archive_code as event_code, archive_text}
 use Rattle.flow_folder.specs.declared.system.FolderError.{FolderError}
 use Rattle.flow_folder.specs.declared.system.FolderError.TheVariants as folder
 use Rattle.flow_folder.specs.Naming.{name_of}
-use Rattle.flow_recover.specs.declared.error.RecoverError.{RecoverError}
-use Rattle.flow_recover.specs.declared.error.RecoverError.TheVariants as opening
-use Rattle.flow_recover.specs.Printed.{printed as opening_text}
-use Rattle.flow_snapshot.specs.declared.error.QueryError.{QueryError}
-use Rattle.flow_snapshot.specs.declared.error.QueryError.TheVariants as query
-use Rattle.flow_snapshot.specs.Told.{printed as query_text}
+use Rattle.flow_manifest.specs.declared.error.OpenError.{OpenError}
+use Rattle.flow_manifest.specs.declared.error.OpenError.TheVariants as opening
+use Rattle.flow_manifest.specs.Printed.{opening_code, opening_text}
+use Rattle.flow_refusals.specs.declared.read_refusal.ReadRefusal.{ReadRefusal}
+use Rattle.flow_refusals.specs.declared.read_refusal.ReadRefusal.TheVariants as query
+use Rattle.flow_refusals.specs.Printed.{read_code, read_text}
+use Rattle.flow_refusals.specs.Table.{code_text, row_of}
+use Rattle.flow_refusals.specs.declared.code.RefusalCode.{RefusalCode}
+use Rattle.flow_refusals.specs.declared.code.RefusalCode.TheVariants as code
 use Rattle.flow_report.specs.declared.text_error.TextError.{TextError}
 use Rattle.flow_report.specs.declared.text_error.TextError.TheVariants as text
 use Rattle.flow_commands.specs.declared.archive_refusal.ArchiveRefusal.{ArchiveRefusal}
@@ -24,56 +27,43 @@ use Rattle.flow_commands.specs.declared.archive_refusal.ArchiveRefusal.TheVarian
 
 -- A second line says that the folder isn't there or in use, which name in it isn't a file's, or what the system lacks.
 abbrev pub fault_printed : FolderFault → List ℕ
-fault_printed NotThere = codes "30 Fault\nflowvault: there is no such folder"
+fault_printed NotThere = code_text code.Fault ++ codes "\nflowvault: there is no such folder"
 fault_printed Refused =
-    codes "30 Fault\nflowvault: the system refused the folder: may this user read, write and enter it?"
-fault_printed InUse = codes "30 Fault\nflowvault: the folder is in use, by a flowvault that still runs"
+    code_text code.Fault ++ codes "\nflowvault: the system refused the folder: may this user read, write and enter it?"
+fault_printed InUse = code_text code.Fault ++ codes "\nflowvault: the folder is in use, by a flowvault that still runs"
 fault_printed (NotAFile file) =
-    codes "30 Fault\nflowvault: " ++ name_of file
-    ++ codes " in the folder is a link, a folder, a pipe or a device, and not a file"
-fault_printed NoHandles = codes "30 Fault\nflowvault: the system's list of open files, /proc/self/fd, isn't there"
-fault_printed NoClock = codes "30 Fault\nflowvault: the system's clock can't be read"
+    code_text code.Fault
+    ++ (codes "\nflowvault: "
+    ++ (name_of file ++ codes " in the folder is a link, a folder, a pipe or a device, and not a file"))
+fault_printed NoHandles =
+    code_text code.Fault ++ codes "\nflowvault: the system's list of open files, /proc/self/fd, isn't there"
+fault_printed NoClock = code_text code.Fault ++ codes "\nflowvault: the system's clock can't be read"
 
 -- the number, the name and what the refusal carries
 abbrev pub archive_printed : ArchiveRefusal → List ℕ
 archive_printed (Folder fault) = fault_printed fault
 archive_printed (Opening e) = opening_text e
 archive_printed (Archive e) = archive_text e
-archive_printed (Query e) = query_text e
-archive_printed OutOfMemory = codes "11 OutOfMemory"
-archive_printed (Write failed) = codes "32 Write"
+archive_printed (Query e) = read_text e
+archive_printed OutOfMemory = code_text code.OutOfMemory
+archive_printed (Write failed) = code_text code.Write
 
--- ---- statuses
+-- ---- numbers and statuses
 
-abbrev pub opening_status : RecoverError → ℕ
-opening_status opening.Fault = 3
-opening_status opening.OutOfMemory = 4
-opening_status e = 5
-
-abbrev pub event_status : ArchiveError → ℕ
-event_status (archive.Damaged file at) = 5
-event_status archive.Fault = 3
-event_status archive.SourceFault = 3
-event_status archive.Closed = 3
-event_status archive.OutOfMemory = 4
-event_status e = 1
-
-abbrev pub query_status : QueryError → ℕ
-query_status (query.Damaged file at) = 5
-query_status query.Fault = 3
-query_status query.OutOfMemory = 4
+abbrev pub archive_code : ArchiveRefusal → RefusalCode
+archive_code (Folder fault) = code.Fault
+archive_code (Opening e) = opening_code e
+archive_code (Archive e) = event_code e
+archive_code (Query e) = read_code e
+archive_code OutOfMemory = code.OutOfMemory
+archive_code (Write failed) = code.Write
 
 abbrev pub archive_status : ArchiveRefusal → ℕ
-archive_status (Folder fault) = 3
-archive_status (Opening e) = opening_status e
-archive_status (Archive e) = event_status e
-archive_status (Query e) = query_status e
-archive_status OutOfMemory = 4
-archive_status (Write failed) = 3
+archive_status refusal = (row_of (archive_code refusal)).status
 
 -- ---- from the refusals of the layers below
 
-abbrev pub of_opening : RecoverError → ArchiveRefusal
+abbrev pub of_opening : OpenError → ArchiveRefusal
 of_opening opening.OutOfMemory = OutOfMemory
 of_opening e = Opening e
 
@@ -81,7 +71,7 @@ abbrev pub of_archive : ArchiveError → ArchiveRefusal
 of_archive archive.OutOfMemory = OutOfMemory
 of_archive e = Archive e
 
-abbrev pub of_query : QueryError → ArchiveRefusal
+abbrev pub of_query : ReadRefusal → ArchiveRefusal
 of_query query.OutOfMemory = OutOfMemory
 of_query e = Query e
 

@@ -6,12 +6,12 @@ use Rattle.flow_measure.specs.declared.flow.Flow.{Flow}
 use Rattle.flow_measure.specs.declared.rows.Row.{Row}
 use Rattle.flow_measure.specs.Query.{flows_in_view, totals_in_view}
 use Rattle.flow_measure.specs.View.{View}
-use Rattle.flow_snapshot.specs.declared.error.QueryError.{QueryError}
-use Rattle.flow_snapshot.specs.declared.error.QueryError.TheVariants as query
+use Rattle.flow_refusals.specs.declared.read_refusal.ReadRefusal.{ReadRefusal}
+use Rattle.flow_refusals.specs.declared.read_refusal.ReadRefusal.TheVariants as query
 use Rattle.flow_snapshot.specs.Sight.{Sight}
 use Rattle.flow_snapshot.specs.Told.{IsNoDamage}
 use Rattle.flow_model.specs.Views.{IsViewOf}
-use Rattle.flow_recover.specs.declared.error.RecoverError.{RecoverError}
+use Rattle.flow_manifest.specs.declared.error.OpenError.{OpenError}
 use Rattle.flow_recover.specs.Opening.{IsDeviceOrMemory, StandsForNone}
 use Rattle.flow_model.specs.Shelved.{shelf_of}
 use Rattle.flow_model.specs.Standing.{StandsFor}
@@ -55,7 +55,7 @@ abbrev pub AreLinesOf : (View → List ℕ) → (ℕ → List ℕ) → List ℕ 
 AreLinesOf lines reads text = (v : View) × IsViewRead reads v × (text ≡ lines v)
 
 -- why an archive isn't opened
-abbrev pub IsUnopened : (ℕ → List ℕ) → RecoverError → Type 0
+abbrev pub IsUnopened : (ℕ → List ℕ) → OpenError → Type 0
 IsUnopened reads e = IsDeviceOrMemory e ⊎ StandsForNone reads
 
 -- Why nothing is asked: the archive isn't opened, or memory ran out.
@@ -68,7 +68,7 @@ IsNotAsked reads (Archive e) = ⊥
 IsNotAsked reads (Folder why) = ⊥
 
 -- Why a query isn't answered: a read failed, or memory ran out; damage is reported only where the view has no answer.
-abbrev pub IsQueryFault : (View → Type 0) → (ℕ → List ℕ) → QueryError → Type 0
+abbrev pub IsQueryFault : (View → Type 0) → (ℕ → List ℕ) → ReadRefusal → Type 0
 IsQueryFault has_answer reads (query.Damaged file at) = (v : View) × IsViewRead reads v × (has_answer v → ⊥)
 IsQueryFault has_answer reads query.Fault = ⊤
 IsQueryFault has_answer reads query.OutOfMemory = ⊤

@@ -4,80 +4,28 @@ use Rattle.std.specs.Prelude.{Err, codes}
 use Rattle.std.specs.Fmt.{decimal}
 use Rattle.std.specs.Option.{option_or}
 use Rattle.std.specs.Io.KnownBytes.{Appends, Keeps}
-use Rattle.flow_codec.specs.declared.file.FileError.TheVariants as file
-use Rattle.flow_codec.specs.declared.error.MessageError.{MessageError}
-use Rattle.flow_codec.specs.declared.error.MessageError.TheVariants as message
-use Rattle.flow_codec.specs.declared.stream.StreamError.{StreamError}
-use Rattle.flow_codec.specs.declared.stream.StreamError.TheVariants as stream
 use Rattle.flow_archive.specs.declared.refusal.ArchiveError.{ArchiveError}
-use Rattle.flow_archive.specs.declared.refusal.ArchiveError.TheVariants as archive
 use Rattle.flow_feed.specs.declared.batch.Fed.{Fed}
+use Rattle.flow_feed.specs.Stopped.{stop_code}
 use Rattle.flow_feed.specs.declared.batch.FeedStop.{FeedStop}
-use Rattle.flow_feed.specs.declared.batch.FeedStop.TheVariants as stop
+use Rattle.flow_refusals.specs.Table.{code_text, row_of}
 use Rattle.flow_report.specs.Writing.{AppendsFront}
 use Rattle.flow_commands.specs.declared.archive_refusal.ArchiveRefusal.{ArchiveRefusal}
 use Rattle.flow_commands.specs.declared.archive_refusal.ArchiveRefusal.TheVariants.{Folder, Opening, Archive}
 use Rattle.flow_commands.specs.declared.archive_refusal.ArchiveRefusal.TheVariants.{Query}
 use Rattle.flow_commands.specs.declared.archive_refusal.ArchiveRefusal.TheVariants.{OutOfMemory, Write}
-use Rattle.flow_commands.specs.Archives.{event_status, of_archive}
+use Rattle.flow_commands.specs.Archives.{of_archive}
 use Rattle.flow_commands.specs.Asking.{IsUnopened as IsNotOpened}
 
 -- ---- the line of a File
 
--- the number and the name of a refusal, without what it carries
-abbrev pub message_name : MessageError → List ℕ
-message_name message.Short = codes "1 Short"
-message_name message.Version = codes "2 Version"
-message_name message.Length = codes "3 Length"
-message_name (message.SetLength at) = codes "4 SetLength"
-message_name (message.TemplateCut at) = codes "5 TemplateCut"
-message_name (message.TemplateId at) = codes "6 TemplateId"
-message_name (message.ScopeCount at) = codes "7 ScopeCount"
-message_name (message.RecordCut at) = codes "8 RecordCut"
-message_name (message.TemplatesFull domain) = codes "9 TemplatesFull"
-message_name message.DomainsFull = codes "10 DomainsFull"
-message_name message.OutOfMemory = codes "11 OutOfMemory"
-
-abbrev pub event_name : ArchiveError → List ℕ
-event_name (archive.Message fault) = message_name fault
-event_name archive.OutOfMemory = codes "11 OutOfMemory"
-event_name (archive.Damaged number at) = codes "20 Damaged"
-event_name archive.NumbersSpent = codes "25 NumbersSpent"
-event_name archive.NotEmpty = codes "27 NotEmpty"
-event_name archive.Fault = codes "30 Fault"
-event_name archive.SourceFault = codes "30 Fault"
-event_name archive.NoRoom = codes "40 NoRoom"
-event_name archive.ManifestFull = codes "41 ManifestFull"
-event_name archive.NothingToSeal = codes "42 NothingToSeal"
-event_name archive.RollBusy = codes "43 RollBusy"
-event_name archive.NoRoll = codes "44 NoRoll"
-event_name archive.RollCount = codes "45 RollCount"
-event_name archive.RollNotDone = codes "46 RollNotDone"
-event_name archive.Pinned = codes "47 Pinned"
-event_name archive.NothingToRetire = codes "48 NothingToRetire"
-event_name archive.Closed = codes "49 Closed"
-
-abbrev pub stream_name : StreamError → List ℕ
-stream_name (stream.File (file.Cut at)) = codes "15 Cut"
-stream_name (stream.File (file.Version at)) = codes "16 Version"
-stream_name (stream.File (file.Length at)) = codes "17 Length"
-stream_name (stream.File file.OutOfMemory) = codes "11 OutOfMemory"
-stream_name (stream.Read failed) = codes "31 Read"
-stream_name stream.NumbersSpent = codes "25 NumbersSpent"
-
-abbrev pub stop_name : FeedStop → List ℕ
-stop_name (stop.File error) = stream_name error
-stop_name (stop.Archive error) = event_name error
-stop_name stop.OutOfMemory = codes "11 OutOfMemory"
-stop_name stop.Unopened = codes "31 Read"
-
--- `fed N MESSAGES` of the File of this number, or `stopped N MESSAGES NUMBER NAME`
+-- `fed N MESSAGES` of the File of this number, or `stopped N MESSAGES NUMBER NAME`: of the refusal not what it carries
 abbrev pub counts_text : ℕ → ℕ → List ℕ
 counts_text number count = 32 ∷ decimal number ++ 32 ∷ decimal count
 
 abbrev pub fed_text : Option FeedStop → ℕ → ℕ → List ℕ
 fed_text None number count = codes "fed" ++ counts_text number count
-fed_text (Some stopped) number count = codes "stopped" ++ counts_text number count ++ 32 ∷ stop_name stopped
+fed_text (Some stopped) number count = codes "stopped" ++ counts_text number count ++ 32 ∷ code_text (stop_code stopped)
 
 unfoldable pub fed_line : ℕ → Fed → List ℕ
 fed_line number fed = fed_text fed.stop number fed.messages ++ 10 ∷ []
@@ -93,17 +41,8 @@ unopened why = record { messages = 0; stop = Some why }
 
 -- ---- statuses
 
-abbrev pub stream_status : StreamError → ℕ
-stream_status (stream.File file.OutOfMemory) = 4
-stream_status (stream.File fault) = 1
-stream_status (stream.Read failed) = 3
-stream_status stream.NumbersSpent = 1
-
 abbrev pub stop_status : FeedStop → ℕ
-stop_status (stop.File error) = stream_status error
-stop_status (stop.Archive error) = event_status error
-stop_status stop.OutOfMemory = 4
-stop_status stop.Unopened = 3
+stop_status stopped = (row_of (stop_code stopped)).status
 
 -- why the first File stopped that did
 abbrev pub first_stop : List Fed → Option FeedStop

@@ -8,8 +8,8 @@ use Rattle.flow_manifest.specs.declared.following.JobKind.TheVariants.{Roll, Mer
 use Rattle.flow_disk.specs.Cause.{HasCause}
 use Rattle.flow_disk.specs.Disk.{AllImages}
 use Rattle.flow_manifest.specs.Slots.{reads_of}
-use Rattle.flow_recover.specs.declared.error.RecoverError.{RecoverError}
-use Rattle.flow_recover.specs.declared.error.RecoverError.TheVariants as opening
+use Rattle.flow_manifest.specs.declared.error.OpenError.{OpenError}
+use Rattle.flow_manifest.specs.declared.error.OpenError.TheVariants as opening
 use Rattle.flow_model.specs.Standing.{StandsFor}
 use Rattle.flow_archive.specs.declared.refusal.ArchiveError.{ArchiveError}
 use Rattle.flow_archive.specs.declared.refusal.ArchiveError.TheVariants as event
@@ -85,7 +85,7 @@ pub record IsRolledOn {D S X : Type 0} (g : Ghosts D S X) (kind : JobKind) (keep
 -- No archive was opened, for this reason, and nothing was written.
 pub record IsNotRolled {D S X : Type 0} (g : Ghosts D S X) (disk : D) (old new : Option (List ℕ))
     (refused : Refused D ArchiveRefusal) : Type 0 where
-  pub reason : RecoverError
+  pub reason : OpenError
   pub error_is : refused.error ≡ of_opening reason
   pub told : IsTrue (g.honest disk) → IsUnopened (reads_of (g.held disk)) reason
   pub cause : HasCause {T = Unit {0}} opening.Fault (g.faults disk) (g.faults refused.disk) (Err reason)

@@ -27,12 +27,12 @@ use crate::ending::ended;
 use flow_archive::{Archive, Refused};
 use flow_disk::{Disk, Faults, SealedFile};
 use flow_folder::{FolderDisk, Lockable};
-use flow_manifest::{Entry, Kind};
+use flow_manifest::{Entry, Kind, OpenError};
 use flow_measure::{Row, Rows};
 use flow_model::one_view_of_a_state;
-use flow_recover::RecoverError;
+use flow_refusals::ReadRefusal;
 use flow_report::{Patience, push_count, write_patiently};
-use flow_snapshot::{PartSums, QueryError, Snapshot};
+use flow_snapshot::{PartSums, Snapshot};
 use std::alloc::{AllocError, AllocGlobal, Global};
 use std::fs::Files;
 use std::io::Write;
@@ -152,9 +152,9 @@ fn starts_of_file<S: SealedFile>(
     count: u32,
     number: u32,
     faults: &mut Faults<S>,
-) -> Result<Option<Starts>, QueryError>
+) -> Result<Option<Starts>, ReadRefusal>
     requires { number < count }
-    ensures cause { HasCause QueryError.Fault faults.old faults.new result }
+    ensures cause { HasCause ReadRefusal.Fault faults.old faults.new result }
     ensures given { IsTrue snapshot.now.honest → (wide narrow : List (FinMap key_cmp Sums))
         → AreWide snapshot.now.shelf wide → AreNarrow snapshot.now.shelf narrow
         → IsMade (first_file snapshot.now.shelf) (AllPartsFit snapshot.now.shelf wide narrow)
@@ -173,9 +173,9 @@ fn push_files<S: SealedFile>(
     entries: &[Entry],
     text: &mut Vec<u8>,
     faults: &mut Faults<S>,
-) -> Result<(), QueryError>
+) -> Result<(), ReadRefusal>
     requires { length entries.now < 2 ^ 32 }
-    ensures cause { HasCause QueryError.Fault faults.old faults.new result }
+    ensures cause { HasCause ReadRefusal.Fault faults.old faults.new result }
     ensures given { IsTrue snapshot.now.honest → (wide narrow : List (FinMap key_cmp Sums))
         → AreWide snapshot.now.shelf wide → AreNarrow snapshot.now.shelf narrow
         → IsMade (first_file snapshot.now.shelf) (AllPartsFit snapshot.now.shelf wide narrow)
@@ -207,14 +207,14 @@ fn find_files<D: Disk>(
     alloc: Global,
     archive: &mut Archive<D>,
     faults: &mut Faults<D::Sealed>,
-) -> Result<Vec<u8>, QueryError>
+) -> Result<Vec<u8>, ReadRefusal>
     ensures asked { IsAsked archive.old archive.new }
     ensures lines { IsTrue (D.honest archive.old.disk) → (reads : ℕ → List ℕ) → StandsFor reads archive.old.state
         → IfOk result (λ text. AreFileLines reads text.items) }
     ensures shape { IfOk result (λ text. AreListings text.items) }
     ensures refused { IsTrue (D.honest archive.old.disk) → (reads : ℕ → List ℕ) → StandsFor reads archive.old.state
         → IfErr result (λ e. IsNotFound SumsFit reads (of_query e)) }
-    ensures cause { HasCause QueryError.Fault faults.old faults.new result }
+    ensures cause { HasCause ReadRefusal.Fault faults.old faults.new result }
 {
     one_view_of_a_state();
     // It has a valid manifest.
@@ -249,8 +249,8 @@ fn list_files<D: Disk, W: Write>(
         → IfErr result (ListsNoFiles reads (W.contents output.old) (W.contents output.new)) }
     ensures written { OnOk result (Writes AreListings (W.contents output.old) (W.contents output.new)) }
     ensures kept { IfErr result (λ e. WritesOrNot AreListings e (W.contents output.old) (W.contents output.new)) }
-    ensures opened { IfErr result (λ e. e ≢ refusal.Opening RecoverError.Fault) }
-    ensures cause { HasCause (refusal.Query QueryError.Fault) faults.old faults.new result }
+    ensures opened { IfErr result (λ e. e ≢ refusal.Opening OpenError.Fault) }
+    ensures cause { HasCause (refusal.Query ReadRefusal.Fault) faults.old faults.new result }
 {
     let text = find_files(alloc, archive, faults)?;
     write_patiently(output, text.as_slice(), &mut Patience::new())?;
@@ -282,9 +282,9 @@ pub fn check_files<D: Disk, W: Write>(
     ensures any_moment { KeepsArchive D.Disk disk (disk_of result) }
     ensures handed { IfOk result (IsHandedOn D.Disk disk) }
     // It is a fault of opening exactly where a call of the disk failed, and one of asking exactly where a read failed.
-    ensures opening { HasCause (refusal.Opening RecoverError.Fault) (D.faults disk) (D.faults (disk_of result))
+    ensures opening { HasCause (refusal.Opening OpenError.Fault) (D.faults disk) (D.faults (disk_of result))
         (answer_of result) }
-    ensures cause { HasCause (refusal.Query QueryError.Fault) faults.old faults.new (answer_of result) }
+    ensures cause { HasCause (refusal.Query ReadRefusal.Fault) faults.old faults.new (answer_of result) }
 {
     match Archive::open(alloc, disk) {
         Ok(archive) => {

@@ -1,17 +1,16 @@
 //! Why a command over an archive ended before its work was done.
 
 ghost use Rattle.std.specs.Prelude.{Some, ◌≡◌, ◌≢◌, ◌≤◌};
-ghost use Rattle.flow_commands.specs.Archives.{archive_printed, archive_status, of_archive, of_folder, of_opening};
-ghost use Rattle.flow_commands.specs.Archives.{of_query};
-ghost use Rattle.flow_commands.specs.Archives.{of_text};
+ghost use Rattle.flow_commands.specs.Archives.{archive_code, archive_printed, archive_status, of_archive, of_folder};
+ghost use Rattle.flow_commands.specs.Archives.{of_opening, of_query, of_text};
 ghost use Rattle.flow_commands.specs.declared.archive_refusal.ArchiveRefusal.TheVariants as refusal;
 
 use crate::folder_fault::FolderFault;
 use flow_archive::ArchiveError;
 use flow_folder::FolderError;
-use flow_recover::RecoverError;
+use flow_manifest::OpenError;
+use flow_refusals::{ReadRefusal, RefusalCode};
 use flow_report::{TextError, WriteFailed};
-use flow_snapshot::QueryError;
 use std::alloc::{AllocError, AllocFailed};
 use std::error::Error;
 use std::fmt;
@@ -22,11 +21,11 @@ pub enum ArchiveRefusal {
     /// The folder can't be opened: 30.
     Folder(FolderFault),
     /// The archive can't be opened: 20 to 24, or 30.
-    Opening(RecoverError),
+    Opening(OpenError),
     /// The archive refuses an event, or isn't made.
     Archive(ArchiveError),
     /// A file of the archive can't be asked: 20, or 30.
-    Query(QueryError),
+    Query(ReadRefusal),
     OutOfMemory,
     /// Writing failed.
     Write(WriteFailed),
@@ -41,8 +40,8 @@ impl fmt::Display for ArchiveRefusal {
             ArchiveRefusal::Opening(error) => write!(f, "{error}"),
             ArchiveRefusal::Archive(error) => write!(f, "{error}"),
             ArchiveRefusal::Query(error) => write!(f, "{error}"),
-            ArchiveRefusal::OutOfMemory => write!(f, "11 OutOfMemory"),
-            ArchiveRefusal::Write(_) => write!(f, "32 Write"),
+            ArchiveRefusal::OutOfMemory => write!(f, "{}", RefusalCode::OutOfMemory),
+            ArchiveRefusal::Write(_) => write!(f, "{}", RefusalCode::Write),
         }
     }
 }
@@ -50,6 +49,20 @@ impl fmt::Display for ArchiveRefusal {
 impl Error for ArchiveRefusal {}
 
 impl ArchiveRefusal {
+    /// The refusal, without what it carries.
+    pub fn code(&self) -> RefusalCode
+        ensures { result ≡ archive_code self.now }
+    {
+        match self {
+            ArchiveRefusal::Folder(_) => RefusalCode::Fault,
+            ArchiveRefusal::Opening(error) => error.code(),
+            ArchiveRefusal::Archive(error) => error.code(),
+            ArchiveRefusal::Query(error) => error.code(),
+            ArchiveRefusal::OutOfMemory => RefusalCode::OutOfMemory,
+            ArchiveRefusal::Write(_) => RefusalCode::Write,
+        }
+    }
+
     /// The exit status: 1 for what is refused, 3 for a device, 4 for memory, 5 for damage.
     pub fn status(&self) -> u8
         ensures value { result ≡ archive_status self.now }
@@ -57,32 +70,16 @@ impl ArchiveRefusal {
         ensures other { result ≢ 2 }
         ensures most { result ≤ 5 }
     {
-        match self {
-            ArchiveRefusal::Folder(_)
-            | ArchiveRefusal::Write(_)
-            | ArchiveRefusal::Opening(RecoverError::Fault)
-            | ArchiveRefusal::Archive(ArchiveError::Fault)
-            | ArchiveRefusal::Archive(ArchiveError::SourceFault)
-            | ArchiveRefusal::Archive(ArchiveError::Closed)
-            | ArchiveRefusal::Query(QueryError::Fault) => 3,
-            ArchiveRefusal::OutOfMemory
-            | ArchiveRefusal::Opening(RecoverError::OutOfMemory)
-            | ArchiveRefusal::Archive(ArchiveError::OutOfMemory)
-            | ArchiveRefusal::Query(QueryError::OutOfMemory) => 4,
-            ArchiveRefusal::Opening(_)
-            | ArchiveRefusal::Archive(ArchiveError::Damaged(_, _))
-            | ArchiveRefusal::Query(QueryError::Damaged(_, _)) => 5,
-            ArchiveRefusal::Archive(_) => 1,
-        }
+        self.code().status()
     }
 }
 
-impl From<RecoverError> for ArchiveRefusal {
+impl From<OpenError> for ArchiveRefusal {
     ghost from_gives = { λ e r. r ≡ of_opening e };
 
-    fn from(error: RecoverError) -> ArchiveRefusal {
+    fn from(error: OpenError) -> ArchiveRefusal {
         match error {
-            RecoverError::OutOfMemory => ArchiveRefusal::OutOfMemory,
+            OpenError::OutOfMemory => ArchiveRefusal::OutOfMemory,
             error => ArchiveRefusal::Opening(error),
         }
     }
@@ -99,12 +96,12 @@ impl From<ArchiveError> for ArchiveRefusal {
     }
 }
 
-impl From<QueryError> for ArchiveRefusal {
+impl From<ReadRefusal> for ArchiveRefusal {
     ghost from_gives = { λ e r. r ≡ of_query e };
 
-    fn from(error: QueryError) -> ArchiveRefusal {
+    fn from(error: ReadRefusal) -> ArchiveRefusal {
         match error {
-            QueryError::OutOfMemory => ArchiveRefusal::OutOfMemory,
+            ReadRefusal::OutOfMemory => ArchiveRefusal::OutOfMemory,
             error => ArchiveRefusal::Query(error),
         }
     }

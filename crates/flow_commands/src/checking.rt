@@ -15,8 +15,8 @@ ghost use Rattle.flow_commands.specs.Check.{standing_by, standing_of, summed_cou
 use crate::archive_refusal::ArchiveRefusal;
 use flow_disk::Disk;
 use flow_folder::{FolderDisk, Lockable};
-use flow_manifest::{Entry, Kind, Manifest, count_of};
-use flow_recover::{RecoverError, recover};
+use flow_manifest::{Entry, Kind, Manifest, OpenError, count_of};
+use flow_recover::recover;
 use flow_report::{Patience, push_count, write_patiently};
 use std::alloc::{AllocError, AllocGlobal, Global};
 use std::fs::Files;
@@ -83,7 +83,7 @@ fn summed_count(entries: &[Entry]) -> u64
 }
 
 /// Opens the archive on a disk, of which nothing is frozen, and says what it is.
-fn find_standing<D: Disk>(alloc: Global, disk: &mut D) -> Result<Standing, RecoverError>
+fn find_standing<D: Disk>(alloc: Global, disk: &mut D) -> Result<Standing, OpenError>
     requires { (n : ℕ) → (D.marks disk.old n).frozen ≡ false }
     ensures stands { IsTrue (D.honest disk.old) → IfOk result
         (λ t. (s : State) × StandsFor (reads_of (D.held disk.old)) s × (t ≡ standing_of s)) }
@@ -91,7 +91,7 @@ fn find_standing<D: Disk>(alloc: Global, disk: &mut D) -> Result<Standing, Recov
         → IfErr result (λ e. IsDeviceOrMemory e ⊎ StandsForNone (reads_of (D.held disk.old))) }
     ensures any_moment { IsTrue (D.honest disk.old) → (a b : State) → AllImages (D.held disk.old) (StandsForEither a b)
         → LeavesOnly D.Disk disk.old disk.new (StandsForEither a b) }
-    ensures cause { HasCause RecoverError.Fault (D.faults disk.old) (D.faults disk.new) result }
+    ensures cause { HasCause OpenError.Fault (D.faults disk.old) (D.faults disk.new) result }
 {
     let found = recover(alloc, disk)?;
     Ok(Standing::of(&found.slots.current, found.total))
@@ -115,7 +115,7 @@ pub fn check<D: Disk, W: Write>(
     // And whatever the disk:
     ensures written { OnOk result (IsChecked (W.contents output.old) (W.contents output.new)) }
     ensures kept { IfErr result (λ e. KeepsOrChecks e (W.contents output.old) (W.contents output.new)) }
-    ensures cause { HasCause (refusal.Opening RecoverError.Fault) (D.faults disk.old) (D.faults disk.new) result }
+    ensures cause { HasCause (refusal.Opening OpenError.Fault) (D.faults disk.old) (D.faults disk.new) result }
 {
     let standing = find_standing(alloc, disk)?;
     let line = standing.line(alloc)?;

@@ -4,6 +4,7 @@ ghost use Rattle.std.specs.Prelude.{Some, ◌≡◌};
 ghost use Rattle.flow_folder.specs.Naming.{name_of};
 ghost use Rattle.flow_commands.specs.Archives.{fault_printed};
 
+use flow_refusals::RefusalCode;
 use std::fmt;
 
 /// The name of a file in a folder.
@@ -44,27 +45,36 @@ impl fmt::Display for FolderFault {
 
     fn fmt<W: fmt::Write>(&self, f: &mut fmt::Formatter<W>) -> fmt::Result {
         match self {
-            FolderFault::NotThere => write!(f, "30 Fault\nflowvault: there is no such folder"),
+            FolderFault::NotThere => write!(
+                f,
+                "{}\nflowvault: there is no such folder",
+                RefusalCode::Fault
+            ),
             FolderFault::Refused => write!(
                 f,
-                "30 Fault\nflowvault: the system refused the folder: may this user read, write and enter it?"
+                "{}\nflowvault: the system refused the folder: may this user read, write and enter it?",
+                RefusalCode::Fault
             ),
             FolderFault::InUse => write!(
                 f,
-                "30 Fault\nflowvault: the folder is in use, by a flowvault that still runs"
+                "{}\nflowvault: the folder is in use, by a flowvault that still runs",
+                RefusalCode::Fault
             ),
             FolderFault::NotAFile(file) => write!(
                 f,
-                "30 Fault\nflowvault: {} in the folder is a link, a folder, a pipe or a device, and not a file",
+                "{}\nflowvault: {} in the folder is a link, a folder, a pipe or a device, and not a file",
+                RefusalCode::Fault,
                 FileName(*file)
             ),
             FolderFault::NoHandles => write!(
                 f,
-                "30 Fault\nflowvault: the system's list of open files, /proc/self/fd, isn't there"
+                "{}\nflowvault: the system's list of open files, /proc/self/fd, isn't there",
+                RefusalCode::Fault
             ),
             FolderFault::NoClock => write!(
                 f,
-                "30 Fault\nflowvault: the system's clock can't be read"
+                "{}\nflowvault: the system's clock can't be read",
+                RefusalCode::Fault
             ),
         }
     }

@@ -25,9 +25,10 @@ use crate::plan::StartSpan;
 use flow_archive::{Archive, Refused};
 use flow_disk::{Disk, Faults, SealedFile};
 use flow_folder::{FolderDisk, Lockable};
-use flow_recover::RecoverError;
+use flow_manifest::OpenError;
+use flow_refusals::ReadRefusal;
 use flow_report::{FlowLines, Format};
-use flow_snapshot::{QueryError, Snapshot};
+use flow_snapshot::Snapshot;
 use std::alloc::{AllocGlobal, Global};
 use std::fs::Files;
 use std::io::Write;
@@ -56,7 +57,7 @@ fn tell_kept<S: SealedFile, W: Write>(
         → IfErr result (λ e. IsBlameless e × TellsFront (W.contents output.old) lines.old.held
         (W.contents output.new) (flat_map (flow_line lines.old.format)
         (flows_in_view span.now.from span.now.to v))) }
-    ensures cause { HasCause (refusal.Query QueryError.Fault) faults.old faults.new result }
+    ensures cause { HasCause (refusal.Query ReadRefusal.Fault) faults.old faults.new result }
 {
     let (from, to) = (span.from(), span.to());
     let mut templates = snapshot.templates(alloc, faults)?;
@@ -87,7 +88,7 @@ fn write_kept<S: SealedFile, W: Write>(
     ensures cut { IsTrue snapshot.now.honest → (v : View) → IsViewOf snapshot.now.shelf v
         → IfErr result (λ e. IsBlameless e
         × AppendsFront (W.contents output.old) (W.contents output.new) (flows_lines format span.now v)) }
-    ensures cause { HasCause (refusal.Query QueryError.Fault) faults.old faults.new result }
+    ensures cause { HasCause (refusal.Query ReadRefusal.Fault) faults.old faults.new result }
 {
     let mut lines = FlowLines::new(alloc, format)?;
     tell_kept(alloc, snapshot, span, &mut lines, output, faults)?;
@@ -113,8 +114,8 @@ fn list<D: Disk, W: Write>(
         (W.contents output.new)) }
     ensures written { OnOk result (Writes (AreFlows format) (W.contents output.old) (W.contents output.new)) }
     ensures kept { IfErr result (λ e. WritesUpTo (AreFlows format) e (W.contents output.old) (W.contents output.new)) }
-    ensures opened { IfErr result (λ e. e ≢ refusal.Opening RecoverError.Fault) }
-    ensures cause { HasCause (refusal.Query QueryError.Fault) faults.old faults.new result }
+    ensures opened { IfErr result (λ e. e ≢ refusal.Opening OpenError.Fault) }
+    ensures cause { HasCause (refusal.Query ReadRefusal.Fault) faults.old faults.new result }
 {
     let asked = to_ask(alloc, archive)?;
     write_kept(alloc, &asked.snapshot, span, format, output, faults)
@@ -150,9 +151,9 @@ pub fn flows<D: Disk, W: Write>(
     ensures any_moment { KeepsArchive D.Disk disk (disk_of result) }
     ensures handed { IfOk result (IsHandedOn D.Disk disk) }
     // It is a fault of opening exactly where a call of the disk failed, and one of asking exactly where a read failed.
-    ensures opening { HasCause (refusal.Opening RecoverError.Fault) (D.faults disk) (D.faults (disk_of result))
+    ensures opening { HasCause (refusal.Opening OpenError.Fault) (D.faults disk) (D.faults (disk_of result))
         (answer_of result) }
-    ensures cause { HasCause (refusal.Query QueryError.Fault) faults.old faults.new (answer_of result) }
+    ensures cause { HasCause (refusal.Query ReadRefusal.Fault) faults.old faults.new (answer_of result) }
 {
     match Archive::open(alloc, disk) {
         Ok(archive) => {

@@ -26,11 +26,12 @@ use crate::plan::{StartSpan, Workers};
 use flow_archive::{Archive, Refused};
 use flow_disk::{Disk, Faults, SealedFile};
 use flow_folder::{FolderDisk, Lockable};
+use flow_manifest::OpenError;
 use flow_measure::Row;
-use flow_recover::RecoverError;
+use flow_refusals::ReadRefusal;
 use flow_report::{Format, write_rows};
 use flow_roller::{Open, scan_by_parts};
-use flow_snapshot::{QueryError, Snapshot};
+use flow_snapshot::Snapshot;
 use std::alloc::{AllocGlobal, Global};
 use std::fs::Files;
 use std::io::Write;
@@ -54,8 +55,8 @@ pub fn ask_rows<S: SealedFile + Send + Sync, H: Threads + Sync>(
     span: &StartSpan,
     workers: &Workers,
     faults: &mut Faults<S>,
-) -> Result<Vec<Row>, QueryError>
-    ensures cause { HasCause QueryError.Fault faults.old faults.new result }
+) -> Result<Vec<Row>, ReadRefusal>
+    ensures cause { HasCause ReadRefusal.Fault faults.old faults.new result }
     // On honest disks: what is answered by each view of the files; where its sums fit their types none is damaged.
     ensures given { IsTrue snapshot.now.honest → (v : View) → IsViewOf snapshot.now.shelf v
         → IsMade (first_file snapshot.now.shelf) (SumsFit v)
@@ -92,8 +93,8 @@ where
     ensures refused { IsTrue (D.honest archive.old.disk) → (reads : ℕ → List ℕ) → StandsFor reads archive.old.state
         → IfErr result (IsNotFound SumsFit reads) }
     ensures unwritten { IfErr result (λ e. IsBeforeWriting e) }
-    ensures opened { IfErr result (λ e. e ≢ refusal.Opening RecoverError.Fault) }
-    ensures cause { HasCause (refusal.Query QueryError.Fault) faults.old faults.new result }
+    ensures opened { IfErr result (λ e. e ≢ refusal.Opening OpenError.Fault) }
+    ensures cause { HasCause (refusal.Query ReadRefusal.Fault) faults.old faults.new result }
 {
     let asked = to_ask(alloc, archive)?;
     let rows = ask_rows(rt, alloc, &asked.snapshot, span, workers, faults)?;
@@ -125,8 +126,8 @@ where
         (W.contents output.new)) }
     ensures written { OnOk result (Writes (AreRows format) (W.contents output.old) (W.contents output.new)) }
     ensures kept { IfErr result (λ e. WritesOrNot (AreRows format) e (W.contents output.old) (W.contents output.new)) }
-    ensures opened { IfErr result (λ e. e ≢ refusal.Opening RecoverError.Fault) }
-    ensures cause { HasCause (refusal.Query QueryError.Fault) faults.old faults.new result }
+    ensures opened { IfErr result (λ e. e ≢ refusal.Opening OpenError.Fault) }
+    ensures cause { HasCause (refusal.Query ReadRefusal.Fault) faults.old faults.new result }
 {
     let found = find_rows(rt, alloc, archive, span, workers, faults)?;
     write_rows(alloc, found.rows.as_slice(), found.width, format, output)?;
@@ -165,9 +166,9 @@ where
     ensures any_moment { KeepsArchive D.Disk disk (disk_of result) }
     ensures handed { IfOk result (IsHandedOn D.Disk disk) }
     // It is a fault of opening exactly where a call of the disk failed, and one of asking exactly where a read failed.
-    ensures opening { HasCause (refusal.Opening RecoverError.Fault) (D.faults disk) (D.faults (disk_of result))
+    ensures opening { HasCause (refusal.Opening OpenError.Fault) (D.faults disk) (D.faults (disk_of result))
         (answer_of result) }
-    ensures cause { HasCause (refusal.Query QueryError.Fault) faults.old faults.new (answer_of result) }
+    ensures cause { HasCause (refusal.Query ReadRefusal.Fault) faults.old faults.new (answer_of result) }
 {
     match Archive::open(alloc, disk) {
         Ok(archive) => {

@@ -4,7 +4,6 @@ ghost use Rattle.std.specs.Prelude.{◌≡◌, Some};
 ghost use Rattle.flow_commands.specs.Warnings.{gap_part, gap_text, lacks_of, lacks_text, message_place, place_text};
 ghost use Rattle.flow_commands.specs.Warnings.{stop_place, stream_place, unread_part, unread_text};
 
-use crate::feed_line::stop_name;
 use crate::progress::Progress;
 use flow_archive::ArchiveError;
 use flow_codec::{FileError, Losses, MessageError, StreamError};
@@ -89,7 +88,7 @@ impl fmt::Display for StoppedFile<'_> {
             self.number,
             self.path,
             self.messages,
-            stop_name(self.stop),
+            self.stop.code(),
             stop_place(self.stop)
         )
     }

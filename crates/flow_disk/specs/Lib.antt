@@ -5,3 +5,4 @@ pub mod Files
 pub mod Laws
 pub mod Moments
 pub mod Printed
+pub mod Window

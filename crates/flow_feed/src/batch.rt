@@ -1,7 +1,11 @@
 //! Messages of a File, as they are read and given to an archive.
 
+ghost use Rattle.std.specs.Prelude.{◌≡◌};
+ghost use Rattle.flow_feed.specs.Stopped.{stop_code};
+
 use flow_archive::ArchiveError;
 use flow_codec::StreamError;
+use flow_refusals::RefusalCode;
 
 /// Why a File isn't taken in whole.
 #[derive(Clone, Copy, Debug, PartialEq, Eq)]
@@ -15,6 +19,20 @@ pub enum FeedStop {
     OutOfMemory,
     /// The File can't be opened (31). `feed`, which is given an open one, never answers this.
     Unopened,
+}
+
+impl FeedStop {
+    /// The refusal, without what it carries.
+    pub fn code(self) -> RefusalCode
+        ensures { result ≡ stop_code self }
+    {
+        match self {
+            FeedStop::File(error) => error.code(),
+            FeedStop::Archive(error) => error.code(),
+            FeedStop::OutOfMemory => RefusalCode::OutOfMemory,
+            FeedStop::Unopened => RefusalCode::Read,
+        }
+    }
 }
 
 /// How far a File was taken in.

@@ -11,8 +11,8 @@ use Rattle.flow_disk.specs.Moments.{Elapses}
 use Rattle.flow_disk.specs.Calls.{LeavesOnly}
 use Rattle.flow_disk.proofs.Moments.{started, goes_on}
 use Rattle.flow_gate.specs.declared.tail.Tail.{Tail}
-use Rattle.flow_gate.specs.declared.tail.ScanError.{ScanError}
-use Rattle.flow_gate.specs.declared.tail.ScanError.TheVariants.{Damaged, Fault, OutOfMemory}
+use Rattle.flow_refusals.specs.declared.read_refusal.ReadRefusal.{ReadRefusal}
+use Rattle.flow_refusals.specs.declared.read_refusal.ReadRefusal.TheVariants.{Damaged, Fault, OutOfMemory}
 use Rattle.flow_gate.specs.Scan.{IsTail, IsTold, IsTailRead, IsToldRead, IsGiven, IsRefused, IsNamed, texts}
 use Rattle.flow_gate.proofs.Exact.{one_list, never_both, one_place}
 use Rattle.flow_gate.specs.Gate.{IsWhole, IsClosedAt, IsFaultyAt, StandsAt, StandInRow, IsGated, IsDamaged}
@@ -94,7 +94,7 @@ whole_row octets place (message ∷ list) row =
 
 -- a scan that read the rest of the file
 module _ (reads octets : List ℕ) (file from : ℕ) (rest : octets ≡ drop from reads) (within : from ≤ length reads) where
-  pub found_in : (result : Result Tail ScanError)
+  pub found_in : (result : Result Tail ReadRefusal)
       → IfOk result (λ tail. IsTailRead octets from tail.end tail.messages.items)
       → IfOk result (λ tail. IsTail reads from tail.end tail.messages.items)
   found_in (Ok tail) is =
@@ -105,26 +105,26 @@ module _ (reads octets : List ℕ) (file from : ℕ) (rest : octets ≡ drop fro
       }
   found_in (Err e) is = tt
 
-  told_of : (e : ScanError) → IsToldRead octets file from e → IsTold reads file from e
+  told_of : (e : ReadRefusal) → IsToldRead octets file from e → IsTold reads file from e
   told_of (Damaged of at) is =
       (is.0, damaged_behind reads from is.1 at is.2 within (subst (λ l. IsDamaged l 0 is.1) rest is.3))
   told_of Fault is = tt
   told_of OutOfMemory is = tt
 
-  pub told_in : (result : Result Tail ScanError) → IfErr result (λ e. IsToldRead octets file from e)
+  pub told_in : (result : Result Tail ReadRefusal) → IfErr result (λ e. IsToldRead octets file from e)
       → IfErr result (λ e. IsTold reads file from e)
   told_in (Ok tail) is = tt
   told_in (Err e) is = told_of e is
 
 -- a list that is there is given, and no other
-given_of : (reads : List ℕ) (file from : ℕ) (list : List (List ℕ)) → IsGated reads from list → (e : ScanError)
+given_of : (reads : List ℕ) (file from : ℕ) (list : List (List ℕ)) → IsGated reads from list → (e : ReadRefusal)
     → IsTold reads file from e → IsGiven list from (Err e)
 given_of reads file from list gated (Damaged of at) is = never_both reads from at list gated is.1
 given_of reads file from list gated Fault is = tt
 given_of reads file from list gated OutOfMemory is = tt
 
 pub given_in : (reads : List ℕ) (file from : ℕ) (list : List (List ℕ)) → IsGated reads from list
-    → (result : Result Tail ScanError)
+    → (result : Result Tail ReadRefusal)
     → IfOk result (λ tail. IsTail reads from tail.end tail.messages.items)
     → IfErr result (λ e. IsTold reads file from e) → IsGiven list from result
 given_in reads file from list gated (Ok tail) found told =
@@ -133,20 +133,21 @@ given_in reads file from list gated (Ok tail) found told =
 given_in reads file from list gated (Err e) found told = given_of reads file from list gated e told
 
 -- damage is reported at its place
-refused_of : (reads : List ℕ) (file from place : ℕ) → IsDamaged reads from place → (e : ScanError)
+refused_of : (reads : List ℕ) (file from place : ℕ) → IsDamaged reads from place → (e : ReadRefusal)
     → IsTold reads file from e → IsRefused file place (Err e)
 refused_of reads file from place damaged (Damaged of at) is = (is.0, one_place reads from at place is.1 damaged)
 refused_of reads file from place damaged Fault is = tt
 refused_of reads file from place damaged OutOfMemory is = tt
 
-pub refused_in : (reads : List ℕ) (file from place : ℕ) → IsDamaged reads from place → (result : Result Tail ScanError)
+pub refused_in : (reads : List ℕ) (file from place : ℕ) → IsDamaged reads from place
+    → (result : Result Tail ReadRefusal)
     → IfOk result (λ tail. IsTail reads from tail.end tail.messages.items)
     → IfErr result (λ e. IsTold reads file from e) → IsRefused file place result
 refused_in reads file from place damaged (Ok tail) found told =
     absurd (never_both reads from place (texts tail.messages.items) found.gated damaged)
 refused_in reads file from place damaged (Err e) found told = refused_of reads file from place damaged e told
 
-pub whole_in : (octets : List ℕ) (from : ℕ) (result : Result Tail ScanError)
+pub whole_in : (octets : List ℕ) (from : ℕ) (result : Result Tail ReadRefusal)
     → IfOk result (λ tail. IsTailRead octets from tail.end tail.messages.items)
     → IfOk result (λ tail. All IsWhole (texts tail.messages.items))
 whole_in octets from (Ok tail) is = let gated = is.gated in whole_row octets 0 (texts tail.messages.items) gated.row
@@ -167,12 +168,12 @@ module _ {D S X : Type 0} (g : Ghosts D S X) (start mid : D)
       goes_on g start mid new (IsDiskImage (g.held start)) (g.held mid) looked second
       (λ image is n. subst (λ (f : Held). IsImage f (image n)) (same n) (is n))
 
-named_of : (octets : List ℕ) (file from : ℕ) (e : ScanError) → IsToldRead octets file from e → IsNamed file from e
+named_of : (octets : List ℕ) (file from : ℕ) (e : ReadRefusal) → IsToldRead octets file from e → IsNamed file from e
 named_of octets file from (Damaged of at) is = (is.0, omega (arith, is.2))
 named_of octets file from Fault is = tt
 named_of octets file from OutOfMemory is = tt
 
-pub named_in : (octets : List ℕ) (file from : ℕ) (result : Result Tail ScanError)
+pub named_in : (octets : List ℕ) (file from : ℕ) (result : Result Tail ReadRefusal)
     → IfErr result (λ e. IsToldRead octets file from e) → IfErr result (λ e. IsNamed file from e)
 named_in octets file from (Ok tail) is = tt
 named_in octets file from (Err e) is = named_of octets file from e is

@@ -1,14 +1,11 @@
 -- What a scan finds and reports.
-use Rattle.std.specs.Prelude.{◌≡◌, ℕ, ◌+◌, ◌≤◌, List, ◌++◌, length, map, Vec, codes, Result, Ok, Err}
-use Rattle.std.specs.Fmt.{decimal}
+use Rattle.std.specs.Prelude.{◌≡◌, ℕ, ◌+◌, ◌≤◌, List, length, map, Vec, Result, Ok, Err}
 use Rattle.std.specs.declared.alloc.Global.{Global}
-use Rattle.flow_disk.specs.declared.error.DiskError.{DiskError}
-use Rattle.flow_disk.specs.declared.error.DiskError.TheVariants as disk
 use Rattle.flow_gate.specs.declared.tail.Found.{Found}
 use Rattle.flow_gate.specs.declared.tail.Found.TheVariants.{Closed, Message, Damage}
 use Rattle.flow_gate.specs.declared.tail.Tail.{Tail}
-use Rattle.flow_gate.specs.declared.tail.ScanError.{ScanError}
-use Rattle.flow_gate.specs.declared.tail.ScanError.TheVariants.{Damaged, Fault, OutOfMemory}
+use Rattle.flow_refusals.specs.declared.read_refusal.ReadRefusal.{ReadRefusal}
+use Rattle.flow_refusals.specs.declared.read_refusal.ReadRefusal.TheVariants.{Damaged, Fault, OutOfMemory}
 use Rattle.flow_gate.specs.Gate.{IsClosedAt, IsFaultyAt, IsMessageAt, IsGated, IsDamaged, octet_sum}
 
 -- the octets of each message
@@ -21,26 +18,26 @@ pub record IsTail (octets : List ℕ) (from end : ℕ) (messages : List (Vec ℕ
   pub ends : end ≡ from + octet_sum (texts messages)
 
 -- Damage is reported of this file alone, at its place.
-abbrev pub IsTold : List ℕ → ℕ → ℕ → ScanError → Type 0
+abbrev pub IsTold : List ℕ → ℕ → ℕ → ReadRefusal → Type 0
 IsTold octets file from (Damaged of at) = (of ≡ file) × IsDamaged octets from at
 IsTold octets file from Fault = Unit {0}
 IsTold octets file from OutOfMemory = Unit {0}
 
 -- Damage names this file, and no place before the first one that was looked at.
-abbrev pub IsNamed : ℕ → ℕ → ScanError → Type 0
+abbrev pub IsNamed : ℕ → ℕ → ReadRefusal → Type 0
 IsNamed file from (Damaged of at) = (of ≡ file) × (from ≤ at)
 IsNamed file from Fault = Unit {0}
 IsNamed file from OutOfMemory = Unit {0}
 
 -- Where the octets are this list it is given, and no damage is reported.
-abbrev pub IsGiven : List (List ℕ) → ℕ → Result Tail ScanError → Type 0
+abbrev pub IsGiven : List (List ℕ) → ℕ → Result Tail ReadRefusal → Type 0
 IsGiven list from (Ok tail) = (texts tail.messages.items ≡ list) × (tail.end ≡ from + octet_sum list)
 IsGiven list from (Err (Damaged of at)) = ⊥
 IsGiven list from (Err Fault) = Unit {0}
 IsGiven list from (Err OutOfMemory) = Unit {0}
 
 -- Where there is damage its place is reported, and no list is given.
-abbrev pub IsRefused : ℕ → ℕ → Result Tail ScanError → Type 0
+abbrev pub IsRefused : ℕ → ℕ → Result Tail ReadRefusal → Type 0
 IsRefused file place (Ok tail) = ⊥
 IsRefused file place (Err (Damaged of at)) = (of ≡ file) × (at ≡ place)
 IsRefused file place (Err Fault) = Unit {0}
@@ -51,7 +48,7 @@ pub record IsTailRead (octets : List ℕ) (from end : ℕ) (messages : List (Vec
   pub gated : IsGated octets 0 (texts messages)
   pub ends : end ≡ from + octet_sum (texts messages)
 
-abbrev pub IsToldRead : List ℕ → ℕ → ℕ → ScanError → Type 0
+abbrev pub IsToldRead : List ℕ → ℕ → ℕ → ReadRefusal → Type 0
 IsToldRead octets file from (Damaged of at) = (of ≡ file) × (place : ℕ) × (at ≡ from + place) × IsDamaged octets 0 place
 IsToldRead octets file from Fault = ⊥
 IsToldRead octets file from OutOfMemory = Unit {0}
@@ -66,14 +63,3 @@ abbrev pub IsFoundAt : List ℕ → ℕ → Found → Type 0
 IsFoundAt octets place Closed = IsClosedAt octets place
 IsFoundAt octets place (Message count) = IsOpenAt octets place count
 IsFoundAt octets place Damage = IsFaultyAt octets place
-
--- a disk's refusal, as one of a scan
-abbrev pub scan_error : DiskError → ScanError
-scan_error disk.Fault = Fault
-scan_error disk.OutOfMemory = OutOfMemory
-
--- how a refusal is printed: its number, its name, the file and the place
-abbrev pub printed : ScanError → List ℕ
-printed (Damaged file at) = codes "20 Damaged " ++ decimal file ++ codes " " ++ decimal at
-printed Fault = codes "30 Fault"
-printed OutOfMemory = codes "11 OutOfMemory"

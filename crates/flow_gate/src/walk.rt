@@ -9,21 +9,22 @@ ghost use Rattle.flow_gate.specs.Scan.{IsFoundAt, IsTail, IsTold, IsTailRead, Is
 ghost use Rattle.flow_gate.specs.Scan.{texts};
 
 use crate::messages::{TRAILER, VERSION, message_at};
-use crate::tail::{Found, ScanError, Tail};
+use crate::tail::{Found, Tail};
 use flow_disk::Disk;
+use flow_refusals::ReadRefusal;
 use std::alloc::Global;
 
 /// Reads the messages from a place on, up to a closed gate. The disk stays as it is. On an honest disk it is Ok on a
 /// gated list alone, and reports damage, at its place, only where there is none; a `from` past the end is damage at
 /// `from`. It answers `Fault` exactly where the disk's count of failures rose.
-pub fn scan<D: Disk>(alloc: Global, disk: &mut D, file: u64, from: u64) -> Result<Tail, ScanError>
+pub fn scan<D: Disk>(alloc: Global, disk: &mut D, file: u64, from: u64) -> Result<Tail, ReadRefusal>
     // On every disk.
     ensures reads { OnlyReads D.Disk disk.old disk.new file }
     ensures size { IfOk result (λ tail. tail.end + 2 ≤ (D.marks disk.new file).size) }
     ensures ends { IfOk result (λ tail. tail.end ≡ from + octet_sum (texts tail.messages.items)) }
     ensures whole { IfOk result (λ tail. All IsWhole (texts tail.messages.items)) }
     ensures names { IfErr result (λ e. IsNamed file from e) }
-    ensures cause { HasCause ScanError.Fault (D.faults disk.old) (D.faults disk.new) result }
+    ensures cause { HasCause ReadRefusal.Fault (D.faults disk.old) (D.faults disk.new) result }
 
     // On an honest one.
     ensures found { IsTrue (D.honest disk.old)
@@ -38,14 +39,14 @@ pub fn scan<D: Disk>(alloc: Global, disk: &mut D, file: u64, from: u64) -> Resul
 {
     let size = disk.length(file)?;
     if from > size {
-        return Err(ScanError::Damaged(file, from));
+        return Err(ReadRefusal::Damaged(file, from));
     }
     let octets = disk.read(alloc, file, from, (size - from) as usize)?;
     walk(alloc, &octets, file, from)
 }
 
 /// The messages of octets that were read from place `from` on.
-fn walk(alloc: Global, octets: &[u8], file: u64, from: u64) -> Result<Tail, ScanError>
+fn walk(alloc: Global, octets: &[u8], file: u64, from: u64) -> Result<Tail, ReadRefusal>
     requires { from + length octets.now < 2 ^ 64 }
     ensures found { IfOk result (λ tail. IsTailRead octets.now from tail.end tail.messages.items) }
     ensures told { IfErr result (λ e. IsToldRead octets.now file from e) }
@@ -64,7 +65,7 @@ fn walk(alloc: Global, octets: &[u8], file: u64, from: u64) -> Result<Tail, Scan
                 messages.push(octets[at..at + count].to_vec(alloc)?)?;
                 at += count;
             }
-            Found::Damage => return Err(ScanError::Damaged(file, from + at as u64)),
+            Found::Damage => return Err(ReadRefusal::Damaged(file, from + at as u64)),
         }
     }
 }

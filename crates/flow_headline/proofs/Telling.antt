@@ -9,8 +9,8 @@ use Rattle.flow_measure.specs.declared.rows.Row.{Row}
 use Rattle.flow_measure.specs.History.{History, IsHistory}
 use Rattle.flow_measure.specs.Query.{totals_in_view}
 use Rattle.flow_measure.specs.View.{View, view_of, AreCountsOf}
-use Rattle.flow_snapshot.specs.declared.error.QueryError.{QueryError}
-use Rattle.flow_snapshot.specs.declared.error.QueryError.TheVariants as query
+use Rattle.flow_refusals.specs.declared.read_refusal.ReadRefusal.{ReadRefusal}
+use Rattle.flow_refusals.specs.declared.read_refusal.ReadRefusal.TheVariants as query
 use Rattle.flow_model.specs.Changes.{counts_of}
 use Rattle.flow_model.specs.Shelf.{Shelf}
 use Rattle.flow_snapshot.specs.Told.{IsNoDamage}
@@ -26,17 +26,17 @@ use Rattle.flow_headline.specs.Front.{IsFront, grown}
 use Rattle.flow_headline.specs.Machine.{AreTotals, Fused, IsRefusal, IsStoppedRun, IsUnanswered}
 
 -- damage that is reported of an archive in memory
-pub unanswered : (s : State) (honest : Bool) (shelf : Shelf) (e : QueryError) (file at : ℕ)
+pub unanswered : (s : State) (honest : Bool) (shelf : Shelf) (e : ReadRefusal) (file at : ℕ)
     → e ≡ query.Damaged file at → honest ≡ true → shelf ≡ shelf_of s
     → (IsTrue honest → (v : View) → IsViewOf shelf v → IsSpent (first_file shelf) (SumsFit v) e)
     → (IsTrue honest → (h : History) (counts : List ℕ) → IsHistory h → AreCountsOf h counts → IsWithinLimits h
     → IsViewOf shelf (view_of h counts) → IsNoDamage e)
     → IsUnanswered s (NotAnswered (query.Damaged file at))
 unanswered s honest shelf e file at damaged reads same given answered = (
-  λ v is. subst (λ (r : QueryError). IsSpent (first_file (shelf_of s)) (SumsFit v) r) damaged
+  λ v is. subst (λ (r : ReadRefusal). IsSpent (first_file (shelf_of s)) (SumsFit v) r) damaged
       (subst (λ (x : Shelf). IsSpent (first_file x) (SumsFit v) e) same
       (given reads v (subst (λ (x : Shelf). IsViewOf x v) (sym same) is))),
-  λ h has within. subst (λ (r : QueryError). IsNoDamage r) damaged
+  λ h has within. subst (λ (r : ReadRefusal). IsNoDamage r) damaged
       (answered reads h (counts_of (shelf_of s)) has.history (all_counted (shelf_of s) h has.history has.view) within
       (subst (λ (x : Shelf). IsViewOf x (view_of h (counts_of (shelf_of s)))) (sym same) has.view)),
 )

@@ -17,7 +17,7 @@ use Rattle.flow_measure.specs.declared.rows.Row.{Row}
 use Rattle.flow_measure.specs.History.{History}
 use Rattle.flow_measure.specs.Query.{totals_between}
 use Rattle.flow_measure.specs.View.{View}
-use Rattle.flow_snapshot.specs.declared.error.QueryError.TheVariants as query
+use Rattle.flow_refusals.specs.declared.read_refusal.ReadRefusal.TheVariants as query
 use Rattle.flow_snapshot.specs.Totals.{first_file, IsSpent, IsWithinLimits, SumsFit}
 use Rattle.flow_model.specs.Views.{IsViewOf}
 use Rattle.flow_model.specs.State.{State}

@@ -6,7 +6,7 @@ ghost use Rattle.flow_headline.specs.declared.error.NotOpened.TheVariants.{OutOf
 ghost use Rattle.flow_headline.specs.declared.error.NotTold.TheVariants.{NotOpened as NotOpenedTold};
 ghost use Rattle.flow_headline.specs.declared.error.NotTold.TheVariants.{NotAnswered as NotAnsweredTold};
 
-use flow_snapshot::QueryError;
+use flow_refusals::{ReadRefusal, RefusalCode};
 use std::alloc::AllocError;
 use std::error::Error;
 use std::fmt;
@@ -27,7 +27,7 @@ impl fmt::Display for NotOpened {
 
     fn fmt<W: fmt::Write>(&self, f: &mut fmt::Formatter<W>) -> fmt::Result {
         match self {
-            NotOpened::OutOfMemory => write!(f, "11 OutOfMemory"),
+            NotOpened::OutOfMemory => write!(f, "{}", RefusalCode::OutOfMemory),
             NotOpened::NoSuchStop => write!(f, "NoSuchStop"),
         }
     }
@@ -49,7 +49,7 @@ pub enum NotTold {
     /// No archive was opened.
     NotOpened(NotOpened),
     /// The query was not answered.
-    NotAnswered(QueryError),
+    NotAnswered(ReadRefusal),
 }
 
 impl fmt::Display for NotTold {
@@ -73,10 +73,10 @@ impl From<NotOpened> for NotTold {
     }
 }
 
-impl From<QueryError> for NotTold {
+impl From<ReadRefusal> for NotTold {
     ghost from_gives = { λ e t. t ≡ NotAnsweredTold e };
 
-    fn from(error: QueryError) -> NotTold {
+    fn from(error: ReadRefusal) -> NotTold {
         NotTold::NotAnswered(error)
     }
 }

@@ -16,8 +16,8 @@ ghost use Rattle.flow_headline.specs.Machine.{IsFusedRun, IsNoStop, IsStoppedRun
 use crate::error::NotOpened;
 use flow_archive::{Answer, Archive, ArchiveError, Event, run};
 use flow_disk::Faults;
+use flow_manifest::OpenError;
 use flow_memory_disk::{Choice, FusedDisk, MemoryDisk};
-use flow_recover::RecoverError;
 use std::alloc::{AllocError, Global};
 
 /// The answers of events, and the archive that was opened after a stop.
@@ -62,7 +62,7 @@ pub fn run_and_open(
     match Archive::open(alloc, disk) {
         Ok(archive) => Ok(Reopened { answers, archive }),
         Err(refused) => match refused.error {
-            RecoverError::OutOfMemory | RecoverError::Fault => Err(NotOpened::OutOfMemory),
+            OpenError::OutOfMemory | OpenError::Fault => Err(NotOpened::OutOfMemory),
             _ => unreachable!(),
         },
     }

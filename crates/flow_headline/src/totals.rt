@@ -15,7 +15,7 @@ use flow_archive::{Answer, Archive, ArchiveError, Event};
 use flow_disk::Faults;
 use flow_measure::Row;
 use flow_memory_disk::{Choice, FusedDisk, MemoryDisk};
-use flow_snapshot::QueryError;
+use flow_refusals::ReadRefusal;
 use std::alloc::Global;
 
 /// The answers of events, and totals that were asked after a stop.
@@ -76,11 +76,11 @@ fn rows_of(
     let snapshot = archive.directory(alloc)?.into_snapshot();
     match snapshot.totals(alloc, from, to, &mut Faults::new()) {
         Ok(rows) => Ok(rows),
-        Err(QueryError::Damaged(file, at)) => {
-            Err(NotTold::NotAnswered(QueryError::Damaged(file, at)))
+        Err(ReadRefusal::Damaged(file, at)) => {
+            Err(NotTold::NotAnswered(ReadRefusal::Damaged(file, at)))
         }
-        Err(QueryError::Fault | QueryError::OutOfMemory) => {
-            Err(NotTold::NotAnswered(QueryError::OutOfMemory))
+        Err(ReadRefusal::Fault | ReadRefusal::OutOfMemory) => {
+            Err(NotTold::NotAnswered(ReadRefusal::OutOfMemory))
         }
     }
 }

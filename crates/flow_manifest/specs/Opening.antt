@@ -2,6 +2,8 @@
 use Rattle.std.specs.Prelude.{◌≡◌, ◌⊎◌, ℕ, ◌<◌, true, List, length, drop, Option, Some, None}
 use Rattle.flow_disk.specs.declared.error.DiskError.{DiskError}
 use Rattle.flow_disk.specs.declared.error.DiskError.TheVariants as disk
+use Rattle.flow_refusals.specs.declared.read_refusal.ReadRefusal.{ReadRefusal}
+use Rattle.flow_refusals.specs.declared.read_refusal.ReadRefusal.TheVariants as read
 use Rattle.flow_manifest.specs.declared.manifest.Manifest.{Manifest}
 use Rattle.flow_manifest.specs.declared.error.ManifestError.{ManifestError}
 use Rattle.flow_manifest.specs.declared.error.ManifestError.TheVariants as manifest
@@ -18,6 +20,12 @@ use Rattle.flow_manifest.specs.Slots.{file_of, IsOpen, IsClosed, Holds}
 abbrev pub told : DiskError → OpenError
 told disk.Fault = Fault
 told disk.OutOfMemory = OutOfMemory
+
+-- why a file isn't read, as a refusal of an opening
+abbrev pub of_file : ReadRefusal → OpenError
+of_file (read.Damaged file at) = Damaged file at
+of_file read.Fault = Fault
+of_file read.OutOfMemory = OutOfMemory
 
 -- the fault of a manifest, as one of its slot
 abbrev pub in_slot : Slot → ManifestError → OpenError

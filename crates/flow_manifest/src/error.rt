@@ -3,10 +3,11 @@
 ghost use Rattle.std.specs.Prelude.{◌≡◌, Some};
 ghost use Rattle.flow_manifest.specs.declared.error.ManifestError.TheVariants as manifest;
 ghost use Rattle.flow_manifest.specs.declared.error.OpenError.TheVariants as opening;
-ghost use Rattle.flow_manifest.specs.Opening.{told};
-ghost use Rattle.flow_manifest.specs.Printed.{manifest_text, opening_text};
+ghost use Rattle.flow_manifest.specs.Opening.{of_file, told};
+ghost use Rattle.flow_manifest.specs.Printed.{manifest_text, opening_code, opening_text};
 
 use flow_disk::DiskError;
+use flow_refusals::{ReadRefusal, RefusalCode};
 use std::alloc::{AllocError, AllocFailed};
 use std::error::Error;
 use std::fmt;
@@ -29,10 +30,10 @@ impl fmt::Display for ManifestError {
 
     fn fmt<W: fmt::Write>(&self, f: &mut fmt::Formatter<W>) -> fmt::Result {
         match self {
-            ManifestError::Format => write!(f, "21 Format"),
-            ManifestError::Entries => write!(f, "22 Entries"),
-            ManifestError::Cut => write!(f, "23 Cut"),
-            ManifestError::OutOfMemory => write!(f, "11 OutOfMemory"),
+            ManifestError::Format => write!(f, "{}", RefusalCode::Format),
+            ManifestError::Entries => write!(f, "{}", RefusalCode::Entries),
+            ManifestError::Cut => write!(f, "{}", RefusalCode::SlotCut),
+            ManifestError::OutOfMemory => write!(f, "{}", RefusalCode::OutOfMemory),
         }
     }
 }
@@ -74,18 +75,35 @@ pub enum OpenError {
     OutOfMemory,
 }
 
+impl OpenError {
+    /// The refusal, without what it carries.
+    pub fn code(self) -> RefusalCode
+        ensures { result ≡ opening_code self }
+    {
+        match self {
+            OpenError::Damaged(_, _) => RefusalCode::Damaged,
+            OpenError::Format(_) => RefusalCode::Format,
+            OpenError::Entries(_) => RefusalCode::Entries,
+            OpenError::Cut(_) => RefusalCode::SlotCut,
+            OpenError::NoArchive => RefusalCode::NoArchive,
+            OpenError::Fault => RefusalCode::Fault,
+            OpenError::OutOfMemory => RefusalCode::OutOfMemory,
+        }
+    }
+}
+
 impl fmt::Display for OpenError {
     ghost output = { λ e. Some (opening_text e) };
 
     fn fmt<W: fmt::Write>(&self, f: &mut fmt::Formatter<W>) -> fmt::Result {
         match self {
-            OpenError::Damaged(file, at) => write!(f, "20 Damaged {file} {at}"),
-            OpenError::Format(file) => write!(f, "21 Format {file}"),
-            OpenError::Entries(file) => write!(f, "22 Entries {file}"),
-            OpenError::Cut(file) => write!(f, "23 Cut {file}"),
-            OpenError::NoArchive => write!(f, "24 NoArchive"),
-            OpenError::Fault => write!(f, "30 Fault"),
-            OpenError::OutOfMemory => write!(f, "11 OutOfMemory"),
+            OpenError::Damaged(file, at) => write!(f, "{} {file} {at}", self.code()),
+            OpenError::Format(file) | OpenError::Entries(file) | OpenError::Cut(file) => {
+                write!(f, "{} {file}", self.code())
+            }
+            OpenError::NoArchive | OpenError::Fault | OpenError::OutOfMemory => {
+                write!(f, "{}", self.code())
+            }
         }
     }
 }
@@ -99,6 +117,18 @@ impl From<DiskError> for OpenError {
         match e {
             DiskError::Fault => OpenError::Fault,
             DiskError::OutOfMemory => OpenError::OutOfMemory,
+        }
+    }
+}
+
+impl From<ReadRefusal> for OpenError {
+    ghost from_gives = { λ e told_as. told_as ≡ of_file e };
+
+    fn from(e: ReadRefusal) -> OpenError {
+        match e {
+            ReadRefusal::Damaged(file, at) => OpenError::Damaged(file, at),
+            ReadRefusal::Fault => OpenError::Fault,
+            ReadRefusal::OutOfMemory => OpenError::OutOfMemory,
         }
     }
 }

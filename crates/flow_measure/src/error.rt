@@ -1,9 +1,10 @@
 //! Why sums were not made.
 
 ghost use Rattle.std.specs.Prelude.{◌≡◌, Some};
-ghost use Rattle.flow_measure.specs.Printed.{printed};
+ghost use Rattle.flow_measure.specs.Printed.{printed, sum_refusal};
 ghost use Rattle.flow_measure.specs.declared.error.SumError.TheVariants.{OutOfMemory};
 
+use flow_refusals::{RefusalCode, SumRefusal};
 use std::alloc::{AllocError, AllocFailed};
 use std::error::Error;
 use std::fmt;
@@ -23,13 +24,24 @@ impl fmt::Display for SumError {
 
     fn fmt<W: fmt::Write>(&self, f: &mut fmt::Formatter<W>) -> fmt::Result {
         match self {
-            SumError::SumSpent => write!(f, "14 SumSpent"),
-            SumError::OutOfMemory => write!(f, "11 OutOfMemory"),
+            SumError::SumSpent => write!(f, "{}", RefusalCode::SumSpent),
+            SumError::OutOfMemory => write!(f, "{}", RefusalCode::OutOfMemory),
         }
     }
 }
 
 impl Error for SumError {}
+
+impl From<SumError> for SumRefusal {
+    ghost from_gives = { λ error refusal. refusal ≡ sum_refusal error };
+
+    fn from(error: SumError) -> SumRefusal {
+        match error {
+            SumError::SumSpent => SumRefusal::SumSpent,
+            SumError::OutOfMemory => SumRefusal::OutOfMemory,
+        }
+    }
+}
 
 impl From<AllocError> for SumError {
     ghost from_gives = { λ _ e. e ≡ OutOfMemory };

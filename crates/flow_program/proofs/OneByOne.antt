@@ -2,7 +2,7 @@
 use Rattle.std.proofs.Common.{◌≡◌, ◌≤◌, ◌<◌, ◌∙◌, ℕ, suc, ◌+◌, Bool, true, false, List, [], ◌∷◌, ◌++◌, Option, Some, None}
 use Rattle.std.proofs.Common.{refl, sym, ap, subst, append_assoc, arith, codes, eqb-true, length, length-append, get_or}
 use Rattle.std.specs.Prelude.{◌||◌, IfSome, if◌then◌else◌, cond, nat_eq, not, take, Result, Ok, Err, OnErr, OnOk}
-use Rattle.std.specs.Fmt.{decimal}
+use Rattle.std.specs.Fmt.{decimal, digits}
 use Rattle.std.specs.Io.KnownBytes.{Appends, Keeps}
 use Rattle.std.specs.List.{position_or_len}
 use Rattle.std.proofs.KnownBytes.{Appends-nil, Appends-trans, Keeps-refl, Keeps-trans}
@@ -10,6 +10,7 @@ use Rattle.std.proofs.Math.Seq.{take-append-add, take-length}
 use Rattle.std.proofs.lemmas.List.{take-append-le}
 use Rattle.std.proofs.lemmas.List.Sums.{prefix_len_passes, prefix_len_stops}
 use Rattle.clap.specs.Walk.{Text}
+use Rattle.flow_refusals.specs.Table.{code_text}
 use Rattle.flow_report.specs.declared.format.Format.{Format}
 use Rattle.flow_report.specs.declared.refusal.Refusal.{Refusal}
 use Rattle.flow_report.specs.declared.refusal.Refusal.TheVariants.{Message, File, OutOfMemory, SumSpent, NumbersSpent}
@@ -252,6 +253,7 @@ after_number = codes "\nflowvault: see: flowvault explain 11\n"
 
 pieces : (number : ℕ)
     → told_lines (file_printed OutOfMemory number) ≡ before_number ++ decimal number ++ after_number
+unfolding code_text digits
 pieces number = ap (λ (l : List ℕ). before_number ++ l) (append_assoc (decimal number) (codes "\n") (codes "flowvault: see: flowvault explain 11\n"))
     ∙ sym (append_assoc before_number (decimal number) after_number)
 

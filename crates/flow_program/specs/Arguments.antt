@@ -10,7 +10,7 @@ use Rattle.flow_program.specs.declared.request.Request.TheVariants.{Measure, Dum
 use Rattle.flow_program.specs.declared.request.Request.TheVariants.{Create, Check, CheckFiles}
 use Rattle.flow_program.specs.declared.request.Request.TheVariants.{Totals, Flows}
 use Rattle.flow_program.specs.declared.request.Request.TheVariants.{Feed, Shell, Roll, Merge, Explain}
-use Rattle.flow_program.specs.Explain.{is_refusal}
+use Rattle.flow_refusals.specs.Table.{is_refusal}
 use Rattle.flow_program.specs.declared.arguments.MomentSpan.{MomentSpan}
 use Rattle.flow_moments.specs.declared.moment.Moment.{Moment}
 use Rattle.flow_moments.specs.declared.moment.Moment.TheVariants.{Second}

@@ -1,4 +1,3 @@
-pub mod Explain
 pub mod Arguments
 pub mod CommandLine
 pub mod Requested

@@ -24,9 +24,9 @@ use Rattle.flow_model.specs.State.{at_rest, Part, State, end_of, reopened}
 use Rattle.flow_manifest.specs.Following.{active_of, front_of, no_entry}
 use Rattle.flow_model.specs.Standing.{StandsForEither, IsActiveAt, StandsAs, PartsStand, HoldsFiles, StandsFor}
 use Rattle.flow_model.specs.Standing.{IsKnown, is_file_of, SameNamed}
-use Rattle.flow_recover.specs.declared.error.RecoverError.{RecoverError}
-use Rattle.flow_recover.specs.declared.error.RecoverError.TheVariants.{Damaged, Format, Entries, Cut, NoArchive, Fault}
-use Rattle.flow_recover.specs.declared.error.RecoverError.TheVariants.{OutOfMemory}
+use Rattle.flow_manifest.specs.declared.error.OpenError.{OpenError}
+use Rattle.flow_manifest.specs.declared.error.OpenError.TheVariants.{Damaged, Format, Entries, Cut, NoArchive, Fault}
+use Rattle.flow_manifest.specs.declared.error.OpenError.TheVariants.{OutOfMemory}
 use Rattle.flow_recover.specs.Kept.{AreFilesOf, IsFileOf}
 use Rattle.flow_recover.specs.Opening.{FilesStand, FrozenStand, IsDeviceOrMemory, IsRead, StandsForNone}
 use Rattle.flow_segment.specs.Carry.{Carry}
@@ -372,7 +372,7 @@ part_is image (e ∷ entries) (p ∷ parts) (suc i) is lt = part_is image entrie
 -- ---- refusals
 
 -- a refusal that no state with this manifest explains, over slots that hold it
-pub told_of_files : (slots : Slots) (before reads : ℕ → List ℕ) (e : RecoverError) → ((n : ℕ) → reads n ≡ before n)
+pub told_of_files : (slots : Slots) (before reads : ℕ → List ℕ) (e : OpenError) → ((n : ℕ) → reads n ≡ before n)
     → AreSlots slots reads
     → ((s : State) → s.manifest ≡ slots.current → HoldsFiles reads s → IsDeviceOrMemory e) → IsDeviceOrMemory e
     ⊎ StandsForNone before

@@ -1,5 +1,4 @@
 pub mod Kept
 pub mod Reading
 pub mod Opening
-pub mod Printed
 pub mod Laws

@@ -2,21 +2,12 @@
 use Rattle.std.specs.Prelude.{◌≡◌, ◌⊎◌, ℕ, ◌+◌, Bool, true, IsTrue, List, [], ◌∷◌, length}
 use Rattle.std.specs.List.{AllByRecursion}
 use Rattle.flow_disk.specs.Disk.{AllImages, Held, Marks}
-use Rattle.flow_disk.specs.declared.error.DiskError.{DiskError}
-use Rattle.flow_disk.specs.declared.error.DiskError.TheVariants as disk
-use Rattle.flow_gate.specs.declared.tail.ScanError.{ScanError}
-use Rattle.flow_gate.specs.declared.tail.ScanError.TheVariants as scan
 use Rattle.flow_manifest.specs.declared.error.OpenError.{OpenError}
-use Rattle.flow_manifest.specs.declared.error.OpenError.TheVariants as slot
 use Rattle.flow_manifest.specs.declared.manifest.Entry.{Entry}
 use Rattle.flow_manifest.specs.declared.manifest.Manifest.{Manifest}
 use Rattle.flow_model.specs.Chain.{HandsOn, IsSegment}
 use Rattle.flow_segment.specs.Carry.{Carry}
-use Rattle.flow_rolled.specs.declared.error.RowError.{RowError}
-use Rattle.flow_rolled.specs.declared.error.RowError.TheVariants as row
-use Rattle.flow_recover.specs.declared.error.RecoverError.{RecoverError}
-use Rattle.flow_recover.specs.declared.error.RecoverError.TheVariants.{Damaged, Format, Entries, Cut, NoArchive, Fault}
-use Rattle.flow_recover.specs.declared.error.RecoverError.TheVariants.{OutOfMemory}
+use Rattle.flow_manifest.specs.declared.error.OpenError.TheVariants.{Fault, OutOfMemory}
 use Rattle.flow_model.specs.State.{Part, State, at_rest}
 use Rattle.flow_model.specs.Standing.{HoldsFiles, IsActiveAt, IsKnown, IsWithinLimits, PartsStand}
 use Rattle.flow_model.specs.Standing.{StandsAs, StandsFor}
@@ -25,32 +16,8 @@ use Rattle.flow_manifest.specs.Following.{active_of, front_of}
 use Rattle.flow_manifest.specs.Slots.{AreSlots}
 use Rattle.flow_manifest.specs.declared.slots.Slots.{Slots}
 
--- the refusals of the layers below as those of an opening
-abbrev pub of_disk : DiskError → RecoverError
-of_disk disk.Fault = Fault
-of_disk disk.OutOfMemory = OutOfMemory
-
-abbrev pub of_slots : OpenError → RecoverError
-of_slots (slot.Damaged file at) = Damaged file at
-of_slots (slot.Format file) = Format file
-of_slots (slot.Entries file) = Entries file
-of_slots (slot.Cut file) = Cut file
-of_slots slot.NoArchive = NoArchive
-of_slots slot.Fault = Fault
-of_slots slot.OutOfMemory = OutOfMemory
-
-abbrev pub of_scan : ScanError → RecoverError
-of_scan (scan.Damaged file at) = Damaged file at
-of_scan scan.Fault = Fault
-of_scan scan.OutOfMemory = OutOfMemory
-
-abbrev pub of_rows : RowError → RecoverError
-of_rows (row.Damaged file at) = Damaged file at
-of_rows row.Fault = Fault
-of_rows row.OutOfMemory = OutOfMemory
-
 -- the refusals that say nothing of what the disk holds
-abbrev pub IsDeviceOrMemory : RecoverError → Type 0
+abbrev pub IsDeviceOrMemory : OpenError → Type 0
 IsDeviceOrMemory e = (e ≡ Fault) ⊎ (e ≡ OutOfMemory)
 
 -- an image that represents no state

@@ -13,9 +13,8 @@ ghost use Rattle.flow_recover.specs.Reading.{AreOf, IsHeldBehind, IsCalled, IsRe
 ghost use Rattle.flow_model.specs.Standing.{IsSealedAt, StandsAs};
 
 use crate::active::ActiveSegment;
-use crate::error::RecoverError;
 use crate::segments::{Section, take_list, take_octets};
-use flow_manifest::{Entry, Kind, Manifest};
+use flow_manifest::{Entry, Kind, Manifest, OpenError};
 use flow_rolled::{RolledError, decode_rows};
 use flow_segment::Carry;
 use std::alloc::Global;
@@ -27,19 +26,19 @@ fn read_prefix(
     called: &Option<Vec<u8>>,
     file: u64,
     octets: &[u8],
-) -> Result<(), RecoverError>
+) -> Result<(), OpenError>
     requires { carry.old ≡ no_carry 0 }
     ensures found { OnOk result (IsRestatement octets.now carry.new × IsCalled called.now octets.now) }
     ensures refused { (messages : List Accepted) → AreRead octets.now [] messages [] → AreOf Section.Prefix messages
-        → IsCalled called.now octets.now → IfErr result (λ e. e ≡ RecoverError.OutOfMemory) }
-    ensures device { IfErr result (λ e. e ≢ RecoverError.Fault) }
+        → IsCalled called.now octets.now → IfErr result (λ e. e ≡ OpenError.OutOfMemory) }
+    ensures device { IfErr result (λ e. e ≢ OpenError.Fault) }
 {
     take_octets(carry, alloc, octets, Section::Prefix, file, 0)?;
     let Some(called) = called else {
         return Ok(());
     };
     if octets != called.as_slice() {
-        return Err(RecoverError::Damaged(file, 0));
+        return Err(OpenError::Damaged(file, 0));
     }
     Ok(())
 }
@@ -51,13 +50,13 @@ fn take_active(
     called: &Option<Vec<u8>>,
     last: Entry,
     segment: &ActiveSegment,
-) -> Result<(), RecoverError>
+) -> Result<(), OpenError>
     requires { carry.old ≡ no_carry 0 }
     ensures found { OnOk result (IsCalled called.now (part_of segment.now).front
         × IsSegment (part_of segment.now) carry.new) }
     ensures refused { (whole : Carry) → IsCalled called.now (part_of segment.now).front
-        → IsSegment (part_of segment.now) whole → IfErr result (λ e. e ≡ RecoverError.OutOfMemory) }
-    ensures device { IfErr result (λ e. e ≢ RecoverError.Fault) }
+        → IsSegment (part_of segment.now) whole → IfErr result (λ e. e ≡ OpenError.OutOfMemory) }
+    ensures device { IfErr result (λ e. e ≢ OpenError.Fault) }
 {
     read_prefix(carry, alloc, called, last.file, segment.prefix.as_slice())?;
     let place = u64::from(last.prefix);
@@ -71,12 +70,12 @@ pub(crate) fn read_segment(
     called: &Option<Vec<u8>>,
     last: Entry,
     segment: &ActiveSegment,
-) -> Result<Carry, RecoverError>
+) -> Result<Carry, OpenError>
     ensures found { IfOk result (λ carry. IsCalled called.now (part_of segment.now).front
         × IsSegment (part_of segment.now) carry) }
     ensures refused { (whole : Carry) → IsCalled called.now (part_of segment.now).front
-        → IsSegment (part_of segment.now) whole → IfErr result (λ e. e ≡ RecoverError.OutOfMemory) }
-    ensures device { IfErr result (λ e. e ≢ RecoverError.Fault) }
+        → IsSegment (part_of segment.now) whole → IfErr result (λ e. e ≡ OpenError.OutOfMemory) }
+    ensures device { IfErr result (λ e. e ≢ OpenError.Fault) }
 {
     let mut carry = Carry::new(alloc);
     take_active(&mut carry, alloc, called, last, segment)?;
@@ -90,18 +89,18 @@ fn take_sealed(
     called: &Option<Vec<u8>>,
     entry: Entry,
     octets: &[u8],
-) -> Result<(), RecoverError>
+) -> Result<(), OpenError>
     requires new { carry.old ≡ no_carry 0 }
     requires whole { length octets.now ≡ entry.length }
     ensures found { OnOk result ((p : Part) × IsSealedAt octets.now entry p × IsCalled called.now p.front
         × IsSegment p carry.new) }
     ensures refused { (p : Part) (whole : Carry) → IsSealedAt octets.now entry p → IsCalled called.now p.front
-        → IsSegment p whole → IfErr result (λ e. e ≡ RecoverError.OutOfMemory) }
-    ensures device { IfErr result (λ e. e ≢ RecoverError.Fault) }
+        → IsSegment p whole → IfErr result (λ e. e ≡ OpenError.OutOfMemory) }
+    ensures device { IfErr result (λ e. e ≢ OpenError.Fault) }
 {
     let prefix = entry.prefix as usize;
     if prefix > octets.len() {
-        return Err(RecoverError::Damaged(entry.file, entry.length));
+        return Err(OpenError::Damaged(entry.file, entry.length));
     }
     let front = &octets[..prefix];
     let messages = &octets[prefix..];
@@ -109,7 +108,7 @@ fn take_sealed(
     let place = u64::from(entry.prefix);
     let count = take_octets(carry, alloc, messages, Section::Messages, entry.file, place)?;
     if count != entry.messages {
-        return Err(RecoverError::Damaged(entry.file, entry.length));
+        return Err(OpenError::Damaged(entry.file, entry.length));
     }
     Ok(())
 }
@@ -121,13 +120,13 @@ fn read_sealed(
     called: &Option<Vec<u8>>,
     entry: Entry,
     octets: &[u8],
-) -> Result<Vec<u8>, RecoverError>
+) -> Result<Vec<u8>, OpenError>
     requires { length octets.now ≡ entry.length }
     ensures found { IfOk result (λ next. (p : Part) × (carry : Carry) × IsSealedAt octets.now entry p
         × IsCalled called.now p.front × IsSegment p carry × (next.items ≡ prefix_of carry)) }
     ensures refused { (p : Part) (whole : Carry) → IsSealedAt octets.now entry p → IsCalled called.now p.front
-        → IsSegment p whole → IfErr result (λ e. e ≡ RecoverError.OutOfMemory) }
-    ensures device { IfErr result (λ e. e ≢ RecoverError.Fault) }
+        → IsSegment p whole → IfErr result (λ e. e ≡ OpenError.OutOfMemory) }
+    ensures device { IfErr result (λ e. e ≢ OpenError.Fault) }
 {
     let mut carry = Carry::new(alloc);
     take_sealed(&mut carry, alloc, called, entry, octets)?;
@@ -136,12 +135,12 @@ fn read_sealed(
 }
 
 /// Looks whether octets are the rolled file of some sums by a width.
-fn read_rolled(alloc: Global, width: u32, file: u64, octets: &[u8]) -> Result<(), RecoverError>
+fn read_rolled(alloc: Global, width: u32, file: u64, octets: &[u8]) -> Result<(), OpenError>
     requires { 0 < width }
     ensures found { OnOk result ((table : Table) × IsRollup width octets.now table) }
     ensures refused { (table : Table) → IsRollup width octets.now table
-        → IfErr result (λ e. e ≡ RecoverError.OutOfMemory) }
-    ensures device { IfErr result (λ e. e ≢ RecoverError.Fault) }
+        → IfErr result (λ e. e ≡ OpenError.OutOfMemory) }
+    ensures device { IfErr result (λ e. e ≢ OpenError.Fault) }
 {
     match decode_rows(alloc, octets, width) {
         Ok(_rows) => Ok(()),
@@ -150,13 +149,13 @@ fn read_rolled(alloc: Global, width: u32, file: u64, octets: &[u8]) -> Result<()
 }
 
 /// The refusal of octets that are no rolled file.
-fn told(fault: RolledError, file: u64) -> RecoverError
-    ensures memory { fault ≡ RolledError.OutOfMemory → result ≡ RecoverError.OutOfMemory }
-    ensures device { result ≢ RecoverError.Fault }
+fn told(fault: RolledError, file: u64) -> OpenError
+    ensures memory { fault ≡ RolledError.OutOfMemory → result ≡ OpenError.OutOfMemory }
+    ensures device { result ≢ OpenError.Fault }
 {
     match fault {
-        RolledError::NotRolled(at) => RecoverError::Damaged(file, at as u64),
-        RolledError::OutOfMemory => RecoverError::OutOfMemory,
+        RolledError::NotRolled(at) => OpenError::Damaged(file, at as u64),
+        RolledError::OutOfMemory => OpenError::OutOfMemory,
     }
 }
 
@@ -168,7 +167,7 @@ pub(crate) fn kept_of(
     called: Option<Vec<u8>>,
     entry: Entry,
     octets: &[u8],
-) -> Result<Option<Vec<u8>>, RecoverError>
+) -> Result<Option<Vec<u8>>, OpenError>
     requires width { 0 < manifest.now.width }
     requires wide { 0 < manifest.now.wide }
     requires whole { length octets.now ≡ entry.length }
@@ -177,8 +176,8 @@ pub(crate) fn kept_of(
         × IsPartBehind manifest.now entry.kind before p after × IsHeldBehind after next) }
     ensures refused { (before : Option Carry) → IsHeldBehind before called → (p : Part) (after : Option Carry)
         → StandsAs entry.kind octets.now entry p → IsPartBehind manifest.now entry.kind before p after
-        → IfErr result (λ e. e ≡ RecoverError.OutOfMemory) }
-    ensures device { IfErr result (λ e. e ≢ RecoverError.Fault) }
+        → IfErr result (λ e. e ≡ OpenError.OutOfMemory) }
+    ensures device { IfErr result (λ e. e ≢ OpenError.Fault) }
 {
     match entry.kind {
         Kind::Wide => {
@@ -193,6 +192,6 @@ pub(crate) fn kept_of(
             let next = read_sealed(alloc, &called, entry, octets)?;
             Ok(Some(next))
         }
-        Kind::Active => Err(RecoverError::Damaged(entry.file, 0)),
+        Kind::Active => Err(OpenError::Damaged(entry.file, 0)),
     }
 }

@@ -13,7 +13,6 @@
 
 mod active;
 mod chaining;
-mod error;
 mod laws;
 mod opening;
 mod reading;
@@ -22,6 +21,5 @@ mod settling;
 mod tidying;
 
 pub use active::ActiveSegment;
-pub use error::RecoverError;
 pub use laws::what_an_image_stands_for;
 pub use opening::{Recovered, recover};

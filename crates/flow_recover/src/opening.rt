@@ -19,12 +19,11 @@ ghost use Rattle.flow_recover.specs.Kept.{IsCounted};
 ghost use Rattle.flow_recover.specs.Opening.{AreCutTo, IsDeviceOrMemory, IsRead, IsRecovered, StandsForNone};
 
 use crate::active::ActiveSegment;
-use crate::error::RecoverError;
 use crate::reading::{Files, read_files};
 use crate::settling::settle_all;
 use crate::tidying::tidy;
 use flow_disk::Disk;
-use flow_manifest::{Entry, Slots};
+use flow_manifest::{Entry, OpenError, Slots};
 use flow_segment::Carry;
 use std::alloc::Global;
 
@@ -56,10 +55,10 @@ struct Found {
 }
 
 /// Settles the slots and the files that the manifest names, checks them, tidies the disk, and answers what it found.
-pub fn recover<D: Disk>(alloc: Global, disk: &mut D) -> Result<Recovered<D>, RecoverError>
+pub fn recover<D: Disk>(alloc: Global, disk: &mut D) -> Result<Recovered<D>, OpenError>
     requires thawed { (n : ℕ) → (D.marks disk.old n).frozen ≡ false }
     ensures honest { D.honest disk.new ≡ D.honest disk.old }
-    ensures cause { HasCause RecoverError.Fault (D.faults disk.old) (D.faults disk.new) result }
+    ensures cause { HasCause OpenError.Fault (D.faults disk.old) (D.faults disk.new) result }
     ensures recovered { IfOk result
         (λ r. IsRecovered D.honest D.marks D.held D.Sealed.octets D.Sealed.number D.Sealed.size D.Sealed.honest
         (reads_of (D.held disk.old)) disk.new r.slots r.last r.end r.total (part_of r.active) r.carry r.parts.items) }
@@ -84,7 +83,7 @@ pub fn recover<D: Disk>(alloc: Global, disk: &mut D) -> Result<Recovered<D>, Rec
     // failed they read as before.
     ensures slots { IsTrue (D.honest disk.old)
         → (slot : Slot) → IsWithin (D.held disk.new (file_of slot)) (D.held disk.old (file_of slot)) }
-    ensures kept { IsTrue (D.honest disk.old) → (IsErrOf result RecoverError.Fault → ⊥)
+    ensures kept { IsTrue (D.honest disk.old) → (IsErrOf result OpenError.Fault → ⊥)
         → (slot : Slot) → (D.held disk.new (file_of slot)).reads ≡ (D.held disk.old (file_of slot)).reads }
     ensures any_moment { IsTrue (D.honest disk.old) → (a b : State) → AllImages (D.held disk.old) (StandsForEither a b)
         → LeavesOnly D.Disk disk.old disk.new (StandsForEither a b) }
@@ -103,7 +102,7 @@ pub fn recover<D: Disk>(alloc: Global, disk: &mut D) -> Result<Recovered<D>, Rec
 }
 
 /// Settles the slots and the files that the manifest names, and reads and checks them.
-fn find<D: Disk>(alloc: Global, disk: &mut D) -> Result<Found, RecoverError>
+fn find<D: Disk>(alloc: Global, disk: &mut D) -> Result<Found, OpenError>
     // On every disk.
     ensures honest { D.honest disk.new ≡ D.honest disk.old }
     ensures frozen { (n : ℕ) → (D.marks disk.new n).frozen ≡ (D.marks disk.old n).frozen }
@@ -119,7 +118,7 @@ fn find<D: Disk>(alloc: Global, disk: &mut D) -> Result<Found, RecoverError>
     ensures counted { IfOk result (λ f. (parts : List Part)
         → IsCounted (at_rest f.slots.current parts (part_of f.files.active)) f.last f.files.end f.files.total) }
     ensures segment { IfOk result (λ f. IsSegment (part_of f.files.active) f.files.carry) }
-    ensures cause { HasCause RecoverError.Fault (D.faults disk.old) (D.faults disk.new) result }
+    ensures cause { HasCause OpenError.Fault (D.faults disk.old) (D.faults disk.new) result }
 
     // On an honest one.
     ensures narrows { IsTrue (D.honest disk.old) → AllImages (D.held disk.new) (IsDiskImage (D.held disk.old)) }
@@ -127,7 +126,7 @@ fn find<D: Disk>(alloc: Global, disk: &mut D) -> Result<Found, RecoverError>
         → LeavesOnly D.Disk disk.old disk.new (IsDiskImage (D.held disk.old)) }
     ensures reads { IsTrue (D.honest disk.old)
         → OnOk result ((n : ℕ) → (D.held disk.new n).reads ≡ (D.held disk.old n).reads) }
-    ensures kept { IsTrue (D.honest disk.old) → IfErr result (λ e. e ≢ RecoverError.Fault
+    ensures kept { IsTrue (D.honest disk.old) → IfErr result (λ e. e ≢ OpenError.Fault
         → (n : ℕ) → (D.held disk.new n).reads ≡ (D.held disk.old n).reads) }
     ensures read { IsTrue (D.honest disk.old) → IfOk result (λ f. (parts : List Part)
         × IsRead (D.held disk.new) (reads_of (D.held disk.old)) f.slots

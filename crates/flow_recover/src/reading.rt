@@ -23,10 +23,9 @@ ghost use Rattle.flow_segment.specs.Carry.{Carry};
 
 use crate::active::ActiveSegment;
 use crate::chaining::{kept_of, read_segment};
-use crate::error::RecoverError;
 use flow_disk::Disk;
 use flow_gate::scan;
-use flow_manifest::{Entry, Manifest};
+use flow_manifest::{Entry, Manifest, OpenError};
 use flow_segment::Carry;
 use std::alloc::Global;
 
@@ -51,7 +50,7 @@ pub(crate) fn read_files<D: Disk>(
     disk: &mut D,
     manifest: &Manifest,
     last: Entry,
-) -> Result<Files, RecoverError>
+) -> Result<Files, OpenError>
     requires valid { IsValidManifest manifest.now }
     requires last { last ≡ active_of manifest.now }
     // On every disk.
@@ -64,7 +63,7 @@ pub(crate) fn read_files<D: Disk>(
         → IsCounted (at_rest manifest.now parts (part_of f.active)) last f.end f.total) }
     ensures small { IfOk result (λ f. f.end + 2 < 2 ^ 64) }
     ensures segment { IfOk result (λ f. IsSegment (part_of f.active) f.carry) }
-    ensures cause { HasCause RecoverError.Fault (D.faults disk.old) (D.faults disk.new) result }
+    ensures cause { HasCause OpenError.Fault (D.faults disk.old) (D.faults disk.new) result }
 
     // On an honest one: what the files hold, where they hold an archive's.
     ensures held { IsTrue (D.honest disk.old) → Stays (D.held disk.old) (D.held disk.new) }
@@ -82,10 +81,10 @@ pub(crate) fn read_files<D: Disk>(
     let carry = read_segment(alloc, &called, last, &active)?;
     let limit = u64::from(last.prefix) + u64::from(manifest.limit);
     if end > limit {
-        return Err(RecoverError::Damaged(last.file, u64::from(last.prefix)));
+        return Err(OpenError::Damaged(last.file, u64::from(last.prefix)));
     }
     let Some(total) = total_of(entries, active.messages.len()) else {
-        return Err(RecoverError::Damaged(last.file, u64::from(last.prefix)));
+        return Err(OpenError::Damaged(last.file, u64::from(last.prefix)));
     };
     Ok(Files {
         active,
@@ -120,7 +119,7 @@ fn read_active<D: Disk>(
     alloc: Global,
     disk: &mut D,
     last: Entry,
-) -> Result<(ActiveSegment, u64), RecoverError>
+) -> Result<(ActiveSegment, u64), OpenError>
     requires { 3 ≤ last.file }
     ensures honest { D.honest disk.new ≡ D.honest disk.old }
     ensures settled { (n : ℕ) → (D.marks disk.new n).settled ≡ (D.marks disk.old n).settled }
@@ -129,7 +128,7 @@ fn read_active<D: Disk>(
     ensures slots { (n : ℕ) → n < 3 → D.marks disk.new n ≡ D.marks disk.old n }
     ensures ends { IfOk result (λ r. (r.1 ≡ last.prefix + octet_sum (part_of r.0).messages) × (r.1 + 2 < 2 ^ 64)) }
     ensures whole { IfOk result (λ r. All IsWhole (part_of r.0).messages) }
-    ensures cause { HasCause RecoverError.Fault (D.faults disk.old) (D.faults disk.new) result }
+    ensures cause { HasCause OpenError.Fault (D.faults disk.old) (D.faults disk.new) result }
     ensures held { IsTrue (D.honest disk.old) → Stays (D.held disk.old) (D.held disk.new) }
     ensures any_moment { IsTrue (D.honest disk.old)
         → LeavesOnly D.Disk disk.old disk.new (IsDiskImage (D.held disk.old)) }
@@ -141,7 +140,7 @@ fn read_active<D: Disk>(
     let start = u64::from(last.prefix);
     let size = disk.length(last.file)?;
     if start > size {
-        return Err(RecoverError::Damaged(last.file, size));
+        return Err(OpenError::Damaged(last.file, size));
     }
     let tail = scan(alloc, disk, last.file, start)?;
     let prefix = disk.read(alloc, last.file, 0, last.prefix as usize)?;
@@ -159,7 +158,7 @@ fn read_entries<D: Disk>(
     disk: &mut D,
     manifest: &Manifest,
     entries: &[Entry],
-) -> Result<Option<Vec<u8>>, RecoverError>
+) -> Result<Option<Vec<u8>>, OpenError>
     requires width { 0 < manifest.now.width }
     requires wide { 0 < manifest.now.wide }
     requires files { AllByRecursion (λ (e : Entry). 3 ≤ e.file) entries.now }
@@ -168,7 +167,7 @@ fn read_entries<D: Disk>(
     ensures frozen { (n : ℕ) → (D.marks disk.new n).frozen ≡ (D.marks disk.old n).frozen }
     ensures listed { (n : ℕ) → (D.marks disk.new n).listed ≡ (D.marks disk.old n).listed }
     ensures slots { (n : ℕ) → n < 3 → D.marks disk.new n ≡ D.marks disk.old n }
-    ensures cause { HasCause RecoverError.Fault (D.faults disk.old) (D.faults disk.new) result }
+    ensures cause { HasCause OpenError.Fault (D.faults disk.old) (D.faults disk.new) result }
     ensures held { IsTrue (D.honest disk.old) → Stays (D.held disk.old) (D.held disk.new) }
     ensures any_moment { IsTrue (D.honest disk.old)
         → LeavesOnly D.Disk disk.old disk.new (IsDiskImage (D.held disk.old)) }
@@ -194,7 +193,7 @@ fn read_part<D: Disk>(
     manifest: &Manifest,
     called: Option<Vec<u8>>,
     entry: Entry,
-) -> Result<Option<Vec<u8>>, RecoverError>
+) -> Result<Option<Vec<u8>>, OpenError>
     requires width { 0 < manifest.now.width }
     requires wide { 0 < manifest.now.wide }
     requires file { 3 ≤ entry.file }
@@ -203,7 +202,7 @@ fn read_part<D: Disk>(
     ensures frozen { (n : ℕ) → (D.marks disk.new n).frozen ≡ (D.marks disk.old n).frozen }
     ensures listed { (n : ℕ) → (D.marks disk.new n).listed ≡ (D.marks disk.old n).listed }
     ensures slots { (n : ℕ) → n < 3 → D.marks disk.new n ≡ D.marks disk.old n }
-    ensures cause { HasCause RecoverError.Fault (D.faults disk.old) (D.faults disk.new) result }
+    ensures cause { HasCause OpenError.Fault (D.faults disk.old) (D.faults disk.new) result }
     ensures held { IsTrue (D.honest disk.old) → Stays (D.held disk.old) (D.held disk.new) }
     ensures any_moment { IsTrue (D.honest disk.old)
         → LeavesOnly D.Disk disk.old disk.new (IsDiskImage (D.held disk.old)) }
@@ -218,7 +217,7 @@ fn read_part<D: Disk>(
 {
     let size = disk.length(entry.file)?;
     if entry.length > size {
-        return Err(RecoverError::Damaged(entry.file, size));
+        return Err(OpenError::Damaged(entry.file, size));
     }
     let octets = disk.read(alloc, entry.file, 0, entry.length as usize)?;
     kept_of(alloc, manifest, called, entry, &octets)

@@ -8,8 +8,8 @@ ghost use Rattle.flow_segment.specs.Carry.{carry_from, carry_with, octets_of, Ca
 ghost use Rattle.flow_segment.specs.Prefix.{AreRead};
 ghost use Rattle.flow_recover.specs.Reading.{is_misplaced, AreOf, IsOf};
 
-use crate::error::RecoverError;
 use flow_codec::{MessageError, front_of};
+use flow_manifest::OpenError;
 use flow_segment::Carry;
 use std::alloc::Global;
 
@@ -30,18 +30,18 @@ pub(crate) fn take_message(
     section: Section,
     file: u64,
     at: u64,
-) -> Result<(), RecoverError>
+) -> Result<(), OpenError>
     ensures taken { OnOk result ((a : Accepted) × (a.octets ≡ octets.now)
         × IsAccepted octets.now carry.old.templates a.message a.after × IsOf section a
         × (carry.new ≡ carry_with carry.old a)) }
     ensures refused { (a : Accepted) → IsAccepted octets.now carry.old.templates a.message a.after → IsOf section a
-        → IfErr result (λ e. e ≡ RecoverError.OutOfMemory) }
-    ensures device { IfErr result (λ e. e ≢ RecoverError.Fault) }
+        → IfErr result (λ e. e ≡ OpenError.OutOfMemory) }
+    ensures device { IfErr result (λ e. e ≢ OpenError.Fault) }
 {
     match carry.restate(alloc, octets) {
         Ok(bare) => {
             if is_misplaced(section, bare) {
-                return Err(RecoverError::Damaged(file, at));
+                return Err(OpenError::Damaged(file, at));
             }
             Ok(())
         }
@@ -60,13 +60,13 @@ fn is_misplaced(section: Section, bare: bool) -> bool
 }
 
 /// The refusal of a message at this place of a file.
-fn told(fault: MessageError, file: u64, at: u64) -> RecoverError
-    ensures memory { fault ≡ MessageError.OutOfMemory → result ≡ RecoverError.OutOfMemory }
-    ensures device { result ≢ RecoverError.Fault }
+fn told(fault: MessageError, file: u64, at: u64) -> OpenError
+    ensures memory { fault ≡ MessageError.OutOfMemory → result ≡ OpenError.OutOfMemory }
+    ensures device { result ≢ OpenError.Fault }
 {
     match fault {
-        MessageError::OutOfMemory => RecoverError::OutOfMemory,
-        _ => RecoverError::Damaged(file, at),
+        MessageError::OutOfMemory => OpenError::OutOfMemory,
+        _ => OpenError::Damaged(file, at),
     }
 }
 
@@ -78,14 +78,14 @@ pub(crate) fn take_octets(
     section: Section,
     file: u64,
     from: u64,
-) -> Result<u64, RecoverError>
+) -> Result<u64, OpenError>
     requires { from + length octets.now < 2 ^ 64 }
     ensures found { IfOk result (λ count. (messages : List Accepted)
         × AreRead octets.now carry.old.templates messages [] × AreOf section messages
         × (carry.new ≡ carry_from carry.old messages) × (length messages ≡ count)) }
     ensures refused { (messages : List Accepted) → AreRead octets.now carry.old.templates messages []
-        → AreOf section messages → IfErr result (λ e. e ≡ RecoverError.OutOfMemory) }
-    ensures device { IfErr result (λ e. e ≢ RecoverError.Fault) }
+        → AreOf section messages → IfErr result (λ e. e ≡ OpenError.OutOfMemory) }
+    ensures device { IfErr result (λ e. e ≢ OpenError.Fault) }
 {
     let mut at = 0;
     let mut count = 0;
@@ -93,7 +93,7 @@ pub(crate) fn take_octets(
         let rest = &octets[at..];
         let place = from + at as u64;
         let Ok(length) = front_of(place, rest) else {
-            return Err(RecoverError::Damaged(file, place));
+            return Err(OpenError::Damaged(file, place));
         };
         take_message(carry, alloc, &rest[..length], section, file, place)?;
         at += length;
@@ -109,12 +109,12 @@ pub(crate) fn take_list(
     messages: &[Vec<u8>],
     file: u64,
     from: u64,
-) -> Result<(), RecoverError>
+) -> Result<(), OpenError>
     ensures taken { OnOk result ((all : List Accepted) × (octets_of all ≡ texts messages.now)
         × AreAcceptedFrom carry.old.templates all × (carry.new ≡ carry_from carry.old all)) }
     ensures refused { (all : List Accepted) → octets_of all ≡ texts messages.now
-        → AreAcceptedFrom carry.old.templates all → IfErr result (λ e. e ≡ RecoverError.OutOfMemory) }
-    ensures device { IfErr result (λ e. e ≢ RecoverError.Fault) }
+        → AreAcceptedFrom carry.old.templates all → IfErr result (λ e. e ≡ OpenError.OutOfMemory) }
+    ensures device { IfErr result (λ e. e ≢ OpenError.Fault) }
 {
     let mut at = from;
     'messages: for message in messages {

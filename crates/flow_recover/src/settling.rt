@@ -11,9 +11,8 @@ ghost use Rattle.flow_manifest.specs.Slots.{file_of, reads_of, AreSlots};
 ghost use Rattle.flow_model.specs.Standing.{is_file_of};
 ghost use Rattle.flow_recover.specs.Opening.{OnlySettles, IsDeviceOrMemory, StandsForNone};
 
-use crate::error::RecoverError;
 use flow_disk::{Disk, DiskError};
-use flow_manifest::{Entry, Slots, read_slots};
+use flow_manifest::{Entry, OpenError, Slots, read_slots};
 use std::alloc::Global;
 
 /// Settles a file. Each image after it was one before.
@@ -77,7 +76,7 @@ pub(crate) fn settle_entries<D: Disk>(disk: &mut D, entries: &[Entry]) -> Result
 }
 
 /// Settles the slots, reads them, and settles each file that the manifest in force names.
-pub(crate) fn settle_all<D: Disk>(alloc: Global, disk: &mut D) -> Result<Slots, RecoverError>
+pub(crate) fn settle_all<D: Disk>(alloc: Global, disk: &mut D) -> Result<Slots, OpenError>
     ensures honest { D.honest disk.new ≡ D.honest disk.old }
     ensures frozen { (n : ℕ) → (D.marks disk.new n).frozen ≡ (D.marks disk.old n).frozen }
     ensures slots { OnOk result ((slot : Slot) → ((D.marks disk.new (file_of slot)).settled ≡ true)
@@ -89,7 +88,7 @@ pub(crate) fn settle_all<D: Disk>(alloc: Global, disk: &mut D) -> Result<Slots, 
     ensures valid { IfOk result (λ slots. IsValidManifest slots.current) }
     ensures reads { IsTrue (D.honest disk.old)
         → OnOk result ((n : ℕ) → (D.held disk.new n).reads ≡ (D.held disk.old n).reads) }
-    ensures kept { IsTrue (D.honest disk.old) → IfErr result (λ e. e ≢ RecoverError.Fault
+    ensures kept { IsTrue (D.honest disk.old) → IfErr result (λ e. e ≢ OpenError.Fault
         → (n : ℕ) → (D.held disk.new n).reads ≡ (D.held disk.old n).reads) }
     ensures narrows { IsTrue (D.honest disk.old) → AllImages (D.held disk.new) (IsDiskImage (D.held disk.old)) }
     ensures any_moment { IsTrue (D.honest disk.old)
@@ -97,7 +96,7 @@ pub(crate) fn settle_all<D: Disk>(alloc: Global, disk: &mut D) -> Result<Slots, 
     ensures found { IsTrue (D.honest disk.old) → IfOk result (λ slots. AreSlots slots (reads_of (D.held disk.new))) }
     ensures told { IsTrue (D.honest disk.old)
         → IfErr result (λ e. IsDeviceOrMemory e ⊎ StandsForNone (reads_of (D.held disk.old))) }
-    ensures cause { HasCause RecoverError.Fault (D.faults disk.old) (D.faults disk.new) result }
+    ensures cause { HasCause OpenError.Fault (D.faults disk.old) (D.faults disk.new) result }
 {
     settle_slots(disk)?;
     let slots = read_slots(alloc, disk)?;

@@ -18,14 +18,13 @@ ghost use Rattle.flow_manifest.specs.Following.{active_of, front_of};
 ghost use Rattle.flow_recover.specs.Kept.{AreFilesOf, IsFileOf, IsReadyFor};
 ghost use Rattle.flow_recover.specs.Opening.{IsDeviceOrMemory, FrozenStand, shut_at};
 
-use crate::error::RecoverError;
 use flow_disk::{Disk, DiskError};
-use flow_manifest::{Entry, Manifest};
+use flow_manifest::{Entry, Manifest, OpenError};
 use flow_segment::seal_tail;
 use std::alloc::Global;
 
 /// Cuts a file to a length that it has, and settles it.
-pub(crate) fn cut_file<D: Disk>(disk: &mut D, file: u64, length: u64) -> Result<(), RecoverError>
+pub(crate) fn cut_file<D: Disk>(disk: &mut D, file: u64, length: u64) -> Result<(), OpenError>
     requires thawed { (D.marks disk.old file).frozen ≡ false }
     requires settled { (D.marks disk.old file).settled ≡ true }
     ensures honest { D.honest disk.new ≡ D.honest disk.old }
@@ -38,18 +37,18 @@ pub(crate) fn cut_file<D: Disk>(disk: &mut D, file: u64, length: u64) -> Result<
     ensures any_moment { StopsBy D.Disk disk.old disk.new (InFile file (KeepsFront length)) }
     ensures refused { IsTrue (D.honest disk.old) → length ≤ (D.marks disk.old file).size
         → IfErr result IsDeviceOrMemory }
-    ensures cause { HasCause RecoverError.Fault (D.faults disk.old) (D.faults disk.new) result }
+    ensures cause { HasCause OpenError.Fault (D.faults disk.old) (D.faults disk.new) result }
 {
     let size = disk.length(file)?;
     if length > size {
-        return Err(RecoverError::Damaged(file, size));
+        return Err(OpenError::Damaged(file, size));
     }
     seal_tail(disk, file, length)?;
     Ok(())
 }
 
 /// Cuts the file of an entry to what counts of it, and freezes it.
-fn freeze_one<D: Disk>(disk: &mut D, entry: Entry) -> Result<D::Sealed, RecoverError>
+fn freeze_one<D: Disk>(disk: &mut D, entry: Entry) -> Result<D::Sealed, OpenError>
     requires thawed { (D.marks disk.old entry.file).frozen ≡ false }
     requires settled { (D.marks disk.old entry.file).settled ≡ true }
     ensures honest { D.honest disk.new ≡ D.honest disk.old }
@@ -65,7 +64,7 @@ fn freeze_one<D: Disk>(disk: &mut D, entry: Entry) -> Result<D::Sealed, RecoverE
     ensures shut { OnOk result (D.marks disk.new entry.file ≡ shut_at entry.length) }
     ensures refused { IsTrue (D.honest disk.old) → entry.length ≤ (D.marks disk.old entry.file).size
         → IfErr result IsDeviceOrMemory }
-    ensures cause { HasCause RecoverError.Fault (D.faults disk.old) (D.faults disk.new) result }
+    ensures cause { HasCause OpenError.Fault (D.faults disk.old) (D.faults disk.new) result }
 {
     cut_file(disk, entry.file, entry.length)?;
     let part = disk.freeze(entry.file)?;
@@ -77,7 +76,7 @@ pub(crate) fn freeze_files<D: Disk>(
     alloc: Global,
     disk: &mut D,
     entries: &[Entry],
-) -> Result<Vec<D::Sealed>, RecoverError>
+) -> Result<Vec<D::Sealed>, OpenError>
     requires own { HaveOwnFiles entries.now }
     requires thawed { AllByRecursion (λ e. (D.marks disk.old e.file).frozen ≡ false) entries.now }
     requires settled { AllByRecursion (λ e. (D.marks disk.old e.file).settled ≡ true) entries.now }
@@ -100,10 +99,10 @@ pub(crate) fn freeze_files<D: Disk>(
         → IfOk result (λ parts. FrozenStand D.Sealed.octets entries.now s.parts parts.items) }
     ensures refused { IsTrue (D.honest disk.old) → AllByRecursion
         (λ e. e.length ≤ (D.marks disk.old e.file).size) entries.now → IfErr result IsDeviceOrMemory }
-    ensures cause { HasCause RecoverError.Fault (D.faults disk.old) (D.faults disk.new) result }
+    ensures cause { HasCause OpenError.Fault (D.faults disk.old) (D.faults disk.new) result }
 {
     let Ok(mut parts) = Vec::with_capacity(alloc, entries.len()) else {
-        return Err(RecoverError::OutOfMemory);
+        return Err(OpenError::OutOfMemory);
     };
     'entries: for entry in entries {
         let part = freeze_one(disk, *entry)?;
@@ -177,7 +176,7 @@ pub(crate) fn tidy<D: Disk>(
     manifest: &Manifest,
     last: Entry,
     end: u64,
-) -> Result<Vec<D::Sealed>, RecoverError>
+) -> Result<Vec<D::Sealed>, OpenError>
     requires valid { IsValidManifest manifest.now }
     requires last { last ≡ active_of manifest.now }
     requires end { end + 2 < 2 ^ 64 }
@@ -210,7 +209,7 @@ pub(crate) fn tidy<D: Disk>(
     ensures refused { IsTrue (D.honest disk.old) → (slots : Slots) (s : State) → s.manifest ≡ manifest.now
         → end_of s ≡ end → AllImages (D.held disk.old) (IsKnown slots s)
         → IfErr result IsDeviceOrMemory }
-    ensures cause { HasCause RecoverError.Fault (D.faults disk.old) (D.faults disk.new) result }
+    ensures cause { HasCause OpenError.Fault (D.faults disk.old) (D.faults disk.new) result }
 {
     let entries = manifest.entries.as_slice();
     let parts = freeze_files(alloc, disk, &entries[..entries.len() - 1])?;

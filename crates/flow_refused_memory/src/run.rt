@@ -6,7 +6,7 @@ use flow_archive::{Answer, Archive, ArchiveError, Event, take_event};
 use flow_disk::{Disk, Faults};
 use flow_measure::Row;
 use flow_memory_disk::{MemoryDisk, Room};
-use flow_snapshot::QueryError;
+use flow_refusals::ReadRefusal;
 use std::alloc::Global;
 use std::fmt::Display;
 use std::io::Write;
@@ -136,7 +136,7 @@ fn ask_all<D: Disk, O: Write, W: Write>(
 }
 
 /// All rows that an archive has.
-fn rows<D: Disk>(archive: &mut Archive<D>, alloc: Global) -> Result<Vec<Row>, QueryError> {
+fn rows<D: Disk>(archive: &mut Archive<D>, alloc: Global) -> Result<Vec<Row>, ReadRefusal> {
     let snapshot = archive.directory(alloc)?.into_snapshot();
     snapshot.totals(alloc, 0, NEVER, &mut Faults::new())
 }

@@ -10,8 +10,8 @@ use flow_archive::{Archive, ArchiveError};
 use flow_disk::{Disk, Faults, SealedFile};
 use flow_measure::Row;
 use flow_memory_disk::MemoryDisk;
+use flow_refusals::ReadRefusal;
 use flow_shared::{ArchiveReader, Naming, Opened, Receipt, SharedArchive, start};
-use flow_snapshot::QueryError;
 use std::alloc::Global;
 use std::io::Write;
 use std::marker::Brand;
@@ -164,10 +164,10 @@ fn turns<D: Disk, J: Naming, W: Wait, O: Write, E: Write>(
 fn rows<S: SealedFile, J: Naming>(
     alloc: Global,
     reader: &mut ArchiveReader<S, J>,
-) -> Result<Vec<Row>, QueryError> {
+) -> Result<Vec<Row>, ReadRefusal> {
     match reader.snapshot() {
         Ok(snapshot) => snapshot.totals(alloc, 0, NEVER, &mut Faults::new()),
-        Err(_) => Err(QueryError::OutOfMemory),
+        Err(_) => Err(ReadRefusal::OutOfMemory),
     }
 }
 

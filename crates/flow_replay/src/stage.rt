@@ -7,7 +7,7 @@ use crate::asked::{asked, summary};
 use crate::thawed::Thawed;
 use flow_archive::{Answer, Archive, ArchiveError, Event, Refused, take_event};
 use flow_disk::{Disk, Faults};
-use flow_recover::RecoverError;
+use flow_manifest::OpenError;
 use flow_scripts::{Command, Question};
 use flow_snapshot::Snapshot;
 use std::alloc::{AllocError, Global};
@@ -50,7 +50,7 @@ impl<D: Disk> Stage<D> {
     }
 
     /// Opens the one on a disk.
-    pub(crate) fn open(alloc: Global, disk: Thawed<D>) -> Result<Self, Refused<D, RecoverError>> {
+    pub(crate) fn open(alloc: Global, disk: Thawed<D>) -> Result<Self, Refused<D, OpenError>> {
         let Thawed { disk } = disk;
         let archive = Archive::open(alloc, disk)?;
         Ok(Stage::new(archive))

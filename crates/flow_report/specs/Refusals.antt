@@ -9,18 +9,25 @@ use Rattle.flow_codec.specs.declared.sink.WalkError.{WalkError}
 use Rattle.flow_codec.specs.declared.sink.WalkError.TheVariants as walk
 use Rattle.flow_measure.specs.declared.error.SumError.{SumError}
 use Rattle.flow_measure.specs.declared.error.SumError.TheVariants as sum
+use Rattle.flow_codec.specs.Printed.{file_code, message_code}
+use Rattle.flow_refusals.specs.Table.{row_of}
+use Rattle.flow_refusals.specs.declared.code.RefusalCode.{RefusalCode}
+use Rattle.flow_refusals.specs.declared.code.RefusalCode.TheVariants as code
 use Rattle.flow_report.specs.declared.refusal.Refusal.{Refusal}
 use Rattle.flow_report.specs.declared.refusal.Refusal.TheVariants.{Message, File, OutOfMemory, SumSpent, NumbersSpent}
 use Rattle.flow_report.specs.declared.refusal.Refusal.TheVariants.{Read, Write}
 
+abbrev pub refusal_code : Refusal → RefusalCode
+refusal_code (Message fault number) = message_code fault
+refusal_code (File fault) = file_code fault
+refusal_code OutOfMemory = code.OutOfMemory
+refusal_code SumSpent = code.SumSpent
+refusal_code NumbersSpent = code.NumbersSpent
+refusal_code (Read failed) = code.Read
+refusal_code (Write failed) = code.Write
+
 abbrev pub status_of : Refusal → ℕ
-status_of (Message fault number) = 1
-status_of (File fault) = 1
-status_of OutOfMemory = 4
-status_of SumSpent = 1
-status_of NumbersSpent = 1
-status_of (Read failed) = 3
-status_of (Write failed) = 3
+status_of refusal = (row_of (refusal_code refusal)).status
 
 abbrev pub stream_refusal : StreamError → Refusal
 stream_refusal (FileStopped fault) = File fault

@@ -1,12 +1,13 @@
 //! Why a run ended before its work was done.
 
 ghost use Rattle.std.specs.Prelude.{Some, ◌≡◌, ◌≢◌, ◌≤◌};
-ghost use Rattle.flow_report.specs.Refusals.{status_of, stream_refusal, message_refusal, IsOfInput};
+ghost use Rattle.flow_report.specs.Refusals.{refusal_code, status_of, stream_refusal, message_refusal, IsOfInput};
 ghost use Rattle.flow_report.specs.Printed.{printed};
 ghost use Rattle.flow_report.specs.declared.refusal.Refusal.TheVariants.{OutOfMemory, Write as WriteRefused};
 
 use crate::patient::WriteFailed;
 use flow_codec::{FileError, MessageError, ReadFailed, StreamError};
+use flow_refusals::RefusalCode;
 use std::alloc::{AllocError, AllocFailed};
 use std::error::Error;
 use std::fmt;
@@ -36,11 +37,11 @@ impl fmt::Display for Refusal {
         match self {
             Refusal::Message { fault, number } => write!(f, "{fault} message {number}"),
             Refusal::File(fault) => write!(f, "{fault}"),
-            Refusal::OutOfMemory => write!(f, "11 OutOfMemory"),
-            Refusal::SumSpent => write!(f, "14 SumSpent"),
-            Refusal::NumbersSpent => write!(f, "25 NumbersSpent"),
-            Refusal::Read(_) => write!(f, "31 Read"),
-            Refusal::Write(_) => write!(f, "32 Write"),
+            Refusal::OutOfMemory => write!(f, "{}", RefusalCode::OutOfMemory),
+            Refusal::SumSpent => write!(f, "{}", RefusalCode::SumSpent),
+            Refusal::NumbersSpent => write!(f, "{}", RefusalCode::NumbersSpent),
+            Refusal::Read(_) => write!(f, "{}", RefusalCode::Read),
+            Refusal::Write(_) => write!(f, "{}", RefusalCode::Write),
         }
     }
 }
@@ -59,20 +60,28 @@ impl Refusal {
         }
     }
 
+    /// The refusal, without what it carries.
+    pub fn code(&self) -> RefusalCode
+        ensures { result ≡ refusal_code self.now }
+    {
+        match self {
+            Refusal::Message { fault, .. } => fault.code(),
+            Refusal::File(fault) => fault.code(),
+            Refusal::OutOfMemory => RefusalCode::OutOfMemory,
+            Refusal::SumSpent => RefusalCode::SumSpent,
+            Refusal::NumbersSpent => RefusalCode::NumbersSpent,
+            Refusal::Read(_) => RefusalCode::Read,
+            Refusal::Write(_) => RefusalCode::Write,
+        }
+    }
+
     /// The exit status: 1 for refused input, 3 for a device, 4 for memory.
     pub fn status(&self) -> u8
         ensures value { result ≡ status_of self.now }
         ensures failed { 1 ≤ result }
         ensures other { result ≢ 2 }
     {
-        match self {
-            Refusal::Message { .. }
-            | Refusal::File(_)
-            | Refusal::SumSpent
-            | Refusal::NumbersSpent => 1,
-            Refusal::Read(_) | Refusal::Write(_) => 3,
-            Refusal::OutOfMemory => 4,
-        }
+        self.code().status()
     }
 }
 

@@ -8,13 +8,14 @@ use Rattle.flow_measure.specs.declared.error.SumError.{SumError}
 use Rattle.flow_measure.specs.declared.error.SumError.TheVariants as measure
 use Rattle.flow_measure.specs.Sums.{Table, AllFit, IsRefused, with_entries}
 use Rattle.flow_rolled.specs.declared.row.RolledRow.{RolledRow}
-use Rattle.flow_rolled.specs.declared.error.RowError.{RowError}
-use Rattle.flow_rolled.specs.declared.error.RowError.TheVariants as row
+use Rattle.flow_refusals.specs.declared.read_refusal.ReadRefusal.{ReadRefusal}
+use Rattle.flow_refusals.specs.declared.read_refusal.ReadRefusal.TheVariants as row
 use Rattle.flow_rolled.specs.Rows.{AreRows}
 use Rattle.flow_rolled.specs.Parts.{Part, last_from, rows_within}
 use Rattle.flow_rolled.specs.Octets.{part_octets, parts_octets}
 use Rattle.flow_rolled.specs.Rollup.{IsRollup}
-use Rattle.flow_rolled.specs.Printed.{told_of_rows, told_of_sums}
+use Rattle.flow_measure.specs.Printed.{sum_refusal}
+use Rattle.flow_refusals.specs.Printed.{sum_of_read}
 use Rattle.flow_rolled.specs.Stored.{Rollup, Reader, HasGiven, HasRead, Gives, IsAdded, IsNotAdded, IsSpentBy}
 use Rattle.flow_rolled.specs.Stored.{with_rows, table_of}
 use Rattle.flow_rolled.proofs.Grouping.{rows_front}
@@ -59,8 +60,8 @@ added r rows old new h is =
     record { table = table_of r.width rows; rollup = h; sums = is ∙ sums_added rows old }
 
 -- a reader's refusal
-pub not_read : (r next : Reader) (rows : List RolledRow) (old : Table) (e : RowError) → Gives r rows (Err e) next
-    → IsNotAdded r.part r.width old (told_of_rows e)
+pub not_read : (r next : Reader) (rows : List RolledRow) (old : Table) (e : ReadRefusal) → Gives r rows (Err e) next
+    → IsNotAdded r.part r.width old (sum_of_read e)
 not_read r next rows old (row.Damaged file at) h = h
 not_read r next rows old row.Fault h = tt
 not_read r next rows old row.OutOfMemory h = tt
@@ -68,7 +69,7 @@ not_read r next rows old row.OutOfMemory h = tt
 -- a sum that would pass its type
 pub not_added : (r : Reader) (rows more : List RolledRow) (old mid : Table) (e : SumError) → r.width < 2 ^ 32
     → HasRead r (rows ++ more) → mid ≡ with_rows rows old → IsRefused e (with_rows more mid)
-    → IsNotAdded r.part r.width old (told_of_sums e)
+    → IsNotAdded r.part r.width old (sum_refusal e)
 not_added r rows more old mid measure.SumSpent wide so is spent = λ t h fit.
     let all = rollup_rows r (rows ++ more) t wide so h in
     let sums : with_entries (entries t.sums) old ≡ with_rows ((rows ++ more) ++ all.0) old =
@@ -78,14 +79,14 @@ not_added r rows more old mid measure.SumSpent wide so is spent = λ t h fit.
 not_added r rows more old mid measure.OutOfMemory wide so is spent = tt
 
 -- a reader's refusal is no spent sum
-pub not_spent : (part : Rollup) (w : ℕ) (old : Table) (e : RowError) → IsSpentBy part w old (told_of_rows e)
+pub not_spent : (part : Rollup) (w : ℕ) (old : Table) (e : ReadRefusal) → IsSpentBy part w old (sum_of_read e)
 not_spent part w old (row.Damaged file at) = tt
 not_spent part w old row.Fault = tt
 not_spent part w old row.OutOfMemory = tt
 
 -- a sum is spent by the rows that were read
 pub spent_by : (r : Reader) (rows more : List RolledRow) (old mid : Table) (e : SumError) → HasRead r (rows ++ more)
-    → mid ≡ with_rows rows old → IsRefused e (with_rows more mid) → IsSpentBy r.part r.width old (told_of_sums e)
+    → mid ≡ with_rows rows old → IsRefused e (with_rows more mid) → IsSpentBy r.part r.width old (sum_refusal e)
 spent_by r rows more old mid measure.SumSpent so is spent = record {
   front = so.front;
   follow = so.behind.follow;

@@ -3,19 +3,21 @@ use Rattle.std.proofs.Common.{◌≡◌, ℕ, suc, ◌+◌, ◌-◌, ◌<◌, �
 use Rattle.std.proofs.Common.{drop}
 use Rattle.std.proofs.Common.{Option, Some, None, refl, sym, ap, subst, ◌∙◌, arith, append_assoc, length-append}
 use Rattle.std.proofs.Common.{length-drop}
-use Rattle.std.proofs.lemmas.List.{drop-drop, drop_at, drop-take, take-append-drop, take_min, length-take, append-nil}
-use Rattle.std.specs.Prelude.{IsTrue, Vec, Result, Ok, Err, IfOk, IfNone, IfSome}
+use Rattle.std.proofs.lemmas.List.{drop-drop, drop_at, drop-take, take-append-drop, take-take, append-nil}
+use Rattle.std.specs.Prelude.{Vec, Result, Ok, Err, IfOk, IfNone, IfSome}
 use Rattle.std.specs.declared.alloc.Global.{Global}
+use Rattle.flow_disk.proofs.WindowLaws.{passed_on}
+use Rattle.flow_disk.specs.Window.{Window, IsOn, IsReady}
+use Rattle.flow_rolled.specs.declared.cursor.Cursor.{Cursor}
 use Rattle.flow_rolled.specs.declared.row.RolledRow.{RolledRow}
 use Rattle.flow_rolled.specs.declared.message.State.{State}
-use Rattle.flow_rolled.specs.declared.error.RowError.{RowError}
-use Rattle.flow_rolled.specs.declared.error.RowError.TheVariants.{Damaged, Fault, OutOfMemory}
+use Rattle.flow_refusals.specs.declared.read_refusal.ReadRefusal.{ReadRefusal}
+use Rattle.flow_refusals.specs.declared.read_refusal.ReadRefusal.TheVariants.{Damaged, Fault, OutOfMemory}
 use Rattle.flow_rolled.specs.Parts.{Part, IsDone, last_part}
 use Rattle.flow_rolled.specs.Octets.{part_octets, parts_octets, IsPart}
 use Rattle.flow_rolled.specs.Rollup.{IsRollup, IsBroken}
 use Rattle.flow_rolled.specs.Reading.{Stands, IsStuck}
-use Rattle.flow_rolled.specs.Stored.{Rollup, Reader, HasRead, IsBehind, Gives, Progress, IsReady, IsOn, IsBare}
-use Rattle.flow_rolled.specs.Stored.{IsBlocked, IsOver, fed}
+use Rattle.flow_rolled.specs.Stored.{Rollup, Reader, HasRead, IsBehind, Gives, IsBare, IsBlocked, IsOver}
 use Rattle.flow_rolled.specs.Stored.{Steps, table_of}
 use Rattle.flow_rolled.proofs.SameParts.{sets_long, part_long}
 use Rattle.flow_rolled.proofs.Breaking.{last_more, octets_more, stands_part, rollup_of, broken_at}
@@ -23,15 +25,12 @@ use Rattle.flow_rolled.proofs.SoFar.{rows_one_more, one_more_follows, parts_more
 use Rattle.flow_rolled.proofs.SoFar.{stuck_end}
 
 -- the octets after the first of those ahead
-pub passed : (xs ahead front rest : List ℕ) (at n : ℕ) → ahead ≡ drop at xs → ahead ≡ front ++ rest
-    → n ≡ length ahead - length rest → (rest ≡ drop (at + n) xs) × (n ≡ length front)
-passed xs ahead front rest at n is parts size =
-    let len : length ahead ≡ length front + length rest = ap (λ (l : List ℕ). length l) parts
-    ∙ length-append front rest in
-    let same : n ≡ length front = omega (arith, size, len) in (
-      sym (drop_at front rest n (sym same)) ∙ ap (drop n) (sym parts ∙ is) ∙ drop-drop n at xs,
-      same,
-    )
+pub passed : (ahead front rest : List ℕ) (n : ℕ) → ahead ≡ front ++ rest → n ≡ length ahead - length rest
+    → (rest ≡ drop n ahead) × (n ≡ length front)
+passed ahead front rest n parts size =
+    let len = ap (λ (l : List ℕ). length l) parts ∙ length-append front rest in
+    let same : n ≡ length front = omega (arith, size, len) in
+    (sym (drop_at front rest n (sym same)) ∙ ap (drop n) (sym parts), same)
 
 -- a message has so many octets at most
 pub part_short : (w : ℕ) (p : Part) → IsPart w p → length (part_octets w p) ≤ 41024
@@ -40,24 +39,18 @@ part_short w p h = let s = sets_long w p.domain p.rows h.rows in omega (arith, s
 
 -- ---- a step stays on the file
 
--- a piece that was read of it
-pub fed_on : (octets items : List ℕ) (n p place : ℕ) → items ≡ take n (drop p octets) → p ≡ place
-    → items ≡ take (length items) (drop place octets)
-fed_on octets items n p place read at =
-    read ∙ sym (take_min n (drop p octets))
-    ∙ ap (λ (k : ℕ). take k (drop p octets)) (sym (length-take n (drop p octets))
-    ∙ ap (λ (l : List ℕ). length l) (sym read))
-    ∙ ap (λ (k : ℕ). take (length items) (drop k octets)) at
-
--- octets after a message
-behind_on : (xs ahead front rest : List ℕ) → ahead ≡ take (length ahead) xs → ahead ≡ front ++ rest
-    → rest ≡ take (length rest) (drop (length front) xs)
-behind_on xs ahead front rest on is =
-    let size : length ahead ≡ length front + length rest = ap (λ (l : List ℕ). length l) is
-    ∙ length-append front rest in
-    sym (drop_at front rest (length front) refl)
-    ∙ ap (drop (length front)) (sym is ∙ on ∙ ap (λ (n : ℕ). take n xs) size) ∙ drop-take (length front) (length rest)
-    xs
+-- a window over a file is one over its part up to the window's end
+pub on_part : (xs : List ℕ) (l : ℕ) (old new : Window) → old.place + length old.ahead ≤ l
+    → new.place + length new.ahead ≤ l → (IsOn xs old → IsOn xs new) → IsOn (take l xs) old → IsOn (take l xs) new
+on_part xs l old new before within on was = on (was ∙ same old before) ∙ sym (same new within)
+  where
+    same : (w : Window) → w.place + length w.ahead ≤ l
+        → take (length w.ahead) (drop w.place (take l xs)) ≡ take (length w.ahead) (drop w.place xs)
+    same w within =
+        let n = length w.ahead in
+        let p = w.place in
+        ap (λ (m : ℕ). take n (drop p (take m xs))) (omega arith) ∙ ap (take n) (drop-take p (l - p) xs)
+        ∙ take-take n (l - p) (drop p xs) (omega (arith, within))
 
 -- the first octets ahead are the file's
 front_on : (xs ahead front rest : List ℕ) → ahead ≡ take (length ahead) xs → ahead ≡ front ++ rest
@@ -71,48 +64,44 @@ front_on xs ahead front rest on is =
     ∙ drop_at front (rest ++ more) (length front) refl in
     whole ∙ ap (λ (l : List ℕ). front ++ l) (sym back)
 
-pub step_on : (octets : List ℕ) (file : ℕ) (old new : Progress)
-    (result : Result (Option (Vec RolledRow Global)) RowError)
-    → IsOn octets old → Steps file old result new → IsOn octets new
+pub step_on : (octets : List ℕ) (file : ℕ) (old new : Cursor)
+    (result : Result (Option (Vec RolledRow Global)) ReadRefusal)
+    → IsOn octets old.window → Steps file old result new → IsOn octets new.window
 step_on octets file old new (Ok (Some rows)) on h =
-    let front = part_octets old.width h.message in
-    let there : drop (length front) (drop old.place octets) ≡ drop new.place octets =
-    drop-drop (length front) old.place octets ∙ ap (λ (n : ℕ). drop n octets) (sym h.place) in
-    behind_on (drop old.place octets) old.ahead front new.ahead on h.is
-    ∙ ap (λ (l : List ℕ). take (length new.ahead) l) there
-step_on octets file old new (Ok None) on h = subst (IsOn octets) (sym h.2) on
-step_on octets file old new (Err (Damaged f at)) on h = subst (IsOn octets) (sym h.3) on
+    passed_on octets (part_octets old.width h.message) old.window new.window on h.is h.place
+step_on octets file old new (Ok None) on h = subst (λ (c : Cursor). IsOn octets c.window) (sym h.2) on
+step_on octets file old new (Err (Damaged f at)) on h = subst (λ (c : Cursor). IsOn octets c.window) (sym h.3) on
 step_on octets file old new (Err Fault) on h = absurd h
-step_on octets file old new (Err OutOfMemory) on h = subst (IsOn octets) (sym h) on
+step_on octets file old new (Err OutOfMemory) on h = subst (λ (c : Cursor). IsOn octets c.window) (sym h) on
 
 -- ---- on every file
 
-pub step_end : (file : ℕ) (old new : Progress) (result : Result (Option (Vec RolledRow Global)) RowError)
-    → Steps file old result new → new.end ≡ old.end
+pub step_end : (file : ℕ) (old new : Cursor) (result : Result (Option (Vec RolledRow Global)) ReadRefusal)
+    → Steps file old result new → new.window.end ≡ old.window.end
 step_end file old new (Ok (Some rows)) h = h.end
-step_end file old new (Ok None) h = ap (λ (c : Progress). c.end) h.2
-step_end file old new (Err (Damaged f at)) h = ap (λ (c : Progress). c.end) h.3
+step_end file old new (Ok None) h = ap (λ (c : Cursor). c.window.end) h.2
+step_end file old new (Err (Damaged f at)) h = ap (λ (c : Cursor). c.window.end) h.3
 step_end file old new (Err Fault) h = absurd h
-step_end file old new (Err OutOfMemory) h = ap (λ (c : Progress). c.end) h
+step_end file old new (Err OutOfMemory) h = ap (λ (c : Cursor). c.window.end) h
 
-pub step_further : (file : ℕ) (old new : Progress) (result : Result (Option (Vec RolledRow Global)) RowError)
-    → old.place + length old.ahead ≤ old.end → Steps file old result new
-    → IfOk result (λ o. IfSome o (λ _. (old.place < new.place) × (new.place ≤ old.end)))
+pub step_further : (file : ℕ) (old new : Cursor) (result : Result (Option (Vec RolledRow Global)) ReadRefusal)
+    → old.window.place + length old.window.ahead ≤ old.window.end → Steps file old result new
+    → IfOk result (λ o. IfSome o (λ _. (old.window.place < new.window.place) × (new.window.place ≤ old.window.end)))
 step_further file old new (Ok (Some rows)) within h =
     let place = h.place in
     let some = part_long old.width h.message in
-    let size = ap (λ (l : List ℕ). length l) h.is ∙ length-append (part_octets old.width h.message) new.ahead in
+    let size = ap (λ (l : List ℕ). length l) h.is ∙ length-append (part_octets old.width h.message) new.window.ahead in
     (omega (arith, place, some), omega (arith, place, size, within))
 step_further file old new (Ok None) within h = tt
 step_further file old new (Err e) within h = tt
 
-pub step_last : (file : ℕ) (old new : Progress) (result : Result (Option (Vec RolledRow Global)) RowError)
-    → Steps file old result new → IfOk result (λ o. IfNone o (old.place ≡ old.end))
+pub step_last : (file : ℕ) (old new : Cursor) (result : Result (Option (Vec RolledRow Global)) ReadRefusal)
+    → Steps file old result new → IfOk result (λ o. IfNone o (old.window.place ≡ old.window.end))
 step_last file old new (Ok (Some rows)) h = tt
 step_last file old new (Ok None) h = h.0
 step_last file old new (Err e) h = tt
 
-pub step_few : (file : ℕ) (old new : Progress) (result : Result (Option (Vec RolledRow Global)) RowError)
+pub step_few : (file : ℕ) (old new : Cursor) (result : Result (Option (Vec RolledRow Global)) ReadRefusal)
     → Steps file old result new → IfOk result (λ o. IfSome o (λ rows. length rows.items ≤ 1000))
 step_few file old new (Ok (Some rows)) h =
     let few = (h.whole).rows.few in
@@ -122,29 +111,14 @@ step_few file old new (Err e) h = tt
 
 -- ---- after a read, where one was needed
 
-abbrev pub reader_at : Rollup → Progress → Reader
-reader_at part c = record { part = part; width = c.width; place = c.place; before = c.before }
+abbrev pub reader_at : Rollup → Cursor → Reader
+reader_at part c = record { part = part; width = c.width; place = c.window.place; before = c.before }
 
--- ready for the next message
-pub record IsMid (part : Rollup) (old mid : Progress) : Type 0 where
-  pub same : reader_at part mid ≡ reader_at part old
-  pub end : mid.end ≡ part.length
-  pub on : IsTrue part.honest → IsOn part.octets mid
-  pub ready : IsReady mid
-
-pub mid_fed : (part : Rollup) (old mid : Progress) (items : List ℕ) (n p : ℕ) → old.end ≡ part.length
-    → mid ≡ fed old items → IsReady mid → (IsTrue part.honest → items ≡ take n (drop p part.octets)) → p ≡ old.place
-    → IsMid part old mid
-mid_fed part old mid items n p end is ready read at = record {
-  same = ap (reader_at part) is;
-  end = ap (λ (c : Progress). c.end) is ∙ end;
-  on = λ honest. subst (IsOn part.octets) (sym is) (fed_on part.octets items n p old.place (read honest) at);
-  ready = ready;
-}
-
-pub mid_near : (part : Rollup) (old : Progress) → old.end ≡ part.length → (IsTrue part.honest → IsOn part.octets old)
-    → IsReady old → IsMid part old old
-mid_near part old end on ready = record { same = refl; end = end; on = on; ready = ready }
+pub same_reader : (part : Rollup) (old mid : Cursor) → mid ≡ record old { window = mid.window }
+    → mid.window.place ≡ old.window.place → reader_at part mid ≡ reader_at part old
+same_reader part old mid same place =
+    ap (reader_at part) same
+    ∙ ap (λ (n : ℕ). record { part = part; width = old.width; place = n; before = old.before }) place
 
 -- ---- on an honest file
 
@@ -179,17 +153,16 @@ message_ahead xs ahead front more on ready is = (
         take_one k = let e : 1 + k ≡ suc k = omega arith in ap (λ (j : ℕ). take j (x ∷ (a ++ b))) e
 
 -- what is blocked ahead is stuck in the file
-stuck_on : (octets : List ℕ) (c : Progress) (b : Option Part) → length octets ≡ c.end
-    → c.place + length c.ahead ≤ c.end → IsOn octets c → IsReady c → Stands c.before b
-    → ((b : Option Part) → Stands c.before b → IsStuck c.width b c.ahead) → IsStuck c.width b (drop c.place octets)
-stuck_on octets c b size within on ready stands stuck p more follows is =
-    let w = c.width in
-    let long = part_short w p (stands_part w c.before b p stands follows) in
+stuck_on : (octets : List ℕ) (width : ℕ) (c : Window) (before : Option State) (b : Option Part)
+    → length octets ≡ c.end → c.place + length c.ahead ≤ c.end → IsOn octets c → IsReady 41024 c → Stands before b
+    → ((b : Option Part) → Stands before b → IsStuck width b c.ahead) → IsStuck width b (drop c.place octets)
+stuck_on octets w c before b size within on ready stands stuck p more follows is =
+    let long = part_short w p (stands_part w before b p stands follows) in
     let there = message_ahead (drop c.place octets) c.ahead (part_octets w p) more on (all long ready) is in
     stuck b stands p there.0 follows there.1
   where
-    all : length (part_octets c.width p) ≤ 41024 → IsReady c
-        → (length c.ahead ≡ length (drop c.place octets)) ⊎ (length (part_octets c.width p) ≤ length c.ahead)
+    all : length (part_octets w p) ≤ 41024 → IsReady 41024 c
+        → (length c.ahead ≡ length (drop c.place octets)) ⊎ (length (part_octets w p) ≤ length c.ahead)
     all long (inl whole) = inl (let n = length-drop c.place octets in omega (arith, n, size, whole))
     all long (inr some) = inr (omega (arith, long, some))
 
@@ -201,7 +174,7 @@ none_left : (octets : List ℕ) (place end : ℕ) → length octets ≡ end → 
 none_left octets place end size at = let n = length-drop place octets in omega (arith, n, size, at)
 
 -- the next message
-behind_more : (rows more : List RolledRow) (mid new : Progress) (front : List Part) (h : IsOver mid more new)
+behind_more : (rows more : List RolledRow) (mid new : Cursor) (front : List Part) (h : IsOver mid more new)
     → IsBehind mid.width mid.before rows front → IsBehind mid.width new.before (rows ++ more) (front ++ h.message ∷ [])
 behind_more rows more mid new front h so = record {
   follow = one_more_follows mid.width front h.message so.follow (h.follows (last_part None front) so.stands);
@@ -209,16 +182,16 @@ behind_more rows more mid new front h so = record {
   rows_are = (λ i. so.rows_are i ++ h.rows_are i) ∙ sym (rows_one_more front h.message);
 }
 
-read_more : (part : Rollup) (rows more : List RolledRow) (mid new : Progress) → IsOn part.octets mid
+read_more : (part : Rollup) (rows more : List RolledRow) (mid new : Cursor) → IsOn part.octets mid.window
     → IsOver mid more new → HasRead (reader_at part mid) rows → HasRead (reader_at part new) (rows ++ more)
 read_more part rows more mid new on h so =
     let w = mid.width in
     let p = h.message in
-    let xs = drop mid.place part.octets in
+    let xs = drop mid.window.place part.octets in
     let front = part_octets w p in
-    let there : drop (length front) xs ≡ drop new.place part.octets =
-    drop-drop (length front) mid.place part.octets ∙ ap (λ (n : ℕ). drop n part.octets) (sym h.place) in
-    let split = front_on xs mid.ahead front new.ahead on h.is ∙ ap (λ (l : List ℕ). front ++ l) there in
+    let there : drop (length front) xs ≡ drop new.window.place part.octets =
+    drop-drop (length front) mid.window.place part.octets ∙ ap (λ (n : ℕ). drop n part.octets) (sym h.place) in
+    let split = front_on xs mid.window.ahead front new.window.ahead on h.is ∙ ap (λ (l : List ℕ). front ++ l) there in
     let all = so.front ++ p ∷ [] in
     let long : length (parts_octets w all) ≡ length (parts_octets w so.front) + length front =
     ap (λ (l : List ℕ). length l) (octets_more w so.front (p ∷ [])
@@ -226,19 +199,19 @@ read_more part rows more mid new on h so =
     ∙ length-append (parts_octets w so.front) front in
     let at = h.place in
     let before = so.place in
-    let given : HasRead (record { part = part; width = w; place = new.place; before = new.before }) (rows ++ more) =
-    record {
+    let Read : ℕ → Type 0 =
+    λ v. HasRead (record { part = part; width = v; place = new.window.place; before = new.before }) (rows ++ more) in
+    let given : Read w = record {
       front = all;
       behind = behind_more rows more mid new so.front h so.behind;
-      is = parts_more w part.octets xs (drop new.place part.octets) so.front p so.is split;
+      is = parts_more w part.octets xs (drop new.window.place part.octets) so.front p so.is split;
       place = omega (arith, long, at, before);
     } in
-    subst (λ v. HasRead (record { part = part; width = v; place = new.place; before = new.before }) (rows ++ more))
-    (sym h.width) given
+    subst Read (sym h.width) given
 
 -- on every file, what was given goes on
-pub step_given : (rows : List RolledRow) (file : ℕ) (mid new : Progress)
-    (result : Result (Option (Vec RolledRow Global)) RowError) (front : List Part) → Steps file mid result new
+pub step_given : (rows : List RolledRow) (file : ℕ) (mid new : Cursor)
+    (result : Result (Option (Vec RolledRow Global)) ReadRefusal) (front : List Part) → Steps file mid result new
     → IsBehind mid.width mid.before rows front
     → IfOk result (λ o. IfSome o (λ more. (all : List Part) × IsBehind new.width new.before (rows ++ more.items) all))
 step_given rows file mid new (Ok (Some more)) front h so = (
@@ -250,32 +223,36 @@ step_given rows file mid new (Ok None) front h so = tt
 step_given rows file mid new (Err e) front h so = tt
 
 -- where octets break off
-breaks : (part : Rollup) (rows : List RolledRow) (mid : Progress) → mid.width < 2 ^ 32 → length part.octets ≡ mid.end
-    → mid.place + length mid.ahead ≤ mid.end → IsOn part.octets mid → IsReady mid → IsBlocked mid
-    → HasRead (reader_at part mid) rows → IsBroken mid.width part.octets mid.place
+breaks : (part : Rollup) (rows : List RolledRow) (mid : Cursor) → mid.width < 2 ^ 32
+    → length part.octets ≡ mid.window.end → mid.window.place + length mid.window.ahead ≤ mid.window.end
+    → IsOn part.octets mid.window → IsReady 41024 mid.window → IsBlocked mid
+    → HasRead (reader_at part mid) rows → IsBroken mid.width part.octets mid.window.place
 breaks part rows mid wide size within on ready (inl h) so =
-    let left = length-drop mid.place part.octets in
+    let left = length-drop mid.window.place part.octets in
     let at = h.0 in
     subst (IsBroken mid.width part.octets) (sym so.place)
-    (broken_at mid.width wide part.octets so.front (drop mid.place part.octets) so.behind.follow so.is
-    (stuck_on part.octets mid (last_part None so.front) size within on ready so.behind.stands h.1)
+    (broken_at mid.width wide part.octets so.front (drop mid.window.place part.octets) so.behind.follow so.is
+    (stuck_on part.octets mid.width mid.window mid.before (last_part None so.front) size within on ready
+    so.behind.stands h.1)
     (λ none. absurd (let l = ap (λ (x : List ℕ). length x) none in omega (arith, l, left, size, at))))
 breaks part rows mid wide size within on ready (inr h) so =
-    let none = none_left part.octets mid.place mid.end size h.0 in
+    let none = none_left part.octets mid.window.place mid.window.end size h.0 in
     subst (IsBroken mid.width part.octets) (sym so.place)
-    (broken_at mid.width wide part.octets so.front (drop mid.place part.octets) so.behind.follow so.is
-    (stuck_end mid.width (drop mid.place part.octets) none (last_part None so.front))
+    (broken_at mid.width wide part.octets so.front (drop mid.window.place part.octets) so.behind.follow so.is
+    (stuck_end mid.width (drop mid.window.place part.octets) none (last_part None so.front))
     (λ e done. bare_not_done mid.before (last_part None so.front) so.behind.stands h.1 done))
 
-pub gives : (part : Rollup) (rows : List RolledRow) (file : ℕ) (mid new : Progress)
-    (result : Result (Option (Vec RolledRow Global)) RowError) → file ≡ part.file → mid.width < 2 ^ 32
-    → length part.octets ≡ mid.end → mid.place + length mid.ahead ≤ mid.end → IsOn part.octets mid → IsReady mid
+pub gives : (part : Rollup) (rows : List RolledRow) (file : ℕ) (mid new : Cursor)
+    (result : Result (Option (Vec RolledRow Global)) ReadRefusal) → file ≡ part.file → mid.width < 2 ^ 32
+    → length part.octets ≡ mid.window.end → mid.window.place + length mid.window.ahead ≤ mid.window.end
+    → IsOn part.octets mid.window → IsReady 41024 mid.window
     → Steps file mid result new → HasRead (reader_at part mid) rows
     → Gives (reader_at part mid) rows result (reader_at part new)
 gives part rows file mid new (Ok (Some more)) same wide size within on ready h so =
     read_more part rows more.items mid new on h so
 gives part rows file mid new (Ok None) same wide size within on ready h so =
-    let none = no_octets (drop mid.place part.octets) (none_left part.octets mid.place mid.end size h.0) in
+    let left = none_left part.octets mid.window.place mid.window.end size h.0 in
+    let none = no_octets (drop mid.window.place part.octets) left in
     subst (λ l. IsRollup mid.width part.octets (table_of mid.width l)) (sym so.behind.rows_are)
     (rollup_of mid.width part.octets so.front so.behind.follow
     (done_if mid.before (last_part None so.front) so.behind.stands h.1)

@@ -1,17 +1,18 @@
 -- Rolled files on a disk, and how far one has been read.
-use Rattle.std.specs.Prelude.{◌≡◌, ◌⊎◌, ℕ, ◌+◌, ◌<◌, ◌≤◌, Bool, List, [], ◌∷◌, ◌++◌, length, take, drop, Option, Some}
+use Rattle.std.specs.Prelude.{◌≡◌, ◌⊎◌, ℕ, ◌+◌, ◌<◌, Bool, List, [], ◌∷◌, ◌++◌, length, take, drop, Option, Some}
 use Rattle.std.specs.Prelude.{None, nat_lt, if◌then◌else◌}
 use Rattle.std.specs.Int.{w32, from_be_bytes}
 use Rattle.std.specs.Prelude.{Vec, Result, Ok, Err}
 use Rattle.std.specs.declared.alloc.Global.{Global}
 use Rattle.std.specs.FinMap.{entries, get}
 use Rattle.flow_measure.specs.Sums.{Table, AllFit, with_sums, with_entries, widened_key}
+use Rattle.flow_rolled.specs.declared.cursor.Cursor.{Cursor}
 use Rattle.flow_rolled.specs.declared.row.RolledRow.{RolledRow}
 use Rattle.flow_rolled.specs.declared.message.State.{State}
-use Rattle.flow_rolled.specs.declared.error.RowError.{RowError}
-use Rattle.flow_rolled.specs.declared.error.RowError.TheVariants.{Damaged, Fault, OutOfMemory}
-use Rattle.flow_rolled.specs.declared.error.RowSumError.{RowSumError}
-use Rattle.flow_rolled.specs.declared.error.RowSumError.TheVariants as sum
+use Rattle.flow_refusals.specs.declared.read_refusal.ReadRefusal.{ReadRefusal}
+use Rattle.flow_refusals.specs.declared.read_refusal.ReadRefusal.TheVariants.{Damaged, Fault, OutOfMemory}
+use Rattle.flow_refusals.specs.declared.sum_refusal.SumRefusal.{SumRefusal}
+use Rattle.flow_refusals.specs.declared.sum_refusal.SumRefusal.TheVariants as sum
 use Rattle.flow_rolled.specs.Rows.{sums_in, sums_of, entries_in}
 use Rattle.flow_rolled.specs.Parts.{Part, Follows, AllFollow, last_part, rows_within}
 use Rattle.flow_rolled.specs.Octets.{part_octets, parts_octets, IsPart}
@@ -61,7 +62,7 @@ table_of width rows = record { width = width; sums = sums_of rows }
 
 -- What a reader that has read these rows gives: the rows of the next message, so that it has read these too; or no
 -- more, and the file is the rolled file of the rows it has read; or damage at the place where the octets break off.
-abbrev pub Gives : Reader → List RolledRow → Result (Option (Vec RolledRow Global)) RowError → Reader → Type 0
+abbrev pub Gives : Reader → List RolledRow → Result (Option (Vec RolledRow Global)) ReadRefusal → Reader → Type 0
 Gives old rows (Ok (Some more)) new = HasRead new (rows ++ more.items)
 Gives old rows (Ok None) new = IsRollup old.width old.part.octets (table_of old.width rows)
 Gives old rows (Err (Damaged file at)) new = (file ≡ old.part.file) × IsBroken old.width old.part.octets at
@@ -69,7 +70,7 @@ Gives old rows (Err Fault) new = Unit {0}
 Gives old rows (Err OutOfMemory) new = Unit {0}
 
 -- Damage is reported of this file, at the next message.
-abbrev pub IsTold : Reader → RowError → Type 0
+abbrev pub IsTold : Reader → ReadRefusal → Type 0
 IsTold r (Damaged file at) = (file ≡ r.part.file) × (at ≡ r.place)
 IsTold r Fault = Unit {0}
 IsTold r OutOfMemory = Unit {0}
@@ -97,7 +98,7 @@ pub record IsAdded (width : ℕ) (octets : List ℕ) (old new : Table) : Type 0 
   pub sums : new ≡ with_entries (entries table.sums) old
 
 -- What a refusal says: damage of this file where its octets break off; or that a sum would pass its type.
-abbrev pub IsNotAdded : Rollup → ℕ → Table → RowSumError → Type 0
+abbrev pub IsNotAdded : Rollup → ℕ → Table → SumRefusal → Type 0
 IsNotAdded part width old (sum.Damaged file at) = (file ≡ part.file) × IsBroken width part.octets at
 IsNotAdded part width old sum.SumSpent =
     (t : Table) → IsRollup width part.octets t → AllFit (with_entries (entries t.sums) old) → ⊥
@@ -113,41 +114,20 @@ pub record AreSpent (width : ℕ) (octets : List ℕ) (old : Table) : Type 0 whe
   pub spent : AllFit (with_rows (rows_within front) old) → ⊥
 
 -- a sum that is reported as spent is spent by rows of this file
-abbrev pub IsSpentBy : Rollup → ℕ → Table → RowSumError → Type 0
+abbrev pub IsSpentBy : Rollup → ℕ → Table → SumRefusal → Type 0
 IsSpentBy part width old (sum.Damaged file at) = Unit {0}
 IsSpentBy part width old sum.SumSpent = AreSpent width part.octets old
 IsSpentBy part width old sum.Fault = Unit {0}
 IsSpentBy part width old sum.OutOfMemory = Unit {0}
 
 -- damage names this file
-abbrev pub NamesFile : Rollup → RowSumError → Type 0
+abbrev pub NamesFile : Rollup → SumRefusal → Type 0
 NamesFile part (sum.Damaged file at) = file ≡ part.file
 NamesFile part sum.SumSpent = Unit {0}
 NamesFile part sum.Fault = Unit {0}
 NamesFile part sum.OutOfMemory = Unit {0}
 
 -- ---- a reader's octets, some of them ahead
-
--- How far reading has come: the octets that were read ahead, the place of the next message, which is the first of
--- these, the end of the file, and what is known of the message before.
-pub record Progress : Type 0 where
-  pub width : ℕ
-  pub ahead : List ℕ
-  pub place : ℕ
-  pub end : ℕ
-  pub before : Option State
-
--- the same with these octets ahead
-abbrev pub fed : Progress → List ℕ → Progress
-fed c ahead = record { width = c.width; ahead = ahead; place = c.place; end = c.end; before = c.before }
-
--- the octets ahead hold the next message whole, if there is one
-abbrev pub IsReady : Progress → Type 0
-IsReady c = (c.place + length c.ahead ≡ c.end) ⊎ (41024 ≤ length c.ahead)
-
--- the octets ahead are those of the file
-abbrev pub IsOn : List ℕ → Progress → Type 0
-IsOn octets c = c.ahead ≡ take (length c.ahead) (drop c.place octets)
 
 -- the message before has rows, or there is none
 abbrev pub IsEnd : Option State → Type 0
@@ -160,26 +140,27 @@ IsBare None = ⊥
 IsBare (Some s) = s.count ≡ 0
 
 -- a step over the next message, which has these rows
-pub record IsOver (old : Progress) (rows : List RolledRow) (new : Progress) : Type 0 where
+pub record IsOver (old : Cursor) (rows : List RolledRow) (new : Cursor) : Type 0 where
   pub message : Part
-  pub is : old.ahead ≡ part_octets old.width message ++ new.ahead
+  pub is : old.window.ahead ≡ part_octets old.width message ++ new.window.ahead
   pub whole : IsPart old.width message
   pub follows : (b : Option Part) → Stands old.before b → Follows old.width b message
   pub rows_are : rows ≡ message.rows
   pub known : Stands new.before (Some message)
-  pub place : new.place ≡ old.place + length (part_octets old.width message)
+  pub place : new.window.place ≡ old.window.place + length (part_octets old.width message)
   pub width : new.width ≡ old.width
-  pub end : new.end ≡ old.end
+  pub end : new.window.end ≡ old.window.end
 
 -- the octets ahead don't begin with a message that may follow, or the file ends after a head
-abbrev pub IsBlocked : Progress → Type 0
-IsBlocked c = ((c.place < c.end) × ((b : Option Part) → Stands c.before b → IsStuck c.width b c.ahead))
-    ⊎ ((c.place ≡ c.end) × IsBare c.before)
+abbrev pub IsBlocked : Cursor → Type 0
+IsBlocked c =
+    ((c.window.place < c.window.end) × ((b : Option Part) → Stands c.before b → IsStuck c.width b c.window.ahead))
+    ⊎ ((c.window.place ≡ c.window.end) × IsBare c.before)
 
 -- one step over the octets ahead, of the file with this number
-abbrev pub Steps : ℕ → Progress → Result (Option (Vec RolledRow Global)) RowError → Progress → Type 0
+abbrev pub Steps : ℕ → Cursor → Result (Option (Vec RolledRow Global)) ReadRefusal → Cursor → Type 0
 Steps file old (Ok (Some rows)) new = IsOver old rows.items new
-Steps file old (Ok None) new = (old.place ≡ old.end) × IsEnd old.before × (new ≡ old)
-Steps file old (Err (Damaged f at)) new = (f ≡ file) × (at ≡ old.place) × IsBlocked old × (new ≡ old)
+Steps file old (Ok None) new = (old.window.place ≡ old.window.end) × IsEnd old.before × (new ≡ old)
+Steps file old (Err (Damaged f at)) new = (f ≡ file) × (at ≡ old.window.place) × IsBlocked old × (new ≡ old)
 Steps file old (Err Fault) new = ⊥
 Steps file old (Err OutOfMemory) new = new ≡ old

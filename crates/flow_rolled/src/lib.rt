@@ -33,7 +33,7 @@ mod summing;
 
 pub use decoding::decode_rows;
 pub use encoding::encode_rows;
-pub use error::{RolledError, RowError, RowSumError};
+pub use error::{RolledError, RowError};
 pub use part::RolledPart;
 pub use reader::RowReader;
 pub use row::RolledRow;

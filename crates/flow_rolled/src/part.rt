@@ -1,6 +1,6 @@
 //! A rolled file on a disk.
 
-ghost use Rattle.std.specs.Prelude.{◌≡◌, ◌+◌, ◌≤◌, IsTrue, length, take, drop, IfOk, vec_len};
+ghost use Rattle.std.specs.Prelude.{◌≡◌, ◌≤◌, IsTrue, length, take, IfOk};
 ghost use Rattle.flow_disk.specs.Cause.{HasCause};
 ghost use Rattle.flow_rolled.specs.Stored.{export_time};
 
@@ -12,7 +12,7 @@ use std::marker::Model;
 /// its length and its octets, which reads give where the disk is honest.
 #[derive(Drop)]
 pub struct RolledPart<S: SealedFile> {
-    reader: S,
+    pub(crate) reader: S,
     messages: u64,
     length: u64,
 }
@@ -84,7 +84,7 @@ impl<S: SealedFile> RolledPart<S> {
         if self.length < 8 {
             return Ok(0);
         }
-        let octets = self.read(alloc, faults, 4, 4)?;
+        let octets = self.reader.read(alloc, faults, 4, 4)?;
         let time = [octets[0], octets[1], octets[2], octets[3]];
         Ok(u32::from_be_bytes(time))
     }
@@ -97,22 +97,5 @@ impl<S: SealedFile> RolledPart<S> {
         ensures octets { take self.length (S.octets result) ≡ self.octets }
     {
         self.reader
-    }
-
-    /// Reads `count` octets from place `at` on.
-    pub(crate) fn read(
-        &self,
-        alloc: Global,
-        faults: &mut Faults<S>,
-        at: u64,
-        count: usize,
-    ) -> Result<Vec<u8>, DiskError>
-        requires { at + count ≤ self.now.length }
-        ensures count { IfOk result (λ got. vec_len got ≡ count) }
-        ensures octets { IsTrue self.now.honest → IfOk result
-            (λ got. got.items ≡ take count (drop at self.now.octets)) }
-        ensures cause { HasCause DiskError.Fault faults.old faults.new result }
-    {
-        self.reader.read(alloc, faults, at, count)
     }
 }

@@ -7,10 +7,10 @@ ghost use Rattle.flow_rolled.specs.declared.row.RolledRow.{RolledRow};
 ghost use Rattle.flow_rolled.specs.Stored.{HasGiven, HasRead, Gives, IsTold};
 
 use crate::cursor::Cursor;
-use crate::error::RowError;
 use crate::part::RolledPart;
 use crate::row::RolledRow;
 use flow_disk::{Faults, SealedFile};
+use flow_refusals::ReadRefusal;
 use std::alloc::Global;
 use std::marker::Model;
 
@@ -23,21 +23,22 @@ pub struct RowReader<'a, S: SealedFile> {
 }
 
 impl<'a, S: SealedFile> Model for RowReader<'a, S> {
-    ghost use Rattle.std.specs.Prelude.{◌≡◌, IsTrue, length};
-    ghost use Rattle.flow_rolled.specs.Stored.{Reader, IsOn};
+    ghost use Rattle.std.specs.Prelude.{◌≡◌, ◌<◌, IsTrue, length};
+    ghost use Rattle.flow_disk.specs.Window.{IsOn};
+    ghost use Rattle.flow_rolled.specs.Stored.{Reader};
 
     ghost Value = { Reader };
 
     ghost view = { λ r. record {
       part = r.part.now;
       width = r.cursor.width;
-      place = r.cursor.place;
+      place = r.cursor.window.place;
       before = r.cursor.before;
     } };
 
-    ghost invariant = { λ r. (r.cursor.end ≡ r.part.now.length)
+    ghost invariant = { λ r. (0 < r.cursor.width) × (r.cursor.window.end ≡ r.part.now.length)
         × (IsTrue r.part.now.honest → length r.part.now.octets ≡ r.part.now.length)
-        × (IsTrue r.part.now.honest → IsOn r.part.now.octets r.cursor) };
+        × (IsTrue r.part.now.honest → IsOn r.part.now.octets r.cursor.window) };
 }
 
 impl<'a, S: SealedFile> RowReader<'a, S> {
@@ -62,7 +63,7 @@ impl<'a, S: SealedFile> RowReader<'a, S> {
         &mut self,
         alloc: Global,
         faults: &mut Faults<S>,
-    ) -> Result<Option<Vec<RolledRow>>, RowError>
+    ) -> Result<Option<Vec<RolledRow>>, ReadRefusal>
         // On every file: each message takes the reader further, never past the end, and `None` comes at the end alone.
         ensures part { self.new.part ≡ self.old.part }
         ensures width { self.new.width ≡ self.old.width }
@@ -75,17 +76,13 @@ impl<'a, S: SealedFile> RowReader<'a, S> {
         ensures last { IfOk result (λ o. IfNone o (self.old.place ≡ self.old.part.length)) }
         ensures kept { OnErr result (self.new ≡ self.old) }
         ensures told { IfErr result (λ e. IsTold self.old e) }
-        ensures cause { HasCause RowError.Fault faults.old faults.new result }
+        ensures cause { HasCause ReadRefusal.Fault faults.old faults.new result }
 
         // On an honest one: the rows are those of the file, and damage is reported where its octets break off.
         ensures gives { IsTrue self.old.part.honest → (rows : List RolledRow) → HasRead self.old rows
             → Gives self.old rows result self.new }
     {
-        if self.cursor.is_short() {
-            let (place, wanted) = (self.cursor.place(), self.cursor.wanted());
-            let piece = self.part.read(alloc, faults, place, wanted)?;
-            self.cursor.feed(piece);
-        }
+        self.cursor.fill(alloc, self.part, faults)?;
         self.cursor.step(alloc, self.part.file())
     }
 }

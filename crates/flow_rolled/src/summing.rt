@@ -6,12 +6,12 @@ ghost use Rattle.flow_measure.specs.Sums.{AllFit, IsRefused, widened_key};
 ghost use Rattle.flow_rolled.specs.Rows.{sums_in};
 ghost use Rattle.flow_rolled.specs.Stored.{with_rows, AreCounted, IsAdded, IsNotAdded, IsSpentBy, NamesFile};
 
-use crate::error::RowSumError;
 use crate::part::RolledPart;
 use crate::reader::RowReader;
 use crate::row::RolledRow;
 use flow_disk::{Faults, SealedFile};
 use flow_measure::{Key, Rows, SumError, Sums, interval_of};
+use flow_refusals::SumRefusal;
 use std::alloc::Global;
 
 /// The key of the interval by this width that holds a key's start.
@@ -62,12 +62,12 @@ pub fn sum_rows<S: SealedFile>(
     part: &RolledPart<S>,
     width: u32,
     rows: &mut Rows,
-) -> Result<(), RowSumError>
+) -> Result<(), SumRefusal>
     requires { 0 < width }
     // On every file.
     ensures width { rows.new.width ≡ rows.old.width }
     ensures names { IfErr result (λ e. NamesFile part.now e) }
-    ensures cause { HasCause RowSumError.Fault faults.old faults.new result }
+    ensures cause { HasCause SumRefusal.Fault faults.old faults.new result }
 
     // On an honest one: the sums of the file's table are added, and a refusal says why they aren't.
     ensures added { IsTrue part.now.honest → OnOk result (IsAdded width part.now.octets rows.old rows.new) }

@@ -16,7 +16,8 @@ ghost use Rattle.flow_model.specs.Views.{IsViewOf};
 use crate::gate::{Gate, Point};
 use flow_disk::{Faults, SealedFile};
 use flow_measure::Row;
-use flow_snapshot::{QueryError, Share, Snapshot};
+use flow_refusals::ReadRefusal;
+use flow_snapshot::{Share, Snapshot};
 use std::alloc::Global;
 use std::thread;
 use std::thread::Threads;
@@ -30,7 +31,7 @@ fn share_of<S: SealedFile, G: Gate>(
     worker: u32,
 ) -> Share<S>
     requires { worker < workers }
-    ensures cause { HasCause QueryError.Fault 0 result.faults result.sums }
+    ensures cause { HasCause ReadRefusal.Fault 0 result.faults result.sums }
     ensures share { IsShare snapshot.now workers worker result.sums }
 {
     gate.pass(Point::Worker(worker + 1));
@@ -54,9 +55,9 @@ pub fn scan_by_parts<S: SealedFile + Send + Sync, R: Threads + Sync, G: Gate + S
     from: u64,
     to: u64,
     faults: &mut Faults<S>,
-) -> Result<Vec<Row>, QueryError>
+) -> Result<Vec<Row>, ReadRefusal>
     requires workers { (0 < workers) × (workers ≤ 64) }
-    ensures cause { HasCause QueryError.Fault faults.old faults.new result }
+    ensures cause { HasCause ReadRefusal.Fault faults.old faults.new result }
     // On honest disks, also where files are damaged: the totals of all parts, each of which was read whole, with its
     // own prefix.
     ensures found { IsTrue snapshot.now.honest → IfOk result (λ rows. (wide : List (FinMap key_cmp Sums))
@@ -73,7 +74,7 @@ pub fn scan_by_parts<S: SealedFile + Send + Sync, R: Threads + Sync, G: Gate + S
 {
     let work = |i: usize| -> Share<S>
         requires { i < workers }
-        ensures { HasCause QueryError.Fault 0 result.faults result.sums
+        ensures { HasCause ReadRefusal.Fault 0 result.faults result.sums
             × IsShare snapshot.entry.now workers i result.sums }
     { share_of(snapshot, alloc, gate, workers, i as u32) };
     let shares = thread::map_indices(rt, alloc, workers as usize, &work)?;

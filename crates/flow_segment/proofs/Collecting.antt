@@ -4,8 +4,8 @@ use Rattle.std.proofs.Common.{inr}
 use Rattle.std.specs.Prelude.{Vec, Result, Ok, Err, IfOk, IfErr}
 use Rattle.std.specs.List.{AllByRecursion}
 use Rattle.std.specs.declared.alloc.Global.{Global}
-use Rattle.flow_gate.specs.declared.tail.ScanError.{ScanError}
-use Rattle.flow_gate.specs.declared.tail.ScanError.TheVariants.{Damaged, Fault, OutOfMemory}
+use Rattle.flow_refusals.specs.declared.read_refusal.ReadRefusal.{ReadRefusal}
+use Rattle.flow_refusals.specs.declared.read_refusal.ReadRefusal.TheVariants.{Damaged, Fault, OutOfMemory}
 use Rattle.flow_gate.specs.Scan.{texts}
 use Rattle.flow_codec.specs.declared.file.FileError.{FileError}
 use Rattle.flow_codec.specs.Message.{joined}
@@ -26,7 +26,7 @@ pub record Collected (number prefix end : ℕ) (honest : Bool) (octets : List �
 
 -- messages that fill octets are those that are given
 pub given_from : (octets : List ℕ) (number prefix end count : ℕ) (list : List (List ℕ))
-    (result : Result (Vec (Vec ℕ Global) Global) ScanError) → AreMessagesOf octets count list
+    (result : Result (Vec (Vec ℕ Global) Global) ReadRefusal) → AreMessagesOf octets count list
     → IfOk result (λ messages. AreMessagesOf octets count (texts messages.items))
     → IfErr result (λ e. IsToldOf octets number prefix end count e) → AreGiven list result
 given_from octets number prefix end count list (Ok messages) are found told =

@@ -7,15 +7,16 @@ use Rattle.std.specs.Prelude.{◌<◌, cond, max, IsTrue, Result, Ok, Err, IsErr
 use Rattle.std.proofs.lemmas.Cmp.{ranked}
 use Rattle.std.specs.Ordering.{is_lt, nat_cmp, ord_max, MatchOrdering}
 use Rattle.flow_disk.specs.Cause.{HasCause}
+use Rattle.flow_disk.specs.Window.{Window, IsOn}
 use Rattle.flow_codec.specs.Cutting.{IsFileFault}
-use Rattle.flow_gate.specs.declared.tail.ScanError.{ScanError}
-use Rattle.flow_gate.specs.declared.tail.ScanError.TheVariants.{Damaged, Fault, OutOfMemory}
+use Rattle.flow_refusals.specs.declared.read_refusal.ReadRefusal.{ReadRefusal}
+use Rattle.flow_refusals.specs.declared.read_refusal.ReadRefusal.TheVariants.{Damaged, Fault, OutOfMemory}
 use Rattle.flow_codec.specs.Message.{IsAccepted}
 use Rattle.flow_codec.specs.Raw.{under, Placed, RawMessage, Took}
 use Rattle.flow_codec.specs.Templates.{AllTemplates}
 use Rattle.flow_measure.specs.History.{Accepted, templates_from}
 use Rattle.flow_measure.proofs.Histories.{accepted_then, after_then}
-use Rattle.flow_segment.specs.Part.{rest_of, Cursor, IsOn, IsPartStep, Moves}
+use Rattle.flow_segment.specs.Part.{rest_of, IsPartStep, Moves}
 use Rattle.flow_segment.specs.PartFlows.{greatest_time, records_in, AreBehind, ArePartMessages, IsDamage, IsStoppedAt}
 use Rattle.flow_segment.specs.PartFlows.{IsWalkedInto, TookAll}
 use Rattle.flow_segment.specs.Prefix.{AreRead, IsFaulty}
@@ -55,8 +56,8 @@ behind_more before now after octets m h is =
 pub behind_kept : (before now after : AllTemplates) → AreBehind before now → after ≡ now → AreBehind before after
 behind_kept before now after h same = subst (AreBehind before) (sym same) h
 
--- what holds of a part that is read up to a cursor's place
-abbrev pub PartSoFar : (List Accepted → Type 0) → Bool → List ℕ → ℕ → ℕ → AllTemplates → AllTemplates → Cursor → Type 0
+-- what holds of a part that is read up to a window's place
+abbrev pub PartSoFar : (List Accepted → Type 0) → Bool → List ℕ → ℕ → ℕ → AllTemplates → AllTemplates → Window → Type 0
 PartSoFar Kind honest octets start end before now c =
     IsTrue honest → Behind Kind (part_octets start end octets) start before now c.place (rest_of octets c)
     × IsOn octets c
@@ -74,10 +75,10 @@ taken_more holds old now new count time later messages a h took is = (
 
 pub part_more : {S : Type 0} (holds : S → List Placed → S → Type 0) (first sink sink_new : S)
     (honest : Bool) (octets : List ℕ) (start end file number at count time later : ℕ)
-    (more : Bool) (before now after : AllTemplates) (old new : Cursor) (message : List ℕ) → more ≡ true
+    (more : Bool) (before now after : AllTemplates) (old new : Window) (message : List ℕ) → more ≡ true
     → PartSoFar (HasTaken holds first sink count time) honest octets start end before now old → Moves old (Ok more) new
     → (IsTrue honest → IsOn octets old → IsOn octets new × IsPartStep octets file old (Ok more) new)
-    → message ≡ new.message
+    → message ≡ new.held
     → (m : RawMessage) × IsAccepted message now m after
     × (Took holds m.header sink m.records sink_new × (later ≡ m.header.time))
     → PartSoFar (HasTaken holds first sink_new (count + 1) (max time later)) honest octets start end before after new
@@ -99,10 +100,10 @@ part_more holds first sink sink_new honest octets start end file number at count
 
 pub part_told : (Kind : List Accepted → Type 0) (takes : ℕ → RawMessage → Type 0) (honest : Bool) (octets : List ℕ)
     (start end file number at count : ℕ)
-    (more : Bool) (before now after : AllTemplates) (old new : Cursor) (message : List ℕ) (f place : ℕ) → more ≡ true
+    (more : Bool) (before now after : AllTemplates) (old new : Window) (message : List ℕ) (f place : ℕ) → more ≡ true
     → PartSoFar Kind honest octets start end before now old → Moves old (Ok more) new
     → (IsTrue honest → IsOn octets old → IsOn octets new × IsPartStep octets file old (Ok more) new)
-    → message ≡ new.message → at ≡ old.place
+    → message ≡ new.held → at ≡ old.place
     → IsWalkedInto takes number at message now after (Err (Damaged f place)) → IsTrue honest
     → (f ≡ number) × IsStoppedAt (part_octets start end octets) before start end count place
 part_told Kind takes honest octets start end file number at count false before now after old new message f place go
@@ -121,7 +122,7 @@ part_told Kind takes honest octets start end file number at count true before no
         inl (
           x.1 ∙ there ∙ b.at,
           inr (
-            new.message,
+            new.held,
             rest_of octets new,
             s.0,
             s.1,
@@ -133,11 +134,11 @@ part_told Kind takes honest octets start end file number at count true before no
     )
 
 pub walked_told : (Kind : List Accepted → Type 0) (takes : ℕ → RawMessage → Type 0) (honest : Bool) (octets : List ℕ)
-    (start end file number at count : ℕ) (more : Bool) (before now after : AllTemplates) (old new : Cursor)
-    (message : List ℕ) (e : ScanError) → more ≡ true
+    (start end file number at count : ℕ) (more : Bool) (before now after : AllTemplates) (old new : Window)
+    (message : List ℕ) (e : ReadRefusal) → more ≡ true
     → PartSoFar Kind honest octets start end before now old → Moves old (Ok more) new
     → (IsTrue honest → IsOn octets old → IsOn octets new × IsPartStep octets file old (Ok more) new)
-    → message ≡ new.message → number ≡ file → at ≡ old.place
+    → message ≡ new.held → number ≡ file → at ≡ old.place
     → IsWalkedInto takes number at message now after (Err e) → IsTrue honest
     → IsDamage (part_octets start end octets) before file start end count e
 walked_told Kind takes honest octets start end file number at count more before now after old new message (Damaged f p)
@@ -151,7 +152,7 @@ walked_told Kind takes honest octets start end file number at count more before 
     go sofar moves step same is there x h = tt
 
 pub advance_told : (Kind : List Accepted → Type 0) (honest : Bool) (octets : List ℕ) (start end file count : ℕ)
-    (before now : AllTemplates) (old new : Cursor) (e : ScanError)
+    (before now : AllTemplates) (old new : Window) (e : ReadRefusal)
     → PartSoFar Kind honest octets start end before now old
     → (IsTrue honest → IsOn octets old → IsOn octets new × IsPartStep octets file old (Err e) new)
     → IsTrue honest → IsDamage (part_octets start end octets) before file start end count e
@@ -174,7 +175,7 @@ advance_told Kind honest octets start end file count before now old new Fault so
 advance_told Kind honest octets start end file count before now old new OutOfMemory sofar step h = tt
 
 pub count_told : {S : Type 0} (holds : S → List Placed → S → Type 0) (first sink : S) (more honest : Bool)
-    (octets : List ℕ) (start end file number count time all : ℕ) (before now : AllTemplates) (old new : Cursor)
+    (octets : List ℕ) (start end file number count time all : ℕ) (before now : AllTemplates) (old new : Window)
     → more ≡ false → PartSoFar (HasTaken holds first sink count time) honest octets start end before now old
     → (IsTrue honest → IsOn octets old → IsOn octets new × IsPartStep octets file old (Ok more) new)
     → IsTrue honest → count ≢ all → number ≡ file
@@ -190,7 +191,7 @@ count_told holds first sink false honest octets start end file number count time
 
 -- all messages, where there are as many as there are to be
 pub all_found : {S : Type 0} (holds : S → List Placed → S → Type 0) (first sink : S) (more honest : Bool)
-    (octets : List ℕ) (start end file count time all : ℕ) (before now : AllTemplates) (old new : Cursor)
+    (octets : List ℕ) (start end file count time all : ℕ) (before now : AllTemplates) (old new : Window)
     → more ≡ false → PartSoFar (HasTaken holds first sink count time) honest octets start end before now old
     → (IsTrue honest → IsOn octets old → IsOn octets new × IsPartStep octets file old (Ok more) new)
     → IsTrue honest → count ≡ all
@@ -213,7 +214,7 @@ all_found holds first sink false honest octets start end file count time all bef
 
 -- their greatest Export Time, where the messages are given
 pub time_found : {S : Type 0} (holds : S → List Placed → S → Type 0) (first sink : S) (more honest : Bool)
-    (octets : List ℕ) (start end file count time all : ℕ) (before now : AllTemplates) (old new : Cursor)
+    (octets : List ℕ) (start end file count time all : ℕ) (before now : AllTemplates) (old new : Window)
     → more ≡ false → PartSoFar (HasTaken holds first sink count time) honest octets start end before now old
     → (IsTrue honest → IsOn octets old → IsOn octets new × IsPartStep octets file old (Ok more) new)
     → IsTrue honest → (messages : List Accepted)
@@ -229,17 +230,18 @@ time_found holds first sink false honest octets start end file count time all be
     b.kind.2 ∙ ap greatest_time (same_read (part_octets start end octets) before messages b.messages are.read
     (subst (λ (t : List ℕ). AreRead (part_octets start end octets) before b.messages t) s.0 b.read))
 
-not_fault : (takes : ℕ → RawMessage → Type 0) (number at : ℕ) (message : List ℕ) (now after : AllTemplates) (e : ScanError)
+not_fault : (takes : ℕ → RawMessage → Type 0) (number at : ℕ) (message : List ℕ) (now after : AllTemplates)
+    (e : ReadRefusal)
     → IsWalkedInto takes number at message now after (Err e) → e ≡ Fault → ⊥
 not_fault takes number at message now after (Damaged f p) is same = cc
 not_fault takes number at message now after Fault is same = absurd is
 not_fault takes number at message now after OutOfMemory is same = cc
 
-err_same : {X : Type 0} (x : ScanError) → IsErrOf {T = X} {E = ScanError} (Err x) Fault → x ≡ Fault
+err_same : {X : Type 0} (x : ReadRefusal) → IsErrOf {T = X} {E = ReadRefusal} (Err x) Fault → x ≡ Fault
 err_same x h = cc
 
 pub walked_cause : {X : Type 0} (takes : ℕ → RawMessage → Type 0) (number at : ℕ) (message : List ℕ)
-    (now after : AllTemplates) (e : ScanError) (r : Result X ScanError) (before later : ℕ)
+    (now after : AllTemplates) (e : ReadRefusal) (r : Result X ReadRefusal) (before later : ℕ)
     → IsErrAnd r (λ x. x ≡ e) → IsWalkedInto takes number at message now after (Err e) → later ≡ before
     → HasCause Fault before later r
 walked_cause {X = X} takes number at message now after e (Ok x) before later given is same = absurd given
@@ -250,7 +252,7 @@ walked_cause {X = X} takes number at message now after e (Err x) before later gi
   other = λ _. same;
 }
 
-pub count_within : (old new : Cursor) (count : ℕ) (more : Bool) → more ≡ true → Moves old (Ok more) new
+pub count_within : (old new : Window) (count : ℕ) (more : Bool) → more ≡ true → Moves old (Ok more) new
     → count ≤ old.place → count + 1 ≤ new.place
 count_within old new count false go moves h = absurd cc
 count_within old new count true go moves h = omega (arith, moves.0, moves.2, h)

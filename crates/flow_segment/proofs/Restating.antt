@@ -3,6 +3,7 @@ use Rattle.std.proofs.Common.{◌≡◌, ◌≢◌, ℕ, ◌+◌, Bool, true, fa
 use Rattle.std.proofs.Common.{◌∙◌, ◌≤◌, inl, inr, append_assoc, arith}
 use Rattle.std.proofs.lemmas.List.{length-append, append-nil}
 use Rattle.std.specs.List.{AllByRecursion}
+use Rattle.flow_disk.specs.Window.{Window, IsOn}
 use Rattle.flow_codec.specs.declared.message.Header.{Header}
 use Rattle.flow_codec.specs.Raw.{under, RawMessage, RawRecord}
 use Rattle.flow_codec.specs.Templates.{AllTemplates}
@@ -11,10 +12,10 @@ use Rattle.flow_codec.specs.Cutting.{IsCutOff}
 use Rattle.flow_measure.specs.History.{Accepted, templates_from}
 use Rattle.flow_measure.proofs.Histories.{accepted_then, after_then}
 use Rattle.flow_segment.specs.Carry.{octets_of}
-use Rattle.flow_gate.specs.declared.tail.ScanError.{ScanError}
-use Rattle.flow_gate.specs.declared.tail.ScanError.TheVariants.{Damaged, Fault, OutOfMemory}
+use Rattle.flow_refusals.specs.declared.read_refusal.ReadRefusal.{ReadRefusal}
+use Rattle.flow_refusals.specs.declared.read_refusal.ReadRefusal.TheVariants.{Damaged, Fault, OutOfMemory}
 use Rattle.std.specs.Prelude.{IsTrue, Ok, Err}
-use Rattle.flow_segment.specs.Part.{rest_of, Cursor, IsOn, IsPartStep, Moves}
+use Rattle.flow_segment.specs.Part.{rest_of, IsPartStep, Moves}
 use Rattle.flow_segment.specs.Segment.{part_octets}
 use Rattle.flow_segment.specs.Prefix.{AreRead, AreSeen, HaveNoRecords, IsNoRestatement, IsPrefixToldOf, IsRestating}
 
@@ -98,12 +99,12 @@ one_more Kind Next octets from before now after place next rest more one m b cut
 
 -- ---- a step over a part, and its message
 
--- a message at a cursor's place is one more
+-- a message at a window's place is one more
 pub step_more : (Kind Next : List Accepted → Type 0) (octets whole : List ℕ) (from file : ℕ)
     (before now after : AllTemplates)
-    (old new : Cursor) (message : List ℕ) (m : RawMessage)
+    (old new : Window) (message : List ℕ) (m : RawMessage)
     (b : Behind Kind whole from before now old.place (rest_of octets old))
-    → IsPartStep octets file old (Ok true) new → new.place ≡ old.place + length new.message → message ≡ new.message
+    → IsPartStep octets file old (Ok true) new → new.place ≡ old.place + length new.held → message ≡ new.held
     → IsAccepted message now m after
     → Next (b.messages ++ record { octets = message; message = m; after = after } ∷ [])
     → Behind Next whole from before after new.place (rest_of octets new)
@@ -114,21 +115,21 @@ step_more Kind Next octets whole from file before now after old new message m b 
     (step.1 ∙ ap (λ (t : List ℕ). t ++ rest_of octets new) (sym same))
     (place ∙ ap (λ (t : List ℕ). old.place + length t) (sym same)) is kind
 
-pub moves_within : (old new : Cursor) (more : Bool) → more ≡ true → Moves old (Ok more) new → new.place ≤ new.end
+pub moves_within : (old new : Window) (more : Bool) → more ≡ true → Moves old (Ok more) new → new.place ≤ new.end
 moves_within old new false go moves = absurd cc
 moves_within old new true go moves = moves.3
 
--- what holds of a prefix that is read up to a cursor's place
-abbrev pub PrefixSoFar : Bool → List ℕ → ℕ → AllTemplates → Cursor → Type 0
+-- what holds of a prefix that is read up to a window's place
+abbrev pub PrefixSoFar : Bool → List ℕ → ℕ → AllTemplates → Window → Type 0
 PrefixSoFar honest octets prefix now c =
     IsTrue honest → Behind HaveNoRecords (part_octets 0 prefix octets) 0 [] now c.place (rest_of octets c)
     × IsOn octets c
 
 pub prefix_more : (honest : Bool) (octets : List ℕ) (prefix file number at : ℕ) (more : Bool) (now after : AllTemplates)
-    (old new : Cursor) (message : List ℕ) → more ≡ true → PrefixSoFar honest octets prefix now old
+    (old new : Window) (message : List ℕ) → more ≡ true → PrefixSoFar honest octets prefix now old
     → Moves old (Ok more) new
     → (IsTrue honest → IsOn octets old → IsOn octets new × IsPartStep octets file old (Ok more) new)
-    → message ≡ new.message
+    → message ≡ new.held
     → (m : RawMessage) × IsAccepted message now m after × (m.records ≡ [])
     → PrefixSoFar honest octets prefix after new
 prefix_more honest octets prefix file number at false now after old new message go sofar moves step same x =
@@ -148,10 +149,10 @@ from_zero : (a b : ℕ) → a ≡ 0 + b → a ≡ b
 from_zero a b h = omega (arith, h)
 
 pub prefix_told : (honest : Bool) (octets : List ℕ) (prefix file number at : ℕ) (more : Bool)
-    (now after : AllTemplates) (old new : Cursor) (message : List ℕ) (e : ScanError) → more ≡ true
+    (now after : AllTemplates) (old new : Window) (message : List ℕ) (e : ReadRefusal) → more ≡ true
     → PrefixSoFar honest octets prefix now old → Moves old (Ok more) new
     → (IsTrue honest → IsOn octets old → IsOn octets new × IsPartStep octets file old (Ok more) new)
-    → message ≡ new.message → number ≡ file → at ≡ old.place
+    → message ≡ new.held → number ≡ file → at ≡ old.place
     → IsRestating {X = Unit {0}} number at message now after (Err e) → IsTrue honest
     → IsPrefixToldOf (part_octets 0 prefix octets) file e
 prefix_told honest octets prefix file number at false now after old new message e go sofar moves step same f p x h =
@@ -168,7 +169,7 @@ prefix_told honest octets prefix file number at true now after old new message (
       b.kind,
       x.1 ∙ there ∙ from_zero old.place (length (joined (octets_of b.messages))) b.at,
       inr (
-        new.message,
+        new.held,
         rest_of octets new,
         s.0,
         s.1,

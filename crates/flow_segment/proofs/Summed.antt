@@ -6,8 +6,8 @@ use Rattle.std.specs.List.{AllByRecursion}
 use Rattle.std.specs.FinMap.{entries}
 use Rattle.flow_codec.specs.Raw.{Placed}
 use Rattle.flow_codec.specs.Templates.{AllTemplates}
-use Rattle.flow_gate.specs.declared.tail.ScanError.{ScanError}
-use Rattle.flow_gate.specs.declared.tail.ScanError.TheVariants.{Damaged, Fault, OutOfMemory}
+use Rattle.flow_refusals.specs.declared.read_refusal.ReadRefusal.{ReadRefusal}
+use Rattle.flow_refusals.specs.declared.read_refusal.ReadRefusal.TheVariants.{Damaged, Fault, OutOfMemory}
 use Rattle.flow_measure.specs.declared.flow.Flow.{Flow}
 use Rattle.flow_measure.specs.declared.sinks.Flows.{Flows}
 use Rattle.flow_measure.specs.Flows.{flows_of_records, FlowFits}
@@ -15,14 +15,14 @@ use Rattle.flow_measure.specs.History.{Accepted, flows_in, templates_from}
 use Rattle.flow_measure.specs.Sums.{Table, gathered, AllFit}
 use Rattle.flow_measure.proofs.Gathering.{entries_of_none, gathered-entries}
 use Rattle.flow_measure.proofs.SinkSteps.{none_summed}
-use Rattle.flow_segment.specs.declared.error.PartSumError.{PartSumError}
+use Rattle.flow_refusals.specs.declared.sum_refusal.SumRefusal.{SumRefusal}
 use Rattle.flow_segment.specs.declared.sinks.Adding.{Adding}
 use Rattle.flow_segment.specs.declared.sinks.Chosen.{Chosen}
 use Rattle.flow_segment.specs.PartFlows.{flows_within, records_in, with_flows, AreAdded, AreCollected, AreFlowsGiven}
 use Rattle.flow_segment.specs.PartFlows.{ArePartFlows, ArePartMessages, HasAdded, HasChosen, IsDamage, IsPartToldOf}
 use Rattle.flow_segment.specs.PartFlows.{IsStoppedAt, TookAll}
 use Rattle.flow_segment.specs.Prefix.{AreRead, IsPrefixToldOf, IsRestated}
-use Rattle.flow_segment.specs.Printed.{told_of_scan}
+use Rattle.flow_refusals.specs.Printed.{sum_of_read}
 use Rattle.flow_segment.proofs.Taking.{flows_in_records}
 use Rattle.flow_segment.proofs.Uniqueness.{not_stopped, not_told, same_read, same_restated}
 
@@ -114,15 +114,15 @@ module _ {T : Type 0} (table : T → Table) (octets : List ℕ) (before after : 
 
 -- no damage is reported where messages fill a part
 pub not_damaged : (octets : List ℕ) (before : AllTemplates) (number start end count : ℕ) (messages : List Accepted)
-    (e : ScanError) (t new : Table) (after : AllTemplates) {X : Type 0} (r : Result X PartSumError)
-    → IsErrAnd r (λ x. x ≡ told_of_scan e) → ArePartMessages octets before count messages
+    (e : ReadRefusal) (t new : Table) (after : AllTemplates) {X : Type 0} (r : Result X SumRefusal)
+    → IsErrAnd r (λ x. x ≡ sum_of_read e) → ArePartMessages octets before count messages
     → IsDamage octets before number start end count e → AreAdded before t messages r after new
 not_damaged octets before number start end count messages e t new after (Ok x) given are told = absurd given
 not_damaged octets before number start end count messages e t new after {X = X} (Err x) given are told =
-    subst (λ (y : PartSumError). AreAdded {X = X} before t messages (Err y) after new) (sym given) (by e told)
+    subst (λ (y : SumRefusal). AreAdded {X = X} before t messages (Err y) after new) (sym given) (by e told)
   where
-    by : (e : ScanError) → IsDamage octets before number start end count e
-        → AreAdded {X = X} before t messages (Err (told_of_scan e)) after new
+    by : (e : ReadRefusal) → IsDamage octets before number start end count e
+        → AreAdded {X = X} before t messages (Err (sum_of_read e)) after new
     by (Damaged file at) bad = not_stopped octets before start end count at messages are bad.1
     by Fault bad = tt
     by OutOfMemory bad = tt
@@ -146,16 +146,16 @@ collected octets before after count old new items same found messages are =
     )
 
 pub not_collected : (octets : List ℕ) (before : AllTemplates) (number start end count from to : ℕ)
-    (messages : List Accepted) (e : ScanError) (old new : List Flow) (after : AllTemplates) {X : Type 0}
-    (r : Result X ScanError) → IsErrAnd r (λ x. x ≡ e) → ArePartMessages octets before count messages
+    (messages : List Accepted) (e : ReadRefusal) (old new : List Flow) (after : AllTemplates) {X : Type 0}
+    (r : Result X ReadRefusal) → IsErrAnd r (λ x. x ≡ e) → ArePartMessages octets before count messages
     → IsDamage octets before number start end count e → AreCollected before from to old messages r after new
 not_collected octets before number start end count from to messages e old new after (Ok x) given are told =
     absurd given
 not_collected octets before number start end count from to messages e old new after {X = X} (Err x) given are told =
-    subst (λ (y : ScanError). AreCollected {X = X} before from to old messages (Err y) after new) (sym given)
+    subst (λ (y : ReadRefusal). AreCollected {X = X} before from to old messages (Err y) after new) (sym given)
     (by e told)
   where
-    by : (e : ScanError) → IsDamage octets before number start end count e
+    by : (e : ReadRefusal) → IsDamage octets before number start end count e
         → AreCollected {X = X} before from to old messages (Err e) after new
     by (Damaged file at) bad = not_stopped octets before start end count at messages are bad.1
     by Fault bad = tt
@@ -187,14 +187,14 @@ flows_same prefix octets count list flows (here, ms, restated, are, is) (there, 
     (subst (λ (t : AllTemplates). AreRead octets t ns []) one found.read) in
     same ∙ ap flows_in all ∙ sym is
 
-pub flows_not_told : (prefix octets : List ℕ) (number start end count : ℕ) (list : List Flow) (e : ScanError)
-    (r : Result (Vec Flow Global) ScanError) → IsErrAnd r (λ x. x ≡ e) → ArePartFlows prefix octets count list
+pub flows_not_told : (prefix octets : List ℕ) (number start end count : ℕ) (list : List Flow) (e : ReadRefusal)
+    (r : Result (Vec Flow Global) ReadRefusal) → IsErrAnd r (λ x. x ≡ e) → ArePartFlows prefix octets count list
     → IsPartToldOf prefix octets number start end count e → AreFlowsGiven list r
 flows_not_told prefix octets number start end count list e (Ok flows) given are told = absurd given
 flows_not_told prefix octets number start end count list e (Err x) given (here, ms, restated, are, is) told =
-    subst (λ (y : ScanError). AreFlowsGiven list (Err y)) (sym given) (by e told)
+    subst (λ (y : ReadRefusal). AreFlowsGiven list (Err y)) (sym given) (by e told)
   where
-    by : (e : ScanError) → IsPartToldOf prefix octets number start end count e → AreFlowsGiven list (Err e)
+    by : (e : ReadRefusal) → IsPartToldOf prefix octets number start end count e → AreFlowsGiven list (Err e)
     by (Damaged file at) (inl bad) = not_told prefix here number file at restated bad
     by (Damaged file at) (inr (there, others, bad)) =
         not_stopped octets here start end count at ms are
@@ -203,13 +203,13 @@ flows_not_told prefix octets number start end count list e (Err x) given (here, 
     by Fault bad = tt
     by OutOfMemory bad = tt
 
-pub prefix_told_of : (prefix octets : List ℕ) (number start end count : ℕ) (e : ScanError)
+pub prefix_told_of : (prefix octets : List ℕ) (number start end count : ℕ) (e : ReadRefusal)
     → IsPrefixToldOf prefix number e → IsPartToldOf prefix octets number start end count e
 prefix_told_of prefix octets number start end count (Damaged file at) bad = inl bad
 prefix_told_of prefix octets number start end count Fault bad = tt
 prefix_told_of prefix octets number start end count OutOfMemory bad = tt
 
-pub part_told_of : (prefix octets : List ℕ) (before : AllTemplates) (number start end count : ℕ) (e : ScanError)
+pub part_told_of : (prefix octets : List ℕ) (before : AllTemplates) (number start end count : ℕ) (e : ReadRefusal)
     → IsRestated prefix before → IsDamage octets before number start end count e
     → IsPartToldOf prefix octets number start end count e
 part_told_of prefix octets before number start end count (Damaged file at) restated bad = inr (before, restated, bad)

@@ -12,8 +12,8 @@ use Rattle.flow_codec.specs.Templates.{AllTemplates}
 use Rattle.flow_codec.proofs.Dividing.{no_more, none_has_no_fault, one_message}
 use Rattle.flow_codec.proofs.FaultLaws.{never_both, one_state}
 use Rattle.flow_codec.proofs.FaultLaws.{one_message as same_message}
-use Rattle.flow_gate.specs.declared.tail.ScanError.{ScanError}
-use Rattle.flow_gate.specs.declared.tail.ScanError.TheVariants.{Damaged, Fault, OutOfMemory}
+use Rattle.flow_refusals.specs.declared.read_refusal.ReadRefusal.{ReadRefusal}
+use Rattle.flow_refusals.specs.declared.read_refusal.ReadRefusal.TheVariants.{Damaged, Fault, OutOfMemory}
 use Rattle.flow_measure.specs.History.{Accepted, AreAcceptedFrom, templates_from}
 use Rattle.flow_segment.specs.Carry.{octets_of}
 use Rattle.flow_segment.specs.PartFlows.{ArePartMessages, IsNoMessage, IsStoppedAt}
@@ -159,7 +159,7 @@ not_told octets all number file at (ns, whole, none, is) (same, ms, rest, read, 
         not_restated (templates_from [] ms) b.more message others b.each b.accepted
         (none_behind ms b.more (subst HaveNoRecords b.whole none)) cut (sym b.octets ∙ split) bad
 
-pub templates_given : (octets : List ℕ) (number : ℕ) (all : AllTemplates) (result : Result AllTemplates ScanError)
+pub templates_given : (octets : List ℕ) (number : ℕ) (all : AllTemplates) (result : Result AllTemplates ReadRefusal)
     → IsRestated octets all → IfOk result (λ templates. IsRestated octets templates)
     → IfErr result (λ e. IsPrefixToldOf octets number e) → AreTemplatesGiven all result
 templates_given octets number all (Ok templates) are found told = same_restated octets all templates are found

@@ -4,5 +4,4 @@ pub mod Part
 pub mod Segment
 pub mod Prefix
 pub mod PartFlows
-pub mod Printed
 pub mod Batch

@@ -3,10 +3,10 @@ use Rattle.std.specs.Prelude.{◌≡◌, ◌≢◌, ◌⊎◌, ⊤, ℕ, ◌+◌
 use Rattle.std.specs.Prelude.{length, filter, max, Vec, Result, Ok, Err}
 use Rattle.std.specs.List.{flat_map, AllByRecursion}
 use Rattle.std.specs.declared.alloc.Global.{Global}
-use Rattle.flow_gate.specs.declared.tail.ScanError.{ScanError}
-use Rattle.flow_gate.specs.declared.tail.ScanError.TheVariants.{Damaged, Fault, OutOfMemory}
-use Rattle.flow_segment.specs.declared.error.PartSumError.{PartSumError}
-use Rattle.flow_segment.specs.declared.error.PartSumError.TheVariants as sum
+use Rattle.flow_refusals.specs.declared.read_refusal.ReadRefusal.{ReadRefusal}
+use Rattle.flow_refusals.specs.declared.read_refusal.ReadRefusal.TheVariants.{Damaged, Fault, OutOfMemory}
+use Rattle.flow_refusals.specs.declared.sum_refusal.SumRefusal.{SumRefusal}
+use Rattle.flow_refusals.specs.declared.sum_refusal.SumRefusal.TheVariants as sum
 use Rattle.flow_codec.specs.declared.file.FileError.{FileError}
 use Rattle.flow_codec.specs.Cutting.{IsCutOff, IsFileFault}
 use Rattle.flow_codec.specs.Message.{joined, IsAccepted}
@@ -55,7 +55,7 @@ IsStoppedAt octets before start end count at =
     ⊎ ((at ≡ end) × (rest ≡ []) × (length messages ≢ count)))
 
 -- the damage reported of a part, read under these templates
-abbrev pub IsDamage : List ℕ → AllTemplates → ℕ → ℕ → ℕ → ℕ → ScanError → Type 0
+abbrev pub IsDamage : List ℕ → AllTemplates → ℕ → ℕ → ℕ → ℕ → ReadRefusal → Type 0
 IsDamage octets before number start end count (Damaged file at) =
     (file ≡ number) × IsStoppedAt octets before start end count at
 IsDamage octets before number start end count Fault = ⊤
@@ -70,7 +70,7 @@ ArePartFlows prefix octets count flows =
     × ArePartMessages octets before count messages × (flows ≡ flows_in messages)
 
 -- Why there are no flows: damage of the prefix, or of the messages after it.
-abbrev pub IsPartToldOf : List ℕ → List ℕ → ℕ → ℕ → ℕ → ℕ → ScanError → Type 0
+abbrev pub IsPartToldOf : List ℕ → List ℕ → ℕ → ℕ → ℕ → ℕ → ReadRefusal → Type 0
 IsPartToldOf prefix octets number start end count (Damaged file at) =
     IsPrefixToldOf prefix number (Damaged file at)
     ⊎ ((before : AllTemplates) × IsRestated prefix before
@@ -79,7 +79,7 @@ IsPartToldOf prefix octets number start end count Fault = ⊤
 IsPartToldOf prefix octets number start end count OutOfMemory = ⊤
 
 -- These flows are given, unless a read fails or memory runs out.
-abbrev pub AreFlowsGiven : List Flow → Result (Vec Flow Global) ScanError → Type 0
+abbrev pub AreFlowsGiven : List Flow → Result (Vec Flow Global) ReadRefusal → Type 0
 AreFlowsGiven list (Ok flows) = flows.items ≡ list
 AreFlowsGiven list (Err (Damaged file at)) = ⊥
 AreFlowsGiven list (Err Fault) = ⊤
@@ -92,7 +92,7 @@ flows_within from to flows = filter (λ f. nat_le from f.start && nat_lt f.start
 
 -- The flows of these messages that start within the span are appended to others, and the templates are those after the
 -- messages, unless a read fails or memory runs out.
-abbrev pub AreCollected : {X : Type 0} → AllTemplates → ℕ → ℕ → List Flow → List Accepted → Result X ScanError
+abbrev pub AreCollected : {X : Type 0} → AllTemplates → ℕ → ℕ → List Flow → List Accepted → Result X ReadRefusal
     → AllTemplates → List Flow → Type 0
 AreCollected before from to old messages (Ok _) after new =
     (after ≡ templates_from before messages) × (new ≡ old ++ flows_within from to (flows_in messages))
@@ -106,7 +106,7 @@ with_flows flows t = merged t (table_of t.width flows)
 
 -- The flows of these messages are added, and the templates are those after them, unless a sum would pass its type, a
 -- read fails, or memory runs out. Each flow's counts fit their types.
-abbrev pub AreAdded : {X : Type 0} → AllTemplates → Table → List Accepted → Result X PartSumError → AllTemplates → Table
+abbrev pub AreAdded : {X : Type 0} → AllTemplates → Table → List Accepted → Result X SumRefusal → AllTemplates → Table
     → Type 0
 AreAdded before old messages (Ok _) after new =
     (after ≡ templates_from before messages) × (new ≡ with_flows (flows_in messages) old)
@@ -118,7 +118,7 @@ AreAdded before old messages (Err sum.Fault) after new = ⊤
 AreAdded before old messages (Err sum.OutOfMemory) after new = ⊤
 
 -- Why flows are not added: damage; or accepted messages fill the part, and a sum would pass its type.
-abbrev pub IsNotAdded : List ℕ → AllTemplates → ℕ → ℕ → ℕ → ℕ → PartSumError → Type 0
+abbrev pub IsNotAdded : List ℕ → AllTemplates → ℕ → ℕ → ℕ → ℕ → SumRefusal → Type 0
 IsNotAdded octets before number start end count (sum.Damaged file at) =
     IsDamage octets before number start end count (Damaged file at)
 IsNotAdded octets before number start end count sum.SumSpent = HasMessages octets before count
@@ -150,7 +150,7 @@ TookAll {S} holds old records new = (start : S) (before : List Placed) → holds
 
 -- the answer on one message, at this place of this file
 abbrev pub IsWalkedInto : {X : Type 0} → (X → RawMessage → Type 0) → ℕ → ℕ → List ℕ → AllTemplates → AllTemplates
-    → Result X ScanError → Type 0
+    → Result X ReadRefusal → Type 0
 IsWalkedInto takes file at octets before after (Ok x) =
     (m : RawMessage) × IsAccepted octets before m after × takes x m
 IsWalkedInto takes file at octets before after (Err (Damaged f place)) =

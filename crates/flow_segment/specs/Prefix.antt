@@ -1,8 +1,8 @@
 -- The templates that a sealed segment's prefix restates.
 use Rattle.std.specs.Prelude.{◌≡◌, ◌≢◌, ◌⊎◌, ⊤, ℕ, Bool, true, false, List, [], ◌++◌, length, Result, Ok, Err}
 use Rattle.std.specs.List.{AllByRecursion}
-use Rattle.flow_gate.specs.declared.tail.ScanError.{ScanError}
-use Rattle.flow_gate.specs.declared.tail.ScanError.TheVariants.{Damaged, Fault, OutOfMemory}
+use Rattle.flow_refusals.specs.declared.read_refusal.ReadRefusal.{ReadRefusal}
+use Rattle.flow_refusals.specs.declared.read_refusal.ReadRefusal.TheVariants.{Damaged, Fault, OutOfMemory}
 use Rattle.flow_codec.specs.declared.error.MessageError.{MessageError}
 use Rattle.flow_codec.specs.declared.file.FileError.{FileError}
 use Rattle.flow_codec.specs.Cutting.{IsCutOff, IsDivided, IsFileFault}
@@ -45,7 +45,7 @@ IsNoPrefix at before rest =
     × IsNoRestatement message before)
 
 -- Why octets of a file from its start on are no prefix: after some messages of one, none begins at this place.
-abbrev pub IsPrefixToldOf : List ℕ → ℕ → ScanError → Type 0
+abbrev pub IsPrefixToldOf : List ℕ → ℕ → ReadRefusal → Type 0
 IsPrefixToldOf octets number (Damaged file at) =
     (file ≡ number) × (messages : List Accepted) × (rest : List ℕ) × AreRead octets [] messages rest
     × HaveNoRecords messages × (at ≡ length (joined (octets_of messages)))
@@ -54,7 +54,7 @@ IsPrefixToldOf octets number Fault = ⊤
 IsPrefixToldOf octets number OutOfMemory = ⊤
 
 -- These templates are given, unless a read fails or memory runs out.
-abbrev pub AreTemplatesGiven : AllTemplates → Result AllTemplates ScanError → Type 0
+abbrev pub AreTemplatesGiven : AllTemplates → Result AllTemplates ReadRefusal → Type 0
 AreTemplatesGiven all (Ok templates) = templates ≡ all
 AreTemplatesGiven all (Err (Damaged file at)) = ⊥
 AreTemplatesGiven all (Err Fault) = ⊤
@@ -68,7 +68,7 @@ AreSeen old taken true = (old ≡ true) ⊎ (taken ≢ [])
 AreSeen old taken false = (old ≡ false) × (taken ≡ [])
 
 -- the answer on one message of a prefix, at this place of this file
-abbrev pub IsRestating : {X : Type 0} → ℕ → ℕ → List ℕ → AllTemplates → AllTemplates → Result X ScanError → Type 0
+abbrev pub IsRestating : {X : Type 0} → ℕ → ℕ → List ℕ → AllTemplates → AllTemplates → Result X ReadRefusal → Type 0
 IsRestating file at octets before after (Ok x) =
     (m : RawMessage) × IsAccepted octets before m after × (m.records ≡ [])
 IsRestating file at octets before after (Err (Damaged f place)) =

@@ -3,13 +3,14 @@ use Rattle.std.specs.Prelude.{◌≡◌, ◌≢◌, ◌⊎◌, ⊤, ℕ, ◌+◌
 use Rattle.std.specs.Prelude.{drop, Vec}
 use Rattle.std.specs.Prelude.{Option, Some, None, Result, Ok, Err}
 use Rattle.std.specs.declared.alloc.Global.{Global}
-use Rattle.flow_gate.specs.declared.tail.ScanError.{ScanError}
-use Rattle.flow_gate.specs.declared.tail.ScanError.TheVariants.{Damaged, Fault, OutOfMemory}
+use Rattle.flow_disk.specs.Window.{Window}
+use Rattle.flow_refusals.specs.declared.read_refusal.ReadRefusal.{ReadRefusal}
+use Rattle.flow_refusals.specs.declared.read_refusal.ReadRefusal.TheVariants.{Damaged, Fault, OutOfMemory}
 use Rattle.flow_gate.specs.Scan.{texts}
 use Rattle.flow_codec.specs.declared.file.FileError.{FileError}
 use Rattle.flow_codec.specs.Message.{joined}
 use Rattle.flow_codec.specs.Cutting.{IsCutOff, IsDivided, IsFileFault}
-use Rattle.flow_segment.specs.Part.{rest_of, Cursor}
+use Rattle.flow_segment.specs.Part.{rest_of}
 
 -- How far a reader has come: the place of the next message, the part's end, and, if the disk is honest, the octets of
 -- the file between them.
@@ -20,12 +21,12 @@ pub record Reading : Type 0 where
   pub place : ℕ
   pub end : ℕ
 
-abbrev pub reading : ℕ → Bool → List ℕ → Cursor → Reading
+abbrev pub reading : ℕ → Bool → List ℕ → Window → Reading
 reading file honest octets c =
     record { file = file; honest = honest; rest = rest_of octets c; place = c.place; end = c.end }
 
 -- On an honest disk: the next message, or none at the part's end; or the place where the octets are no message.
-abbrev pub IsNext : Reading → Result (Option (Vec ℕ Global)) ScanError → Reading → Type 0
+abbrev pub IsNext : Reading → Result (Option (Vec ℕ Global)) ReadRefusal → Reading → Type 0
 IsNext old (Ok (Some message)) new = IsCutOff message.items × (old.rest ≡ message.items ++ new.rest)
 IsNext old (Ok None) new = old.rest ≡ []
 IsNext old (Err (Damaged file at)) new =
@@ -34,7 +35,7 @@ IsNext old (Err Fault) new = ⊤
 IsNext old (Err OutOfMemory) new = ⊤
 
 -- On every disk: a message more, or all as it was.
-abbrev pub GoesOn : Reading → Result (Option (Vec ℕ Global)) ScanError → Reading → Type 0
+abbrev pub GoesOn : Reading → Result (Option (Vec ℕ Global)) ReadRefusal → Reading → Type 0
 GoesOn old (Ok (Some message)) new =
     (16 ≤ length message.items) × (length message.items < 65536) × (new.place ≡ old.place + length message.items)
     × (new.place ≤ new.end) × (new.end ≡ old.end) × (new.file ≡ old.file) × (new.honest ≡ old.honest)
@@ -53,7 +54,7 @@ pub record AreMessagesOf (octets : List ℕ) (count : ℕ) (messages : List (Lis
   pub all : length messages ≡ count
 
 -- Why a part isn't so many messages: after some of them none begins at this place, or there is another count of them.
-abbrev pub IsToldOf : List ℕ → ℕ → ℕ → ℕ → ℕ → ScanError → Type 0
+abbrev pub IsToldOf : List ℕ → ℕ → ℕ → ℕ → ℕ → ReadRefusal → Type 0
 IsToldOf octets number prefix end count (Damaged file at) =
     (file ≡ number) × (messages : List (List ℕ)) × (rest : List ℕ) × IsDivided octets messages rest
     × (((at ≡ prefix + length (joined messages)) × ((fault : FileError) × IsFileFault at rest fault))
@@ -62,7 +63,7 @@ IsToldOf octets number prefix end count Fault = ⊤
 IsToldOf octets number prefix end count OutOfMemory = ⊤
 
 -- These messages are given, unless a read fails or memory runs out.
-abbrev pub AreGiven : List (List ℕ) → Result (Vec (Vec ℕ Global) Global) ScanError → Type 0
+abbrev pub AreGiven : List (List ℕ) → Result (Vec (Vec ℕ Global) Global) ReadRefusal → Type 0
 AreGiven list (Ok messages) = texts messages.items ≡ list
 AreGiven list (Err (Damaged file at)) = ⊥
 AreGiven list (Err Fault) = ⊤

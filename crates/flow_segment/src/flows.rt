@@ -9,15 +9,14 @@ ghost use Rattle.flow_segment.specs.PartFlows.{ArePartMessages, greatest_time, H
 ghost use Rattle.flow_segment.specs.PartFlows.{IsPartToldOf};
 ghost use Rattle.flow_segment.specs.Segment.{part_octets};
 
-use crate::error::PartSumError;
 use crate::restated::templates_of;
 use crate::sealed::SealedPart;
 use crate::sinks::{Adding, Chosen};
 use crate::walking::walk_part;
 use flow_codec::Templates;
 use flow_disk::{Faults, SealedFile};
-use flow_gate::ScanError;
 use flow_measure::{Adder, Flow, Flows};
+use flow_refusals::{ReadRefusal, SumRefusal};
 use std::alloc::Global;
 use std::mem::replace;
 
@@ -38,14 +37,14 @@ pub fn add_flows<S: SealedFile, T: Adder>(
     templates: &mut Templates,
     adding: &mut Adding<T>,
     faults: &mut Faults<S>,
-) -> Result<u32, PartSumError>
+) -> Result<u32, SumRefusal>
     requires { adding.old.spent ≡ false }
     // On every disk.
     ensures width { OnOk result ((T.table adding.new.rows).width ≡ (T.table adding.old.rows).width) }
     ensures kept { T.kept adding.new.rows ≡ T.kept adding.old.rows }
     ensures going { OnOk result (adding.new.spent ≡ false) }
     ensures templates { AreBehind templates.old templates.new }
-    ensures cause { HasCause PartSumError.Fault faults.old faults.new result }
+    ensures cause { HasCause SumRefusal.Fault faults.old faults.new result }
     // On an honest one: accepted messages fill the part; or why nothing is added.
     ensures found { IsTrue (S.honest part.now.reader) → OnOk result
         (HasMessages (part_octets part.now.prefix part.now.length (S.octets part.now.reader)) templates.old
@@ -64,7 +63,7 @@ pub fn add_flows<S: SealedFile, T: Adder>(
 {
     let time = walk_part(alloc, part, templates, adding, faults)?;
     if adding.spent {
-        return Err(PartSumError::SumSpent);
+        return Err(SumRefusal::SumSpent);
     }
     Ok(time)
 }
@@ -83,11 +82,11 @@ pub fn collect_flows<S: SealedFile>(
     to: u64,
     flows: &mut Vec<Flow>,
     faults: &mut Faults<S>,
-) -> Result<(), ScanError>
+) -> Result<(), ReadRefusal>
     // On every disk.
     ensures none { OnErr result (flows.new.items ≡ []) }
     ensures templates { AreBehind templates.old templates.new }
-    ensures cause { HasCause ScanError.Fault faults.old faults.new result }
+    ensures cause { HasCause ReadRefusal.Fault faults.old faults.new result }
     // On an honest one: accepted messages fill the part; or why there are no flows.
     ensures found { IsTrue (S.honest part.now.reader) → OnOk result
         (HasMessages (part_octets part.now.prefix part.now.length (S.octets part.now.reader)) templates.old
@@ -119,8 +118,8 @@ pub fn flows_of<S: SealedFile>(
     alloc: Global,
     part: &SealedPart<S>,
     faults: &mut Faults<S>,
-) -> Result<Vec<Flow>, ScanError>
-    ensures cause { HasCause ScanError.Fault faults.old faults.new result }
+) -> Result<Vec<Flow>, ReadRefusal>
+    ensures cause { HasCause ReadRefusal.Fault faults.old faults.new result }
     // On an honest disk: the flows of accepted messages that fill the part; or why there are none.
     ensures found { IsTrue (S.honest part.now.reader) → IfOk result
         (λ flows. ArePartFlows (part_octets 0 part.now.prefix (S.octets part.now.reader))

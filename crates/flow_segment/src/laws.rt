@@ -1,6 +1,7 @@
 //! Laws of segments.
 
 ghost use Rattle.std.specs.Prelude.{◌≡◌, ℕ, ◌+◌, ◌*◌, ◌<◌, ◌≤◌, ◌^◌, length, List, [], ◌∷◌, ◌++◌, map};
+ghost use Rattle.flow_disk.specs.Window.{Window};
 ghost use Rattle.flow_codec.specs.File.{IsFile};
 ghost use Rattle.flow_codec.specs.Fault.{IsOctets};
 ghost use Rattle.flow_codec.specs.Message.{in_fields, IsAccepted};
@@ -11,7 +12,7 @@ ghost use Rattle.flow_segment.specs.Carry.{Carry, IsCarry, IsReadBack};
 ghost use Rattle.std.specs.List.{AllByRecursion};
 ghost use Rattle.flow_codec.specs.Cutting.{IsCutOff};
 ghost use Rattle.flow_codec.specs.Message.{joined};
-ghost use Rattle.flow_segment.specs.Part.{rest_of, Cursor, Gives};
+ghost use Rattle.flow_segment.specs.Part.{rest_of, Gives};
 ghost use Rattle.flow_codec.specs.Templates.{AllTemplates};
 ghost use Rattle.flow_measure.specs.declared.flow.Flow.{Flow};
 ghost use Rattle.flow_measure.specs.Flows.{flows_of, FlowFits};
@@ -37,9 +38,9 @@ pub fn handed_on()
         (templates_from c.templates messages) }
 {}
 
-/// What a cursor gives up to the end of a part are the part's messages.
+/// What a window gives up to the end of a part are the part's messages.
 pub fn read_to_the_end()
-    ensures { (octets : List ℕ) (file : ℕ) (c last : Cursor) (messages parts : List (List ℕ))
+    ensures { (octets : List ℕ) (file : ℕ) (c last : Window) (messages parts : List (List ℕ))
         → Gives octets file c messages last → rest_of octets c ≡ joined parts → AllByRecursion IsCutOff parts
         → messages ≡ parts }
 {}

@@ -5,8 +5,8 @@
 //! messages without a data record that pass on the same again; so a sealed segment is an IPFIX File (RFC 5655) that is
 //! read with nothing else beside it. While a segment's file is made or sealed, a stop at any moment leaves all other
 //! files as they were; once it is made each image of it is its prefix and a closed gate, and while it is sealed its
-//! first octets stay in each image. A `Cursor` reads the messages of a part of a file one by one, a piece of the file
-//! at a time: what it gives to the end are the part's messages, and where the octets are no message it reports that
+//! first octets stay in each image. `advance` reads the messages of a part of a file one by one, through a `Window`
+//! over it: what it gives to the end are the part's messages, and where the octets are no message it reports that
 //! place. A `PartReader` does so for a sealed segment, and a refusal leaves it as it was; `messages_of` gives the
 //! messages of a sealed segment at once, `templates_of` the templates that its prefix restates, and `flows_of` the
 //! flows of its messages under these. `add_flows` adds the flows of a sealed segment to sums, and `collect_flows` puts
@@ -17,7 +17,6 @@
 mod batch;
 mod carry;
 mod defining;
-mod error;
 mod files;
 mod flows;
 mod laws;
@@ -28,11 +27,10 @@ mod sinks;
 mod walking;
 
 pub use carry::Carry;
-pub use error::PartSumError;
 pub use files::{make_segment, seal_tail};
 pub use flows::{add_flows, collect_flows, flows_of};
 pub use laws::{accepted_message_fits, few_messages_fit, handed_on, read_to_the_end};
-pub use part::{Cursor, advance, advance_on};
+pub use part::{advance, advance_on};
 pub use restated::{Seen, templates_of};
 pub use sealed::{PartReader, SealedPart, messages_of};
 pub use sinks::{Adding, Chosen};

@@ -6,13 +6,13 @@ ghost use Rattle.flow_codec.specs.Templates.{AllTemplates};
 ghost use Rattle.flow_segment.specs.Prefix.{AreTemplatesGiven, IsPrefixToldOf, IsRestated, IsRestating};
 ghost use Rattle.flow_segment.specs.Segment.{part_octets};
 
-use crate::part::{Cursor, advance};
+use crate::part::advance;
 use crate::sealed::SealedPart;
 use flow_codec::{
     Definition, Header, MessageError, RecordSink, Templates, WalkError, walk_message,
 };
-use flow_disk::{Faults, SealedFile};
-use flow_gate::ScanError;
+use flow_disk::{Faults, SealedFile, Window};
+use flow_refusals::ReadRefusal;
 use std::alloc::Global;
 use std::convert::Infallible;
 
@@ -54,19 +54,19 @@ fn restate(
     octets: &[u8],
     file: u64,
     at: u64,
-) -> Result<(), ScanError>
+) -> Result<(), ReadRefusal>
     ensures { IsRestating file at octets.now templates.old templates.new result }
 {
     let mut records = Seen { any: false };
     match walk_message(templates, alloc, octets, &mut records) {
         Ok(_) => {
             if records.any {
-                return Err(ScanError::Damaged(file, at));
+                return Err(ReadRefusal::Damaged(file, at));
             }
             Ok(())
         }
-        Err(WalkError::Message(MessageError::OutOfMemory)) => Err(ScanError::OutOfMemory),
-        Err(WalkError::Message(_)) => Err(ScanError::Damaged(file, at)),
+        Err(WalkError::Message(MessageError::OutOfMemory)) => Err(ReadRefusal::OutOfMemory),
+        Err(WalkError::Message(_)) => Err(ReadRefusal::Damaged(file, at)),
         Err(WalkError::Sink(never)) => match never {},
     }
 }
@@ -78,8 +78,8 @@ pub fn templates_of<S: SealedFile>(
     alloc: Global,
     part: &SealedPart<S>,
     faults: &mut Faults<S>,
-) -> Result<Templates, ScanError>
-    ensures cause { HasCause ScanError.Fault faults.old faults.new result }
+) -> Result<Templates, ReadRefusal>
+    ensures cause { HasCause ReadRefusal.Fault faults.old faults.new result }
     // On an honest disk: the templates that accepted messages without data records leave; or why there are none.
     ensures found { IsTrue (S.honest part.now.reader) → IfOk result
         (λ templates. IsRestated (part_octets 0 part.now.prefix (S.octets part.now.reader)) templates) }
@@ -99,8 +99,8 @@ fn read_prefix<S: SealedFile>(
     alloc: Global,
     part: &SealedPart<S>,
     faults: &mut Faults<S>,
-) -> Result<Templates, ScanError>
-    ensures cause { HasCause ScanError.Fault faults.old faults.new result }
+) -> Result<Templates, ReadRefusal>
+    ensures cause { HasCause ReadRefusal.Fault faults.old faults.new result }
     // On an honest disk: the templates that accepted messages without data records leave; or why there are none.
     ensures found { IsTrue (S.honest part.now.reader) → IfOk result
         (λ templates. IsRestated (part_octets 0 part.now.prefix (S.octets part.now.reader)) templates) }
@@ -108,19 +108,13 @@ fn read_prefix<S: SealedFile>(
         (λ e. IsPrefixToldOf (part_octets 0 part.now.prefix (S.octets part.now.reader))
         (S.number part.now.reader) e) }
 {
-    let mut cursor = Cursor::new(alloc, 0, part.prefix);
+    let mut window = Window::new(alloc, 0, part.prefix);
     let mut templates = Templates::new(alloc);
     'messages: loop {
-        let at = cursor.place();
-        if !advance(&mut cursor, alloc, &part.reader, faults)? {
+        let at = window.place();
+        if !advance(&mut window, alloc, &part.reader, faults)? {
             return Ok(templates);
         }
-        restate(
-            &mut templates,
-            alloc,
-            cursor.message(),
-            part.reader.file(),
-            at,
-        )?;
+        restate(&mut templates, alloc, window.held(), part.reader.file(), at)?;
     }
 }

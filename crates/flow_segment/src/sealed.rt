@@ -5,9 +5,9 @@ ghost use Rattle.flow_disk.specs.Cause.{HasCause};
 ghost use Rattle.flow_gate.specs.Scan.{texts};
 ghost use Rattle.flow_segment.specs.Segment.{part_octets, AreGiven, AreMessagesOf, GoesOn, IsNext, IsToldOf};
 
-use crate::part::{Cursor, advance};
-use flow_disk::{Faults, SealedFile};
-use flow_gate::ScanError;
+use crate::part::advance;
+use flow_disk::{Faults, SealedFile, Window};
+use flow_refusals::ReadRefusal;
 use std::alloc::Global;
 use std::marker::Model;
 
@@ -30,21 +30,21 @@ pub struct SealedPart<S: SealedFile> {
 #[derive(Drop)]
 pub struct PartReader<'a, S: SealedFile> {
     part: &'a SealedPart<S>,
-    cursor: Cursor,
+    window: Window,
 }
 
 impl<'a, S: SealedFile> Model for PartReader<'a, S> {
     ghost use Rattle.std.specs.Prelude.{◌≡◌, ◌≤◌, IsTrue};
-    ghost use Rattle.flow_segment.specs.Part.{IsOn};
+    ghost use Rattle.flow_disk.specs.Window.{IsOn};
     ghost use Rattle.flow_segment.specs.Segment.{reading, Reading};
 
     ghost Value = { Reading };
 
     ghost view = { λ r. reading (S.number r.part.now.reader) (S.honest r.part.now.reader)
-        (S.octets r.part.now.reader) r.cursor };
+        (S.octets r.part.now.reader) r.window };
 
-    ghost invariant = { λ r. (r.cursor.end ≤ S.size r.part.now.reader)
-        × (IsTrue (S.honest r.part.now.reader) → IsOn (S.octets r.part.now.reader) r.cursor) };
+    ghost invariant = { λ r. (r.window.end ≤ S.size r.part.now.reader)
+        × (IsTrue (S.honest r.part.now.reader) → IsOn (S.octets r.part.now.reader) r.window) };
 }
 
 impl<'a, S: SealedFile> PartReader<'a, S> {
@@ -60,7 +60,7 @@ impl<'a, S: SealedFile> PartReader<'a, S> {
     {
         PartReader {
             part,
-            cursor: Cursor::new(alloc, part.prefix, part.length),
+            window: Window::new(alloc, part.prefix, part.length),
         }
     }
 
@@ -71,18 +71,19 @@ impl<'a, S: SealedFile> PartReader<'a, S> {
         &mut self,
         alloc: Global,
         faults: &mut Faults<S>,
-    ) -> Result<Option<Vec<u8>>, ScanError>
+    ) -> Result<Option<Vec<u8>>, ReadRefusal>
         ensures goes { GoesOn self.old result self.new }
-        ensures cause { HasCause ScanError.Fault faults.old faults.new result }
+        ensures cause { HasCause ReadRefusal.Fault faults.old faults.new result }
         ensures next { IsTrue self.old.honest → IsNext self.old result self.new }
     {
-        if !advance(&mut self.cursor, alloc, &self.part.reader, faults)? {
+        let at = self.window.place();
+        if !advance(&mut self.window, alloc, &self.part.reader, faults)? {
             return Ok(None);
         }
-        match Vec::from_slice(alloc, self.cursor.message()) {
+        match Vec::from_slice(alloc, self.window.held()) {
             Ok(message) => Ok(Some(message)),
             Err(error) => {
-                self.cursor.step_back();
+                self.window = Window::new(alloc, at, self.window.end());
                 Err(error.into())
             }
         }
@@ -96,8 +97,8 @@ pub fn messages_of<S: SealedFile>(
     alloc: Global,
     part: &SealedPart<S>,
     faults: &mut Faults<S>,
-) -> Result<Vec<Vec<u8>>, ScanError>
-    ensures cause { HasCause ScanError.Fault faults.old faults.new result }
+) -> Result<Vec<Vec<u8>>, ReadRefusal>
+    ensures cause { HasCause ReadRefusal.Fault faults.old faults.new result }
     // On an honest disk: messages that fill the part, as many as there are to be; or why there are none.
     ensures found { IsTrue (S.honest part.now.reader) → IfOk result
         (λ messages. AreMessagesOf (part_octets part.now.prefix part.now.length (S.octets part.now.reader))
@@ -118,8 +119,8 @@ fn read_all<S: SealedFile>(
     alloc: Global,
     part: &SealedPart<S>,
     faults: &mut Faults<S>,
-) -> Result<Vec<Vec<u8>>, ScanError>
-    ensures cause { HasCause ScanError.Fault faults.old faults.new result }
+) -> Result<Vec<Vec<u8>>, ReadRefusal>
+    ensures cause { HasCause ReadRefusal.Fault faults.old faults.new result }
     // On an honest disk: messages that fill the part, as many as there are to be; or why there are none.
     ensures found { IsTrue (S.honest part.now.reader) → IfOk result
         (λ messages. AreMessagesOf (part_octets part.now.prefix part.now.length (S.octets part.now.reader))
@@ -142,13 +143,13 @@ fn read_all<S: SealedFile>(
 fn counted<S: SealedFile>(
     part: &SealedPart<S>,
     messages: Vec<Vec<u8>>,
-) -> Result<Vec<Vec<u8>>, ScanError>
+) -> Result<Vec<Vec<u8>>, ReadRefusal>
     ensures all { IfOk result (λ all. (all.items ≡ messages.items) × (length messages.items ≡ part.now.messages)) }
     ensures other { IfErr result (λ e. (length messages.items ≢ part.now.messages)
-        × (e ≡ ScanError.Damaged (S.number part.now.reader) part.now.length)) }
+        × (e ≡ ReadRefusal.Damaged (S.number part.now.reader) part.now.length)) }
 {
     if messages.len() as u64 == part.messages {
         return Ok(messages);
     }
-    Err(ScanError::Damaged(part.reader.file(), part.length))
+    Err(ReadRefusal::Damaged(part.reader.file(), part.length))
 }

@@ -8,11 +8,11 @@ ghost use Rattle.flow_segment.specs.PartFlows.{greatest_time, records_in, AreBeh
 ghost use Rattle.flow_segment.specs.PartFlows.{IsWalkedInto, TookAll};
 ghost use Rattle.flow_segment.specs.Segment.{part_octets};
 
-use crate::part::{Cursor, advance};
+use crate::part::advance;
 use crate::sealed::SealedPart;
 use flow_codec::{MessageError, RecordSink, Templates, WalkError, walk_message};
-use flow_disk::{Faults, SealedFile};
-use flow_gate::ScanError;
+use flow_disk::{Faults, SealedFile, Window};
+use flow_refusals::ReadRefusal;
 use std::alloc::{AllocError, Global};
 use std::cmp::max;
 
@@ -24,7 +24,7 @@ fn hand_over<R: RecordSink<Error = AllocError>>(
     file: u64,
     at: u64,
     sink: &mut R,
-) -> Result<u32, ScanError>
+) -> Result<u32, ReadRefusal>
     ensures walked { IsWalkedInto (λ time m. Took R.holds m.header sink.old m.records sink.new
         × (time ≡ m.header.time)) file at octets.now templates.old templates.new result }
     ensures kept { OnErr result (templates.new ≡ templates.old) }
@@ -32,9 +32,9 @@ fn hand_over<R: RecordSink<Error = AllocError>>(
 {
     match walk_message(templates, alloc, octets, sink) {
         Ok(header) => Ok(header.time),
-        Err(WalkError::Message(MessageError::OutOfMemory)) => Err(ScanError::OutOfMemory),
-        Err(WalkError::Message(_)) => Err(ScanError::Damaged(file, at)),
-        Err(WalkError::Sink(_)) => Err(ScanError::OutOfMemory),
+        Err(WalkError::Message(MessageError::OutOfMemory)) => Err(ReadRefusal::OutOfMemory),
+        Err(WalkError::Message(_)) => Err(ReadRefusal::Damaged(file, at)),
+        Err(WalkError::Sink(_)) => Err(ReadRefusal::OutOfMemory),
     }
 }
 
@@ -51,8 +51,8 @@ pub(crate) fn walk_part<S: SealedFile, R: RecordSink<Error = AllocError>>(
     templates: &mut Templates,
     sink: &mut R,
     faults: &mut Faults<S>,
-) -> Result<u32, ScanError>
-    ensures cause { HasCause ScanError.Fault faults.old faults.new result }
+) -> Result<u32, ReadRefusal>
+    ensures cause { HasCause ReadRefusal.Fault faults.old faults.new result }
     // On every disk: the sink took some records, and the templates are those after some messages.
     ensures templates { AreBehind templates.old templates.new }
     ensures taken { OnOk result ((records : List Placed) × TookAll R.holds sink.old records sink.new) }
@@ -70,21 +70,21 @@ pub(crate) fn walk_part<S: SealedFile, R: RecordSink<Error = AllocError>>(
     // What the sink keeps is as it was, whatever is answered.
     ensures same { R.kept sink.new ≡ R.kept sink.old }
 {
-    let mut cursor = Cursor::new(alloc, part.prefix, part.length);
+    let mut window = Window::new(alloc, part.prefix, part.length);
     let mut count = 0;
     let mut time = 0;
     'messages: loop {
-        let at = cursor.place();
-        if !advance(&mut cursor, alloc, &part.reader, faults)? {
+        let at = window.place();
+        if !advance(&mut window, alloc, &part.reader, faults)? {
             if count != part.messages {
-                return Err(ScanError::Damaged(part.reader.file(), part.length));
+                return Err(ReadRefusal::Damaged(part.reader.file(), part.length));
             }
             return Ok(time);
         }
         let file = part.reader.file();
         time = max(
             time,
-            hand_over(alloc, templates, cursor.message(), file, at, sink)?,
+            hand_over(alloc, templates, window.held(), file, at, sink)?,
         );
         count += 1;
     }

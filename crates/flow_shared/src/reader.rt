@@ -4,12 +4,13 @@ ghost use Rattle.std.specs.Prelude.{◌≡◌, IsTrue, IfOk, OnErr, Some};
 ghost use mathlib.Core.List.{IsPrefix};
 ghost use Rattle.flow_measure.specs.History.{History};
 ghost use Rattle.flow_shared.specs.Meaning.{history_behind, HasView, Means};
-ghost use Rattle.flow_shared.specs.Printed.{printed};
+ghost use Rattle.flow_shared.specs.Printed.{printed, reader_code};
 ghost use Rattle.flow_shared.specs.Told.{after};
 
 use crate::history::{Naming, Told};
 use crate::shown::Shown;
 use flow_disk::SealedFile;
+use flow_refusals::RefusalCode;
 use flow_snapshot::{Directory, Snapshot};
 use left_right::ReadHandle;
 use std::error::Error;
@@ -25,14 +26,23 @@ pub enum ReaderError {
     Away,
 }
 
+impl ReaderError {
+    /// The refusal.
+    pub fn code(self) -> RefusalCode
+        ensures { result ≡ reader_code self }
+    {
+        match self {
+            ReaderError::OutOfMemory => RefusalCode::OutOfMemory,
+            ReaderError::Away => RefusalCode::Away,
+        }
+    }
+}
+
 impl fmt::Display for ReaderError {
     ghost output = { λ e. Some (printed e) };
 
     fn fmt<W: fmt::Write>(&self, f: &mut fmt::Formatter<W>) -> fmt::Result {
-        match self {
-            ReaderError::OutOfMemory => write!(f, "11 OutOfMemory"),
-            ReaderError::Away => write!(f, "50 Away"),
-        }
+        write!(f, "{}", self.code())
     }
 }
 

@@ -7,8 +7,9 @@ use crate::waiting::Meeting;
 use flow_archive::Archive;
 use flow_disk::{Disk, Faults, SealedFile};
 use flow_measure::Row;
+use flow_refusals::ReadRefusal;
 use flow_roller::{Gate, Open, scan_by_parts};
-use flow_snapshot::{QueryError, Snapshot};
+use flow_snapshot::Snapshot;
 use std::alloc::{AllocError, Global};
 use std::process::Abort;
 use std::sync::atomic::Ordering;
@@ -19,7 +20,7 @@ use std::thread::Threads;
 const END: u64 = 1 << 32;
 
 /// All totals of a snapshot, by one thread.
-fn totals<S: SealedFile>(alloc: Global, snapshot: &Snapshot<S>) -> Result<Vec<Row>, QueryError> {
+fn totals<S: SealedFile>(alloc: Global, snapshot: &Snapshot<S>) -> Result<Vec<Row>, ReadRefusal> {
     snapshot.totals(alloc, 0, END, &mut Faults::new())
 }
 
@@ -30,7 +31,7 @@ fn scanned<S: SealedFile + Send + Sync, R: Threads + Sync, G: Gate + Sync>(
     snapshot: &Snapshot<S>,
     gate: &G,
     workers: u32,
-) -> Result<Vec<Row>, QueryError>
+) -> Result<Vec<Row>, ReadRefusal>
     requires { (0 < workers) × (workers ≤ 64) }
 {
     let faults = &mut Faults::new();
@@ -60,7 +61,7 @@ fn all_agree<S: SealedFile + Send + Sync, R: Threads + Sync>(
 }
 
 /// How many rows there are.
-fn count_of(rows: Result<Vec<Row>, QueryError>) -> Result<usize, QueryError> {
+fn count_of(rows: Result<Vec<Row>, ReadRefusal>) -> Result<usize, ReadRefusal> {
     Ok(rows?.len())
 }
 
@@ -82,7 +83,7 @@ fn answer<D: Disk, R: Threads + Sync + Abort>(
     rt: &R,
     alloc: Global,
     archive: &mut Archive<D>,
-    count: Result<usize, QueryError>,
+    count: Result<usize, ReadRefusal>,
 ) -> Result<(), Fail>
 where
     D::Sealed: Send + Sync,
@@ -125,7 +126,7 @@ where
     D::Sealed: Send + Sync,
 {
     roll_two(archive, alloc)?;
-    answer(rt, alloc, archive, Err(QueryError::Fault))
+    answer(rt, alloc, archive, Err(ReadRefusal::Fault))
 }
 
 #[test]

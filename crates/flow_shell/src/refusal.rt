@@ -1,14 +1,14 @@
 //! Why a request has no answer.
 
 ghost use Rattle.std.specs.Prelude.{Some, ◌≡◌, ◌≢◌, ◌≤◌};
-ghost use Rattle.flow_shell.specs.Refusals.{of_query, of_reader, of_text, shell_printed, shell_status};
+ghost use Rattle.flow_shell.specs.Refusals.{of_query, of_reader, of_text, shell_code, shell_printed, shell_status};
 ghost use Rattle.flow_commands.specs.declared.archive_refusal.ArchiveRefusal.TheVariants as refusal;
 ghost use Rattle.flow_shell.specs.declared.refusal.ShellRefusal.TheVariants as shell;
 
 use flow_commands::ArchiveRefusal;
+use flow_refusals::{ReadRefusal, RefusalCode};
 use flow_report::{TextError, WriteFailed};
 use flow_shared::ReaderError;
-use flow_snapshot::QueryError;
 use std::alloc::{AllocError, AllocFailed};
 use std::error::Error;
 use std::fmt;
@@ -36,6 +36,16 @@ impl fmt::Display for ShellRefusal {
 impl Error for ShellRefusal {}
 
 impl ShellRefusal {
+    /// The refusal, without what it carries.
+    pub fn code(&self) -> RefusalCode
+        ensures { result ≡ shell_code self.now }
+    {
+        match self {
+            ShellRefusal::Reader(error) => error.code(),
+            ShellRefusal::Archive(refusal) => refusal.code(),
+        }
+    }
+
     /// The status of an answer: 1 for what is refused, 3 for a device or the reader's place, 4 for memory, 5 for
     /// damage.
     pub fn status(&self) -> u8
@@ -43,11 +53,7 @@ impl ShellRefusal {
         ensures other { result ≢ 2 }
         ensures most { result ≤ 5 }
     {
-        match self {
-            ShellRefusal::Reader(ReaderError::OutOfMemory) => 4,
-            ShellRefusal::Reader(ReaderError::Away) => 3,
-            ShellRefusal::Archive(refusal) => refusal.status(),
-        }
+        self.code().status()
     }
 }
 
@@ -59,10 +65,10 @@ impl From<ReaderError> for ShellRefusal {
     }
 }
 
-impl From<QueryError> for ShellRefusal {
+impl From<ReadRefusal> for ShellRefusal {
     ghost from_gives = { λ e r. r ≡ of_query e };
 
-    fn from(error: QueryError) -> ShellRefusal {
+    fn from(error: ReadRefusal) -> ShellRefusal {
         ShellRefusal::Archive(ArchiveRefusal::from(error))
     }
 }

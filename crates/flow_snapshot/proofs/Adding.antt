@@ -25,26 +25,24 @@ use Rattle.flow_measure.proofs.Gathering.{entries_of_none, gathered-again, gathe
 use Rattle.flow_measure.proofs.Merging.{with_own}
 use Rattle.flow_measure.proofs.SinkSteps.{none_summed}
 use Rattle.flow_measure.proofs.ViewLaws.{both_sums, flows-append}
-use Rattle.flow_rolled.specs.declared.error.RowSumError.{RowSumError}
-use Rattle.flow_rolled.specs.declared.error.RowSumError.TheVariants as rolled
+use Rattle.flow_refusals.specs.declared.sum_refusal.SumRefusal.{SumRefusal}
+use Rattle.flow_refusals.specs.declared.sum_refusal.SumRefusal.TheVariants as sum
 use Rattle.flow_rolled.specs.Rollup.{IsRollup}
 use Rattle.flow_rolled.specs.Rows.{IsEntry, IsTable}
 use Rattle.flow_rolled.specs.Stored as stored
 use Rattle.flow_rolled.specs.Stored.{IsAdded, IsNotAdded}
 use Rattle.flow_rolled.proofs.Breaking.{one_table}
-use Rattle.flow_segment.specs.declared.error.PartSumError.{PartSumError}
-use Rattle.flow_segment.specs.declared.error.PartSumError.TheVariants as part
 use Rattle.flow_segment.specs.declared.sinks.Adding.{Adding}
 use Rattle.flow_segment.specs.PartFlows.{records_in, with_flows, AreAdded, ArePartMessages, HasAdded}
 use Rattle.flow_segment.specs.Segment.{part_octets}
 use Rattle.flow_segment.specs.declared.sealed.SealedPart.{SealedPart}
 use Rattle.flow_segment.proofs.Taking.{flows_in_records}
-use Rattle.flow_snapshot.specs.declared.error.QueryError.{QueryError}
-use Rattle.flow_snapshot.specs.declared.error.QueryError.TheVariants.{Damaged, Fault, OutOfMemory}
+use Rattle.flow_refusals.specs.declared.read_refusal.ReadRefusal.{ReadRefusal}
+use Rattle.flow_refusals.specs.declared.read_refusal.ReadRefusal.TheVariants.{Damaged, Fault, OutOfMemory}
 use Rattle.flow_snapshot.specs.Files.{is_honest, is_honest_sum, rollup_of, segment_of, shared}
 use Rattle.flow_model.specs.Shelf.{Rollup}
 use Rattle.flow_snapshot.specs.Told.{IsNoDamage}
-use Rattle.flow_snapshot.specs.Totals.{told_of_part, told_of_rows, with_maps, IsMade, IsSpent}
+use Rattle.flow_snapshot.specs.Totals.{told_of_file, with_maps, IsMade, IsSpent}
 use Rattle.flow_model.specs.Views.{AreRolled}
 use Rattle.flow_snapshot.proofs.KeptFlows.{message_told, next_item, taken_next, Next, NextPart, Taken}
 use Rattle.flow_snapshot.proofs.Sharing.{all_rest, first_of_two}
@@ -156,18 +154,18 @@ module _ (width : ℕ) (small : width < 2 ^ 32) (octets : List ℕ) (m : FinMap 
       (one_table width small octets a.table own_table a.rollup is)
       ∙ own_entries
 
-  pub file_not_added : (first : ℕ) (part : stored.Rollup) (e : RowSumError) → part.octets ≡ octets
-      → IsNotAdded part width old e → IsSpent first (AllFit (merged old own_table)) (told_of_rows first e)
-  file_not_added first part (rolled.Damaged file at) here h =
+  pub file_not_added : (first : ℕ) (part : stored.Rollup) (e : SumRefusal) → part.octets ≡ octets
+      → IsNotAdded part width old e → IsSpent first (AllFit (merged old own_table)) (told_of_file first e)
+  file_not_added first part (sum.Damaged file at) here h =
       absurd ((h.1).none own_table (subst (λ (os : List ℕ). IsRollup width os own_table) (sym here) is))
-  file_not_added first part rolled.SumSpent here h = (
+  file_not_added first part sum.SumSpent here h = (
     refl,
     refl,
     λ fit. h own_table (subst (λ (os : List ℕ). IsRollup width os own_table) (sym here) is)
         (subst AllFit (sym own_entries) fit),
   )
-  file_not_added first part rolled.Fault here h = tt
-  file_not_added first part rolled.OutOfMemory here h = tt
+  file_not_added first part sum.Fault here h = tt
+  file_not_added first part sum.OutOfMemory here h = tt
 
 -- ---- rolled files
 
@@ -245,33 +243,33 @@ all_summed old maps left now none s =
 -- ---- refusals
 
 -- a refusal, passed on to what is made of more
-pub made_err : {Y : Type 0} (Q : Y → Type 0) (first : ℕ) (fit all : Type 0) (r : Result Y QueryError)
-    (e : QueryError) → (all → fit) → IsErrAnd r (λ x. x ≡ e) → IsSpent first fit e → IsMade first all Q r
+pub made_err : {Y : Type 0} (Q : Y → Type 0) (first : ℕ) (fit all : Type 0) (r : Result Y ReadRefusal)
+    (e : ReadRefusal) → (all → fit) → IsErrAnd r (λ x. x ≡ e) → IsSpent first fit e → IsMade first all Q r
 made_err Q first fit all (Ok y) e fewer is h = absurd is
 made_err Q first fit all (Err x) e fewer is h = subst (IsSpent first all) (sym is) (by e h)
   where
-    by : (e : QueryError) → IsSpent first fit e → IsSpent first all e
+    by : (e : ReadRefusal) → IsSpent first fit e → IsSpent first all e
     by (Damaged file at) h = (h.0, h.1, λ w. h.2 (fewer w))
     by Fault h = tt
     by OutOfMemory h = tt
 
-pub made_blameless : {Y : Type 0} (Q : Y → Type 0) (first : ℕ) (all : Type 0) (r : Result Y QueryError)
-    (e : QueryError) → IsErrAnd r (λ x. x ≡ e) → IsNoDamage e → IsMade first all Q r
+pub made_blameless : {Y : Type 0} (Q : Y → Type 0) (first : ℕ) (all : Type 0) (r : Result Y ReadRefusal)
+    (e : ReadRefusal) → IsErrAnd r (λ x. x ≡ e) → IsNoDamage e → IsMade first all Q r
 made_blameless Q first all (Ok y) e is h = absurd is
 made_blameless Q first all (Err x) e is h = subst (IsSpent first all) (sym is) (by e h)
   where
-    by : (e : QueryError) → IsNoDamage e → IsSpent first all e
+    by : (e : ReadRefusal) → IsNoDamage e → IsSpent first all e
     by (Damaged file at) h = absurd h
     by Fault h = tt
     by OutOfMemory h = tt
 
 pub part_not_added : (X : Type 0) (before after : AllTemplates) (old new : Table) (messages : List Accepted) (first : ℕ)
-    (e : PartSumError) → AreAdded {X = X} before old messages (Err e) after new
-    → IsSpent first (AllFit (with_flows (flows_in messages) old)) (told_of_part first e)
-part_not_added X before after old new messages first (part.Damaged file at) h = absurd h
-part_not_added X before after old new messages first part.SumSpent h = (refl, refl, h.0)
-part_not_added X before after old new messages first part.Fault h = tt
-part_not_added X before after old new messages first part.OutOfMemory h = tt
+    (e : SumRefusal) → AreAdded {X = X} before old messages (Err e) after new
+    → IsSpent first (AllFit (with_flows (flows_in messages) old)) (told_of_file first e)
+part_not_added X before after old new messages first (sum.Damaged file at) h = absurd h
+part_not_added X before after old new messages first sum.SumSpent h = (refl, refl, h.0)
+part_not_added X before after old new messages first sum.Fault h = tt
+part_not_added X before after old new messages first sum.OutOfMemory h = tt
 
 -- ---- a rolled file among others
 
@@ -314,7 +312,8 @@ file_step old now new maps octets left n given =
     summed_next old maps octets left now new n (given n.own (own_rollup old now maps octets left n))
 
 pub file_err : {Y : Type 0} (Q : Y → Type 0) (old now : Table) (maps : List (FinMap key_cmp Sums)) (octets : List ℕ)
-    (left : List Rollup) (n : NextSums old maps octets left now) (first : ℕ) (r : Result Y QueryError) (e : QueryError)
+    (left : List Rollup) (n : NextSums old maps octets left now) (first : ℕ) (r : Result Y ReadRefusal)
+    (e : ReadRefusal)
     → IsErrAnd r (λ x. x ≡ e)
     → ((sums : FinMap key_cmp Sums) → IsRollup now.width octets (record { width = now.width; sums = sums })
     → IsSpent first (AllFit (merged now (record { width = now.width; sums = sums }))) e)
@@ -358,7 +357,7 @@ sums_step {F} {X} {files} old rows more before templates after messages left par
 
 pub sums_err : {F X Y : Type 0} {files : Ghosts F X} (old rows : Table) (Q : Y → Type 0)
     (before templates : AllTemplates) (messages : List Accepted) (left : List (List ℕ)) (part : SealedPart F X files)
-    (first : ℕ) (r : Result Y QueryError) (e : QueryError)
+    (first : ℕ) (r : Result Y ReadRefusal) (e : ReadRefusal)
     → NextPart (HasSums old rows) before messages left templates part → 0 < part.messages → IsErrAnd r (λ x. x ≡ e)
     → (IsTrue (is_honest part) → (own : List Accepted)
     → ArePartMessages (part_octets part.prefix part.length (files.octets part.reader)) templates part.messages own
@@ -423,10 +422,10 @@ spent_all old now messages false is h fit = absurd cc
 
 -- they would pass their types, or a read failed, or memory ran out
 pub part_spent : (first : ℕ) (before after : AllTemplates) (old rows new : Table) (messages : List Accepted)
-    (e : PartSumError) → old ≡ rows → AreAdded {X = ℕ} before old messages (Err e) after new
-    → IsSpent first (AllFit (with_flows (flows_in messages) rows)) (told_of_part first e)
-part_spent first before after old rows new messages (part.Damaged file at) is never = absurd never
-part_spent first before after old rows new messages part.SumSpent is spent =
+    (e : SumRefusal) → old ≡ rows → AreAdded {X = ℕ} before old messages (Err e) after new
+    → IsSpent first (AllFit (with_flows (flows_in messages) rows)) (told_of_file first e)
+part_spent first before after old rows new messages (sum.Damaged file at) is never = absurd never
+part_spent first before after old rows new messages sum.SumSpent is spent =
     (refl, refl, subst (λ (t : Table). AllFit (with_flows (flows_in messages) t) → ⊥) is spent.0)
-part_spent first before after old rows new messages part.Fault is given = tt
-part_spent first before after old rows new messages part.OutOfMemory is given = tt
+part_spent first before after old rows new messages sum.Fault is given = tt
+part_spent first before after old rows new messages sum.OutOfMemory is given = tt

@@ -9,8 +9,8 @@ use Rattle.std.proofs.lemmas.List.{take_more, map-append, length-append}
 use Rattle.std.proofs.lemmas.List.Concat.{flat_map-append}
 use Rattle.flow_codec.specs.Templates.{AllTemplates}
 use Rattle.flow_disk.specs.declared.sealed.SealedFile.{Ghosts}
-use Rattle.flow_gate.specs.declared.tail.ScanError.{ScanError}
-use Rattle.flow_gate.specs.declared.tail.ScanError.TheVariants as scan
+use Rattle.flow_refusals.specs.declared.read_refusal.ReadRefusal.{ReadRefusal}
+use Rattle.flow_refusals.specs.declared.read_refusal.ReadRefusal.TheVariants as read
 use Rattle.flow_measure.specs.declared.flow.Flow.{Flow}
 use Rattle.flow_measure.specs.History.{Accepted, AreAcceptedFrom, flows_in, templates_from}
 use Rattle.flow_measure.specs.Query.{flows_in_view}
@@ -20,10 +20,9 @@ use Rattle.flow_segment.specs.Carry.{octets_of}
 use Rattle.flow_segment.specs.PartFlows.{flows_within, AreCollected}
 use Rattle.flow_segment.specs.Prefix.{AreTemplatesGiven, IsRestated}
 use Rattle.flow_segment.specs.Segment.{part_octets}
-use Rattle.flow_snapshot.specs.declared.error.QueryError.{QueryError}
 use Rattle.flow_snapshot.specs.Files.{cut_into, is_honest, segment_of, shared}
 use Rattle.flow_model.specs.Shelf.{messages_in, Shelf}
-use Rattle.flow_snapshot.specs.Told.{told_of_scan, IsNoDamage}
+use Rattle.flow_snapshot.specs.Told.{IsNoDamage}
 use Rattle.flow_model.specs.Views.{AreRestated, IsViewOf}
 use Rattle.flow_snapshot.proofs.KeptFlows.{more_flows, next_ones, Next}
 use Rattle.flow_snapshot.proofs.PartMessages.{cut_count}
@@ -88,16 +87,16 @@ module _ (s : Shelf) (v : View) (is : IsViewOf s v) where
       sealed_first = subst (λ (t : AllTemplates). AreAcceptedFrom t halves.own) (sym start) halves.accepted
 
       -- why sealed segments' flows aren't there
-      pub sealed_blameless : (old : List Flow) (e : ScanError)
+      pub sealed_blameless : (old : List Flow) (e : ReadRefusal)
           → ((messages : List Accepted) → AreAcceptedFrom first messages → octets_of messages ≡ messages_in s.sealed
-          → AreCollected {X = Unit {0}} first from to old messages (Err e) middle flows) → IsNoDamage (told_of_scan e)
+          → AreCollected {X = Unit {0}} first from to old messages (Err e) middle flows) → IsNoDamage e
       sealed_blameless old e given = by e (given halves.own sealed_first halves.octets)
         where
-          by : (e : ScanError) → AreCollected {X = Unit {0}} first from to old halves.own (Err e) middle flows
-              → IsNoDamage (told_of_scan e)
-          by (scan.Damaged file at) h = h
-          by scan.Fault h = tt
-          by scan.OutOfMemory h = tt
+          by : (e : ReadRefusal) → AreCollected {X = Unit {0}} first from to old halves.own (Err e) middle flows
+              → IsNoDamage e
+          by (read.Damaged file at) h = h
+          by read.Fault h = tt
+          by read.OutOfMemory h = tt
 
       module _ (sealed : (messages : List Accepted) → AreAcceptedFrom first messages
           → octets_of messages ≡ messages_in s.sealed → (middle ≡ templates_from first messages)
@@ -110,7 +109,7 @@ module _ (s : Shelf) (v : View) (is : IsViewOf s v) where
         active_first = subst (λ (t : AllTemplates). AreAcceptedFrom t halves.rest)
             (ap (λ (t : AllTemplates). templates_from t halves.own) (sym start) ∙ sym sealed_right.0) rest_accepted
 
-        pub active_blameless : (e : QueryError)
+        pub active_blameless : (e : ReadRefusal)
             → ((list : List Accepted) → AreAcceptedFrom middle list → octets_of list ≡ s.active → IsNoDamage e)
             → IsNoDamage e
         active_blameless e given = given halves.rest active_first halves.others
@@ -148,11 +147,11 @@ active_templates {F} {X} {Z} {files} items before prefix is restated =
     subst (λ (ps : List (Arc (SealedPart F X files) Z)). AreRestated before (map segment_of (shared ps)) prefix) is
     restated
 
-pub templates_blameless : (e : ScanError) (all : AllTemplates) → AreTemplatesGiven all (Err e)
-    → IsNoDamage (told_of_scan e)
-templates_blameless (scan.Damaged file at) all h = h
-templates_blameless scan.Fault all h = tt
-templates_blameless scan.OutOfMemory all h = tt
+pub templates_blameless : (e : ReadRefusal) (all : AllTemplates) → AreTemplatesGiven all (Err e)
+    → IsNoDamage e
+templates_blameless (read.Damaged file at) all h = h
+templates_blameless read.Fault all h = tt
+templates_blameless read.OutOfMemory all h = tt
 
 pub honest_sealed : (m a : Bool) → IsTrue (m && a) → IsTrue a
 honest_sealed m a h = second_of_two m a h

@@ -9,8 +9,8 @@ use Rattle.std.proofs.lemmas.Option.{slice_get-map, slice_get_read}
 use Rattle.std.specs.Option.{option_map}
 use Rattle.flow_codec.specs.Templates.{AllTemplates}
 use Rattle.flow_disk.specs.declared.sealed.SealedFile.{Ghosts}
-use Rattle.flow_gate.specs.declared.tail.ScanError.{ScanError}
-use Rattle.flow_gate.specs.declared.tail.ScanError.TheVariants as scan
+use Rattle.flow_refusals.specs.declared.read_refusal.ReadRefusal.{ReadRefusal}
+use Rattle.flow_refusals.specs.declared.read_refusal.ReadRefusal.TheVariants as read
 use Rattle.flow_measure.specs.declared.flow.Flow.{Flow}
 use Rattle.flow_measure.specs.History.{Accepted, AreAcceptedFrom, flows_in, templates_from}
 use Rattle.flow_segment.specs.declared.sealed.SealedPart.{SealedPart}
@@ -20,10 +20,9 @@ use Rattle.flow_segment.specs.Segment.{part_octets}
 use Rattle.flow_model.specs.Shelf.{Segment}
 use Rattle.flow_snapshot.specs.Files.{cut_into, is_honest, segment_of, shared}
 use Rattle.flow_snapshot.specs.Found.{AreAccepted, HaveFlows}
-use Rattle.flow_snapshot.specs.Told.{told_of_scan, IsFound, IsNoDamage}
+use Rattle.flow_snapshot.specs.Told.{IsAnswered, IsNoDamage}
 use Rattle.flow_snapshot.proofs.Finding.{honest_one, own_cut}
-use Rattle.flow_snapshot.proofs.KeptFlows.{no_octets, of_part}
-use Rattle.flow_snapshot.proofs.Places.{found_err}
+use Rattle.flow_snapshot.proofs.KeptFlows.{answered_err, no_octets, of_part}
 
 -- the templates after these messages, and their flows in a span
 abbrev pub ArePassed : AllTemplates → ℕ → ℕ → List Accepted → AllTemplates → List Flow → Type 0
@@ -73,22 +72,22 @@ module _ {F X : Type 0} {files : Ghosts F X} (part : SealedPart F X files) (befo
       subst (λ (ms : List Accepted). ArePassed before from to ms after flows) no_messages (stays, is)
 
 -- what a reader reports of a part that has accepted messages is no damage
-no_damage : (before after : AllTemplates) (from to : ℕ) (old new : List Flow) (own : List Accepted) (e : ScanError)
-    → AreCollected {X = Unit {0}} before from to old own (Err e) after new → IsNoDamage (told_of_scan e)
-no_damage before after from to old new own (scan.Damaged file at) h = h
-no_damage before after from to old new own scan.Fault h = tt
-no_damage before after from to old new own scan.OutOfMemory h = tt
+no_damage : (before after : AllTemplates) (from to : ℕ) (old new : List Flow) (own : List Accepted) (e : ReadRefusal)
+    → AreCollected {X = Unit {0}} before from to old own (Err e) after new → IsNoDamage e
+no_damage before after from to old new own (read.Damaged file at) h = h
+no_damage before after from to old new own read.Fault h = tt
+no_damage before after from to old new own read.OutOfMemory h = tt
 
 pub blameless : {F X Y : Type 0} {files : Ghosts F X} (P : Y → Type 0) (part : SealedPart F X files)
-    (before after : AllTemplates) (from to : ℕ) (old new : List Flow) (e : ScanError) (r : Result Y ScanError)
+    (before after : AllTemplates) (from to : ℕ) (old new : List Flow) (e : ReadRefusal) (r : Result Y ReadRefusal)
     → 0 < part.messages → (messages : List Accepted) → AreAcceptedFrom before messages
     → octets_of messages ≡ (segment_of part).messages → IsErrAnd r (λ x. x ≡ e)
     → ((own : List Accepted)
     → ArePartMessages (part_octets part.prefix part.length (files.octets part.reader)) before part.messages own
     → AreCollected {X = Unit {0}} before from to old own (Err e) after new)
-    → IsFound P r
+    → IsAnswered P r
 blameless {files = files} P part before after from to old new e r some messages accepted is err given =
-    found_err P r e err (no_damage before after from to old new messages e (given messages
+    answered_err P r e err (no_damage before after from to old new messages e (given messages
     (of_part (part_octets part.prefix part.length (files.octets part.reader)) part.messages before messages some accepted
     is)))
 

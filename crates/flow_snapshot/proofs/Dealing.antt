@@ -27,7 +27,7 @@ use Rattle.flow_disk.specs.declared.sealed.SealedFile.{Ghosts}
 use Rattle.flow_segment.specs.declared.sealed.SealedPart.{SealedPart}
 use Rattle.flow_segment.specs.Segment.{part_octets}
 use Rattle.flow_segment.specs.PartFlows.{with_flows, ArePartMessages}
-use Rattle.flow_snapshot.specs.declared.error.QueryError.{QueryError}
+use Rattle.flow_refusals.specs.declared.read_refusal.ReadRefusal.{ReadRefusal}
 use Rattle.flow_snapshot.specs.Files.{cut_into, segment_of, shared}
 use Rattle.flow_snapshot.specs.Shares.{added_if, chosen, next_turn, own, summed, turn_after, AllPartsFit, AreNarrow}
 use Rattle.flow_snapshot.specs.Shares.{AreWide, IsFileSum, IsOwnSum, IsSegmentSum}
@@ -375,7 +375,7 @@ module _ {A : Type 0} (P : ℕ → A → FinMap key_cmp Sums → Type 0) (worker
     is = ap (with_maps (own workers worker (next_turn workers turn) f.rest)) (given f.sums these_now) ∙ goal_is;
   }
 
-  pub refused : {Y : Type 0} (Q : Y → Type 0) (first : ℕ) (r : Result Y QueryError) (e : QueryError)
+  pub refused : {Y : Type 0} (Q : Y → Type 0) (first : ℕ) (r : Result Y ReadRefusal) (e : ReadRefusal)
       → IsErrAnd r (λ y. y ≡ e)
       → ((sums : FinMap key_cmp Sums) → P now.width x sums
       → IsSpent first (AllFit (added_if (turn == worker) sums now)) e)
@@ -530,7 +530,7 @@ module _ (s : Shelf) (workers worker turn : ℕ) (narrow : List (FinMap key_cmp 
 
 -- ---- answers
 
-pub made_as : {X : Type 0} (first : ℕ) (fit all : Type 0) (P Q : X → Type 0) (r : Result X QueryError)
+pub made_as : {X : Type 0} (first : ℕ) (fit all : Type 0) (P Q : X → Type 0) (r : Result X ReadRefusal)
     → (all → fit) → ((x : X) → P x → Q x) → IsMade first fit P r → IsMade first all Q r
 made_as first fit all P Q (Ok x) fewer then h = then x h
 made_as {X} first fit all P Q (Err e) fewer then h = made_err {Y = X} Q first fit all (Err e) e fewer refl h
@@ -574,7 +574,7 @@ part_list {F} {X} {files} part templates before list some same accepted octets =
 
 -- the view's tables
 pub of_view : {X : Type 0} (s : Shelf) (v : View) (p : PartsOf s v) (first : ℕ) (narrow wide : X → Table)
-    (r : Result X QueryError)
+    (r : Result X ReadRefusal)
     → IsMade first (AllPartsFit s p.wide p.narrow)
     (λ x. (wide x ≡ summed s.wide p.wide) × (narrow x ≡ summed s.width p.narrow)) r
     → IsMade first (SumsFit v) (λ x. (narrow x ≡ narrow_table_in v) × (wide x ≡ wide_table_in v)) r
@@ -607,7 +607,7 @@ module _ {B Z A : Type 0} (P : ℕ → A → FinMap key_cmp Sums → Type 0) (f 
       (taken P workers worker (f part) left turn now goal before new
       (given (next_shared f test parts i item part within is same honest).1))
 
-  pub own_refused : {Y : Type 0} (Q : Y → Type 0) (first : ℕ) (r : Result Y QueryError) (e : QueryError)
+  pub own_refused : {Y : Type 0} (Q : Y → Type 0) (first : ℕ) (r : Result Y ReadRefusal) (e : ReadRefusal)
       → IsErrAnd r (λ y. y ≡ e)
       → (IsTrue (test part) → (sums : FinMap key_cmp Sums) → P now.width (f part) sums
       → IsSpent first (AllFit (added_if (turn == worker) sums now)) e)

@@ -19,7 +19,7 @@ use Rattle.flow_segment.specs.declared.sealed.SealedPart.{SealedPart}
 use Rattle.flow_segment.specs.PartFlows.{HasMessages}
 use Rattle.flow_segment.specs.Prefix.{IsRestated}
 use Rattle.flow_segment.specs.Segment.{part_octets}
-use Rattle.flow_snapshot.specs.declared.error.QueryError.{QueryError}
+use Rattle.flow_refusals.specs.declared.read_refusal.ReadRefusal.{ReadRefusal}
 use Rattle.flow_snapshot.specs.declared.shares.PartSums.{PartSums}
 use Rattle.flow_snapshot.specs.Files.{cut_into, segment_of, shared}
 use Rattle.flow_snapshot.specs.Found.{AreAccepted}
@@ -44,7 +44,7 @@ one_own P x false here = ([], tt)
 
 -- ---- one part
 
-pub then_ok : {X : Type 0} (P Q : Type 0) (r : Result X QueryError) → (P → Q) → OnOk r P → OnOk r Q
+pub then_ok : {X : Type 0} (P Q : Type 0) (r : Result X ReadRefusal) → (P → Q) → OnOk r P → OnOk r Q
 then_ok P Q (Ok x) then h = then h
 then_ok P Q (Err e) then h = tt
 
@@ -192,16 +192,17 @@ all_read s workers some each =
 
 -- ---- answers
 
-pub err_read : {X : Type 0} (P : Type 0) (r : Result X QueryError) (e : QueryError) → IsErrAnd r (λ x. x ≡ e) → OnOk r P
+pub err_read : {X : Type 0} (P : Type 0) (r : Result X ReadRefusal) (e : ReadRefusal) → IsErrAnd r (λ x. x ≡ e)
+    → OnOk r P
 err_read P (Ok x) e is = absurd is
 err_read P (Err x) e is = tt
 
-pub refused_read : {X : Type 0} (P : Type 0) (r : Result X QueryError) → IsErr r → OnOk r P
+pub refused_read : {X : Type 0} (P : Type 0) (r : Result X ReadRefusal) → IsErr r → OnOk r P
 refused_read P (Ok x) is = absurd cc
 refused_read P (Err e) is = tt
 
 -- what was joined wasn't refused
-pub joined_read : {X : Type 0} (P : Type 0) (first : ℕ) (old new : PartSums) (share : Result PartSums QueryError)
+pub joined_read : {X : Type 0} (P : Type 0) (first : ℕ) (old new : PartSums) (share : Result PartSums ReadRefusal)
     (x : X) → IsJoined {X = X} first old share new (Ok x) → OnOk share P → P
 joined_read P first old new (Ok mine) x is h = h
 joined_read P first old new (Err e) x is h = absurd cc
@@ -216,7 +217,7 @@ one_more_read s workers n more is before here k within =
 
 -- the totals of all parts
 pub shares_read : {X : Type 0} (items : X → List Row) (s : Shelf) (sums : PartSums) (from to first : ℕ) (fit : Type 0)
-    (r : Result X QueryError)
+    (r : Result X ReadRefusal)
     → (found : (wide : List (FinMap key_cmp Sums)) × (narrow : List (FinMap key_cmp Sums)) × AreWide s wide
     × AreNarrow s narrow)
     → (sums.wide ≡ summed s.wide found.0) × (sums.narrow ≡ summed s.width found.1)

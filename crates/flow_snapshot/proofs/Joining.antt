@@ -7,8 +7,8 @@ use Rattle.flow_disk.specs.Cause.{HasCause, HasRisen}
 use Rattle.flow_measure.specs.declared.rows.Sums.{Sums}
 use Rattle.flow_measure.specs.Sums.{key_cmp, empty_table, gathered, merged, AllFit, Table}
 use Rattle.flow_measure.proofs.Gathering.{gathered-entries}
-use Rattle.flow_snapshot.specs.declared.error.QueryError.{QueryError}
-use Rattle.flow_snapshot.specs.declared.error.QueryError.TheVariants.{Fault}
+use Rattle.flow_refusals.specs.declared.read_refusal.ReadRefusal.{ReadRefusal}
+use Rattle.flow_refusals.specs.declared.read_refusal.ReadRefusal.TheVariants.{Fault}
 use Rattle.flow_snapshot.specs.declared.shares.PartSums.{PartSums}
 use Rattle.flow_snapshot.specs.declared.shares.Share.{Share}
 use Rattle.flow_snapshot.specs.Shares.{chosen, narrow_turn, own, summed, AllPartsFit, AreNarrow, AreShares, AreWide}
@@ -61,7 +61,7 @@ module _ (s : Shelf) (workers n first : ℕ) (wide narrow : List (FinMap key_cmp
   abbrev next : PartSums → Type 0
   next sums = Joined s workers (n + 1) wide narrow sums
 
-  join_ok : {X : Type 0} (mine : PartSums) (r : Result X QueryError)
+  join_ok : {X : Type 0} (mine : PartSums) (r : Result X ReadRefusal)
       → (mine.wide ≡ summed s.wide (own workers n 0 wide))
       × (mine.narrow ≡ summed s.width (own workers n (narrow_turn s workers) narrow))
       → IsJoined first old (Ok mine) new r → IsMade first fits (λ _. next new) r
@@ -87,7 +87,7 @@ module _ (s : Shelf) (workers n first : ℕ) (wide narrow : List (FinMap key_cmp
       (given.0 (ap (λ (t : Table). t.width) j.narrow_is ∙ sym (ap (λ (t : Table). t.width) is.1))
       (ap (λ (t : Table). t.width) j.wide_is ∙ sym (ap (λ (t : Table). t.width) is.0)))
 
-  pub join_any : {X : Type 0} (share : Result PartSums QueryError) (r : Result X QueryError)
+  pub join_any : {X : Type 0} (share : Result PartSums ReadRefusal) (r : Result X ReadRefusal)
       → IsMade first fits (λ (sums : PartSums). (sums.wide ≡ summed s.wide (own workers n 0 wide))
       × (sums.narrow ≡ summed s.width (own workers n (narrow_turn s workers) narrow))) share
       → IsJoined first old share new r → IsMade first fits (λ _. next new) r
@@ -96,16 +96,16 @@ module _ (s : Shelf) (workers n first : ℕ) (wide narrow : List (FinMap key_cmp
 
 -- ---- causes
 
-on_ok : {X : Type 0} (P : Type 0) (r : Result X QueryError) → P → OnOk r P
+on_ok : {X : Type 0} (P : Type 0) (r : Result X ReadRefusal) → P → OnOk r P
 on_ok P (Ok x) h = h
 on_ok P (Err e) h = tt
 
-if_err : {X : Type 0} (P : Type 0) (Q : QueryError → Type 0) (r : Result X QueryError) → P → IfErr r (λ e. Q e → P)
+if_err : {X : Type 0} (P : Type 0) (Q : ReadRefusal → Type 0) (r : Result X ReadRefusal) → P → IfErr r (λ e. Q e → P)
 if_err P Q (Ok x) h = tt
 if_err P Q (Err e) h = λ _. h
 
-pub cause_of_share : {X : Type 0} (first : ℕ) (old new : PartSums) (share : Result PartSums QueryError)
-    (raised before after : ℕ) (r : Result X QueryError) → HasCause Fault 0 raised share
+pub cause_of_share : {X : Type 0} (first : ℕ) (old new : PartSums) (share : Result PartSums ReadRefusal)
+    (raised before after : ℕ) (r : Result X ReadRefusal) → HasCause Fault 0 raised share
     → (raised ≡ 0 → after ≡ before) → (HasRisen 0 raised → HasRisen before after) → before ≤ after
     → IsJoined first old share new r → HasCause Fault before after r
 cause_of_share {X} first old new (Ok mine) raised before after r h none some later given =
@@ -113,7 +113,7 @@ cause_of_share {X} first old new (Ok mine) raised before after r h none some lat
     record {
       later = later;
       done = on_ok (after ≡ before) r same;
-      risen = λ is. absurd (subst (λ (x : Result X QueryError). IfErr x (λ e. e ≢ Fault)) is given.1 refl);
+      risen = λ is. absurd (subst (λ (x : Result X ReadRefusal). IfErr x (λ e. e ≢ Fault)) is given.1 refl);
       other = if_err (after ≡ before) (λ e. e ≢ Fault) r same;
     }
 cause_of_share {X} first old new (Err e) raised before after r h none some later given =
@@ -128,13 +128,13 @@ cause_of_share {X} first old new (Err e) raised before after r h none some later
 -- ---- a worker that was refused
 
 -- it is refused whatever is to be made
-pub refused_made : {X : Type 0} (first : ℕ) (fit : Type 0) (P Q : X → Type 0) (r : Result X QueryError) → IsErr r
+pub refused_made : {X : Type 0} (first : ℕ) (fit : Type 0) (P Q : X → Type 0) (r : Result X ReadRefusal) → IsErr r
     → IsMade first fit P r → IsMade first fit Q r
 refused_made first fit P Q (Ok x) is h = absurd cc
 refused_made first fit P Q (Err e) is h = h
 
 -- what a worker's reads have raised, added to another count
-pub cause_added : {X : Type 0} (raised before after : ℕ) (r : Result X QueryError) → HasCause Fault 0 raised r
+pub cause_added : {X : Type 0} (raised before after : ℕ) (r : Result X ReadRefusal) → HasCause Fault 0 raised r
     → (raised ≡ 0 → after ≡ before) → (HasRisen 0 raised → HasRisen before after) → before ≤ after
     → HasCause Fault before after r
 cause_added raised before after (Ok x) h none some later = record {
@@ -151,15 +151,15 @@ cause_added raised before after (Err e) h none some later = record {
 }
 
 pub refused_answer : {F X : Type 0} (shares : List (Share F X)) (n : ℕ) (item : Share F X)
-    (result : Result PartSums QueryError) → IsRefusedAt shares n → item ≡ get_or shares n item → result ≡ item.sums
+    (result : Result PartSums ReadRefusal) → IsRefusedAt shares n → item ≡ get_or shares n item → result ≡ item.sums
     → IsErr result
 refused_answer {F} {X} shares n item result refused is same =
-    subst (λ (r : Result PartSums QueryError). IsErr r) (sym same)
+    subst (λ (r : Result PartSums ReadRefusal). IsErr r) (sym same)
     (subst (λ (x : Share F X). IsErr x.sums) (sym is) (refused.1 item))
 
 -- so the answer of one is that of all
 pub refused_worker : {F X : Type 0} (sight : Sight) (shares : List (Share F X)) (n first : ℕ) (item : Share F X)
-    (result : Result PartSums QueryError) → IsRefusedAt shares n → item ≡ get_or shares n item → AreShares sight shares
+    (result : Result PartSums ReadRefusal) → IsRefusedAt shares n → item ≡ get_or shares n item → AreShares sight shares
     → first ≡ first_file sight.shelf → result ≡ item.sums → IsTrue sight.honest
     → (wide narrow : List (FinMap key_cmp Sums)) → AreWide sight.shelf wide → AreNarrow sight.shelf narrow
     → IsMade first (AllPartsFit sight.shelf wide narrow)
@@ -172,7 +172,7 @@ refused_worker {F} {X} sight shares n first item result refused is are first_is 
     × (sums.narrow ≡ summed s.width (own workers n (narrow_turn s workers) narrow)) in
     let fit = AllPartsFit s wide narrow in
     let answered = share_at sight shares n item refused.0 is are in
-    subst (λ (r : Result PartSums QueryError). IsMade first fit all r) (sym same)
+    subst (λ (r : Result PartSums ReadRefusal). IsMade first fit all r) (sym same)
     (refused_made first fit mine all item.sums
     (subst (λ (x : Share F X). IsErr x.sums) (sym is) (refused.1 item))
     (subst (λ (f : ℕ). IsMade f fit mine item.sums) (sym first_is) (answered.1.given honest wide narrow w m)))

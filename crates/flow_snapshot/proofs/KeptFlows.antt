@@ -17,8 +17,8 @@ use Rattle.flow_disk.specs.declared.sealed.SealedFile.{Ghosts}
 use Rattle.flow_codec.specs.Message.{in_fields, joined, IsAccepted}
 use Rattle.flow_codec.specs.Raw.{under, Placed, Took}
 use Rattle.flow_codec.specs.Templates.{AllTemplates}
-use Rattle.flow_gate.specs.declared.tail.ScanError.{ScanError}
-use Rattle.flow_gate.specs.declared.tail.ScanError.TheVariants.{Damaged, Fault, OutOfMemory}
+use Rattle.flow_refusals.specs.declared.read_refusal.ReadRefusal.{ReadRefusal}
+use Rattle.flow_refusals.specs.declared.read_refusal.ReadRefusal.TheVariants.{Damaged, Fault, OutOfMemory}
 use Rattle.flow_measure.specs.declared.flow.Flow.{Flow}
 use Rattle.flow_measure.specs.Flows.{flows_of, flows_of_records}
 use Rattle.flow_measure.specs.History.{Accepted, AreAcceptedFrom, flows_in, templates_from}
@@ -30,7 +30,6 @@ use Rattle.flow_segment.specs.declared.sealed.SealedPart.{SealedPart}
 use Rattle.flow_segment.specs.declared.sinks.Chosen.{Chosen}
 use Rattle.flow_segment.specs.Prefix.{HaveNoRecords, IsRestated}
 use Rattle.flow_segment.specs.Segment.{part_octets}
-use Rattle.flow_snapshot.specs.declared.error.QueryError.{QueryError}
 use Rattle.flow_snapshot.specs.Files.{cut_into, is_honest, segment_of, shared}
 use Rattle.flow_model.specs.Shelf.{messages_in}
 use Rattle.flow_snapshot.specs.Told.{IsAnswered, IsNoDamage}
@@ -220,14 +219,14 @@ active_step from to old before templates after list sink new here left accepted 
           more_flows from to old sink.flows.items new.flows.items n.front n.own n.has.2 more,
         )
 
-pub answered_err : {X : Type 0} (P : X → Type 0) (r : Result X QueryError) (e : QueryError)
+pub answered_err : {X : Type 0} (P : X → Type 0) (r : Result X ReadRefusal) (e : ReadRefusal)
     → IsErrAnd r (λ x. x ≡ e) → IsNoDamage e → IsAnswered P r
 answered_err P (Ok x) e is h = absurd is
 answered_err P (Err x) e is h = subst IsNoDamage (sym is) h
 
 pub active_err : {X : Type 0} (P : X → Type 0) (Has : List Accepted → Type 0)
     (before templates : AllTemplates) (list : List Accepted) (here : List ℕ) (left : List (List ℕ))
-    (r : Result X QueryError) (e : QueryError) → AreAcceptedFrom before list
+    (r : Result X ReadRefusal) (e : ReadRefusal) → AreAcceptedFrom before list
     → Taken Has before list (here ∷ left) templates → IsErrAnd r (λ x. x ≡ e)
     → ((a : Accepted) → a.octets ≡ here → IsAccepted here templates a.message a.after → IsNoDamage e)
     → IsAnswered P r
@@ -319,7 +318,7 @@ sealed_step from to old flows more before templates after messages left part p s
 
 pub sealed_err : {F X Y : Type 0} {files : Ghosts F X} (Has : List Accepted → Type 0) (from to : ℕ)
     (old flows more last : List Flow) (before templates after final : AllTemplates) (messages : List Accepted)
-    (left : List (List ℕ)) (part : SealedPart F X files) (r : Result Y ScanError) (e : ScanError)
+    (left : List (List ℕ)) (part : SealedPart F X files) (r : Result Y ReadRefusal) (e : ReadRefusal)
     → NextPart Has before messages left templates part → 0 < part.messages → IsErrAnd r (λ x. x ≡ e)
     → (IsTrue (is_honest part) → (own : List Accepted)
     → ArePartMessages (part_octets part.prefix part.length (files.octets part.reader)) templates part.messages own
@@ -328,14 +327,14 @@ pub sealed_err : {F X Y : Type 0} {files : Ghosts F X} (Has : List Accepted → 
 sealed_err {Y = Y} Has from to old flows more last before templates after final messages left part r e p some is given =
     by e r is (given p.honest p.next.own (p.are some))
   where
-    by : (e : ScanError) (r : Result Y ScanError) → IsErrAnd r (λ x. x ≡ e)
+    by : (e : ReadRefusal) (r : Result Y ReadRefusal) → IsErrAnd r (λ x. x ≡ e)
         → AreCollected {X = Unit {0}} templates from to flows p.next.own (Err e) after more
         → AreCollected before from to old messages r final last
     by e (Ok x) is h = absurd is
     by e (Err Fault) is h = tt
     by e (Err OutOfMemory) is h = tt
     by e (Err (Damaged file at)) is h =
-        subst (λ (x : ScanError). AreCollected {X = Unit {0}} templates from to flows p.next.own (Err x) after more)
+        subst (λ (x : ReadRefusal). AreCollected {X = Unit {0}} templates from to flows p.next.own (Err x) after more)
         (sym is) h
 
 -- ---- a prefix
@@ -378,7 +377,7 @@ restated_step rest message left n templates after all some cut front back still 
         )
 
 pub restated_err : {X : Type 0} (P : X → Type 0) (rest message : List ℕ) (n : ℕ)
-    (templates all : AllTemplates) (r : Result X QueryError) (e : QueryError) → 0 < length rest
+    (templates all : AllTemplates) (r : Result X ReadRefusal) (e : ReadRefusal) → 0 < length rest
     → IsCutOff (take n rest) → message ≡ take n rest → IsStillRestated rest templates all → IsErrAnd r (λ x. x ≡ e)
     → ((a : Accepted) → a.octets ≡ message → IsAccepted message templates a.message a.after → IsNoDamage e)
     → IsAnswered P r

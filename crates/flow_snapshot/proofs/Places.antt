@@ -2,28 +2,29 @@
 use Rattle.std.proofs.Common.{◌≡◌, ℕ, zero, suc, Bool, true, false, ◌+◌, ◌-◌, ◌<◌, ◌≤◌, List, [], ◌∷◌, ◌++◌, length}
 use Rattle.std.proofs.Common.{map, drop, Option, Some, None, refl, sym, ap, subst, ◌∙◌, arith, inr, get_or}
 use Rattle.std.proofs.Common.{append-nil}
-use Rattle.std.specs.Prelude.{IsTrue, slice_get, nat_lt, Result, Ok, Err, IsErrAnd}
+use Rattle.std.specs.Prelude.{IsTrue, slice_get, nat_lt, Ok, Err}
 use Rattle.std.specs.List.{AllByRecursion, list_all}
 use Rattle.std.specs.Arc.{arc_value}
 use Rattle.std.specs.declared.sync.Arc.{Arc}
 use Rattle.std.proofs.lemmas.Bool.{lt-ltb, le-ltb}
 use Rattle.std.proofs.lemmas.List.{drop-map, length-append}
 use Rattle.std.proofs.lemmas.Option.{slice_get-map}
+use Rattle.flow_disk.specs.Window.{Window, IsOn}
 use Rattle.flow_codec.specs.Cutting.{IsCutOff}
 use Rattle.flow_codec.specs.Message.{joined}
 use Rattle.flow_codec.proofs.Dividing.{no_more, one_message}
 use Rattle.flow_disk.specs.declared.sealed.SealedFile.{Ghosts}
-use Rattle.flow_gate.specs.declared.tail.ScanError.{ScanError}
-use Rattle.flow_gate.specs.declared.tail.ScanError.TheVariants.{Damaged, Fault, OutOfMemory}
+use Rattle.flow_refusals.specs.declared.read_refusal.ReadRefusal.{ReadRefusal}
+use Rattle.flow_refusals.specs.declared.read_refusal.ReadRefusal.TheVariants.{Damaged, Fault, OutOfMemory}
 use Rattle.flow_measure.specs.History.{Accepted}
 use Rattle.flow_measure.specs.Query.{message_in_view}
 use Rattle.flow_measure.specs.View.{View}
-use Rattle.flow_segment.specs.Part.{rest_of, Cursor, IsOn, IsPartStep}
+use Rattle.flow_segment.specs.Part.{rest_of, IsPartStep}
 use Rattle.flow_segment.specs.Segment.{part_octets, AreMessagesOf}
 use Rattle.flow_segment.specs.declared.sealed.SealedPart.{SealedPart}
 use Rattle.flow_snapshot.specs.Files.{cut_into, is_honest, segment_of, shared}
 use Rattle.flow_model.specs.Shelf.{cut_of, kept_of, messages_in, Shelf}
-use Rattle.flow_snapshot.specs.Told.{told_of_scan, IsFound, IsNoDamage}
+use Rattle.flow_snapshot.specs.Told.{IsNoDamage}
 use Rattle.flow_model.specs.Views.{IsViewOf}
 use Rattle.flow_model.proofs.Accepting.{all_cut}
 use Rattle.flow_snapshot.proofs.KeptFlows.{next_item}
@@ -33,7 +34,7 @@ use Rattle.flow_snapshot.proofs.Sharing.{all_rest, first_of_two}
 -- ---- within a part
 
 -- After so many messages that are left of a part comes this one.
-pub record IsAhead (octets : List ℕ) (c : Cursor) (message : Option (List ℕ)) (left : ℕ) : Type 0 where
+pub record IsAhead (octets : List ℕ) (c : Window) (message : Option (List ℕ)) (left : ℕ) : Type 0 where
   pub rest : List (List ℕ)
   pub is : rest_of octets c ≡ joined rest
   pub each : AllByRecursion IsCutOff rest
@@ -41,8 +42,8 @@ pub record IsAhead (octets : List ℕ) (c : Cursor) (message : Option (List ℕ)
   pub some : left < length rest
   pub on : IsOn octets c
 
-pub from_start : (octets : List ℕ) (c : Cursor) (prefix end count place : ℕ) (list : List (List ℕ))
-    → c ≡ record { ahead = []; message = []; place = prefix; end = end }
+pub from_start : (octets : List ℕ) (c : Window) (prefix end count place : ℕ) (list : List (List ℕ))
+    → c ≡ record { held = []; ahead = []; place = prefix; end = end }
     → AreMessagesOf (part_octets prefix end octets) count list → place < count
     → IsAhead octets c (slice_get list place) place
 from_start octets c prefix end count place list new are within = record {
@@ -54,7 +55,7 @@ from_start octets c prefix end count place list new are within = record {
   on = subst (IsOn octets) (sym new) refl;
 }
 
-first_rest : (octets : List ℕ) (c : Cursor) (message : Option (List ℕ)) (left : ℕ) → IsAhead octets c message left
+first_rest : (octets : List ℕ) (c : Window) (message : Option (List ℕ)) (left : ℕ) → IsAhead octets c message left
     → (m : List ℕ) × (more : List (List ℕ)) × (rest_of octets c ≡ m ++ joined more) × IsCutOff m
     × AllByRecursion IsCutOff more × (slice_get (m ∷ more) left ≡ message) × (left < suc (length more))
 first_rest octets c message left a = by a.rest a.is a.each a.there a.some
@@ -67,19 +68,19 @@ first_rest octets c message left a = by a.rest a.is a.each a.there a.some
     by (m ∷ more) is each there some = (m, more, is, each.0, each.1, there, some)
 
 -- the message that is held is the first of those that were left
-held_first : (octets : List ℕ) (file : ℕ) (old new : Cursor) (message : Option (List ℕ)) (left : ℕ) (b : Bool)
+held_first : (octets : List ℕ) (file : ℕ) (old new : Window) (message : Option (List ℕ)) (left : ℕ) (b : Bool)
     → b ≡ true → IsAhead octets old message left → IsPartStep octets file old (Ok b) new
     → (more : List (List ℕ)) × (rest_of octets new ≡ joined more) × AllByRecursion IsCutOff more
-    × (slice_get (new.message ∷ more) left ≡ message) × (left < suc (length more))
+    × (slice_get (new.held ∷ more) left ≡ message) × (left < suc (length more))
 held_first octets file old new message left false is a step = absurd cc
 held_first octets file old new message left true is a step = by (first_rest octets old message left a)
   where
     by : (m : List ℕ) × (more : List (List ℕ)) × (rest_of octets old ≡ m ++ joined more) × IsCutOff m
         × AllByRecursion IsCutOff more × (slice_get (m ∷ more) left ≡ message) × (left < suc (length more))
         → (more : List (List ℕ)) × (rest_of octets new ≡ joined more) × AllByRecursion IsCutOff more
-        × (slice_get (new.message ∷ more) left ≡ message) × (left < suc (length more))
+        × (slice_get (new.held ∷ more) left ≡ message) × (left < suc (length more))
     by (m, more, whole, cut, each, there, some) =
-        let same = one_message m new.message (joined more) (rest_of octets new) cut step.0 (sym whole ∙ step.1) in (
+        let same = one_message m new.held (joined more) (rest_of octets new) cut step.0 (sym whole ∙ step.1) in (
           more,
           sym same.1,
           each,
@@ -87,14 +88,14 @@ held_first octets file old new message left true is a step = by (first_rest octe
           some,
         )
 
-pub held_here : (octets : List ℕ) (file : ℕ) (old new : Cursor) (message : Option (List ℕ)) (left : ℕ) (b : Bool)
+pub held_here : (octets : List ℕ) (file : ℕ) (old new : Window) (message : Option (List ℕ)) (left : ℕ) (b : Bool)
     → b ≡ true → left ≡ 0 → IsAhead octets old message left → IsPartStep octets file old (Ok b) new
-    → Some new.message ≡ message
+    → Some new.held ≡ message
 held_here octets file old new message left b is none a step =
     let h = held_first octets file old new message left b is a step in
-    ap (λ (k : ℕ). slice_get (new.message ∷ h.0) k) (sym none) ∙ h.3
+    ap (λ (k : ℕ). slice_get (new.held ∷ h.0) k) (sym none) ∙ h.3
 
-pub held_other : (octets : List ℕ) (file : ℕ) (old new : Cursor) (message : Option (List ℕ)) (left less : ℕ) (b : Bool)
+pub held_other : (octets : List ℕ) (file : ℕ) (old new : Window) (message : Option (List ℕ)) (left less : ℕ) (b : Bool)
     → b ≡ true → left ≡ suc less → IsAhead octets old message left → IsOn octets new
     → IsPartStep octets file old (Ok b) new → IsAhead octets new message less
 held_other octets file old new message left less b is some a on step =
@@ -103,12 +104,12 @@ held_other octets file old new message left less b is some a on step =
       rest = h.0;
       is = h.1;
       each = h.2;
-      there = ap (λ (k : ℕ). slice_get (new.message ∷ h.0) k) (sym some) ∙ h.3;
+      there = ap (λ (k : ℕ). slice_get (new.held ∷ h.0) k) (sym some) ∙ h.3;
       some = omega (arith, h.4, some);
       on = on;
     }
 
-pub not_ended : (octets : List ℕ) (file : ℕ) (old new : Cursor) (message : Option (List ℕ)) (left : ℕ) (b : Bool)
+pub not_ended : (octets : List ℕ) (file : ℕ) (old new : Window) (message : Option (List ℕ)) (left : ℕ) (b : Bool)
     → b ≡ false → IsAhead octets old message left → IsPartStep octets file old (Ok b) new → ⊥
 not_ended octets file old new message left true is a step = absurd cc
 not_ended octets file old new message left false is a step = by (first_rest octets old message left a)
@@ -121,15 +122,9 @@ not_ended octets file old new message left false is a step = by (first_rest octe
         let empty : length (m ++ joined more) ≡ 0 = ap length (sym whole ∙ none) in
         omega (arith, empty, long, length-append m (joined more))
 
--- a refusal is no damage
-pub found_err : {X : Type 0} (P : X → Type 0) (r : Result X ScanError) (e : ScanError) → IsErrAnd r (λ x. x ≡ e)
-    → IsNoDamage (told_of_scan e) → IsFound P r
-found_err P (Ok x) e is h = absurd is
-found_err P (Err x) e is h = subst (λ (y : ScanError). IsNoDamage (told_of_scan y)) (sym is) h
-
-pub not_stuck : (octets : List ℕ) (file : ℕ) (old new : Cursor) (message : Option (List ℕ)) (left : ℕ)
-    (e : ScanError) → IsAhead octets old message left → IsPartStep octets file old (Err e) new
-    → IsNoDamage (told_of_scan e)
+pub not_stuck : (octets : List ℕ) (file : ℕ) (old new : Window) (message : Option (List ℕ)) (left : ℕ)
+    (e : ReadRefusal) → IsAhead octets old message left → IsPartStep octets file old (Err e) new
+    → IsNoDamage e
 not_stuck octets file old new message left (Damaged f at) a step = by (first_rest octets old message left a)
   where
     by : (m : List ℕ) × (more : List (List ℕ)) × (rest_of octets old ≡ m ++ joined more) × IsCutOff m

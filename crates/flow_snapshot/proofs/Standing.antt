@@ -10,11 +10,12 @@ use Rattle.std.specs.declared.sync.Arc.{Arc}
 use Rattle.std.proofs.lemmas.List.{length-append, map-append, take-append-drop}
 use Rattle.std.proofs.lemmas.List.Concat.{flat_map-append}
 use Rattle.std.proofs.Math.Seq.{drop-append_seam, take-append_seam}
+use Rattle.flow_disk.specs.Window.{Window, IsOn}
 use Rattle.flow_codec.specs.Cutting.{length_of, IsCutOff, IsDivided}
 use Rattle.flow_codec.specs.Message.{joined}
 use Rattle.flow_codec.proofs.Dividing.{length_of-append}
 use Rattle.flow_disk.specs.declared.sealed.SealedFile.{Ghosts}
-use Rattle.flow_segment.specs.Part.{rest_of, Cursor, IsOn, IsPartStep}
+use Rattle.flow_segment.specs.Part.{rest_of, IsPartStep}
 use Rattle.flow_segment.specs.Segment.{part_octets}
 use Rattle.flow_segment.specs.declared.sealed.SealedPart.{SealedPart}
 use Rattle.flow_snapshot.specs.Files.{cut_into, segment_of, shared}
@@ -25,14 +26,14 @@ use Rattle.flow_snapshot.proofs.KeptFlows.{next_item}
 -- ---- within a part
 
 -- Some messages were passed over, and so many are left to be.
-pub record ArePassed (part octets : List ℕ) (c : Cursor) (skipped left : ℕ) : Type 0 where
+pub record ArePassed (part octets : List ℕ) (c : Window) (skipped left : ℕ) : Type 0 where
   pub front : List (List ℕ)
   pub divided : IsDivided part front (rest_of octets c)
   pub count : length front + left ≡ skipped
   pub on : IsOn octets c
 
-pub none_passed : (octets : List ℕ) (c : Cursor) (prefix end skipped : ℕ)
-    → c ≡ record { ahead = []; message = []; place = prefix; end = end }
+pub none_passed : (octets : List ℕ) (c : Window) (prefix end skipped : ℕ)
+    → c ≡ record { held = []; ahead = []; place = prefix; end = end }
     → ArePassed (part_octets prefix end octets) octets c skipped skipped
 none_passed octets c prefix end skipped new = record {
   front = [];
@@ -59,26 +60,26 @@ divided_then octets front rest m more d cut is = record {
 }
 
 -- the message that is held now comes after them
-passed_then : (part octets : List ℕ) (file : ℕ) (old new : Cursor) (skipped left : ℕ) (b : Bool) → b ≡ true
+passed_then : (part octets : List ℕ) (file : ℕ) (old new : Window) (skipped left : ℕ) (b : Bool) → b ≡ true
     → (p : ArePassed part octets old skipped left) → IsPartStep octets file old (Ok b) new
-    → IsDivided part (p.front ++ new.message ∷ []) (rest_of octets new)
+    → IsDivided part (p.front ++ new.held ∷ []) (rest_of octets new)
 passed_then part octets file old new skipped left false is p step = absurd cc
 passed_then part octets file old new skipped left true is p step =
-    divided_then part p.front (rest_of octets old) new.message (rest_of octets new) p.divided step.0 step.1
+    divided_then part p.front (rest_of octets old) new.held (rest_of octets new) p.divided step.0 step.1
 
-pub one_passed : (part octets : List ℕ) (file : ℕ) (old new : Cursor) (skipped left less : ℕ) (b : Bool) → b ≡ true
+pub one_passed : (part octets : List ℕ) (file : ℕ) (old new : Window) (skipped left less : ℕ) (b : Bool) → b ≡ true
     → left ≡ suc less → ArePassed part octets old skipped left → IsOn octets new → IsPartStep octets file old (Ok b) new
     → ArePassed part octets new skipped less
 one_passed part octets file old new skipped left less b is some p on step = record {
-  front = p.front ++ new.message ∷ [];
+  front = p.front ++ new.held ∷ [];
   divided = passed_then part octets file old new skipped left b is p step;
-  count = omega (arith, p.count, some, length-append p.front (new.message ∷ []));
+  count = omega (arith, p.count, some, length-append p.front (new.held ∷ []));
   on = on;
 }
 
-pub stands_here : (part octets : List ℕ) (file : ℕ) (old new : Cursor) (skipped left : ℕ) (b : Bool) → b ≡ true
+pub stands_here : (part octets : List ℕ) (file : ℕ) (old new : Window) (skipped left : ℕ) (b : Bool) → b ≡ true
     → left ≡ 0 → ArePassed part octets old skipped left → IsPartStep octets file old (Ok b) new
-    → IsCutBehind part skipped new.message
+    → IsCutBehind part skipped new.held
 stands_here part octets file old new skipped left b is none p step = (
   p.front,
   rest_of octets new,

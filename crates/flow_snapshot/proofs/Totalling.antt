@@ -21,8 +21,8 @@ use Rattle.flow_measure.proofs.Widening.{joined-comm}
 use Rattle.flow_segment.specs.PartFlows.{with_flows}
 use Rattle.flow_segment.proofs.FewMessages.{few_fit_behind}
 use Rattle.flow_segment.proofs.FlowsFit.{messages_fit}
-use Rattle.flow_snapshot.specs.declared.error.QueryError.{QueryError}
-use Rattle.flow_snapshot.specs.declared.error.QueryError.TheVariants.{Damaged, Fault, OutOfMemory}
+use Rattle.flow_refusals.specs.declared.read_refusal.ReadRefusal.{ReadRefusal}
+use Rattle.flow_refusals.specs.declared.read_refusal.ReadRefusal.TheVariants.{Damaged, Fault, OutOfMemory}
 use Rattle.flow_model.specs.Shelf.{messages_in, Shelf}
 use Rattle.flow_snapshot.specs.Told.{IsAnswered}
 use Rattle.flow_snapshot.specs.Totals.{wide_table_in, with_maps, IsMade, IsWithinLimits, SumsFit}
@@ -73,7 +73,7 @@ module _ (s : Shelf) (v : View) (is : IsViewOf s v) where
         without_flows_fit (with_flows (flows_in halves.own) start) (flows_in halves.rest) (active_fits fit)
 
     -- what is answered once both were added
-    pub kept_added : {X : Type 0} (Q : Type 0) (middle new : Table) (first : ℕ) (r : Result X QueryError)
+    pub kept_added : {X : Type 0} (Q : Type 0) (middle new : Table) (first : ℕ) (r : Result X ReadRefusal)
         → middle ≡ with_flows (flows_in halves.own) start
         → IsMade first (AllFit (with_flows (flows_in halves.rest) middle))
         (λ _. Q × (new ≡ with_flows (flows_in halves.rest) middle)) r
@@ -175,7 +175,7 @@ module _ (h : History) (counts : List ℕ) (is : IsHistory h) (all : AreCountsOf
     }
 
     -- what totals answer of such a history
-    pub answered_within : {X : Type 0} (items : X → List Row) (from to first : ℕ) (r : Result X QueryError)
+    pub answered_within : {X : Type 0} (items : X → List Row) (from to first : ℕ) (r : Result X ReadRefusal)
         → IsMade first (SumsFit (view_of h counts)) (λ x. items x ≡ totals_in_view from to (view_of h counts)) r
         → IsAnswered (λ x. items x ≡ totals_between from to h) r
     answered_within items from to first (Ok x) made = made ∙ totals_same h counts is all from to
@@ -187,7 +187,7 @@ module _ (h : History) (counts : List ℕ) (is : IsHistory h) (all : AreCountsOf
 
 module _ (v : View) (narrow wide : Table) (left : narrow ≡ narrow_table_in v) (right : wide ≡ wide_table_in v)
     (from to : ℕ) where
-  pub both_made : {X : Type 0} (items : X → List Row) (first : ℕ) (r : Result X QueryError)
+  pub both_made : {X : Type 0} (items : X → List Row) (first : ℕ) (r : Result X ReadRefusal)
       → IsMade first (narrow.width ≡ wide.width → AllFit (merged narrow wide))
       (λ x. items x ≡ rows_of_both from to narrow wide) r
       → IsMade first (SumsFit v) (λ x. items x ≡ totals_in_view from to v) r

@@ -19,7 +19,7 @@ use Rattle.flow_segment.specs.Carry.{octets_of}
 use Rattle.flow_segment.specs.PartFlows.{with_flows}
 use Rattle.flow_segment.specs.Prefix.{IsRestated}
 use Rattle.flow_segment.specs.Segment.{part_octets}
-use Rattle.flow_snapshot.specs.declared.error.QueryError.{QueryError}
+use Rattle.flow_refusals.specs.declared.read_refusal.ReadRefusal.{ReadRefusal}
 use Rattle.flow_snapshot.specs.Files.{is_honest, segment_of, shared}
 use Rattle.flow_snapshot.specs.Found.{AreAccepted}
 use Rattle.flow_model.specs.Views.{first_prefix, AreKept, IsReadIn}
@@ -47,7 +47,7 @@ first_found {F} {X} {Z} {files} items rest item part m prefix templates is same 
     (subst (λ (ps : List (SealedPart F X files)). IsTrue (list_all is_honest ps)) parts all)))
 
 pub active_found : {F X Z : Type 0} {files : Ghosts F X} (items : List (Arc (SealedPart F X files) Z))
-    (prefix : List ℕ) (r : Result AllTemplates QueryError) → items ≡ [] → IfOk r (λ t. IsRestated prefix t)
+    (prefix : List ℕ) (r : Result AllTemplates ReadRefusal) → items ≡ [] → IfOk r (λ t. IsRestated prefix t)
     → IfOk r (λ t. IsRestated (first_prefix (map segment_of (shared items)) prefix) t)
 active_found {F} {X} {Z} {files} items prefix r none found =
     subst (λ (ps : List (Arc (SealedPart F X files) Z)).
@@ -70,7 +70,7 @@ module _ (s : Shelf) (before middle : AllTemplates) (restated : IsRestated (firs
 
   -- their flows, added
   pub kept_summed : {X : Type 0} (last : AllTemplates) (old rows new : Table) (first : ℕ) (fit : List Accepted → Type 0)
-      (r : Result X QueryError) → (middle ≡ templates_from before sealed.0)
+      (r : Result X ReadRefusal) → (middle ≡ templates_from before sealed.0)
       × (rows ≡ with_flows (flows_in sealed.0) old) → OnOk r (AreAccepted middle s.active)
       → ((list : List Accepted) → AreAcceptedFrom middle list → octets_of list ≡ s.active
       → IsMade first (fit list) (λ _. (last ≡ templates_from middle list) × (new ≡ with_flows (flows_in list) rows)) r)
@@ -129,7 +129,7 @@ wide_read s start new none (maps, are) was =
     (gathered_all maps, (maps, are, refl), was ∙ ap (with_maps maps) none ∙ only_maps s.wide maps)
 
 pub both_read : {X : Type 0} (items : X → List Row) (s : Shelf) (narrow wide : Table) (from to first : ℕ) (fit : Type 0)
-    (r : Result X QueryError)
+    (r : Result X ReadRefusal)
     → (merged : (sums : FinMap key_cmp Sums) × AreRolledInto s.wide s.merged sums
     × (wide ≡ record { width = s.wide; sums = sums }))
     → ((sums : FinMap key_cmp Sums) → AreRolledInto s.wide s.merged sums

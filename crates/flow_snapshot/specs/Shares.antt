@@ -11,9 +11,9 @@ use Rattle.flow_measure.specs.View.{gathered_all}
 use Rattle.flow_rolled.specs.Rollup.{IsRollup}
 use Rattle.flow_segment.specs.Carry.{octets_of}
 use Rattle.flow_segment.specs.Prefix.{IsRestated}
-use Rattle.flow_snapshot.specs.declared.error.QueryError.{QueryError}
+use Rattle.flow_refusals.specs.declared.read_refusal.ReadRefusal.{ReadRefusal}
 use Rattle.flow_disk.specs.Cause.{HasCause}
-use Rattle.flow_snapshot.specs.declared.error.QueryError.TheVariants.{Fault}
+use Rattle.flow_refusals.specs.declared.read_refusal.ReadRefusal.TheVariants.{Fault}
 use Rattle.flow_snapshot.specs.declared.shares.PartSums.{PartSums}
 use Rattle.flow_snapshot.specs.declared.shares.Share.{Share}
 use Rattle.flow_model.specs.Shelf.{Rollup, Segment, Shelf}
@@ -113,7 +113,7 @@ pub record IsOwnRead (s : Shelf) (workers worker : ℕ) : Type 0 where
 -- What a worker answers on honest disks: where it isn't refused, each part that falls to it was read whole, whatever
 -- damage others have. Where all parts have sums it is those of its own, unless a read fails, memory runs out or the
 -- sums of all parts don't fit their types.
-pub record IsShare (sight : Sight) (workers worker : ℕ) (result : Result PartSums QueryError) : Type 0 where
+pub record IsShare (sight : Sight) (workers worker : ℕ) (result : Result PartSums ReadRefusal) : Type 0 where
   pub found : IsTrue sight.honest → OnOk result (IsOwnRead sight.shelf workers worker)
   pub given : IsTrue sight.honest → (wide narrow : List (FinMap key_cmp Sums)) → AreWide sight.shelf wide
       → AreNarrow sight.shelf narrow
@@ -124,7 +124,8 @@ pub record IsShare (sight : Sight) (workers worker : ℕ) (result : Result PartS
 -- ---- shares, joined
 
 -- what is made of sums and of a worker's answer
-abbrev pub IsJoined : {X : Type 0} → ℕ → PartSums → Result PartSums QueryError → PartSums → Result X QueryError → Type 0
+abbrev pub IsJoined : {X : Type 0} → ℕ → PartSums → Result PartSums ReadRefusal → PartSums → Result X ReadRefusal
+    → Type 0
 IsJoined first old (Ok mine) new result =
     (old.narrow.width ≡ mine.narrow.width → old.wide.width ≡ mine.wide.width
     → IsMade first (AllFit (merged old.narrow mine.narrow) × AllFit (merged old.wide mine.wide))

@@ -10,12 +10,10 @@ use Rattle.flow_measure.specs.History.{History}
 use Rattle.flow_measure.specs.Query.{narrow_table_in}
 use Rattle.flow_measure.specs.Sums.{key_cmp, gathered, merged, AllFit, Table}
 use Rattle.flow_measure.specs.View.{View}
-use Rattle.flow_rolled.specs.declared.error.RowSumError.{RowSumError}
-use Rattle.flow_rolled.specs.declared.error.RowSumError.TheVariants as rolled
-use Rattle.flow_segment.specs.declared.error.PartSumError.{PartSumError}
-use Rattle.flow_segment.specs.declared.error.PartSumError.TheVariants as part
-use Rattle.flow_snapshot.specs.declared.error.QueryError.{QueryError}
-use Rattle.flow_snapshot.specs.declared.error.QueryError.TheVariants.{Damaged, Fault, OutOfMemory}
+use Rattle.flow_refusals.specs.declared.sum_refusal.SumRefusal.{SumRefusal}
+use Rattle.flow_refusals.specs.declared.sum_refusal.SumRefusal.TheVariants as sum
+use Rattle.flow_refusals.specs.declared.read_refusal.ReadRefusal.{ReadRefusal}
+use Rattle.flow_refusals.specs.declared.read_refusal.ReadRefusal.TheVariants.{Damaged, Fault, OutOfMemory}
 use Rattle.flow_model.specs.Shelf.{Shelf}
 
 -- a table, with the sums of these maps added
@@ -48,30 +46,24 @@ abbrev pub first_file : Shelf → ℕ
 first_file s = first_of (map (λ r. r.file) s.merged ++ map (λ r. r.file) s.rolled ++ map (λ g. g.file) s.sealed)
 
 -- Damage is reported of this file at its start alone, and only where sums don't fit their types.
-abbrev pub IsSpent : ℕ → Type 0 → QueryError → Type 0
+abbrev pub IsSpent : ℕ → Type 0 → ReadRefusal → Type 0
 IsSpent first fit (Damaged file at) = (file ≡ first) × (at ≡ 0) × (fit → ⊥)
 IsSpent first fit Fault = ⊤
 IsSpent first fit OutOfMemory = ⊤
 
 -- What is made is right, unless a read fails or memory runs out, or sums don't fit their types.
-abbrev pub IsMade : {X : Type 0} → ℕ → Type 0 → (X → Type 0) → Result X QueryError → Type 0
+abbrev pub IsMade : {X : Type 0} → ℕ → Type 0 → (X → Type 0) → Result X ReadRefusal → Type 0
 IsMade first fit right (Ok x) = right x
 IsMade first fit right (Err e) = IsSpent first fit e
 
 -- ---- refusals as those of totals
 
-abbrev pub told_of_rows : ℕ → RowSumError → QueryError
-told_of_rows first (rolled.Damaged file at) = Damaged file at
-told_of_rows first rolled.SumSpent = Damaged first 0
-told_of_rows first rolled.Fault = Fault
-told_of_rows first rolled.OutOfMemory = OutOfMemory
+abbrev pub told_of_file : ℕ → SumRefusal → ReadRefusal
+told_of_file first (sum.Damaged file at) = Damaged file at
+told_of_file first sum.SumSpent = Damaged first 0
+told_of_file first sum.Fault = Fault
+told_of_file first sum.OutOfMemory = OutOfMemory
 
-abbrev pub told_of_part : ℕ → PartSumError → QueryError
-told_of_part first (part.Damaged file at) = Damaged file at
-told_of_part first part.SumSpent = Damaged first 0
-told_of_part first part.Fault = Fault
-told_of_part first part.OutOfMemory = OutOfMemory
-
-abbrev pub told_of_sums : ℕ → SumError → QueryError
+abbrev pub told_of_sums : ℕ → SumError → ReadRefusal
 told_of_sums first measure.SumSpent = Damaged first 0
 told_of_sums first measure.OutOfMemory = OutOfMemory

@@ -5,8 +5,8 @@ ghost use Rattle.flow_measure.specs.Query.{interleaved, rows_of_both};
 ghost use Rattle.flow_measure.specs.Sums.{merged, AllFit};
 ghost use Rattle.flow_snapshot.specs.Totals.{told_of_sums, IsMade};
 
-use crate::error::QueryError;
 use flow_measure::{Row, Rows, SumError};
+use flow_refusals::ReadRefusal;
 use std::alloc::{AllocError, Global};
 
 /// Two lists of rows in the order of their keys, as one: of two rows of one key the first list's comes first.
@@ -31,12 +31,12 @@ fn interleaved(alloc: Global, rows: &[Row], others: &[Row]) -> Result<Vec<Row>, 
 }
 
 /// A refusal of sums as that of a query.
-pub(crate) fn told_of_sums(error: SumError, first: u64) -> QueryError
+pub(crate) fn told_of_sums(error: SumError, first: u64) -> ReadRefusal
     ensures { result ≡ told_of_sums first error }
 {
     match error {
-        SumError::SumSpent => QueryError::Damaged(first, 0),
-        SumError::OutOfMemory => QueryError::OutOfMemory,
+        SumError::SumSpent => ReadRefusal::Damaged(first, 0),
+        SumError::OutOfMemory => ReadRefusal::OutOfMemory,
     }
 }
 
@@ -49,10 +49,10 @@ pub(crate) fn rows_of_both(
     mut narrow: Rows,
     wide: &Rows,
     first: u64,
-) -> Result<Vec<Row>, QueryError>
+) -> Result<Vec<Row>, ReadRefusal>
     ensures made { IsMade first (narrow.width ≡ wide.now.width → AllFit (merged narrow wide.now))
         (λ rows. rows.items ≡ rows_of_both from to narrow wide.now) result }
-    ensures quiet { IfErr result (λ e. e ≢ QueryError.Fault) }
+    ensures quiet { IfErr result (λ e. e ≢ ReadRefusal.Fault) }
 {
     if narrow.width() != wide.width() {
         let rows = narrow.in_span(alloc, from, to)?;

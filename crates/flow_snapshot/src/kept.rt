@@ -13,14 +13,13 @@ ghost use Rattle.flow_segment.specs.Prefix.{IsRestated};
 ghost use Rattle.flow_snapshot.specs.Files.{is_honest, segment_of, shared};
 ghost use Rattle.flow_snapshot.specs.Found.{AreAccepted, HaveFlows};
 ghost use Rattle.flow_model.specs.Shelf.{messages_in};
-ghost use Rattle.flow_snapshot.specs.Told.{IsAnswered, IsFound};
+ghost use Rattle.flow_snapshot.specs.Told.{IsAnswered};
 
-use crate::error::QueryError;
 use bytes::Bytes;
 use flow_codec::{MessageError, RecordSink, Templates, WalkError, front_of, walk_message};
 use flow_disk::{Faults, SealedFile};
-use flow_gate::ScanError;
 use flow_measure::Flow;
+use flow_refusals::ReadRefusal;
 use flow_segment::{Chosen, SealedPart, Seen, collect_flows};
 use std::alloc::{AllocError, Global};
 use std::mem::replace;
@@ -28,10 +27,10 @@ use std::sync::Arc;
 
 /// The refusal of a message in memory that isn't accepted, or doesn't belong in a prefix: damage of file 0, since it is
 /// in no file.
-const NO_MESSAGE: QueryError = QueryError::Damaged(0, 0);
+const NO_MESSAGE: ReadRefusal = ReadRefusal::Damaged(0, 0);
 
 /// Takes in the templates of a message in memory, and answers whether it has data records.
-fn take_in(alloc: Global, templates: &mut Templates, octets: &[u8]) -> Result<bool, QueryError>
+fn take_in(alloc: Global, templates: &mut Templates, octets: &[u8]) -> Result<bool, ReadRefusal>
     // It is an accepted message.
     ensures found { IfOk result (λ any. (a : Accepted) × (a.octets ≡ octets.now)
         × IsAccepted octets.now templates.old a.message a.after × (templates.new ≡ a.after)
@@ -40,12 +39,12 @@ fn take_in(alloc: Global, templates: &mut Templates, octets: &[u8]) -> Result<bo
         → a.message.records ≡ [] → IfOk result (λ any. any ≡ false) }
     ensures given { (a : Accepted) → a.octets ≡ octets.now → IsAccepted octets.now templates.old a.message a.after
         → IsAnswered (λ _. templates.new ≡ a.after) result }
-    ensures quiet { IfErr result (λ e. e ≢ QueryError.Fault) }
+    ensures quiet { IfErr result (λ e. e ≢ ReadRefusal.Fault) }
 {
     let mut records = Seen { any: false };
     match walk_message(templates, alloc, octets, &mut records) {
         Ok(_) => Ok(records.any),
-        Err(WalkError::Message(MessageError::OutOfMemory)) => Err(QueryError::OutOfMemory),
+        Err(WalkError::Message(MessageError::OutOfMemory)) => Err(ReadRefusal::OutOfMemory),
         Err(WalkError::Message(_)) => Err(NO_MESSAGE),
         Err(WalkError::Sink(never)) => match never {},
     }
@@ -57,29 +56,29 @@ pub(crate) fn hand_over<R: RecordSink<Error = AllocError>>(
     templates: &mut Templates,
     octets: &[u8],
     sink: &mut R,
-) -> Result<(), QueryError>
+) -> Result<(), ReadRefusal>
     // It is an accepted message.
     ensures found { OnOk result ((a : Accepted) × (a.octets ≡ octets.now)
         × IsAccepted octets.now templates.old a.message a.after) }
     ensures given { (a : Accepted) → a.octets ≡ octets.now → IsAccepted octets.now templates.old a.message a.after
         → IsAnswered (λ _. (templates.new ≡ a.after)
         × Took R.holds a.message.header sink.old a.message.records sink.new) result }
-    ensures quiet { IfErr result (λ e. e ≢ QueryError.Fault) }
+    ensures quiet { IfErr result (λ e. e ≢ ReadRefusal.Fault) }
 {
     match walk_message(templates, alloc, octets, sink) {
         Ok(_) => Ok(()),
-        Err(WalkError::Message(MessageError::OutOfMemory)) => Err(QueryError::OutOfMemory),
+        Err(WalkError::Message(MessageError::OutOfMemory)) => Err(ReadRefusal::OutOfMemory),
         Err(WalkError::Message(_)) => Err(NO_MESSAGE),
-        Err(WalkError::Sink(_)) => Err(QueryError::OutOfMemory),
+        Err(WalkError::Sink(_)) => Err(ReadRefusal::OutOfMemory),
     }
 }
 
 /// The templates that a prefix in memory restates. One with data records is refused.
-pub(crate) fn restated(alloc: Global, prefix: &[u8]) -> Result<Templates, QueryError>
+pub(crate) fn restated(alloc: Global, prefix: &[u8]) -> Result<Templates, ReadRefusal>
     ensures found { IfOk result (λ templates. IsRestated prefix.now templates) }
     ensures given { (all : AllTemplates) → IsRestated prefix.now all
         → IsAnswered (λ templates. templates ≡ all) result }
-    ensures quiet { IfErr result (λ e. e ≢ QueryError.Fault) }
+    ensures quiet { IfErr result (λ e. e ≢ ReadRefusal.Fault) }
 {
     let mut templates = Templates::new(alloc);
     let mut rest = prefix;
@@ -105,8 +104,8 @@ pub(crate) fn collect_sealed<S: SealedFile>(
     to: u64,
     flows: &mut Vec<Flow>,
     faults: &mut Faults<S>,
-) -> Result<(), ScanError>
-    ensures cause { HasCause ScanError.Fault faults.old faults.new result }
+) -> Result<(), ReadRefusal>
+    ensures cause { HasCause ReadRefusal.Fault faults.old faults.new result }
     // On honest disks: all messages are accepted after the templates given.
     ensures found { IsTrue (list_all is_honest (shared parts.now)) → OnOk result
         (AreAccepted templates.old (messages_in (map segment_of (shared parts.now)))) }
@@ -132,14 +131,14 @@ pub(crate) fn flows_of_segment<S: SealedFile>(
     from: u64,
     to: u64,
     faults: &mut Faults<S>,
-) -> Result<Vec<Flow>, ScanError>
-    ensures cause { HasCause ScanError.Fault faults.old faults.new result }
+) -> Result<Vec<Flow>, ReadRefusal>
+    ensures cause { HasCause ReadRefusal.Fault faults.old faults.new result }
     // On an honest disk: all its messages are accepted after the templates given, and the flows are theirs.
     ensures found { IsTrue (is_honest part.now) → IfOk result
         (λ flows. HaveFlows (segment_of part.now).messages templates.old from to templates.new flows.items) }
     ensures given { IsTrue (is_honest part.now) → (messages : List Accepted)
         → AreAcceptedFrom templates.old messages → octets_of messages ≡ (segment_of part.now).messages
-        → IsFound (λ flows. (templates.new ≡ templates_from templates.old messages)
+        → IsAnswered (λ flows. (templates.new ≡ templates_from templates.old messages)
         × (flows.items ≡ flows_within from to (flows_in messages))) result }
 {
     let mut flows = Vec::new(alloc);
@@ -157,12 +156,12 @@ pub(crate) fn collect_active(
     from: u64,
     to: u64,
     flows: &mut Vec<Flow>,
-) -> Result<(), QueryError>
+) -> Result<(), ReadRefusal>
     ensures found { OnOk result (AreAccepted templates.old messages.now) }
     ensures given { (list : List Accepted) → AreAcceptedFrom templates.old list → octets_of list ≡ messages.now
         → IsAnswered (λ _. (templates.new ≡ templates_from templates.old list)
         × (flows.new.items ≡ flows.old.items ++ flows_within from to (flows_in list))) result }
-    ensures quiet { IfErr result (λ e. e ≢ QueryError.Fault) }
+    ensures quiet { IfErr result (λ e. e ≢ ReadRefusal.Fault) }
 {
     let mut chosen = Chosen {
         flows: replace(flows, Vec::new(alloc)),
@@ -183,13 +182,13 @@ pub(crate) fn flows_of_active(
     templates: &mut Templates,
     from: u64,
     to: u64,
-) -> Result<Vec<Flow>, QueryError>
+) -> Result<Vec<Flow>, ReadRefusal>
     ensures found { IfOk result
         (λ flows. HaveFlows messages.now templates.old from to templates.new flows.items) }
     ensures given { (list : List Accepted) → AreAcceptedFrom templates.old list → octets_of list ≡ messages.now
         → IsAnswered (λ flows. (templates.new ≡ templates_from templates.old list)
         × (flows.items ≡ flows_within from to (flows_in list))) result }
-    ensures quiet { IfErr result (λ e. e ≢ QueryError.Fault) }
+    ensures quiet { IfErr result (λ e. e ≢ ReadRefusal.Fault) }
 {
     let mut flows = Vec::new(alloc);
     collect_active(alloc, messages, templates, from, to, &mut flows)?;

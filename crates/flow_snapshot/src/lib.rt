@@ -13,7 +13,6 @@
 
 mod counting;
 mod directory;
-mod error;
 mod files;
 mod interleaving;
 mod kept;
@@ -25,9 +24,8 @@ mod step;
 mod summing;
 
 pub use directory::Directory;
-pub use error::QueryError;
 pub use files::Files;
 pub use laws::parts_are;
 pub use shares::{PartSums, Share};
-pub use snapshot::Snapshot;
+pub use snapshot::{QueryError, Snapshot};
 pub use step::{Mark, Step};

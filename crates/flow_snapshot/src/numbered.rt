@@ -8,11 +8,11 @@ ghost use Rattle.flow_segment.specs.Segment.{part_octets, AreMessagesOf};
 ghost use Rattle.flow_snapshot.specs.Files.{is_honest, segment_of, shared};
 ghost use Rattle.flow_snapshot.specs.Found.{IsCutBehind, IsSealedAt};
 ghost use Rattle.flow_model.specs.Shelf.{messages_in};
-ghost use Rattle.flow_snapshot.specs.Told.{octets_in, IsFound};
+ghost use Rattle.flow_snapshot.specs.Told.{octets_in, IsAnswered};
 
-use flow_disk::{Faults, SealedFile};
-use flow_gate::ScanError;
-use flow_segment::{Cursor, SealedPart, advance};
+use flow_disk::{Faults, SealedFile, Window};
+use flow_refusals::ReadRefusal;
+use flow_segment::{SealedPart, advance};
 use std::alloc::Global;
 use std::sync::Arc;
 
@@ -23,8 +23,8 @@ fn message_behind<S: SealedFile>(
     part: &SealedPart<S>,
     skipped: u64,
     faults: &mut Faults<S>,
-) -> Result<Vec<u8>, ScanError>
-    ensures cause { HasCause ScanError.Fault faults.old faults.new result }
+) -> Result<Vec<u8>, ReadRefusal>
+    ensures cause { HasCause ReadRefusal.Fault faults.old faults.new result }
     // On an honest disk: it comes after so many others.
     ensures found { IsTrue (S.honest part.now.reader) → IfOk result (λ message.
         IsCutBehind (part_octets part.now.prefix part.now.length (S.octets part.now.reader)) skipped message.items) }
@@ -32,16 +32,16 @@ fn message_behind<S: SealedFile>(
     ensures given { IsTrue (S.honest part.now.reader) → (list : List (List ℕ))
         → AreMessagesOf (part_octets part.now.prefix part.now.length (S.octets part.now.reader)) part.now.messages list
         → skipped < part.now.messages
-        → IsFound (λ message. Some message.items ≡ slice_get list skipped) result }
+        → IsAnswered (λ message. Some message.items ≡ slice_get list skipped) result }
 {
-    let mut cursor = Cursor::new(alloc, part.prefix, part.length);
+    let mut window = Window::new(alloc, part.prefix, part.length);
     let mut left = skipped;
     'messages: loop {
-        if !advance(&mut cursor, alloc, &part.reader, faults)? {
-            return Err(ScanError::Damaged(part.reader.file(), part.length));
+        if !advance(&mut window, alloc, &part.reader, faults)? {
+            return Err(ReadRefusal::Damaged(part.reader.file(), part.length));
         }
         if left == 0 {
-            return Ok(Vec::from_slice(alloc, cursor.message())?);
+            return Ok(Vec::from_slice(alloc, window.held())?);
         }
         left -= 1;
     }
@@ -54,15 +54,15 @@ pub(crate) fn sealed_message<S: SealedFile>(
     parts: &[Arc<SealedPart<S>>],
     place: u64,
     faults: &mut Faults<S>,
-) -> Result<Option<Vec<u8>>, ScanError>
-    ensures cause { HasCause ScanError.Fault faults.old faults.new result }
+) -> Result<Option<Vec<u8>>, ReadRefusal>
+    ensures cause { HasCause ReadRefusal.Fault faults.old faults.new result }
     // On honest disks: it is in its own segment after others that are each cut off by their own header.
     ensures found { IsTrue (list_all is_honest (shared parts.now)) → IfOk result (λ message.
         IsSealedAt (map segment_of (shared parts.now)) place (octets_in message)) }
     // Of messages that are all cut off so, it is the one at this place.
     ensures given { IsTrue (list_all is_honest (shared parts.now))
         → AllByRecursion IsCutOff (messages_in (map segment_of (shared parts.now)))
-        → IsFound (λ message. octets_in message ≡ slice_get (messages_in (map segment_of (shared parts.now))) place)
+        → IsAnswered (λ message. octets_in message ≡ slice_get (messages_in (map segment_of (shared parts.now))) place)
         result }
 {
     let mut left = place;

@@ -13,13 +13,13 @@ ghost use Rattle.flow_snapshot.specs.Shares.{added_if, next_turn, own, turn_afte
 ghost use Rattle.flow_snapshot.specs.Shares.{IsOwnSum, IsRefusedAt, IsSegmentSum};
 ghost use Rattle.flow_snapshot.specs.Totals.{with_maps, IsMade};
 
-use crate::error::QueryError;
 use crate::interleaving::told_of_sums;
 use crate::kept::restated;
 use crate::summing::{add_active, add_file, add_part};
 use bytes::Bytes;
 use flow_disk::{Faults, SealedFile};
 use flow_measure::{Key, Rows, SumError, interval_of};
+use flow_refusals::ReadRefusal;
 use flow_rolled::RolledPart;
 use flow_segment::{SealedPart, templates_of};
 use std::alloc::Global;
@@ -35,7 +35,7 @@ pub struct PartSums {
 /// What a worker answers, and how many of its reads failed.
 #[derive(Drop)]
 pub struct Share<S: SealedFile> {
-    pub sums: Result<PartSums, QueryError>,
+    pub sums: Result<PartSums, ReadRefusal>,
     pub faults: Faults<S>,
 }
 
@@ -66,10 +66,10 @@ fn add_rows(rows: &mut Rows, other: &Rows) -> Result<(), SumError>
 
 /// Adds the sums of other rows, of the same width: no row is copied where there were none. After an `Err` some may have
 /// been added.
-fn merge_rows(rows: &mut Rows, other: Rows, first: u64) -> Result<(), QueryError>
+fn merge_rows(rows: &mut Rows, other: Rows, first: u64) -> Result<(), ReadRefusal>
     ensures given { rows.old.width ≡ other.width → IsMade first (AllFit (merged rows.old other))
         (λ _. rows.new ≡ merged rows.old other) result }
-    ensures quiet { IfErr result (λ e. e ≢ QueryError.Fault) }
+    ensures quiet { IfErr result (λ e. e ≢ ReadRefusal.Fault) }
 {
     if is_empty(rows) {
         *rows = other;
@@ -83,13 +83,13 @@ fn merge_rows(rows: &mut Rows, other: Rows, first: u64) -> Result<(), QueryError
 
 impl PartSums {
     /// Adds the sums of other parts, by the same widths. After an `Err` some may have been added.
-    fn join(&mut self, other: PartSums, first: u64) -> Result<(), QueryError>
+    fn join(&mut self, other: PartSums, first: u64) -> Result<(), ReadRefusal>
         ensures given { self.old.narrow.width ≡ other.narrow.width → self.old.wide.width ≡ other.wide.width
             → IsMade first (AllFit (merged self.old.narrow other.narrow)
             × AllFit (merged self.old.wide other.wide))
             (λ _. (self.new.narrow ≡ merged self.old.narrow other.narrow)
             × (self.new.wide ≡ merged self.old.wide other.wide)) result }
-        ensures quiet { IfErr result (λ e. e ≢ QueryError.Fault) }
+        ensures quiet { IfErr result (λ e. e ≢ ReadRefusal.Fault) }
     {
         let PartSums { narrow, wide } = other;
         merge_rows(&mut self.narrow, narrow, first)?;
@@ -100,9 +100,9 @@ impl PartSums {
 /// Adds a worker's sums, where it wasn't refused.
 fn add_answer(
     sums: &mut PartSums,
-    answer: Result<PartSums, QueryError>,
+    answer: Result<PartSums, ReadRefusal>,
     first: u64,
-) -> Result<(), QueryError>
+) -> Result<(), ReadRefusal>
     ensures given { IsJoined first sums.old answer sums.new result }
 {
     match answer {
@@ -117,9 +117,9 @@ pub(crate) fn add_share<S: SealedFile>(
     share: Share<S>,
     first: u64,
     faults: &mut Faults<S>,
-) -> Result<(), QueryError>
-    requires { HasCause QueryError.Fault 0 share.faults share.sums }
-    ensures cause { HasCause QueryError.Fault faults.old faults.new result }
+) -> Result<(), ReadRefusal>
+    requires { HasCause ReadRefusal.Fault 0 share.faults share.sums }
+    ensures cause { HasCause ReadRefusal.Fault faults.old faults.new result }
     ensures given { IsJoined first sums.old share.sums sums.new result }
 {
     faults.add(share.faults);
@@ -142,9 +142,9 @@ pub(crate) fn first_refused<S: SealedFile>(shares: &[Share<S>]) -> Option<usize>
 pub(crate) fn answer_of<S: SealedFile>(
     worker: Share<S>,
     faults: &mut Faults<S>,
-) -> Result<PartSums, QueryError>
-    requires { HasCause QueryError.Fault 0 worker.faults worker.sums }
-    ensures cause { HasCause QueryError.Fault faults.old faults.new result }
+) -> Result<PartSums, ReadRefusal>
+    requires { HasCause ReadRefusal.Fault 0 worker.faults worker.sums }
+    ensures cause { HasCause ReadRefusal.Fault faults.old faults.new result }
     ensures answer { result ≡ worker.sums }
 {
     faults.add(worker.faults);
@@ -168,9 +168,9 @@ fn add_own_file<S: SealedFile>(
     rows: &mut Rows,
     first: u64,
     faults: &mut Faults<S>,
-) -> Result<(), QueryError>
+) -> Result<(), ReadRefusal>
     ensures width { rows.new.width ≡ rows.old.width }
-    ensures cause { HasCause QueryError.Fault faults.old faults.new result }
+    ensures cause { HasCause ReadRefusal.Fault faults.old faults.new result }
     ensures found { IsTrue part.now.honest → OnOk result (mine ≡ true → (sums : FinMap key_cmp Sums)
         × IsFileSum rows.old.width (rollup_of part.now) sums) }
     ensures given { IsTrue part.now.honest → (sums : FinMap key_cmp Sums)
@@ -193,11 +193,11 @@ pub(crate) fn add_own_files<S: SealedFile>(
     rows: &mut Rows,
     first: u64,
     faults: &mut Faults<S>,
-) -> Result<u32, QueryError>
+) -> Result<u32, ReadRefusal>
     requires { turn < workers }
     ensures turn { IfOk result (λ next. (next ≡ turn_after workers (length parts.now) turn) × (next < workers)) }
     ensures width { OnOk result (rows.new.width ≡ rows.old.width) }
-    ensures cause { HasCause QueryError.Fault faults.old faults.new result }
+    ensures cause { HasCause ReadRefusal.Fault faults.old faults.new result }
     // On honest disks: those that fall to the worker are rolled files.
     ensures found { IsTrue (list_all is_honest_sum (shared parts.now)) → OnOk result
         (HaveSums (IsFileSum rows.old.width) (own workers worker turn (map rollup_of (shared parts.now)))) }
@@ -223,9 +223,9 @@ fn add_whole<S: SealedFile>(
     rows: &mut Rows,
     first: u64,
     faults: &mut Faults<S>,
-) -> Result<(), QueryError>
+) -> Result<(), ReadRefusal>
     ensures width { rows.new.width ≡ rows.old.width }
-    ensures cause { HasCause QueryError.Fault faults.old faults.new result }
+    ensures cause { HasCause ReadRefusal.Fault faults.old faults.new result }
     ensures found { IsTrue (is_honest part.now) → OnOk result ((sums : FinMap key_cmp Sums)
         × IsSegmentSum rows.old.width (segment_of part.now) sums) }
     ensures given { IsTrue (is_honest part.now) → (sums : FinMap key_cmp Sums)
@@ -247,9 +247,9 @@ fn add_own_segment<S: SealedFile>(
     rows: &mut Rows,
     first: u64,
     faults: &mut Faults<S>,
-) -> Result<(), QueryError>
+) -> Result<(), ReadRefusal>
     ensures width { rows.new.width ≡ rows.old.width }
-    ensures cause { HasCause QueryError.Fault faults.old faults.new result }
+    ensures cause { HasCause ReadRefusal.Fault faults.old faults.new result }
     ensures found { IsTrue (is_honest part.now) → OnOk result (mine ≡ true → (sums : FinMap key_cmp Sums)
         × IsSegmentSum rows.old.width (segment_of part.now) sums) }
     ensures given { IsTrue (is_honest part.now) → (sums : FinMap key_cmp Sums)
@@ -272,11 +272,11 @@ pub(crate) fn add_own_segments<S: SealedFile>(
     rows: &mut Rows,
     first: u64,
     faults: &mut Faults<S>,
-) -> Result<u32, QueryError>
+) -> Result<u32, ReadRefusal>
     requires { turn < workers }
     ensures turn { IfOk result (λ next. (next ≡ turn_after workers (length parts.now) turn) × (next < workers)) }
     ensures width { OnOk result (rows.new.width ≡ rows.old.width) }
-    ensures cause { HasCause QueryError.Fault faults.old faults.new result }
+    ensures cause { HasCause ReadRefusal.Fault faults.old faults.new result }
     // On honest disks: those that fall to the worker are read whole.
     ensures found { IsTrue (list_all is_honest (shared parts.now)) → OnOk result
         (HaveSums (IsSegmentSum rows.old.width) (own workers worker turn (map segment_of (shared parts.now)))) }
@@ -303,12 +303,12 @@ pub(crate) fn add_own_active(
     mine: bool,
     rows: &mut Rows,
     first: u64,
-) -> Result<(), QueryError>
+) -> Result<(), ReadRefusal>
     ensures found { OnOk result (mine ≡ true → (sums : FinMap key_cmp Sums)
         × IsOwnSum rows.old.width prefix.now messages.now sums) }
     ensures given { (sums : FinMap key_cmp Sums) → IsOwnSum rows.old.width prefix.now messages.now sums
         → IsMade first (AllFit (added_if mine sums rows.old)) (λ _. rows.new ≡ added_if mine sums rows.old) result }
-    ensures quiet { IfErr result (λ e. e ≢ QueryError.Fault) }
+    ensures quiet { IfErr result (λ e. e ≢ ReadRefusal.Fault) }
 {
     if !mine {
         return Ok(());

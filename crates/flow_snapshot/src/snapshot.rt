@@ -25,7 +25,6 @@ ghost use Rattle.flow_snapshot.specs.Totals.{first_file, wide_table_in, IsMade, 
 ghost use Rattle.flow_model.specs.Views.{AreRestated, AreRolledInto, IsViewOf};
 
 use crate::counting::{rolled_count, sealed_count};
-use crate::error::QueryError;
 use crate::files::Files;
 use crate::interleaving::rows_of_both;
 use crate::kept::{collect_active, collect_sealed, flows_of_active, flows_of_segment, restated};
@@ -38,9 +37,13 @@ use crate::summing::{add_active, add_rolled, add_sealed};
 use flow_codec::Templates;
 use flow_disk::{Faults, SealedFile};
 use flow_measure::{Flow, Row, Rows};
+use flow_refusals::ReadRefusal;
 use flow_segment::templates_of;
 use std::alloc::Global;
 use std::marker::Model;
+
+/// Why a query is not answered. Damaged: this file isn't what its archive wrote.
+pub type QueryError = ReadRefusal;
 
 /// The files of an archive at one moment. It never changes, whatever steps follow, and is seen as the directory that it
 /// was taken of.
@@ -115,8 +118,8 @@ impl<S: SealedFile> Snapshot<S> {
     }
 
     /// The templates in force before the first kept message. It refuses as `flows` does.
-    pub fn templates(&self, alloc: Global, faults: &mut Faults<S>) -> Result<Templates, QueryError>
-        ensures cause { HasCause QueryError.Fault faults.old faults.new result }
+    pub fn templates(&self, alloc: Global, faults: &mut Faults<S>) -> Result<Templates, ReadRefusal>
+        ensures cause { HasCause ReadRefusal.Fault faults.old faults.new result }
         ensures found { IsTrue self.now.honest → IfOk result
             (λ templates. IsRestated (first_prefix self.now.shelf.sealed self.now.shelf.prefix) templates) }
         ensures given { IsTrue self.now.honest → (before : AllTemplates)
@@ -140,8 +143,8 @@ impl<S: SealedFile> Snapshot<S> {
         from: u64,
         to: u64,
         faults: &mut Faults<S>,
-    ) -> Result<Vec<Flow>, QueryError>
-        ensures cause { HasCause QueryError.Fault faults.old faults.new result }
+    ) -> Result<Vec<Flow>, ReadRefusal>
+        ensures cause { HasCause ReadRefusal.Fault faults.old faults.new result }
         // On honest disks, also where files are damaged: the flows of all kept messages, each of them accepted.
         ensures found { IsTrue self.now.honest → IfOk result (λ flows. (before : AllTemplates) × (kept : List Accepted)
             × AreKept self.now.shelf before kept × (flows.items ≡ flows_within from to (flows_in kept))) }
@@ -178,9 +181,9 @@ impl<S: SealedFile> Snapshot<S> {
         from: u64,
         to: u64,
         faults: &mut Faults<S>,
-    ) -> Result<Vec<Flow>, QueryError>
+    ) -> Result<Vec<Flow>, ReadRefusal>
         requires { at ≤ length self.now.shelf.sealed }
-        ensures cause { HasCause QueryError.Fault faults.old faults.new result }
+        ensures cause { HasCause ReadRefusal.Fault faults.old faults.new result }
         // On honest disks, also where files are damaged: its messages are accepted, and the flows are theirs.
         ensures found { IsTrue self.now.honest → (octets : List (List ℕ))
             → slice_get (kept_by_file self.now.shelf) at ≡ Some octets
@@ -208,8 +211,8 @@ impl<S: SealedFile> Snapshot<S> {
         alloc: Global,
         n: u64,
         faults: &mut Faults<S>,
-    ) -> Result<Option<Vec<u8>>, QueryError>
-        ensures cause { HasCause QueryError.Fault faults.old faults.new result }
+    ) -> Result<Option<Vec<u8>>, ReadRefusal>
+        ensures cause { HasCause ReadRefusal.Fault faults.old faults.new result }
         // On honest disks, also where files are damaged: the message that has this number, or none where none is kept.
         ensures found { IsTrue self.now.honest → IfOk result (λ message.
             IsMessageAt self.now.shelf n (octets_in message)) }
@@ -257,8 +260,8 @@ impl<S: SealedFile> Snapshot<S> {
         rows: &mut Rows,
         first: u64,
         faults: &mut Faults<S>,
-    ) -> Result<(), QueryError>
-        ensures cause { HasCause QueryError.Fault faults.old faults.new result }
+    ) -> Result<(), ReadRefusal>
+        ensures cause { HasCause ReadRefusal.Fault faults.old faults.new result }
         ensures found { IsTrue self.now.honest → OnOk result ((before : AllTemplates) × (kept : List Accepted)
             × AreKept self.now.shelf before kept × (rows.new ≡ with_flows (flows_in kept) rows.old)) }
         ensures given { IsTrue self.now.honest → (v : View) → IsViewOf self.now.shelf v
@@ -279,8 +282,8 @@ impl<S: SealedFile> Snapshot<S> {
         alloc: Global,
         first: u64,
         faults: &mut Faults<S>,
-    ) -> Result<Rows, QueryError>
-        ensures cause { HasCause QueryError.Fault faults.old faults.new result }
+    ) -> Result<Rows, ReadRefusal>
+        ensures cause { HasCause ReadRefusal.Fault faults.old faults.new result }
         // Whatever the sums over wide intervals are.
         ensures found { IsTrue self.now.honest → (sums : FinMap key_cmp Sums)
             → AreRolledInto self.now.shelf.wide self.now.shelf.merged sums
@@ -302,8 +305,8 @@ impl<S: SealedFile> Snapshot<S> {
         alloc: Global,
         first: u64,
         faults: &mut Faults<S>,
-    ) -> Result<Rows, QueryError>
-        ensures cause { HasCause QueryError.Fault faults.old faults.new result }
+    ) -> Result<Rows, ReadRefusal>
+        ensures cause { HasCause ReadRefusal.Fault faults.old faults.new result }
         ensures found { IsTrue self.now.honest → IfOk result (λ rows. (sums : FinMap key_cmp Sums)
             × AreRolledInto self.now.shelf.wide self.now.shelf.merged sums
             × (rows ≡ record { width = self.now.shelf.wide; sums = sums })) }
@@ -323,8 +326,8 @@ impl<S: SealedFile> Snapshot<S> {
         from: u64,
         to: u64,
         faults: &mut Faults<S>,
-    ) -> Result<Vec<Row>, QueryError>
-        ensures cause { HasCause QueryError.Fault faults.old faults.new result }
+    ) -> Result<Vec<Row>, ReadRefusal>
+        ensures cause { HasCause ReadRefusal.Fault faults.old faults.new result }
         ensures found { IsTrue self.now.honest → IfOk result (λ rows. (v : View) × IsReadIn self.now.shelf v
             × (rows.items ≡ totals_in_view from to v)) }
         ensures given { IsTrue self.now.honest → (v : View) → IsViewOf self.now.shelf v
@@ -351,8 +354,8 @@ impl<S: SealedFile> Snapshot<S> {
         from: u64,
         to: u64,
         faults: &mut Faults<S>,
-    ) -> Result<Vec<Row>, QueryError>
-        ensures cause { HasCause QueryError.Fault faults.old faults.new result }
+    ) -> Result<Vec<Row>, ReadRefusal>
+        ensures cause { HasCause ReadRefusal.Fault faults.old faults.new result }
         // On honest disks, also where files are damaged: the totals of all files, each of which was read whole.
         ensures found { IsTrue self.now.honest → IfOk result (λ rows. (v : View) × IsReadIn self.now.shelf v
             × (rows.items ≡ totals_in_view from to v)) }
@@ -375,9 +378,9 @@ impl<S: SealedFile> Snapshot<S> {
         worker: u32,
         first: u64,
         faults: &mut Faults<S>,
-    ) -> Result<(Rows, u32), QueryError>
+    ) -> Result<(Rows, u32), ReadRefusal>
         requires { 0 < workers }
-        ensures cause { HasCause QueryError.Fault faults.old faults.new result }
+        ensures cause { HasCause ReadRefusal.Fault faults.old faults.new result }
         ensures turn { IfOk result (λ r. (r.1 ≡ narrow_turn self.now.shelf workers) × (r.1 < workers)) }
         ensures found { IsTrue self.now.honest → OnOk result
             (HaveSums (IsFileSum self.now.shelf.wide) (own workers worker 0 self.now.shelf.merged)) }
@@ -401,9 +404,9 @@ impl<S: SealedFile> Snapshot<S> {
         turn: u32,
         first: u64,
         faults: &mut Faults<S>,
-    ) -> Result<Rows, QueryError>
+    ) -> Result<Rows, ReadRefusal>
         requires { turn < workers }
-        ensures cause { HasCause QueryError.Fault faults.old faults.new result }
+        ensures cause { HasCause ReadRefusal.Fault faults.old faults.new result }
         ensures found { IsTrue self.now.honest → OnOk result (IsNarrowRead self.now.shelf workers worker turn) }
         ensures given { IsTrue self.now.honest → (narrow : List (FinMap key_cmp Sums))
             → AreNarrow self.now.shelf narrow → IsMade first (AllFit (summed self.now.shelf.width narrow))
@@ -435,9 +438,9 @@ impl<S: SealedFile> Snapshot<S> {
         workers: u32,
         worker: u32,
         faults: &mut Faults<S>,
-    ) -> Result<PartSums, QueryError>
+    ) -> Result<PartSums, ReadRefusal>
         requires { worker < workers }
-        ensures cause { HasCause QueryError.Fault faults.old faults.new result }
+        ensures cause { HasCause ReadRefusal.Fault faults.old faults.new result }
         ensures share { IsShare self.now workers worker result }
     {
         let first = self.first_file();
@@ -453,11 +456,11 @@ impl<S: SealedFile> Snapshot<S> {
         shares: Vec<Share<S>>,
         first: u64,
         faults: &mut Faults<S>,
-    ) -> Result<PartSums, QueryError>
+    ) -> Result<PartSums, ReadRefusal>
         requires some { 0 < length shares.items }
         requires shares { AreShares self.now shares.items }
         requires first { first ≡ first_file self.now.shelf }
-        ensures cause { HasCause QueryError.Fault faults.old faults.new result }
+        ensures cause { HasCause ReadRefusal.Fault faults.old faults.new result }
         // On honest disks: all parts were read whole.
         ensures found { IsTrue self.now.honest → OnOk result ((wide : List (FinMap key_cmp Sums))
             × (narrow : List (FinMap key_cmp Sums)) × AreWide self.now.shelf wide × AreNarrow self.now.shelf narrow) }
@@ -484,11 +487,11 @@ impl<S: SealedFile> Snapshot<S> {
         mut shares: Vec<Share<S>>,
         first: u64,
         faults: &mut Faults<S>,
-    ) -> Result<PartSums, QueryError>
+    ) -> Result<PartSums, ReadRefusal>
         requires some { 0 < length shares.items }
         requires shares { AreShares self.now shares.items }
         requires first { first ≡ first_file self.now.shelf }
-        ensures cause { HasCause QueryError.Fault faults.old faults.new result }
+        ensures cause { HasCause ReadRefusal.Fault faults.old faults.new result }
         // On honest disks: all parts were read whole.
         ensures found { IsTrue self.now.honest → OnOk result ((wide : List (FinMap key_cmp Sums))
             × (narrow : List (FinMap key_cmp Sums)) × AreWide self.now.shelf wide × AreNarrow self.now.shelf narrow) }
@@ -515,10 +518,10 @@ impl<S: SealedFile> Snapshot<S> {
         to: u64,
         shares: Vec<Share<S>>,
         faults: &mut Faults<S>,
-    ) -> Result<Vec<Row>, QueryError>
+    ) -> Result<Vec<Row>, ReadRefusal>
         requires some { 0 < length shares.items }
         requires shares { AreShares self.now shares.items }
-        ensures cause { HasCause QueryError.Fault faults.old faults.new result }
+        ensures cause { HasCause ReadRefusal.Fault faults.old faults.new result }
         // On honest disks, also where files are damaged: the totals of all parts, each of which was read whole, with
         // its own prefix.
         ensures found { IsTrue self.now.honest → IfOk result (λ rows. (wide : List (FinMap key_cmp Sums))

@@ -15,42 +15,30 @@ ghost use Rattle.flow_segment.specs.Segment.{part_octets};
 ghost use Rattle.flow_snapshot.specs.Files.{is_honest, is_honest_sum, rollup_of, segment_of, shared};
 ghost use Rattle.flow_snapshot.specs.Found.{AreAccepted};
 ghost use Rattle.flow_model.specs.Shelf.{messages_in};
-ghost use Rattle.flow_snapshot.specs.Totals.{told_of_part, told_of_rows, with_maps, IsMade};
+ghost use Rattle.flow_snapshot.specs.Totals.{told_of_file, with_maps, IsMade};
 ghost use Rattle.flow_model.specs.Views.{AreRolled};
 
-use crate::error::QueryError;
 use crate::kept::hand_over;
 use bytes::Bytes;
 use flow_codec::Templates;
 use flow_disk::{Faults, SealedFile};
 use flow_measure::Rows;
-use flow_rolled::{RolledPart, RowSumError, sum_rows};
-use flow_segment::{Adding, PartSumError, SealedPart, add_flows};
+use flow_refusals::{ReadRefusal, SumRefusal};
+use flow_rolled::{RolledPart, sum_rows};
+use flow_segment::{Adding, SealedPart, add_flows};
 use std::alloc::Global;
 use std::mem::replace;
 use std::sync::Arc;
 
-/// A refusal of a rolled file's rows as that of a query.
-fn told_of_rows(error: RowSumError, first: u64) -> QueryError
-    ensures { result ≡ told_of_rows first error }
+/// A refusal of a file's sums as that of a query.
+fn told_of_file(error: SumRefusal, first: u64) -> ReadRefusal
+    ensures { result ≡ told_of_file first error }
 {
     match error {
-        RowSumError::Damaged(file, at) => QueryError::Damaged(file, at),
-        RowSumError::SumSpent => QueryError::Damaged(first, 0),
-        RowSumError::Fault => QueryError::Fault,
-        RowSumError::OutOfMemory => QueryError::OutOfMemory,
-    }
-}
-
-/// A refusal of a sealed segment's flows as that of a query.
-fn told_of_part(error: PartSumError, first: u64) -> QueryError
-    ensures { result ≡ told_of_part first error }
-{
-    match error {
-        PartSumError::Damaged(file, at) => QueryError::Damaged(file, at),
-        PartSumError::SumSpent => QueryError::Damaged(first, 0),
-        PartSumError::Fault => QueryError::Fault,
-        PartSumError::OutOfMemory => QueryError::OutOfMemory,
+        SumRefusal::Damaged(file, at) => ReadRefusal::Damaged(file, at),
+        SumRefusal::SumSpent => ReadRefusal::Damaged(first, 0),
+        SumRefusal::Fault => ReadRefusal::Fault,
+        SumRefusal::OutOfMemory => ReadRefusal::OutOfMemory,
     }
 }
 
@@ -61,9 +49,9 @@ pub(crate) fn add_file<S: SealedFile>(
     rows: &mut Rows,
     first: u64,
     faults: &mut Faults<S>,
-) -> Result<(), QueryError>
+) -> Result<(), ReadRefusal>
     ensures width { rows.new.width ≡ rows.old.width }
-    ensures cause { HasCause QueryError.Fault faults.old faults.new result }
+    ensures cause { HasCause ReadRefusal.Fault faults.old faults.new result }
     // On an honest disk: it is the rolled file of some sums.
     ensures found { IsTrue part.now.honest → OnOk result ((sums : FinMap key_cmp Sums)
         × IsRollup rows.old.width part.now.octets (record { width = rows.old.width; sums = sums })) }
@@ -76,7 +64,7 @@ pub(crate) fn add_file<S: SealedFile>(
     let width = rows.width();
     match sum_rows(alloc, faults, part, width, rows) {
         Ok(()) => Ok(()),
-        Err(error) => Err(told_of_rows(error, first)),
+        Err(error) => Err(told_of_file(error, first)),
     }
 }
 
@@ -87,8 +75,8 @@ pub(crate) fn add_rolled<S: SealedFile>(
     rows: &mut Rows,
     first: u64,
     faults: &mut Faults<S>,
-) -> Result<(), QueryError>
-    ensures cause { HasCause QueryError.Fault faults.old faults.new result }
+) -> Result<(), ReadRefusal>
+    ensures cause { HasCause ReadRefusal.Fault faults.old faults.new result }
     // On honest disks: all are rolled files.
     ensures found { IsTrue (list_all is_honest_sum (shared parts.now)) → OnOk result
         ((maps : List (FinMap key_cmp Sums)) × AreRolled rows.old.width (map rollup_of (shared parts.now)) maps) }
@@ -111,9 +99,9 @@ pub(crate) fn add_part<S: SealedFile>(
     rows: &mut Rows,
     first: u64,
     faults: &mut Faults<S>,
-) -> Result<(), QueryError>
+) -> Result<(), ReadRefusal>
     ensures width { rows.new.width ≡ rows.old.width }
-    ensures cause { HasCause QueryError.Fault faults.old faults.new result }
+    ensures cause { HasCause ReadRefusal.Fault faults.old faults.new result }
     // On an honest disk: accepted messages fill it.
     ensures found { IsTrue (S.honest part.now.reader) → OnOk result
         (HasMessages (part_octets part.now.prefix part.now.length (S.octets part.now.reader)) templates.old
@@ -136,7 +124,7 @@ pub(crate) fn add_part<S: SealedFile>(
             *rows = adding.rows;
             Ok(())
         }
-        Err(error) => Err(told_of_part(error, first)),
+        Err(refusal) => Err(told_of_file(refusal, first)),
     }
 }
 
@@ -148,8 +136,8 @@ pub(crate) fn add_sealed<S: SealedFile>(
     rows: &mut Rows,
     first: u64,
     faults: &mut Faults<S>,
-) -> Result<(), QueryError>
-    ensures cause { HasCause QueryError.Fault faults.old faults.new result }
+) -> Result<(), ReadRefusal>
+    ensures cause { HasCause ReadRefusal.Fault faults.old faults.new result }
     // On honest disks: all messages are accepted after the templates given.
     ensures found { IsTrue (list_all is_honest (shared parts.now)) → OnOk result
         (AreAccepted templates.old (messages_in (map segment_of (shared parts.now)))) }
@@ -176,13 +164,13 @@ pub(crate) fn add_active(
     templates: &mut Templates,
     rows: &mut Rows,
     first: u64,
-) -> Result<(), QueryError>
+) -> Result<(), ReadRefusal>
     ensures found { OnOk result (AreAccepted templates.old messages.now) }
     ensures given { (list : List Accepted) → AreAcceptedFrom templates.old list → octets_of list ≡ messages.now
         → IsMade first (AllFit (with_flows (flows_in list) rows.old))
         (λ _. (templates.new ≡ templates_from templates.old list)
         × (rows.new ≡ with_flows (flows_in list) rows.old)) result }
-    ensures quiet { IfErr result (λ e. e ≢ QueryError.Fault) }
+    ensures quiet { IfErr result (λ e. e ≢ ReadRefusal.Fault) }
 {
     let none = Rows::new(alloc, rows.width());
     let mut adding = Adding {
@@ -193,7 +181,7 @@ pub(crate) fn add_active(
         hand_over(alloc, templates, message.as_slice(), &mut adding)?;
     }
     if adding.spent {
-        return Err(QueryError::Damaged(first, 0));
+        return Err(ReadRefusal::Damaged(first, 0));
     }
     *rows = adding.rows;
     Ok(())

@@ -1,6 +1,7 @@
 use Rattle.std.proofs.Common.{refl, arith}
 use Rattle.flow_rolled.specs.Stored.{export_time}
-use Rattle.flow_archive.specs.Sources.{of_disk, of_rows}
+use Rattle.flow_disk.specs.Printed.{read_refusal}
+use Rattle.flow_refusals.specs.Printed.{sum_of_read}
 use Rattle.flow_measure.specs.Sums.{empty_table}
 use Rattle.flow_archive.proofs.SourceSums.{err_is, file_not_summed, file_refused, file_summed, file_sums, file_unread}
 use Rattle.flow_archive.proofs.SourceSums.{not_read}
@@ -9,7 +10,7 @@ use Rattle.flow_archive.proofs.sources.sum_file.Goals as goal
 pub returns-in_err-time-clause-given : goal.returns-in_err-time-clause-given
 returns-in_err-time-clause-given g c = λ honest table is.
     not_read _ _ c.in_err-time.field-0.0 c.from_residual.result
-    (err_is c.from_residual.result (of_disk c.in_err-time.field-0.0) c.from_residual.ensures.1)
+    (err_is c.from_residual.result (sum_of_read (read_refusal c.in_err-time.field-0.0)) c.from_residual.ensures.1)
 
 pub returns-in_err-sum_rows-clause-given : goal.returns-in_err-sum_rows-clause-given
 returns-in_err-sum_rows-clause-given g c = λ honest table is.
@@ -17,7 +18,7 @@ returns-in_err-sum_rows-clause-given g c = λ honest table is.
     c.new-rows.result
     c.new-rows.ensures (export_time c.args.part.now.octets) c.args.part.now c.in_err-sum_rows.field-0.0
     c.from_residual-in_err-sum_rows.result refl (c.in_err-sum_rows.ensures.refused honest)
-    (err_is c.from_residual-in_err-sum_rows.result (of_rows c.in_err-sum_rows.field-0.0)
+    (err_is c.from_residual-in_err-sum_rows.result c.in_err-sum_rows.field-0.0
     c.from_residual-in_err-sum_rows.ensures.1)
 
 pub returns-clause-given : goal.returns-clause-given
@@ -33,14 +34,14 @@ pub returns-in_err-time-clause-found : goal.returns-in_err-time-clause-found
 returns-in_err-time-clause-found g c = λ honest.
     file_unread c.args.width c.args.wide c.args.part.now.octets (empty_table c.args.wide) refl _
     c.in_err-time.field-0.0 c.from_residual.result
-    (err_is c.from_residual.result (of_disk c.in_err-time.field-0.0) c.from_residual.ensures.1)
+    (err_is c.from_residual.result (sum_of_read (read_refusal c.in_err-time.field-0.0)) c.from_residual.ensures.1)
 
 pub returns-in_err-sum_rows-clause-found : goal.returns-in_err-sum_rows-clause-found
 returns-in_err-sum_rows-clause-found g c = λ honest.
     file_not_summed c.args.width c.args.wide c.args.part.now.octets c.new-rows.result c.new-rows.ensures _
     c.args.part.now c.in_err-sum_rows.field-0.0 c.from_residual-in_err-sum_rows.result refl
     (c.in_err-sum_rows.ensures.refused honest)
-    (err_is c.from_residual-in_err-sum_rows.result (of_rows c.in_err-sum_rows.field-0.0)
+    (err_is c.from_residual-in_err-sum_rows.result c.in_err-sum_rows.field-0.0
     c.from_residual-in_err-sum_rows.ensures.1)
 
 pub returns-clause-found : goal.returns-clause-found

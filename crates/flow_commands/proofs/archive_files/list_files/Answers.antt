@@ -1,8 +1,8 @@
 use Rattle.std.proofs.Common.{◌≢◌, refl}
 use Rattle.flow_archive.proofs.SourceSums.{passed_on as fault_passed_on}
 use Rattle.flow_disk.proofs.Results.{passed_on}
-use Rattle.flow_recover.specs.declared.error.RecoverError.TheVariants as opening
-use Rattle.flow_snapshot.specs.declared.error.QueryError.TheVariants as query
+use Rattle.flow_manifest.specs.declared.error.OpenError.TheVariants as opening
+use Rattle.flow_refusals.specs.declared.read_refusal.ReadRefusal.TheVariants as query
 use Rattle.flow_commands.specs.declared.archive_refusal.ArchiveRefusal.TheVariants as refusal
 use Rattle.flow_commands.specs.ArchiveFiles.{AreListings, ListsNoFiles}
 use Rattle.flow_commands.specs.Archives.{of_query}

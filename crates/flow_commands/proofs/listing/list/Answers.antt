@@ -1,8 +1,8 @@
 use Rattle.std.proofs.Common.{◌≢◌, [], inl, refl}
 use Rattle.std.proofs.KnownBytes.{Keeps-refl}
 use Rattle.flow_disk.proofs.Results.{passed_on}
-use Rattle.flow_recover.specs.declared.error.RecoverError.TheVariants as opening
-use Rattle.flow_snapshot.specs.declared.error.QueryError.TheVariants as query
+use Rattle.flow_manifest.specs.declared.error.OpenError.TheVariants as opening
+use Rattle.flow_refusals.specs.declared.read_refusal.ReadRefusal.TheVariants as query
 use Rattle.flow_report.specs.ArchiveLines.{flows_text}
 use Rattle.flow_commands.specs.declared.archive_refusal.ArchiveRefusal.TheVariants as refusal
 use Rattle.flow_commands.specs.Asking.{flows_lines, Always, AreFlows, TellsUpTo, WritesUpTo}

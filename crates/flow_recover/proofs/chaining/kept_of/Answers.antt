@@ -1,6 +1,6 @@
 use Rattle.std.proofs.Common.{◌≡◌}
 use Rattle.flow_disk.proofs.Results.{passed_on}
-use Rattle.flow_recover.specs.declared.error.RecoverError.TheVariants.{OutOfMemory}
+use Rattle.flow_manifest.specs.declared.error.OpenError.TheVariants.{OutOfMemory}
 use Rattle.flow_recover.proofs.Behind.{is_called, rolled_kept, rolled_there, sealed_kept, sealed_there, wide_kept}
 use Rattle.flow_recover.proofs.Behind.{wide_there}
 use Rattle.flow_recover.proofs.chaining.kept_of.Goals as goal

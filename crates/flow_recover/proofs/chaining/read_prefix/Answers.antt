@@ -2,7 +2,7 @@ use Rattle.std.proofs.Common.{◌≡◌, [], sym, subst, ◌∙◌, rules}
 use Rattle.flow_disk.proofs.Results.{passed_on}
 use Rattle.flow_segment.specs.Carry.{Carry}
 use Rattle.flow_segment.specs.Prefix.{AreRead}
-use Rattle.flow_recover.specs.declared.error.RecoverError.TheVariants.{OutOfMemory}
+use Rattle.flow_manifest.specs.declared.error.OpenError.TheVariants.{OutOfMemory}
 use Rattle.flow_recover.proofs.Accepting.{restated_all}
 use Rattle.flow_recover.proofs.Behind.{called_some}
 use Rattle.flow_recover.proofs.chaining.read_prefix.Goals as goal

@@ -1,6 +1,6 @@
 use Rattle.std.proofs.Common.{◌≡◌, ◌≢◌}
 use Rattle.flow_disk.proofs.Results.{passed_on}
-use Rattle.flow_recover.specs.declared.error.RecoverError.TheVariants.{Fault, OutOfMemory}
+use Rattle.flow_manifest.specs.declared.error.OpenError.TheVariants.{Fault, OutOfMemory}
 use Rattle.flow_recover.proofs.chaining.read_segment.Goals as goal
 
 pub returns-clause-found : goal.returns-clause-found

@@ -7,7 +7,7 @@ use Rattle.flow_measure.specs.History.{AreAcceptedFrom}
 use Rattle.flow_segment.specs.Prefix.{AreRead}
 use Rattle.flow_recover.specs.Reading.{part_of}
 use Rattle.flow_recover.specs.Reading.{IsCalled, IsRestatement}
-use Rattle.flow_recover.specs.declared.error.RecoverError.TheVariants.{OutOfMemory}
+use Rattle.flow_manifest.specs.declared.error.OpenError.TheVariants.{OutOfMemory}
 use Rattle.flow_recover.proofs.Behind.{restated_templates, segment_read}
 use Rattle.flow_recover.proofs.chaining.take_active.Goals as goal
 

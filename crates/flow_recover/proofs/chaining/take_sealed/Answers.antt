@@ -5,7 +5,7 @@ use Rattle.flow_segment.specs.Carry.{octets_of}
 use Rattle.flow_segment.specs.Prefix.{AreRead}
 use Rattle.flow_model.specs.State.{Part}
 use Rattle.flow_recover.specs.Reading.{IsCalled}
-use Rattle.flow_recover.specs.declared.error.RecoverError.TheVariants.{OutOfMemory}
+use Rattle.flow_manifest.specs.declared.error.OpenError.TheVariants.{OutOfMemory}
 use Rattle.flow_recover.proofs.Accepting.{any_messages}
 use Rattle.flow_recover.proofs.Behind.{sealed_at, sealed_behind, sealed_count, segment_read}
 use Rattle.flow_recover.proofs.chaining.take_sealed.Goals as goal

@@ -9,8 +9,8 @@ use Rattle.flow_manifest.specs.Following.{no_entry}
 use Rattle.flow_manifest.proofs.EntryLists.{all_by}
 use Rattle.flow_model.specs.State.{at_rest}
 use Rattle.flow_recover.specs.Reading.{part_of}
-use Rattle.flow_recover.specs.declared.error.RecoverError.{RecoverError}
-use Rattle.flow_recover.specs.declared.error.RecoverError.TheVariants.{Fault}
+use Rattle.flow_manifest.specs.declared.error.OpenError.{OpenError}
+use Rattle.flow_manifest.specs.declared.error.OpenError.TheVariants.{Fault}
 use Rattle.flow_recover.specs.Opening.{IsDeviceOrMemory, StandsForNone}
 use Rattle.flow_model.proofs.Stand.{slot_below}
 use Rattle.flow_recover.proofs.Recovering.{agreed, files_along, told_of_files}
@@ -123,7 +123,7 @@ returns-clause-read g c h =
 pub returns-in_err-slots-clause-kept : goal.returns-in_err-slots-clause-kept
 returns-in_err-slots-clause-kept g c h =
     let D = g.D.Disk in
-    passed_on c.from_residual.result (c.in_err-slots.field-0).0 (λ (e : RecoverError). e ≢ Fault
+    passed_on c.from_residual.result (c.in_err-slots.field-0).0 (λ (e : OpenError). e ≢ Fault
     → (n : ℕ) → (D.held c.settle_all.new.disk n).reads ≡ (D.held c.args.disk.now n).reads) c.from_residual.ensures.1
     (c.in_err-slots.ensures.kept h)
 
@@ -131,7 +131,7 @@ pub returns-in_err-files-clause-kept : goal.returns-in_err-files-clause-kept
 returns-in_err-files-clause-kept g c h =
     let D = g.D.Disk in
     let h1 = subst IsTrue (sym c.settle_all.ensures.honest) h in
-    passed_on c.from_residual-in_err-files.result (c.in_err-files.field-0).0 (λ (e : RecoverError). e ≢ Fault
+    passed_on c.from_residual-in_err-files.result (c.in_err-files.field-0).0 (λ (e : OpenError). e ≢ Fault
     → (n : ℕ) → (D.held c.read_files.new.disk n).reads ≡ (D.held c.args.disk.now n).reads)
     c.from_residual-in_err-files.ensures.1
     (λ other n. ap (λ (f : Held). f.reads) (c.read_files.ensures.held h1 n) ∙ c.in_ok-slots.ensures.reads h n)

@@ -13,30 +13,30 @@ use Rattle.flow_manifest.specs.Slots.{file_of, reads_of}
 use Rattle.flow_model.specs.State.{Part, at_rest}
 use Rattle.flow_recover.specs.Reading.{part_of}
 use Rattle.flow_model.specs.Standing.{IsKnown, StandsForEither}
-use Rattle.flow_recover.specs.declared.error.RecoverError.{RecoverError}
-use Rattle.flow_recover.specs.declared.error.RecoverError.TheVariants.{Fault}
+use Rattle.flow_manifest.specs.declared.error.OpenError.{OpenError}
+use Rattle.flow_manifest.specs.declared.error.OpenError.TheVariants.{Fault}
 use Rattle.flow_recover.specs.Kept.{AreFilesOf}
 use Rattle.flow_recover.specs.Opening.{IsDeviceOrMemory, IsRead, StandsForNone, shut_at}
 use Rattle.flow_recover.proofs.Recovering.{chosen, either_known, known_either}
 use Rattle.flow_recover.proofs.opening.recover.Goals as goal
 
 -- a refusal that is passed on, after a call that did not fail
-told_on : {T U : Type 0} (old mid now : ℕ) (e : RecoverError) (result : Result U RecoverError) → mid ≡ old
+told_on : {T U : Type 0} (old mid now : ℕ) (e : OpenError) (result : Result U OpenError) → mid ≡ old
     → HasCause {T = T} Fault mid now (Err e) → IsErrAnd result (λ x. x ≡ e) → HasCause Fault old now result
 told_on old mid now e (Ok x) same cause is = absurd is
 told_on {T} {U} old mid now e (Err x) same cause is =
-    subst (λ (y : RecoverError). HasCause {T = U} Fault old now (Err y)) (sym is) (record {
+    subst (λ (y : OpenError). HasCause {T = U} Fault old now (Err y)) (sym is) (record {
       later = omega (arith, cause.later, same);
       done = tt;
       risen = λ f.
           let fault : e ≡ Fault = cc in
-          let there : ◌≡◌ {A = Result T RecoverError} (Err e) (Err Fault) = cc in
+          let there : ◌≡◌ {A = Result T OpenError} (Err e) (Err Fault) = cc in
           subst (λ (n : ℕ). HasRisen n now) same (cause.risen there);
       other = λ differs. cause.other differs ∙ same;
     })
 
 -- a fault that is passed on is answered
-answered : {U : Type 0} (e : RecoverError) (result : Result U RecoverError) → IsErrAnd result (λ x. x ≡ e) → e ≡ Fault
+answered : {U : Type 0} (e : OpenError) (result : Result U OpenError) → IsErrAnd result (λ x. x ≡ e) → e ≡ Fault
     → IsErrOf result Fault
 answered e (Ok x) is fault = absurd is
 answered e (Err x) is fault = ap Err (is ∙ fault)

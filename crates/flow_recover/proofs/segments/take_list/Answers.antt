@@ -1,7 +1,7 @@
 use Rattle.std.proofs.Common.{◌≡◌, ℕ, suc, ◌+◌, List, [], ◌∷◌, ◌++◌, take, drop, sym, ◌∙◌, ap, subst, arith}
 use Rattle.flow_disk.proofs.Results.{passed_on}
 use Rattle.flow_gate.specs.Scan.{texts}
-use Rattle.flow_recover.specs.declared.error.RecoverError.TheVariants.{OutOfMemory}
+use Rattle.flow_manifest.specs.declared.error.OpenError.TheVariants.{OutOfMemory}
 use Rattle.flow_recover.proofs.Accepting.{next_taken, taken_more, texts_at, texts_more, AreTakenIn}
 use Rattle.flow_recover.proofs.segments.take_list.Goals as goal
 

@@ -6,7 +6,7 @@ use Rattle.flow_disk.proofs.Results.{passed_on}
 use Rattle.flow_measure.specs.History.{Accepted}
 use Rattle.flow_segment.specs.Carry.{carry_with}
 use Rattle.flow_recover.specs.Reading.{IsOf}
-use Rattle.flow_recover.specs.declared.error.RecoverError.TheVariants.{OutOfMemory}
+use Rattle.flow_manifest.specs.declared.error.OpenError.TheVariants.{OutOfMemory}
 use Rattle.flow_recover.proofs.Accepting.{octets_fault, octets_more, octets_refused}
 use Rattle.flow_recover.proofs.segments.take_octets.Goals as goal
 

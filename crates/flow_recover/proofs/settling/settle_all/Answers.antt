@@ -10,11 +10,10 @@ use Rattle.flow_manifest.specs.Slots.{file_of, other, reads_of}
 use Rattle.flow_disk.proofs.Results.{passed_on}
 use Rattle.flow_disk.specs.declared.error.DiskError.{DiskError}
 use Rattle.flow_disk.specs.declared.error.DiskError.TheVariants as disk
-use Rattle.flow_recover.specs.declared.error.RecoverError.{RecoverError}
-use Rattle.flow_recover.specs.declared.error.RecoverError.TheVariants.{Fault}
-use Rattle.flow_recover.specs.Opening.{IsDeviceOrMemory, StandsForNone, of_disk, of_slots}
 use Rattle.flow_manifest.specs.declared.error.OpenError.{OpenError}
-use Rattle.flow_manifest.specs.Opening.{IsOpenFault}
+use Rattle.flow_manifest.specs.declared.error.OpenError.TheVariants.{Fault}
+use Rattle.flow_recover.specs.Opening.{IsDeviceOrMemory, StandsForNone}
+use Rattle.flow_manifest.specs.Opening.{told, IsOpenFault}
 use Rattle.flow_manifest.proofs.OneInForce.{never_in_force}
 use Rattle.flow_manifest.proofs.Swaps.{same_slots}
 use Rattle.flow_manifest.specs.declared.error.OpenError.TheVariants as slot
@@ -23,10 +22,10 @@ use Rattle.flow_recover.proofs.settling.settle_all.Goals as goal
 
 -- a refusal of the slots
 slots_told : (reads : ℕ → List ℕ) (e : OpenError) → (e ≡ slot.OutOfMemory) ⊎ (e ≡ slot.Fault) ⊎ IsOpenFault reads e
-    → IsDeviceOrMemory (of_slots e) ⊎ StandsForNone reads
-slots_told reads e told = ⊎_elim (λ memory. inl (inr (ap of_slots memory))) (λ o. ⊎_elim (λ device. inl (inl
-    (ap of_slots device)))
-    (λ fault. inr (λ s stands. never_in_force reads s.manifest e stands.force fault)) o) told
+    → IsDeviceOrMemory e ⊎ StandsForNone reads
+slots_told reads e why = ⊎_elim (λ memory. inl (inr memory)) (λ o. ⊎_elim (λ device. inl (inl
+    device))
+    (λ fault. inr (λ s stands. never_in_force reads s.manifest e stands.force fault)) o) why
 
 pub returns-in_err-slots-clause-any_moment : goal.returns-in_err-slots-clause-any_moment
 returns-in_err-slots-clause-any_moment g c h =
@@ -49,7 +48,7 @@ returns-in_err-slots-clause-told g c h =
     let d1 = c.settle_slots.new.disk in
     let h1 = subst IsTrue (sym c.settle_slots.ensures.honest) h in
     let same = c.in_ok-settle_slots.ensures.reads h in
-    passed_on c.from_residual-in_err-slots.result (of_slots (c.in_err-slots.field-0).0) (λ e. IsDeviceOrMemory e
+    passed_on c.from_residual-in_err-slots.result (c.in_err-slots.field-0).0 (λ e. IsDeviceOrMemory e
     ⊎ StandsForNone (reads_of (D.held d0))) c.from_residual-in_err-slots.ensures.1
     (⊎_elim (λ memory. inl memory) (λ none. inr (λ s stands. none s (same_reads s (reads_of (D.held d0)) (reads_of
     (D.held d1)) same stands)))
@@ -124,14 +123,14 @@ returns-clause-found g c h =
     (read slots.current_slot) (read (other slots.current_slot))
 
 -- a call that takes no memory is refused for a fault alone
-is_fault : {T : Type 0} (e : DiskError) → (IsErrOf {T = T} (Err e) disk.OutOfMemory → ⊥) → of_disk e ≡ Fault
+is_fault : {T : Type 0} (e : DiskError) → (IsErrOf {T = T} (Err e) disk.OutOfMemory → ⊥) → told e ≡ Fault
 is_fault disk.Fault memory = refl
 is_fault disk.OutOfMemory memory = absurd (memory refl)
 
 pub returns-in_err-settle_slots-clause-kept : goal.returns-in_err-settle_slots-clause-kept
 returns-in_err-settle_slots-clause-kept g c h =
     let D = g.D.Disk in
-    passed_on c.from_residual.result (of_disk (c.in_err-settle_slots.field-0).0) (λ (e : RecoverError). e ≢ Fault
+    passed_on c.from_residual.result (told (c.in_err-settle_slots.field-0).0) (λ (e : OpenError). e ≢ Fault
     → (n : ℕ) → (D.held c.settle_slots.new.disk n).reads ≡ (D.held c.args.disk.now n).reads) c.from_residual.ensures.1
     (λ other. absurd (other (is_fault (c.in_err-settle_slots.field-0).0 c.in_err-settle_slots.ensures.cause.memory)))
 
@@ -139,7 +138,7 @@ pub returns-in_err-slots-clause-kept : goal.returns-in_err-slots-clause-kept
 returns-in_err-slots-clause-kept g c h =
     let D = g.D.Disk in
     let h1 = subst IsTrue (sym c.settle_slots.ensures.honest) h in
-    passed_on c.from_residual-in_err-slots.result (of_slots (c.in_err-slots.field-0).0) (λ (e : RecoverError). e ≢ Fault
+    passed_on c.from_residual-in_err-slots.result (c.in_err-slots.field-0).0 (λ (e : OpenError). e ≢ Fault
     → (n : ℕ) → (D.held c.read_slots.new.disk n).reads ≡ (D.held c.args.disk.now n).reads)
     c.from_residual-in_err-slots.ensures.1
     (λ other n. ap (λ (f : Held). f.reads) (c.read_slots.ensures.held h1 n)
@@ -148,8 +147,8 @@ returns-in_err-slots-clause-kept g c h =
 pub returns-in_err-settle_entries-clause-kept : goal.returns-in_err-settle_entries-clause-kept
 returns-in_err-settle_entries-clause-kept g c h =
     let D = g.D.Disk in
-    passed_on c.from_residual-in_err-settle_entries.result (of_disk (c.in_err-settle_entries.field-0).0) (λ
-    (e : RecoverError). e ≢ Fault → (n : ℕ) → (D.held c.settle_entries.new.disk n).reads ≡ (D.held c.args.disk.now
+    passed_on c.from_residual-in_err-settle_entries.result (told (c.in_err-settle_entries.field-0).0) (λ
+    (e : OpenError). e ≢ Fault → (n : ℕ) → (D.held c.settle_entries.new.disk n).reads ≡ (D.held c.args.disk.now
     n).reads) c.from_residual-in_err-settle_entries.ensures.1
     (λ other. absurd (other (is_fault (c.in_err-settle_entries.field-0).0
     c.in_err-settle_entries.ensures.cause.memory)))

@@ -3,7 +3,8 @@ use Rattle.std.specs.Prelude.{IsTrue}
 use Rattle.flow_measure.specs.Sums.{Table, IsRefused}
 use Rattle.flow_rolled.specs.declared.row.RolledRow.{RolledRow}
 use Rattle.flow_rolled.specs.Parts.{last_from}
-use Rattle.flow_rolled.specs.Printed.{told_of_rows, told_of_sums}
+use Rattle.flow_measure.specs.Printed.{sum_refusal}
+use Rattle.flow_refusals.specs.Printed.{sum_of_read}
 use Rattle.flow_rolled.specs.Stored.{Rollup, Reader, HasGiven, IsAdded, IsNotAdded, IsSpentBy, AreCounted, with_rows}
 use Rattle.flow_rolled.proofs.Counted.{given_in_order, added, not_added, not_spent, spent_by, err_as}
 use Rattle.flow_rolled.proofs.Widened.{HasKey, counted, rows_none, rows_both, key_after, last_behind}
@@ -48,16 +49,16 @@ returns-in_err-add_widened-clause-refused g c = λ honest.
     let e = c.in_err-add_widened.field-0.0 in
     let spent = subst (λ (l : List RolledRow). IsRefused e (with_rows l c.loop-reader.rows)) c.deref.ensures.value
     c.in_err-add_widened.ensures.0 in
-    err_as c.from_residual-in_err-add_widened.result (told_of_sums e)
+    err_as c.from_residual-in_err-add_widened.result (sum_refusal e)
     (IsNotAdded c.args.part.now c.args.width c.args.rows.now) c.from_residual-in_err-add_widened.ensures.1
-    (subst (λ (p : Rollup). IsNotAdded p c.args.width c.args.rows.now (told_of_sums e)) part
-    (subst (λ w. IsNotAdded next.part w c.args.rows.now (told_of_sums e)) width
+    (subst (λ (p : Rollup). IsNotAdded p c.args.width c.args.rows.now (sum_refusal e)) part
+    (subst (λ w. IsNotAdded next.part w c.args.rows.now (sum_refusal e)) width
     (not_added next given list c.args.rows.now c.loop-reader.rows e wide so h.rows spent)))
 
 pub returns-in_err-list-clause-spent : goal.returns-in_err-list-clause-spent
 returns-in_err-list-clause-spent g c = λ honest.
     let e = c.in_err-list.field-0.0 in
-    err_as c.from_residual.result (told_of_rows e) (IsSpentBy c.args.part.now c.args.width c.args.rows.now)
+    err_as c.from_residual.result (sum_of_read e) (IsSpentBy c.args.part.now c.args.width c.args.rows.now)
     c.from_residual.ensures.1 (not_spent c.args.part.now c.args.width c.args.rows.now e)
 
 pub returns-in_err-add_widened-clause-spent : goal.returns-in_err-add_widened-clause-spent
@@ -73,10 +74,10 @@ returns-in_err-add_widened-clause-spent g c = λ honest.
     let e = c.in_err-add_widened.field-0.0 in
     let spent = subst (λ (l : List RolledRow). IsRefused e (with_rows l c.loop-reader.rows)) c.deref.ensures.value
     c.in_err-add_widened.ensures.0 in
-    err_as c.from_residual-in_err-add_widened.result (told_of_sums e)
+    err_as c.from_residual-in_err-add_widened.result (sum_refusal e)
     (IsSpentBy c.args.part.now c.args.width c.args.rows.now) c.from_residual-in_err-add_widened.ensures.1
-    (subst (λ (p : Rollup). IsSpentBy p c.args.width c.args.rows.now (told_of_sums e)) part
-    (subst (λ w. IsSpentBy next.part w c.args.rows.now (told_of_sums e)) width
+    (subst (λ (p : Rollup). IsSpentBy p c.args.width c.args.rows.now (sum_refusal e)) part
+    (subst (λ w. IsSpentBy next.part w c.args.rows.now (sum_refusal e)) width
     (spent_by next given list c.args.rows.now c.loop-reader.rows e so h.rows spent)))
 
 pub loop-reader-preserved : goal.loop-reader-preserved

@@ -1,5 +1,5 @@
 use Rattle.std.proofs.Common.{◌≡◌, ℕ, ◌+◌, subst, sym, ◌∙◌, ◌++◌}
-use Rattle.flow_gate.specs.declared.tail.ScanError.{ScanError}
+use Rattle.flow_refusals.specs.declared.read_refusal.ReadRefusal.{ReadRefusal}
 use Rattle.flow_codec.specs.Raw.{under, Took}
 use Rattle.flow_segment.specs.PartFlows.{IsDamage}
 use Rattle.flow_segment.specs.Segment.{part_octets}
@@ -16,7 +16,7 @@ returns-in_err-hand_over-clause-told g c = λ h.
     let holds = g.R.RecordSink.holds in
     let part = c.args.part.now in
     let file = part.reader in
-    err_of {X = ℕ} {E = ScanError} c.from_residual-in_err-hand_over.result c.in_err-hand_over.field-0.0
+    err_of {X = ℕ} {E = ReadRefusal} c.from_residual-in_err-hand_over.result c.in_err-hand_over.field-0.0
     (λ e. IsDamage (part_octets part.prefix part.length (S.octets file)) c.args.templates.now (S.number file)
     part.prefix part.length part.messages e)
     c.from_residual-in_err-hand_over.ensures.1
@@ -24,9 +24,9 @@ returns-in_err-hand_over-clause-told g c = λ h.
     (λ time m. Took holds m.header c.messages.sink m.records c.hand_over.new.sink × (time ≡ m.header.time))
     (S.honest file) (S.octets file) part.prefix part.length (S.number file) c.file-file.result c.place-at.result
     part.messages c.in_ok-advance.field-0 c.args.templates.now c.messages.templates c.hand_over.new.templates
-    c.messages.cursor c.advance.new.cursor c.message.result.now c.in_err-hand_over.field-0.0
+    c.messages.window c.advance.new.window c.held.result.now c.in_err-hand_over.field-0.0
     c.if-not-branch.false c.messages.invariant.0 c.in_ok-advance.ensures.moves c.in_ok-advance.ensures.step
-    c.message.ensures c.file-file.ensures c.place-at.ensures c.in_err-hand_over.ensures.walked h)
+    c.held.ensures c.file-file.ensures c.place-at.ensures.place c.in_err-hand_over.ensures.walked h)
 
 pub messages-preserved : goal.messages-preserved
 messages-preserved g c =
@@ -37,25 +37,25 @@ messages-preserved g c =
     let x = c.in_ok-hand_over.ensures.walked in
     let some = c.messages.invariant.5 in (
       subst (λ (t : ℕ). PartSoFar (HasTaken holds c.args.sink.now c.hand_over.new.sink (c.messages.count + 1) t)
-          (S.honest file) (S.octets file) part.prefix part.length c.args.templates.now c.hand_over.new.templates c.advance.new.cursor)
+          (S.honest file) (S.octets file) part.prefix part.length c.args.templates.now c.hand_over.new.templates c.advance.new.window)
           (max_is c.messages.time c.in_ok-hand_over.field-0 ∙ sym c.max-time.ensures) (part_more holds c.args.sink.now c.messages.sink c.hand_over.new.sink (S.honest file) (S.octets file) part.prefix
           part.length (S.number file) c.file-file.result c.place-at.result c.messages.count c.messages.time c.in_ok-hand_over.field-0
           c.in_ok-advance.field-0
-          c.args.templates.now c.messages.templates c.hand_over.new.templates c.messages.cursor c.advance.new.cursor
-          c.message.result.now c.if-not-branch.false c.messages.invariant.0 c.in_ok-advance.ensures.moves
-          c.in_ok-advance.ensures.step c.message.ensures x),
+          c.args.templates.now c.messages.templates c.hand_over.new.templates c.messages.window c.advance.new.window
+          c.held.result.now c.if-not-branch.false c.messages.invariant.0 c.in_ok-advance.ensures.moves
+          c.in_ok-advance.ensures.step c.held.ensures x),
       c.in_ok-advance.ensures.end ∙ c.messages.invariant.1,
-      moves_within c.messages.cursor c.advance.new.cursor c.in_ok-advance.field-0 c.if-not-branch.false
+      moves_within c.messages.window c.advance.new.window c.in_ok-advance.field-0 c.if-not-branch.false
           c.in_ok-advance.ensures.moves,
       c.in_ok-advance.ensures.cause.done ∙ c.messages.invariant.3,
-      count_within c.messages.cursor c.advance.new.cursor c.messages.count c.in_ok-advance.field-0
+      count_within c.messages.window c.advance.new.window c.messages.count c.in_ok-advance.field-0
           c.if-not-branch.false c.in_ok-advance.ensures.moves c.messages.invariant.4,
       (
         some.0 ++ under (x.0).header (x.0).records,
         took_then holds c.args.sink.now c.messages.sink c.hand_over.new.sink some.0 (under (x.0).header (x.0).records)
             some.1 x.2.0,
       ),
-      behind_more c.args.templates.now c.messages.templates c.hand_over.new.templates c.message.result.now x.0
+      behind_more c.args.templates.now c.messages.templates c.hand_over.new.templates c.held.result.now x.0
           c.messages.invariant.6 x.1,
       c.in_ok-hand_over.ensures.same ∙ c.messages.invariant.7,
     )
@@ -73,5 +73,5 @@ returns-then-not-branch-clause-time g c = λ h messages are.
     let file = part.reader in
     time_found holds c.args.sink.now c.messages.sink c.in_ok-advance.field-0 (S.honest file) (S.octets file) part.prefix
     part.length (S.number file) c.messages.count c.messages.time part.messages c.args.templates.now c.messages.templates
-    c.messages.cursor c.advance.new.cursor c.if-not-branch.true c.messages.invariant.0 c.in_ok-advance.ensures.step h
+    c.messages.window c.advance.new.window c.if-not-branch.true c.messages.invariant.0 c.in_ok-advance.ensures.step h
     messages are

@@ -3,7 +3,8 @@ use Rattle.std.proofs.lemmas.List.{take_all}
 use Rattle.flow_snapshot.specs.Files.{segment_of, shared}
 use Rattle.flow_model.specs.Shelf.{messages_in}
 use Rattle.flow_snapshot.proofs.Asking.{sealed_more}
-use Rattle.flow_snapshot.proofs.Places.{found_err, is_own_honest, own_fill, own_place, passed_by}
+use Rattle.flow_snapshot.proofs.KeptFlows.{answered_err}
+use Rattle.flow_snapshot.proofs.Places.{is_own_honest, own_fill, own_place, passed_by}
 use Rattle.flow_snapshot.proofs.Standing.{stands_in}
 use Rattle.flow_snapshot.proofs.numbered.sealed_message.Goals as goal
 
@@ -17,7 +18,7 @@ returns-in_err-message_behind-clause-given g c = λ honest each.
     let own : c.loop-part.left < part.messages = subst (λ p. c.loop-part.left < p.messages)
     (c.deref.ensures ∙ sym same) c.if-left-deref.true in
     let fill = own_fill parts i item part c.loop-part-test.true c.part-item.is same each (omega (arith, own)) in
-    found_err _ c.from_residual.result c.in_err-message_behind.field-0.0 c.from_residual.ensures.1
+    answered_err _ c.from_residual.result c.in_err-message_behind.field-0.0 c.from_residual.ensures.1
     (c.in_err-message_behind.ensures.given
     (is_own_honest parts i item part c.loop-part-test.true c.part-item.is same honest) _ fill own)
 

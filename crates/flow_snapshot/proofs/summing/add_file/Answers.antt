@@ -23,5 +23,5 @@ returns-in-Err-clause-given g c = λ honest sums is.
     let small : old.width < 2 ^ 32 = omega (arith, c.width-width.ensures.width) in
     let refused = rw c.width-width.ensures.width at c.in-Err.ensures.refused in
     subst (IsSpent c.args.first (AllFit (merged old (record { width = old.width; sums = sums }))))
-    (sym c.told_of_rows.ensures) (file_not_added old.width small c.args.part.now.octets sums is old refl c.args.first
+    (sym c.told_of_file.ensures) (file_not_added old.width small c.args.part.now.octets sums is old refl c.args.first
     c.args.part.now c.in-Err.error refl (refused honest))

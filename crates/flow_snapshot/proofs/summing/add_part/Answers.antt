@@ -8,6 +8,7 @@ use Rattle.flow_snapshot.proofs.summing.add_part.Goals as goal
 
 pub returns-in-Err-clause-given : goal.returns-in-Err-clause-given
 returns-in-Err-clause-given g c = λ h messages are.
-    subst (IsSpent c.args.first (AllFit (with_flows (flows_in messages) c.args.rows.now))) (sym c.told_of_part.ensures)
+    subst (IsSpent c.args.first (AllFit (with_flows (flows_in messages) c.args.rows.now))) (sym c.told_of_file.ensures)
     (part_spent c.args.first c.args.templates.now c.add_flows.new.templates c.replace.result c.args.rows.now
-    c.add_flows.new.adding.rows messages c.in-Err.error c.replace.ensures.value (c.in-Err.ensures.given h messages are))
+    c.add_flows.new.adding.rows messages c.in-Err.refusal c.replace.ensures.value
+    (c.in-Err.ensures.given h messages are))

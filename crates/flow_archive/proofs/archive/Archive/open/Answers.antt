@@ -9,8 +9,8 @@ use Rattle.flow_manifest.specs.Slots.{file_of, reads_of}
 use Rattle.flow_recover.specs.Opening.{AreCutTo}
 use Rattle.flow_model.specs.State.{end_of}
 use Rattle.flow_model.specs.Standing.{is_file_of, StandsFor, StandsForEither}
-use Rattle.flow_recover.specs.declared.error.RecoverError.TheVariants as refusal
-use Rattle.flow_recover.specs.declared.error.RecoverError.{RecoverError}
+use Rattle.flow_manifest.specs.declared.error.OpenError.TheVariants as refusal
+use Rattle.flow_manifest.specs.declared.error.OpenError.{OpenError}
 use Rattle.flow_archive.specs.declared.refusal.Refused.{Refused}
 use Rattle.flow_archive.specs.Seen.{Seen}
 use Rattle.flow_recover.proofs.Recovering.{one_state}
@@ -25,14 +25,14 @@ if_err : {X E : Type 0} (r : Result X E) (P Q : E → Type 0) → ((e : E) → P
 if_err (Ok x) P Q f h = tt
 if_err (Err e) P Q f h = f e h
 
-only_memory : {D : Type 0} (n : ℕ) (r : Result (Seen D) (Refused D RecoverError))
+only_memory : {D : Type 0} (n : ℕ) (r : Result (Seen D) (Refused D OpenError))
     → IfErr r (λ x. x.error ≡ refusal.OutOfMemory) → HasCause refusal.Fault n n (answer_of r)
 only_memory n (Ok a) h = record { later = omega arith; done = refl; risen = λ is. absurd (cc); other = tt }
 only_memory n (Err r) h = record { later = omega arith; done = tt; risen = λ is. absurd (cc); other = λ differs. refl }
 
 -- what holds of the disk, the manifest and the end that were found holds of those of the archive
 of_archive : {D : Type 0} (P : D → Manifest → ℕ → Type 0) (disk : D) (m : Manifest) (end : ℕ)
-    (r : Result (Seen D) (Refused D RecoverError)) → disk_of r ≡ disk
+    (r : Result (Seen D) (Refused D OpenError)) → disk_of r ≡ disk
     → IfOk r (λ a. (a.state.manifest ≡ m) × (end_of a.state ≡ end)) → P disk m end
     → IfOk r (λ a. P a.disk a.state.manifest (end_of a.state))
 of_archive P disk m end (Ok a) same is at =

@@ -7,7 +7,6 @@ use Rattle.flow_snapshot.specs.Directories.{sight_of}
 use Rattle.flow_snapshot.specs.Files.{is_honest, is_honest_sum, segment_of, shared}
 use Rattle.flow_snapshot.specs.Found.{kept_by_file, HaveFlows}
 use Rattle.flow_snapshot.specs.Sight.{Sight}
-use Rattle.flow_snapshot.specs.Told.{told_of_scan}
 use Rattle.flow_snapshot.proofs.Asking.{honest_sealed}
 use Rattle.flow_snapshot.proofs.ByFile.{at_the_end, honest_there, own_octets}
 use Rattle.flow_snapshot.proofs.KeptFlows.{answered_err}
@@ -28,7 +27,7 @@ returns-in_err-flows_of_segment-in-Some-clause-given g c = λ honest octets ther
     files.active.items octets here in
     let good = honest_there files.sealed.items c.args.at c.in-Some.part.now part look.3.0 look.1
     c.deref-in-Some.ensures all in
-    answered_err _ c.from_residual.result (told_of_scan (c.in_err-flows_of_segment-in-Some.field-0).0)
+    answered_err _ c.from_residual.result (c.in_err-flows_of_segment-in-Some.field-0).0
     c.from_residual.ensures.1
     (c.in_err-flows_of_segment-in-Some.ensures.given good messages accepted (is ∙ own))
 
