@@ -17,7 +17,7 @@ use Rattle.flow_manifest.proofs.Followers.{all_sum, are_entries, IsOther}
 use Rattle.flow_segment.specs.Segment.{part_octets}
 use Rattle.flow_snapshot.specs.declared.step.Mark.{Mark}
 use Rattle.flow_model.specs.Changes.{applied, Change}
-use Rattle.flow_model.specs.Changes.Change.{added, closed, installed, joined}
+use Rattle.flow_model.specs.Changes.Change.{added, sealed, installed, merged}
 use Rattle.flow_model.specs.Shelf.{cut_of, messages_in, position_of, Rollup, Segment, Shelf}
 use Rattle.flow_snapshot.specs.Files.{cut_into}
 use Rattle.flow_model.specs.Shelved as shelved
@@ -194,19 +194,19 @@ told_is files prefix n messages width wide mark x before (added ms) later told m
     (position_of before + length ms) (ap (λ (s : Shelf). s.active) is)
     (omega (arith, all, length-append (messages_in before.sealed) before.active))
     (omega (arith, all, length-append (messages_in before.sealed) before.active)))
-told_is files prefix n messages width wide mark x before (closed segment next) later told mark_is is count =
-    let m : IsMarkedAmong files prefix n messages (mark_of before (closed segment next)) x =
+told_is files prefix n messages width wide mark x before (sealed segment next) later told mark_is is count =
+    let m : IsMarkedAmong files prefix n messages (mark_of before (sealed segment next)) x =
     subst (λ (k : Mark). IsMarkedAmong files prefix n messages k x) mark_is told in
-    m.2 ∙ ap (λ (g : Segment). closed g prefix)
+    m.2 ∙ ap (λ (g : Segment). sealed g prefix)
     (newest_segment files m.0 before.sealed segment m.1 (ap (λ (s : Shelf). s.sealed) is))
-    ∙ ap (closed segment) (ap (λ (s : Shelf). s.prefix) is)
+    ∙ ap (sealed segment) (ap (λ (s : Shelf). s.prefix) is)
 told_is files prefix n messages width wide mark x before (installed file k) later told mark_is is count =
     let m : IsMarkedAmong files prefix n messages (mark_of before (installed file k)) x =
     subst (λ (k : Mark). IsMarkedAmong files prefix n messages k x) mark_is told in
     m.2 ∙ ap (λ (r : Rollup). installed r k)
     (newest_rolled files m.0 before.rolled file m.1 (ap (λ (s : Shelf). s.rolled) is))
-told_is files prefix n messages width wide mark x before (joined file k) later told mark_is is count =
-    let m : IsMarkedAmong files prefix n messages (mark_of before (joined file k)) x =
+told_is files prefix n messages width wide mark x before (merged file k) later told mark_is is count =
+    let m : IsMarkedAmong files prefix n messages (mark_of before (merged file k)) x =
     subst (λ (k : Mark). IsMarkedAmong files prefix n messages k x) mark_is told in
-    m.2 ∙ ap (λ (r : Rollup). joined r k)
+    m.2 ∙ ap (λ (r : Rollup). merged r k)
     (newest_wide files m.0 before.merged file m.1 (ap (λ (s : Shelf). s.merged) is))

@@ -14,12 +14,12 @@ use Rattle.flow_manifest.specs.Following.{active_of, count_before, count_of, fro
 use Rattle.flow_manifest.specs.Following.{messages_of, source_of, sources_of}
 use Rattle.flow_manifest.specs.Manifest.{IsValidManifest, rank}
 use Rattle.flow_manifest.proofs.Followers.{next_front}
-use Rattle.flow_model.specs.Changes.{added, applied, closed, installed, joined}
+use Rattle.flow_model.specs.Changes.{added, applied, sealed, installed, merged}
 use Rattle.flow_model.specs.Shelf.{Rollup, Segment, Shelf}
 use Rattle.flow_model.specs.Jobs.{replaced, replaced_parts, staged_of}
 use Rattle.flow_model.specs.Shelved.{active_shelf, rollup_of, segment_of, shelf_of, shelved, shelved_first}
 use Rattle.flow_model.specs.State.{Job, Part, StagedFile, State, end_of, after_seal}
-use Rattle.flow_model.proofs.History.{appended_shelf, closed_last}
+use Rattle.flow_model.proofs.History.{appended_shelf, sealed_last}
 use Rattle.flow_model.proofs.Installing.{merge_front, no_merged, no_rolled, roll_front, rollups, shelved_join}
 use Rattle.flow_model.proofs.Replacing.{are_behind, are_sources, first_same, front_installed, low, number, sources_same}
 use Rattle.flow_segment.specs.Carry.{prefix_of}
@@ -31,21 +31,21 @@ use Rattle.flow_archive.specs.Marks.{made_change}
 -- ---- a seal
 
 -- the sealed segment, whatever its file holds
-abbrev pub closed_segment : State → Part → Segment
-closed_segment s sealed =
-    record { file = (active_of s.manifest).file; prefix = sealed.front; messages = sealed.messages }
+abbrev pub sealed_segment : State → Part → Segment
+sealed_segment s part =
+    record { file = (active_of s.manifest).file; prefix = part.front; messages = part.messages }
 
-pub moved_shelf : (s : State) (prefix : List ℕ) (sealed : Part) → IsValidManifest s.manifest
+pub moved_shelf : (s : State) (prefix : List ℕ) (part : Part) → IsValidManifest s.manifest
     → length s.parts ≡ length (front_of s.manifest)
-    → shelf_of (record (after_seal s prefix) { parts = s.parts ++ sealed ∷ [] })
-    ≡ applied (shelf_of s) (closed (closed_segment s sealed) prefix)
-moved_shelf s prefix sealed valid long =
+    → shelf_of (record (after_seal s prefix) { parts = s.parts ++ part ∷ [] })
+    ≡ applied (shelf_of s) (sealed (sealed_segment s part) prefix)
+moved_shelf s prefix part valid long =
     let entry = sealed_entry (active_of s.manifest) (end_of s) (length s.active.messages) in
     let front = next_front s.manifest valid (end_of s) (length s.active.messages) s.next (length prefix) in
     let last = active_shelf (after_seal s prefix) in
-    ap (λ (es : List Entry). shelved es (s.parts ++ sealed ∷ []) last) front
-    ∙ shelved_join (front_of s.manifest) (entry ∷ []) s.parts (sealed ∷ []) last (sym long)
-    ∙ closed_last (closed_segment s sealed) prefix (front_of s.manifest) s.parts (active_shelf s)
+    ap (λ (es : List Entry). shelved es (s.parts ++ part ∷ []) last) front
+    ∙ shelved_join (front_of s.manifest) (entry ∷ []) s.parts (part ∷ []) last (sym long)
+    ∙ sealed_last (sealed_segment s part) prefix (front_of s.manifest) s.parts (active_shelf s)
 
 -- ---- an install
 
@@ -176,7 +176,7 @@ module _ (s : State) (valid : IsValidManifest s.manifest) (long : length s.parts
 
   pub merged_shelf : count ≤ count_of Rolled s.manifest.entries
       → shelf_of (with_octets s Merge count file octets)
-      ≡ applied (shelf_of s) (joined (made_rollup Merge count file octets s.manifest) count)
+      ≡ applied (shelf_of s) (merged (made_rollup Merge count file octets s.manifest) count)
   merged_shelf few =
       let a1 = e1 s valid long Merge count few file octets in
       let a2 = e2 s valid long Merge count few file octets in
@@ -189,8 +189,8 @@ module _ (s : State) (valid : IsValidManifest s.manifest) (long : length s.parts
       let are = rollups a2 b2 left (same_2 s valid long Merge count few file octets)
       (are_sources s.manifest valid Merge count few) in
       let none : left.merged ≡ [] = no_merged a3 b3 (active_shelf s) (are_behind s.manifest valid Merge count few) in
-      let over : record left { merged = r ∷ left.merged } ≡ applied (shelved a2 b2 left) (joined r count) =
-      sym (ap (λ (x : Shelf). applied x (joined r count)) are.is
+      let over : record left { merged = r ∷ left.merged } ≡ applied (shelved a2 b2 left) (merged r count) =
+      sym (ap (λ (x : Shelf). applied x (merged r count)) are.is
       ∙ ap (λ (rs : List Rollup). record left { merged = left.merged ++ r ∷ []; rolled = rs })
       (dropped count are.front left.rolled (are.long ∙ number s.manifest valid Merge count few))
       ∙ ap (λ (rs : List Rollup). record left { merged = rs ++ r ∷ [] }) none
@@ -198,7 +198,7 @@ module _ (s : State) (valid : IsValidManifest s.manifest) (long : length s.parts
       then_shelf s valid long Merge count few file octets
       ∙ ap (λ (x : Shelf). shelved a1 b1 x) over
       ∙ merge_front r count a1 b1 (shelved a2 b2 left) (low s.manifest valid Merge count few)
-      ∙ sym (ap (λ (x : Shelf). applied x (joined r count)) (now_shelf s valid long Merge count few file octets))
+      ∙ sym (ap (λ (x : Shelf). applied x (merged r count)) (now_shelf s valid long Merge count few file octets))
 
 -- ---- answers
 
@@ -210,19 +210,19 @@ pub sealed_law : (honest is_closed : Bool) (s after : State) (file : ℕ) → Is
     → length s.parts ≡ length (front_of s.manifest) → AnswersSeal honest is_closed s (Ok file) after
     → (segment : Segment) × (segment.file ≡ file)
     × (IsTrue honest → (segment.prefix ≡ s.active.front) × (segment.messages ≡ s.active.messages))
-    × (shelf_of after ≡ applied (shelf_of s) (closed segment after.active.front))
+    × (shelf_of after ≡ applied (shelf_of s) (sealed segment after.active.front))
 sealed_law honest is_closed s after file valid long told =
     let moved = told.2 in
     let prefix = prefix_of moved.0 in
     let part : Part = moved.1 in
     let own = moved.3 in
-    let g = closed_segment s part in
+    let g = sealed_segment s part in
     let front : after.active.front ≡ prefix = ap (λ (x : State). x.active.front) moved.4 in (
       g,
       sym told.3,
       λ h. (ap (λ (p : Part). p.front) (own h), ap (λ (p : Part). p.messages) (own h)),
       ap shelf_of moved.4 ∙ moved_shelf s prefix part valid long
-          ∙ ap (λ (x : List ℕ). applied (shelf_of s) (closed g x)) (sym front),
+          ∙ ap (λ (x : List ℕ). applied (shelf_of s) (sealed g x)) (sym front),
     )
 
 made_shelf : (s : State) (valid : IsValidManifest s.manifest) (long : length s.parts ≡ length (front_of s.manifest))

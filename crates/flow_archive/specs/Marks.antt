@@ -10,7 +10,7 @@ use Rattle.flow_manifest.specs.Following.{messages_of}
 use Rattle.flow_snapshot.specs.declared.step.Mark.{Mark}
 use Rattle.flow_snapshot.specs.declared.step.Mark.TheVariants.{Added, Sealed, Installed, Merged}
 use Rattle.flow_model.specs.Changes.{Change}
-use Rattle.flow_model.specs.Changes.Change.{added, closed, installed, joined}
+use Rattle.flow_model.specs.Changes.Change.{added, sealed, installed, merged}
 use Rattle.flow_model.specs.Shelf.{Rollup, Segment, Shelf, position_of}
 use Rattle.flow_model.specs.State.{State}
 use Rattle.flow_archive.specs.Frozen.{rollup_of, segment_of, Frozen}
@@ -18,9 +18,9 @@ use Rattle.flow_archive.specs.Frozen.{rollup_of, segment_of, Frozen}
 -- the mark of a change that is made to a shelf
 abbrev pub mark_of : Shelf → Change → Mark
 mark_of s (added messages) = Added (position_of s + 1) (position_of s + length messages)
-mark_of s (closed segment next) = Sealed segment.file
+mark_of s (sealed segment next) = Sealed segment.file
 mark_of s (installed file count) = Installed file.file count
-mark_of s (joined file count) = Merged file.file count
+mark_of s (merged file count) = Merged file.file count
 
 -- the mark of a file that a job has made of so many
 abbrev pub made_mark : JobKind → ℕ → ℕ → Mark
@@ -30,7 +30,7 @@ made_mark Merge file count = Merged file count
 -- the change that it makes in place of its sources
 abbrev pub made_change : JobKind → Rollup → ℕ → Change
 made_change Roll file count = installed file count
-made_change Merge file count = joined file count
+made_change Merge file count = merged file count
 
 -- ---- where it may be asked for
 
@@ -57,9 +57,9 @@ numbered before messages first last = take (last + 1 - first) (drop (first - 1 -
 abbrev pub IsMarked : State → Mark → Change → Type 0
 IsMarked s (Added first last) change =
     change ≡ added (numbered (messages_of s.manifest.entries) s.active.messages first last)
-IsMarked s (Sealed file) change = (segment : Segment) × (segment.file ≡ file) × (change ≡ closed segment s.active.front)
+IsMarked s (Sealed file) change = (segment : Segment) × (segment.file ≡ file) × (change ≡ sealed segment s.active.front)
 IsMarked s (Installed file count) change = (rollup : Rollup) × (rollup.file ≡ file) × (change ≡ installed rollup count)
-IsMarked s (Merged file count) change = (rollup : Rollup) × (rollup.file ≡ file) × (change ≡ joined rollup count)
+IsMarked s (Merged file count) change = (rollup : Rollup) × (rollup.file ≡ file) × (change ≡ merged rollup count)
 
 -- ---- among frozen files
 
@@ -87,8 +87,8 @@ abbrev pub IsMarkedAmong : List Frozen → List ℕ → ℕ → List (List ℕ) 
 IsMarkedAmong files prefix before messages (Added first last) change =
     change ≡ added (numbered before messages first last)
 IsMarkedAmong files prefix before messages (Sealed file) change =
-    (f : Frozen) × IsNewestOf kind.Sealed files f × (change ≡ closed (segment_of f) prefix)
+    (f : Frozen) × IsNewestOf kind.Sealed files f × (change ≡ sealed (segment_of f) prefix)
 IsMarkedAmong files prefix before messages (Installed file count) change =
     (f : Frozen) × IsNewestOf kind.Rolled files f × (change ≡ installed (rollup_of f) count)
 IsMarkedAmong files prefix before messages (Merged file count) change =
-    (f : Frozen) × IsNewestOf kind.Wide files f × (change ≡ joined (rollup_of f) count)
+    (f : Frozen) × IsNewestOf kind.Wide files f × (change ≡ merged (rollup_of f) count)

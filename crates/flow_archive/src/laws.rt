@@ -41,7 +41,7 @@ pub fn shelves_of_answers()
         → length s.parts ≡ length (front_of s.manifest) → AnswersSeal honest closed s (Ok file) after
         → (segment : Segment) × (segment.file ≡ file)
         × (IsTrue honest → (segment.prefix ≡ s.active.front) × (segment.messages ≡ s.active.messages))
-        × (shelf_of after ≡ applied (shelf_of s) (Change.closed segment after.active.front)) }
+        × (shelf_of after ≡ applied (shelf_of s) (Change.sealed segment after.active.front)) }
     ensures installed { (honest closed : Bool) (s after : State) (job : Job) (staged : StagedFile) (answer : Answer)
         → IsValidManifest s.manifest → length s.parts ≡ length (front_of s.manifest)
         → s.job ≡ Some job → job.staged ≡ Some staged → AnswersInstall honest closed s (Ok answer) after

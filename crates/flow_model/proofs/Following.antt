@@ -27,7 +27,7 @@ use Rattle.flow_model.specs.Shelf.{new_shelf}
 use Rattle.flow_model.specs.Views.{AreRestated, AreRolled, AreRolledInto, IsViewOf}
 use Rattle.flow_model.specs.Changes.{Allows, CallsFor, applied, counts_of, history_after, merged_table}
 use Rattle.flow_model.specs.Changes.{new_history}
-use Rattle.flow_model.specs.Changes.Change.{added, closed, installed, joined}
+use Rattle.flow_model.specs.Changes.Change.{added, sealed, installed, merged}
 use Rattle.flow_model.specs.Changes.{Change}
 use Rattle.flow_model.proofs.Accepting.{accepted_rest, accepted_then, read_as, restated_behind, restated_then}
 use Rattle.flow_model.proofs.Accepting.{templates_then}
@@ -175,8 +175,8 @@ module _ (s : Shelf) (h : History) (hist : IsHistory h) (is : IsViewOf s (view_o
         ∙ flat_map-append (λ (x : Segment). x.messages) s.sealed (g ∷ [])
         ∙ ap (λ (os : List (List ℕ)). messages_in s.sealed ++ os) (append-nil g.messages ∙ messages)
 
-    pub closed_follows : IsViewOf (applied s (closed g next)) (view_of h (counts_of s))
-    closed_follows = record {
+    pub sealed_follows : IsViewOf (applied s (sealed g next)) (view_of h (counts_of s))
+    sealed_follows = record {
       merged = is.merged;
       rolled = is.rolled;
       prefixes =
@@ -293,8 +293,8 @@ module _ (s : Shelf) (h : History) (hist : IsHistory h) (is : IsViewOf s (view_o
     few : file.messages + messages_of (drop k s.rolled) ≡ messages_of s.rolled
     few = omega (arith, count, sum_by-take-drop (λ (r : Rollup). r.messages) s.rolled k)
 
-    pub joined_history : IsHistory (history_after h (joined file k))
-    joined_history = record {
+    pub merged_history : IsHistory (history_after h (merged file k))
+    merged_history = record {
       accepted = hist.accepted;
       second = omega (arith, few, second_is, cut_is);
       cut = hist.cut;
@@ -360,7 +360,7 @@ module _ (s : Shelf) (h : History) (hist : IsHistory h) (is : IsViewOf s (view_o
                 ∙ ap flows_in (sym (take-add h.second file.messages h.all)))),
           )
 
-      rest_rolled : rolled_messages (history_after h (joined file k)) ≡ drop file.messages (rolled_messages h)
+      rest_rolled : rolled_messages (history_after h (merged file k)) ≡ drop file.messages (rolled_messages h)
       rest_rolled =
           let m = h.cut - (h.second + file.messages) in
           let all : file.messages + m ≡ h.cut - h.second = omega (arith, few, second_is, cut_is) in
@@ -369,22 +369,22 @@ module _ (s : Shelf) (h : History) (hist : IsHistory h) (is : IsViewOf s (view_o
           ∙ ap (λ (n : ℕ). drop file.messages (take n (drop h.second h.all))) all
 
       rest_parts : drop k (map rolled_sums (parted (counts_of s) (rolled_messages h)))
-          ≡ map rolled_sums (parted (counts_of (applied s (joined file k)))
-          (rolled_messages (history_after h (joined file k))))
+          ≡ map rolled_sums (parted (counts_of (applied s (merged file k)))
+          (rolled_messages (history_after h (merged file k))))
       rest_parts =
           drop-map rolled_sums k (parted (counts_of s) (rolled_messages h))
           ∙ ap (map rolled_sums) (parted_rest k (counts_of s) (rolled_messages h)
           ∙ ap (λ (n : ℕ). parted (drop k (counts_of s)) (drop n (rolled_messages h))) front_count
           ∙ ap (λ (cs : List ℕ). parted cs (drop file.messages (rolled_messages h)))
           (drop-map (λ (r : Rollup). r.messages) k s.rolled)
-          ∙ ap (parted (counts_of (applied s (joined file k)))) (sym rest_rolled))
+          ∙ ap (parted (counts_of (applied s (merged file k)))) (sym rest_rolled))
 
       more_merged : messages_of (s.merged ++ file ∷ []) ≡ messages_of s.merged + file.messages
       more_merged = omega (arith, sum_by-append (λ (r : Rollup). r.messages) s.merged (file ∷ []))
 
-      pub joined_follows : IsViewOf (applied s (joined file k))
-          (view_of (history_after h (joined file k)) (counts_of (applied s (joined file k))))
-      joined_follows = record {
+      pub merged_follows : IsViewOf (applied s (merged file k))
+          (view_of (history_after h (merged file k)) (counts_of (applied s (merged file k))))
+      merged_follows = record {
         merged = merged_more;
         rolled = subst (AreRolled s.width (drop k s.rolled)) rest_parts
             (rolled_rest s.width k s.rolled (map rolled_sums (parted (counts_of s) (rolled_messages h))) is.rolled);
@@ -402,20 +402,20 @@ pub history_follows : (s : Shelf) (h : History) (c : Change) (hist : IsHistory h
     (is : IsViewOf s (view_of h (counts_of s))) → Allows s (view_of h (counts_of s)) c → IsHistory (history_after h c)
 history_follows s h (added messages) hist is (more, octets, behind) =
     added_history s h hist is messages more octets behind
-history_follows s h (closed g next) hist is allowed = hist
+history_follows s h (sealed g next) hist is allowed = hist
 history_follows s h (installed file k) hist is (within, count, rolled) =
     installed_history s h hist is file k count rolled
-history_follows s h (joined file k) hist is (within, count, rolled) = joined_history s h hist is file k count
+history_follows s h (merged file k) hist is (within, count, rolled) = merged_history s h hist is file k count
 
 pub view_follows : (s : Shelf) (h : History) (c : Change) (hist : IsHistory h)
     (is : IsViewOf s (view_of h (counts_of s))) → Allows s (view_of h (counts_of s)) c
     → IsViewOf (applied s c) (view_of (history_after h c) (counts_of (applied s c)))
 view_follows s h (added messages) hist is (more, octets, behind) =
     added_follows s h hist is messages more octets behind
-view_follows s h (closed g next) hist is (prefix, messages, some, calls) =
-    closed_follows s h hist is g next prefix messages calls
+view_follows s h (sealed g next) hist is (prefix, messages, some, calls) =
+    sealed_follows s h hist is g next prefix messages calls
 view_follows s h (installed file k) hist is (within, count, rolled) = installed_follows s h hist is file k count rolled
-view_follows s h (joined file k) hist is (within, count, rolled) = joined_follows s h hist is file k count rolled
+view_follows s h (merged file k) hist is (within, count, rolled) = merged_follows s h hist is file k count rolled
 
 pub starts : (width wide : ℕ) → 0 < width → 0 < wide → wide % width ≡ 0 → IsHistory (new_history width wide)
     × IsViewOf (new_shelf width wide) (view_of (new_history width wide) (counts_of (new_shelf width wide)))

@@ -15,7 +15,7 @@ use Rattle.flow_measure.specs.View.{view_of}
 use Rattle.flow_segment.specs.Carry.{Carry, carry_from, carry_of, no_carry, octets_of, prefix_of}
 use Rattle.flow_model.specs.Shelf.{Segment, Shelf}
 use Rattle.flow_model.specs.Views.{IsViewOf}
-use Rattle.flow_model.specs.Changes.{CallsFor, added, applied, closed, counts_of, history_after, Allows, Change}
+use Rattle.flow_model.specs.Changes.{CallsFor, added, applied, sealed, counts_of, history_after, Allows, Change}
 use Rattle.flow_model.proofs.Following.{history_follows, view_follows}
 use Rattle.flow_model.specs.State.{Part, State, appended, end_of, after_seal}
 use Rattle.flow_model.specs.Chain.{ArePartsBehind, HandsOn, IsSegment, IsSegmentBehind}
@@ -63,18 +63,18 @@ append_follows s c more h valid hands accepted has =
 -- ---- a seal
 
 closed_first : (g : Segment) (next : List ℕ) (kind : Kind) (e : Entry) (p : Part) (s : Shelf)
-    → shelved_first kind e p (applied s (closed g next)) ≡ applied (shelved_first kind e p s) (closed g next)
+    → shelved_first kind e p (applied s (sealed g next)) ≡ applied (shelved_first kind e p s) (sealed g next)
 closed_first g next Wide e p s = refl
 closed_first g next Rolled e p s = refl
 closed_first g next Sealed e p s = refl
 closed_first g next Active e p s = refl
 
-pub closed_last : (g : Segment) (next : List ℕ) (es : List Entry) (ps : List Part) (s : Shelf)
-    → shelved es ps (applied s (closed g next)) ≡ applied (shelved es ps s) (closed g next)
-closed_last g next [] ps s = refl
-closed_last g next (e ∷ es) [] s = refl
-closed_last g next (e ∷ es) (p ∷ ps) s =
-    ap (λ (x : Shelf). shelved_first e.kind e p x) (closed_last g next es ps s)
+pub sealed_last : (g : Segment) (next : List ℕ) (es : List Entry) (ps : List Part) (s : Shelf)
+    → shelved es ps (applied s (sealed g next)) ≡ applied (shelved es ps s) (sealed g next)
+sealed_last g next [] ps s = refl
+sealed_last g next (e ∷ es) [] s = refl
+sealed_last g next (e ∷ es) (p ∷ ps) s =
+    ap (λ (x : Shelf). shelved_first e.kind e p x) (sealed_last g next es ps s)
     ∙ closed_first g next e.kind e p (shelved es ps s)
 
 -- a file put before the others leaves the active segment
@@ -157,7 +157,7 @@ seal_follows s c h valid hands some has =
     let entry = sealed_entry (active_of s.manifest) (end_of s) (length s.active.messages) in
     let g = segment_of entry s.active in
     let next = prefix_of c in
-    let change : Change = closed g next in
+    let change : Change = sealed g next in
     let last = active_last (front_of s.manifest) s.parts (active_shelf s) in
     let allowed : Allows (shelf_of s) (view_of h (counts_of (shelf_of s))) change = (
       sym last.0,
@@ -171,7 +171,7 @@ seal_follows s c h valid hands some has =
     ap (λ (es : List Entry). shelved es (s.parts ++ s.active ∷ []) (active_shelf (after_seal s next))) front
     ∙ shelved_then s.manifest None hands.sealed (front_of s.manifest) s.parts entry s.active
     (active_shelf (after_seal s next)) hands.parts
-    ∙ closed_last g next (front_of s.manifest) s.parts (active_shelf s) in
+    ∙ sealed_last g next (front_of s.manifest) s.parts (active_shelf s) in
     record {
       history = has.history;
       view = subst (λ (x : Shelf). IsViewOf x (view_of h (counts_of x))) (sym same)

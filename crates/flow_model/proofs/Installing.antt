@@ -14,7 +14,7 @@ use Rattle.flow_rolled.specs.Rollup.{IsRollup}
 use Rattle.flow_segment.specs.Carry.{Carry}
 use Rattle.flow_model.specs.Shelf.{Rollup, Segment, Shelf, messages_in}
 use Rattle.flow_model.specs.Shelf as shelf
-use Rattle.flow_model.specs.Changes.{applied, installed, joined}
+use Rattle.flow_model.specs.Changes.{applied, installed, merged}
 use Rattle.flow_model.specs.State.{Part}
 use Rattle.flow_model.specs.Chain.{ArePartsBehind, IsPartBehind, IsSegmentBehind}
 use Rattle.flow_model.specs.Shelved.{rollup_of, segment_of, shelved, shelved_first}
@@ -62,7 +62,7 @@ roll_front r k (e ∷ es) (p ∷ ps) s low =
     ∙ roll_first r k e.kind e p (shelved es ps s) low.0
 
 merge_first : (r : Rollup) (k : ℕ) (kind : Kind) (e : Entry) (p : Part) (s : Shelf) → rank kind < 1
-    → shelved_first kind e p (applied s (joined r k)) ≡ applied (shelved_first kind e p s) (joined r k)
+    → shelved_first kind e p (applied s (merged r k)) ≡ applied (shelved_first kind e p s) (merged r k)
 merge_first r k Wide e p s low = refl
 merge_first r k Rolled e p s low = absurd (omega (arith, low))
 merge_first r k Sealed e p s low = absurd (omega (arith, low))
@@ -70,7 +70,7 @@ merge_first r k Active e p s low = absurd (omega (arith, low))
 
 pub merge_front : (r : Rollup) (k : ℕ) (es : List Entry) (ps : List Part) (s : Shelf)
     → AllByRecursion (λ e. rank e.kind < 1) es
-    → shelved es ps (applied s (joined r k)) ≡ applied (shelved es ps s) (joined r k)
+    → shelved es ps (applied s (merged r k)) ≡ applied (shelved es ps s) (merged r k)
 merge_front r k [] ps s low = refl
 merge_front r k (e ∷ es) [] s low = refl
 merge_front r k (e ∷ es) (p ∷ ps) s low =
@@ -221,15 +221,15 @@ roll_over made p k es ps s are long none =
 -- a wide file in place of rolled ones
 pub merge_over : (made : Entry) (p : Part) (k : ℕ) (es : List Entry) (ps : List Part) (s : Shelf)
     → (are : AreRollups es ps s) → length es ≡ k → s.merged ≡ []
-    → shelved_first Wide made p s ≡ applied (shelved es ps s) (joined (rollup_of made p) k)
+    → shelved_first Wide made p s ≡ applied (shelved es ps s) (merged (rollup_of made p) k)
 merge_over made p k es ps s are long none =
     let rolled : drop k (are.front ++ s.rolled) ≡ s.rolled = dropped k are.front s.rolled (are.long ∙ long) in
-    let merged : s.merged ++ rollup_of made p ∷ [] ≡ rollup_of made p ∷ s.merged =
+    let wide_files : s.merged ++ rollup_of made p ∷ [] ≡ rollup_of made p ∷ s.merged =
     only_one (rollup_of made p) s.merged none in
-    let now : applied (record s { rolled = are.front ++ s.rolled }) (joined (rollup_of made p) k)
+    let now : applied (record s { rolled = are.front ++ s.rolled }) (merged (rollup_of made p) k)
     ≡ shelved_first Wide made p s =
-    λ i. record s { rolled = rolled i; merged = merged i } in
-    sym (ap (λ (x : Shelf). applied x (joined (rollup_of made p) k)) are.is ∙ now)
+    λ i. record s { rolled = rolled i; merged = wide_files i } in
+    sym (ap (λ (x : Shelf). applied x (merged (rollup_of made p) k)) are.is ∙ now)
 
 -- ---- what is passed on
 

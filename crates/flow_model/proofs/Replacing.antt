@@ -27,7 +27,7 @@ use Rattle.flow_rolled.specs.Rollup.{IsRollup}
 use Rattle.flow_segment.specs.Carry.{Carry}
 use Rattle.flow_model.specs.Shelf.{Rollup, Segment, Shelf, messages_in}
 use Rattle.flow_model.specs.Shelf as shelf
-use Rattle.flow_model.specs.Changes.{applied, counts_of, history_after, installed, joined, merged_table, Allows, Change}
+use Rattle.flow_model.specs.Changes.{applied, counts_of, history_after, installed, merged, merged_table, Allows, Change}
 use Rattle.flow_model.specs.Views.{AreRestated, AreRolled, IsViewOf}
 use Rattle.flow_model.proofs.Following.{history_follows, merge_by_messages, view_follows}
 use Rattle.flow_model.specs.State.{Part, StagedFile, State}
@@ -538,14 +538,14 @@ module _ (s : State) (c : Carry) (h : History) (valid : IsValidManifest s.manife
         ∙ no_rolled_in r1 o1 (shelved r2 o2 others) (low s.manifest valid Merge count few)
         ∙ ap (λ (x : Shelf). x.rolled) they.is
 
-    pub merge_shelf : shelf_of (replaced s Merge count file) ≡ applied (shelf_of s) (joined wide_file count)
+    pub merge_shelf : shelf_of (replaced s Merge count file) ≡ applied (shelf_of s) (merged wide_file count)
     merge_shelf =
         then_shelf s c valid hands Merge count few file
         ∙ ap (λ (x : Shelf). shelved r1 o1 x) (merge_over wide_entry (part s c valid hands Merge count few file) count
         r2 o2 others they (number s.manifest valid Merge count few)
         (no_merged r3 o3 (active_shelf s) (are_behind s.manifest valid Merge count few)))
         ∙ merge_front wide_file count r1 o1 (shelved r2 o2 others) (low s.manifest valid Merge count few)
-        ∙ sym (ap (λ (x : Shelf). applied x (joined wide_file count))
+        ∙ sym (ap (λ (x : Shelf). applied x (merged wide_file count))
         (now_shelf s c valid hands Merge count few file))
 
     rolled_taken : take count (shelf_of s).rolled ≡ they.front
@@ -609,7 +609,7 @@ module _ (s : State) (c : Carry) (h : History) (valid : IsValidManifest s.manife
     merge_follows is =
         let wide : (shelf_of s).wide ≡ s.manifest.wide =
         (widths (front_of s.manifest) s.parts (active_shelf s)).1 in
-        let change : Change = joined wide_file count in
+        let change : Change = merged wide_file count in
         let of_shelf : IsRollup (shelf_of s).wide file.octets (table_of (shelf_of s).wide
         (flows_in (take (shelf.messages_of (take count (shelf_of s).rolled)) (drop h.second h.all)))) =
         subst (λ (k : ℕ). IsRollup (shelf_of s).wide file.octets (table_of (shelf_of s).wide

@@ -13,26 +13,26 @@ pub data Change : Type 0 where
   -- messages, added to the active segment
   added : List (List ℕ) → Change
   -- the active segment, sealed, and the prefix of the next one
-  closed : Segment → List ℕ → Change
+  sealed : Segment → List ℕ → Change
   -- a rolled file, for so many of the oldest sealed segments
   installed : Rollup → ℕ → Change
   -- a file over wide intervals, for so many of the oldest rolled files
-  joined : Rollup → ℕ → Change
+  merged : Rollup → ℕ → Change
 
 abbrev pub applied : Shelf → Change → Shelf
 applied s (added messages) = record s { active = s.active ++ messages }
-applied s (closed segment next) =
+applied s (sealed segment next) =
     record s { sealed = s.sealed ++ segment ∷ []; prefix = next; active = [] }
 applied s (installed file k) = record s { rolled = s.rolled ++ file ∷ []; sealed = drop k s.sealed }
-applied s (joined file k) = record s { merged = s.merged ++ file ∷ []; rolled = drop k s.rolled }
+applied s (merged file k) = record s { merged = s.merged ++ file ∷ []; rolled = drop k s.rolled }
 
 -- Added messages are read after all others. A seal leaves a history as it is; an install raises the cut by the messages
 -- that were rolled, a merge the second cut.
 abbrev pub history_after : History → Change → History
 history_after h (added messages) = record h { all = h.all ++ read_from (templates_of h.all) messages }
-history_after h (closed segment next) = h
+history_after h (sealed segment next) = h
 history_after h (installed file k) = record h { cut = h.cut + file.messages }
-history_after h (joined file k) = record h { second = h.second + file.messages }
+history_after h (merged file k) = record h { second = h.second + file.messages }
 
 abbrev pub new_history : ℕ → ℕ → History
 new_history width wide = record { all = []; second = 0; cut = 0; width = width; wide = wide }
@@ -63,11 +63,11 @@ merged_table s v k = widened s.wide (record { width = s.width; sums = gathered_a
 abbrev pub Allows : Shelf → View → Change → Type 0
 Allows s v (added messages) =
     (more : List Accepted) × (octets_of more ≡ messages) × AreAcceptedFrom (templates_from v.templates v.kept) more
-Allows s v (closed segment next) =
+Allows s v (sealed segment next) =
     (segment.prefix ≡ s.prefix) × (segment.messages ≡ s.active) × (0 < length segment.messages) × CallsFor segment next
 Allows s v (installed file k) =
     (k ≤ length s.sealed) × (file.messages ≡ length (messages_in (take k s.sealed)))
     × IsRollup s.width file.octets (table_of s.width (flows_in (take file.messages v.kept)))
-Allows s v (joined file k) =
+Allows s v (merged file k) =
     (k ≤ length s.rolled) × (file.messages ≡ messages_of (take k s.rolled))
     × IsRollup s.wide file.octets (merged_table s v k)

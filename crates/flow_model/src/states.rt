@@ -35,7 +35,7 @@ pub fn events_and_history()
     ensures added { (s : State) (c : Carry) (more : List Accepted) (h : History) → IsValidManifest s.manifest
         → HandsOn s c → AreAcceptedFrom c.templates more → HasHistory s h
         → HasHistory (appended s (octets_of more)) (history_after h (added (octets_of more))) }
-    ensures closed { (s : State) (c : Carry) (h : History) → IsValidManifest s.manifest → HandsOn s c
+    ensures sealed { (s : State) (c : Carry) (h : History) → IsValidManifest s.manifest → HandsOn s c
         → 1 ≤ length s.active.messages → HasHistory s h → HasHistory (after_seal s (prefix_of c)) h }
 {}
 

@@ -9,7 +9,7 @@ use Rattle.flow_manifest.specs.Manifest.{IsValidManifest}
 use Rattle.flow_segment.specs.Carry.{prefix_of}
 use Rattle.flow_snapshot.specs.declared.step.Mark.TheVariants.{Added, Sealed, Installed, Merged}
 use Rattle.flow_measure.specs.History.{History}
-use Rattle.flow_model.specs.Changes.{added, applied, closed, history_after, installed, joined, Change}
+use Rattle.flow_model.specs.Changes.{added, applied, sealed, history_after, installed, merged, Change}
 use Rattle.flow_model.specs.Shelf.{cut_of, messages_in, Rollup, Segment, Shelf}
 use Rattle.flow_model.specs.Shelf as shelf
 use Rattle.flow_model.specs.Jobs.{history_made}
@@ -24,7 +24,7 @@ use Rattle.flow_shared.specs.Calls.{IsClosing, IsTurnedBy}
 use Rattle.flow_shared.specs.Held.{IsMarkedBy, IsMarkOf}
 use Rattle.flow_shared.specs.Told.{change_at, no_rollup, no_segment}
 use Rattle.flow_model.proofs.History.{appended_shelf}
-use Rattle.flow_archive.proofs.Shelves.{closed_segment, made_rollup, merged_shelf, moved_shelf}
+use Rattle.flow_archive.proofs.Shelves.{sealed_segment, made_rollup, merged_shelf, moved_shelf}
 use Rattle.flow_archive.proofs.Shelves.{rolled_shelf, with_octets}
 
 -- ---- an append
@@ -80,23 +80,23 @@ pub sealed_marked : (honest : Bool) (s behind : State) (file : ℕ) → IsValidM
     → (change : Change) × IsClosing honest s behind file change × IsMarkOf honest s behind (Sealed file) change
 sealed_marked honest s behind file valid long (carry, part, segment, own, is) named stands means =
     let prefix = prefix_of carry in
-    let g = closed_segment s part in
-    let files : shelf_of behind ≡ applied (shelf_of s) (closed g prefix) =
+    let g = sealed_segment s part in
+    let files : shelf_of behind ≡ applied (shelf_of s) (sealed g prefix) =
     ap shelf_of is ∙ moved_shelf s prefix part valid long in
     let front : behind.active.front ≡ prefix = ap (λ (x : State). x.active.front) is in (
-      closed g prefix,
+      sealed g prefix,
       record {
         segment = g;
         file_is = sym named;
         own = λ h. (ap (λ (p : Part). p.front) (own h), ap (λ (p : Part). p.messages) (own h));
-        is = ap (closed g) (sym front);
+        is = ap (sealed g) (sym front);
       },
       record {
         stands = stands;
         files = files;
         mark_is = ap Sealed named;
         change_is = ap (λ (x : Shelf). change_at x (Sealed file)) files
-            ∙ ap (λ (x : Segment). closed x prefix) (last_there (shelf_of s).sealed g no_segment);
+            ∙ ap (λ (x : Segment). sealed x prefix) (last_there (shelf_of s).sealed g no_segment);
         means = means;
       },
     )
@@ -140,18 +140,18 @@ installed_marked honest s behind Roll count file octets cut valid long few is st
     )
 installed_marked honest s behind Merge count file octets cut valid long few is stands means =
     let r = made_rollup Merge count file octets s.manifest in
-    let files : shelf_of behind ≡ applied (shelf_of s) (joined r count) =
+    let files : shelf_of behind ≡ applied (shelf_of s) (merged r count) =
     ap shelf_of is ∙ merged_shelf s valid long count file octets few in (
-      joined r count ∷ [],
+      merged r count ∷ [],
       (r, count, refl),
       (
-        joined r count,
+        merged r count,
         record {
           stands = stands;
           files = files;
           mark_is = refl;
           change_is = ap (λ (x : Shelf). change_at x (Merged file.file count)) files
-              ∙ ap (λ (x : Rollup). joined x count) (last_there (shelf_of s).merged r no_rollup);
+              ∙ ap (λ (x : Rollup). merged x count) (last_there (shelf_of s).merged r no_rollup);
           means = means;
         },
         refl,

@@ -7,7 +7,7 @@ use Rattle.flow_manifest.specs.Manifest.{IsValidManifest}
 use Rattle.flow_measure.specs.History.{History}
 use Rattle.flow_rolled.specs.Rollup.{IsRollup}
 use Rattle.flow_segment.specs.Carry.{Carry, octets_of, prefix_of}
-use Rattle.flow_model.specs.Changes.{added, history_after, installed, joined}
+use Rattle.flow_model.specs.Changes.{added, history_after, installed, merged}
 use Rattle.flow_model.specs.Jobs.{history_made, replaced, replaced_parts, table_made, width_made}
 use Rattle.flow_model.specs.State.{Job, Part, StagedFile, State, appended, after_seal, reopened}
 use Rattle.flow_model.specs.Chain.{HandsOn, IsSegment}

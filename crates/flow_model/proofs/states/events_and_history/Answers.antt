@@ -6,8 +6,8 @@ pub returns-clause-added : goal.returns-clause-added
 returns-clause-added c = λ s carry more h valid hands accepted has.
     append_follows s carry more h valid hands accepted has
 
-pub returns-clause-closed : goal.returns-clause-closed
-returns-clause-closed c = λ s carry h valid hands some has. seal_follows s carry h valid hands some has
+pub returns-clause-sealed : goal.returns-clause-sealed
+returns-clause-sealed c = λ s carry h valid hands some has. seal_follows s carry h valid hands some has
 
 pub returns-clause-start : goal.returns-clause-start
 returns-clause-start c = λ width wide limit positive also multiple.
