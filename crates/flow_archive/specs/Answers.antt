@@ -1,6 +1,7 @@
 -- What an archive answers to each event.
 use Rattle.std.specs.Prelude.{◌≡◌, ◌≢◌, ◌⊎◌, ℕ, ◌+◌, ◌<◌, ◌≤◌, ◌^◌, Bool, true, false, IsTrue, List, [], ◌∷◌, ◌++◌}
 use Rattle.std.specs.Prelude.{length, Option, Some, None, Result, Ok, Err}
+use Rattle.flow_manifest.specs.Limits.{most_entries, too_many_messages}
 use Rattle.flow_codec.specs.declared.error.MessageError.{MessageError}
 use Rattle.flow_gate.specs.Gate.{octet_sum}
 use Rattle.flow_gate.specs.Scan.{texts}
@@ -48,7 +49,7 @@ HasRoom s octets = octet_sum s.active.messages + octets ≤ s.manifest.limit
 
 -- and so many messages within that of all
 abbrev pub HasPositions : State → ℕ → Type 0
-HasPositions s count = position_of s + count < 2 ^ 48
+HasPositions s count = position_of s + count < too_many_messages
 
 -- a file that is staged will take a generation
 abbrev pub staged_generations : Option StagedFile → ℕ
@@ -109,23 +110,23 @@ IsSealed honest s after =
 -- the generations that are kept for a staged file.
 pub record MayBeSealed (m : Manifest) (count file kept : ℕ) : Type 0 where
   pub some : 1 ≤ count
-  pub few : length m.entries < 4096
+  pub few : length m.entries < most_entries
   pub next : file + 1 < 2 ^ 64
   pub generation : m.generation + 1 + kept < 2 ^ 64
 
 -- Why no manifest follows: the first of the refusals 42, 41, 25 that holds, or 11.
 abbrev pub IsNotSealed : Manifest → ℕ → ℕ → ℕ → ArchiveError → Type 0
 IsNotSealed m count file kept NothingToSeal = count ≡ 0
-IsNotSealed m count file kept ManifestFull = (1 ≤ count) × (4096 ≤ length m.entries)
+IsNotSealed m count file kept ManifestFull = (1 ≤ count) × (most_entries ≤ length m.entries)
 IsNotSealed m count file kept NumbersSpent =
-    (1 ≤ count) × (length m.entries < 4096) × ((2 ^ 64 ≤ file + 1) ⊎ (2 ^ 64 ≤ m.generation + 1 + kept))
+    (1 ≤ count) × (length m.entries < most_entries) × ((2 ^ 64 ≤ file + 1) ⊎ (2 ^ 64 ≤ m.generation + 1 + kept))
 IsNotSealed m count file kept OutOfMemory = Unit {0}
 IsNotSealed m count file kept e = ⊥
 
 -- nothing speaks against a seal
 pub record MaySeal (s : State) : Type 0 where
   pub some : s.active.messages ≢ []
-  pub few : length s.manifest.entries < 4096
+  pub few : length s.manifest.entries < most_entries
   pub numbers : HasNumbers s
 
 -- The sealed file's number; or the first of the refusals 49, 42, 41, 25 that holds. In place of any but 49 it may be
@@ -137,9 +138,9 @@ AnswersSeal honest closed s (Err Closed) after = (closed ≡ true) × (after ≡
 AnswersSeal honest closed s (Err NothingToSeal) after =
     (closed ≡ false) × (s.active.messages ≡ []) × (after ≡ s)
 AnswersSeal honest closed s (Err ManifestFull) after =
-    (closed ≡ false) × (s.active.messages ≢ []) × (4096 ≤ length s.manifest.entries) × (after ≡ s)
+    (closed ≡ false) × (s.active.messages ≢ []) × (most_entries ≤ length s.manifest.entries) × (after ≡ s)
 AnswersSeal honest closed s (Err NumbersSpent) after =
-    (closed ≡ false) × (s.active.messages ≢ []) × (length s.manifest.entries < 4096) × (HasNumbers s → ⊥) × (after ≡ s)
+    (closed ≡ false) × (s.active.messages ≢ []) × (length s.manifest.entries < most_entries) × (HasNumbers s → ⊥) × (after ≡ s)
 AnswersSeal honest closed s (Err OutOfMemory) after = (closed ≡ false) × (after ≡ s)
 AnswersSeal honest closed s (Err Fault) after = (closed ≡ false) × MaySeal s × (after ≡ s)
 AnswersSeal honest closed s other after = ⊥

@@ -3,6 +3,7 @@ use Rattle.std.specs.Prelude.{◌≡◌, ℕ, ◌*◌, ◌/◌, true, IsTrue, Li
 use Rattle.flow_disk.specs.declared.disk.Disk.{Ghosts}
 use Rattle.flow_disk.specs.Disk.{Marks, IsDiskImage, Stays}
 use Rattle.flow_disk.specs.Calls.{LeavesOnly}
+use Rattle.flow_manifest.specs.Limits.{greatest_width}
 use Rattle.flow_manifest.specs.declared.slots.Slot.TheVariants.{First}
 use Rattle.flow_manifest.specs.declared.slots.Slots.{Slots}
 use Rattle.flow_model.specs.State.{first_manifest}
@@ -27,7 +28,7 @@ answer_of (Err refused) = Err refused.error
 
 -- the greatest multiple of a width up to a day
 abbrev pub widest : ℕ → ℕ
-widest width = 86400 / width * width
+widest width = greatest_width / width * width
 
 -- the first manifest is in force, in slot 1, beside one of an older generation
 abbrev pub first_slots : ℕ → ℕ → ℕ → Slots

@@ -1,6 +1,7 @@
 -- The history of a plain archive, and what its calls answer.
-use Rattle.std.specs.Prelude.{◌≡◌, ℕ, ◌*◌, ◌-◌, ◌<◌, ◌≤◌, ◌^◌, List, [], ◌∷◌, ◌++◌, length}
+use Rattle.std.specs.Prelude.{◌≡◌, ℕ, ◌*◌, ◌-◌, ◌<◌, ◌≤◌, List, [], ◌∷◌, ◌++◌, length}
 use Rattle.std.specs.List.{AllByRecursion}
+use Rattle.flow_manifest.specs.Limits.{too_many_messages}
 use Rattle.flow_codec.specs.declared.error.MessageError.{MessageError}
 use Rattle.flow_codec.specs.declared.error.MessageError.TheVariants as message
 use Rattle.flow_codec.specs.Fault.{IsFault}
@@ -29,7 +30,7 @@ history_of width messages = record (no_messages width) { all = read_from [] mess
 pub record IsKept (messages : List (List ℕ)) (here : AllTemplates) (rows : Table) : Type 0 where
   pub read : length (read_from [] messages) ≡ length messages
   pub accepted : AreAcceptedFrom [] (read_from [] messages)
-  pub numbers : length messages ≤ 2 ^ 48 - 1
+  pub numbers : length messages ≤ too_many_messages - 1
   pub templates : here ≡ templates_of (read_from [] messages)
   pub width : 0 < rows.width
   pub sums : rows ≡ table_of rows.width (flows_in (read_from [] messages))
@@ -48,7 +49,7 @@ IsAppended position octets old new =
 abbrev pub IsRefusal : PlainError → List ℕ → History → Type 0
 IsRefusal (Message fault) octets h = IsFault octets (templates_of h.all) fault
 IsRefusal NumbersSpent octets h =
-    (length h.all ≡ 2 ^ 48 - 1)
+    (length h.all ≡ too_many_messages - 1)
     × ((m : RawMessage) × (after : AllTemplates) × IsAccepted octets (templates_of h.all) m after)
 IsRefusal OutOfMemory octets h = Unit {0}
 

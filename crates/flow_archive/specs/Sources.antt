@@ -1,5 +1,6 @@
 -- What a job reads of one source.
-use Rattle.std.specs.Prelude.{◌≡◌, ◌⊎◌, ⊤, ℕ, ◌<◌, ◌^◌, List, [], ◌∷◌, fold, map, max, Result, Ok, Err}
+use Rattle.std.specs.Prelude.{◌≡◌, ◌⊎◌, ⊤, ℕ, ◌<◌, List, [], ◌∷◌, fold, map, max, Result, Ok, Err}
+use Rattle.flow_manifest.specs.Limits.{too_many_messages}
 use Rattle.flow_codec.specs.Templates.{AllTemplates}
 use Rattle.flow_refusals.specs.declared.read_refusal.ReadRefusal.TheVariants as read
 use Rattle.flow_manifest.specs.declared.following.JobKind.{JobKind}
@@ -62,7 +63,7 @@ IsMerged sums time old new (Err OutOfMemory) = ⊤
 
 -- A file is a source for a job of this kind, and holds this part.
 abbrev pub IsSource : JobKind → Manifest → Frozen → Part → Type 0
-IsSource Roll m f p = (f.entry.kind ≡ Sealed) × (f.entry.messages < 2 ^ 48) × IsSealedAt f.octets f.entry p
+IsSource Roll m f p = (f.entry.kind ≡ Sealed) × (f.entry.messages < too_many_messages) × IsSealedAt f.octets f.entry p
     × ((carry : Carry) × IsSegment p carry)
 IsSource Merge m f p = (f.entry.kind ≡ Rolled) × (f.octets ≡ p.front)
     × ((table : Table) × IsRollup m.width p.front table)

@@ -19,11 +19,9 @@ use bytes::Bytes;
 use flow_codec::MessageError;
 use flow_disk::Disk;
 use flow_gate::add_batch;
+use flow_manifest::MOST_MESSAGES;
 use flow_segment::Carry;
 use std::alloc::{AllocError, Global};
-
-/// The most messages of an archive: 2^48 - 1.
-const MOST_MESSAGES: u64 = 281_474_976_710_655;
 
 impl<D: Disk> Archive<D> {
     /// Adds one message, and answers its number: a batch of one. It costs one walk of the message, one copy of it and

@@ -3,6 +3,7 @@
 ghost use Rattle.std.specs.Prelude.{◌≡◌, ℕ, ◌≤◌, ◌%◌, false, IsTrue, OnOk, IfOk, IfErr};
 ghost use Rattle.flow_disk.specs.Disk.{AllImages};
 ghost use Rattle.flow_disk.specs.Cause.{FailsOnlyByFault, HasCause};
+ghost use Rattle.flow_manifest.specs.Limits.{greatest_limit, greatest_width, least_limit};
 ghost use Rattle.flow_manifest.specs.Manifest.{IsInRange, IsValidManifest, head_of, manifest_octets};
 ghost use Rattle.flow_model.specs.State.{empty_state, first_manifest};
 ghost use Rattle.flow_model.specs.Standing.{IsKnown, StandsFor};
@@ -13,12 +14,11 @@ use crate::archive::Archive;
 use crate::refusal::{ArchiveError, Refused};
 use bytes::Bytes;
 use flow_disk::{Disk, DiskError};
-use flow_manifest::{Entries, Entry, Kind, Manifest, Slot, Slots, create_slots, encode};
+use flow_manifest::{
+    Entries, Entry, GREATEST_WIDTH, Kind, Manifest, Slot, Slots, create_slots, encode,
+};
 use flow_segment::{Carry, make_segment};
 use std::alloc::{AllocError, Global};
-
-/// The greatest width of an interval, in seconds: a day.
-const DAY: u32 = 86_400;
 
 /// The entry of the first segment, which has no prefix.
 const FIRST: Entry = Entry {
@@ -55,9 +55,9 @@ impl<D: Disk> Archive<D> {
     ) -> Result<Archive<D>, Refused<D, ArchiveError>>
         requires thawed { (n : ℕ) → (D.marks disk n).frozen ≡ false }
         requires width_from { 1 ≤ width }
-        requires width_to { width ≤ 86400 }
-        requires limit_from { 65535 ≤ limit }
-        requires limit_to { limit ≤ 16777216 }
+        requires width_to { width ≤ greatest_width }
+        requires limit_from { least_limit ≤ limit }
+        requires limit_to { limit ≤ greatest_limit }
         ensures honest { D.honest (disk_of result) ≡ D.honest disk }
         ensures made { IfOk result
             (λ a. (a.state ≡ empty_state width (widest width) limit) × (a.closed ≡ false)) }
@@ -82,10 +82,10 @@ impl<D: Disk> Archive<D> {
         requires thawed { (n : ℕ) → (D.marks disk n).frozen ≡ false }
         requires width_from { 1 ≤ width }
         requires wide_from { width ≤ wide }
-        requires wide_to { wide ≤ 86400 }
+        requires wide_to { wide ≤ greatest_width }
         requires wide_multiple { wide % width ≡ 0 }
-        requires limit_from { 65535 ≤ limit }
-        requires limit_to { limit ≤ 16777216 }
+        requires limit_from { least_limit ≤ limit }
+        requires limit_to { limit ≤ greatest_limit }
         ensures honest { D.honest (disk_of result) ≡ D.honest disk }
         ensures made { IfOk result (λ a. (a.state ≡ empty_state width wide limit) × (a.closed ≡ false)) }
         ensures stands { IsTrue (D.honest disk) → IfOk result (λ a. AllImages (D.held a.disk)
@@ -121,13 +121,13 @@ impl<D: Disk> Archive<D> {
 /// The greatest multiple of a width up to a day.
 fn widest(width: u32) -> u32
     requires width_from { 1 ≤ width }
-    requires width_to { width ≤ 86400 }
+    requires width_to { width ≤ greatest_width }
     ensures is { result ≡ widest width }
     ensures from { width ≤ result }
-    ensures to { result ≤ 86400 }
+    ensures to { result ≤ greatest_width }
     ensures multiple { result % width ≡ 0 }
 {
-    DAY / width * width
+    GREATEST_WIDTH / width * width
 }
 
 /// Makes the files of a new archive on a disk without files. All memory is taken before the first write.

@@ -1,6 +1,7 @@
 //! An archive in memory.
 
 ghost use Rattle.std.specs.Prelude.{◌≡◌, ◌≤◌, IfOk, IfErr};
+ghost use Rattle.flow_manifest.specs.Limits.{greatest_width};
 ghost use Rattle.flow_measure.specs.History.{IsHistory};
 ghost use Rattle.flow_measure.specs.Query.{totals_between};
 ghost use Rattle.flow_archive.specs.Plain.{no_messages, IsAppended, IsRefusal};
@@ -8,12 +9,10 @@ ghost use Rattle.flow_archive.specs.Plain.{no_messages, IsAppended, IsRefusal};
 use crate::error::PlainError;
 use flow_codec::{Templates, WalkError, judge_message, walk_message};
 use flow_elements::Items;
+use flow_manifest::MOST_MESSAGES;
 use flow_measure::{Row, Rows, SumError, Totals};
 use std::alloc::{AllocError, Global};
 use std::marker::Model;
-
-/// The most messages that an archive may have: 2^48 - 1.
-const MOST_MESSAGES: u64 = 281_474_976_710_655;
 
 /// A history of accepted messages, held in memory.
 ///
@@ -40,7 +39,7 @@ impl PlainArchive {
     /// An archive without messages, whose flows are summed over intervals of this width, in seconds: from 1 to 86,400.
     pub fn new(alloc: Global, width: u32) -> Self
         requires positive { 1 ≤ width }
-        requires at_most_a_day { width ≤ 86400 }
+        requires at_most_a_day { width ≤ greatest_width }
         ensures empty { result ≡ no_messages width }
         ensures history { IsHistory result }
     {

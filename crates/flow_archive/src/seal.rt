@@ -1,6 +1,6 @@
 //! The seal of the active segment.
 
-ghost use Rattle.std.specs.Prelude.{◌≡◌, ◌≤◌, ◌+◌, ◌<◌, ◌^◌, ◌≢◌, true, false, IsTrue, IfOk, length, OnOk, IfErr, ℕ};
+ghost use Rattle.std.specs.Prelude.{◌≡◌, ◌≤◌, ◌+◌, ◌<◌, ◌≢◌, true, false, IsTrue, IfOk, length, OnOk, IfErr, ℕ};
 ghost use Rattle.flow_disk.specs.Disk.{AllImages};
 ghost use Rattle.flow_disk.specs.Cause.{HasCause, FailsOnlyByFault};
 ghost use Rattle.flow_manifest.specs.Following.{messages_of, active_of, next_manifest, sealed_entry};
@@ -11,6 +11,7 @@ ghost use Rattle.flow_archive.specs.Answers.{AnswersSeal, IsSealed, IsNotSealed,
 ghost use Rattle.flow_archive.specs.Seen.{IsStep};
 ghost use Rattle.flow_segment.specs.Carry.{prefix_of, IsCarry};
 ghost use Rattle.flow_disk.specs.Calls.{LeavesOnly};
+ghost use Rattle.flow_manifest.specs.Limits.{too_many_messages};
 ghost use Rattle.flow_manifest.specs.Slots.{file_of, other, reads_of, swapped, AreSlots};
 ghost use Rattle.flow_archive.specs.Sealing.{IsSealing, SealsMarks};
 
@@ -20,12 +21,11 @@ use crate::job::generations_kept;
 use crate::refusal::ArchiveError;
 use bytes::Bytes;
 use flow_disk::{Disk, DiskError};
-use flow_manifest::{Entry, Kind, Manifest, Slots, encode, next_manifest, swap_slots};
+use flow_manifest::{
+    Entry, Kind, MOST_ENTRIES, Manifest, Slots, encode, next_manifest, swap_slots,
+};
 use flow_segment::{Carry, make_segment, seal_tail};
 use std::alloc::Global;
-
-/// The most entries of a manifest.
-const MOST_ENTRIES: usize = 4_096;
 
 impl<D: Disk> Archive<D> {
     /// Seals the active segment, begins a new one with the prefix that the sealed one determines, and answers the
@@ -126,7 +126,7 @@ fn next_segment(
     requires within { end ≤ (active_of now.now).prefix + now.now.limit }
     requires file { now.now.next ≤ file }
     requires kept { kept ≤ 1 }
-    requires all { messages_of now.now.entries + count < 2 ^ 48 }
+    requires all { messages_of now.now.entries + count < too_many_messages }
     ensures may { OnOk result (MayBeSealed now.now count file kept) }
     ensures refused { IfErr result (IsNotSealed now.now count file kept) }
     ensures prefix { IfOk result (λ next. next.prefix ≡ prefix_of carry.now) }
@@ -139,7 +139,7 @@ fn next_segment(
     if count == 0 {
         return Err(ArchiveError::NothingToSeal);
     }
-    if now.entries.len() >= MOST_ENTRIES {
+    if now.entries.len() >= MOST_ENTRIES as usize {
         return Err(ArchiveError::ManifestFull);
     }
     if now.generation >= u64::MAX - kept || file == u64::MAX {

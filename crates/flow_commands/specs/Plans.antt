@@ -1,5 +1,6 @@
 -- What some commands are given: the numbers of a new archive, and a span of starts.
 use Rattle.std.specs.Prelude.{◌≡◌, ℕ, ◌≤◌, ◌%◌, Option, IfSome}
+use Rattle.flow_manifest.specs.Limits.{greatest_width, least_limit, greatest_limit}
 
 -- A new archive: the width of its intervals in seconds, a wide width where one is asked for, and how many octets of
 -- messages a segment takes.
@@ -11,15 +12,15 @@ pub record Plan : Type 0 where
 -- a wide width is a multiple of the width, up to a day
 pub record IsWide (width wide : ℕ) : Type 0 where
   pub from : width ≤ wide
-  pub to : wide ≤ 86400
+  pub to : wide ≤ greatest_width
   pub multiple : wide % width ≡ 0
 
 pub record IsPlan (p : Plan) : Type 0 where
   pub width_from : 1 ≤ p.width
-  pub width_to : p.width ≤ 86400
+  pub width_to : p.width ≤ greatest_width
   pub wide : IfSome p.wide (IsWide p.width)
-  pub limit_from : 65535 ≤ p.limit
-  pub limit_to : p.limit ≤ 16777216
+  pub limit_from : least_limit ≤ p.limit
+  pub limit_to : p.limit ≤ greatest_limit
 
 -- flows that start from one second on, and before another
 pub record Span : Type 0 where

@@ -1,6 +1,7 @@
 //! What a command is given: the numbers of a new archive, and a span of starts.
 
 ghost use Rattle.std.specs.Prelude.{◌≡◌, ◌≤◌, ◌%◌, IfSome};
+ghost use Rattle.flow_manifest.specs.Limits.{greatest_limit, greatest_width, least_limit};
 ghost use Rattle.flow_commands.specs.Plans.{IsPlan};
 
 use std::marker::Model;
@@ -38,7 +39,7 @@ impl NewArchive {
     pub fn width(&self) -> u32
         ensures value { result ≡ self.now.width }
         ensures from { 1 ≤ result }
-        ensures to { result ≤ 86400 }
+        ensures to { result ≤ greatest_width }
     {
         self.width
     }
@@ -47,7 +48,7 @@ impl NewArchive {
     pub fn wide(&self) -> Option<u32>
         ensures value { result ≡ self.now.wide }
         ensures from { IfSome result (λ wide. self.now.width ≤ wide) }
-        ensures to { IfSome result (λ wide. wide ≤ 86400) }
+        ensures to { IfSome result (λ wide. wide ≤ greatest_width) }
         ensures multiple { IfSome result (λ wide. wide % self.now.width ≡ 0) }
     {
         self.wide
@@ -56,8 +57,8 @@ impl NewArchive {
     /// How many octets of messages a segment takes.
     pub fn limit(&self) -> u32
         ensures value { result ≡ self.now.limit }
-        ensures from { 65535 ≤ result }
-        ensures to { result ≤ 16777216 }
+        ensures from { least_limit ≤ result }
+        ensures to { result ≤ greatest_limit }
     {
         self.limit
     }

@@ -1,3 +1,4 @@
+pub mod Limits
 pub mod Manifest
 pub mod Fault
 pub mod Slots

@@ -2,6 +2,7 @@
 use Rattle.std.specs.Prelude.{◌≡◌, ◌≢◌, ℕ, ◌+◌, ◌*◌, ◌/◌, ◌%◌, ◌<◌, ◌≤◌, ◌^◌, List, [], ◌∷◌, ◌++◌, length}
 use Rattle.std.specs.List.{flat_map, sum_by, AllByRecursion}
 use Rattle.std.specs.Int.{w16, w32, w64, to_be_bytes}
+use Rattle.flow_manifest.specs.Limits.{greatest_width, least_limit, greatest_limit, most_entries, too_many_messages}
 use Rattle.flow_manifest.specs.declared.manifest.Kind.{Kind}
 use Rattle.flow_manifest.specs.declared.manifest.Kind.TheVariants.{Wide, Rolled, Sealed, Active}
 use Rattle.flow_manifest.specs.declared.manifest.Entry.{Entry}
@@ -45,12 +46,12 @@ pub record FitsEntry (entry : Entry) : Type 0 where
 pub record IsInRange (h : Head) : Type 0 where
   pub width_from : 1 ≤ h.width
   pub wide_from : h.width ≤ h.wide
-  pub wide_to : h.wide ≤ 86400
+  pub wide_to : h.wide ≤ greatest_width
   pub wide_multiple : h.wide % h.width ≡ 0
-  pub limit_from : 65535 ≤ h.limit
-  pub limit_to : h.limit ≤ 16777216
+  pub limit_from : least_limit ≤ h.limit
+  pub limit_to : h.limit ≤ greatest_limit
   pub count_from : 1 ≤ h.count
-  pub count_to : h.count ≤ 4096
+  pub count_to : h.count ≤ most_entries
 
 abbrev pub rank : Kind → ℕ
 rank Wide = 0
@@ -106,7 +107,7 @@ pub record IsValidManifest (m : Manifest) : Type 0 where
   pub each : AllByRecursion (IsEntry m.limit m.next) m.entries
   pub wide : sum_by (λ e. wide_messages e.kind e.messages) m.entries ≡ m.second
   pub cut : sum_by (λ e. rolled_messages e.kind e.messages) m.entries ≡ m.rolled
-  pub all : sum_by (λ e. e.messages) m.entries < 2 ^ 48
+  pub all : sum_by (λ e. e.messages) m.entries < too_many_messages
 
 -- ---- octets
 
@@ -145,7 +146,7 @@ head_length format_2 = 50
 
 -- What format 1 leaves out: nothing was merged, and the wide width is the greatest multiple of the width up to 86,400.
 abbrev pub IsSaid : Format → Head → Type 0
-IsSaid format_1 h = (h.second ≡ 0) × (h.wide ≡ 86400 / h.width * h.width)
+IsSaid format_1 h = (h.second ≡ 0) × (h.wide ≡ greatest_width / h.width * h.width)
 IsSaid format_2 h = Unit {0}
 
 abbrev pub octets_in : Format → Manifest → List ℕ

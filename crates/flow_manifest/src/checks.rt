@@ -2,23 +2,16 @@
 
 ghost use Rattle.std.specs.Prelude.{◌≡◌, ◌≢◌, ◌↔◌, ◌<◌, ◌≤◌, ◌^◌, IsTrue, length};
 ghost use Rattle.std.specs.List.{sum_by, AllByRecursion};
+ghost use Rattle.flow_manifest.specs.Limits.{most_entries};
 ghost use Rattle.flow_manifest.specs.Manifest.{head_of, Fits, IsValidManifest, IsInRange, IsInOrder, HaveOwnFiles};
 ghost use Rattle.flow_manifest.specs.Manifest.{IsEntry, rank, wide_messages, rolled_messages};
 
 use crate::head::Head;
+use crate::limits::{GREATEST_LIMIT, GREATEST_WIDTH, LEAST_LIMIT, MOST_ENTRIES, MOST_MESSAGES};
 use crate::manifest::{Entry, Kind, Manifest};
 
-/// The greatest width of an interval, in seconds.
-pub(crate) const GREATEST_WIDTH: u32 = 86_400;
-
-const LEAST_LIMIT: u32 = 65_535;
-
-const GREATEST_LIMIT: u32 = 16_777_216;
-
-const MOST_ENTRIES: u32 = 4_096;
-
 /// One more than the most messages of an archive.
-const TOO_MANY_MESSAGES: u128 = 1 << 48;
+const TOO_MANY_MESSAGES: u128 = MOST_MESSAGES as u128 + 1;
 
 /// The first number that is no slot's.
 const FIRST_FILE: u64 = 3;
@@ -167,7 +160,7 @@ pub(crate) struct Totals {
 }
 
 pub(crate) fn totals_of(entries: &[Entry]) -> Totals
-    requires { length entries.now ≤ 4096 }
+    requires { length entries.now ≤ most_entries }
     ensures wide { result.wide ≡ sum_by (λ e. wide_messages e.kind e.messages) entries.now }
     ensures rolled { result.rolled ≡ sum_by (λ e. rolled_messages e.kind e.messages) entries.now }
     ensures all { result.all ≡ sum_by (λ e. e.messages) entries.now }

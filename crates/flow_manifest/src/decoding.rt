@@ -4,6 +4,7 @@ ghost use Rattle.std.specs.Prelude.{◌≡◌, ◌≢◌, ◌⊎◌, ◌+◌, �
 ghost use Rattle.std.specs.Prelude.{IsErrAnd, IfSome, IfNone};
 ghost use Rattle.std.specs.List.{flat_map, AllByRecursion};
 ghost use Rattle.std.specs.Int.{w16, w32, w64, to_be_bytes};
+ghost use Rattle.flow_manifest.specs.Limits.{greatest_width};
 ghost use Rattle.flow_manifest.specs.declared.error.ManifestError.{ManifestError};
 ghost use Rattle.flow_manifest.specs.declared.manifest.Entry.{Entry};
 ghost use Rattle.flow_manifest.specs.declared.manifest.Kind.{Kind};
@@ -12,9 +13,10 @@ ghost use Rattle.flow_manifest.specs.Manifest.{IsBody, IsSaid, IsValidManifest, 
 ghost use Rattle.flow_manifest.specs.Manifest.{kind_number, head_octets, format_1, format_2};
 ghost use Rattle.flow_manifest.specs.Fault.{IsFault, IsFaultBehind, IsDecoded};
 
-use crate::checks::{GREATEST_WIDTH, is_in_range, is_valid};
+use crate::checks::{is_in_range, is_valid};
 use crate::error::ManifestError;
 use crate::head::Head;
+use crate::limits::GREATEST_WIDTH;
 use crate::manifest::{Entries, Entry, Kind, Manifest};
 use std::alloc::Global;
 
@@ -123,7 +125,7 @@ fn head_2_of(octets: &[u8]) -> (Head, &[u8])
 
 /// The greatest multiple of a width up to 86,400 seconds; 0 of a width of 0, which is out of range.
 fn greatest_multiple(width: u32) -> u32
-    ensures is { result ≡ 86400 / width * width }
+    ensures is { result ≡ greatest_width / width * width }
 {
     if width == 0 {
         return 0;

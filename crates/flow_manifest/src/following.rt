@@ -2,6 +2,7 @@
 
 ghost use Rattle.std.specs.Prelude.{◌≡◌, ◌≢◌, ◌+◌, ◌<◌, ◌≤◌, ◌^◌, ◌++◌, length, IfOk};
 ghost use Rattle.std.specs.List.{AllByRecursion};
+ghost use Rattle.flow_manifest.specs.Limits.{most_entries, too_many_messages};
 ghost use Rattle.flow_manifest.specs.Manifest.{IsValidManifest};
 ghost use Rattle.flow_manifest.specs.Following.{messages_of, active_of, next_manifest, source_of, made_of, count_of};
 ghost use Rattle.flow_manifest.specs.Following.{count_before, cut_by, second_cut_by, installed_manifest};
@@ -83,13 +84,13 @@ pub fn next_manifest(
 ) -> Result<Manifest, AllocError>
     requires valid { IsValidManifest now.now }
     requires generation { now.now.generation + 1 < 2 ^ 64 }
-    requires few { length now.now.entries < 4096 }
+    requires few { length now.now.entries < most_entries }
     requires file { now.now.next ≤ file }
     requires next { file + 1 < 2 ^ 64 }
     requires some { 1 ≤ count }
     requires long { (active_of now.now).prefix + 16 ≤ end }
     requires within { end ≤ (active_of now.now).prefix + now.now.limit }
-    requires all { messages_of now.now.entries + count < 2 ^ 48 }
+    requires all { messages_of now.now.entries + count < too_many_messages }
     ensures made { IfOk result (λ made. made ≡ next_manifest now.now end count file prefix) }
     ensures valid { IfOk result (λ made. IsValidManifest made) }
 {

@@ -1,6 +1,7 @@
 -- What an image represents.
-use Rattle.std.specs.Prelude.{◌≡◌, ◌⊎◌, ℕ, ◌+◌, ◌<◌, ◌≤◌, ◌^◌, ◌==◌, ◌||◌, Bool, true, List, [], ◌∷◌, length, take}
+use Rattle.std.specs.Prelude.{◌≡◌, ◌⊎◌, ℕ, ◌+◌, ◌<◌, ◌≤◌, ◌==◌, ◌||◌, Bool, true, List, [], ◌∷◌, length, take}
 use Rattle.std.specs.List.{list_any}
+use Rattle.flow_manifest.specs.Limits.{too_many_messages}
 use Rattle.flow_gate.specs.Gate.{StandInRow, IsGated, octet_sum}
 use Rattle.flow_manifest.specs.declared.manifest.Kind.{Kind}
 use Rattle.flow_manifest.specs.declared.manifest.Kind.TheVariants.{Wide, Rolled, Sealed, Active}
@@ -49,7 +50,7 @@ PartsStand image (entry ∷ entries) (part ∷ parts) =
 -- the limit of a segment, and that of all messages
 pub record IsWithinLimits (s : State) : Type 0 where
   pub limit : octet_sum s.active.messages ≤ s.manifest.limit
-  pub all : messages_of s.manifest.entries + length s.active.messages < 2 ^ 48
+  pub all : messages_of s.manifest.entries + length s.active.messages < too_many_messages
 
 -- The files that the manifest names hold this state's parts, which are within its limits and chained.
 pub record HoldsFiles (image : ℕ → List ℕ) (s : State) : Type 0 where

@@ -1,9 +1,10 @@
 -- What a command asks for, by its name and the values that were found for its arguments.
 use Rattle.std.specs.Prelude.{ℕ, ◌%◌, ◌==◌, ◌&&◌, ◌||◌, is_some, List, Option, Some, None, option_map, option_and_then}
-use Rattle.std.specs.Prelude.{codes, if◌then◌else◌, length, nat_lt, Bool, true, false}
+use Rattle.std.specs.Prelude.{codes, ◌-◌, if◌then◌else◌, length, nat_lt, Bool, true, false}
 use Rattle.std.specs.List.{list_any}
 use Rattle.std.specs.Option.{option_map_or}
 use Rattle.std.specs.Str.{bytes_eq}
+use Rattle.flow_manifest.specs.Limits.{greatest_width, least_limit, greatest_limit, too_many_messages}
 use Rattle.clap.specs.Walk.{Row, Text, all_of, first_of}
 use Rattle.flow_program.specs.declared.request.Request.{Request}
 use Rattle.flow_program.specs.declared.request.Request.TheVariants.{Measure, Dump, Inspect, InspectFiles}
@@ -25,7 +26,7 @@ use Rattle.flow_commands.specs.declared.plan.FeedPlan.{FeedPlan}
 use Rattle.flow_commands.specs.Plans.{Plan, Span}
 
 abbrev pub width_in : List Row → Option ℕ
-width_in rows = option_and_then (number_between 1 86400) (first_of (codes "WIDTH") rows)
+width_in rows = option_and_then (number_between 1 greatest_width) (first_of (codes "WIDTH") rows)
 
 -- an option without a value is there
 abbrev pub is_set : Text → List Row → Bool
@@ -56,12 +57,12 @@ measured_in rows =
 
 -- the octets of messages that a segment takes: 1,048,576 where nothing else is asked for
 abbrev pub limit_in : List Row → Option ℕ
-limit_in rows = option_map_or (number_between 65535 16777216) (first_of (codes "N") rows) (Some 1048576)
+limit_in rows = option_map_or (number_between least_limit greatest_limit) (first_of (codes "N") rows) (Some 1048576)
 
 -- a multiple of the width, up to a day
 abbrev pub multiple_of : ℕ → Text → Option (Option ℕ)
 multiple_of width word =
-    option_and_then (λ n. if n % width == 0 then Some (Some n) else None) (number_between width 86400 word)
+    option_and_then (λ n. if n % width == 0 then Some (Some n) else None) (number_between width greatest_width word)
 
 -- the wide width, where one is asked for
 abbrev pub wide_in : ℕ → List Row → Option (Option ℕ)
@@ -149,7 +150,7 @@ kept_in rows = option_map_or (number_between 0 4294967295) (first_of (codes "KEE
 
 -- how many of the first messages of a File are only read: none where nothing is asked for
 abbrev pub passed_in : List Row → Option ℕ
-passed_in rows = option_map_or (number_between 0 281474976710655) (first_of (codes "COUNT") rows) (Some 0)
+passed_in rows = option_map_or (number_between 0 (too_many_messages - 1)) (first_of (codes "COUNT") rows) (Some 0)
 
 -- how Files are fed
 abbrev pub feeding_in : List Row → Option FeedPlan

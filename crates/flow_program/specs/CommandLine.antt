@@ -3,6 +3,7 @@ use Rattle.std.specs.Prelude.{ℕ, Bool, true, false, ◌||◌, List, [], ◌∷
 use Rattle.std.specs.Prelude.{if◌then◌else◌}
 use Rattle.std.specs.List.{list_any}
 use Rattle.std.specs.Str.{bytes_eq}
+use Rattle.flow_manifest.specs.Limits.{greatest_width}
 use Rattle.clap.specs.declared.builder.action.ArgAction.TheVariants.{Append, Set, SetTrue}
 use Rattle.clap.specs.Faults.{fault_of}
 use Rattle.clap.specs.Kinds.{Kinds}
@@ -165,7 +166,7 @@ without_dashes (word ∷ rest) = if bytes_eq word (codes "--") then rest else wo
 -- one argument: digits alone, from 1 to 86,400
 abbrev pub measure_of : List (List ℕ) → Option Request
 measure_of [] = None
-measure_of (word ∷ []) = option_map (λ width. Measure width PLAIN false) (number_between 1 86400 word)
+measure_of (word ∷ []) = option_map (λ width. Measure width PLAIN false) (number_between 1 greatest_width word)
 measure_of (word ∷ other ∷ rest) = None
 
 -- an option of `measure`

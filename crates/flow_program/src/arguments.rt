@@ -13,10 +13,12 @@ ghost use Rattle.flow_program.specs.Arguments.{layout_in, times_in};
 ghost use Rattle.flow_program.specs.Arguments.{moment_in, numbered_span_in, passed_in, worded_span_in};
 ghost use Rattle.flow_program.specs.Arguments.{width_in, workers_in};
 ghost use Rattle.flow_commands.specs.Plans.{IsWide};
+ghost use Rattle.flow_manifest.specs.Limits.{greatest_limit, least_limit};
 
 use crate::explaining::Explanation;
 use clap::ArgMatches;
 use flow_commands::{FeedPlan, NewArchive, StartSpan, Workers};
+use flow_manifest::{GREATEST_LIMIT, GREATEST_WIDTH, LEAST_LIMIT, MOST_MESSAGES};
 use flow_moments::{Moment, moment_of};
 use flow_report::{Format, Layout, Times, Width, number_between};
 use std::alloc::{AllocError, Global};
@@ -41,9 +43,6 @@ const USUAL_KEEP: u32 = 8;
 
 /// The most Files that are fed in one run.
 const MOST_FILES: usize = 8;
-
-/// The most messages of a File.
-const MOST_MESSAGES: u64 = 281_474_976_710_655;
 
 /// The most workers that scan.
 const MOST_WORKERS: u64 = 64;
@@ -151,13 +150,17 @@ pub(crate) fn folder_in<'a>(arguments: &ArgMatches<'a>) -> Option<FolderName<'a>
 #[tactic(auto, using(crate::proofs::Reading::first_value_is))]
 fn limit_in(arguments: &ArgMatches<'_>) -> Option<u32>
     ensures value { result ≡ limit_in (rows_of (found_of arguments.now)) }
-    ensures from { IfSome result (λ limit. 65535 ≤ limit) }
-    ensures to { IfSome result (λ limit. limit ≤ 16777216) }
+    ensures from { IfSome result (λ limit. least_limit ≤ limit) }
+    ensures to { IfSome result (λ limit. limit ≤ greatest_limit) }
 {
     let Some(word) = arguments.get_str("N") else {
         return Some(USUAL_LIMIT);
     };
-    let limit = number_between(65_535, 16_777_216, word.as_bytes())?;
+    let limit = number_between(
+        u64::from(LEAST_LIMIT),
+        u64::from(GREATEST_LIMIT),
+        word.as_bytes(),
+    )?;
     Some(limit as u32)
 }
 
@@ -171,7 +174,7 @@ fn wide_in(arguments: &ArgMatches<'_>, width: u32) -> Option<Option<u32>>
     let Some(word) = arguments.get_str("SECONDS") else {
         return Some(None);
     };
-    let wide = number_between(u64::from(width), 86_400, word.as_bytes())?;
+    let wide = number_between(u64::from(width), u64::from(GREATEST_WIDTH), word.as_bytes())?;
     if wide % u64::from(width) == 0 {
         Some(Some(wide as u32))
     } else {

@@ -11,6 +11,7 @@ ghost use Rattle.flow_manifest.specs.declared.manifest.Entry.{Entry};
 ghost use Rattle.flow_manifest.specs.Manifest.{IsValidManifest};
 ghost use Rattle.flow_manifest.specs.Slots.{reads_of};
 ghost use Rattle.flow_disk.specs.Cause.{HasCause};
+ghost use Rattle.flow_manifest.specs.Limits.{too_many_messages};
 ghost use Rattle.flow_model.specs.State.{Part, State, at_rest};
 ghost use Rattle.flow_recover.specs.Reading.{part_of};
 ghost use Rattle.flow_model.specs.Standing.{StandsAs, IsActiveAt, IsWithinLimits, HoldsFiles, PartsStand};
@@ -25,11 +26,12 @@ use crate::active::ActiveSegment;
 use crate::chaining::{kept_of, read_segment};
 use flow_disk::Disk;
 use flow_gate::scan;
-use flow_manifest::{Entry, Manifest, OpenError};
+use flow_manifest::{Entry, MOST_MESSAGES, Manifest, OpenError};
 use flow_segment::Carry;
 use std::alloc::Global;
 
-const TOO_MANY_MESSAGES: u64 = 1 << 48;
+/// One more than the most messages of an archive.
+const TOO_MANY_MESSAGES: u64 = MOST_MESSAGES + 1;
 
 /// What the files of an archive hold.
 #[derive(Drop)]
@@ -96,9 +98,9 @@ pub(crate) fn read_files<D: Disk>(
 
 /// How many messages an archive has, if they are not too many.
 fn total_of(entries: &[Entry], count: usize) -> Option<u64>
-    requires { messages_of entries.now < 2 ^ 48 }
-    ensures found { IfSome result (λ total. (total ≡ messages_of entries.now + count) × (total < 2 ^ 48)) }
-    ensures none { IfNone result (2 ^ 48 ≤ messages_of entries.now + count) }
+    requires { messages_of entries.now < too_many_messages }
+    ensures found { IfSome result (λ total. (total ≡ messages_of entries.now + count) × (total < too_many_messages)) }
+    ensures none { IfNone result (too_many_messages ≤ messages_of entries.now + count) }
 {
     let mut total = 0;
     for entry in entries {

@@ -1,9 +1,10 @@
 -- What a line asks of the shell.
-use Rattle.std.specs.Prelude.{ℕ, ◌==◌, List, [], ◌∷◌, Option, Some, None, codes, option_map, option_and_then}
+use Rattle.std.specs.Prelude.{ℕ, ◌-◌, ◌==◌, List, [], ◌∷◌, Option, Some, None, codes, option_map, option_and_then}
 use Rattle.std.specs.Prelude.{if◌then◌else◌}
 use Rattle.std.specs.List.{before_first, after_first}
 use Rattle.std.specs.Str.{bytes_eq}
 use Rattle.flow_report.specs.Numbers.{number_between}
+use Rattle.flow_manifest.specs.Limits.{too_many_messages}
 use Rattle.flow_commands.specs.Plans.{Span}
 use Rattle.flow_shell.specs.declared.asked.Query.{Query}
 use Rattle.flow_shell.specs.declared.asked.Query.TheVariants.{Totals, Flows, Message, Check}
@@ -25,7 +26,7 @@ span_in words =
 
 -- the number of a message, up to 2^48 - 1
 abbrev pub message_in : List ℕ → Option ℕ
-message_in word = number_between 0 281474976710655 word
+message_in word = number_between 0 (too_many_messages - 1) word
 
 abbrev pub keep_in : List ℕ → Option ℕ
 keep_in word = number_between 0 4294967295 word

@@ -5,6 +5,7 @@ ghost use Rattle.flow_shell.specs.Asked.{by_name, file_in, keep_in, message_in, 
 ghost use Rattle.flow_shell.specs.Asked.{rest_of, span_in};
 
 use flow_commands::StartSpan;
+use flow_manifest::MOST_MESSAGES;
 use flow_report::number_between;
 use std::marker::Model;
 
@@ -13,9 +14,6 @@ const MOST_SECOND: u64 = 4_294_967_296;
 
 /// The most files that may be left.
 const MOST_KEEP: u64 = 4_294_967_295;
-
-/// No message has a number above it.
-const MOST_MESSAGE: u64 = 281_474_976_710_655;
 
 /// The path of a File.
 #[derive(Drop)]
@@ -84,7 +82,7 @@ fn span_of(words: &str) -> Option<StartSpan>
 fn message_of(word: &str) -> Option<u64>
     ensures { result ≡ message_in word.now }
 {
-    number_between(0, MOST_MESSAGE, word.as_bytes())
+    number_between(0, MOST_MESSAGES, word.as_bytes())
 }
 
 /// How many segments are left as they are.

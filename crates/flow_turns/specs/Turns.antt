@@ -4,6 +4,7 @@ use Rattle.std.specs.Prelude.{if◌then◌else◌}
 use Rattle.std.specs.Prelude.{Option, Some, None, Result, Ok, Err, OnOk, IsErrOf, ◌≤◌}
 use Rattle.flow_disk.specs.declared.disk.Disk.{Ghosts}
 use Rattle.flow_disk.specs.Cause.{HasRisen}
+use Rattle.flow_manifest.specs.Limits.{most_entries}
 use Rattle.flow_manifest.specs.declared.following.JobKind.{JobKind}
 use Rattle.flow_manifest.specs.declared.following.JobKind.TheVariants.{Roll, Merge}
 use Rattle.flow_manifest.specs.Following.{count_of, source_of}
@@ -31,7 +32,7 @@ use Rattle.flow_turns.specs.declared.turn.Turn.TheVariants as turn
 -- How many files a job of this kind may be begun over, where the newest `keep` are left as they are. No manifest names
 -- more than 4,096.
 abbrev pub files_over : JobKind → ℕ → State → ℕ
-files_over kind keep s = min (count_of (source_of kind) s.manifest.entries - keep) 4096
+files_over kind keep s = min (count_of (source_of kind) s.manifest.entries - keep) most_entries
 
 abbrev pub begun_by : JobKind → ℕ → Event
 begun_by Roll count = RollBegin count

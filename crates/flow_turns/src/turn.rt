@@ -9,11 +9,8 @@ ghost use Rattle.flow_turns.specs.Turns.{begun_by, due, files_over, next_step, t
 
 use flow_archive::{Answer, Archive, ArchiveError, Event, JobStatus, take_event};
 use flow_disk::{Disk, Faults};
-use flow_manifest::JobKind;
+use flow_manifest::{JobKind, MOST_ENTRIES};
 use std::alloc::Global;
-
-/// The most files that a job is begun over: no manifest names more.
-const MOST_FILES: usize = 4_096;
 
 /// What a turn of rolling did.
 #[derive(Clone, Copy, Debug, PartialEq, Eq)]
@@ -42,7 +39,9 @@ pub(crate) fn files_over<D: Disk>(archive: &Archive<D>, kind: JobKind, keep: u32
         JobKind::Roll => archive.sealed_count(),
         JobKind::Merge => archive.rolled_count(),
     };
-    count.saturating_sub(keep as usize).min(MOST_FILES) as u32
+    count
+        .saturating_sub(keep as usize)
+        .min(MOST_ENTRIES as usize) as u32
 }
 
 /// The event that begins a job of this kind.
