@@ -11,6 +11,9 @@ ghost use Rattle.flow_disk.specs.Cause.{HasCause, FailsOnlyByFault};
 use crate::{DiskError, SealedFile};
 use std::alloc::Global;
 
+/// The most octets that a file has.
+pub const LIMIT: u64 = 1 << 62;
+
 /// Files of octets, named by numbers. A file never written is an empty file.
 ///
 /// Each call but `read` and `files` takes no memory, and answers Ok or `Fault`. A fault is answered only where the

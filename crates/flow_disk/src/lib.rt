@@ -13,7 +13,7 @@ mod laws;
 mod sealed;
 mod window;
 
-pub use disk::Disk;
+pub use disk::{Disk, LIMIT};
 pub use error::DiskError;
 pub use faults::Faults;
 pub use laws::{Step, law_of_quiet_calls, law_of_runs, laws_of_images};

@@ -4,9 +4,6 @@ ghost use Rattle.std.specs.Prelude.{◌≡◌, ◌≤◌, ◌^◌, ℕ};
 use std::alloc::Global;
 use std::collections::BTreeMap;
 
-/// The most octets that a file has.
-pub(crate) const LIMIT: u64 = 1 << 62;
-
 /// What was reported of a file: how many octets it has, and whether it is settled, frozen and listed.
 #[derive(Clone, Copy)]
 pub(crate) struct Told {

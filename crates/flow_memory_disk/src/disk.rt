@@ -12,13 +12,10 @@ use crate::record::Record;
 use crate::room::Room;
 use crate::stop::stop_all;
 use crate::stored::StoredFile;
-use flow_disk::DiskError;
+use flow_disk::{DiskError, LIMIT};
 use std::alloc::{AllocError, Global};
 use std::collections::BTreeSet;
 use std::sync::Arc;
-
-/// The longest file, in octets.
-const LIMIT: usize = 1 << 62;
 
 /// A disk in memory. It keeps a record of the calls that changed its files.
 #[derive(Drop)]
@@ -74,7 +71,7 @@ impl MemoryDisk {
         ensures free { IfOk result (λ disk. disk.files.items ≡ []) }
         ensures unused { IfOk result (λ disk. (vec_len disk.log.deeds ≡ 0) × (vec_len disk.log.octets ≡ 0)) }
     {
-        let octets = room.octets.min(LIMIT);
+        let octets = room.octets.min(LIMIT as usize);
         let mut spare = Vec::with_capacity(alloc, room.files)?;
         for _ in 0..room.files {
             spare.push(StoredFile::new(alloc, octets, room.calls)?)?;

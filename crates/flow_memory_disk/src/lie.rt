@@ -1,10 +1,7 @@
 // The lengths that a disk that lies answers.
 ghost use Rattle.std.specs.Prelude.{◌≡◌, ◌≤◌, ◌^◌, ℕ, Some, IfSome};
 
-use flow_disk::DiskError;
-
-/// The most octets that a file has.
-pub(crate) const LIMIT: u64 = 1 << 62;
+use flow_disk::{DiskError, LIMIT};
 
 /// The length that is answered instead of a file's own, as a seed chooses: at most its own, up to 63 octets more, or
 /// almost 2^62; or none, which is no lie.

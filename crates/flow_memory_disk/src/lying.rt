@@ -3,9 +3,9 @@ ghost use Rattle.std.specs.Prelude.{◌≡◌, ◌≤◌, ℕ, None, IfOk, vec_l
 ghost use Rattle.flow_disk.specs.Cause.{HasCause, HasRisen};
 ghost use Rattle.flow_memory_disk.specs.Lying.{told_of};
 
-use crate::lie::{LIMIT, Lie};
+use crate::lie::Lie;
 use crate::there::{cut_there, read_there, write_there};
-use flow_disk::{Disk, DiskError, Faults, MayFail, SealedFile};
+use flow_disk::{Disk, DiskError, Faults, LIMIT, MayFail, SealedFile};
 use std::alloc::Global;
 
 /// Numbers that follow from a seed.
