@@ -93,12 +93,12 @@ module _ {D : Type 0} (honest : D → Bool) (marks : D → ℕ → Marks) (held 
       let counted = archive.counted in
       let still = archive.still_open was in
       let are = are_entries slots.current counted.valid in
-      let file = ap (λ (e : Entry). e.file) counted.last_is in
+      let file = ap (λ (e : Entry). e.file) counted.active_entry_is in
       let moved = counted_moved s last end total prefix counted valid in
       let now : IsCounted after_state (active_entry work.next (length prefix)) (length prefix) total = record {
         valid = valid;
         next = omega arith;
-        last_is = moved.last_is;
+        active_entry_is = moved.active_entry_is;
         end_is = moved.end_is;
         long = λ some. moved.long some;
         total_is = moved.total_is;

@@ -29,7 +29,7 @@ module _ (s : State) (job : Option Job) (waiting : List ℕ) (shared : Bool) whe
   counted_too last end total was = record {
     valid = was.valid;
     next = was.next;
-    last_is = was.last_is;
+    active_entry_is = was.active_entry_is;
     end_is = was.end_is;
     long = was.long;
     total_is = was.total_is;

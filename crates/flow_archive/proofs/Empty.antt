@@ -79,7 +79,7 @@ pub counted_empty : (width wide limit : ℕ) → IsValidManifest (first_manifest
 counted_empty width wide limit valid = record {
   valid = valid;
   next = omega arith;
-  last_is = refl;
+  active_entry_is = refl;
   end_is = refl;
   long = λ some. absurd (omega (arith, some));
   total_is = refl;

@@ -355,11 +355,11 @@ module _ {D : Type 0} (honest : D → Bool) (marks : D → ℕ → Marks) (held 
         let are = are_entries m valid in
         let active_is = active_installed m valid kind count few file work.next in
         let total_too = messages_installed m valid kind count few file work.next in
-        let at = ap (λ (e : Entry). e.file) counted.last_is in
+        let at = ap (λ (e : Entry). e.file) counted.active_entry_is in
         let now : IsCounted then_state last end total = record {
           valid = now_valid;
           next = omega arith;
-          last_is = counted.last_is ∙ sym active_is;
+          active_entry_is = counted.active_entry_is ∙ sym active_is;
           end_is = omega (arith, counted.end_is, ap (λ (e : Entry). e.prefix) active_is);
           long = counted.long;
           total_is = omega (arith, counted.total_is, total_too);

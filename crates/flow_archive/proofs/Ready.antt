@@ -35,7 +35,7 @@ within_more s last end total more counted fits few = record {
     octet_sum-append s.active.messages more,
     fits,
     counted.end_is,
-    ap (λ (e : Entry). e.prefix) counted.last_is,
+    ap (λ (e : Entry). e.prefix) counted.active_entry_is,
   );
   all = omega (arith, length-append s.active.messages more, few, counted.total_is);
 }
@@ -46,9 +46,9 @@ pub counted_more : (s : State) (last : Entry) (end total : ℕ) (more : List (Li
 counted_more s last end total more counted fits few some = record {
   valid = counted.valid;
   next = counted.next;
-  last_is = counted.last_is;
+  active_entry_is = counted.active_entry_is;
   end_is = omega (arith, octet_sum-append s.active.messages more, counted.end_is);
-  long = λ any. omega (arith, some, counted.end_is, ap (λ (e : Entry). e.prefix) counted.last_is);
+  long = λ any. omega (arith, some, counted.end_is, ap (λ (e : Entry). e.prefix) counted.active_entry_is);
   total_is = omega (arith, length-append s.active.messages more, counted.total_is);
   within = within_more s last end total more counted fits few;
 }
@@ -86,7 +86,7 @@ pub counted_moved : (s : State) (last : Entry) (end total : ℕ) (prefix : List 
 counted_moved s last end total prefix counted valid = record {
   valid = valid;
   next = omega arith;
-  last_is = sym fresh_is;
+  active_entry_is = sym fresh_is;
   end_is = omega (arith, ap (λ (e : Entry). e.prefix) fresh_is);
   long = λ some. omega (arith, some);
   total_is = omega (arith, sums, counted.total_is);

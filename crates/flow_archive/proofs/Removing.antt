@@ -127,7 +127,7 @@ module _ {D : Type 0} (honest : D → Bool) (marks : D → ℕ → Marks) (held 
     stand = λ h1. was.stand (back h1);
     still_open = λ is.
         let still = was.still_open is in
-        let file = ap (λ (e : Entry). e.file) was.counted.last_is in
+        let file = ap (λ (e : Entry). e.file) was.counted.active_entry_is in
         record {
           kept = record {
             counted = still.kept.counted;

@@ -148,7 +148,7 @@ module _ {D S : Type 0} (honest : D → Bool) (marks : D → ℕ → Marks) (hel
       let counted : IsCounted found_state last end total = record {
         valid = was.valid;
         next = was.next;
-        last_is = was.last_is;
+        active_entry_is = was.active_entry_is;
         end_is = was.end_is;
         long = was.long;
         total_is = was.total_is;

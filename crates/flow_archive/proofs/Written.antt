@@ -51,7 +51,7 @@ module _ (s : State) (next : ℕ) (job : Option Job) (waiting : List ℕ) where
   counted_with last end total from was = record {
     valid = was.valid;
     next = from;
-    last_is = was.last_is;
+    active_entry_is = was.active_entry_is;
     end_is = was.end_is;
     long = was.long;
     total_is = was.total_is;

@@ -140,7 +140,8 @@ AnswersSeal honest closed s (Err NothingToSeal) after =
 AnswersSeal honest closed s (Err ManifestFull) after =
     (closed ≡ false) × (s.active.messages ≢ []) × (most_entries ≤ length s.manifest.entries) × (after ≡ s)
 AnswersSeal honest closed s (Err NumbersSpent) after =
-    (closed ≡ false) × (s.active.messages ≢ []) × (length s.manifest.entries < most_entries) × (HasNumbers s → ⊥) × (after ≡ s)
+    (closed ≡ false) × (s.active.messages ≢ []) × (length s.manifest.entries < most_entries) × (HasNumbers s → ⊥)
+    × (after ≡ s)
 AnswersSeal honest closed s (Err OutOfMemory) after = (closed ≡ false) × (after ≡ s)
 AnswersSeal honest closed s (Err Fault) after = (closed ≡ false) × MaySeal s × (after ≡ s)
 AnswersSeal honest closed s other after = ⊥

@@ -1,6 +1,7 @@
 //! The frozen files of an archive, and what directories have of them.
 
-ghost use Rattle.std.specs.Prelude.{◌≡◌, ◌++◌, ◌<◌, ◌≤◌, ◌≢◌, ℕ, Bool, true, false, IsTrue, OnErr, OnOk, IfOk, IfErr, map};
+ghost use Rattle.std.specs.Prelude.{◌≡◌, ◌++◌, ◌<◌, ◌≤◌, ◌≢◌, ℕ, Bool, true, false, IsTrue, OnErr, OnOk, IfOk, IfErr};
+ghost use Rattle.std.specs.Prelude.{map};
 ghost use Rattle.std.specs.Prelude.{take, vec_len, MatchResult};
 ghost use Rattle.std.specs.List.{list_all, AllByRecursion};
 ghost use Rattle.std.specs.Arc.{arc_value};
@@ -150,7 +151,8 @@ impl<S: SealedFile> FrozenFile<S> {
     }
 
     /// Adds what it holds to sums, and answers its greatest Export Time, in seconds since 1970-01-01 00:00 UTC. A file
-    /// of sums was rolled by `width` seconds. It is read once, a piece at a time. A refusal leaves the sums as they were.
+    /// of sums was rolled by `width` seconds. It is read once, a piece at a time. A refusal leaves the sums as they
+    /// were.
     pub(crate) fn add_to(
         &self,
         alloc: Global,

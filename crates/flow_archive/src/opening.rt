@@ -121,7 +121,8 @@ pub(crate) fn resumed<D: Disk>(
     found: Recovered<D>,
 ) -> Result<Archive<D>, Refused<D, OpenError>>
     requires { (reads : ℕ → List ℕ) × IsRecovered D.honest D.marks D.held D.Sealed.octets D.Sealed.number D.Sealed.size
-        D.Sealed.honest reads disk found.slots found.last found.end found.total (part_of found.active) found.carry
+        D.Sealed.honest reads disk found.slots found.active_entry found.end found.total (part_of found.active)
+        found.carry
         found.parts.items }
     ensures disk { disk_of result ≡ disk }
     ensures refused { IfErr result (λ r. r.error ≡ OpenError.OutOfMemory) }
@@ -131,7 +132,8 @@ pub(crate) fn resumed<D: Disk>(
         (λ a. (a.state.manifest ≡ found.slots.current) × (end_of a.state ≡ found.end)) }
     // Where what was read represented the state that was found, it represents this one.
     ensures read { (reads : ℕ → List ℕ) → IsRecovered D.honest D.marks D.held D.Sealed.octets D.Sealed.number
-        D.Sealed.size D.Sealed.honest reads disk found.slots found.last found.end found.total (part_of found.active)
+        D.Sealed.size D.Sealed.honest reads disk found.slots found.active_entry found.end found.total (part_of
+        found.active)
         found.carry found.parts.items
         → IsTrue (D.honest disk) → IfOk result (λ a. StandsFor reads a.state) }
     ensures stands { IsTrue (D.honest disk)
@@ -149,7 +151,7 @@ pub(crate) fn resumed<D: Disk>(
     Ok(Archive {
         disk,
         slots: found.slots,
-        active: found.last,
+        active: found.active_entry,
         end: found.end,
         total: found.total,
         carry: found.carry,

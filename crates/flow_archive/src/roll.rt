@@ -176,8 +176,9 @@ impl<D: Disk> Archive<D> {
     }
 }
 
-/// Reads the next source of a job, and adds what it holds to the sums of the job. A refusal changes nothing. Beside what
-/// the reading takes, it takes memory for a change of each key of the job that a segment has too, and for new keys.
+/// Reads the next source of a job, and adds what it holds to the sums of the job. A refusal changes nothing. Beside
+/// what the reading takes, it takes memory for a change of each key of the job that a segment has too, and for new
+/// keys.
 fn take_source<S: SealedFile>(
     alloc: Global,
     job: &mut RunningJob<S>,

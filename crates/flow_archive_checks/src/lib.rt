@@ -6,7 +6,7 @@
 #[cfg(test)]
 mod asked;
 #[cfg(test)]
-mod held;
+mod chosen_file;
 #[cfg(test)]
 mod plain;
 #[cfg(test)]

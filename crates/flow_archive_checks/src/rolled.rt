@@ -1,6 +1,6 @@
 //! Rolled files, octet by octet, and read from files whose reads may fail.
 
-use crate::held::Held;
+use crate::chosen_file::ChosenFile;
 use flow_disk::{DiskError, Faults};
 use flow_measure::{Flow, Key, Rows, SumError, Sums};
 use flow_refusals::{ReadRefusal, SumRefusal};
@@ -58,22 +58,22 @@ fn are_alike(first: &Rows, second: &Rows) -> Result<bool, AllocError> {
 }
 
 /// The rolled file of these octets, of which no read fails.
-fn part(octets: Vec<u8>) -> RolledPart<Held> {
+fn part(octets: Vec<u8>) -> RolledPart<ChosenFile> {
     let size = octets.len() as u64;
-    RolledPart::new(Held::whole(FILE, octets), 1, size)
+    RolledPart::new(ChosenFile::whole(FILE, octets), 1, size)
 }
 
 /// The next rows that a reader gives. It promises nothing, so that what is built of it is proved without all that a
 /// reader promises.
 fn next(
     alloc: Global,
-    reader: &mut RowReader<'_, Held>,
+    reader: &mut RowReader<'_, ChosenFile>,
 ) -> Result<Option<Vec<RolledRow>>, ReadRefusal> {
     reader.next(alloc, &mut Faults::new())
 }
 
 /// How many rows a reader gives.
-fn count_all(alloc: Global, reader: &mut RowReader<'_, Held>) -> Result<usize, ReadRefusal> {
+fn count_all(alloc: Global, reader: &mut RowReader<'_, ChosenFile>) -> Result<usize, ReadRefusal> {
     let mut count = 0usize;
     for _ in 0..1_000 {
         match next(alloc, reader)? {
@@ -91,7 +91,7 @@ fn count_of(alloc: Global, octets: Vec<u8>) -> Result<usize, ReadRefusal> {
 }
 
 /// Adds the sums of a file.
-fn sum(alloc: Global, file: &RolledPart<Held>, rows: &mut Rows) -> Result<(), SumRefusal> {
+fn sum(alloc: Global, file: &RolledPart<ChosenFile>, rows: &mut Rows) -> Result<(), SumRefusal> {
     sum_rows(alloc, &mut Faults::new(), file, 300, rows)
 }
 
@@ -299,10 +299,10 @@ fn export_time(rt: HostRuntime) -> Result<(), Fail> {
 }
 
 /// A file of 7,000 rows, of which each read fails that reaches past the first piece.
-fn broken(alloc: Global) -> Result<RolledPart<Held>, Fail> {
+fn broken(alloc: Global) -> Result<RolledPart<ChosenFile>, Fail> {
     let octets = encoded(alloc, &intervals(alloc, 7_000, None)?)?;
     let size = octets.len() as u64;
-    let held = Held {
+    let held = ChosenFile {
         number: FILE,
         octets,
         bad: 262_145,
@@ -313,7 +313,7 @@ fn broken(alloc: Global) -> Result<RolledPart<Held>, Fail> {
 /// How many rows a reader gives in so many messages, and whether it then meets a fault, twice.
 fn read_broken(
     alloc: Global,
-    reader: &mut RowReader<'_, Held>,
+    reader: &mut RowReader<'_, ChosenFile>,
 ) -> Result<(usize, bool), ReadRefusal> {
     let mut count = 0usize;
     for _ in 0..7 {
@@ -337,7 +337,7 @@ fn failing_piece(rt: HostRuntime) -> Result<(), Fail> {
 }
 
 /// The file of two intervals that a wide one holds, each with 1,500 octets.
-fn two_intervals(alloc: Global) -> Result<RolledPart<Held>, Fail> {
+fn two_intervals(alloc: Global) -> Result<RolledPart<ChosenFile>, Fail> {
     let mut narrow = Rows::new(alloc, 300);
     narrow.add(&flow(7, 300, Some(6)))?;
     narrow.add(&flow(7, 900, Some(6)))?;
@@ -351,7 +351,7 @@ const KEY: Key = Key {
 };
 
 /// The octets under the wide interval once the sums of the file are added to a flow of so many.
-fn widened(alloc: Global, file: &RolledPart<Held>, octets: u128) -> Result<u128, SumRefusal> {
+fn widened(alloc: Global, file: &RolledPart<ChosenFile>, octets: u128) -> Result<u128, SumRefusal> {
     let mut wide = Rows::new(alloc, 3600);
     let first = Sums {
         flows: 1,

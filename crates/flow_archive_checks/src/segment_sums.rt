@@ -1,6 +1,6 @@
 //! Sums and flows of sealed segments.
 
-use crate::held::Held;
+use crate::chosen_file::ChosenFile;
 use crate::segments::{FILE, FLOW, FLOW_ALONE, THE_FLOW, part_of};
 use flow_codec::Templates;
 use flow_disk::Faults;
@@ -28,8 +28,8 @@ fn part(
     octets: &[u8],
     messages: u64,
     bad: u64,
-) -> Result<SealedPart<Held>, ReadRefusal> {
-    let held = Held {
+) -> Result<SealedPart<ChosenFile>, ReadRefusal> {
+    let held = ChosenFile {
         number: FILE,
         octets: octets.to_vec(alloc)?,
         bad,
@@ -41,7 +41,7 @@ fn part(
 /// built of it is proved without all that sums promise.
 fn sum(
     alloc: Global,
-    part: &SealedPart<Held>,
+    part: &SealedPart<ChosenFile>,
     templates: &mut Templates,
     rows: &mut Rows,
 ) -> Result<u32, SumRefusal> {

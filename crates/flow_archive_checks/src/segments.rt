@@ -1,6 +1,6 @@
 //! Sealed segments, read message by message and at once, from files whose octets tests choose.
 
-use crate::held::Held;
+use crate::chosen_file::ChosenFile;
 use crate::thawed::{Thawed, memory};
 use flow_disk::{Disk, Faults, SealedFile, Window};
 use flow_measure::Flow;
@@ -68,7 +68,7 @@ fn made_and_read<D: Disk>(
 }
 
 /// The sealed segment in a file, of a prefix of so many octets and so many messages.
-pub(crate) fn part_of(file: Held, prefix: u64, messages: u64) -> SealedPart<Held> {
+pub(crate) fn part_of(file: ChosenFile, prefix: u64, messages: u64) -> SealedPart<ChosenFile> {
     let length = file.length();
     SealedPart {
         reader: file,
@@ -84,18 +84,28 @@ fn part(
     octets: &[u8],
     prefix: u64,
     messages: u64,
-) -> Result<SealedPart<Held>, AllocError> {
-    Ok(part_of(Held::whole(FILE, octets.to_vec(alloc)?), prefix, messages))
+) -> Result<SealedPart<ChosenFile>, AllocError> {
+    Ok(part_of(
+        ChosenFile::whole(FILE, octets.to_vec(alloc)?),
+        prefix,
+        messages,
+    ))
 }
 
 /// How many octets the next message has, if there is one.
-fn next(alloc: Global, reader: &mut PartReader<'_, Held>) -> Result<Option<usize>, ReadRefusal> {
+fn next(
+    alloc: Global,
+    reader: &mut PartReader<'_, ChosenFile>,
+) -> Result<Option<usize>, ReadRefusal> {
     let message = reader.next(alloc, &mut Faults::new())?;
     Ok(message.map(|message| message.len()))
 }
 
 /// How many octets each message has, read one by one up to the end, which is asked for twice.
-fn one_by_one(alloc: Global, part: &SealedPart<Held>) -> Result<[Option<usize>; 3], ReadRefusal> {
+fn one_by_one(
+    alloc: Global,
+    part: &SealedPart<ChosenFile>,
+) -> Result<[Option<usize>; 3], ReadRefusal> {
     let mut reader = PartReader::new(alloc, part);
     let first = next(alloc, &mut reader)?;
     let second = next(alloc, &mut reader)?;
@@ -103,7 +113,7 @@ fn one_by_one(alloc: Global, part: &SealedPart<Held>) -> Result<[Option<usize>; 
 }
 
 /// How many octets each message has, read at once.
-fn at_once(alloc: Global, part: &SealedPart<Held>) -> Result<Vec<usize>, ReadRefusal> {
+fn at_once(alloc: Global, part: &SealedPart<ChosenFile>) -> Result<Vec<usize>, ReadRefusal> {
     let messages = messages_of(alloc, part, &mut Faults::new())?;
     let mut counts = Vec::new(alloc);
     for message in &messages {
@@ -148,7 +158,7 @@ fn the_messages_of_a_segment(rt: HostRuntime) -> Result<(), Fail> {
 fn flows_after(alloc: Global, prefix: &[u8], message: &[u8]) -> Result<Vec<Flow>, ReadRefusal> {
     let mut octets = Vec::from_slice(alloc, prefix)?;
     octets.extend_from_slice(message)?;
-    let part = part_of(Held::whole(FILE, octets), prefix.len() as u64, 1);
+    let part = part_of(ChosenFile::whole(FILE, octets), prefix.len() as u64, 1);
     flows_of(alloc, &part, &mut Faults::new())
 }
 

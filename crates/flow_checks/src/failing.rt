@@ -237,7 +237,7 @@ fn freeze(failing: &Failing<'_>, folder: &str) -> Result<(), Fail> {
 
 /// What is made of a folder, one after the other, each by a value of its own.
 #[derive(Clone, Copy)]
-enum Part<'a> {
+enum Session<'a> {
     /// These calls.
     Calls(&'a [Row<'a>]),
     /// File 3 is frozen.
@@ -246,14 +246,14 @@ enum Part<'a> {
 
 /// A folder: what its file 3 has before, if anything, for how many octets there is room, what is made of it, and what
 /// its file 3 has afterwards, if anything.
-type Folder<'a> = (&'a [u8], u64, &'a [Part<'a>], &'a [u8]);
+type Folder<'a> = (&'a [u8], u64, &'a [Session<'a>], &'a [u8]);
 
 /// Makes what is to be made of a folder, one after the other.
-fn make_all(failing: &Failing<'_>, folder: &str, parts: &[Part<'_>]) -> Result<(), Fail> {
+fn make_all(failing: &Failing<'_>, folder: &str, parts: &[Session<'_>]) -> Result<(), Fail> {
     for part in parts {
         match *part {
-            Part::Calls(rows) => make(failing, folder, rows)?,
-            Part::Freeze => freeze(failing, folder)?,
+            Session::Calls(rows) => make(failing, folder, rows)?,
+            Session::Freeze => freeze(failing, folder)?,
         }
     }
     Ok(())
@@ -323,21 +323,21 @@ const FROZEN: [Row<'static>; 4] = [
     Row(Call::Sync(3), 0, true, [6, 3, 0]),
 ];
 
-const AGAIN: [Part<'static>; 5] = [
-    Part::Calls(&CHANGED),
+const AGAIN: [Session<'static>; 5] = [
+    Session::Calls(&CHANGED),
     // a later value doesn't know it
-    Part::Calls(&[Row(Call::Sync(3), 0, true, [4, 2, 0])]),
-    Part::Freeze,
-    Part::Calls(&FROZEN),
+    Session::Calls(&[Row(Call::Sync(3), 0, true, [4, 2, 0])]),
+    Session::Freeze,
+    Session::Calls(&FROZEN),
     // doubtful again
-    Part::Calls(&[Row(Call::Sync(3), 0, true, [7, 4, 0])]),
+    Session::Calls(&[Row(Call::Sync(3), 0, true, [7, 4, 0])]),
 ];
 
 /// After a failed sync a frozen file is doubtful.
-const DOUBTFUL: [Part<'static>; 3] = [
-    Part::Calls(&[Row(Call::Write(3, 0, b"abc"), 0, true, [1, 0, 1])]),
-    Part::Freeze,
-    Part::Calls(&[
+const DOUBTFUL: [Session<'static>; 3] = [
+    Session::Calls(&[Row(Call::Write(3, 0, b"abc"), 0, true, [1, 0, 1])]),
+    Session::Freeze,
+    Session::Calls(&[
         Row(Call::Sync(3), 1, false, [2, 1, 1]),
         // no longer taken for settled
         Row(Call::Sync(3), 0, true, [3, 2, 1]),
@@ -368,14 +368,14 @@ const FULL: [Row<'static>; 4] = [
 ];
 
 /// A file of two pieces is written again in two, each where it was.
-const PIECES: [Part<'static>; 1] = [Part::Calls(&[Row(Call::Sync(3), 0, true, [2, 1, 0])])];
+const PIECES: [Session<'static>; 1] = [Session::Calls(&[Row(Call::Sync(3), 0, true, [2, 1, 0])])];
 
 const FOLDERS: [Folder<'static>; 5] = [
-    (b"", 1000, &[Part::Calls(&SYNCS)], b"AbcDZ"),
+    (b"", 1000, &[Session::Calls(&SYNCS)], b"AbcDZ"),
     (b"abcdef", 1000, &AGAIN, b"abcdefg"),
     (b"", 1000, &DOUBTFUL, b"abc"),
-    (b"", 1000, &[Part::Calls(&NAMES)], b""),
-    (b"", 5, &[Part::Calls(&FULL)], b"ABc"),
+    (b"", 1000, &[Session::Calls(&NAMES)], b""),
+    (b"", 5, &[Session::Calls(&FULL)], b"ABc"),
 ];
 
 /// Octets of two pieces, which aren't alike.

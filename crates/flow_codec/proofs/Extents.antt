@@ -13,8 +13,8 @@ use Rattle.flow_elements.specs.declared.element.ElementId.{ElementId}
 use Rattle.flow_codec.specs.declared.error.MessageError.{MessageError}
 use Rattle.flow_codec.specs.declared.error.MessageError.TheVariants.{RecordCut}
 use Rattle.flow_codec.specs.declared.plan.Role.{Role}
-use Rattle.flow_codec.specs.declared.plan.Step.{Step}
-use Rattle.flow_codec.specs.declared.plan.Step.TheVariants.{Skip, Fixed, Variable}
+use Rattle.flow_codec.specs.declared.plan.FieldStep.{FieldStep}
+use Rattle.flow_codec.specs.declared.plan.FieldStep.TheVariants.{Skip, Fixed, Variable}
 use Rattle.flow_codec.specs.Layout.{least}
 use Rattle.flow_codec.specs.Plan.{role_of, is_counted, step_of, fixed_step, steps_of, before_steps}
 use Rattle.flow_codec.specs.Reading.{◌>>=◌, behind, number_at, octets_at, counted_at, field_at, extent_at}
@@ -60,7 +60,7 @@ counted_parts at (n ∷ rest) x e = by (ltb n 255) e
         whole ∙ behind_parts (n ∷ take 2 rest) p.0.1 (octets_at at p.0.0 p.0.1) x
         (λ y. octets_parts at p.0.0 p.0.1 y) p.2
 
-pub step_parts : (at : ℕ) (step : Step) (octets : List ℕ) (x : List ℕ × List ℕ) → step_at at step octets ≡ Ok x
+pub step_parts : (at : ℕ) (step : FieldStep) (octets : List ℕ) (x : List ℕ × List ℕ) → step_at at step octets ≡ Ok x
     → octets ≡ x.0 ++ x.1
 step_parts at (Skip count) octets x e = octets_parts at count octets x e
 step_parts at (Fixed role count) octets x e = octets_parts at count octets x e
@@ -133,7 +133,7 @@ in_turn (Ok x) f g = by (f x.1)
     by (Err d) = refl
 in_turn (Err d) f g = refl
 
-before_is : (at : ℕ) (step : Step) (steps : List Step) (octets : List ℕ)
+before_is : (at : ℕ) (step : FieldStep) (steps : List FieldStep) (octets : List ℕ)
     → extent_by at (before_steps step steps) octets ≡ (step_at at step octets >>= each (extent_by at steps))
 unfolding extent_by
 before_is at (Skip count) [] octets = refl

@@ -6,37 +6,37 @@ use Rattle.std.specs.Prelude.{unwrap_or}
 use Rattle.std.proofs.lemmas.List.{drop_all}
 use Rattle.flow_elements.specs.declared.element.ElementId.{ElementId}
 use Rattle.flow_codec.specs.declared.plan.Role.{Role}
-use Rattle.flow_codec.specs.declared.plan.Step.{Step}
-use Rattle.flow_codec.specs.declared.plan.Step.TheVariants.{Skip, Fixed, Variable}
+use Rattle.flow_codec.specs.declared.plan.FieldStep.{FieldStep}
+use Rattle.flow_codec.specs.declared.plan.FieldStep.TheVariants.{Skip, Fixed, Variable}
 use Rattle.flow_codec.specs.Plan.{role_of, is_counted, step_of, fixed_step, steps_of, skip_of, skipped, before_steps}
 
 -- steps after a skip that isn't among them yet, if there is one
-abbrev pub skipping : Option ℕ → List Step → List Step
+abbrev pub skipping : Option ℕ → List FieldStep → List FieldStep
 skipping None steps = steps
 skipping (Some count) steps = skipped count steps
 
-abbrev pub IsOther : Step → Type 0
+abbrev pub IsOther : FieldStep → Type 0
 IsOther (Skip count) = ⊥
 IsOther (Fixed role len) = Unit {0}
 IsOther (Variable role) = Unit {0}
 
-pub is_other : (step : Step) → ((count : ℕ) → step ≡ Skip count → ⊥) → IsOther step
+pub is_other : (step : FieldStep) → ((count : ℕ) → step ≡ Skip count → ⊥) → IsOther step
 is_other (Skip count) h = h count refl
 is_other (Fixed role len) h = tt
 is_other (Variable role) h = tt
 
-merges : (a b : ℕ) (steps : List Step) → skipped (a + b) steps ≡ skipped a (skipped b steps)
+merges : (a b : ℕ) (steps : List FieldStep) → skipped (a + b) steps ≡ skipped a (skipped b steps)
 merges a b [] = refl
 merges a b (Skip more ∷ steps) = ap (λ (n : ℕ). Skip n ∷ steps) (add_assoc a b more)
 merges a b (Fixed role len ∷ steps) = refl
 merges a b (Variable role ∷ steps) = refl
 
-opens : (gap : Option ℕ) (count : ℕ) (steps : List Step)
+opens : (gap : Option ℕ) (count : ℕ) (steps : List FieldStep)
     → skipping (Some (unwrap_or gap 0 + count)) steps ≡ skipping gap (skipped count steps)
 opens None count steps = ap (λ (n : ℕ). skipped n steps) (zero-add count)
 opens (Some n) count steps = merges n count steps
 
-closes : (gap : Option ℕ) (step : Step) (steps : List Step) → IsOther step
+closes : (gap : Option ℕ) (step : FieldStep) (steps : List FieldStep) → IsOther step
     → skipping gap (before_steps step steps) ≡ skip_of gap ++ step ∷ steps
 closes gap (Skip count) steps h = absurd h
 closes None (Fixed role len) steps h = refl
@@ -63,8 +63,8 @@ skip_len id len count = by (eqb len 65535) (role_of id)
     by true role e = absurd cc
     by false role e = fixed role e
 
-module _ (fs : List (ElementId × ℕ)) (i : ℕ) (d : ElementId × ℕ) (steps : List Step) (gap : Option ℕ)
-    (total : List Step) (so_far : steps ++ skipping gap (steps_of (drop i fs)) ≡ total) where
+module _ (fs : List (ElementId × ℕ)) (i : ℕ) (d : ElementId × ℕ) (steps : List FieldStep) (gap : Option ℕ)
+    (total : List FieldStep) (so_far : steps ++ skipping gap (steps_of (drop i fs)) ≡ total) where
   split : i < length fs → drop i fs ≡ get_or fs i d ∷ drop (i + 1) fs
   split lt = rw add-one (drop-cons fs i d lt)
 
@@ -77,24 +77,24 @@ module _ (fs : List (ElementId × ℕ)) (i : ℕ) (d : ElementId × ℕ) (steps 
       → (steps ++ skipping (Some (unwrap_or gap 0 + count)) (steps_of (drop (i + 1) fs)) ≡ total)
       × (count ≡ (get_or fs i d).1)
   skips lt count is = (
-    ap (λ (ss : List Step). steps ++ ss) (opens gap count (steps_of (drop (i + 1) fs))
-        ∙ ap (λ (s : Step). skipping gap (before_steps s (steps_of (drop (i + 1) fs)))) (sym is)
+    ap (λ (ss : List FieldStep). steps ++ ss) (opens gap count (steps_of (drop (i + 1) fs))
+        ∙ ap (λ (s : FieldStep). skipping gap (before_steps s (steps_of (drop (i + 1) fs)))) (sym is)
         ∙ ap (skipping gap) (sym (one lt))) ∙ so_far,
     skip_len (get_or fs i d).0 (get_or fs i d).1 count is,
   )
 
-  pub goes_on : i < length fs → (step : Step) → step_of (get_or fs i d).0 (get_or fs i d).1 ≡ step → IsOther step
+  pub goes_on : i < length fs → (step : FieldStep) → step_of (get_or fs i d).0 (get_or fs i d).1 ≡ step → IsOther step
       → ((steps ++ skip_of gap) ++ step ∷ []) ++ skipping None (steps_of (drop (i + 1) fs)) ≡ total
   goes_on lt step is other =
       let more = steps_of (drop (i + 1) fs) in
       let parts : ((steps ++ skip_of gap) ++ step ∷ []) ++ more ≡ steps ++ (skip_of gap ++ step ∷ more) =
       simp append_assoc in
-      parts ∙ ap (λ (ss : List Step). steps ++ ss) (sym (closes gap step more other)
-      ∙ ap (λ (s : Step). skipping gap (before_steps s more)) (sym is) ∙ ap (skipping gap) (sym (one lt))) ∙ so_far
+      parts ∙ ap (λ (ss : List FieldStep). steps ++ ss) (sym (closes gap step more other)
+      ∙ ap (λ (s : FieldStep). skipping gap (before_steps s more)) (sym is) ∙ ap (skipping gap) (sym (one lt))) ∙ so_far
 
   pub is_done : length fs ≤ i → steps ++ skip_of gap ≡ total
   unfolding steps_of
   is_done le =
       let none : drop i fs ≡ [] = drop_all i fs le in
-      ap (λ (ss : List Step). steps ++ ss) (sym (last gap)
+      ap (λ (ss : List FieldStep). steps ++ ss) (sym (last gap)
       ∙ ap (λ (rest : List (ElementId × ℕ)). skipping gap (steps_of rest)) (sym none)) ∙ so_far

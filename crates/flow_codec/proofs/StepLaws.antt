@@ -6,8 +6,8 @@ use Rattle.std.proofs.lemmas.List.{take_at, drop_at, drop-drop}
 use Rattle.std.proofs.lemmas.List.Concat.{flat_map-cons}
 use Rattle.flow_elements.specs.declared.element.ElementId.{ElementId}
 use Rattle.flow_codec.specs.declared.plan.Role.{Role}
-use Rattle.flow_codec.specs.declared.plan.Step.{Step}
-use Rattle.flow_codec.specs.declared.plan.Step.TheVariants.{Skip, Fixed, Variable}
+use Rattle.flow_codec.specs.declared.plan.FieldStep.{FieldStep}
+use Rattle.flow_codec.specs.declared.plan.FieldStep.TheVariants.{Skip, Fixed, Variable}
 use Rattle.flow_codec.specs.declared.message.Field.{Field}
 use Rattle.flow_codec.specs.Fields.{IsField, AreFields, value_of, fields_in}
 use Rattle.flow_codec.specs.Plan.{role_of, is_counted, counting, values_of, before_steps, fixed_step, step_of, steps_of}
@@ -16,7 +16,7 @@ use Rattle.flow_codec.proofs.Steps.{by_bool}
 use Rattle.flow_codec.proofs.FieldLaws.{value_again, fields_are}
 
 -- adjacent skips become one
-before-is : (step : Step) (steps : List Step) (octets : List ℕ)
+before-is : (step : FieldStep) (steps : List FieldStep) (octets : List ℕ)
     → values_by (before_steps step steps) octets ≡ values_by (step ∷ steps) octets
 unfolding values_by
 before-is (Skip count) [] octets = refl
@@ -27,7 +27,7 @@ before-is (Fixed role len) steps octets = refl
 before-is (Variable role) steps octets = refl
 
 -- the step over a field, whose octets come first
-fixed-is : (role : Option Role) (len : ℕ) (steps : List Step) (value rest : List ℕ) → length value ≡ len
+fixed-is : (role : Option Role) (len : ℕ) (steps : List FieldStep) (value rest : List ℕ) → length value ≡ len
     → values_by (fixed_step role len ∷ steps) (value ++ rest) ≡ counting role value ++ values_by steps rest
 unfolding values_by
 fixed-is None len steps value rest is = ap (values_by steps) (drop_at value rest len is)
@@ -40,13 +40,13 @@ fixed-is (Some role) len steps value rest is = elim (by_bool (is_counted role le
       rw (w, same) (ap (values_by steps) (drop_at value rest len is))
 ]
 
-variable-is : (role : Option Role) (steps : List Step) (octets value rest : List ℕ)
+variable-is : (role : Option Role) (steps : List FieldStep) (octets value rest : List ℕ)
     → value_of 65535 octets ≡ (value, rest)
     → values_by (Variable role ∷ steps) octets ≡ counting role value ++ values_by steps rest
 unfolding values_by
 variable-is role steps octets value rest is = ap (λ (x : List ℕ × List ℕ). counting role x.0 ++ values_by steps x.1) is
 
-step-is : (id : ElementId) (len : ℕ) (steps : List Step) (octets value rest : List ℕ) → IsField len octets value
+step-is : (id : ElementId) (len : ℕ) (steps : List FieldStep) (octets value rest : List ℕ) → IsField len octets value
     → values_by (step_of id len ∷ steps) (octets ++ rest) ≡ counting (role_of id) value ++ values_by steps rest
 step-is id len steps octets value rest (inl (fixed, same, is)) =
     let test : eqb len 65535 ≡ false = ne_eqb len 65535 fixed in

@@ -3,14 +3,14 @@ use Rattle.std.proofs.Common.{◌≡◌, ℕ, ◌+◌, ◌-◌, ◌<◌, ◌≤�
 use Rattle.std.proofs.Common.{Err, refl, sym, ap, ◌∙◌, append_assoc, drop-cons, add-one, arith}
 use Rattle.std.proofs.lemmas.List.{append-nil, drop_all, length-append, take_at, drop_at}
 use Rattle.flow_codec.specs.declared.error.MessageError.{MessageError}
-use Rattle.flow_codec.specs.declared.plan.Step.{Step}
+use Rattle.flow_codec.specs.declared.plan.FieldStep.{FieldStep}
 use Rattle.flow_codec.specs.Reading.{Fails, behind}
 use Rattle.flow_codec.specs.Extent.{step_at, extent_by}
 use Rattle.flow_codec.proofs.Steps.{Fails-of}
 use Rattle.flow_codec.proofs.Extents.{step_parts, behind_behind}
 
 -- the octets passed over are a prefix of all, and stepping goes on at `rest`
-pub record GoesOn (at : ℕ) (steps : List Step) (i : ℕ) (rest octets : List ℕ) : Type 0 where
+pub record GoesOn (at : ℕ) (steps : List FieldStep) (i : ℕ) (rest octets : List ℕ) : Type 0 where
   pub front : List ℕ
   pub parts : octets ≡ front ++ rest
   pub same : behind front (extent_by at (drop i steps) rest) ≡ extent_by at steps octets
@@ -19,11 +19,11 @@ nothing : (read : Result (List ℕ × List ℕ) MessageError) → behind [] read
 nothing (Ok x) = refl
 nothing (Err d) = refl
 
-pub starts : (at : ℕ) (steps : List Step) (octets : List ℕ) → GoesOn at steps 0 octets octets
+pub starts : (at : ℕ) (steps : List FieldStep) (octets : List ℕ) → GoesOn at steps 0 octets octets
 starts at steps octets = record { front = []; parts = refl; same = nothing (extent_by at steps octets) }
 
-module _ (at : ℕ) (steps : List Step) (i : ℕ) (rest octets : List ℕ) (h : GoesOn at steps i rest octets) where
-  module _ (d : Step) (lt : i < length steps) where
+module _ (at : ℕ) (steps : List FieldStep) (i : ℕ) (rest octets : List ℕ) (h : GoesOn at steps i rest octets) where
+  module _ (d : FieldStep) (lt : i < length steps) where
     split : drop i steps ≡ get_or steps i d ∷ drop (i + 1) steps
     split = rw add-one (drop-cons steps i d lt)
 

@@ -6,8 +6,8 @@ use Rattle.std.specs.Option.{is_none, option_or}
 use Rattle.flow_elements.specs.declared.element.ElementId.{ElementId}
 use Rattle.flow_codec.specs.declared.plan.Role.{Role}
 use Rattle.flow_codec.specs.declared.plan.Role.TheVariants.{Octets, Packets, Protocol, Seconds, Milliseconds}
-use Rattle.flow_codec.specs.declared.plan.Step.{Step}
-use Rattle.flow_codec.specs.declared.plan.Step.TheVariants.{Skip, Fixed, Variable}
+use Rattle.flow_codec.specs.declared.plan.FieldStep.{FieldStep}
+use Rattle.flow_codec.specs.declared.plan.FieldStep.TheVariants.{Skip, Fixed, Variable}
 use Rattle.flow_codec.specs.declared.plan.Place.{Place}
 use Rattle.flow_codec.specs.declared.plan.Places.{Places}
 use Rattle.flow_codec.specs.declared.plan.Plan.{Plan}
@@ -61,32 +61,32 @@ values_of fields = flat_map (λ x. counting (role_of x.id) x.octets) fields
 -- ---- the steps of a plan
 
 -- a skip of octets, where there is one
-abbrev pub skip_of : Option ℕ → List Step
+abbrev pub skip_of : Option ℕ → List FieldStep
 skip_of None = []
 skip_of (Some count) = Skip count ∷ []
 
 -- a skip of octets before steps
-abbrev pub skipped : ℕ → List Step → List Step
+abbrev pub skipped : ℕ → List FieldStep → List FieldStep
 skipped count [] = Skip count ∷ []
 skipped count (Skip more ∷ steps) = Skip (count + more) ∷ steps
 skipped count (Fixed role len ∷ steps) = Skip count ∷ Fixed role len ∷ steps
 skipped count (Variable role ∷ steps) = Skip count ∷ Variable role ∷ steps
 
 -- a step before steps: adjacent skips become one
-abbrev pub before_steps : Step → List Step → List Step
+abbrev pub before_steps : FieldStep → List FieldStep → List FieldStep
 before_steps (Skip count) steps = skipped count steps
 before_steps (Fixed role len) steps = Fixed role len ∷ steps
 before_steps (Variable role) steps = Variable role ∷ steps
 
-abbrev pub fixed_step : Option Role → ℕ → Step
+abbrev pub fixed_step : Option Role → ℕ → FieldStep
 fixed_step None len = Skip len
 fixed_step (Some role) len = if is_counted role len then Fixed role len else Skip len
 
 -- the step over a field
-abbrev pub step_of : ElementId → ℕ → Step
+abbrev pub step_of : ElementId → ℕ → FieldStep
 step_of id len = if len == 65535 then Variable (role_of id) else fixed_step (role_of id) len
 
-unfoldable pub steps_of : List (ElementId × ℕ) → List Step
+unfoldable pub steps_of : List (ElementId × ℕ) → List FieldStep
 steps_of [] = []
 steps_of (f ∷ fs) = before_steps (step_of f.0 f.1) (steps_of fs)
 
@@ -144,7 +144,7 @@ plan_of fields = record {
 
 -- ---- the values that the steps find in a record
 
-unfoldable pub values_by : List Step → List ℕ → List (Role × List ℕ)
+unfoldable pub values_by : List FieldStep → List ℕ → List (Role × List ℕ)
 values_by [] octets = []
 values_by (Skip count ∷ steps) octets = values_by steps (drop count octets)
 values_by (Fixed role count ∷ steps) octets = (role, take count octets) ∷ values_by steps (drop count octets)

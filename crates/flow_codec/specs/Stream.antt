@@ -55,7 +55,7 @@ held w = slice_range w.octets.items w.start w.end
 
 -- What a reader of a File holds: the octets read after the message that is held, that message, the count of messages
 -- given and the place after them, and why reading stopped.
-pub record Held : Type 0 where
+pub record ReaderState : Type 0 where
   pub ahead : List ℕ
   pub message : List ℕ
   pub count : ℕ
@@ -63,7 +63,7 @@ pub record Held : Type 0 where
   pub stopped : Option StreamError
 
 -- how far a File was read: its input has these octets left, where they are known
-abbrev pub progress : Held → Option (List ℕ) → Progress
+abbrev pub progress : ReaderState → Option (List ℕ) → Progress
 progress reader left = record {
   rest = prepend_known reader.ahead left;
   message = reader.message;
@@ -77,7 +77,7 @@ abbrev pub IsUnfinished : ℕ → List ℕ → Type 0
 IsUnfinished at octets = (octets ≡ []) ⊎ IsFileFault at octets (Cut at)
 
 -- Where reading failed, no octets that were read are lost, and those that are held hold no whole message.
-abbrev pub StopsWithin : Held → Option (List ℕ) → StreamError → Held → Option (List ℕ) → Type 0
+abbrev pub StopsWithin : ReaderState → Option (List ℕ) → StreamError → ReaderState → Option (List ℕ) → Type 0
 StopsWithin old left (Read failed) new after = old.stopped ≡ None
     → Keeps (prepend_known old.ahead left) (prepend_known new.ahead after) × IsUnfinished old.at new.ahead
 StopsWithin old left (File fault) new after = ⊤

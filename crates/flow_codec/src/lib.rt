@@ -46,7 +46,7 @@ pub use laws::{
 pub use losses::Losses;
 pub use message::{DataRecord, Field, Header, Message};
 pub use patient::ReadFailed;
-pub use plan::{Place, Places, Plan, Role, Step, VARIABLE, Way};
+pub use plan::{FieldStep, Place, Places, Plan, Role, VARIABLE, Way};
 pub use prefix::write_templates;
 pub use short_list::ShortList;
 pub use sink::{RecordSink, WalkError};

@@ -24,7 +24,7 @@ pub enum Role {
 
 /// One step over the fields of a record.
 #[derive(Clone, Copy, Debug, PartialEq, Eq)]
-pub enum Step {
+pub enum FieldStep {
     /// Fields of fixed lengths that count for nothing, by the octets of all of them.
     Skip(usize),
     /// A field of fixed length that counts, and its octets.
@@ -64,7 +64,7 @@ pub enum Way {
     /// No field is of variable length: the places of the numbers. Each record is as long as the smallest.
     ByPlaces(Places),
     /// Step by step: only a skip may pass over no octets, and no two skips are adjacent.
-    BySteps(ShortList<Step>),
+    BySteps(ShortList<FieldStep>),
 }
 
 impl Role {
@@ -133,43 +133,43 @@ impl Places {
 }
 
 /// The step over a field.
-fn step_of(id: &ElementId, len: u16) -> Step
+fn step_of(id: &ElementId, len: u16) -> FieldStep
     ensures { result ≡ step_of id.now len }
 {
     let role = Role::of(id);
     if len == VARIABLE {
-        return Step::Variable(role);
+        return FieldStep::Variable(role);
     }
     match role {
-        Some(role) if role.is_counted(len as usize) => Step::Fixed(role, len),
-        _ => Step::Skip(len as usize),
+        Some(role) if role.is_counted(len as usize) => FieldStep::Fixed(role, len),
+        _ => FieldStep::Skip(len as usize),
     }
 }
 
 /// Appends a skip of these octets to the steps, where there are any.
 fn push_skip(
     alloc: Global,
-    steps: &mut ShortList<Step>,
+    steps: &mut ShortList<FieldStep>,
     skipped: Option<usize>,
 ) -> Result<(), AllocError>
     ensures { OnOk result (steps.new ≡ steps.old ++ skip_of skipped) }
 {
     if let Some(count) = skipped {
-        steps.push(alloc, Step::Skip(count))?;
+        steps.push(alloc, FieldStep::Skip(count))?;
     }
     Ok(())
 }
 
 /// The steps over a record of these fields.
-fn steps_of(alloc: Global, fields: &[(ElementId, u16)]) -> Result<ShortList<Step>, AllocError>
+fn steps_of(alloc: Global, fields: &[(ElementId, u16)]) -> Result<ShortList<FieldStep>, AllocError>
     requires { length fields.now < 2 ^ 16 }
     ensures { IfOk result (λ steps. steps ≡ steps_of fields.now) }
 {
-    let mut steps: ShortList<Step> = ShortList::new();
+    let mut steps: ShortList<FieldStep> = ShortList::new();
     let mut skipped: Option<usize> = None;
     for (id, len) in fields {
         match step_of(id, *len) {
-            Step::Skip(count) => skipped = Some(skipped.unwrap_or(0) + count),
+            FieldStep::Skip(count) => skipped = Some(skipped.unwrap_or(0) + count),
             step => {
                 push_skip(alloc, &mut steps, skipped.take())?;
                 steps.push(alloc, step)?;

@@ -91,9 +91,9 @@ pub struct MessageReader {
 
 impl Model for MessageReader {
     ghost use Rattle.std.specs.Prelude.{◌≤◌, ◌<◌, ◌*◌, ◌^◌, length, take, drop};
-    ghost use Rattle.flow_codec.specs.Stream.{Held, held};
+    ghost use Rattle.flow_codec.specs.Stream.{ReaderState, held};
 
-    ghost Value = { Held };
+    ghost Value = { ReaderState };
 
     ghost view = { λ r. record {
       ahead = drop r.size (held r.window);

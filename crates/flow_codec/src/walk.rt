@@ -20,7 +20,7 @@ use crate::error::MessageError;
 use crate::kind::TemplateKind;
 use crate::message::{HEADER, Header, VERSION};
 use crate::numbers::{u16_at, u32_at};
-use crate::plan::{Step, Way};
+use crate::plan::{FieldStep, Way};
 use crate::sink::{RecordSink, WalkError};
 use crate::templates::{Definition, DomainTemplates, Templates};
 use crate::working::{Changed, find_in, keep_limits, put_in, templates_of};
@@ -80,22 +80,22 @@ fn counted_of(at: usize, octets: &[u8]) -> Result<(&[u8], &[u8]), MessageError>
 /// The octets that one step passes over in the record at `at`, and those after them.
 fn step_over<'a>(
     at: usize,
-    step: &Step,
+    step: &FieldStep,
     octets: &'a [u8],
 ) -> Result<(&'a [u8], &'a [u8]), MessageError>
     ensures { Gives (λ x. (x.0.now, x.1.now)) result (step_at at step.now octets.now) }
 {
     match step {
-        Step::Skip(count) => octets_at(at, *count, octets),
-        Step::Fixed(_, len) => octets_at(at, *len as usize, octets),
-        Step::Variable(_) => counted_of(at, octets),
+        FieldStep::Skip(count) => octets_at(at, *count, octets),
+        FieldStep::Fixed(_, len) => octets_at(at, *len as usize, octets),
+        FieldStep::Variable(_) => counted_of(at, octets),
     }
 }
 
 /// The octets that these steps pass over in the record at `at`, and those after them.
 fn stepped_over<'a>(
     at: usize,
-    steps: &[Step],
+    steps: &[FieldStep],
     octets: &'a [u8],
 ) -> Result<(&'a [u8], &'a [u8]), MessageError>
     ensures { Gives (λ x. (x.0.now, x.1.now)) result (extent_by at steps.now octets.now) }

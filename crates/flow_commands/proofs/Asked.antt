@@ -9,8 +9,8 @@ use Rattle.flow_measure.specs.Query.{flows_in_view, totals_in_view}
 use Rattle.flow_measure.specs.View.{View}
 use Rattle.flow_refusals.specs.declared.read_refusal.ReadRefusal.{ReadRefusal}
 use Rattle.flow_refusals.specs.declared.read_refusal.ReadRefusal.TheVariants as query
-use Rattle.flow_snapshot.specs.Sight.{Sight}
-use Rattle.flow_snapshot.specs.Told.{IsNoDamage}
+use Rattle.flow_snapshot.specs.ShelfSeen.{ShelfSeen}
+use Rattle.flow_snapshot.specs.Answered.{IsNoDamage}
 use Rattle.flow_snapshot.specs.Totals.{IsSpent, SumsFit}
 use Rattle.flow_model.specs.Shelf.{Shelf}
 use Rattle.flow_model.specs.Views.{IsViewOf}
@@ -35,7 +35,7 @@ use Rattle.flow_commands.specs.Asking.{IsBeforeWriting, IsNotAsked, IsNotFound, 
 use Rattle.flow_commands.specs.Asking.{TellsNoLines, WritesOrNot}
 
 -- what was read stands for this state, whose files the snapshot has
-pub read_as : (reads : ℕ → List ℕ) (sight : Sight) (width : ℕ) (s : State) → StandsFor reads s
+pub read_as : (reads : ℕ → List ℕ) (sight : ShelfSeen) (width : ℕ) (s : State) → StandsFor reads s
     → width ≡ s.manifest.width → ((s : State) → IsChained s → (v : View) × IsViewOf (shelf_of s) v)
     → (sight.shelf ≡ shelf_of s) × (sight.honest ≡ true) → IsReadAs reads sight width
 read_as reads sight width s stands wide there shown =
@@ -131,7 +131,7 @@ away_kept (Err e) are output text is = by e
 -- ---- answers
 
 -- the rows of a snapshot of what was read
-pub rows_read : (format : Format) (reads : ℕ → List ℕ) (sight : Sight) (width : ℕ) (span : Span) (from to : ℕ)
+pub rows_read : (format : Format) (reads : ℕ → List ℕ) (sight : ShelfSeen) (width : ℕ) (span : Span) (from to : ℕ)
     (rows : List Row)
     → IsReadAs reads sight width → from ≡ span.from → to ≡ span.to
     → (IsTrue sight.honest → (v : View) → IsViewOf sight.shelf v → rows ≡ totals_in_view from to v)
@@ -141,7 +141,7 @@ rows_read format reads sight width span from to rows (v, read, (honest, view, wi
     ∙ ap₂ (λ (a : ℕ) (b : ℕ). totals_in_view a b v) from_is to_is in
     (v, read, ap₂ (rows_text format) wide rows_are)
 
-pub rows_refused : (reads : ℕ → List ℕ) (sight : Sight) (width first : ℕ) (e : ReadRefusal)
+pub rows_refused : (reads : ℕ → List ℕ) (sight : ShelfSeen) (width first : ℕ) (e : ReadRefusal)
     → IsReadAs reads sight width
     → (IsTrue sight.honest → (v : View) → IsViewOf sight.shelf v → IsSpent first (SumsFit v) e)
     → IsNotFound SumsFit reads (of_query e)
@@ -149,7 +149,7 @@ rows_refused reads sight width first e (v, read, (honest, view, wide)) given =
     sums_told SumsFit reads first v read e (given honest v view)
 
 -- its flows
-pub flows_read : (format : Format) (reads : ℕ → List ℕ) (sight : Sight) (width : ℕ) (span : Span) (from to : ℕ)
+pub flows_read : (format : Format) (reads : ℕ → List ℕ) (sight : ShelfSeen) (width : ℕ) (span : Span) (from to : ℕ)
     (flows : List Flow)
     → IsReadAs reads sight width → from ≡ span.from → to ≡ span.to
     → (IsTrue sight.honest → (v : View) → IsViewOf sight.shelf v → flows ≡ flows_in_view from to v)
@@ -159,7 +159,7 @@ flows_read format reads sight width span from to flows (v, read, (honest, view, 
     ∙ ap₂ (λ (a : ℕ) (b : ℕ). flows_in_view a b v) from_is to_is in
     (v, read, ap (flows_text format) flows_are)
 
-pub flows_refused : (reads : ℕ → List ℕ) (sight : Sight) (width : ℕ) (e : ReadRefusal)
+pub flows_refused : (reads : ℕ → List ℕ) (sight : ShelfSeen) (width : ℕ) (e : ReadRefusal)
     → IsReadAs reads sight width
     → (IsTrue sight.honest → (v : View) → IsViewOf sight.shelf v → IsNoDamage e)
     → IsNotFound Always reads (of_query e)

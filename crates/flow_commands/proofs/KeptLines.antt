@@ -25,8 +25,8 @@ use Rattle.flow_manifest.specs.declared.error.OpenError.{OpenError}
 use Rattle.flow_manifest.specs.declared.error.OpenError.TheVariants as opening
 use Rattle.flow_refusals.specs.declared.read_refusal.ReadRefusal.{ReadRefusal}
 use Rattle.flow_refusals.specs.declared.read_refusal.ReadRefusal.TheVariants as query
-use Rattle.flow_snapshot.specs.Sight.{Sight}
-use Rattle.flow_snapshot.specs.Told.{IsNoDamage}
+use Rattle.flow_snapshot.specs.ShelfSeen.{ShelfSeen}
+use Rattle.flow_snapshot.specs.Answered.{IsNoDamage}
 use Rattle.flow_model.specs.Views.{IsViewOf}
 use Rattle.flow_commands.specs.declared.archive_refusal.ArchiveRefusal.{ArchiveRefusal}
 use Rattle.flow_commands.specs.declared.archive_refusal.ArchiveRefusal.TheVariants as refusal
@@ -232,7 +232,7 @@ query_blameless query.OutOfMemory is = tt
 
 -- ---- what a command answers
 
-pub lines_told : {A : Type 0} (format : Format) (span : Span) (reads : ℕ → List ℕ) (sight : Sight) (width : ℕ)
+pub lines_told : {A : Type 0} (format : Format) (span : Span) (reads : ℕ → List ℕ) (sight : ShelfSeen) (width : ℕ)
     (r : Result A ArchiveRefusal) (old new : Option (List ℕ)) → IsReadAs reads sight width
     → (IsTrue sight.honest → (v : View) → IsViewOf sight.shelf v
     → OnOk r (Appends old new (flows_lines format span v)))
@@ -241,7 +241,7 @@ lines_told format span reads sight width (Err e) old new is told = tt
 lines_told format span reads sight width (Ok x) old new (v, read, (honest, view, wide)) told =
     (flows_lines format span v, (v, read, refl), told honest v view)
 
-pub up_to_told : {A : Type 0} (format : Format) (span : Span) (reads : ℕ → List ℕ) (sight : Sight) (width : ℕ)
+pub up_to_told : {A : Type 0} (format : Format) (span : Span) (reads : ℕ → List ℕ) (sight : ShelfSeen) (width : ℕ)
     (r : Result A ArchiveRefusal) (old new : Option (List ℕ)) → IsReadAs reads sight width
     → IfErr r (λ e. IsWhileAsking e × WritesUpTo (AreFlows format) e old new)
     → (IsTrue sight.honest → (v : View) → IsViewOf sight.shelf v

@@ -8,8 +8,8 @@ use Rattle.flow_measure.specs.Query.{flows_in_view, totals_in_view}
 use Rattle.flow_measure.specs.View.{View}
 use Rattle.flow_refusals.specs.declared.read_refusal.ReadRefusal.{ReadRefusal}
 use Rattle.flow_refusals.specs.declared.read_refusal.ReadRefusal.TheVariants as query
-use Rattle.flow_snapshot.specs.Sight.{Sight}
-use Rattle.flow_snapshot.specs.Told.{IsNoDamage}
+use Rattle.flow_snapshot.specs.ShelfSeen.{ShelfSeen}
+use Rattle.flow_snapshot.specs.Answered.{IsNoDamage}
 use Rattle.flow_model.specs.Views.{IsViewOf}
 use Rattle.flow_manifest.specs.declared.error.OpenError.{OpenError}
 use Rattle.flow_recover.specs.Opening.{IsDeviceOrMemory, StandsForNone}
@@ -43,11 +43,11 @@ abbrev pub IsViewRead : (ℕ → List ℕ) → View → Type 0
 IsViewRead reads v = (s : State) × StandsFor reads s × IsViewOf (shelf_of s) v
 
 -- this snapshot, and the width of the archive's intervals, are those of a view
-abbrev pub IsSnapshotOf : Sight → ℕ → View → Type 0
+abbrev pub IsSnapshotOf : ShelfSeen → ℕ → View → Type 0
 IsSnapshotOf sight width v = (sight.honest ≡ true) × IsViewOf sight.shelf v × (width ≡ v.width)
 
 -- they are those of what was read
-abbrev pub IsReadAs : (ℕ → List ℕ) → Sight → ℕ → Type 0
+abbrev pub IsReadAs : (ℕ → List ℕ) → ShelfSeen → ℕ → Type 0
 IsReadAs reads sight width = (v : View) × IsViewRead reads v × IsSnapshotOf sight width v
 
 -- these are the lines of what was read

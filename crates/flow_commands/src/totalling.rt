@@ -8,7 +8,7 @@ ghost use Rattle.flow_model.specs.Standing.{StandsFor};
 ghost use Rattle.flow_measure.specs.History.{History, IsHistory};
 ghost use Rattle.flow_measure.specs.Query.{totals_between, totals_in_view};
 ghost use Rattle.flow_measure.specs.View.{view_of, AreCountsOf, View};
-ghost use Rattle.flow_snapshot.specs.Told.{IsAnswered};
+ghost use Rattle.flow_snapshot.specs.Answered.{IsAnswered};
 ghost use Rattle.flow_snapshot.specs.Totals.{first_file, IsMade, IsWithinLimits, SumsFit};
 ghost use Rattle.flow_model.specs.Views.{IsViewOf};
 ghost use Rattle.flow_commands.specs.declared.archive_refusal.ArchiveRefusal.TheVariants as refusal;

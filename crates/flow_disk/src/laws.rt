@@ -6,14 +6,14 @@ ghost use Rattle.flow_disk.specs.Laws.{OneOctetDiffers};
 use crate::Disk;
 
 /// What a stop makes of the disk's images: a relation between the octets of all files before and after.
-pub trait Step {
+pub trait StopEffect {
     /// These octets become those.
     ghost leads: { (ℕ → List ℕ) → (ℕ → List ℕ) → Type 0 };
 }
 
 /// What a stop may leave of two runs of calls, one after the other, follows from what it may leave of each, whatever
 /// the steps are.
-pub fn law_of_runs<D: Disk, F: Step, S: Step, W: Step>(_disk: &D)
+pub fn law_of_runs<D: Disk, F: StopEffect, S: StopEffect, W: StopEffect>(_disk: &D)
     ensures { RunsCompose D.Disk F.leads S.leads W.leads }
 {}
 

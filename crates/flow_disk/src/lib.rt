@@ -16,6 +16,6 @@ mod window;
 pub use disk::{Disk, LIMIT};
 pub use error::DiskError;
 pub use faults::Faults;
-pub use laws::{Step, law_of_quiet_calls, law_of_runs, laws_of_images};
+pub use laws::{StopEffect, law_of_quiet_calls, law_of_runs, laws_of_images};
 pub use sealed::{MayFail, SealedFile};
 pub use window::{PIECE, Window};

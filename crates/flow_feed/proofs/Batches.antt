@@ -9,7 +9,7 @@ use Rattle.std.specs.Io.KnownBytes.{Consumes, prepend_known}
 use Rattle.std.proofs.lemmas.List.Elements.{All-append, All-cons, All-head, All-nil, All-tail}
 use Rattle.flow_codec.specs.Cutting.{IsCutOff}
 use Rattle.flow_codec.specs.Message.{joined}
-use Rattle.flow_codec.specs.Stream.{Held, Progress, progress, IsMessageNext}
+use Rattle.flow_codec.specs.Stream.{ReaderState, Progress, progress, IsMessageNext}
 use Rattle.flow_codec.proofs.Streaming.{message_next}
 use Rattle.flow_gate.specs.Scan.{texts}
 use Rattle.flow_gate.specs.Steps.{slices}
@@ -91,11 +91,11 @@ abbrev pub start_of : Option (List ℕ) → Progress
 start_of octets = record { rest = octets; message = []; count = 0; at = 0; stopped = None }
 
 -- a reader that was made now
-pub opened : (reader : Held) (input : Option (List ℕ))
+pub opened : (reader : ReaderState) (input : Option (List ℕ))
     → reader ≡ record { ahead = []; message = []; count = 0; at = 0; stopped = None }
     → progress reader input ≡ start_of input
-opened reader None is = ap (λ (r : Held). progress r None) is
-opened reader (Some octets) is = ap (λ (r : Held). progress r (Some octets)) is
+opened reader None is = ap (λ (r : ReaderState). progress r None) is
+opened reader (Some octets) is = ap (λ (r : ReaderState). progress r (Some octets)) is
 
 -- octets that are read, and those after them, where the last of those that are read are given back
 given_back : (old rest : Option (List ℕ)) (a b : List ℕ) → Consumes old rest (a ++ b)

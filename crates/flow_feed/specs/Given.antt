@@ -9,7 +9,7 @@ use Rattle.flow_archive.specs.declared.refusal.ArchiveError.{ArchiveError}
 use Rattle.flow_archive.specs.declared.refusal.ArchiveError.TheVariants.{Fault, NoRoom}
 use Rattle.flow_archive.specs.declared.refusal.ArchiveError.TheVariants as archive
 use Rattle.flow_shared.specs.Calls.{Appends}
-use Rattle.flow_shared.specs.Held.{all_of, Held}
+use Rattle.flow_shared.specs.UnderLock.{all_of, LockState}
 
 -- a batch, and what was answered: the number of its last message, or why none of it is taken
 pub record Given : Type 0 where
@@ -112,7 +112,7 @@ pub record HasTaken {S : Type 0} (appends : S → S → List (List ℕ) → Resu
 -- Messages that the value under the lock was given: what its append makes of the archive, and of the steps that readers
 -- are shown. No room is reported only where no segment has room for all of them, and a fault exactly where the device
 -- failed.
-pub record IsGivenLocked {D S X : Type 0} (g : Ghosts D S X) (old new : Held D) (messages : List (List ℕ))
+pub record IsGivenLocked {D S X : Type 0} (g : Ghosts D S X) (old new : LockState D) (messages : List (List ℕ))
     (result : Result ℕ ArchiveError) : Type 0 where
   pub steps : List Change
   pub appends : Appends g old.core new.core messages result steps

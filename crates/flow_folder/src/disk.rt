@@ -6,9 +6,9 @@ ghost use Rattle.flow_disk.specs.Cause.{HasRisen, FailsOnlyByFault};
 ghost use Rattle.flow_folder.specs.Table.{marks_in};
 
 use crate::folder::Folder;
+use crate::reported::{Reported, Table};
 use crate::sealed::FolderSealed;
 use crate::system::{FolderError, Lockable};
-use crate::told::{Table, Told};
 use flow_disk::{Disk, DiskError, LIMIT, SealedFile};
 use std::alloc::{AllocGlobal, Global};
 use std::fs::Files;
@@ -58,14 +58,15 @@ where
 
     /// Reports this of a file from now on, where there is memory. Only a file without a pending change is marked as
     /// settled.
-    fn tell(&mut self, file: u64, told: Told) -> Result<(), DiskError>
-        requires { told.settled ≡ true → is_some (get nat_cmp self.old.folder.pending file) ≡ false }
+    fn report(&mut self, file: u64, reported: Reported) -> Result<(), DiskError>
+        requires { reported.settled ≡ true → is_some (get nat_cmp self.old.folder.pending file) ≡ false }
         ensures folder { self.new.folder ≡ self.old.folder }
-        ensures done { OnOk result (Changes (marks_in self.old.table) (marks_in self.new.table) file (marks_of told)) }
+        ensures done { OnOk result (Changes (marks_in self.old.table) (marks_in self.new.table) file (marks_of
+            reported)) }
         ensures failed { OnErr result (Stays (marks_in self.old.table) (marks_in self.new.table)) }
         ensures cause { FailsOnlyByFault self.old.failed self.new.failed result }
     {
-        match self.table.tell(file, told) {
+        match self.table.report(file, reported) {
             Ok(()) => Ok(()),
             Err(_) => Err(self.fault()),
         }
@@ -76,22 +77,22 @@ where
         ensures marks { MarkedByRemoval (marks_in self.old.table) (marks_in self.new.table) file result }
         ensures cause { FailsOnlyByFault self.old.failed self.new.failed result }
     {
-        let told = self.table.of(file);
-        self.tell(
+        let reported = self.table.of(file);
+        self.report(
             file,
-            Told {
-                size: told.size,
+            Reported {
+                size: reported.size,
                 settled: false,
-                frozen: told.frozen,
-                listed: told.listed,
+                frozen: reported.frozen,
+                listed: reported.listed,
             },
         )?;
         if self.folder.remove(file).is_err() {
             return Err(self.fault());
         }
-        self.tell(
+        self.report(
             file,
-            Told {
+            Reported {
                 size: 0,
                 settled: true,
                 frozen: false,
@@ -143,14 +144,14 @@ where
     fn length(&mut self, file: u64) -> Result<u64, DiskError> {
         match self.folder.length(file) {
             Ok(size) if size <= LIMIT => {
-                let told = self.table.of(file);
-                self.tell(
+                let reported = self.table.of(file);
+                self.report(
                     file,
-                    Told {
+                    Reported {
                         size,
-                        settled: told.settled,
-                        frozen: told.frozen,
-                        listed: told.listed,
+                        settled: reported.settled,
+                        frozen: reported.frozen,
+                        listed: reported.listed,
                     },
                 )?;
                 Ok(size)
@@ -175,27 +176,31 @@ where
     }
 
     fn write_at(&mut self, file: u64, at: u64, octets: &[u8]) -> Result<(), DiskError> {
-        let told = self.table.of(file);
+        let reported = self.table.of(file);
         let count = octets.len() as u64;
         if count > LIMIT - at {
             return Err(self.fault());
         }
-        self.tell(
+        self.report(
             file,
-            Told {
-                size: told.size,
+            Reported {
+                size: reported.size,
                 settled: false,
                 frozen: false,
-                listed: told.listed,
+                listed: reported.listed,
             },
         )?;
-        if self.folder.write(file, at, octets, told.settled).is_err() {
+        if self
+            .folder
+            .write(file, at, octets, reported.settled)
+            .is_err()
+        {
             return Err(self.fault());
         }
-        self.tell(
+        self.report(
             file,
-            Told {
-                size: told.size.max(at + count),
+            Reported {
+                size: reported.size.max(at + count),
                 settled: false,
                 frozen: false,
                 listed: true,
@@ -204,22 +209,22 @@ where
     }
 
     fn cut(&mut self, file: u64, count: u64) -> Result<(), DiskError> {
-        let told = self.table.of(file);
-        self.tell(
+        let reported = self.table.of(file);
+        self.report(
             file,
-            Told {
-                size: told.size,
+            Reported {
+                size: reported.size,
                 settled: false,
                 frozen: false,
-                listed: told.listed,
+                listed: reported.listed,
             },
         )?;
-        if self.folder.cut(file, count, told.settled).is_err() {
+        if self.folder.cut(file, count, reported.settled).is_err() {
             return Err(self.fault());
         }
-        self.tell(
+        self.report(
             file,
-            Told {
+            Reported {
                 size: count,
                 settled: false,
                 frozen: false,
@@ -229,25 +234,25 @@ where
     }
 
     fn sync(&mut self, file: u64) -> Result<(), DiskError> {
-        let told = self.table.of(file);
-        self.tell(
+        let reported = self.table.of(file);
+        self.report(
             file,
-            Told {
-                size: told.size,
+            Reported {
+                size: reported.size,
                 settled: false,
-                frozen: told.frozen,
-                listed: told.listed,
+                frozen: reported.frozen,
+                listed: reported.listed,
             },
         )?;
-        if self.folder.sync(file, told.settled).is_err() {
+        if self.folder.sync(file, reported.settled).is_err() {
             return Err(self.fault());
         }
-        self.tell(
+        self.report(
             file,
-            Told {
-                size: told.size,
+            Reported {
+                size: reported.size,
                 settled: true,
-                frozen: told.frozen,
+                frozen: reported.frozen,
                 listed: true,
             },
         )
@@ -270,17 +275,17 @@ where
     }
 
     fn freeze(&mut self, file: u64) -> Result<FolderSealed<'a, R>, DiskError> {
-        let told = self.table.of(file);
-        let Ok(sealed) = self.folder.seal(file, told.size) else {
+        let reported = self.table.of(file);
+        let Ok(sealed) = self.folder.seal(file, reported.size) else {
             return Err(self.fault());
         };
-        self.tell(
+        self.report(
             file,
-            Told {
-                size: told.size,
+            Reported {
+                size: reported.size,
                 settled: true,
                 frozen: true,
-                listed: told.listed,
+                listed: reported.listed,
             },
         )?;
         Ok(sealed)

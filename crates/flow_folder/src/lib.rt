@@ -25,9 +25,9 @@ mod found;
 mod naming;
 mod pending;
 mod ranges;
+mod reported;
 mod sealed;
 mod system;
-mod told;
 
 pub use disk::FolderDisk;
 pub use sealed::{FolderSealed, ReadFailed};

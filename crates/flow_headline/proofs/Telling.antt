@@ -13,15 +13,15 @@ use Rattle.flow_refusals.specs.declared.read_refusal.ReadRefusal.{ReadRefusal}
 use Rattle.flow_refusals.specs.declared.read_refusal.ReadRefusal.TheVariants as query
 use Rattle.flow_model.specs.Changes.{counts_of}
 use Rattle.flow_model.specs.Shelf.{Shelf}
-use Rattle.flow_snapshot.specs.Told.{IsNoDamage}
+use Rattle.flow_snapshot.specs.Answered.{IsNoDamage}
 use Rattle.flow_snapshot.specs.Totals.{first_file, IsSpent, IsWithinLimits, SumsFit}
 use Rattle.flow_model.specs.Views.{IsViewOf}
 use Rattle.flow_model.proofs.Following.{all_counted}
 use Rattle.flow_model.specs.State.{State}
 use Rattle.flow_model.specs.Shelved.{shelf_of}
 use Rattle.flow_headline.specs.declared.error.NotOpened.TheVariants.{OutOfMemory, NoSuchStop}
-use Rattle.flow_headline.specs.declared.error.NotTold.{NotTold}
-use Rattle.flow_headline.specs.declared.error.NotTold.TheVariants.{NotOpened, NotAnswered}
+use Rattle.flow_headline.specs.declared.error.TotalsRefusal.{TotalsRefusal}
+use Rattle.flow_headline.specs.declared.error.TotalsRefusal.TheVariants.{NotOpened, NotAnswered}
 use Rattle.flow_headline.specs.Front.{IsFront, grown}
 use Rattle.flow_headline.specs.Machine.{AreTotals, Fused, IsRefusal, IsStoppedRun, IsUnanswered}
 
@@ -59,7 +59,7 @@ module _ (archive : Seen Fused) (events : List Event) (answers : List (Result An
   }
 
   -- the query of what was opened was refused
-  pub refusal : (e : NotTold) → IsUnanswered left e → IsRefusal archive events choice e
+  pub refusal : (e : TotalsRefusal) → IsUnanswered left e → IsRefusal archive events choice e
   refusal (NotOpened OutOfMemory) refused = tt
   refusal (NotOpened NoSuchStop) refused = absurd refused
   refusal (NotAnswered (query.Damaged file at)) refused = record {

@@ -29,8 +29,8 @@ use Rattle.flow_archive.specs.declared.refusal.ArchiveError.{ArchiveError}
 use Rattle.flow_archive.specs.Runs.{IsRun}
 use Rattle.flow_archive.specs.Seen.{Seen}
 use Rattle.flow_headline.specs.declared.error.NotOpened.TheVariants.{OutOfMemory, NoSuchStop}
-use Rattle.flow_headline.specs.declared.error.NotTold.{NotTold}
-use Rattle.flow_headline.specs.declared.error.NotTold.TheVariants.{NotOpened, NotAnswered}
+use Rattle.flow_headline.specs.declared.error.TotalsRefusal.{TotalsRefusal}
+use Rattle.flow_headline.specs.declared.error.TotalsRefusal.TheVariants.{NotOpened, NotAnswered}
 use Rattle.flow_headline.specs.Front.{IsFront, grown}
 
 -- a disk in memory that fails from some call on
@@ -93,7 +93,7 @@ pub record IsOverflow (archive : Seen Fused) (events : List Event) (choice : Cho
       → IsWithinLimits (grown h (front.history h has).more left) → ⊥
 
 -- why there are no totals after these events and this stop
-abbrev pub IsRefusal : Seen Fused → List Event → Choice → NotTold → Type 0
+abbrev pub IsRefusal : Seen Fused → List Event → Choice → TotalsRefusal → Type 0
 IsRefusal archive events choice (NotOpened OutOfMemory) = ⊤
 IsRefusal archive events choice (NotOpened NoSuchStop) = IsNoStop archive events choice
 IsRefusal archive events choice (NotAnswered (query.Damaged file at)) = IsOverflow archive events choice file at
@@ -103,7 +103,7 @@ IsRefusal archive events choice (NotAnswered query.OutOfMemory) = ⊤
 -- ---- one query
 
 -- what an open archive in memory with this shelf refuses a query by
-abbrev pub IsUnanswered : State → NotTold → Type 0
+abbrev pub IsUnanswered : State → TotalsRefusal → Type 0
 IsUnanswered s (NotOpened OutOfMemory) = ⊤
 IsUnanswered s (NotOpened NoSuchStop) = ⊥
 IsUnanswered s (NotAnswered (query.Damaged file at)) =

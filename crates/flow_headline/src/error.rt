@@ -3,8 +3,8 @@
 ghost use Rattle.std.specs.Prelude.{◌≡◌, Some};
 ghost use Rattle.flow_headline.specs.Printed.{printed, printed_told};
 ghost use Rattle.flow_headline.specs.declared.error.NotOpened.TheVariants.{OutOfMemory};
-ghost use Rattle.flow_headline.specs.declared.error.NotTold.TheVariants.{NotOpened as NotOpenedTold};
-ghost use Rattle.flow_headline.specs.declared.error.NotTold.TheVariants.{NotAnswered as NotAnsweredTold};
+ghost use Rattle.flow_headline.specs.declared.error.TotalsRefusal.TheVariants.{NotOpened as NotOpenedTold};
+ghost use Rattle.flow_headline.specs.declared.error.TotalsRefusal.TheVariants.{NotAnswered as NotAnsweredTold};
 
 use flow_refusals::{ReadRefusal, RefusalCode};
 use std::alloc::AllocError;
@@ -45,46 +45,46 @@ impl From<AllocError> for NotOpened {
 
 /// Why no totals were answered after a stop.
 #[derive(Clone, Copy, Debug, PartialEq, Eq)]
-pub enum NotTold {
+pub enum TotalsRefusal {
     /// No archive was opened.
     NotOpened(NotOpened),
     /// The query was not answered.
     NotAnswered(ReadRefusal),
 }
 
-impl fmt::Display for NotTold {
+impl fmt::Display for TotalsRefusal {
     ghost output = { λ e. Some (printed_told e) };
 
     fn fmt<W: fmt::Write>(&self, f: &mut fmt::Formatter<W>) -> fmt::Result {
         match self {
-            NotTold::NotOpened(error) => write!(f, "{error}"),
-            NotTold::NotAnswered(error) => write!(f, "{error}"),
+            TotalsRefusal::NotOpened(error) => write!(f, "{error}"),
+            TotalsRefusal::NotAnswered(error) => write!(f, "{error}"),
         }
     }
 }
 
-impl Error for NotTold {}
+impl Error for TotalsRefusal {}
 
-impl From<NotOpened> for NotTold {
+impl From<NotOpened> for TotalsRefusal {
     ghost from_gives = { λ e t. t ≡ NotOpenedTold e };
 
-    fn from(error: NotOpened) -> NotTold {
-        NotTold::NotOpened(error)
+    fn from(error: NotOpened) -> TotalsRefusal {
+        TotalsRefusal::NotOpened(error)
     }
 }
 
-impl From<ReadRefusal> for NotTold {
+impl From<ReadRefusal> for TotalsRefusal {
     ghost from_gives = { λ e t. t ≡ NotAnsweredTold e };
 
-    fn from(error: ReadRefusal) -> NotTold {
-        NotTold::NotAnswered(error)
+    fn from(error: ReadRefusal) -> TotalsRefusal {
+        TotalsRefusal::NotAnswered(error)
     }
 }
 
-impl From<AllocError> for NotTold {
+impl From<AllocError> for TotalsRefusal {
     ghost from_gives = { λ _ t. t ≡ NotOpenedTold OutOfMemory };
 
-    fn from(_e: AllocError) -> NotTold {
-        NotTold::NotOpened(NotOpened::OutOfMemory)
+    fn from(_e: AllocError) -> TotalsRefusal {
+        TotalsRefusal::NotOpened(NotOpened::OutOfMemory)
     }
 }

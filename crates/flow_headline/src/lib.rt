@@ -16,7 +16,7 @@ mod reopening;
 mod running;
 mod totals;
 
-pub use error::{NotOpened, NotTold};
+pub use error::{NotOpened, TotalsRefusal};
 pub use reopening::{Reopened, run_and_open};
 pub use running::run_on_disk;
-pub use totals::{Told, totals_behind_a_stop};
+pub use totals::{StoppedTotals, totals_after_a_stop};

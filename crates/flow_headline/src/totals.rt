@@ -9,7 +9,7 @@ ghost use Rattle.flow_archive.specs.Runs.{IsEvent};
 ghost use Rattle.flow_headline.specs.Front.{EndsAtFault};
 ghost use Rattle.flow_headline.specs.Machine.{AreTotals, IsRefusal, IsUnanswered};
 
-use crate::error::NotTold;
+use crate::error::TotalsRefusal;
 use crate::reopening::run_and_open;
 use flow_archive::{Answer, Archive, ArchiveError, Event};
 use flow_disk::Faults;
@@ -20,7 +20,7 @@ use std::alloc::Global;
 
 /// The answers of events, and totals that were asked after a stop.
 #[derive(Drop)]
-pub struct Told {
+pub struct StoppedTotals {
     /// One for each event.
     pub answers: Vec<Result<Answer, ArchiveError>>,
     /// The rows of the span.
@@ -33,14 +33,14 @@ pub struct Told {
 ///
 /// Errors: those of `run_and_open`; and of the query `OutOfMemory`, or `Damaged` where sums don't fit their types.
 /// Reads of files in memory never fail: if one did, that would be answered as `OutOfMemory` too.
-pub fn totals_behind_a_stop(
+pub fn totals_after_a_stop(
     alloc: Global,
     archive: Archive<FusedDisk<MemoryDisk>>,
     events: &[Event],
     choice: Choice<'_>,
     from: u64,
     to: u64,
-) -> Result<Told, NotTold>
+) -> Result<StoppedTotals, TotalsRefusal>
     requires events { All IsEvent events.now }
     requires still_open { archive.closed ≡ false }
     // The events were run, with these answers, and the machine was stopped by this choice. The rows are the totals of
@@ -54,7 +54,7 @@ pub fn totals_behind_a_stop(
 {
     let mut reopened = run_and_open(alloc, archive, events, choice)?;
     match rows_of(alloc, &mut reopened.archive, from, to) {
-        Ok(rows) => Ok(Told {
+        Ok(rows) => Ok(StoppedTotals {
             answers: reopened.answers,
             rows,
         }),
@@ -68,7 +68,7 @@ fn rows_of(
     archive: &mut Archive<MemoryDisk>,
     from: u64,
     to: u64,
-) -> Result<Vec<Row>, NotTold>
+) -> Result<Vec<Row>, TotalsRefusal>
     ensures rows { IfOk result (λ rows. (v : View) → IsViewOf (shelf_of archive.old.state) v
         → rows.items ≡ totals_in_view from to v) }
     ensures refused { IfErr result (λ e. IsUnanswered archive.old.state e) }
@@ -77,10 +77,10 @@ fn rows_of(
     match snapshot.totals(alloc, from, to, &mut Faults::new()) {
         Ok(rows) => Ok(rows),
         Err(ReadRefusal::Damaged(file, at)) => {
-            Err(NotTold::NotAnswered(ReadRefusal::Damaged(file, at)))
+            Err(TotalsRefusal::NotAnswered(ReadRefusal::Damaged(file, at)))
         }
         Err(ReadRefusal::Fault | ReadRefusal::OutOfMemory) => {
-            Err(NotTold::NotAnswered(ReadRefusal::OutOfMemory))
+            Err(TotalsRefusal::NotAnswered(ReadRefusal::OutOfMemory))
         }
     }
 }

@@ -14,8 +14,8 @@ use Rattle.flow_codec.specs.declared.message.Header.{Header}
 use Rattle.flow_codec.specs.declared.message.Field.{Field}
 use Rattle.flow_codec.specs.declared.plan.Role.{Role}
 use Rattle.flow_codec.specs.declared.plan.Role.TheVariants.{Octets, Packets, Protocol, Seconds, Milliseconds}
-use Rattle.flow_codec.specs.declared.plan.Step.{Step}
-use Rattle.flow_codec.specs.declared.plan.Step.TheVariants.{Skip, Fixed, Variable}
+use Rattle.flow_codec.specs.declared.plan.FieldStep.{FieldStep}
+use Rattle.flow_codec.specs.declared.plan.FieldStep.TheVariants.{Skip, Fixed, Variable}
 use Rattle.flow_codec.specs.Plan.{counting, values_of, is_counted, least_of, most_of, values_by, steps_of, step_of}
 use Rattle.flow_codec.specs.Plan.{fixed_step, role_of, before_steps}
 use Rattle.flow_measure.specs.declared.counts.Counts.{Counts}
@@ -28,7 +28,7 @@ unfolding counts_with
 counts-append counts [] ys = refl
 counts-append counts (x ∷ xs) ys = counts-append (with_value x.0 x.1 counts) xs ys
 
-values-split : (step : Step) (steps : List Step) (octets : List ℕ)
+values-split : (step : FieldStep) (steps : List FieldStep) (octets : List ℕ)
     → values_by (step ∷ steps) octets ≡ step_values step octets ++ values_by steps (step_rest step octets)
 unfolding values_by
 values-split (Skip count) steps octets = refl
@@ -36,12 +36,12 @@ values-split (Fixed role count) steps octets = refl
 values-split (Variable role) steps octets = refl
 
 -- the numbers so far, and those of the steps that are left
-module _ (steps : List Step) (octets : List ℕ) (i : ℕ) (counts : Counts) (rest : List ℕ) where
-  module _ (d : Step) (lt : i < length steps) where
+module _ (steps : List FieldStep) (octets : List ℕ) (i : ℕ) (counts : Counts) (rest : List ℕ) where
+  module _ (d : FieldStep) (lt : i < length steps) where
     split : drop i steps ≡ get_or steps i d ∷ drop (i + 1) steps
     split = rw add-one (drop-cons steps i d lt)
 
-    pub goes_on : (step : Step) (next : Counts) (after : List ℕ) → get_or steps i d ≡ step
+    pub goes_on : (step : FieldStep) (next : Counts) (after : List ℕ) → get_or steps i d ≡ step
         → next ≡ counts_with counts (step_values step rest) → after ≡ step_rest step rest
         → counts_with counts (values_by (drop i steps) rest) ≡ counts_with no_counts (values_by steps octets)
         → counts_with next (values_by (drop (i + 1) steps) after) ≡ counts_with no_counts (values_by steps octets)
@@ -51,20 +51,24 @@ module _ (steps : List Step) (octets : List ℕ) (i : ℕ) (counts : Counts) (re
         (values_by (drop (i + 1) steps) o)) behind
         ∙ sym (counts-append counts (step_values step rest) (values_by (drop (i + 1) steps) (step_rest step rest)))
         ∙ ap (counts_with counts) (sym (values-split step (drop (i + 1) steps) rest))
-        ∙ ap (λ (s : List Step). counts_with counts (values_by s rest)) (sym (split
-        ∙ ap (λ (x : Step). x ∷ drop (i + 1) steps) is))
+        ∙ ap (λ (s : List FieldStep). counts_with counts (values_by s rest)) (sym (split
+        ∙ ap (λ (x : FieldStep). x ∷ drop (i + 1) steps) is))
         ∙ same
 
-    pub first_step : (step : Step) → get_or steps i d ≡ step → AllByRecursion IsStep (drop i steps)
+    pub first_step : (step : FieldStep) → get_or steps i d ≡ step → AllByRecursion IsStep (drop i steps)
         → IsStep step × AllByRecursion IsStep (drop (i + 1) steps)
     first_step step is all =
-        let h = subst (AllByRecursion IsStep) (split ∙ ap (λ (x : Step). x ∷ drop (i + 1) steps) is) all in (h.0, h.1)
+        let h = subst (AllByRecursion IsStep) (split ∙ ap (λ (x : FieldStep). x ∷ drop (i + 1) steps) is) all in (
+          h.0,
+          h.1,
+        )
 
   pub is_done : length steps ≤ i
       → counts_with counts (values_by (drop i steps) rest) ≡ counts_with no_counts (values_by steps octets)
       → counts ≡ counts_with no_counts (values_by steps octets)
   unfolding counts_with values_by
-  is_done le same = sym (ap (λ (s : List Step). counts_with counts (values_by s rest)) (drop_all i steps le)) ∙ same
+  is_done le same = sym (ap (λ (s : List FieldStep). counts_with counts (values_by s rest)) (drop_all i steps le))
+      ∙ same
 
 -- ---- the steps of a plan
 
@@ -90,7 +94,7 @@ is_step-of id len =
       | false ↦ is_step-fixed (role_of id) len
     ]
 
-before-all : (step : Step) (steps : List Step) → IsStep step → AllByRecursion IsStep steps
+before-all : (step : FieldStep) (steps : List FieldStep) → IsStep step → AllByRecursion IsStep steps
     → AllByRecursion IsStep (before_steps step steps)
 before-all (Skip count) [] h all = (tt, tt)
 before-all (Skip count) (Skip more ∷ steps) h all = (tt, all.1)

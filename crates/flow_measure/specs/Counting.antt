@@ -8,8 +8,8 @@ use Rattle.flow_codec.specs.declared.plan.Role.{Role}
 use Rattle.flow_codec.specs.declared.plan.Role.TheVariants.{Octets, Packets, Protocol, Seconds, Milliseconds}
 use Rattle.flow_codec.specs.declared.plan.Place.{Place}
 use Rattle.flow_codec.specs.declared.plan.Places.{Places}
-use Rattle.flow_codec.specs.declared.plan.Step.{Step}
-use Rattle.flow_codec.specs.declared.plan.Step.TheVariants.{Skip, Fixed, Variable}
+use Rattle.flow_codec.specs.declared.plan.FieldStep.{FieldStep}
+use Rattle.flow_codec.specs.declared.plan.FieldStep.TheVariants.{Skip, Fixed, Variable}
 use Rattle.flow_codec.specs.Fields.{counted_of}
 use Rattle.flow_codec.specs.Plan.{counting, least_of, most_of}
 use Rattle.flow_measure.specs.declared.flow.Flow.{Flow}
@@ -42,18 +42,18 @@ flow_by header counts = record {
 }
 
 -- the values that count under one step of a plan, and the octets after it
-abbrev pub step_values : Step → List ℕ → List (Role × List ℕ)
+abbrev pub step_values : FieldStep → List ℕ → List (Role × List ℕ)
 step_values (Skip count) octets = []
 step_values (Fixed role count) octets = (role, take count octets) ∷ []
 step_values (Variable role) octets = counting role (counted_of octets).0
 
-abbrev pub step_rest : Step → List ℕ → List ℕ
+abbrev pub step_rest : FieldStep → List ℕ → List ℕ
 step_rest (Skip count) octets = drop count octets
 step_rest (Fixed role count) octets = drop count octets
 step_rest (Variable role) octets = (counted_of octets).1
 
 -- a step over a field that counts has no more octets than its role may have
-abbrev pub IsStep : Step → Type 0
+abbrev pub IsStep : FieldStep → Type 0
 IsStep (Skip count) = Unit {0}
 IsStep (Fixed role count) = count ≤ most_of role
 IsStep (Variable role) = Unit {0}

@@ -11,7 +11,7 @@ ghost use Rattle.flow_measure.specs.Counting.{IsStep, IsPlace, IsWide, ArePlaces
 ghost use Rattle.flow_measure.specs.Flows.{start_of, flow_from};
 
 use crate::flow::Flow;
-use flow_codec::{Definition, Header, Place, Places, Role, Step, VARIABLE, Way, split_field};
+use flow_codec::{Definition, FieldStep, Header, Place, Places, Role, VARIABLE, Way, split_field};
 use flow_elements::number_of;
 
 /// The numbers found in a record so far, of each role the first.
@@ -55,20 +55,20 @@ impl Counts {
 
     /// Takes the number that counts under one step, if any, and answers the octets after it.
     #[tactic(auto, unfolding(crate::specs::Counting::counts_with))]
-    fn count_step<'a>(&mut self, step: &Step, octets: &'a [u8]) -> &'a [u8]
+    fn count_step<'a>(&mut self, step: &FieldStep, octets: &'a [u8]) -> &'a [u8]
         requires { IsStep step.now }
         ensures counts { self.new ≡ counts_with self.old (step_values step.now octets.now) }
         ensures rest { result.now ≡ step_rest step.now octets.now }
     {
         match step {
-            Step::Skip(count) => &octets[(*count).min(octets.len())..],
-            Step::Fixed(role, len) => {
+            FieldStep::Skip(count) => &octets[(*count).min(octets.len())..],
+            FieldStep::Fixed(role, len) => {
                 let (value, rest) = split_field(*len, octets);
                 self.count(*role, value);
                 rest
             }
-            Step::Variable(None) => split_field(VARIABLE, octets).1,
-            Step::Variable(Some(role)) => {
+            FieldStep::Variable(None) => split_field(VARIABLE, octets).1,
+            FieldStep::Variable(Some(role)) => {
                 let (value, rest) = split_field(VARIABLE, octets);
                 if role.is_counted(value.len()) {
                     self.count(*role, value);
@@ -107,7 +107,7 @@ fn start_of(time: u32, milliseconds: Option<u64>, seconds: Option<u32>) -> u32
 
 /// The numbers that count under these steps.
 #[inline(never)]
-fn counts_by(steps: &[Step], octets: &[u8]) -> Counts
+fn counts_by(steps: &[FieldStep], octets: &[u8]) -> Counts
     requires { AllByRecursion IsStep steps.now }
     ensures { result ≡ counts_with no_counts (values_by steps.now octets.now) }
 {

@@ -216,8 +216,8 @@ impl Entries {
         Ok(())
     }
 
-    /// Adds sums under a key. Where they are the first for this key since the changes began, it notes the change; `noted`
-    /// has for each place where its change may be.
+    /// Adds sums under a key. Where they are the first for this key since the changes began, it notes the change;
+    /// `noted` has for each place where its change may be.
     #[inline(always)]
     pub(crate) fn add_once(
         &mut self,

@@ -12,7 +12,7 @@ use Rattle.flow_program.specs.declared.request.LineError.TheVariants as line
 abbrev pub kind_text : ErrorKind → List ℕ
 kind_text MissingSubcommand = codes "a command is needed: flowvault --help lists them"
 kind_text MissingRequiredArgument =
-    codes "an argument is missing, as WIDTH in: flowvault measure 300 < FILE; flowvault help COMMAND tells them"
+    codes "an argument is missing, as WIDTH in: flowvault measure 300 < FILE; flowvault help COMMAND lists them"
 kind_text _ = codes "a word isn't understood; a File is read from standard input: flowvault measure 300 < FILE"
 
 abbrev pub words_text : LineError → List ℕ

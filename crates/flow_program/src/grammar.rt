@@ -24,7 +24,7 @@ const MEASURE_HELP: &str =
     "Each line: START DOMAIN PROTOCOL FLOWS OCTETS PACKETS. START is in seconds since\n\
      1970-01-01 00:00 UTC; PROTOCOL is - where a flow has none. Nothing is written\n\
      unless the whole File is accepted.\n\
-     A terminal on standard error is told which records the File lacks: those\n\
+     A terminal on standard error is shown which records the File lacks: those\n\
      without a template in force, and those that Sequence Numbers leave out; --warn\n\
      says so anywhere.\n\
      \n\
@@ -66,7 +66,7 @@ const INSPECT_HELP: &str =
      unless the whole File is accepted.\n\
      Without a FILE standard input is read. The lines of FILEs begin with file N,\n\
      which counts them from 1; file is the first name of CSV and JSON. Each is read\n\
-     by itself, in their order, up to the first that is refused: N is told with it.\n\
+     by itself, in their order, up to the first that is refused, with its N.\n\
      \n\
      Examples: flowvault inspect < FILE\n\
      \x20         flowvault inspect --csv FILE OTHER";
@@ -84,7 +84,7 @@ const CREATE_HELP: &str =
      Example: mkdir flows && flowvault create flows 300";
 
 /// What `check` does, in a line or two.
-const CHECK_ABOUT: &str = "Opens the archive of a folder and tells how it stands";
+const CHECK_ABOUT: &str = "Opens the archive of a folder and says what it holds";
 
 /// What help has below the arguments of `check`.
 const CHECK_HELP: &str =
@@ -147,7 +147,7 @@ const FEED_HELP: &str =
      without a template in force, and those that Sequence Numbers leave out; --warn\n\
      shows these anywhere, but for how much is read.\n\
      The exit status is that of the first File that stopped. An archive that can't be\n\
-     opened is told on standard error before a File is read.\n\
+     opened is reported on standard error before a File is read.\n\
      \n\
      Example: flowvault feed flows FILE OTHER --keep 24";
 
@@ -177,7 +177,7 @@ const ROLL_ABOUT: &str = "Sums the sealed segments of the archive in a folder, b
 
 /// What help has below the arguments of `roll`.
 const ROLL_HELP: &str = "All sealed segments but the newest KEEP become one file of sums, and are\n\
-     removed: their flows stay in totals, and are no longer told by flows. Writes\n\
+     removed: their flows stay in totals, and are no longer written by flows. Writes\n\
      rolled K: how many they were, 0 where there are none.\n\
      \n\
      Example: flowvault roll flows 8";
@@ -194,7 +194,7 @@ const MERGE_HELP: &str = "All rolled files but the newest KEEP become one file o
      Example: flowvault merge flows 8";
 
 /// What `explain` does, in a line or two.
-const EXPLAIN_ABOUT: &str = "Tells what a refusal means, what usually causes it, and what to do";
+const EXPLAIN_ABOUT: &str = "Says what a refusal means, what usually causes it, and what to do";
 
 /// What help has below the arguments of `explain`.
 const EXPLAIN_HELP: &str =

@@ -96,7 +96,7 @@ const NO_COMMAND: &str = "flowvault: a command is needed: flowvault --help lists
 
 /// The line where an argument is missing.
 const NO_ARGUMENT: &str =
-    "flowvault: an argument is missing, as WIDTH in: flowvault measure 300 < FILE; flowvault help COMMAND tells them\n";
+    "flowvault: an argument is missing, as WIDTH in: flowvault measure 300 < FILE; flowvault help COMMAND lists them\n";
 
 /// The line for any other wrong words.
 const WRONG_WORDS: &str =

@@ -11,12 +11,12 @@ use Rattle.flow_model.specs.State.{State, end_of}
 use Rattle.flow_model.specs.Standing.{IsKnown, IsWithinLimits}
 
 -- What is counted of a state, whatever the disk: its last entry, the end of its messages, how many there are in all.
-pub record IsCounted (s : State) (last : Entry) (end total : ℕ) : Type 0 where
+pub record IsCounted (s : State) (active_entry : Entry) (end total : ℕ) : Type 0 where
   pub valid : IsValidManifest s.manifest
   pub next : s.manifest.next ≤ s.next
-  pub last_is : last ≡ active_of s.manifest
+  pub active_entry_is : active_entry ≡ active_of s.manifest
   pub end_is : end ≡ end_of s
-  pub long : 1 ≤ length s.active.messages → last.prefix + 16 ≤ end
+  pub long : 1 ≤ length s.active.messages → active_entry.prefix + 16 ≤ end
   pub total_is : total ≡ messages_of s.manifest.entries + length s.active.messages
   pub within : IsWithinLimits s
 
@@ -32,9 +32,9 @@ pub record IsReadyFor (marks : ℕ → Marks) (active next end : ℕ) : Type 0 w
 
 -- and on an honest disk each image is known
 pub record IsKept {D : Type 0} (honest : D → Bool) (marks : D → ℕ → Marks) (held : D → ℕ → Held) (disk : D)
-    (slots : Slots) (last : Entry) (end total : ℕ) (s : State) : Type 0 where
-  pub counted : IsCounted s last end total
-  pub ready : IsReadyFor (marks disk) last.file s.next end
+    (slots : Slots) (active_entry : Entry) (end total : ℕ) (s : State) : Type 0 where
+  pub counted : IsCounted s active_entry end total
+  pub ready : IsReadyFor (marks disk) active_entry.file s.next end
   pub known : IsTrue (honest disk) → AllImages (held disk) (IsKnown slots s)
 
 -- A file of this disk, as an entry names it: whatever the disk, it has this number and at least these octets.

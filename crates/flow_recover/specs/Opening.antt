@@ -67,10 +67,10 @@ FrozenStand octets (entry ∷ entries) (part ∷ parts) (x ∷ frozen) =
 -- represents it, its files are an archive's, each image is known to hold it, and the frozen files hold its parts.
 pub record IsRecovered {D S : Type 0} (honest : D → Bool) (marks : D → ℕ → Marks) (held : D → ℕ → Held)
     (octets : S → List ℕ) (number size : S → ℕ) (is_honest : S → Bool) (reads : ℕ → List ℕ) (disk : D) (slots : Slots)
-    (last : Entry) (end total : ℕ) (active : Part) (carry : Carry) (frozen : List S) : Type 0 where
+    (active_entry : Entry) (end total : ℕ) (active : Part) (carry : Carry) (frozen : List S) : Type 0 where
   pub parts : List Part
-  pub counted : IsCounted (at_rest slots.current parts active) last end total
-  pub ready : IsReadyFor (marks disk) last.file slots.current.next end
+  pub counted : IsCounted (at_rest slots.current parts active) active_entry end total
+  pub ready : IsReadyFor (marks disk) active_entry.file slots.current.next end
   pub all : length frozen ≡ length (front_of slots.current)
   pub files : AreFilesOf number size is_honest (honest disk) (front_of slots.current) frozen
   pub are_frozen : AllByRecursion (λ e. (marks disk e.file).frozen ≡ true) (front_of slots.current)

@@ -48,7 +48,7 @@ fn take_active(
     carry: &mut Carry,
     alloc: Global,
     called: &Option<Vec<u8>>,
-    last: Entry,
+    active_entry: Entry,
     segment: &ActiveSegment,
 ) -> Result<(), OpenError>
     requires { carry.old ≡ no_carry 0 }
@@ -58,9 +58,21 @@ fn take_active(
         → IsSegment (part_of segment.now) whole → IfErr result (λ e. e ≡ OpenError.OutOfMemory) }
     ensures device { IfErr result (λ e. e ≢ OpenError.Fault) }
 {
-    read_prefix(carry, alloc, called, last.file, segment.prefix.as_slice())?;
-    let place = u64::from(last.prefix);
-    take_list(carry, alloc, segment.messages.as_slice(), last.file, place)?;
+    read_prefix(
+        carry,
+        alloc,
+        called,
+        active_entry.file,
+        segment.prefix.as_slice(),
+    )?;
+    let place = u64::from(active_entry.prefix);
+    take_list(
+        carry,
+        alloc,
+        segment.messages.as_slice(),
+        active_entry.file,
+        place,
+    )?;
     Ok(())
 }
 
@@ -68,7 +80,7 @@ fn take_active(
 pub(crate) fn read_segment(
     alloc: Global,
     called: &Option<Vec<u8>>,
-    last: Entry,
+    active_entry: Entry,
     segment: &ActiveSegment,
 ) -> Result<Carry, OpenError>
     ensures found { IfOk result (λ carry. IsCalled called.now (part_of segment.now).front
@@ -78,7 +90,7 @@ pub(crate) fn read_segment(
     ensures device { IfErr result (λ e. e ≢ OpenError.Fault) }
 {
     let mut carry = Carry::new(alloc);
-    take_active(&mut carry, alloc, called, last, segment)?;
+    take_active(&mut carry, alloc, called, active_entry, segment)?;
     Ok(carry)
 }
 

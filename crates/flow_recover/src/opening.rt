@@ -33,7 +33,7 @@ pub struct Recovered<D: Disk> {
     /// The slots, with the manifest in force.
     pub slots: Slots,
     /// The active entry.
-    pub last: Entry,
+    pub active_entry: Entry,
     /// The place of the closed gate in the active file.
     pub end: u64,
     /// How many messages there are in all.
@@ -50,7 +50,7 @@ pub struct Recovered<D: Disk> {
 #[derive(Drop)]
 struct Found {
     slots: Slots,
-    last: Entry,
+    active_entry: Entry,
     files: Files,
 }
 
@@ -61,7 +61,8 @@ pub fn recover<D: Disk>(alloc: Global, disk: &mut D) -> Result<Recovered<D>, Ope
     ensures cause { HasCause OpenError.Fault (D.faults disk.old) (D.faults disk.new) result }
     ensures recovered { IfOk result
         (λ r. IsRecovered D.honest D.marks D.held D.Sealed.octets D.Sealed.number D.Sealed.size D.Sealed.honest
-        (reads_of (D.held disk.old)) disk.new r.slots r.last r.end r.total (part_of r.active) r.carry r.parts.items) }
+        (reads_of (D.held disk.old)) disk.new r.slots r.active_entry r.end r.total (part_of r.active) r.carry
+        r.parts.items) }
     ensures listed { IfOk result (λ r. (n : ℕ) → is_file_of r.slots.current n ≡ true
         → (D.marks disk.new n).listed ≡ true) }
     ensures removed { IsTrue (D.honest disk.old) → IfOk result (λ r. (n : ℕ)
@@ -88,11 +89,15 @@ pub fn recover<D: Disk>(alloc: Global, disk: &mut D) -> Result<Recovered<D>, Ope
     ensures any_moment { IsTrue (D.honest disk.old) → (a b : State) → AllImages (D.held disk.old) (StandsForEither a b)
         → LeavesOnly D.Disk disk.old disk.new (StandsForEither a b) }
 {
-    let Found { slots, last, files } = find(alloc, disk)?;
-    let parts = tidy(alloc, disk, &slots.current, last, files.end)?;
+    let Found {
+        slots,
+        active_entry,
+        files,
+    } = find(alloc, disk)?;
+    let parts = tidy(alloc, disk, &slots.current, active_entry, files.end)?;
     Ok(Recovered {
         slots,
-        last,
+        active_entry,
         end: files.end,
         total: files.total,
         active: files.active,
@@ -113,10 +118,10 @@ fn find<D: Disk>(alloc: Global, disk: &mut D) -> Result<Found, OpenError>
     ensures listed { IfOk result (λ f. (n : ℕ) → is_file_of f.slots.current n ≡ true
         → (D.marks disk.new n).listed ≡ true) }
     ensures valid { IfOk result (λ f. IsValidManifest f.slots.current) }
-    ensures last { IfOk result (λ f. f.last ≡ active_of f.slots.current) }
+    ensures active_entry { IfOk result (λ f. f.active_entry ≡ active_of f.slots.current) }
     ensures small { IfOk result (λ f. f.files.end + 2 < 2 ^ 64) }
     ensures counted { IfOk result (λ f. (parts : List Part)
-        → IsCounted (at_rest f.slots.current parts (part_of f.files.active)) f.last f.files.end f.files.total) }
+        → IsCounted (at_rest f.slots.current parts (part_of f.files.active)) f.active_entry f.files.end f.files.total) }
     ensures segment { IfOk result (λ f. IsSegment (part_of f.files.active) f.files.carry) }
     ensures cause { HasCause OpenError.Fault (D.faults disk.old) (D.faults disk.new) result }
 
@@ -135,13 +140,17 @@ fn find<D: Disk>(alloc: Global, disk: &mut D) -> Result<Found, OpenError>
         → IfErr result (λ e. IsDeviceOrMemory e ⊎ StandsForNone (reads_of (D.held disk.old))) }
 {
     let slots = settle_all(alloc, disk)?;
-    let last = last_of(slots.current.entries.as_slice());
-    let files = read_files(alloc, disk, &slots.current, last)?;
-    Ok(Found { slots, last, files })
+    let active_entry = active_entry_of(slots.current.entries.as_slice());
+    let files = read_files(alloc, disk, &slots.current, active_entry)?;
+    Ok(Found {
+        slots,
+        active_entry,
+        files,
+    })
 }
 
 /// The active entry.
-fn last_of(entries: &[Entry]) -> Entry
+fn active_entry_of(entries: &[Entry]) -> Entry
     requires { 1 ≤ length entries.now }
     ensures { result ≡ get_or entries.now (length entries.now - 1) no_entry }
 {

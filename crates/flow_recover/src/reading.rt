@@ -51,10 +51,10 @@ pub(crate) fn read_files<D: Disk>(
     alloc: Global,
     disk: &mut D,
     manifest: &Manifest,
-    last: Entry,
+    active_entry: Entry,
 ) -> Result<Files, OpenError>
     requires valid { IsValidManifest manifest.now }
-    requires last { last ≡ active_of manifest.now }
+    requires active_entry { active_entry ≡ active_of manifest.now }
     // On every disk.
     ensures honest { D.honest disk.new ≡ D.honest disk.old }
     ensures settled { (n : ℕ) → (D.marks disk.new n).settled ≡ (D.marks disk.old n).settled }
@@ -62,7 +62,7 @@ pub(crate) fn read_files<D: Disk>(
     ensures listed { (n : ℕ) → (D.marks disk.new n).listed ≡ (D.marks disk.old n).listed }
     ensures slots { (n : ℕ) → n < 3 → D.marks disk.new n ≡ D.marks disk.old n }
     ensures counted { IfOk result (λ f. (parts : List Part)
-        → IsCounted (at_rest manifest.now parts (part_of f.active)) last f.end f.total) }
+        → IsCounted (at_rest manifest.now parts (part_of f.active)) active_entry f.end f.total) }
     ensures small { IfOk result (λ f. f.end + 2 < 2 ^ 64) }
     ensures segment { IfOk result (λ f. IsSegment (part_of f.active) f.carry) }
     ensures cause { HasCause OpenError.Fault (D.faults disk.old) (D.faults disk.new) result }
@@ -79,14 +79,14 @@ pub(crate) fn read_files<D: Disk>(
 {
     let entries = manifest.entries.as_slice();
     let called = read_entries(alloc, disk, manifest, &entries[..entries.len() - 1])?;
-    let (active, end) = read_active(alloc, disk, last)?;
-    let carry = read_segment(alloc, &called, last, &active)?;
-    let limit = u64::from(last.prefix) + u64::from(manifest.limit);
+    let (active, end) = read_active(alloc, disk, active_entry)?;
+    let carry = read_segment(alloc, &called, active_entry, &active)?;
+    let limit = u64::from(active_entry.prefix) + u64::from(manifest.limit);
     if end > limit {
-        return Err(OpenError::Damaged(last.file, u64::from(last.prefix)));
+        return Err(OpenError::Damaged(active_entry.file, u64::from(active_entry.prefix)));
     }
     let Some(total) = total_of(entries, active.messages.len()) else {
-        return Err(OpenError::Damaged(last.file, u64::from(last.prefix)));
+        return Err(OpenError::Damaged(active_entry.file, u64::from(active_entry.prefix)));
     };
     Ok(Files {
         active,
@@ -120,32 +120,35 @@ fn total_of(entries: &[Entry], count: usize) -> Option<u64>
 fn read_active<D: Disk>(
     alloc: Global,
     disk: &mut D,
-    last: Entry,
+    active_entry: Entry,
 ) -> Result<(ActiveSegment, u64), OpenError>
-    requires { 3 ≤ last.file }
+    requires { 3 ≤ active_entry.file }
     ensures honest { D.honest disk.new ≡ D.honest disk.old }
     ensures settled { (n : ℕ) → (D.marks disk.new n).settled ≡ (D.marks disk.old n).settled }
     ensures frozen { (n : ℕ) → (D.marks disk.new n).frozen ≡ (D.marks disk.old n).frozen }
     ensures listed { (n : ℕ) → (D.marks disk.new n).listed ≡ (D.marks disk.old n).listed }
     ensures slots { (n : ℕ) → n < 3 → D.marks disk.new n ≡ D.marks disk.old n }
-    ensures ends { IfOk result (λ r. (r.1 ≡ last.prefix + octet_sum (part_of r.0).messages) × (r.1 + 2 < 2 ^ 64)) }
+    ensures ends { IfOk result (λ r. (r.1 ≡ active_entry.prefix + octet_sum (part_of r.0).messages)
+        × (r.1 + 2 < 2 ^ 64)) }
     ensures whole { IfOk result (λ r. All IsWhole (part_of r.0).messages) }
     ensures cause { HasCause OpenError.Fault (D.faults disk.old) (D.faults disk.new) result }
     ensures held { IsTrue (D.honest disk.old) → Stays (D.held disk.old) (D.held disk.new) }
     ensures any_moment { IsTrue (D.honest disk.old)
         → LeavesOnly D.Disk disk.old disk.new (IsDiskImage (D.held disk.old)) }
-    ensures found { IsTrue (D.honest disk.old) → IfOk result (λ r. IsActiveAt (D.held disk.old last.file).reads last
+    ensures found { IsTrue (D.honest disk.old) → IfOk result (λ r. IsActiveAt (D.held disk.old active_entry.file).reads
+        active_entry
         (part_of r.0)) }
-    ensures refused { IsTrue (D.honest disk.old) → (p : Part) → IsActiveAt (D.held disk.old last.file).reads last p
+    ensures refused { IsTrue (D.honest disk.old) → (p : Part)
+        → IsActiveAt (D.held disk.old active_entry.file).reads active_entry p
         → IfErr result IsDeviceOrMemory }
 {
-    let start = u64::from(last.prefix);
-    let size = disk.length(last.file)?;
+    let start = u64::from(active_entry.prefix);
+    let size = disk.length(active_entry.file)?;
     if start > size {
-        return Err(OpenError::Damaged(last.file, size));
+        return Err(OpenError::Damaged(active_entry.file, size));
     }
-    let tail = scan(alloc, disk, last.file, start)?;
-    let prefix = disk.read(alloc, last.file, 0, last.prefix as usize)?;
+    let tail = scan(alloc, disk, active_entry.file, start)?;
+    let prefix = disk.read(alloc, active_entry.file, 0, active_entry.prefix as usize)?;
     let segment = ActiveSegment {
         prefix,
         messages: tail.messages,

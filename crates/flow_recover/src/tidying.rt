@@ -174,18 +174,18 @@ pub(crate) fn tidy<D: Disk>(
     alloc: Global,
     disk: &mut D,
     manifest: &Manifest,
-    last: Entry,
+    active_entry: Entry,
     end: u64,
 ) -> Result<Vec<D::Sealed>, OpenError>
     requires valid { IsValidManifest manifest.now }
-    requires last { last ≡ active_of manifest.now }
+    requires active_entry { active_entry ≡ active_of manifest.now }
     requires end { end + 2 < 2 ^ 64 }
     requires thawed { (n : ℕ) → (D.marks disk.old n).frozen ≡ false }
     requires settled { AllByRecursion (λ e. (D.marks disk.old e.file).settled ≡ true) manifest.now.entries }
     requires slots { (slot : Slot) → ((D.marks disk.old (file_of slot)).settled ≡ true)
         × (1 ≤ (D.marks disk.old (file_of slot)).size) }
     ensures honest { D.honest disk.new ≡ D.honest disk.old }
-    ensures ready { OnOk result (IsReadyFor (D.marks disk.new) last.file manifest.now.next end) }
+    ensures ready { OnOk result (IsReadyFor (D.marks disk.new) active_entry.file manifest.now.next end) }
     ensures slots { IsTrue (D.honest disk.old)
         → (slot : Slot) → D.held disk.new (file_of slot) ≡ D.held disk.old (file_of slot) }
     ensures removed { IsTrue (D.honest disk.old)
@@ -200,7 +200,7 @@ pub(crate) fn tidy<D: Disk>(
         (λ parts. map D.Sealed.size parts.items ≡ map (λ e. e.length) (front_of manifest.now)) }
     ensures shut { OnOk result
         (AllByRecursion (λ e. D.marks disk.new e.file ≡ shut_at e.length) (front_of manifest.now)) }
-    ensures size { OnOk result ((D.marks disk.new last.file).size ≡ end + 2) }
+    ensures size { OnOk result ((D.marks disk.new active_entry.file).size ≡ end + 2) }
     ensures still { OnOk result ((n : ℕ) → is_file_of manifest.now n ≡ true → (D.marks disk.old n).listed ≡ true
         → (D.marks disk.new n).listed ≡ true) }
     ensures parts { IsTrue (D.honest disk.old) → (slots : Slots) (s : State) → s.manifest ≡ manifest.now
@@ -213,7 +213,7 @@ pub(crate) fn tidy<D: Disk>(
 {
     let entries = manifest.entries.as_slice();
     let parts = freeze_files(alloc, disk, &entries[..entries.len() - 1])?;
-    cut_file(disk, last.file, end + 2)?;
+    cut_file(disk, active_entry.file, end + 2)?;
     remove_unnamed(alloc, disk, manifest)?;
     Ok(parts)
 }

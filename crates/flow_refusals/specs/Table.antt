@@ -9,48 +9,48 @@ pub record Row : Type 0 where
   pub name : List ℕ
   pub status : ℕ
 
-abbrev pub row : ℕ → List ℕ → ℕ → Row
-row number name status = record { number = number; name = name; status = status }
+abbrev pub listed : ℕ → List ℕ → ℕ → Row
+listed number name status = record { number = number; name = name; status = status }
 
 -- statuses: 1 for what is refused, 3 for a device or a reader's place, 4 for memory, 5 for damage
 abbrev pub row_of : RefusalCode → Row
-row_of code.Short = row 1 (codes "Short") 1
-row_of code.Version = row 2 (codes "Version") 1
-row_of code.Length = row 3 (codes "Length") 1
-row_of code.SetLength = row 4 (codes "SetLength") 1
-row_of code.TemplateCut = row 5 (codes "TemplateCut") 1
-row_of code.TemplateId = row 6 (codes "TemplateId") 1
-row_of code.ScopeCount = row 7 (codes "ScopeCount") 1
-row_of code.RecordCut = row 8 (codes "RecordCut") 1
-row_of code.TemplatesFull = row 9 (codes "TemplatesFull") 1
-row_of code.DomainsFull = row 10 (codes "DomainsFull") 1
-row_of code.OutOfMemory = row 11 (codes "OutOfMemory") 4
-row_of code.SumSpent = row 14 (codes "SumSpent") 1
-row_of code.FileCut = row 15 (codes "Cut") 1
-row_of code.FileVersion = row 16 (codes "Version") 1
-row_of code.FileLength = row 17 (codes "Length") 1
-row_of code.Damaged = row 20 (codes "Damaged") 5
-row_of code.Format = row 21 (codes "Format") 5
-row_of code.Entries = row 22 (codes "Entries") 5
-row_of code.SlotCut = row 23 (codes "Cut") 5
-row_of code.NoArchive = row 24 (codes "NoArchive") 5
-row_of code.NumbersSpent = row 25 (codes "NumbersSpent") 1
-row_of code.NotRolled = row 26 (codes "NotRolled") 1
-row_of code.NotEmpty = row 27 (codes "NotEmpty") 1
-row_of code.Fault = row 30 (codes "Fault") 3
-row_of code.Read = row 31 (codes "Read") 3
-row_of code.Write = row 32 (codes "Write") 3
-row_of code.NoRoom = row 40 (codes "NoRoom") 1
-row_of code.ManifestFull = row 41 (codes "ManifestFull") 1
-row_of code.NothingToSeal = row 42 (codes "NothingToSeal") 1
-row_of code.RollBusy = row 43 (codes "RollBusy") 1
-row_of code.NoRoll = row 44 (codes "NoRoll") 1
-row_of code.RollCount = row 45 (codes "RollCount") 1
-row_of code.RollNotDone = row 46 (codes "RollNotDone") 1
-row_of code.Pinned = row 47 (codes "Pinned") 1
-row_of code.NothingToRetire = row 48 (codes "NothingToRetire") 1
-row_of code.Closed = row 49 (codes "Closed") 3
-row_of code.Away = row 50 (codes "Away") 3
+row_of code.Short = listed 1 (codes "Short") 1
+row_of code.Version = listed 2 (codes "Version") 1
+row_of code.Length = listed 3 (codes "Length") 1
+row_of code.SetLength = listed 4 (codes "SetLength") 1
+row_of code.TemplateCut = listed 5 (codes "TemplateCut") 1
+row_of code.TemplateId = listed 6 (codes "TemplateId") 1
+row_of code.ScopeCount = listed 7 (codes "ScopeCount") 1
+row_of code.RecordCut = listed 8 (codes "RecordCut") 1
+row_of code.TemplatesFull = listed 9 (codes "TemplatesFull") 1
+row_of code.DomainsFull = listed 10 (codes "DomainsFull") 1
+row_of code.OutOfMemory = listed 11 (codes "OutOfMemory") 4
+row_of code.SumSpent = listed 14 (codes "SumSpent") 1
+row_of code.FileCut = listed 15 (codes "Cut") 1
+row_of code.FileVersion = listed 16 (codes "Version") 1
+row_of code.FileLength = listed 17 (codes "Length") 1
+row_of code.Damaged = listed 20 (codes "Damaged") 5
+row_of code.Format = listed 21 (codes "Format") 5
+row_of code.Entries = listed 22 (codes "Entries") 5
+row_of code.SlotCut = listed 23 (codes "Cut") 5
+row_of code.NoArchive = listed 24 (codes "NoArchive") 5
+row_of code.NumbersSpent = listed 25 (codes "NumbersSpent") 1
+row_of code.NotRolled = listed 26 (codes "NotRolled") 1
+row_of code.NotEmpty = listed 27 (codes "NotEmpty") 1
+row_of code.Fault = listed 30 (codes "Fault") 3
+row_of code.Read = listed 31 (codes "Read") 3
+row_of code.Write = listed 32 (codes "Write") 3
+row_of code.NoRoom = listed 40 (codes "NoRoom") 1
+row_of code.ManifestFull = listed 41 (codes "ManifestFull") 1
+row_of code.NothingToSeal = listed 42 (codes "NothingToSeal") 1
+row_of code.RollBusy = listed 43 (codes "RollBusy") 1
+row_of code.NoRoll = listed 44 (codes "NoRoll") 1
+row_of code.RollCount = listed 45 (codes "RollCount") 1
+row_of code.RollNotDone = listed 46 (codes "RollNotDone") 1
+row_of code.Pinned = listed 47 (codes "Pinned") 1
+row_of code.NothingToRetire = listed 48 (codes "NothingToRetire") 1
+row_of code.Closed = listed 49 (codes "Closed") 3
+row_of code.Away = listed 50 (codes "Away") 3
 
 abbrev pub is_between : ℕ → ℕ → ℕ → Bool
 is_between least most number = nat_le least number && nat_le number most

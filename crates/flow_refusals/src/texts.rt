@@ -2,28 +2,28 @@
 
 pub(crate) const SHORT: &str =
     "1 Short: a message has fewer than 16 octets, which its header alone takes.\n\
-Usual cause: a caller of the library handed over a part of a message. A File tells\n\
-it as 15 Cut.\n\
+Usual cause: a caller of the library handed over a part of a message. In a File\n\
+this is 15 Cut.\n\
 What to do: hand over whole messages.\n";
 
 pub(crate) const VERSION: &str =
     "2 Version: the version of a message isn't 10, that of IPFIX (RFC 7011).\n\
-Usual cause: NetFlow v5 (5) or NetFlow v9 (9) was handed to the library. A File\n\
-tells it as 16 Version.\n\
+Usual cause: NetFlow v5 (5) or NetFlow v9 (9) was handed to the library. In a\n\
+File this is 16 Version.\n\
 What to do: have the exporter send IPFIX.\n";
 
 pub(crate) const LENGTH: &str =
     "3 Length: the Length field of a message isn't the count of its octets.\n\
-Usual cause: a message that was cut off, or several in one piece. A File tells it\n\
-as 15 Cut.\n\
+Usual cause: a message that was cut off, or several in one piece. In a File this\n\
+is 15 Cut.\n\
 What to do: cut messages off by their Length field.\n";
 
 pub(crate) const SET_LENGTH: &str =
     "4 SetLength AT: the Set at octet AT of the message has a Length below 4, or runs\n\
 past the message's end.\n\
 Usual cause: an exporter with a fault, or octets that were damaged on their way.\n\
-What to do: see the message whose number is told with 'flowvault dump', which\n\
-writes the messages before it; tell the exporter's maker.\n";
+What to do: see the messages before the one whose number the refusal has with\n\
+'flowvault dump'; tell the exporter's maker.\n";
 
 pub(crate) const TEMPLATE_CUT: &str =
     "5 TemplateCut AT: the template record at octet AT of the message runs past its\n\
@@ -83,8 +83,8 @@ What to do: the messages before AT are whole: 'dump' writes them, and 'feed' has
 them in. Copy the File again, or wait until it is closed, and feed what is new.\n";
 
 pub(crate) const FILE_VERSION: &str =
-    "16 Version AT: at octet AT of the File, where a message is to begin, stands another\n\
-version than 10.\n\
+    "16 Version AT: the message that begins at octet AT of the File has another version\n\
+than 10, that of IPFIX.\n\
 Usual cause: at octet 0 a File that isn't IPFIX: a pcap capture of packets, NetFlow\n\
 v5 or v9, a compressed File (.gz, .xz, .zst), or text. Later in the File octets\n\
 that were lost or added.\n\
@@ -136,14 +136,14 @@ What to do: begin a new archive.\n";
 
 pub(crate) const NOT_ROLLED: &str =
     "26 NotRolled AT: octets that a caller of the library decodes aren't sums as flowvault\n\
-writes them, from octet AT on. In an archive it is told as 20 Damaged.\n\
+writes them, from octet AT on. In an archive this is 20 Damaged.\n\
 Usual cause: another File was handed over.\n\
 What to do: hand over a rolled file of an archive with the same width.\n";
 
 pub(crate) const NOT_EMPTY: &str =
     "27 NotEmpty: 'create' found a file n.ipfix, 1.slot or 2.slot in the folder.\n\
 Usual cause: the folder has an archive already.\n\
-What to do: 'flowvault check DIR' tells how it stands; else make a new folder.\n";
+What to do: 'flowvault check DIR' says what it holds; else make a new folder.\n";
 
 pub(crate) const FAULT: &str =
     "30 Fault: the system refused or failed a call on the archive's folder.\n\
@@ -162,7 +162,7 @@ What to do: look at the File with 'ls -l FILE' and 'wc -c < FILE'; then run it\n
 again.\n";
 
 pub(crate) const WRITE: &str =
-    "32 Write: the output couldn't be written; a front of the lines may stand there.\n\
+    "32 Write: the output couldn't be written, or its first part alone was.\n\
 Usual cause: by what the system said: the disk is full; the reader of a pipe has\n\
 ended, as 'head' does; standard output is closed.\n\
 What to do: make room, and run it again. A pipe that ends early is no fault.\n";

@@ -59,7 +59,7 @@ pub(crate) enum Asked {
     /// To begin to merge so many rolled files.
     Merge(u32),
     /// To read one source of the job.
-    Step,
+    RollStep,
     /// To write the file of the job.
     Write,
     /// To put it in place of its sources.
@@ -75,8 +75,8 @@ pub(crate) const ROLL: [Asked; 14] = [
     Asked::Append(SECOND),
     Asked::Seal,
     Asked::Roll(2),
-    Asked::Step,
-    Asked::Step,
+    Asked::RollStep,
+    Asked::RollStep,
     Asked::Write,
     Asked::Append(THIRD),
     Asked::Seal,
@@ -89,13 +89,13 @@ pub(crate) const ROLL: [Asked; 14] = [
 /// The third is rolled too, and both rolled files are merged by wide intervals.
 pub(crate) const MERGE: [Asked; 12] = [
     Asked::Roll(1),
-    Asked::Step,
+    Asked::RollStep,
     Asked::Write,
     Asked::Install,
     Asked::Retire,
     Asked::Merge(2),
-    Asked::Step,
-    Asked::Step,
+    Asked::RollStep,
+    Asked::RollStep,
     Asked::Write,
     Asked::Install,
     Asked::Retire,
@@ -135,7 +135,7 @@ impl Asked {
             Asked::Seal => Event::Seal,
             Asked::Roll(count) => Event::RollBegin(count),
             Asked::Merge(count) => Event::MergeBegin(count),
-            Asked::Step => Event::RollStep,
+            Asked::RollStep => Event::RollStep,
             Asked::Write => Event::RollWrite,
             Asked::Install => Event::RollInstall,
             Asked::Retire => Event::Retire,

@@ -7,7 +7,7 @@ use crate::thawed::{Thawed, fused, given_up, with_bad_reads, worn};
 use crate::worn::Wear;
 use flow_disk::Disk;
 use flow_memory_disk::{FusedDisk, MemoryDisk, Room};
-use flow_scripts::{Command, Failing, Line, Part, Script, Widths};
+use flow_scripts::{Command, Failing, Line, Script, ScriptPart, Widths};
 use std::alloc::{AllocError, Global};
 use std::sync::Wait;
 
@@ -181,7 +181,7 @@ fn with_shared<W: Wait>(
     alloc: Global,
     disk: Thawed<MemoryDisk>,
     script: &Script<'_>,
-    part: &Part<'_>,
+    part: &ScriptPart<'_>,
     report: &mut Report,
 ) -> Result<MemoryDisk, AllocError> {
     let Some((first, lines)) = part.lines.split_first() else {
@@ -253,7 +253,7 @@ fn play_once(
     alloc: Global,
     disk: MemoryDisk,
     script: &Script<'_>,
-    part: &Part<'_>,
+    part: &ScriptPart<'_>,
     report: &mut Report,
 ) -> Result<(MemoryDisk, bool), AllocError> {
     let disk = disk_of(disk, part.failing);
@@ -274,7 +274,7 @@ pub(crate) fn play_part<W: Wait>(
     alloc: Global,
     disk: MemoryDisk,
     script: &Script<'_>,
-    part: &Part<'_>,
+    part: &ScriptPart<'_>,
     report: &mut Report,
 ) -> Result<MemoryDisk, AllocError> {
     if part.is_shared {

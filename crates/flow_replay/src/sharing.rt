@@ -79,7 +79,7 @@ impl<D: Disk, J: Naming> Reading<D, J> {
     fn asked(&mut self, alloc: Global, command: &Command) -> Result<Option<String>, AllocError> {
         Ok(Some(match command {
             Command::See(question) => self.see(alloc, question)?,
-            Command::Held(question) => self.held(alloc, question)?,
+            Command::SeeHeld(question) => self.held(alloc, question)?,
             Command::Hold => self.hold(alloc)?,
             Command::LetGo => {
                 self.held = None;

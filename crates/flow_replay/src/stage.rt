@@ -146,7 +146,7 @@ impl<D: Disk> Stage<D> {
         match command {
             Command::Event(event) => self.event(alloc, event),
             Command::See(question) => self.see(alloc, question),
-            Command::Held(question) => self.held(alloc, question),
+            Command::SeeHeld(question) => self.held(alloc, question),
             Command::Hold => self.hold(alloc),
             Command::LetGo => self.let_go(alloc),
             Command::State => self.state(alloc),
@@ -195,7 +195,7 @@ fn event_of(alloc: Global, event: &flow_scripts::Event) -> Result<Event, AllocEr
         flow_scripts::Event::Seal => Event::Seal,
         flow_scripts::Event::Roll(count) => Event::RollBegin(*count),
         flow_scripts::Event::Merge(count) => Event::MergeBegin(*count),
-        flow_scripts::Event::Step => Event::RollStep,
+        flow_scripts::Event::RollStep => Event::RollStep,
         flow_scripts::Event::Write => Event::RollWrite,
         flow_scripts::Event::Install => Event::RollInstall,
         flow_scripts::Event::GiveUp => Event::RollDrop,

@@ -133,7 +133,7 @@ fn given_to<D: Disk>(
 /// Whether an archive answers to events that it is closed.
 fn is_closed<D: Disk>(alloc: Global, stage: &mut Stage<D>) -> Result<bool, AllocError> {
     let seal = stage.event(alloc, &Event::Seal)?;
-    let step = stage.event(alloc, &Event::Step)?;
+    let step = stage.event(alloc, &Event::RollStep)?;
     Ok(seal.as_str() == CLOSED && step.as_str() == CLOSED)
 }
 

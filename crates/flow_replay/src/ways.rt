@@ -10,7 +10,7 @@ use crate::thawed::fused;
 use crate::way::{Plan, Way};
 use flow_disk::DiskError;
 use flow_memory_disk::{Choice, FusedDisk, MemoryDisk, Room};
-use flow_scripts::{Command, Failing, Line, Part, Script};
+use flow_scripts::{Command, Failing, Line, Script, ScriptPart};
 use std::alloc::Global;
 use std::sync::Wait;
 
@@ -249,7 +249,7 @@ fn lie_each(
 fn try_part(
     alloc: Global,
     script: &str,
-    part: &Part<'_>,
+    part: &ScriptPart<'_>,
     image: &Image,
     plan: Plan,
     report: &mut Report,
@@ -302,7 +302,7 @@ fn play_next<W: Wait>(
     alloc: Global,
     disk: MemoryDisk,
     script: &Script<'_>,
-    part: &Part<'_>,
+    part: &ScriptPart<'_>,
     room: Room,
     plan: Plan,
     report: &mut Report,

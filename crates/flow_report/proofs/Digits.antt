@@ -5,7 +5,7 @@ use Rattle.std.proofs.lemmas.Slice.Eq.{bytes_eq-Decides}
 use Rattle.std.specs.Fmt.{decimal, digits}
 use Rattle.std.specs.Str.{bytes_eq}
 use lib.Ieee.Fits.{and_l, and_r}
-use Rattle.flow_report.specs.declared.tables.TheConstants.{HEX, PARTS}
+use Rattle.flow_report.specs.declared.tables.TheConstants.{HEX, DOTTED_OCTETS}
 use Rattle.flow_report.specs.Lines.{hex, hex_digit}
 
 holds : (b : Bool) → T b → b ≡ true
@@ -36,35 +36,35 @@ are_parts : ℕ → ℕ → ℕ → Bool
 unfolding digits
 are_parts before first zero = true
 are_parts before first (suc n) =
-    bytes_eq (drop before (get_or PARTS (first + n) [])) (46 ∷ decimal (first + n)) && are_parts before first n
+    bytes_eq (drop before (get_or DOTTED_OCTETS (first + n) [])) (46 ∷ decimal (first + n)) && are_parts before first n
 
 part_below : (before first n p : ℕ) → T (are_parts before first n) → p < n
-    → drop before (get_or PARTS (first + p) []) ≡ 46 ∷ decimal (first + p)
+    → drop before (get_or DOTTED_OCTETS (first + p) []) ≡ 46 ∷ decimal (first + p)
 unfolding are_parts
 part_below before first zero p t h = absurd (omega arith)
 part_below before first (suc n) p t h =
     elim (eq-zero-or-pos (n - p)) [
       | inl z ↦ let e : p ≡ n = omega arith in
-          rw e ((bytes_eq-Decides (drop before (get_or PARTS (first + n) [])) (46 ∷ decimal (first + n))).0
+          rw e ((bytes_eq-Decides (drop before (get_or DOTTED_OCTETS (first + n) [])) (46 ∷ decimal (first + n))).0
           (holds _ (and_l _ (are_parts before first n) t)))
       | inr g ↦ part_below before first n p (and_r _ (are_parts before first n) t) (omega arith)
     ]
 
-pub one_digit : (octet : ℕ) → octet < 10 → drop 2 (get_or PARTS octet []) ≡ 46 ∷ decimal octet
+pub one_digit : (octet : ℕ) → octet < 10 → drop 2 (get_or DOTTED_OCTETS octet []) ≡ 46 ∷ decimal octet
 unfolding are_parts digits
 one_digit octet h =
     let e : 0 + octet ≡ octet = omega arith in
     let found = part_below 2 0 10 octet tt h in
     rw e at found
 
-pub two_digits : (octet : ℕ) → 10 ≤ octet → octet < 100 → drop 1 (get_or PARTS octet []) ≡ 46 ∷ decimal octet
+pub two_digits : (octet : ℕ) → 10 ≤ octet → octet < 100 → drop 1 (get_or DOTTED_OCTETS octet []) ≡ 46 ∷ decimal octet
 unfolding are_parts digits
 two_digits octet least h =
     let e : 10 + (octet - 10) ≡ octet = omega arith in
     let found = part_below 1 10 90 (octet - 10) tt (omega arith) in
     rw e at found
 
-pub three_digits : (octet : ℕ) → 100 ≤ octet → octet < 256 → drop 0 (get_or PARTS octet []) ≡ 46 ∷ decimal octet
+pub three_digits : (octet : ℕ) → 100 ≤ octet → octet < 256 → drop 0 (get_or DOTTED_OCTETS octet []) ≡ 46 ∷ decimal octet
 unfolding are_parts digits
 three_digits octet least h =
     let e : 100 + (octet - 100) ≡ octet = omega arith in

@@ -8,7 +8,7 @@ use Rattle.std.proofs.KnownBytes.{Appends-nil}
 use Rattle.flow_codec.specs.Raw.{RawMessage}
 use Rattle.flow_codec.specs.Templates.{AllTemplates}
 use Rattle.flow_codec.specs.declared.patient.ReadFailed.{ReadFailed}
-use Rattle.flow_codec.specs.Stream.{Held, Progress, progress}
+use Rattle.flow_codec.specs.Stream.{ReaderState, Progress, progress}
 use Rattle.flow_codec.specs.File.{AcceptedFront, whole}
 use Rattle.flow_report.specs.declared.dumping.HeldMessage.{HeldMessage}
 use Rattle.flow_report.specs.declared.refusal.Refusal.{Refusal}
@@ -40,7 +40,7 @@ pub record IsDumping (input old : Option (List ℕ)) (reader : Progress) (here :
   pub few : reader.count < 2 ^ 48
 
 -- where the next message is refused since a read failed
-pub short_by : (old new : Held) (left unread : Option (List ℕ)) (e : Refusal) → old.stopped ≡ None
+pub short_by : (old new : ReaderState) (left unread : Option (List ℕ)) (e : Refusal) → old.stopped ≡ None
     → ReadsWithin old left e new unread → (failed : ReadFailed) → e ≡ Read failed
     → IsShort (progress old left) new.ahead unread
 short_by old new left unread e fresh within failed is =

@@ -8,16 +8,16 @@ use Rattle.flow_codec.specs.declared.file.FileError.TheVariants.{Cut}
 use Rattle.flow_codec.specs.Cutting.{IsFileFault}
 use Rattle.flow_codec.specs.File.{AcceptedFront, whole, broken}
 use Rattle.flow_codec.specs.Message.{joined}
-use Rattle.flow_codec.specs.Stream.{Held, Progress, progress, IsMessageNext, IsUnfinished}
+use Rattle.flow_codec.specs.Stream.{ReaderState, Progress, progress, IsMessageNext, IsUnfinished}
 use Rattle.flow_codec.proofs.Following.{Follows}
 use Rattle.flow_report.specs.Fronts.{IsFront, IsSpentFront, IsReadFront}
 
 -- a reader that was made now
-pub opened : (reader : Held) (input : Option (List ℕ))
+pub opened : (reader : ReaderState) (input : Option (List ℕ))
     → reader ≡ record { ahead = []; message = []; count = 0; at = 0; stopped = None }
     → progress reader input ≡ record { rest = input; message = []; count = 0; at = 0; stopped = None }
-opened reader None is = ap (λ (r : Held). progress r None) is
-opened reader (Some octets) is = ap (λ (r : Held). progress r (Some octets)) is
+opened reader None is = ap (λ (r : ReaderState). progress r None) is
+opened reader (Some octets) is = ap (λ (r : ReaderState). progress r (Some octets)) is
 
 -- a reader has these octets, and its input these left, where reading failed: there is no whole message in them
 abbrev pub IsShort : Progress → List ℕ → Option (List ℕ) → Type 0

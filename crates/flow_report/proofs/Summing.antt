@@ -19,7 +19,7 @@ use Rattle.flow_codec.specs.Raw.{RawMessage, RawRecord, Placed, under}
 use Rattle.flow_codec.specs.Templates.{AllTemplates}
 use Rattle.flow_codec.specs.Message.{IsAccepted, in_fields}
 use Rattle.flow_codec.specs.Fault.{IsFault}
-use Rattle.flow_codec.specs.Stream.{Held, Progress, progress, IsStep, IsStop, IsMessageNext}
+use Rattle.flow_codec.specs.Stream.{ReaderState, Progress, progress, IsStep, IsStop, IsMessageNext}
 use Rattle.flow_codec.specs.Stream.{StopsWithin}
 use Rattle.flow_codec.specs.declared.patient.ReadFailed.{ReadFailed}
 use Rattle.flow_codec.specs.File.{AcceptedFront, whole, broken, refused}
@@ -245,7 +245,7 @@ stopped_at width old left r0 r1 h0 c0 octets (walk.Message fault) s zero step is
     with_front (Some file) f = as_message fault r1.count file left (s.messages, h0, f, number)
 
 -- where it stops since a read failed
-pub short_at : (old new : Held) (left unread : Option (List ℕ)) (e : StreamError) → old.stopped ≡ None
+pub short_at : (old new : ReaderState) (left unread : Option (List ℕ)) (e : StreamError) → old.stopped ≡ None
     → StopsWithin old left e new unread → (failed : ReadFailed) → e ≡ stream.Read failed
     → IsShort (progress old left) new.ahead unread
 short_at old new left unread e fresh within failed is =

@@ -7,7 +7,7 @@ use Rattle.flow_codec.specs.Templates.{AllTemplates}
 use Rattle.flow_codec.specs.Message.{IsAccepted}
 use Rattle.flow_codec.specs.Fault.{IsFault}
 use Rattle.flow_codec.specs.Cutting.{IsCutOff}
-use Rattle.flow_codec.specs.Stream.{Held, Progress, IsFaultNext, IsMessageNext, StopsWithin}
+use Rattle.flow_codec.specs.Stream.{ReaderState, Progress, IsFaultNext, IsMessageNext, StopsWithin}
 use Rattle.flow_codec.specs.declared.stream.StreamError.TheVariants.{Read as ReadStopped}
 use Rattle.flow_codec.specs.File.{AcceptedFront, whole, broken, refused}
 use Rattle.flow_report.specs.declared.dumping.HeldRecord.{HeldRecord}
@@ -59,7 +59,7 @@ IsNext old before (Err (Read failed)) new after = ⊤
 IsNext old before (Err (Write failed)) new after = ⊤
 
 -- Where reading failed, no octets that were read are lost, and those that are held hold no whole message.
-abbrev pub ReadsWithin : Held → Option (List ℕ) → Refusal → Held → Option (List ℕ) → Type 0
+abbrev pub ReadsWithin : ReaderState → Option (List ℕ) → Refusal → ReaderState → Option (List ℕ) → Type 0
 ReadsWithin old left (Read failed) new after = StopsWithin old left (ReadStopped failed) new after
 ReadsWithin old left (Message fault number) new after = ⊤
 ReadsWithin old left (File fault) new after = ⊤

@@ -14,7 +14,7 @@ ghost use Rattle.flow_report.specs.Lines.{start_text};
 ghost use Rattle.flow_report.specs.Telling.{IsPut, EndsBy};
 
 use crate::label::{LABEL_ROOM, Label, label_of};
-use crate::tables::{hex_of, part_of};
+use crate::tables::{dotted_octet, hex_of};
 use flow_codec::{Definition, VARIABLE};
 use flow_elements::{ElementId, ElementType, LentValue, lend_value};
 use itoa::write_digits;
@@ -88,7 +88,7 @@ fn put_part(line: &mut [u8], at: usize, octet: u8) -> usize
     ensures put { IsPut line.old at line.new result (46 ∷ decimal octet) }
     ensures room { (at ≤ result + 4) × (result + 2 ≤ at) }
 {
-    let part = part_of(octet);
+    let part = dotted_octet(octet);
     put_part_whole(line, at, part.octets) + part.before
 }
 

@@ -38,7 +38,7 @@ pub(crate) fn hex_of(octet: u8) -> [u8; 2]
 }
 
 /// Each octet in decimal after a dot, at the end of four octets.
-static PARTS: [[u8; 4]; 256] = [
+static DOTTED_OCTETS: [[u8; 4]; 256] = [
     *b"  .0", *b"  .1", *b"  .2", *b"  .3", *b"  .4", *b"  .5", *b"  .6", *b"  .7", *b"  .8",
     *b"  .9", *b" .10", *b" .11", *b" .12", *b" .13", *b" .14", *b" .15", *b" .16", *b" .17",
     *b" .18", *b" .19", *b" .20", *b" .21", *b" .22", *b" .23", *b" .24", *b" .25", *b" .26",
@@ -72,23 +72,23 @@ static PARTS: [[u8; 4]; 256] = [
 
 /// An octet in decimal after a dot, at the end of octets that are copied whole.
 #[derive(Clone, Copy)]
-pub(crate) struct Part {
+pub(crate) struct DottedOctet {
     pub(crate) octets: [u8; 4],
     /// How many octets are before the text.
     pub(crate) before: usize,
 }
 
 /// An octet in decimal, after a dot.
-pub(crate) fn part_of(octet: u8) -> Part
+pub(crate) fn dotted_octet(octet: u8) -> DottedOctet
     ensures text { drop result.before result.octets ≡ 46 ∷ decimal octet }
     ensures before { result.before ≤ 2 }
 {
-    let octets = PARTS[octet as usize];
+    let octets = DOTTED_OCTETS[octet as usize];
     if octet < 10 {
-        return Part { octets, before: 2 };
+        return DottedOctet { octets, before: 2 };
     }
     if octet < 100 {
-        return Part { octets, before: 1 };
+        return DottedOctet { octets, before: 1 };
     }
-    Part { octets, before: 0 }
+    DottedOctet { octets, before: 0 }
 }

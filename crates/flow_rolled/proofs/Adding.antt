@@ -15,7 +15,7 @@ use Rattle.flow_measure.proofs.Gathering.{joined, sum_at, gathered-again, get-ga
 use Rattle.flow_measure.proofs.Widening.{pushed}
 use Rattle.flow_rolled.specs.declared.row.RolledRow.{RolledRow}
 use Rattle.flow_rolled.specs.Rows.{most, sums_in, sums_of, IsRow, MayFollow, AreRows, IsEntry}
-use Rattle.flow_rolled.specs.Parts.{last_from}
+use Rattle.flow_rolled.specs.Messages.{last_from}
 use Rattle.flow_rolled.proofs.Grouping.{rows_front, decide}
 use Rattle.flow_rolled.specs.Rows.{entries_in}
 use Rattle.flow_rolled.proofs.SumsTable.{sums_table}

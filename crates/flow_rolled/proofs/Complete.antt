@@ -4,39 +4,39 @@ use Rattle.std.proofs.Common.{◌++◌, length, drop, Option, Some, None, refl, 
 use Rattle.std.specs.List.{AllByRecursion}
 use Rattle.flow_measure.specs.declared.rows.Key.{Key}
 use Rattle.flow_rolled.specs.Rows.{AreRows}
-use Rattle.flow_rolled.specs.Parts.{rows_within}
-use Rattle.flow_rolled.specs.Parts.{Part, group, head, parts_from, parts_of, last_from, IsHead}
-use Rattle.flow_rolled.specs.Parts.{RowsFollow, Follows, AllFollow, EndsWell}
+use Rattle.flow_rolled.specs.Messages.{rows_within}
+use Rattle.flow_rolled.specs.Messages.{RolledMessage, group, head, messages_from, messages_with, last_from, IsHead}
+use Rattle.flow_rolled.specs.Messages.{RowsFollow, Follows, AllFollow, EndsWell}
 use Rattle.flow_rolled.proofs.Grouping.{Row, Own, IsPast, Starts, domains_rise, rows_front, step_head}
 use Rattle.flow_rolled.proofs.Grouping.{step_group, of_rows, again, decide, IsElsewhere}
 use Rattle.flow_rolled.proofs.Fronts.{extra, extra_of, group_own, group_few, group_rest, group_ends, group_some}
 use Rattle.flow_rolled.proofs.Fronts.{few_parts, one_time}
 
-pub record AfterHead (w : ℕ) (b : Part) (rows : List Row) : Type 0 where
+pub record AfterHead (w : ℕ) (b : RolledMessage) (rows : List Row) : Type 0 where
   pub none : b.rows ≡ []
   pub starts : Starts b.domain rows
   pub order : AreRows w None rows
 
-pub record AfterRows (w : ℕ) (b : Part) (rows : List Row) : Type 0 where
+pub record AfterRows (w : ℕ) (b : RolledMessage) (rows : List Row) : Type 0 where
   pub some : 0 < length b.rows
   pub own : Own b.domain b.rows
   pub order : AreRows w (last_from None b.rows) rows
   pub ends : (length b.rows ≡ 1000) ⊎ IsPast b.domain rows
 
 -- these rows may follow this message
-abbrev pub IsReady : ℕ → ℕ → Option Part → List Row → Type 0
+abbrev pub IsReady : ℕ → ℕ → Option RolledMessage → List Row → Type 0
 IsReady w time None rows = AreRows w None rows
 IsReady w time (Some b) rows = (b.time ≡ time) × (AfterHead w b rows ⊎ AfterRows w b rows)
 
-abbrev spare : Option Part → ℕ
+abbrev spare : Option RolledMessage → ℕ
 spare None = 0
 spare (Some b) = extra b.rows
 
 -- the messages follow, and are enough for all rows
-abbrev AreAll : ℕ → Option Part → List Row → List Part → Type 0
+abbrev AreAll : ℕ → Option RolledMessage → List Row → List RolledMessage → Type 0
 AreAll n b rows ps = 2 * length rows ≤ n + spare b → EndsWell b ps × (rows_within ps ≡ rows)
 
-abbrev AreGood : ℕ → ℕ → Option Part → List Row → List Part → Type 0
+abbrev AreGood : ℕ → ℕ → Option RolledMessage → List Row → List RolledMessage → Type 0
 AreGood w n b rows ps = AllFollow w b ps × AreAll n b rows ps
 
 last_of : (d : ℕ) (o : Option Row) (rows : List Row) → 0 < length rows → Own d rows
@@ -45,25 +45,28 @@ last_of d o [] some own = absurd (omega (arith, some))
 last_of d o (r ∷ []) some own = (r, refl, own.0)
 last_of d o (r ∷ q ∷ rs) some own = last_of d (Some r) (q ∷ rs) (omega arith) own.1
 
-good_head : (w n time : ℕ) (b : Option Part) (r : Row) (rs : List Row) → time < 2 ^ 32 → IsElsewhere r.key.domain b
+good_head : (w n time : ℕ) (b : Option RolledMessage) (r : Row) (rs : List Row) → time < 2 ^ 32
+    → IsElsewhere r.key.domain b
     → (IsHead (head time r.key.domain) → Follows w b (head time r.key.domain))
     → AreRows w None (r ∷ rs)
-    → ((q : Option Part) (rows : List Row) → IsReady w time q rows → AreGood w n q rows (parts_from n time q rows))
+    → ((q : Option RolledMessage) (rows : List Row) → IsReady w time q rows
+    → AreGood w n q rows (messages_from n time q rows))
     → spare b ≡ 0
-    → AreGood w (suc n) b (r ∷ rs) (parts_from (suc n) time b (r ∷ rs))
+    → AreGood w (suc n) b (r ∷ rs) (messages_from (suc n) time b (r ∷ rs))
 good_head w n time b r rs small else follows order ih none =
     let p = head time r.key.domain in
     let is : IsHead p = record { rows = refl; sequence = refl; time = small; domain = (order.0).domain } in
-    let next : AreGood w n (Some p) (r ∷ rs) (parts_from n time (Some p) (r ∷ rs)) =
+    let next : AreGood w n (Some p) (r ∷ rs) (messages_from n time (Some p) (r ∷ rs)) =
     ih (Some p) (r ∷ rs) (refl, inl (record { none = refl; starts = refl; order = order })) in
     subst (AreGood w (suc n) b (r ∷ rs)) (sym (step_head n time r.key.domain b (r ∷ rs) refl else))
     ((follows is, next.0), λ enough. next.1 (omega (arith, enough, none)))
 
-good_rows : (w n time : ℕ) (b : Part) (r : Row) (rs : List Row) → r.key.domain ≡ b.domain → b.time ≡ time
+good_rows : (w n time : ℕ) (b : RolledMessage) (r : Row) (rs : List Row) → r.key.domain ≡ b.domain → b.time ≡ time
     → (length b.rows ≡ 0) ⊎ (length b.rows ≡ 1000)
     → AreRows w (last_from None b.rows) (r ∷ rs)
-    → ((q : Option Part) (rows : List Row) → IsReady w time q rows → AreGood w n q rows (parts_from n time q rows))
-    → AreGood w (suc n) (Some b) (r ∷ rs) (parts_from (suc n) time (Some b) (r ∷ rs))
+    → ((q : Option RolledMessage) (rows : List Row) → IsReady w time q rows
+    → AreGood w n q rows (messages_from n time q rows))
+    → AreGood w (suc n) (Some b) (r ∷ rs) (messages_from (suc n) time (Some b) (r ∷ rs))
 good_rows w n time b r rs here now room order ih =
     let g = group 1000 b.domain (r ∷ rs) in
     let more = drop (length g) (r ∷ rs) in
@@ -94,7 +97,7 @@ good_rows w n time b r rs here now room order ih =
       ends =
           group_ends 1000 b.domain (r ∷ rs);
     } in
-    let next : AreGood w n (Some p) more (parts_from n time (Some p) more) = ih (Some p) more (refl, inr after) in
+    let next : AreGood w n (Some p) more (messages_from n time (Some p) more) = ih (Some p) more (refl, inr after) in
     let shorter : length g + length more ≡ suc (length rs) = sym (length-append g more)
     ∙ ap (λ (l : List Row). length l) rest in
     let most_one = extra_of b.rows in
@@ -116,9 +119,9 @@ first_of_domain w l r rs h other = ⊎_elim
     (λ b. let rise = domains_rise l.key r.key b.order in (omega (arith, rise, other), (h.0, b.flows, h.2)))
     h.1
 
-pub good : (w n time : ℕ) → time < 2 ^ 32 → (b : Option Part) (rows : List Row) → IsReady w time b rows
-    → AreGood w n b rows (parts_from n time b rows)
-unfolding parts_from
+pub good : (w n time : ℕ) → time < 2 ^ 32 → (b : Option RolledMessage) (rows : List Row) → IsReady w time b rows
+    → AreGood w n b rows (messages_from n time b rows)
+unfolding messages_from
 good w zero time small None [] ready = (tt, λ enough. (tt, refl))
 good w zero time small None (r ∷ rs) ready = (tt, λ enough. absurd (omega (arith, enough)))
 good w zero time small (Some b) [] ready = (tt, λ enough. (⊎_elim (λ h. absurd h.starts) (λ h. h.some) ready.1, refl))
@@ -152,25 +155,26 @@ good w (suc n) time small (Some b) (r ∷ rs) ready = ⊎_elim
 -- ---- from the beginning
 
 -- the messages of rows in order
-pub record AreParts (w time : ℕ) (rows : List Row) (ps : List Part) : Type 0 where
+pub record AreRolledMessages (w time : ℕ) (rows : List Row) (ps : List RolledMessage) : Type 0 where
   pub follow : AllFollow w None ps
   pub ends : EndsWell None ps
   pub same : rows_within ps ≡ rows
 
 pub parts_are : (w time : ℕ) (rows : List Row) → time < 2 ^ 32 → AreRows w None rows
-    → AreParts w time rows (parts_of time rows)
+    → AreRolledMessages w time rows (messages_with time rows)
 parts_are w time rows small order =
     let g = good w (2 * length rows) time small None rows order in
     let e = g.1 (omega arith) in
     record { follow = g.0; ends = e.0; same = e.1 }
 
-times_of : (w : ℕ) (p : Part) (ps : List Part) → AllFollow w None (p ∷ ps)
+times_of : (w : ℕ) (p : RolledMessage) (ps : List RolledMessage) → AllFollow w None (p ∷ ps)
     → AllByRecursion (λ q. q.time ≡ p.time) (p ∷ ps)
 times_of w p ps all = (refl, one_time w p ps all.1)
 
 -- what follows to a good end are the messages of its rows
-pub whole_parts : (w : ℕ) (p : Part) (ps : List Part) → AllFollow w None (p ∷ ps) → EndsWell None (p ∷ ps)
-    → parts_of p.time (rows_within (p ∷ ps)) ≡ p ∷ ps
+pub whole_parts : (w : ℕ) (p : RolledMessage) (ps : List RolledMessage) → AllFollow w None (p ∷ ps)
+    → EndsWell None (p ∷ ps)
+    → messages_with p.time (rows_within (p ∷ ps)) ≡ p ∷ ps
 whole_parts w p ps all ends =
     let few = few_parts w p ps all.1 ends in
     let none = (all.0).rows in

@@ -11,8 +11,8 @@ use Rattle.flow_rolled.specs.declared.row.RolledRow.{RolledRow}
 use Rattle.flow_refusals.specs.declared.read_refusal.ReadRefusal.{ReadRefusal}
 use Rattle.flow_refusals.specs.declared.read_refusal.ReadRefusal.TheVariants as row
 use Rattle.flow_rolled.specs.Rows.{AreRows}
-use Rattle.flow_rolled.specs.Parts.{Part, last_from, rows_within}
-use Rattle.flow_rolled.specs.Octets.{part_octets, parts_octets}
+use Rattle.flow_rolled.specs.Messages.{RolledMessage, last_from, rows_within}
+use Rattle.flow_rolled.specs.Octets.{message_octets, messages_octets}
 use Rattle.flow_rolled.specs.Rollup.{IsRollup}
 use Rattle.flow_measure.specs.Printed.{sum_refusal}
 use Rattle.flow_refusals.specs.Printed.{sum_of_read}
@@ -33,13 +33,13 @@ given_in_order r rows more h =
     (rows_in_order r.width h.0 h.1.follow))).1
 
 -- the rows of a table begin with those of the messages with which its file begins
-table_from : (w : ℕ) (front parts : List Part) (rest : List ℕ) → Compared w front parts rest []
+table_from : (w : ℕ) (front parts : List RolledMessage) (rest : List ℕ) → Compared w front parts rest []
     → (more : List RolledRow) × (rows_within parts ≡ rows_within front ++ more)
 table_from w front parts rest (longer zs is left) = (rows_within zs, ap rows_within is ∙ rows_more front zs)
 table_from w front parts rest (shorter z zs is left) =
     absurd (let l = ap (λ (x : List ℕ). length x) left in let n = part_long w z in let m =
-    length-append (part_octets w z) (parts_octets w zs) in let k =
-    length-append (part_octets w z ++ parts_octets w zs) rest in omega (arith, l, n, m, k))
+    length-append (message_octets w z) (messages_octets w zs) in let k =
+    length-append (message_octets w z ++ messages_octets w zs) rest in omega (arith, l, n, m, k))
 
 rollup_rows : (r : Reader) (rows : List RolledRow) (t : Table) → r.width < 2 ^ 32 → HasRead r rows
     → IsRollup r.width r.part.octets t → (more : List RolledRow) × (t ≡ table_of r.width (rows ++ more))
@@ -47,7 +47,7 @@ rollup_rows r rows t wide so h =
     let file = read_of r.width r.part.octets t h in
     let from = table_from r.width so.front file.parts _ (compared r.width wide so.front file.parts _ []
     (all_parts r.width None so.front tt so.behind.follow) (all_parts r.width None file.parts tt file.follow)
-    (sym so.is ∙ file.is ∙ sym (append-nil (parts_octets r.width file.parts)))) in (
+    (sym so.is ∙ file.is ∙ sym (append-nil (messages_octets r.width file.parts)))) in (
       from.0,
       file.table ∙ ap (table_of r.width) (from.1 ∙ ap (λ (l : List RolledRow). l ++ from.0) (sym so.behind.rows_are)),
     )

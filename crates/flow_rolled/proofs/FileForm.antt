@@ -24,12 +24,12 @@ use Rattle.flow_codec.proofs.Entries.{found, with_entry, remove-absent, lookup-i
 use Rattle.flow_codec.proofs.PuttingBack.{applied_put_back, put_found}
 use Rattle.flow_rolled.specs.declared.row.RolledRow.{RolledRow}
 use Rattle.flow_rolled.specs.Octets.{row_octets, rows_octets, set_octets, sets_of, head_sets, protocol_octets}
-use Rattle.flow_rolled.specs.Octets.{part_octets}
-use Rattle.flow_rolled.specs.Octets.{parts_octets}
-use Rattle.flow_rolled.specs.Octets.{has_protocol, has_none, IsOf, AreOf, IsPart}
-use Rattle.flow_rolled.specs.Parts.{Part, RowsFollow, Follows, AllFollow}
+use Rattle.flow_rolled.specs.Octets.{message_octets}
+use Rattle.flow_rolled.specs.Octets.{messages_octets}
+use Rattle.flow_rolled.specs.Octets.{has_protocol, has_none, IsOf, AreOf, IsRolledMessage}
+use Rattle.flow_rolled.specs.Messages.{RolledMessage, RowsFollow, Follows, AllFollow}
 use Rattle.flow_rolled.specs.Rows.{IsTable}
-use Rattle.flow_rolled.specs.Rollup.{parts_in, rollup_octets}
+use Rattle.flow_rolled.specs.Rollup.{messages_in, rollup_octets}
 use Rattle.flow_measure.specs.Sums.{Table}
 use Rattle.flow_codec.specs.File.{AreMessages, IsFile}
 use Rattle.flow_codec.proofs.Steps.{by_bool}
@@ -56,7 +56,7 @@ use Rattle.flow_codec.specs.Message.{interpreted, in_fields}
 use Rattle.flow_codec.specs.Plan.{values_of}
 use Rattle.flow_codec.proofs.FieldLaws.{fields_are}
 use Rattle.flow_measure.specs.Flows.{start_of, flow_from, flow_of_record, flows_of}
-use Rattle.flow_rolled.specs.Parts.{rows_within}
+use Rattle.flow_rolled.specs.Messages.{rows_within}
 use Rattle.flow_rolled.specs.Rows.{most, IsRow, rows_in}
 use Rattle.flow_rolled.specs.AsFile.{flow_of_row, flows_within}
 use Rattle.flow_rolled.proofs.Breaking.{all_parts}
@@ -468,14 +468,14 @@ unfolding sets_in
 sets_are w [] = head_is
 sets_are w (r ∷ rs) = row_octets_of w (filter has_protocol (r ∷ rs)) (filter has_none (r ∷ rs))
 
-part_size : (w : ℕ) (p : Part) → length (part_octets w p) ≡ 16 + length (sets_of w p.rows)
-unfolding part_octets
+part_size : (w : ℕ) (p : RolledMessage) → length (message_octets w p) ≡ 16 + length (sets_of w p.rows)
+unfolding message_octets
 part_size w p = omega arith
 
-is_message : (w : ℕ) (p : Part) (before after : AllTemplates) → IsPart w p
+is_message : (w : ℕ) (p : RolledMessage) (before after : AllTemplates) → IsRolledMessage w p
     → AreSets p.domain before (sets_in w p.rows) (records_of w p.rows) after
-    → IsMessage (part_octets w p) before (message_of w p) after
-unfolding part_octets
+    → IsMessage (message_octets w p) before (message_of w p) after
+unfolding message_octets
 is_message w p before after h hold = record {
   sets = sets_in w p.rows;
   parts = ap (λ (l : List ℕ). codec.header_octets ((message_of w p).header) ++ l) (sym (sets_are w p.rows))
@@ -492,8 +492,8 @@ is_message w p before after h hold = record {
   hold = hold;
 }
 
-cut_off : (w : ℕ) (p : Part) → IsPart w p → IsCutOff (part_octets w p)
-unfolding part_octets
+cut_off : (w : ℕ) (p : RolledMessage) → IsRolledMessage w p → IsCutOff (message_octets w p)
+unfolding message_octets
 cut_off w p h = record {
   long = omega arith;
   version = refl;
@@ -503,16 +503,16 @@ cut_off w p h = record {
 
 -- ---- one after the other
 
-abbrev Above : Option Part → ℕ → Type 0
+abbrev Above : Option RolledMessage → ℕ → Type 0
 Above None q = Unit {0}
 Above (Some b) q = b.domain < q
 
-abbrev IsDefined : Option Part → AllTemplates → Type 0
+abbrev IsDefined : Option RolledMessage → AllTemplates → Type 0
 IsDefined None all = Unit {0}
 IsDefined (Some b) all = found b.domain all ≡ Some in_domain
 
 -- the templates after a message: those of its domain, and none of later ones
-record AreBehind (b : Option Part) (all : AllTemplates) : Type 0 where
+record AreBehind (b : Option RolledMessage) (all : AllTemplates) : Type 0 where
   once : IsOnce all
   above : (q : ℕ) → Above b q → found q all ≡ None
   there : IsDefined b all
@@ -523,17 +523,18 @@ apart q d lt = elim (by_bool (nat_eq q d)) [
   | inr w ↦ w
 ]
 
-above_more : (b : Option Part) (d q : ℕ) → Above b d → d < q → Above b q
+above_more : (b : Option RolledMessage) (d q : ℕ) → Above b d → d < q → Above b q
 above_more None d q h lt = tt
 above_more (Some b) d q h lt = omega (arith, h, lt)
 
 -- a message's records, and the templates after it
-record Step (w : ℕ) (p : Part) (all : AllTemplates) : Type 0 where
+record Step (w : ℕ) (p : RolledMessage) (all : AllTemplates) : Type 0 where
   after : AllTemplates
   hold : AreSets p.domain all (sets_in w p.rows) (records_of w p.rows) after
   behind : AreBehind (Some p) after
 
-head_step : (w : ℕ) (b : Option Part) (p : Part) (all : AllTemplates) → AreBehind b all → Above b p.domain → p.rows ≡ []
+head_step : (w : ℕ) (b : Option RolledMessage) (p : RolledMessage) (all : AllTemplates) → AreBehind b all
+    → Above b p.domain → p.rows ≡ []
     → Step w p all
 unfolding sets_in
 head_step w b p all h above none =
@@ -566,7 +567,8 @@ rows_hold w d all (r ∷ rs) there some h =
     is true = ap (λ o. definition_of 256 (unwrap_or o no_definitions)) there
     is false = ap (λ o. definition_of 257 (unwrap_or o no_definitions)) there
 
-rows_step : (w : ℕ) (b p : Part) (all : AllTemplates) → AreBehind (Some b) all → RowsFollow w b p → IsPart w p
+rows_step : (w : ℕ) (b p : RolledMessage) (all : AllTemplates) → AreBehind (Some b) all → RowsFollow w b p
+    → IsRolledMessage w p
     → Step w p all
 rows_step w b p all h follows part =
     let there : found p.domain all ≡ Some in_domain = ap (λ d. found d all) follows.domain ∙ h.there in
@@ -580,14 +582,16 @@ rows_step w b p all h follows part =
       };
     }
 
-step : (w : ℕ) (b : Option Part) (p : Part) (all : AllTemplates) → AreBehind b all → Follows w b p → IsPart w p
+step : (w : ℕ) (b : Option RolledMessage) (p : RolledMessage) (all : AllTemplates) → AreBehind b all → Follows w b p
+    → IsRolledMessage w p
     → Step w p all
 step w None p all h follows part = head_step w None p all h tt follows.rows
 step w (Some b) p all h (inl follows) part = head_step w (Some b) p all h follows.domain follows.head.rows
 step w (Some b) p all h (inr follows) part = rows_step w b p all h follows part
 
-run : (w : ℕ) (b : Option Part) (all : AllTemplates) (ps : List Part) → Known w b → AllFollow w b ps → AreBehind b all
-    → (after : AllTemplates) × AreMessages all (map (part_octets w) ps) (messages_of w ps) after
+run : (w : ℕ) (b : Option RolledMessage) (all : AllTemplates) (ps : List RolledMessage) → Known w b → AllFollow w b ps
+    → AreBehind b all
+    → (after : AllTemplates) × AreMessages all (map (message_octets w) ps) (messages_of w ps) after
 run w b all [] known follow h = (all, refl)
 run w b all (p ∷ ps) known follow h =
     let part = follows_part w b p known follow.0 in
@@ -595,20 +599,20 @@ run w b all (p ∷ ps) known follow h =
     let more = run w (Some p) now.after ps part follow.1 now.behind in
     (more.0, (now.after, cut_off w p part, is_message w p all now.after part now.hold, more.1))
 
-joined_parts : (w : ℕ) (ps : List Part) → parts_octets w ps ≡ joined (map (part_octets w) ps)
+joined_parts : (w : ℕ) (ps : List RolledMessage) → messages_octets w ps ≡ joined (map (message_octets w) ps)
 joined_parts w [] = refl
-joined_parts w (p ∷ ps) = ap (λ (l : List ℕ). part_octets w p ++ l) (joined_parts w ps)
+joined_parts w (p ∷ ps) = ap (λ (l : List ℕ). message_octets w p ++ l) (joined_parts w ps)
 
 -- a rolled file is an IPFIX File
 pub rolled_file : (t : Table) (time : ℕ) → IsTable t → time < 2 ^ 32
-    → (after : AllTemplates) × IsFile (rollup_octets t time) (messages_of t.width (parts_in t time)) after
+    → (after : AllTemplates) × IsFile (rollup_octets t time) (messages_of t.width (messages_in t time)) after
 rolled_file t time valid small =
-    let all = run t.width None [] (parts_in t time) tt (file_parts t time small valid).follow
+    let all = run t.width None [] (messages_in t time) tt (file_parts t time small valid).follow
     (record { once = tt; above = λ q h. refl; there = tt }) in (
       all.0,
       record {
-        parts = map (part_octets t.width) (parts_in t time);
-        whole = joined_parts t.width (parts_in t time);
+        parts = map (message_octets t.width) (messages_in t time);
+        whole = joined_parts t.width (messages_in t time);
         each = all.1;
       },
     )
@@ -727,7 +731,7 @@ message_flows w header (r ∷ rs) h =
     ++ flows_under header w header.domain false ys refl h.without i)
     ∙ sym (map-append flow_of_row xs ys) ∙ ap (map flow_of_row) h.parted
 
-parts_flows : (w : ℕ) (ps : List Part) → AllByRecursion (IsPart w) ps
+parts_flows : (w : ℕ) (ps : List RolledMessage) → AllByRecursion (IsRolledMessage w) ps
     → flows_within (messages_of w ps) ≡ map flow_of_row (rows_within ps)
 parts_flows w [] h = refl
 parts_flows w (p ∷ ps) h =
@@ -735,8 +739,8 @@ parts_flows w (p ∷ ps) h =
     ∙ sym (map-append flow_of_row p.rows (rows_within ps))
 
 pub rolled_flows : (t : Table) (time : ℕ) → IsTable t → time < 2 ^ 32
-    → flows_within (messages_of t.width (parts_in t time)) ≡ map flow_of_row (rows_in t.sums)
+    → flows_within (messages_of t.width (messages_in t time)) ≡ map flow_of_row (rows_in t.sums)
 rolled_flows t time valid small =
     let file = file_parts t time small valid in
-    parts_flows t.width (parts_in t time) (all_parts t.width None (parts_in t time) tt file.follow)
+    parts_flows t.width (messages_in t time) (all_parts t.width None (messages_in t time) tt file.follow)
     ∙ ap (map flow_of_row) file.same

@@ -6,18 +6,19 @@ use Rattle.std.specs.Prelude.{◌==◌}
 use Rattle.std.specs.List.{AllByRecursion}
 use Rattle.std.proofs.lemmas.Bool.{eqb-true, eq-eqb, eqb-false}
 use Rattle.flow_rolled.specs.Rows.{AreRows}
-use Rattle.flow_rolled.specs.Parts.{rows_within}
-use Rattle.flow_rolled.specs.Parts.{Part, group, last_from}
-use Rattle.flow_rolled.specs.Parts.{AllFollow, EndsWell}
+use Rattle.flow_rolled.specs.Messages.{rows_within}
+use Rattle.flow_rolled.specs.Messages.{RolledMessage, group, last_from}
+use Rattle.flow_rolled.specs.Messages.{AllFollow, EndsWell}
 use Rattle.flow_rolled.proofs.Grouping.{Row, Own, IsPast, less_domain, rows_append}
 
 -- ---- one time
 
-pub one_time : (w : ℕ) (b : Part) (ps : List Part) → AllFollow w (Some b) ps → AllByRecursion (λ p. p.time ≡ b.time) ps
+pub one_time : (w : ℕ) (b : RolledMessage) (ps : List RolledMessage) → AllFollow w (Some b) ps
+    → AllByRecursion (λ p. p.time ≡ b.time) ps
 one_time w b [] all = tt
 one_time w b (p ∷ ps) all =
     let now : p.time ≡ b.time = ⊎_elim (λ h. h.time) (λ h. h.time) all.0 in
-    (now, subst (λ t. AllByRecursion (λ (q : Part). q.time ≡ t) ps) now (one_time w p ps all.1))
+    (now, subst (λ t. AllByRecursion (λ (q : RolledMessage). q.time ≡ t) ps) now (one_time w p ps all.1))
 
 -- ---- not many messages
 
@@ -34,7 +35,7 @@ pub extra_some : (rows : List Row) → 0 < length rows → extra rows ≡ 0
 extra_some [] h = absurd (omega (arith, h))
 extra_some (r ∷ rs) h = refl
 
-pub few_parts : (w : ℕ) (b : Part) (ps : List Part) → AllFollow w (Some b) ps → EndsWell (Some b) ps
+pub few_parts : (w : ℕ) (b : RolledMessage) (ps : List RolledMessage) → AllFollow w (Some b) ps → EndsWell (Some b) ps
     → length ps + extra b.rows ≤ 2 * length (rows_within ps)
 few_parts w b [] all ends = let e = extra_some b.rows ends in omega (arith, e)
 few_parts w b (p ∷ ps) all ends = ⊎_elim
@@ -81,11 +82,12 @@ last_some o [] h = absurd (omega (arith, h))
 last_some o (r ∷ rs) h = refl
 
 -- the last row before, from a message on: in it, or in a lesser domain
-pub record Ends (b : Part) (o : Option Row) : Type 0 where
+pub record Ends (b : RolledMessage) (o : Option Row) : Type 0 where
   pub own : Own b.domain b.rows
   pub at : ((0 < length b.rows) × (o ≡ last_from None b.rows)) ⊎ ((b.rows ≡ []) × IsUnder b.domain o)
 
-pub in_order : (w : ℕ) (b : Part) (o : Option Row) (ps : List Part) → AllFollow w (Some b) ps → Ends b o
+pub in_order : (w : ℕ) (b : RolledMessage) (o : Option Row) (ps : List RolledMessage) → AllFollow w (Some b) ps
+    → Ends b o
     → AreRows w o (rows_within ps)
 in_order w b o [] all at = tt
 in_order w b o (p ∷ ps) all at = ⊎_elim
@@ -108,7 +110,7 @@ in_order w b o (p ∷ ps) all at = ⊎_elim
     all.0
 
 -- from the beginning
-pub rows_in_order : (w : ℕ) (ps : List Part) → AllFollow w None ps → AreRows w None (rows_within ps)
+pub rows_in_order : (w : ℕ) (ps : List RolledMessage) → AllFollow w None ps → AreRows w None (rows_within ps)
 rows_in_order w [] all = tt
 rows_in_order w (p ∷ ps) all =
     let none = (all.0).rows in

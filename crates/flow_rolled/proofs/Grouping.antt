@@ -13,8 +13,8 @@ use Rattle.std.proofs.Math.Seq.{drop-append_seam}
 use Rattle.flow_measure.specs.declared.rows.Key.{Key}
 use Rattle.flow_rolled.specs.declared.row.RolledRow.{RolledRow}
 use Rattle.flow_rolled.specs.Rows.{file_cmp, MayFollow, AreRows}
-use Rattle.flow_rolled.specs.Parts.{Part, due, group, head, parts_from, last_from, IsHead}
-use Rattle.flow_rolled.specs.Parts.{RowsFollow, AllFollow, EndsWell, rows_within}
+use Rattle.flow_rolled.specs.Messages.{RolledMessage, due, group, head, messages_from, last_from, IsHead}
+use Rattle.flow_rolled.specs.Messages.{RowsFollow, AllFollow, EndsWell, rows_within}
 
 abbrev pub Row : Type 0
 Row = RolledRow
@@ -108,7 +108,8 @@ starts_past d e [] h lt = tt
 starts_past d e (r ∷ rs) h lt = λ is. omega (arith, is, h, lt)
 
 -- after a head come rows of its domain
-pub after_head : (w : ℕ) (p : Part) (ps : List Part) → AllFollow w (Some p) ps → EndsWell (Some p) ps → p.rows ≡ []
+pub after_head : (w : ℕ) (p : RolledMessage) (ps : List RolledMessage) → AllFollow w (Some p) ps → EndsWell (Some p) ps
+    → p.rows ≡ []
     → Starts p.domain (rows_within ps)
 after_head w p [] all ends none = absurd (let e = ap (λ (l : List Row). length l) none in omega (arith, ends, e))
 after_head w p (q ∷ qs) all ends none = ⊎_elim
@@ -117,7 +118,7 @@ after_head w p (q ∷ qs) all ends none = ⊎_elim
     all.0
 
 -- after a message that isn't full come no rows of its domain
-pub after_short : (w : ℕ) (b : Part) (ps : List Part) → AllFollow w (Some b) ps → EndsWell (Some b) ps
+pub after_short : (w : ℕ) (b : RolledMessage) (ps : List RolledMessage) → AllFollow w (Some b) ps → EndsWell (Some b) ps
     → 0 < length b.rows → length b.rows ≢ 1000 → IsPast b.domain (rows_within ps)
 after_short w b [] all ends some short = tt
 after_short w b (p ∷ ps) all ends some short = ⊎_elim
@@ -126,17 +127,17 @@ after_short w b (p ∷ ps) all ends some short = ⊎_elim
     (λ h. absurd (⊎_elim (λ e. omega (arith, some, e)) (λ e. short e) h.room))
     all.0
 
-made : (p : Part) (t s d : ℕ) (rows : List Row) → p.time ≡ t → p.sequence ≡ s → p.domain ≡ d → p.rows ≡ rows
+made : (p : RolledMessage) (t s d : ℕ) (rows : List Row) → p.time ≡ t → p.sequence ≡ s → p.domain ≡ d → p.rows ≡ rows
     → record { time = t; sequence = s; domain = d; rows = rows } ≡ p
 made p t s d rows et es ed er = λ i. record { time = sym et i; sequence = sym es i; domain = sym ed i; rows = sym er i }
 
-abbrev pub IsElsewhere : ℕ → Option Part → Type 0
+abbrev pub IsElsewhere : ℕ → Option RolledMessage → Type 0
 IsElsewhere d None = Unit {0}
 IsElsewhere d (Some b) = b.domain < d
 
-pub step_head : (n time d : ℕ) (b : Option Part) (rows : List Row) → Starts d rows → IsElsewhere d b
-    → parts_from (suc n) time b rows ≡ head time d ∷ parts_from n time (Some (head time d)) rows
-unfolding parts_from
+pub step_head : (n time d : ℕ) (b : Option RolledMessage) (rows : List Row) → Starts d rows → IsElsewhere d b
+    → messages_from (suc n) time b rows ≡ head time d ∷ messages_from n time (Some (head time d)) rows
+unfolding messages_from
 step_head n time d b [] starts else = absurd starts
 step_head n time d None (r ∷ rs) starts else = rw starts refl
 step_head n time d (Some b) (r ∷ rs) starts else =
@@ -144,19 +145,20 @@ step_head n time d (Some b) (r ∷ rs) starts else =
     other r.key.domain b.domain (λ e. omega (arith, e, starts, else)) in
     rw (differs, starts) refl
 
-abbrev pub of_rows : ℕ → Part → List Row → Part
+abbrev pub of_rows : ℕ → RolledMessage → List Row → RolledMessage
 of_rows time b rows = record { time = time; sequence = due b; domain = b.domain; rows = rows }
 
-pub step_group : (n time : ℕ) (b : Part) (rows g more : List Row) → Starts b.domain rows → group 1000 b.domain rows ≡ g
+pub step_group : (n time : ℕ) (b : RolledMessage) (rows g more : List Row) → Starts b.domain rows
+    → group 1000 b.domain rows ≡ g
     → drop (length g) rows ≡ more
-    → parts_from (suc n) time (Some b) rows ≡ of_rows time b g ∷ parts_from n time (Some (of_rows time b g)) more
-unfolding parts_from
+    → messages_from (suc n) time (Some b) rows ≡ of_rows time b g ∷ messages_from n time (Some (of_rows time b g)) more
+unfolding messages_from
 step_group n time b [] g more starts is left = absurd starts
 step_group n time b (r ∷ rs) g more starts is left = rw (eq-eqb r.key.domain b.domain starts, is, left) refl
 
-pub step_rows : (n time : ℕ) (b : Part) (rows more : List Row) → 0 < length rows → Own b.domain rows
+pub step_rows : (n time : ℕ) (b : RolledMessage) (rows more : List Row) → 0 < length rows → Own b.domain rows
     → length rows ≤ 1000 → (length rows ≡ 1000) ⊎ IsPast b.domain more
-    → parts_from (suc n) time (Some b) (rows ++ more) ≡ of_rows time b rows ∷ parts_from n time
+    → messages_from (suc n) time (Some b) (rows ++ more) ≡ of_rows time b rows ∷ messages_from n time
     (Some (of_rows time b rows)) more
 step_rows n time b rows more some own few ends =
     step_group n time b (rows ++ more) rows more (first_starts b.domain rows more some own)
@@ -168,19 +170,21 @@ decide a b = elim (a == b) as (λ t. (a == b) ≡ t → (a ≡ b) ⊎ (a ≢ b))
   | false ↦ λ e. inr (eqb-false a b e)
 ] refl
 
-again_head : (w n time : ℕ) (b : Option Part) (p : Part) (ps : List Part) → IsHead p → IsElsewhere p.domain b
-    → AllFollow w (Some p) ps → EndsWell (Some p) ps → p.time ≡ time → parts_from n time (Some p) (rows_within ps) ≡ ps
-    → parts_from (suc n) time b (p.rows ++ rows_within ps) ≡ p ∷ ps
+again_head : (w n time : ℕ) (b : Option RolledMessage) (p : RolledMessage) (ps : List RolledMessage) → IsHead p
+    → IsElsewhere p.domain b
+    → AllFollow w (Some p) ps → EndsWell (Some p) ps → p.time ≡ time → messages_from n time (Some p) (rows_within ps)
+    ≡ ps
+    → messages_from (suc n) time b (p.rows ++ rows_within ps) ≡ p ∷ ps
 again_head w n time b p ps h else all ends now ih =
     let is : head time p.domain ≡ p = made p time 0 p.domain [] now h.sequence refl h.rows in
-    subst (λ (l : List Row). parts_from (suc n) time b (l ++ rows_within ps) ≡ p ∷ ps) (sym h.rows)
+    subst (λ (l : List Row). messages_from (suc n) time b (l ++ rows_within ps) ≡ p ∷ ps) (sym h.rows)
     (step_head n time p.domain b (rows_within ps) (after_head w p ps all ends h.rows) else
-    ∙ ap (λ (q : Part). q ∷ parts_from n time (Some q) (rows_within ps)) is
-    ∙ ap (λ (l : List Part). p ∷ l) ih)
+    ∙ ap (λ (q : RolledMessage). q ∷ messages_from n time (Some q) (rows_within ps)) is
+    ∙ ap (λ (l : List RolledMessage). p ∷ l) ih)
 
-again_rows : (w n time : ℕ) (b p : Part) (ps : List Part) → RowsFollow w b p → AllFollow w (Some p) ps
-    → EndsWell (Some p) ps → p.time ≡ time → parts_from n time (Some p) (rows_within ps) ≡ ps
-    → parts_from (suc n) time (Some b) (p.rows ++ rows_within ps) ≡ p ∷ ps
+again_rows : (w n time : ℕ) (b p : RolledMessage) (ps : List RolledMessage) → RowsFollow w b p → AllFollow w (Some p) ps
+    → EndsWell (Some p) ps → p.time ≡ time → messages_from n time (Some p) (rows_within ps) ≡ ps
+    → messages_from (suc n) time (Some b) (p.rows ++ rows_within ps) ≡ p ∷ ps
 again_rows w n time b p ps h all ends now ih =
     let is : of_rows time b p.rows ≡ p = made p time (due b) b.domain p.rows now h.sequence h.domain refl in
     let past : (length p.rows ≡ 1000) ⊎ IsPast b.domain (rows_within ps) =
@@ -188,17 +192,17 @@ again_rows w n time b p ps h all ends now ih =
     (subst (λ d. IsPast d (rows_within ps)) h.domain (after_short w p ps all ends h.some ne)))
     (decide (length p.rows) 1000) in
     step_rows n time b p.rows (rows_within ps) h.some (subst (λ d. Own d p.rows) h.domain h.own) h.few past
-    ∙ ap (λ (q : Part). q ∷ parts_from n time (Some q) (rows_within ps)) is
-    ∙ ap (λ (l : List Part). p ∷ l) ih
+    ∙ ap (λ (q : RolledMessage). q ∷ messages_from n time (Some q) (rows_within ps)) is
+    ∙ ap (λ (l : List RolledMessage). p ∷ l) ih
 
-nothing : (n time : ℕ) (b : Option Part) → parts_from n time b [] ≡ []
-unfolding parts_from
+nothing : (n time : ℕ) (b : Option RolledMessage) → messages_from n time b [] ≡ []
+unfolding messages_from
 nothing zero time b = refl
 nothing (suc n) time b = refl
 
 -- the messages of the rows in messages that follow one another are these messages
-pub again : (w n time : ℕ) (b : Option Part) (ps : List Part) → AllFollow w b ps → EndsWell b ps
-    → AllByRecursion (λ p. p.time ≡ time) ps → length ps ≤ n → parts_from n time b (rows_within ps) ≡ ps
+pub again : (w n time : ℕ) (b : Option RolledMessage) (ps : List RolledMessage) → AllFollow w b ps → EndsWell b ps
+    → AllByRecursion (λ p. p.time ≡ time) ps → length ps ≤ n → messages_from n time b (rows_within ps) ≡ ps
 again w n time b [] all ends times enough = nothing n time b
 again w zero time b (p ∷ ps) all ends times enough = absurd (omega (arith, enough))
 again w (suc n) time None (p ∷ ps) all ends times enough =

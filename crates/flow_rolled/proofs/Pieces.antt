@@ -13,8 +13,8 @@ use Rattle.flow_rolled.specs.declared.row.RolledRow.{RolledRow}
 use Rattle.flow_rolled.specs.declared.message.State.{State}
 use Rattle.flow_refusals.specs.declared.read_refusal.ReadRefusal.{ReadRefusal}
 use Rattle.flow_refusals.specs.declared.read_refusal.ReadRefusal.TheVariants.{Damaged, Fault, OutOfMemory}
-use Rattle.flow_rolled.specs.Parts.{Part, IsDone, last_part}
-use Rattle.flow_rolled.specs.Octets.{part_octets, parts_octets, IsPart}
+use Rattle.flow_rolled.specs.Messages.{RolledMessage, IsDone, last_message}
+use Rattle.flow_rolled.specs.Octets.{message_octets, messages_octets, IsRolledMessage}
 use Rattle.flow_rolled.specs.Rollup.{IsRollup, IsBroken}
 use Rattle.flow_rolled.specs.Reading.{Stands, IsStuck}
 use Rattle.flow_rolled.specs.Stored.{Rollup, Reader, HasRead, IsBehind, Gives, IsBare, IsBlocked, IsOver}
@@ -33,8 +33,8 @@ passed ahead front rest n parts size =
     (sym (drop_at front rest n (sym same)) ∙ ap (drop n) (sym parts), same)
 
 -- a message has so many octets at most
-pub part_short : (w : ℕ) (p : Part) → IsPart w p → length (part_octets w p) ≤ 41024
-unfolding part_octets
+pub part_short : (w : ℕ) (p : RolledMessage) → IsRolledMessage w p → length (message_octets w p) ≤ 41024
+unfolding message_octets
 part_short w p h = let s = sets_long w p.domain p.rows h.rows in omega (arith, s)
 
 -- ---- a step stays on the file
@@ -68,7 +68,7 @@ pub step_on : (octets : List ℕ) (file : ℕ) (old new : Cursor)
     (result : Result (Option (Vec RolledRow Global)) ReadRefusal)
     → IsOn octets old.window → Steps file old result new → IsOn octets new.window
 step_on octets file old new (Ok (Some rows)) on h =
-    passed_on octets (part_octets old.width h.message) old.window new.window on h.is h.place
+    passed_on octets (message_octets old.width h.message) old.window new.window on h.is h.place
 step_on octets file old new (Ok None) on h = subst (λ (c : Cursor). IsOn octets c.window) (sym h.2) on
 step_on octets file old new (Err (Damaged f at)) on h = subst (λ (c : Cursor). IsOn octets c.window) (sym h.3) on
 step_on octets file old new (Err Fault) on h = absurd h
@@ -90,7 +90,8 @@ pub step_further : (file : ℕ) (old new : Cursor) (result : Result (Option (Vec
 step_further file old new (Ok (Some rows)) within h =
     let place = h.place in
     let some = part_long old.width h.message in
-    let size = ap (λ (l : List ℕ). length l) h.is ∙ length-append (part_octets old.width h.message) new.window.ahead in
+    let size = ap (λ (l : List ℕ). length l) h.is ∙ length-append (message_octets old.width h.message) new.window.ahead
+    in
     (omega (arith, place, some), omega (arith, place, size, within))
 step_further file old new (Ok None) within h = tt
 step_further file old new (Err e) within h = tt
@@ -153,20 +154,20 @@ message_ahead xs ahead front more on ready is = (
         take_one k = let e : 1 + k ≡ suc k = omega arith in ap (λ (j : ℕ). take j (x ∷ (a ++ b))) e
 
 -- what is blocked ahead is stuck in the file
-stuck_on : (octets : List ℕ) (width : ℕ) (c : Window) (before : Option State) (b : Option Part)
+stuck_on : (octets : List ℕ) (width : ℕ) (c : Window) (before : Option State) (b : Option RolledMessage)
     → length octets ≡ c.end → c.place + length c.ahead ≤ c.end → IsOn octets c → IsReady 41024 c → Stands before b
-    → ((b : Option Part) → Stands before b → IsStuck width b c.ahead) → IsStuck width b (drop c.place octets)
+    → ((b : Option RolledMessage) → Stands before b → IsStuck width b c.ahead) → IsStuck width b (drop c.place octets)
 stuck_on octets w c before b size within on ready stands stuck p more follows is =
     let long = part_short w p (stands_part w before b p stands follows) in
-    let there = message_ahead (drop c.place octets) c.ahead (part_octets w p) more on (all long ready) is in
+    let there = message_ahead (drop c.place octets) c.ahead (message_octets w p) more on (all long ready) is in
     stuck b stands p there.0 follows there.1
   where
-    all : length (part_octets w p) ≤ 41024 → IsReady 41024 c
-        → (length c.ahead ≡ length (drop c.place octets)) ⊎ (length (part_octets w p) ≤ length c.ahead)
+    all : length (message_octets w p) ≤ 41024 → IsReady 41024 c
+        → (length c.ahead ≡ length (drop c.place octets)) ⊎ (length (message_octets w p) ≤ length c.ahead)
     all long (inl whole) = inl (let n = length-drop c.place octets in omega (arith, n, size, whole))
     all long (inr some) = inr (omega (arith, long, some))
 
-bare_not_done : (s : Option State) (b : Option Part) → Stands s b → IsBare s → IsDone b → ⊥
+bare_not_done : (s : Option State) (b : Option RolledMessage) → Stands s b → IsBare s → IsDone b → ⊥
 bare_not_done None b stands bare done = bare
 bare_not_done (Some s) b stands bare done = not_done s b stands bare done
 
@@ -174,10 +175,10 @@ none_left : (octets : List ℕ) (place end : ℕ) → length octets ≡ end → 
 none_left octets place end size at = let n = length-drop place octets in omega (arith, n, size, at)
 
 -- the next message
-behind_more : (rows more : List RolledRow) (mid new : Cursor) (front : List Part) (h : IsOver mid more new)
+behind_more : (rows more : List RolledRow) (mid new : Cursor) (front : List RolledMessage) (h : IsOver mid more new)
     → IsBehind mid.width mid.before rows front → IsBehind mid.width new.before (rows ++ more) (front ++ h.message ∷ [])
 behind_more rows more mid new front h so = record {
-  follow = one_more_follows mid.width front h.message so.follow (h.follows (last_part None front) so.stands);
+  follow = one_more_follows mid.width front h.message so.follow (h.follows (last_message None front) so.stands);
   stands = subst (Stands new.before) (sym (last_more None front (h.message ∷ []))) h.known;
   rows_are = (λ i. so.rows_are i ++ h.rows_are i) ∙ sym (rows_one_more front h.message);
 }
@@ -188,15 +189,15 @@ read_more part rows more mid new on h so =
     let w = mid.width in
     let p = h.message in
     let xs = drop mid.window.place part.octets in
-    let front = part_octets w p in
+    let front = message_octets w p in
     let there : drop (length front) xs ≡ drop new.window.place part.octets =
     drop-drop (length front) mid.window.place part.octets ∙ ap (λ (n : ℕ). drop n part.octets) (sym h.place) in
     let split = front_on xs mid.window.ahead front new.window.ahead on h.is ∙ ap (λ (l : List ℕ). front ++ l) there in
     let all = so.front ++ p ∷ [] in
-    let long : length (parts_octets w all) ≡ length (parts_octets w so.front) + length front =
+    let long : length (messages_octets w all) ≡ length (messages_octets w so.front) + length front =
     ap (λ (l : List ℕ). length l) (octets_more w so.front (p ∷ [])
-    ∙ ap (λ (l : List ℕ). parts_octets w so.front ++ l) (append-nil front))
-    ∙ length-append (parts_octets w so.front) front in
+    ∙ ap (λ (l : List ℕ). messages_octets w so.front ++ l) (append-nil front))
+    ∙ length-append (messages_octets w so.front) front in
     let at = h.place in
     let before = so.place in
     let Read : ℕ → Type 0 =
@@ -211,9 +212,11 @@ read_more part rows more mid new on h so =
 
 -- on every file, what was given goes on
 pub step_given : (rows : List RolledRow) (file : ℕ) (mid new : Cursor)
-    (result : Result (Option (Vec RolledRow Global)) ReadRefusal) (front : List Part) → Steps file mid result new
+    (result : Result (Option (Vec RolledRow Global)) ReadRefusal) (front : List RolledMessage)
+    → Steps file mid result new
     → IsBehind mid.width mid.before rows front
-    → IfOk result (λ o. IfSome o (λ more. (all : List Part) × IsBehind new.width new.before (rows ++ more.items) all))
+    → IfOk result (λ o. IfSome o (λ more. (all : List RolledMessage)
+    × IsBehind new.width new.before (rows ++ more.items) all))
 step_given rows file mid new (Ok (Some more)) front h so = (
   front ++ h.message ∷ [],
   subst (λ v. IsBehind v new.before (rows ++ more.items) (front ++ h.message ∷ [])) (sym h.width)
@@ -232,15 +235,15 @@ breaks part rows mid wide size within on ready (inl h) so =
     let at = h.0 in
     subst (IsBroken mid.width part.octets) (sym so.place)
     (broken_at mid.width wide part.octets so.front (drop mid.window.place part.octets) so.behind.follow so.is
-    (stuck_on part.octets mid.width mid.window mid.before (last_part None so.front) size within on ready
+    (stuck_on part.octets mid.width mid.window mid.before (last_message None so.front) size within on ready
     so.behind.stands h.1)
     (λ none. absurd (let l = ap (λ (x : List ℕ). length x) none in omega (arith, l, left, size, at))))
 breaks part rows mid wide size within on ready (inr h) so =
     let none = none_left part.octets mid.window.place mid.window.end size h.0 in
     subst (IsBroken mid.width part.octets) (sym so.place)
     (broken_at mid.width wide part.octets so.front (drop mid.window.place part.octets) so.behind.follow so.is
-    (stuck_end mid.width (drop mid.window.place part.octets) none (last_part None so.front))
-    (λ e done. bare_not_done mid.before (last_part None so.front) so.behind.stands h.1 done))
+    (stuck_end mid.width (drop mid.window.place part.octets) none (last_message None so.front))
+    (λ e done. bare_not_done mid.before (last_message None so.front) so.behind.stands h.1 done))
 
 pub gives : (part : Rollup) (rows : List RolledRow) (file : ℕ) (mid new : Cursor)
     (result : Result (Option (Vec RolledRow Global)) ReadRefusal) → file ≡ part.file → mid.width < 2 ^ 32
@@ -255,9 +258,9 @@ gives part rows file mid new (Ok None) same wide size within on ready h so =
     let none = no_octets (drop mid.window.place part.octets) left in
     subst (λ l. IsRollup mid.width part.octets (table_of mid.width l)) (sym so.behind.rows_are)
     (rollup_of mid.width part.octets so.front so.behind.follow
-    (done_if mid.before (last_part None so.front) so.behind.stands h.1)
-    (so.is ∙ ap (λ (l : List ℕ). parts_octets mid.width so.front ++ l) none
-    ∙ append-nil (parts_octets mid.width so.front)))
+    (done_if mid.before (last_message None so.front) so.behind.stands h.1)
+    (so.is ∙ ap (λ (l : List ℕ). messages_octets mid.width so.front ++ l) none
+    ∙ append-nil (messages_octets mid.width so.front)))
 gives part rows file mid new (Err (Damaged f at)) same wide size within on ready h so = (
   h.0 ∙ same,
   subst (IsBroken mid.width part.octets) (sym h.1) (breaks part rows mid wide size within on ready h.2 so),

@@ -12,9 +12,9 @@ use Rattle.std.specs.Cmp.{nat_cmp_is}
 use Rattle.flow_measure.specs.declared.rows.Key.{Key}
 use Rattle.flow_rolled.specs.declared.row.RolledRow.{RolledRow}
 use Rattle.flow_rolled.specs.Rows.{without, file_cmp, MayFollow, AreRows}
-use Rattle.flow_rolled.specs.Parts.{Part}
-use Rattle.flow_rolled.specs.Octets.{set_octets, has_protocol, has_none, head_sets, sets_of, part_octets}
-use Rattle.flow_rolled.specs.Octets.{IsOf, AreOf, IsPart}
+use Rattle.flow_rolled.specs.Messages.{RolledMessage}
+use Rattle.flow_rolled.specs.Octets.{set_octets, has_protocol, has_none, head_sets, sets_of, message_octets}
+use Rattle.flow_rolled.specs.Octets.{IsOf, AreOf, IsRolledMessage}
 use Rattle.flow_rolled.proofs.Grouping.{ordered}
 use Rattle.flow_rolled.proofs.PartOctets.{same_front, same_number, same_set, rows_long, wide16, wide32}
 
@@ -193,31 +193,32 @@ same_rows_of w d (r ∷ rs) (q ∷ qs) wide hr hq e =
 
 -- ---- messages
 
-abbrev pub size : ℕ → Part → ℕ
+abbrev pub size : ℕ → RolledMessage → ℕ
 size w p = 16 + length (sets_of w p.rows)
 
-abbrev pub from_domain : ℕ → Part → List ℕ → List ℕ
+abbrev pub from_domain : ℕ → RolledMessage → List ℕ → List ℕ
 from_domain w p xs = to_be_bytes w32 p.domain ++ (sets_of w p.rows ++ xs)
 
-abbrev pub from_sequence : ℕ → Part → List ℕ → List ℕ
+abbrev pub from_sequence : ℕ → RolledMessage → List ℕ → List ℕ
 from_sequence w p xs = to_be_bytes w32 p.sequence ++ from_domain w p xs
 
-abbrev pub from_time : ℕ → Part → List ℕ → List ℕ
+abbrev pub from_time : ℕ → RolledMessage → List ℕ → List ℕ
 from_time w p xs = to_be_bytes w32 p.time ++ from_sequence w p xs
 
-abbrev pub from_length : ℕ → Part → List ℕ → List ℕ
+abbrev pub from_length : ℕ → RolledMessage → List ℕ → List ℕ
 from_length w p xs = to_be_bytes w16 (size w p) ++ from_time w p xs
 
-pub part_is : (w : ℕ) (p : Part) (xs : List ℕ) → part_octets w p ++ xs ≡ to_be_bytes w16 10 ++ from_length w p xs
-unfolding part_octets
+pub part_is : (w : ℕ) (p : RolledMessage) (xs : List ℕ) → message_octets w p ++ xs
+    ≡ to_be_bytes w16 10 ++ from_length w p xs
+unfolding message_octets
 part_is w p xs = refl
 
-pub part_long : (w : ℕ) (p : Part) → 0 < length (part_octets w p)
-unfolding part_octets
+pub part_long : (w : ℕ) (p : RolledMessage) → 0 < length (message_octets w p)
+unfolding message_octets
 part_long w p = omega arith
 
-pub same_part : (w : ℕ) (p q : Part) (xs ys : List ℕ) → w < 2 ^ 32 → IsPart w p → IsPart w q
-    → part_octets w p ++ xs ≡ part_octets w q ++ ys → (p ≡ q) × (xs ≡ ys)
+pub same_part : (w : ℕ) (p q : RolledMessage) (xs ys : List ℕ) → w < 2 ^ 32 → IsRolledMessage w p → IsRolledMessage w q
+    → message_octets w p ++ xs ≡ message_octets w q ++ ys → (p ≡ q) × (xs ≡ ys)
 same_part w p q xs ys wide hp hq e =
     let lp = sets_long w p.domain p.rows hp.rows in
     let lq = sets_long w q.domain q.rows hq.rows in

@@ -16,7 +16,7 @@ use Rattle.flow_measure.proofs.Gathering.{sum_at, get-gathered}
 use Rattle.flow_rolled.specs.declared.row.RolledRow.{RolledRow}
 use Rattle.flow_rolled.specs.Rows.{file_cmp, row_of, left_of, further, rows_from, rows_of, sums_of, IsRow}
 use Rattle.flow_rolled.specs.Rows.{MayFollow, AreRows, IsEntry, IsTable}
-use Rattle.flow_rolled.specs.Parts.{last_from}
+use Rattle.flow_rolled.specs.Messages.{last_from}
 use Rattle.flow_rolled.proofs.Grouping.{rows_front}
 use Rattle.flow_rolled.proofs.FileOrder.{first, second, sum_at-file, file_refl}
 use Rattle.flow_rolled.proofs.RowSums.{all_sums}

@@ -16,7 +16,7 @@ use Rattle.flow_measure.proofs.Keys.{same_key, is_key-refl}
 use Rattle.flow_rolled.specs.declared.row.RolledRow.{RolledRow}
 use Rattle.flow_rolled.specs.Rows.{file_cmp, in_file_order, most, least, row_of, left_of, further, rows_from, rows_of}
 use Rattle.flow_rolled.specs.Rows.{rows_in, IsRow, Continues, MayFollow, AreRows, IsEntry, IsTable}
-use Rattle.flow_rolled.specs.Parts.{last_from}
+use Rattle.flow_rolled.specs.Messages.{last_from}
 use Rattle.flow_rolled.proofs.Grouping.{rows_append}
 use Rattle.flow_rolled.proofs.FileOrder.{first, second, order_sorted, order_finds, ties}
 use Rattle.flow_rolled.proofs.RowOrder.{larger_is, IsLarger, IsMore, less_is}

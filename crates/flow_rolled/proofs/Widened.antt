@@ -17,7 +17,7 @@ use Rattle.flow_measure.proofs.Fitting.{front_fits}
 use Rattle.flow_measure.proofs.Widening.{rekeyed-gathered, joined-some}
 use Rattle.flow_rolled.specs.declared.row.RolledRow.{RolledRow}
 use Rattle.flow_rolled.specs.Rows.{sums_in, sums_of, entries_in, MayFollow, AreRows}
-use Rattle.flow_rolled.specs.Parts.{last_from}
+use Rattle.flow_rolled.specs.Messages.{last_from}
 use Rattle.flow_rolled.specs.Stored.{with_rows, with_row, AreCounted}
 
 pub next_row : (list : List RolledRow) (i : ℕ) (d : RolledRow) → i < length list

@@ -7,8 +7,8 @@ use Rattle.std.proofs.lemmas.Bool.{eqb-true, eq-eqb}
 use Rattle.std.proofs.lemmas.List.{append-nil, take_at, take-append-drop}
 use Rattle.flow_rolled.specs.declared.row.RolledRow.{RolledRow}
 use Rattle.flow_rolled.specs.declared.encoding.Place.{Place}
-use Rattle.flow_rolled.specs.Parts.{Part, due, group, head, next_part, parts_from, parts_of}
-use Rattle.flow_rolled.specs.Octets.{part_octets, parts_octets}
+use Rattle.flow_rolled.specs.Messages.{RolledMessage, due, group, head, message_after, messages_from, messages_with}
+use Rattle.flow_rolled.specs.Octets.{message_octets, messages_octets}
 use Rattle.flow_rolled.specs.Writing.{part_at, IsPlaceOf}
 use Rattle.flow_rolled.proofs.Fronts.{group_few, group_rest, group_some}
 
@@ -80,7 +80,7 @@ taken d rows = ap (λ (l : List Row). take (length (group 1000 d rows)) l) (sym 
 
 -- ---- the next message
 
-abbrev part : ℕ → ℕ → ℕ → List Row → Part
+abbrev part : ℕ → ℕ → ℕ → List Row → RolledMessage
 part t s d rows = record { time = t; sequence = s; domain = d; rows = rows }
 
 made : (t s d : ℕ) (rows : List Row) (s' d' : ℕ) (rows' : List Row) → s ≡ s' → d ≡ d' → rows ≡ rows'
@@ -88,11 +88,11 @@ made : (t s d : ℕ) (rows : List Row) (s' d' : ℕ) (rows' : List Row) → s �
 made t s d rows s' d' rows' es ed er = λ i. record { time = t; sequence = es i; domain = ed i; rows = er i }
 
 -- rows of the domain of the message before
-pub group_at : (time : ℕ) (before place : Place) (b : Option Part) (rows : List Row) (r : Row) (rs : List Row)
+pub group_at : (time : ℕ) (before place : Place) (b : Option RolledMessage) (rows : List Row) (r : Row) (rs : List Row)
     → IsPlaceOf (Some before) b → rows ≡ r ∷ rs → before.domain ≡ r.key.domain
-    → ((q : Part) → q.sequence ≡ before.sequence → length q.rows ≡ before.count → place.sequence ≡ due q)
+    → ((q : RolledMessage) → q.sequence ≡ before.sequence → length q.rows ≡ before.count → place.sequence ≡ due q)
     → place.domain ≡ r.key.domain → place.count ≡ length (group 1000 r.key.domain rows)
-    → part_at time place rows ≡ next_part time b r rs
+    → part_at time place rows ≡ message_after time b r rs
 group_at time before place None rows r rs tie is same due_is domain count = absurd tie
 group_at time before place (Some q) rows r rs tie is same due_is domain count =
     let own : r.key.domain ≡ q.domain = sym same ∙ sym tie.domain in
@@ -103,10 +103,10 @@ group_at time before place (Some q) rows r rs tie is same due_is domain count =
     (due_is q tie.sequence tie.count) (domain ∙ own) list)
 
 -- the first row's domain begins
-pub head_at : (time : ℕ) (before : Option Place) (place : Place) (b : Option Part) (rows : List Row) (r : Row)
+pub head_at : (time : ℕ) (before : Option Place) (place : Place) (b : Option RolledMessage) (rows : List Row) (r : Row)
     (rs : List Row) → IsPlaceOf before b → (IfSome before (λ p. p.domain ≡ r.key.domain → ⊥))
     → place.sequence ≡ 0 → place.domain ≡ r.key.domain → place.count ≡ 0
-    → part_at time place rows ≡ next_part time b r rs
+    → part_at time place rows ≡ message_after time b r rs
 head_at time None place None rows r rs tie other s d c =
     made time place.sequence place.domain (take place.count rows) 0 r.key.domain [] s d (ap (λ n. take n rows) c)
 head_at time None place (Some q) rows r rs tie other s d c = absurd tie
@@ -150,8 +150,9 @@ drop_none (suc n) rows e = absurd (omega (arith, e))
 
 -- what next_place says of its message
 abbrev IsNext : Option Place → Place → List Row → Type 0
-IsNext before place rows = (time : ℕ) (b : Option Part) (r : Row) (rs : List Row) → IsPlaceOf before b → rows ≡ r ∷ rs
-    → part_at time place rows ≡ next_part time b r rs
+IsNext before place rows = (time : ℕ) (b : Option RolledMessage) (r : Row) (rs : List Row) → IsPlaceOf before b → rows
+    ≡ r ∷ rs
+    → part_at time place rows ≡ message_after time b r rs
 
 count_is : (n : ℕ) (rows : List Row) → n ≤ length rows → length (take n rows) ≡ n
 count_is n rows le = let a = length-append (take n rows) (drop n rows) in let b =
@@ -171,12 +172,13 @@ went_on : (before : Option Place) (place : Place) (r : Row) (rs : List Row) → 
 went_on before place r rs some within = let l = length-drop place.count (r ∷ rs) in let w =
     wanted_most (Some place) (drop place.count (r ∷ rs)) in omega (arith, l, w, some, within)
 
-moves_on : (before : Option Place) (b : Option Part) (place : Place) (r : Row) (rs : List Row) → IsPlaceOf before b
-    → place.count ≤ length (r ∷ rs) → part_at 0 place (r ∷ rs) ≡ next_part 0 b r rs
+moves_on : (before : Option Place) (b : Option RolledMessage) (place : Place) (r : Row) (rs : List Row)
+    → IsPlaceOf before b
+    → place.count ≤ length (r ∷ rs) → part_at 0 place (r ∷ rs) ≡ message_after 0 b r rs
     → work (Some place) (drop place.count (r ∷ rs)) < work before (r ∷ rs)
 moves_on None None place r rs tie within is =
-    let n = ap (λ (p : Part). length p.rows) is in let c = count_is place.count (r ∷ rs) within in
-    begun None place r rs (sym c ∙ n) (ap (λ (p : Part). p.domain) is) refl
+    let n = ap (λ (p : RolledMessage). length p.rows) is in let c = count_is place.count (r ∷ rs) within in
+    begun None place r rs (sym c ∙ n) (ap (λ (p : RolledMessage). p.domain) is) refl
 moves_on None (Some q) place r rs tie within is = absurd tie
 moves_on (Some before) None place r rs tie within is = absurd tie
 moves_on (Some before) (Some q) place r rs tie within is =
@@ -190,26 +192,26 @@ moves_on (Some before) (Some q) place r rs tie within is =
           group 1000 q.domain (r ∷ rs);
     }) (head 0 r.key.domain)
     → work (Some place) (drop place.count (r ∷ rs)) < work (Some before) (r ∷ rs)) [
-      | true ↦ λ e h. let n = ap (λ (p : Part). length p.rows) h in let s =
+      | true ↦ λ e h. let n = ap (λ (p : RolledMessage). length p.rows) h in let s =
           group_some 999 q.domain r rs (eqb-true r.key.domain q.domain e) in
           went_on (Some before) place r rs (omega (arith, c, n, s)) within
       | false ↦ λ e h.
-          let n = ap (λ (p : Part). length p.rows) h in
+          let n = ap (λ (p : RolledMessage). length p.rows) h in
           let one : wanted (Some before) (r ∷ rs) ≡ 1 =
           ap (λ t. cond t 0 1) (ap (λ d. r.key.domain == d) (sym tie.domain) ∙ e) in
-          begun (Some before) place r rs (sym c ∙ n) (ap (λ (p : Part). p.domain) h) one
+          begun (Some before) place r rs (sym c ∙ n) (ap (λ (p : RolledMessage). p.domain) h) one
     ] refl is
 
 -- the octets so far, and those of the messages that still come
 pub record IsWritten (w time : ℕ) (all octets : List ℕ) (before : Option Place) (left : List Row) : Type 0 where
   pub fuel : ℕ
-  pub part : Option Part
+  pub part : Option RolledMessage
   pub tie : IsPlaceOf before part
   pub enough : work before left ≤ fuel + 1
-  pub is : all ≡ octets ++ parts_octets w (parts_from fuel time part left)
+  pub is : all ≡ octets ++ messages_octets w (messages_from fuel time part left)
 
 pub none_written : (w time : ℕ) (rows : List Row) (octets : List ℕ) → octets ≡ []
-    → IsWritten w time (parts_octets w (parts_of time rows)) octets None rows
+    → IsWritten w time (messages_octets w (messages_with time rows)) octets None rows
 none_written w time rows octets none =
     record {
       fuel = 2 * length rows;
@@ -217,7 +219,7 @@ none_written w time rows octets none =
       tie = tt;
       enough = let m = wanted_most None rows in
           omega (arith, m);
-      is = ap (λ (l : List ℕ). l ++ parts_octets w (parts_of time rows)) (sym none);
+      is = ap (λ (l : List ℕ). l ++ messages_octets w (messages_with time rows)) (sym none);
     }
 
 pub place_moves : (w time : ℕ) (all octets : List ℕ) (before : Option Place) (left : List Row) (place : Place)
@@ -228,47 +230,49 @@ place_moves w time all octets before (r ∷ rs) place h some next within =
     moves_on before h.part place r rs h.tie within (next 0 h.part r rs h.tie refl)
 
 written : (w time : ℕ) (all octets new : List ℕ) (before : Option Place) (place : Place) (r : Row) (rs : List Row)
-    (b : Option Part) → IsPlaceOf before b → place.count ≤ length (r ∷ rs)
-    → part_at time place (r ∷ rs) ≡ next_part time b r rs
+    (b : Option RolledMessage) → IsPlaceOf before b → place.count ≤ length (r ∷ rs)
+    → part_at time place (r ∷ rs) ≡ message_after time b r rs
     → work (Some place) (drop place.count (r ∷ rs)) < work before (r ∷ rs) → (n : ℕ) → work before (r ∷ rs) ≤ suc n + 1
-    → all ≡ octets ++ parts_octets w (parts_from (suc n) time b (r ∷ rs))
-    → new ≡ octets ++ part_octets w (part_at time place (r ∷ rs))
+    → all ≡ octets ++ messages_octets w (messages_from (suc n) time b (r ∷ rs))
+    → new ≡ octets ++ message_octets w (part_at time place (r ∷ rs))
     → IsWritten w time all new (Some place) (drop place.count (r ∷ rs))
-unfolding parts_from
+unfolding messages_from
 written w time all octets new before place r rs b tie within is less n enough all_is new_is =
     let p = part_at time place (r ∷ rs) in
     let c = count_is place.count (r ∷ rs) within in
-    let len : length (next_part time b r rs).rows ≡ place.count = ap (λ (q : Part). length q.rows) (sym is) ∙ c in
+    let len : length (message_after time b r rs).rows ≡ place.count = ap (λ (q : RolledMessage). length q.rows) (sym
+    is) ∙ c in
     record {
       fuel = n;
       part = Some p;
       tie = record { sequence = refl; domain = refl; count = c };
       enough = omega (arith, less, enough);
       is = all_is ∙ ap (λ (l : List ℕ). octets ++ l)
-          (λ i. part_octets w (sym is i) ++ parts_octets w
-          (parts_from n time (Some (sym is i)) (drop (len i) (r ∷ rs))))
-          ∙ sym (append_assoc octets (part_octets w p)
-          (parts_octets w (parts_from n time (Some p) (drop place.count (r ∷ rs)))))
-          ∙ ap (λ (l : List ℕ). l ++ parts_octets w (parts_from n time (Some p) (drop place.count (r ∷ rs))))
+          (λ i. message_octets w (sym is i) ++ messages_octets w
+          (messages_from n time (Some (sym is i)) (drop (len i) (r ∷ rs))))
+          ∙ sym (append_assoc octets (message_octets w p)
+          (messages_octets w (messages_from n time (Some p) (drop place.count (r ∷ rs)))))
+          ∙ ap (λ (l : List ℕ). l ++ messages_octets w (messages_from n time (Some p) (drop place.count (r ∷ rs))))
           (sym new_is);
     }
 
 pub one_written : (w time : ℕ) (all octets new : List ℕ) (before : Option Place) (left : List Row) (place : Place)
     → IsWritten w time all octets before left → 0 < length left → IsNext before place left → place.count ≤ length left
-    → new ≡ octets ++ part_octets w (part_at time place left)
+    → new ≡ octets ++ message_octets w (part_at time place left)
     → IsWritten w time all new (Some place) (drop place.count left)
 one_written w time all octets new before [] place h some next within new_is = absurd (omega (arith, some))
 one_written w time all octets new before (r ∷ rs) place h some next within new_is = step h.fuel h.enough h.is
   where
-    step : (n : ℕ) → work before (r ∷ rs) ≤ n + 1 → all ≡ octets ++ parts_octets w (parts_from n time h.part (r ∷ rs))
+    step : (n : ℕ) → work before (r ∷ rs) ≤ n + 1 → all ≡ octets ++ messages_octets w (messages_from n time h.part (r ∷
+        rs))
         → IsWritten w time all new (Some place) (drop place.count (r ∷ rs))
     step zero enough is = absurd (omega (arith, enough))
     step (suc n) enough is =
         written w time all octets new before place r rs h.part h.tie within (next time h.part r rs h.tie refl)
         (moves_on before h.part place r rs h.tie within (next 0 h.part r rs h.tie refl)) n enough is new_is
 
-ends : (n time : ℕ) (b : Option Part) → parts_from n time b [] ≡ []
-unfolding parts_from
+ends : (n time : ℕ) (b : Option RolledMessage) → messages_from n time b [] ≡ []
+unfolding messages_from
 ends zero time b = refl
 ends (suc n) time b = refl
 
@@ -276,8 +280,8 @@ pub all_written : (w time : ℕ) (all octets : List ℕ) (before : Option Place)
     → IsWritten w time all octets before left → left ≡ [] → octets ≡ all
 all_written w time all octets before left h none =
     sym (h.is ∙ ap (λ (l : List ℕ). octets ++ l)
-    (ap (λ (l : List Row). parts_octets w (parts_from h.fuel time h.part l)) none
-    ∙ ap (parts_octets w) (no_parts h.fuel h.part)) ∙ append-nil octets)
+    (ap (λ (l : List Row). messages_octets w (messages_from h.fuel time h.part l)) none
+    ∙ ap (messages_octets w) (no_parts h.fuel h.part)) ∙ append-nil octets)
   where
-    no_parts : (n : ℕ) (b : Option Part) → parts_from n time b [] ≡ []
+    no_parts : (n : ℕ) (b : Option RolledMessage) → messages_from n time b [] ≡ []
     no_parts n b = ends n time b

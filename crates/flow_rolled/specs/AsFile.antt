@@ -10,7 +10,7 @@ use Rattle.flow_codec.specs.declared.templates.DomainTemplates.{DomainTemplates}
 use Rattle.flow_codec.specs.Layout.{Layout}
 use Rattle.flow_codec.specs.Raw.{RawRecord, RawMessage, raw}
 use Rattle.flow_rolled.specs.declared.row.RolledRow.{RolledRow}
-use Rattle.flow_rolled.specs.Parts.{Part}
+use Rattle.flow_rolled.specs.Messages.{RolledMessage}
 use Rattle.flow_rolled.specs.Octets.{row_octets, sets_of, has_protocol, has_none}
 
 -- one of IANA's elements, of so many octets
@@ -57,7 +57,7 @@ records_of width (r ∷ rs) =
     rows_under width 256 with_protocol (filter has_protocol (r ∷ rs))
     ++ rows_under width 257 without_protocol (filter has_none (r ∷ rs))
 
-abbrev pub message_of : ℕ → Part → RawMessage
+abbrev pub message_of : ℕ → RolledMessage → RawMessage
 message_of width p = record {
   header = record {
     length = 16 + length (sets_of width p.rows);
@@ -68,7 +68,7 @@ message_of width p = record {
   records = records_of width p.rows;
 }
 
-abbrev pub messages_of : ℕ → List Part → List RawMessage
+abbrev pub messages_of : ℕ → List RolledMessage → List RawMessage
 messages_of width parts = map (message_of width) parts
 
 -- the flow that a row is read as

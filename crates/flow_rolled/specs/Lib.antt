@@ -1,5 +1,5 @@
 pub mod Rows
-pub mod Parts
+pub mod Messages
 pub mod Octets
 pub mod Rollup
 pub mod Reading

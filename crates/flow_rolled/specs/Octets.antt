@@ -5,7 +5,7 @@ use Rattle.std.specs.List.{AllByRecursion}
 use Rattle.std.specs.Int.{w16, w32, w64, to_be_bytes}
 use Rattle.flow_rolled.specs.declared.row.RolledRow.{RolledRow}
 use Rattle.flow_rolled.specs.Rows.{IsRow}
-use Rattle.flow_rolled.specs.Parts.{Part}
+use Rattle.flow_rolled.specs.Messages.{RolledMessage}
 
 abbrev pub protocol_octets : Option ℕ → List ℕ
 protocol_octets None = []
@@ -65,13 +65,13 @@ header_octets len time sequence domain =
     to_be_bytes w16 10 ++ to_be_bytes w16 len ++ to_be_bytes w32 time ++ to_be_bytes w32 sequence ++ to_be_bytes w32
     domain
 
-unfoldable pub part_octets : ℕ → Part → List ℕ
-part_octets width p =
+unfoldable pub message_octets : ℕ → RolledMessage → List ℕ
+message_octets width p =
     header_octets (16 + length (sets_of width p.rows)) p.time p.sequence p.domain ++ sets_of width p.rows
 
-abbrev pub parts_octets : ℕ → List Part → List ℕ
-parts_octets width [] = []
-parts_octets width (p ∷ ps) = part_octets width p ++ parts_octets width ps
+abbrev pub messages_octets : ℕ → List RolledMessage → List ℕ
+messages_octets width [] = []
+messages_octets width (p ∷ ps) = message_octets width p ++ messages_octets width ps
 
 -- rows of one domain, all with a protocol or all without
 pub record IsOf (w d : ℕ) (b : Bool) (r : RolledRow) : Type 0 where
@@ -87,7 +87,7 @@ pub record AreOf (w d : ℕ) (rows : List RolledRow) : Type 0 where
   pub parted : filter has_protocol rows ++ filter has_none rows ≡ rows
 
 -- a message by itself
-pub record IsPart (w : ℕ) (p : Part) : Type 0 where
+pub record IsRolledMessage (w : ℕ) (p : RolledMessage) : Type 0 where
   pub time : p.time < 2 ^ 32
   pub sequence : p.sequence < 2 ^ 32
   pub domain : p.domain < 2 ^ 32

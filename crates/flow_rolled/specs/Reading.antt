@@ -5,16 +5,16 @@ use Rattle.flow_rolled.specs.declared.message.Message.{Message}
 use Rattle.flow_rolled.specs.declared.message.State.{State}
 use Rattle.flow_rolled.specs.declared.error.RolledError.{RolledError}
 use Rattle.flow_rolled.specs.declared.error.RolledError.TheVariants.{NotRolled, OutOfMemory}
-use Rattle.flow_rolled.specs.Parts.{Part, due, last_from, Follows}
-use Rattle.flow_rolled.specs.Octets.{part_octets}
+use Rattle.flow_rolled.specs.Messages.{RolledMessage, due, last_from, Follows}
+use Rattle.flow_rolled.specs.Octets.{message_octets}
 use Rattle.flow_rolled.specs.Rollup.{IsBroken}
 
 -- a message as data
-abbrev pub part_of : Message → Part
-part_of m = record { time = m.time; sequence = m.sequence; domain = m.domain; rows = m.rows.items }
+abbrev pub data_of : Message → RolledMessage
+data_of m = record { time = m.time; sequence = m.sequence; domain = m.domain; rows = m.rows.items }
 
 -- what is known of the message before
-pub record Knows (s : State) (p : Part) : Type 0 where
+pub record Knows (s : State) (p : RolledMessage) : Type 0 where
   pub time : s.time ≡ p.time
   pub domain : s.domain ≡ p.domain
   pub due_is : s.due ≡ due p
@@ -23,15 +23,15 @@ pub record Knows (s : State) (p : Part) : Type 0 where
   pub small_time : p.time < 2 ^ 32
   pub small_domain : p.domain < 2 ^ 32
 
-abbrev pub Stands : Option State → Option Part → Type 0
+abbrev pub Stands : Option State → Option RolledMessage → Type 0
 Stands None None = Unit {0}
 Stands None (Some p) = ⊥
 Stands (Some s) None = ⊥
 Stands (Some s) (Some p) = Knows s p
 
 -- the octets don't begin with a message that may follow
-abbrev pub IsStuck : ℕ → Option Part → List ℕ → Type 0
-IsStuck w b rest = (p : Part) (more : List ℕ) → Follows w b p → rest ≢ part_octets w p ++ more
+abbrev pub IsStuck : ℕ → Option RolledMessage → List ℕ → Type 0
+IsStuck w b rest = (p : RolledMessage) (more : List ℕ) → Follows w b p → rest ≢ message_octets w p ++ more
 
 -- what a refusal says
 abbrev pub IsRefused : RolledError → ℕ → List ℕ → Type 0

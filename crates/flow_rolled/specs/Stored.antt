@@ -14,8 +14,8 @@ use Rattle.flow_refusals.specs.declared.read_refusal.ReadRefusal.TheVariants.{Da
 use Rattle.flow_refusals.specs.declared.sum_refusal.SumRefusal.{SumRefusal}
 use Rattle.flow_refusals.specs.declared.sum_refusal.SumRefusal.TheVariants as sum
 use Rattle.flow_rolled.specs.Rows.{sums_in, sums_of, entries_in}
-use Rattle.flow_rolled.specs.Parts.{Part, Follows, AllFollow, last_part, rows_within}
-use Rattle.flow_rolled.specs.Octets.{part_octets, parts_octets, IsPart}
+use Rattle.flow_rolled.specs.Messages.{RolledMessage, Follows, AllFollow, last_message, rows_within}
+use Rattle.flow_rolled.specs.Octets.{message_octets, messages_octets, IsRolledMessage}
 use Rattle.flow_rolled.specs.Rollup.{IsRollup, IsBroken}
 use Rattle.flow_rolled.specs.Reading.{Stands, IsStuck}
 
@@ -40,21 +40,22 @@ pub record Reader : Type 0 where
   pub before : Option State
 
 -- these messages follow one another and have these rows, and this is known of the last of them
-pub record IsBehind (width : ℕ) (before : Option State) (rows : List RolledRow) (front : List Part) : Type 0 where
-  pub follow : AllFollow width None front
-  pub stands : Stands before (last_part None front)
-  pub rows_are : rows ≡ rows_within front
+pub record IsBehind (width : ℕ) (before : Option State) (rows : List RolledRow) (front : List RolledMessage) : Type 0
+  where
+    pub follow : AllFollow width None front
+    pub stands : Stands before (last_message None front)
+    pub rows_are : rows ≡ rows_within front
 
 -- the reader has given these rows, of messages that follow one another
 abbrev pub HasGiven : Reader → List RolledRow → Type 0
-HasGiven r rows = (front : List Part) × IsBehind r.width r.before rows front
+HasGiven r rows = (front : List RolledMessage) × IsBehind r.width r.before rows front
 
 -- and the file has these messages up to the reader's place
 pub record HasRead (r : Reader) (rows : List RolledRow) : Type 0 where
-  pub front : List Part
+  pub front : List RolledMessage
   pub behind : IsBehind r.width r.before rows front
-  pub is : r.part.octets ≡ parts_octets r.width front ++ drop r.place r.part.octets
-  pub place : r.place ≡ length (parts_octets r.width front)
+  pub is : r.part.octets ≡ messages_octets r.width front ++ drop r.place r.part.octets
+  pub place : r.place ≡ length (messages_octets r.width front)
 
 -- the sums of rows
 abbrev pub table_of : ℕ → List RolledRow → Table
@@ -107,10 +108,10 @@ IsNotAdded part width old sum.OutOfMemory = Unit {0}
 
 -- With the rows of messages with which the octets begin, a sum would pass its type.
 pub record AreSpent (width : ℕ) (octets : List ℕ) (old : Table) : Type 0 where
-  pub front : List Part
+  pub front : List RolledMessage
   pub follow : AllFollow width None front
   pub rest : List ℕ
-  pub is : octets ≡ parts_octets width front ++ rest
+  pub is : octets ≡ messages_octets width front ++ rest
   pub spent : AllFit (with_rows (rows_within front) old) → ⊥
 
 -- a sum that is reported as spent is spent by rows of this file
@@ -141,20 +142,21 @@ IsBare (Some s) = s.count ≡ 0
 
 -- a step over the next message, which has these rows
 pub record IsOver (old : Cursor) (rows : List RolledRow) (new : Cursor) : Type 0 where
-  pub message : Part
-  pub is : old.window.ahead ≡ part_octets old.width message ++ new.window.ahead
-  pub whole : IsPart old.width message
-  pub follows : (b : Option Part) → Stands old.before b → Follows old.width b message
+  pub message : RolledMessage
+  pub is : old.window.ahead ≡ message_octets old.width message ++ new.window.ahead
+  pub whole : IsRolledMessage old.width message
+  pub follows : (b : Option RolledMessage) → Stands old.before b → Follows old.width b message
   pub rows_are : rows ≡ message.rows
   pub known : Stands new.before (Some message)
-  pub place : new.window.place ≡ old.window.place + length (part_octets old.width message)
+  pub place : new.window.place ≡ old.window.place + length (message_octets old.width message)
   pub width : new.width ≡ old.width
   pub end : new.window.end ≡ old.window.end
 
 -- the octets ahead don't begin with a message that may follow, or the file ends after a head
 abbrev pub IsBlocked : Cursor → Type 0
 IsBlocked c =
-    ((c.window.place < c.window.end) × ((b : Option Part) → Stands c.before b → IsStuck c.width b c.window.ahead))
+    ((c.window.place < c.window.end) × ((b : Option RolledMessage) → Stands c.before b
+    → IsStuck c.width b c.window.ahead))
     ⊎ ((c.window.place ≡ c.window.end) × IsBare c.before)
 
 -- one step over the octets ahead, of the file with this number

@@ -5,9 +5,9 @@ ghost use Rattle.std.specs.Prelude.{OnOk, MatchResult, IfSome, IfNone};
 ghost use Rattle.flow_measure.specs.Sums.{Table};
 ghost use Rattle.flow_rolled.specs.Rollup.{IsRollup, IsBroken};
 ghost use Rattle.flow_rolled.specs.Rows.{AreRows, sums_of};
-ghost use Rattle.flow_rolled.specs.Parts.{Part, Follows};
-ghost use Rattle.flow_rolled.specs.Octets.{part_octets, IsPart};
-ghost use Rattle.flow_rolled.specs.Reading.{part_of, Stands, IsStuck, IsRefused, IsDecoded};
+ghost use Rattle.flow_rolled.specs.Messages.{RolledMessage, Follows};
+ghost use Rattle.flow_rolled.specs.Octets.{message_octets, IsRolledMessage};
+ghost use Rattle.flow_rolled.specs.Reading.{data_of, Stands, IsStuck, IsRefused, IsDecoded};
 ghost use Rattle.flow_rolled.specs.declared.row.RolledRow.{RolledRow};
 ghost use Rattle.flow_measure.specs.declared.error.SumError.{SumError};
 ghost use Rattle.flow_rolled.specs.declared.error.RolledError.{RolledError};
@@ -29,11 +29,12 @@ pub(crate) fn next_message<'a>(
     before: Option<State>,
 ) -> Result<Option<(Message, &'a [u8])>, AllocError>
     requires { 0 < width }
-    ensures found { IfOk result (λ o. IfSome o (λ x. octets.now ≡ part_octets width (part_of x.0) ++ x.1.now)) }
-    ensures part { IfOk result (λ o. IfSome o (λ x. IsPart width (part_of x.0))) }
-    ensures follows { IfOk result (λ o. IfSome o (λ x. (b : Option Part) → Stands before b
-        → Follows width b (part_of x.0))) }
-    ensures stuck { IfOk result (λ o. IfNone o ((b : Option Part) → Stands before b → IsStuck width b octets.now)) }
+    ensures found { IfOk result (λ o. IfSome o (λ x. octets.now ≡ message_octets width (data_of x.0) ++ x.1.now)) }
+    ensures part { IfOk result (λ o. IfSome o (λ x. IsRolledMessage width (data_of x.0))) }
+    ensures follows { IfOk result (λ o. IfSome o (λ x. (b : Option RolledMessage) → Stands before b
+        → Follows width b (data_of x.0))) }
+    ensures stuck { IfOk result (λ o. IfNone o ((b : Option RolledMessage) → Stands before b
+        → IsStuck width b octets.now)) }
 {
     let Some((message, rest)) = message_at(alloc, octets, width)? else {
         return Ok(None);

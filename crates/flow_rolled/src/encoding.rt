@@ -5,8 +5,8 @@ ghost use Rattle.std.specs.Ordering.{is_lt};
 ghost use Rattle.std.specs.List.Sorted.{IsPermutation, IsSortedBy};
 ghost use Rattle.flow_rolled.specs.declared.row.RolledRow.{RolledRow};
 ghost use Rattle.flow_rolled.specs.Rows.{file_cmp};
-ghost use Rattle.flow_rolled.specs.Parts.{Part, group, next_part, parts_of};
-ghost use Rattle.flow_rolled.specs.Octets.{parts_octets};
+ghost use Rattle.flow_rolled.specs.Messages.{RolledMessage, group, message_after, messages_with};
+ghost use Rattle.flow_rolled.specs.Octets.{messages_octets};
 ghost use Rattle.flow_rolled.specs.Rollup.{rollup_octets, IsRollup};
 ghost use Rattle.flow_rolled.specs.Writing.{IsPlaceOf, part_at};
 
@@ -56,9 +56,9 @@ fn next_place(before: Option<Place>, rows: &[RolledRow]) -> Place
     requires few { IfSome before (λ p. p.count ≤ 1000) }
     ensures few { result.count ≤ 1000 }
     ensures within { result.count ≤ length rows.now }
-    ensures is { (time : ℕ) (b : Option Part) (r : RolledRow) (rs : List RolledRow) → IsPlaceOf before b
+    ensures is { (time : ℕ) (b : Option RolledMessage) (r : RolledRow) (rs : List RolledRow) → IsPlaceOf before b
         → rows.now ≡ r ∷ rs
-        → part_at time result rows.now ≡ next_part time b r rs }
+        → part_at time result rows.now ≡ message_after time b r rs }
 {
     let domain = rows[0].key.domain;
     if let Some(place) = before {
@@ -85,7 +85,7 @@ fn messages_of(
     time: u32,
 ) -> Result<Vec<u8>, AllocError>
     requires { 0 < width }
-    ensures { IfOk result (λ octets. octets.items ≡ parts_octets width (parts_of time rows.now)) }
+    ensures { IfOk result (λ octets. octets.items ≡ messages_octets width (messages_with time rows.now)) }
 {
     let mut octets = Vec::new(alloc);
     let mut before = None;

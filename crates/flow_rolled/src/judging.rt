@@ -2,9 +2,9 @@
 
 ghost use Rattle.std.specs.Prelude.{◌≡◌, ◌<◌, ◌⊎◌, ℕ, true, List, [], length, Option};
 ghost use Rattle.flow_rolled.specs.Rows.{MayFollow, AllMayFollow};
-ghost use Rattle.flow_rolled.specs.Parts.{Part, Follows, HeadFollows, RowsFollow};
-ghost use Rattle.flow_rolled.specs.Octets.{IsPart};
-ghost use Rattle.flow_rolled.specs.Reading.{part_of, Knows, Stands};
+ghost use Rattle.flow_rolled.specs.Messages.{RolledMessage, Follows, HeadFollows, RowsFollow};
+ghost use Rattle.flow_rolled.specs.Octets.{IsRolledMessage};
+ghost use Rattle.flow_rolled.specs.Reading.{data_of, Knows, Stands};
 
 use crate::message::{FULL, Message, State};
 use crate::order::{compare, continues};
@@ -39,9 +39,9 @@ fn are_in_order(before: Option<RolledRow>, rows: &[RolledRow]) -> bool
 
 /// Whether a head may follow the message of which this is known.
 fn head_follows(state: &State, message: &Message) -> bool
-    ensures yes { result ≡ true → (b : Part) (width : ℕ) → Knows state.now b → message.now.rows.items ≡ []
-        → IsPart width (part_of message.now) → HeadFollows b (part_of message.now) }
-    ensures all { (b : Part) → Knows state.now b → HeadFollows b (part_of message.now) → result ≡ true }
+    ensures yes { result ≡ true → (b : RolledMessage) (width : ℕ) → Knows state.now b → message.now.rows.items ≡ []
+        → IsRolledMessage width (data_of message.now) → HeadFollows b (data_of message.now) }
+    ensures all { (b : RolledMessage) → Knows state.now b → HeadFollows b (data_of message.now) → result ≡ true }
 {
     message.sequence == 0
         && message.time == state.time
@@ -59,9 +59,10 @@ fn has_room(count: usize) -> bool
 
 /// Whether rows may follow the message of which this is known.
 fn rows_follow(state: &State, message: &Message) -> bool
-    ensures yes { result ≡ true → (b : Part) (width : ℕ) → Knows state.now b → 0 < length message.now.rows.items
-        → IsPart width (part_of message.now) → RowsFollow width b (part_of message.now) }
-    ensures all { (b : Part) (width : ℕ) → Knows state.now b → RowsFollow width b (part_of message.now)
+    ensures yes { result ≡ true → (b : RolledMessage) (width : ℕ) → Knows state.now b
+        → 0 < length message.now.rows.items
+        → IsRolledMessage width (data_of message.now) → RowsFollow width b (data_of message.now) }
+    ensures all { (b : RolledMessage) (width : ℕ) → Knows state.now b → RowsFollow width b (data_of message.now)
         → result ≡ true }
 {
     if message.time != state.time || message.domain != state.domain {
@@ -75,9 +76,9 @@ fn rows_follow(state: &State, message: &Message) -> bool
 
 /// Whether a message may follow the one of which this is known, or begin a file.
 pub(crate) fn follows(before: Option<State>, message: &Message) -> bool
-    ensures yes { result ≡ true → (b : Option Part) (width : ℕ) → Stands before b
-        → IsPart width (part_of message.now) → Follows width b (part_of message.now) }
-    ensures all { (b : Option Part) (width : ℕ) → Stands before b → Follows width b (part_of message.now)
+    ensures yes { result ≡ true → (b : Option RolledMessage) (width : ℕ) → Stands before b
+        → IsRolledMessage width (data_of message.now) → Follows width b (data_of message.now) }
+    ensures all { (b : Option RolledMessage) (width : ℕ) → Stands before b → Follows width b (data_of message.now)
         → result ≡ true }
 {
     let rows = message.rows.as_slice();

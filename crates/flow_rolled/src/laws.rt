@@ -10,8 +10,8 @@ ghost use Rattle.flow_codec.specs.Templates.{AllTemplates};
 ghost use Rattle.flow_codec.specs.File.{IsFile};
 ghost use Rattle.flow_rolled.specs.declared.row.RolledRow.{RolledRow};
 ghost use Rattle.flow_rolled.specs.Rows.{AreRows, IsTable, rows_in};
-ghost use Rattle.flow_rolled.specs.Parts.{Part, head, parts_of, rows_within, AllFollow, EndsWell};
-ghost use Rattle.flow_rolled.specs.Rollup.{parts_in};
+ghost use Rattle.flow_rolled.specs.Messages.{RolledMessage, head, messages_with, rows_within, AllFollow, EndsWell};
+ghost use Rattle.flow_rolled.specs.Rollup.{messages_in};
 ghost use Rattle.flow_rolled.specs.AsFile.{messages_of, flows_within, flow_of_row, SameCounts};
 
 /// What is made of a table is its rolled file. Octets are the rolled file of one table at most, whatever the Export
@@ -35,11 +35,11 @@ pub fn one_rollup()
 /// key by key, and no other key; how many flows a key had isn't kept by them.
 pub fn rolled_file()
     ensures file { (t : Table) (time : ℕ) → IsTable t → time < 2 ^ 32
-        → (after : AllTemplates) × IsFile (rollup_octets t time) (messages_of t.width (parts_in t time)) after }
+        → (after : AllTemplates) × IsFile (rollup_octets t time) (messages_of t.width (messages_in t time)) after }
     ensures flows { (t : Table) (time : ℕ) → IsTable t → time < 2 ^ 32
-        → flows_within (messages_of t.width (parts_in t time)) ≡ map flow_of_row (rows_in t.sums) }
+        → flows_within (messages_of t.width (messages_in t time)) ≡ map flow_of_row (rows_in t.sums) }
     ensures sums { (t : Table) (time : ℕ) → IsTable t → time < 2 ^ 32 → (key : Key)
-        → SameCounts (get (sums_by t.width (flows_within (messages_of t.width (parts_in t time)))) key)
+        → SameCounts (get (sums_by t.width (flows_within (messages_of t.width (messages_in t time)))) key)
         (get t.sums key) }
 {}
 
@@ -51,20 +51,22 @@ pub fn rolled_file()
 /// messages of their rows, and no others are.
 pub fn messages_of_rows()
     ensures joined { (width time : ℕ) (rows : List RolledRow) → time < 2 ^ 32 → AreRows width None rows
-        → rows_within (parts_of time rows) ≡ rows }
+        → rows_within (messages_with time rows) ≡ rows }
     ensures few { (width time : ℕ) (rows : List RolledRow) → time < 2 ^ 32 → AreRows width None rows
-        → AllByRecursion (λ p. length p.rows ≤ 1000) (parts_of time rows) }
+        → AllByRecursion (λ p. length p.rows ≤ 1000) (messages_with time rows) }
     ensures own { (width time : ℕ) (rows : List RolledRow) → time < 2 ^ 32 → AreRows width None rows
-        → AllByRecursion (λ p. AllByRecursion (λ r. r.key.domain ≡ p.domain) p.rows) (parts_of time rows) }
-    ensures time { (time : ℕ) (rows : List RolledRow) → AllByRecursion (λ p. p.time ≡ time) (parts_of time rows) }
-    ensures opened { (width time : ℕ) (rows : List RolledRow) (before more : List Part) (p : Part) → time < 2 ^ 32
-        → AreRows width None rows → parts_of time rows ≡ before ++ p ∷ more → 0 < length p.rows
+        → AllByRecursion (λ p. AllByRecursion (λ r. r.key.domain ≡ p.domain) p.rows) (messages_with time rows) }
+    ensures time { (time : ℕ) (rows : List RolledRow) → AllByRecursion (λ p. p.time ≡ time) (messages_with time rows) }
+    ensures opened { (width time : ℕ) (rows : List RolledRow) (before more : List RolledMessage) (p : RolledMessage)
+        → time < 2 ^ 32
+        → AreRows width None rows → messages_with time rows ≡ before ++ p ∷ more → 0 < length p.rows
         → Contains before (head time p.domain) }
-    ensures once { (width time : ℕ) (rows : List RolledRow) (before more : List Part) (p : Part) → time < 2 ^ 32
-        → AreRows width None rows → parts_of time rows ≡ before ++ p ∷ more → p.rows ≡ []
+    ensures once { (width time : ℕ) (rows : List RolledRow) (before more : List RolledMessage) (p : RolledMessage)
+        → time < 2 ^ 32
+        → AreRows width None rows → messages_with time rows ≡ before ++ p ∷ more → p.rows ≡ []
         → AllByRecursion (λ q. q.domain < p.domain) before }
     ensures follow { (width time : ℕ) (rows : List RolledRow) → time < 2 ^ 32 → AreRows width None rows
-        → AllFollow width None (parts_of time rows) × EndsWell None (parts_of time rows) }
-    ensures only { (width time : ℕ) (parts : List Part) → AllFollow width None parts → EndsWell None parts
-        → AllByRecursion (λ p. p.time ≡ time) parts → parts_of time (rows_within parts) ≡ parts }
+        → AllFollow width None (messages_with time rows) × EndsWell None (messages_with time rows) }
+    ensures only { (width time : ℕ) (parts : List RolledMessage) → AllFollow width None parts → EndsWell None parts
+        → AllByRecursion (λ p. p.time ≡ time) parts → messages_with time (rows_within parts) ≡ parts }
 {}

@@ -1,9 +1,9 @@
 //! One message of a rolled file.
 
 ghost use Rattle.std.specs.Prelude.{◌≡◌, ◌<◌, ◌^◌, ℕ, length, Some};
-ghost use Rattle.flow_rolled.specs.Parts.{Part, due};
-ghost use Rattle.flow_rolled.specs.Octets.{IsPart};
-ghost use Rattle.flow_rolled.specs.Reading.{part_of, Stands};
+ghost use Rattle.flow_rolled.specs.Messages.{RolledMessage, due};
+ghost use Rattle.flow_rolled.specs.Octets.{IsRolledMessage};
+ghost use Rattle.flow_rolled.specs.Reading.{data_of, Stands};
 
 use crate::row::RolledRow;
 
@@ -32,7 +32,7 @@ pub(crate) struct State {
 /// The sequence number that is due after a message with this one and so many rows.
 pub(crate) fn due_behind(sequence: u32, count: usize) -> u32
     requires { count < 2 ^ 63 }
-    ensures { (b : Part) → b.sequence ≡ sequence → length b.rows ≡ count → result ≡ due b }
+    ensures { (b : RolledMessage) → b.sequence ≡ sequence → length b.rows ≡ count → result ≡ due b }
 {
     let records = if count == 0 { 2 } else { count };
     ((u64::from(sequence) + records as u64) % 4_294_967_296) as u32
@@ -41,7 +41,8 @@ pub(crate) fn due_behind(sequence: u32, count: usize) -> u32
 impl State {
     /// The state after a message.
     pub(crate) fn behind(message: &Message) -> State
-        ensures { (width : ℕ) → IsPart width (part_of message.now) → Stands (Some result) (Some (part_of message.now)) }
+        ensures { (width : ℕ) → IsRolledMessage width (data_of message.now)
+            → Stands (Some result) (Some (data_of message.now)) }
     {
         let count = message.rows.len();
         State {

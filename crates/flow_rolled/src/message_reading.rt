@@ -1,9 +1,9 @@
 //! A message from its octets.
 
 ghost use Rattle.std.specs.Prelude.{◌≡◌, ◌≢◌, ◌<◌, ℕ, List, ◌++◌, IfOk, IfSome, IfNone};
-ghost use Rattle.flow_rolled.specs.Parts.{Part};
-ghost use Rattle.flow_rolled.specs.Octets.{header_octets, part_octets, IsPart};
-ghost use Rattle.flow_rolled.specs.Reading.{part_of};
+ghost use Rattle.flow_rolled.specs.Messages.{RolledMessage};
+ghost use Rattle.flow_rolled.specs.Octets.{header_octets, message_octets, IsRolledMessage};
+ghost use Rattle.flow_rolled.specs.Reading.{data_of};
 
 use crate::message::Message;
 use crate::numbers::{u16_of, u32_of};
@@ -29,7 +29,8 @@ struct Header {
 fn header_of(octets: &[u8]) -> Option<(Header, &[u8])>
     ensures found { IfSome result
         (λ x. octets.now ≡ header_octets x.0.len x.0.time x.0.sequence x.0.domain ++ x.1.now) }
-    ensures none { IfNone result ((width : ℕ) (p : Part) (more : List ℕ) → octets.now ≢ part_octets width p ++ more) }
+    ensures none { IfNone result ((width : ℕ) (p : RolledMessage) (more : List ℕ)
+        → octets.now ≢ message_octets width p ++ more) }
 {
     if octets.len() < HEADER_LENGTH {
         return None;
@@ -58,10 +59,10 @@ pub(crate) fn message_at<'a>(
     width: u32,
 ) -> Result<Option<(Message, &'a [u8])>, AllocError>
     requires { 0 < width }
-    ensures found { IfOk result (λ o. IfSome o (λ x. octets.now ≡ part_octets width (part_of x.0) ++ x.1.now)) }
-    ensures part { IfOk result (λ o. IfSome o (λ x. IsPart width (part_of x.0))) }
-    ensures none { IfOk result (λ o. IfNone o ((p : Part) (more : List ℕ) → IsPart width p
-        → octets.now ≢ part_octets width p ++ more)) }
+    ensures found { IfOk result (λ o. IfSome o (λ x. octets.now ≡ message_octets width (data_of x.0) ++ x.1.now)) }
+    ensures part { IfOk result (λ o. IfSome o (λ x. IsRolledMessage width (data_of x.0))) }
+    ensures none { IfOk result (λ o. IfNone o ((p : RolledMessage) (more : List ℕ) → IsRolledMessage width p
+        → octets.now ≢ message_octets width p ++ more)) }
 {
     let Some((header, rest)) = header_of(octets) else {
         return Ok(None);

@@ -1,7 +1,7 @@
 //! The octets of messages.
 
 ghost use Rattle.std.specs.Prelude.{◌≡◌, ◌≤◌, ◌<◌, ◌+◌, ◌++◌, length, filter, OnOk, IfOk};
-ghost use Rattle.flow_rolled.specs.Octets.{rows_octets, set_octets, sets_of, part_octets, set_around, of_kind};
+ghost use Rattle.flow_rolled.specs.Octets.{rows_octets, set_octets, sets_of, message_octets, set_around, of_kind};
 
 use crate::message_reading::VERSION;
 use crate::numbers::{put_u16, put_u32};
@@ -82,7 +82,7 @@ pub(crate) fn put_message(
     requires positive { 0 < width }
     requires few { length rows.now ≤ 1000 }
     ensures { OnOk result (octets.new.items ≡ octets.old.items
-        ++ part_octets width (record { time = time; sequence = sequence; domain = domain; rows = rows.now })) }
+        ++ message_octets width (record { time = time; sequence = sequence; domain = domain; rows = rows.now })) }
 {
     let sets = octets_of_sets(alloc, width, rows)?;
     let len = 16 + sets.len() as u16;

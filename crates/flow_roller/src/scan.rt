@@ -9,7 +9,7 @@ ghost use Rattle.flow_measure.specs.Query.{rows_of_both, totals_between, totals_
 ghost use Rattle.flow_measure.specs.Sums.{key_cmp};
 ghost use Rattle.flow_measure.specs.View.{view_of, AreCountsOf, View};
 ghost use Rattle.flow_snapshot.specs.Shares.{summed, AreNarrow, AreWide, IsShare};
-ghost use Rattle.flow_snapshot.specs.Told.{IsAnswered};
+ghost use Rattle.flow_snapshot.specs.Answered.{IsAnswered};
 ghost use Rattle.flow_snapshot.specs.Totals.{first_file, IsMade, IsWithinLimits, SumsFit};
 ghost use Rattle.flow_model.specs.Views.{IsViewOf};
 

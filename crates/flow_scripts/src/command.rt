@@ -25,7 +25,7 @@ pub enum Event {
     /// Begin to merge so many rolled files.
     Merge(u32),
     /// Read one source more of the job.
-    Step,
+    RollStep,
     /// Make the file of the job.
     Write,
     /// Put it in place of its sources.
@@ -102,7 +102,7 @@ pub enum Command {
     /// Ask a new snapshot.
     See(Question),
     /// Ask the snapshot that is held.
-    Held(Question),
+    SeeHeld(Question),
     /// Hold a snapshot.
     Hold,
     /// Let it go.
@@ -142,7 +142,7 @@ impl Command {
             self,
             Command::Event(Event::Append(_) | Event::Batch(_) | Event::Seal)
                 | Command::See(_)
-                | Command::Held(_)
+                | Command::SeeHeld(_)
                 | Command::Hold
                 | Command::LetGo
                 | Command::RollTurn(_)
@@ -189,7 +189,7 @@ impl Command {
             | Command::RollTurn(_)
             | Command::MergeTurn(_)
             | Command::Refresh => true,
-            Command::See(question) | Command::Held(question) => question.answers(),
+            Command::See(question) | Command::SeeHeld(question) => question.answers(),
             Command::Disk(asked) => matches!(asked, OfDisk::Length(_) | OfDisk::Files),
             _ => false,
         }

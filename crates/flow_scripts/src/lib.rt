@@ -14,4 +14,4 @@ mod words;
 pub use command::{Command, Damage, Event, OfDisk, Question, Span, Widths};
 pub use error::{BadScript, Why};
 pub use reading::read_scripts;
-pub use script::{Failing, Line, Part, Script, Size};
+pub use script::{Failing, Line, Script, ScriptPart, Size};

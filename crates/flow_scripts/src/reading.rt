@@ -2,7 +2,7 @@
 
 use crate::asked::command_of;
 use crate::error::{BadScript, Why};
-use crate::script::{Failing, Line, Part, Script, Size};
+use crate::script::{Failing, Line, Script, ScriptPart, Size};
 use crate::words::{number, small_number};
 use std::alloc::Global;
 
@@ -54,7 +54,7 @@ impl<'a> Reading<'a> {
             return Err(Why::Misplaced);
         }
         self.is_between = false;
-        let part = Part {
+        let part = ScriptPart {
             failing,
             is_shared,
             lines: Vec::new(alloc),
@@ -86,7 +86,7 @@ impl<'a> Reading<'a> {
 }
 
 /// A line after the others of a part.
-fn add_to<'a>(part: &mut Part<'a>, line: Line<'a>) -> Result<(), Why> {
+fn add_to<'a>(part: &mut ScriptPart<'a>, line: Line<'a>) -> Result<(), Why> {
     if !part.may_take(&line.command) {
         return Err(Why::Misplaced);
     }

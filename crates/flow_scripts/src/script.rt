@@ -10,7 +10,7 @@ pub struct Script<'a> {
     /// The size of its disk, where it asks for one.
     pub size: Option<Size>,
     /// Its parts.
-    pub parts: Vec<Part<'a>>,
+    pub parts: Vec<ScriptPart<'a>>,
 }
 
 /// The size of a disk: how many files it has room for, how many octets each, how many calls that change a file, and how
@@ -41,7 +41,7 @@ pub enum Failing {
 /// A part: it begins with `create` or `open` and goes on with events and questions; or it has questions and changes of
 /// the disk alone.
 #[derive(Drop)]
-pub struct Part<'a> {
+pub struct ScriptPart<'a> {
     /// How its disk fails.
     pub failing: Failing,
     /// Whether its archive is one that threads share.
@@ -63,7 +63,7 @@ pub struct Line<'a> {
     pub wanted: &'a str,
 }
 
-impl Part<'_> {
+impl ScriptPart<'_> {
     /// Whether it begins with an archive.
     pub fn has_archive(&self) -> bool {
         match self.lines.first() {

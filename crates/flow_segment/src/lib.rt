@@ -31,6 +31,6 @@ pub use files::{make_segment, seal_tail};
 pub use flows::{add_flows, collect_flows, flows_of};
 pub use laws::{accepted_message_fits, few_messages_fit, handed_on, read_to_the_end};
 pub use part::{advance, advance_on};
-pub use restated::{Seen, templates_of};
+pub use restated::{HasRecords, templates_of};
 pub use sealed::{PartReader, SealedPart, messages_of};
 pub use sinks::{Adding, Chosen};

@@ -18,11 +18,11 @@ use std::convert::Infallible;
 
 /// A sink that keeps nothing of data records but whether there were any.
 #[derive(Drop)]
-pub struct Seen {
+pub struct HasRecords {
     pub any: bool,
 }
 
-impl RecordSink for Seen {
+impl RecordSink for HasRecords {
     ghost use Rattle.flow_segment.specs.Prefix.{AreSeen};
 
     type Error = Infallible;
@@ -57,7 +57,7 @@ fn restate(
 ) -> Result<(), ReadRefusal>
     ensures { IsRestating file at octets.now templates.old templates.new result }
 {
-    let mut records = Seen { any: false };
+    let mut records = HasRecords { any: false };
     match walk_message(templates, alloc, octets, &mut records) {
         Ok(_) => {
             if records.any {

@@ -21,7 +21,7 @@ use Rattle.flow_archive.specs.Marks.{made_mark, numbered, HasMark}
 use Rattle.flow_turns.specs.declared.turn.Turn.{Turn}
 use Rattle.flow_turns.specs.declared.turn.Turn.TheVariants as turn
 use Rattle.flow_shared.specs.Calls.{IsClosing, IsTurnedBy}
-use Rattle.flow_shared.specs.Held.{IsMarkedBy, IsMarkOf}
+use Rattle.flow_shared.specs.UnderLock.{IsMarkedBy, IsMarkOf}
 use Rattle.flow_shared.specs.Told.{change_at, no_rollup, no_segment}
 use Rattle.flow_model.proofs.History.{appended_shelf}
 use Rattle.flow_archive.proofs.Shelves.{sealed_segment, made_rollup, merged_shelf, moved_shelf}

@@ -14,7 +14,7 @@ ghost use Rattle.flow_manifest.specs.declared.following.JobKind.TheVariants.{Mer
 ghost use Rattle.flow_turns.specs.Turns.{due, IsTurn};
 ghost use Rattle.flow_shared.specs.Calls.{added_by, by, AppendsOnce, AppendsSealed, Appends, IsClosedBy};
 ghost use Rattle.flow_shared.specs.Calls.{IsRefusedBefore, IsSeal, IsTurnedBy};
-ghost use Rattle.flow_shared.specs.Held.{all_of, Held};
+ghost use Rattle.flow_shared.specs.UnderLock.{all_of, LockState};
 ghost use Rattle.flow_shared.specs.Told.{after, HasOwn};
 
 use crate::calls::{add_marked, seal_marked, tell, turn_marked};
@@ -73,11 +73,11 @@ where
     ghost use mathlib.Core.List.{IsPrefix};
     ghost use Rattle.left_right.specs.Handles.{published, pending};
     ghost use Rattle.flow_model.specs.Changes.{Change};
-    ghost use Rattle.flow_shared.specs.Held.{held_as, Held, IsInStep};
+    ghost use Rattle.flow_shared.specs.UnderLock.{lock_state, LockState, IsInStep};
 
-    ghost Value = { Held D };
+    ghost Value = { LockState D };
 
-    ghost view = { λ l. held_as l.archive (published l.writer) l.told l.backlog };
+    ghost view = { λ l. lock_state l.archive (published l.writer) l.told l.backlog };
 
     ghost invariant = { λ l. ((s : List Change) → ⟦<Shown<D::Sealed, J> as Absorb<Telling<D::Sealed, J>>>⟧.state s ≡ s)
         × ((s : List Change) (t : List Change × Change)

@@ -5,7 +5,7 @@ ghost use Rattle.flow_model.specs.Shelved.{shelf_of};
 
 use crate::archives::{FLOW, one_sealed};
 use crate::started::{Trial, tried};
-use crate::waiting::Held;
+use crate::waiting::HeldTurn;
 use flow_archive::Archive;
 use flow_disk::{Disk, Faults};
 use flow_memory_disk::MemoryDisk;
@@ -78,7 +78,7 @@ fn appended<D: Disk, J: Naming, W: Wait>(
     rt: &W,
     alloc: Global,
     shared: &SharedArchive<D, J, W>,
-    held: &Held,
+    held: &HeldTurn,
 ) -> bool {
     if !held.is_turning() {
         return false;
@@ -97,7 +97,7 @@ fn held_beside<D: Disk + Send, J: Naming + Send + Sync, W: Wait + Threads + Abor
 where
     D::Sealed: Send + Sync,
 {
-    let held = Held::new();
+    let held = HeldTurn::new();
     let (all, gate) = (&shared, &held);
     let (turns, answered) = join(
         rt,

@@ -49,15 +49,15 @@ fn is_set(flag: &AtomicBool) -> bool {
 
 /// Holds the second turn until an append is answered.
 #[derive(Drop)]
-pub(crate) struct Held {
+pub(crate) struct HeldTurn {
     turning: AtomicBool,
     answered: AtomicBool,
     pub(crate) missed: AtomicBool,
 }
 
-impl Held {
+impl HeldTurn {
     pub(crate) fn new() -> Self {
-        Held {
+        HeldTurn {
             turning: AtomicBool::new(false),
             answered: AtomicBool::new(false),
             missed: AtomicBool::new(false),
@@ -75,7 +75,7 @@ impl Held {
     }
 }
 
-impl Gate for Held {
+impl Gate for HeldTurn {
     fn pass(&self, point: Point) {
         if point != Point::Turn(2) {
             return;

@@ -8,7 +8,7 @@ ghost use Rattle.flow_measure.specs.Query.{flows_in_view, message_in_view, total
 ghost use Rattle.flow_report.specs.ArchiveLines.{flows_text, rows_text};
 ghost use Rattle.flow_shared.specs.Meaning.{HasView};
 ghost use Rattle.flow_shared.specs.Told.{after};
-ghost use Rattle.flow_snapshot.specs.Told.{octets_in};
+ghost use Rattle.flow_snapshot.specs.Answered.{octets_in};
 ghost use Rattle.flow_commands.specs.Asking.{AreFlows, AreRows, Writes};
 ghost use Rattle.flow_shell.specs.Answers.{checked_line, message_line, standing_in, view_after, AreDigits, IsCheckLine};
 ghost use Rattle.flow_shell.specs.Answers.{IsBeforeWriting, WritesOrRefuses};

@@ -41,7 +41,7 @@ use Rattle.flow_refusals.specs.declared.read_refusal.ReadRefusal.{ReadRefusal}
 use Rattle.flow_refusals.specs.declared.read_refusal.ReadRefusal.TheVariants.{Damaged, Fault, OutOfMemory}
 use Rattle.flow_snapshot.specs.Files.{is_honest, is_honest_sum, rollup_of, segment_of, shared}
 use Rattle.flow_model.specs.Shelf.{Rollup}
-use Rattle.flow_snapshot.specs.Told.{IsNoDamage}
+use Rattle.flow_snapshot.specs.Answered.{IsNoDamage}
 use Rattle.flow_snapshot.specs.Totals.{told_of_file, with_maps, IsMade, IsSpent}
 use Rattle.flow_model.specs.Views.{AreRolled}
 use Rattle.flow_snapshot.proofs.KeptFlows.{message_told, next_item, taken_next, Next, NextPart, Taken}

@@ -22,7 +22,7 @@ use Rattle.flow_segment.specs.Prefix.{AreTemplatesGiven, IsRestated}
 use Rattle.flow_segment.specs.Segment.{part_octets}
 use Rattle.flow_snapshot.specs.Files.{cut_into, is_honest, segment_of, shared}
 use Rattle.flow_model.specs.Shelf.{messages_in, Shelf}
-use Rattle.flow_snapshot.specs.Told.{IsNoDamage}
+use Rattle.flow_snapshot.specs.Answered.{IsNoDamage}
 use Rattle.flow_model.specs.Views.{AreRestated, IsViewOf}
 use Rattle.flow_snapshot.proofs.KeptFlows.{more_flows, next_ones, Next}
 use Rattle.flow_snapshot.proofs.PartMessages.{cut_count}

@@ -20,7 +20,7 @@ use Rattle.flow_segment.specs.Segment.{part_octets}
 use Rattle.flow_model.specs.Shelf.{Segment}
 use Rattle.flow_snapshot.specs.Files.{cut_into, is_honest, segment_of, shared}
 use Rattle.flow_snapshot.specs.Found.{AreAccepted, HaveFlows}
-use Rattle.flow_snapshot.specs.Told.{IsAnswered, IsNoDamage}
+use Rattle.flow_snapshot.specs.Answered.{IsAnswered, IsNoDamage}
 use Rattle.flow_snapshot.proofs.Finding.{honest_one, own_cut}
 use Rattle.flow_snapshot.proofs.KeptFlows.{answered_err, no_octets, of_part}
 

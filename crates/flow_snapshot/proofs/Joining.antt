@@ -14,7 +14,7 @@ use Rattle.flow_snapshot.specs.declared.shares.Share.{Share}
 use Rattle.flow_snapshot.specs.Shares.{chosen, narrow_turn, own, summed, AllPartsFit, AreNarrow, AreShares, AreWide}
 use Rattle.flow_snapshot.specs.Shares.{IsJoined, IsRefusedAt, IsShare}
 use Rattle.flow_model.specs.Shelf.{Shelf}
-use Rattle.flow_snapshot.specs.Sight.{Sight}
+use Rattle.flow_snapshot.specs.ShelfSeen.{ShelfSeen}
 use Rattle.flow_snapshot.specs.Totals.{first_file, IsMade}
 use Rattle.flow_snapshot.proofs.Dealing.{all_shares, chosen_fit, made_as, none_summed_yet, shares_merged, turn_within}
 
@@ -46,7 +46,7 @@ all_joined s workers n wide narrow sums some all j =
     )
 
 -- an answer, by its number
-pub share_at : {F X : Type 0} (sight : Sight) (shares : List (Share F X)) (i : ℕ) (item : Share F X)
+pub share_at : {F X : Type 0} (sight : ShelfSeen) (shares : List (Share F X)) (i : ℕ) (item : Share F X)
     → i < length shares → item ≡ get_or shares i item → AreShares sight shares
     → HasCause Fault 0 item.faults item.sums × IsShare sight (length shares) i item.sums
 share_at {F} {X} sight shares i item within is are =
@@ -158,7 +158,7 @@ refused_answer {F} {X} shares n item result refused is same =
     (subst (λ (x : Share F X). IsErr x.sums) (sym is) (refused.1 item))
 
 -- so the answer of one is that of all
-pub refused_worker : {F X : Type 0} (sight : Sight) (shares : List (Share F X)) (n first : ℕ) (item : Share F X)
+pub refused_worker : {F X : Type 0} (sight : ShelfSeen) (shares : List (Share F X)) (n first : ℕ) (item : Share F X)
     (result : Result PartSums ReadRefusal) → IsRefusedAt shares n → item ≡ get_or shares n item → AreShares sight shares
     → first ≡ first_file sight.shelf → result ≡ item.sums → IsTrue sight.honest
     → (wide narrow : List (FinMap key_cmp Sums)) → AreWide sight.shelf wide → AreNarrow sight.shelf narrow

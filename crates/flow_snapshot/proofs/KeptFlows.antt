@@ -32,7 +32,7 @@ use Rattle.flow_segment.specs.Prefix.{HaveNoRecords, IsRestated}
 use Rattle.flow_segment.specs.Segment.{part_octets}
 use Rattle.flow_snapshot.specs.Files.{cut_into, is_honest, segment_of, shared}
 use Rattle.flow_model.specs.Shelf.{messages_in}
-use Rattle.flow_snapshot.specs.Told.{IsAnswered, IsNoDamage}
+use Rattle.flow_snapshot.specs.Answered.{IsAnswered, IsNoDamage}
 use Rattle.flow_model.proofs.Accepting.{accepted_first, all_cut, templates_then}
 use Rattle.flow_snapshot.proofs.PartMessages.{cut_whole}
 use Rattle.flow_snapshot.proofs.Sharing.{all_rest}

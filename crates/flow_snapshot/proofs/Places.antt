@@ -24,7 +24,7 @@ use Rattle.flow_segment.specs.Segment.{part_octets, AreMessagesOf}
 use Rattle.flow_segment.specs.declared.sealed.SealedPart.{SealedPart}
 use Rattle.flow_snapshot.specs.Files.{cut_into, is_honest, segment_of, shared}
 use Rattle.flow_model.specs.Shelf.{cut_of, kept_of, messages_in, Shelf}
-use Rattle.flow_snapshot.specs.Told.{IsNoDamage}
+use Rattle.flow_snapshot.specs.Answered.{IsNoDamage}
 use Rattle.flow_model.specs.Views.{IsViewOf}
 use Rattle.flow_model.proofs.Accepting.{all_cut}
 use Rattle.flow_snapshot.proofs.KeptFlows.{next_item}

@@ -24,7 +24,7 @@ use Rattle.flow_segment.proofs.FlowsFit.{messages_fit}
 use Rattle.flow_refusals.specs.declared.read_refusal.ReadRefusal.{ReadRefusal}
 use Rattle.flow_refusals.specs.declared.read_refusal.ReadRefusal.TheVariants.{Damaged, Fault, OutOfMemory}
 use Rattle.flow_model.specs.Shelf.{messages_in, Shelf}
-use Rattle.flow_snapshot.specs.Told.{IsAnswered}
+use Rattle.flow_snapshot.specs.Answered.{IsAnswered}
 use Rattle.flow_snapshot.specs.Totals.{wide_table_in, with_maps, IsMade, IsWithinLimits, SumsFit}
 use Rattle.flow_model.specs.Views.{IsViewOf}
 use Rattle.flow_model.proofs.Accepting.{accepted_first, accepted_rest}

@@ -1,8 +1,8 @@
 pub mod Found
-pub mod Sight
+pub mod ShelfSeen
 pub mod Files
 pub mod Steps
 pub mod Directories
-pub mod Told
+pub mod Answered
 pub mod Totals
 pub mod Shares

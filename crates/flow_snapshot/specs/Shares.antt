@@ -17,7 +17,7 @@ use Rattle.flow_refusals.specs.declared.read_refusal.ReadRefusal.TheVariants.{Fa
 use Rattle.flow_snapshot.specs.declared.shares.PartSums.{PartSums}
 use Rattle.flow_snapshot.specs.declared.shares.Share.{Share}
 use Rattle.flow_model.specs.Shelf.{Rollup, Segment, Shelf}
-use Rattle.flow_snapshot.specs.Sight.{Sight}
+use Rattle.flow_snapshot.specs.ShelfSeen.{ShelfSeen}
 use Rattle.flow_snapshot.specs.Totals.{first_file, IsMade}
 
 -- ---- turns
@@ -113,7 +113,7 @@ pub record IsOwnRead (s : Shelf) (workers worker : ℕ) : Type 0 where
 -- What a worker answers on honest disks: where it isn't refused, each part that falls to it was read whole, whatever
 -- damage others have. Where all parts have sums it is those of its own, unless a read fails, memory runs out or the
 -- sums of all parts don't fit their types.
-pub record IsShare (sight : Sight) (workers worker : ℕ) (result : Result PartSums ReadRefusal) : Type 0 where
+pub record IsShare (sight : ShelfSeen) (workers worker : ℕ) (result : Result PartSums ReadRefusal) : Type 0 where
   pub found : IsTrue sight.honest → OnOk result (IsOwnRead sight.shelf workers worker)
   pub given : IsTrue sight.honest → (wide narrow : List (FinMap key_cmp Sums)) → AreWide sight.shelf wide
       → AreNarrow sight.shelf narrow
@@ -134,7 +134,7 @@ IsJoined first old (Ok mine) new result =
 IsJoined first old (Err e) new result = IsErrOf result e
 
 -- the answers of all workers, by their numbers, with what their reads have raised
-abbrev pub AreShares : {F X : Type 0} → Sight → List (Share F X) → Type 0
+abbrev pub AreShares : {F X : Type 0} → ShelfSeen → List (Share F X) → Type 0
 AreShares {F} {X} sight shares = (n : ℕ) (d : Share F X) → n < length shares
     → HasCause Fault 0 (slice_index_or shares n d).faults (slice_index_or shares n d).sums
     × IsShare sight (length shares) n (slice_index_or shares n d).sums

@@ -23,9 +23,9 @@ pub struct Directory<S: SealedFile> {
 
 impl<S: SealedFile> Model for Directory<S> {
     ghost use Rattle.std.specs.Prelude.{◌<◌};
-    ghost use Rattle.flow_snapshot.specs.Sight.{Sight};
+    ghost use Rattle.flow_snapshot.specs.ShelfSeen.{ShelfSeen};
 
-    ghost Value = { Sight };
+    ghost Value = { ShelfSeen };
 
     ghost use Rattle.flow_snapshot.specs.Directories.{sight_of};
 

@@ -13,14 +13,14 @@ ghost use Rattle.flow_segment.specs.Prefix.{IsRestated};
 ghost use Rattle.flow_snapshot.specs.Files.{is_honest, segment_of, shared};
 ghost use Rattle.flow_snapshot.specs.Found.{AreAccepted, HaveFlows};
 ghost use Rattle.flow_model.specs.Shelf.{messages_in};
-ghost use Rattle.flow_snapshot.specs.Told.{IsAnswered};
+ghost use Rattle.flow_snapshot.specs.Answered.{IsAnswered};
 
 use bytes::Bytes;
 use flow_codec::{MessageError, RecordSink, Templates, WalkError, front_of, walk_message};
 use flow_disk::{Faults, SealedFile};
 use flow_measure::Flow;
 use flow_refusals::ReadRefusal;
-use flow_segment::{Chosen, SealedPart, Seen, collect_flows};
+use flow_segment::{Chosen, HasRecords, SealedPart, collect_flows};
 use std::alloc::{AllocError, Global};
 use std::mem::replace;
 use std::sync::Arc;
@@ -41,7 +41,7 @@ fn take_in(alloc: Global, templates: &mut Templates, octets: &[u8]) -> Result<bo
         → IsAnswered (λ _. templates.new ≡ a.after) result }
     ensures quiet { IfErr result (λ e. e ≢ ReadRefusal.Fault) }
 {
-    let mut records = Seen { any: false };
+    let mut records = HasRecords { any: false };
     match walk_message(templates, alloc, octets, &mut records) {
         Ok(_) => Ok(records.any),
         Err(WalkError::Message(MessageError::OutOfMemory)) => Err(ReadRefusal::OutOfMemory),

@@ -8,7 +8,7 @@ ghost use Rattle.flow_segment.specs.Segment.{part_octets, AreMessagesOf};
 ghost use Rattle.flow_snapshot.specs.Files.{is_honest, segment_of, shared};
 ghost use Rattle.flow_snapshot.specs.Found.{IsCutBehind, IsSealedAt};
 ghost use Rattle.flow_model.specs.Shelf.{messages_in};
-ghost use Rattle.flow_snapshot.specs.Told.{octets_in, IsAnswered};
+ghost use Rattle.flow_snapshot.specs.Answered.{octets_in, IsAnswered};
 
 use flow_disk::{Faults, SealedFile, Window};
 use flow_refusals::ReadRefusal;

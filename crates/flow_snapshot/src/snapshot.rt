@@ -20,7 +20,7 @@ ghost use Rattle.flow_model.specs.Views.{first_prefix, AreKept, IsReadIn};
 ghost use Rattle.flow_snapshot.specs.Shares.{narrow_turn, own, summed, AllPartsFit, AreNarrow, AreShares, AreWide};
 ghost use Rattle.flow_snapshot.specs.Shares.{HaveSums, IsFileSum, IsNarrowRead, IsShare};
 ghost use Rattle.flow_model.specs.Shelf.{cut_of, position_of, second_of};
-ghost use Rattle.flow_snapshot.specs.Told.{octets_in, IsAnswered};
+ghost use Rattle.flow_snapshot.specs.Answered.{octets_in, IsAnswered};
 ghost use Rattle.flow_snapshot.specs.Totals.{first_file, wide_table_in, IsMade, IsWithinLimits, SumsFit};
 ghost use Rattle.flow_model.specs.Views.{AreRestated, AreRolledInto, IsViewOf};
 
@@ -56,9 +56,9 @@ pub struct Snapshot<S: SealedFile> {
 
 impl<S: SealedFile> Model for Snapshot<S> {
     ghost use Rattle.std.specs.Prelude.{◌<◌};
-    ghost use Rattle.flow_snapshot.specs.Sight.{Sight};
+    ghost use Rattle.flow_snapshot.specs.ShelfSeen.{ShelfSeen};
 
-    ghost Value = { Sight };
+    ghost Value = { ShelfSeen };
 
     ghost use Rattle.flow_snapshot.specs.Directories.{sight_of};
 

@@ -2,7 +2,7 @@
 
 ghost use Rattle.std.specs.Prelude.{◌≡◌};
 ghost use Rattle.flow_disk.specs.Cause.{HasCause};
-ghost use Rattle.flow_archive.specs.declared.event.Answer.{Answer as Told};
+ghost use Rattle.flow_archive.specs.declared.event.Answer.{Answer as CoreAnswer};
 ghost use Rattle.flow_manifest.specs.Following.{source_of, count_of};
 ghost use Rattle.flow_manifest.specs.declared.following.JobKind.TheVariants.{Merge, Roll};
 ghost use Rattle.flow_turns.specs.Turns.{begun_by, due, files_over, next_step, turn_told, IsTurn};

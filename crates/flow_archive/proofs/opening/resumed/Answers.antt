@@ -40,7 +40,7 @@ invariant_of-result g c =
     let T : List Frozen → List ℕ → List (List ℕ) → List Frozen → State = λ f p ms w.
     state_in (under_way_in found.slots.current.next None w) false found.slots.current f p ms in
     let P : List Frozen → List ℕ → List (List ℕ) → List Frozen → Type 0 = λ f p ms w. IsArchive D.honest D.marks D.held c.args.disk
-    found.slots found.last found.end found.total found.carry f (T f p ms w) false
+    found.slots found.active_entry found.end found.total found.carry f (T f p ms w) false
     × IsUnderWay D.honest D.marks D.held c.args.disk (T f p ms w) (under_way_in found.slots.current.next None w) false
     × HasOwnFiles false f (under_way_in found.slots.current.next None w) in
     subst (λ (l : List Frozen). P l c.in-Ok.kept.prefix c.in-Ok.kept.messages.items c.new.result.items) (sym files)
@@ -51,7 +51,7 @@ invariant_of-result g c =
     (subst (λ (l : List Frozen). P (all_frozen S.honest S.octets (front_of found.slots.current) found.parts.items)
     found.active.prefix.items (part_of found.active).messages l) (sym c.new.ensures.items) (
       found_archive D.honest D.marks D.held S.octets S.number S.size S.honest c.requires.0 c.args.disk found.slots
-          found.last found.end found.total (part_of found.active) found.carry found.parts.items c.requires.1,
+          found.active_entry found.end found.total (part_of found.active) found.carry found.parts.items c.requires.1,
       nothing_under_way D.honest D.marks D.held c.args.disk _ found.slots.current.next false,
       own_found S.honest S.octets (front_of found.slots.current) found.parts.items false found.slots.current.next,
     ))))
@@ -78,7 +78,8 @@ returns-clause-read g c reads is h =
     found.active.prefix.items l c.new.result.items) (sym c.in-Ok.ensures.messages)
     (subst (λ (l : List Frozen). P (all_frozen S.honest S.octets (front_of found.slots.current) found.parts.items)
     found.active.prefix.items (part_of found.active).messages l) (sym c.new.ensures.items)
-    (found_read D.honest D.marks D.held S.octets S.number S.size S.honest reads c.args.disk found.slots found.last
+    (found_read D.honest D.marks D.held S.octets S.number S.size S.honest reads c.args.disk found.slots
+    found.active_entry
     found.end found.total (part_of found.active) found.carry found.parts.items is h))))
 
 pub returns-clause-stands : goal.returns-clause-stands

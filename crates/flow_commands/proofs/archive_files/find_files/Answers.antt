@@ -3,7 +3,7 @@ use Rattle.flow_disk.proofs.Results.{passed_on}
 use Rattle.flow_manifest.specs.declared.manifest.Manifest.{Manifest}
 use Rattle.flow_model.specs.State.{end_of, State}
 use Rattle.flow_refusals.specs.declared.read_refusal.ReadRefusal.TheVariants as query
-use Rattle.flow_snapshot.specs.Sight.{Sight}
+use Rattle.flow_snapshot.specs.ShelfSeen.{ShelfSeen}
 use Rattle.flow_snapshot.specs.Totals.{first_file, SumsFit}
 use Rattle.flow_commands.specs.Archives.{of_query}
 use Rattle.flow_commands.specs.Asking.{IsNotFound}
@@ -25,8 +25,8 @@ pub returns-in_err-push_files-clause-refused : goal.returns-in_err-push_files-cl
 returns-in_err-push_files-clause-refused g c h reads stands =
     let s = c.args.archive.now.state in
     let e = c.in_err-push_files.field-0.0 in
-    let is = ap (λ (x : Sight). x.shelf) c.into_snapshot-snapshot.ensures ∙ c.in_ok-directory.ensures.every in
-    let honest = ap (λ (x : Sight). x.honest) c.into_snapshot-snapshot.ensures
+    let is = ap (λ (x : ShelfSeen). x.shelf) c.into_snapshot-snapshot.ensures ∙ c.in_ok-directory.ensures.every in
+    let honest = ap (λ (x : ShelfSeen). x.honest) c.into_snapshot-snapshot.ensures
     ∙ (c.in_ok-directory.ensures.shown h).1 in
     let sums = subst (SumsOf reads) (sym is) (sums_of reads s stands c.one_view_of_a_state.ensures.there) in
     passed_on c.from_residual-in_err-push_files.result e (λ e. IsNotFound SumsFit reads (of_query e))
@@ -38,8 +38,8 @@ pub returns-clause-lines : goal.returns-clause-lines
 returns-clause-lines g c h reads stands =
     let s = c.args.archive.now.state in
     let st = c.directory.ensures.state in
-    let is = ap (λ (x : Sight). x.shelf) c.into_snapshot-snapshot.ensures ∙ c.in_ok-directory.ensures.every in
-    let honest = ap (λ (x : Sight). x.honest) c.into_snapshot-snapshot.ensures
+    let is = ap (λ (x : ShelfSeen). x.shelf) c.into_snapshot-snapshot.ensures ∙ c.in_ok-directory.ensures.every in
+    let honest = ap (λ (x : ShelfSeen). x.honest) c.into_snapshot-snapshot.ensures
     ∙ (c.in_ok-directory.ensures.shown h).1 in
     let sums = subst (SumsOf reads) (sym is) (sums_of reads s stands c.one_view_of_a_state.ensures.there) in
     listed reads s c.into_snapshot-snapshot.result.shelf c.push_files.new.text.items c.in_ok-text.text.items

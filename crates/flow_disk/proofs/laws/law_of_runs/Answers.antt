@@ -4,5 +4,5 @@ use Rattle.flow_disk.proofs.laws.law_of_runs.Goals as goal
 pub returns : goal.returns
 returns g c old middle new h before after weaker then =
     let D = g.D.Disk in
-    both D old middle new g.F.Step.leads g.S.Step.leads g.W.Step.leads before after
+    both D old middle new g.F.StopEffect.leads g.S.StopEffect.leads g.W.StopEffect.leads before after
     (λ image is. g.met.D.Disk.counts_now middle (D.moment old) image h before.later is) weaker then

@@ -1,12 +1,12 @@
 use Rattle.std.proofs.Common.{refl, get_or}
-use Rattle.flow_codec.specs.declared.plan.Step.{Step}
-use Rattle.flow_codec.specs.declared.plan.Step.TheVariants.{Skip}
+use Rattle.flow_codec.specs.declared.plan.FieldStep.{FieldStep}
+use Rattle.flow_codec.specs.declared.plan.FieldStep.TheVariants.{Skip}
 use Rattle.flow_measure.proofs.CountLoop.{goes_on, first_step, is_done}
 use Rattle.flow_measure.proofs.counts.counts_by.Goals as goal
 
 pub loop-step-preserved : goal.loop-step-preserved
 loop-step-preserved c =
-    let step : Step = get_or c.args.steps.now c.loop-step.step-index (Skip 0) in
+    let step : FieldStep = get_or c.args.steps.now c.loop-step.step-index (Skip 0) in
     let here = first_step c.args.steps.now c.args.octets.now c.loop-step.step-index c.loop-step.counts
     c.loop-step.rest.now (Skip 0) c.loop-step-test.true step refl c.loop-step.invariant.steps in
     record {

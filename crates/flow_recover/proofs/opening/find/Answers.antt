@@ -17,12 +17,12 @@ use Rattle.flow_recover.proofs.Recovering.{agreed, files_along, told_of_files}
 use Rattle.flow_manifest.proofs.Swaps.{same_slots}
 use Rattle.flow_recover.proofs.opening.find.Goals as goal
 
-pub read_files-requires-clause-last : goal.read_files-requires-clause-last
-read_files-requires-clause-last g c = c.last_of-last.ensures ∙ ap (λ (l : List Entry). get_or l
+pub read_files-requires-clause-active_entry : goal.read_files-requires-clause-active_entry
+read_files-requires-clause-active_entry g c = c.active_entry_of-active_entry.ensures ∙ ap (λ (l : List Entry). get_or l
     (length l - 1) no_entry) c.as_slice.ensures
 
-pub returns-clause-last : goal.returns-clause-last
-returns-clause-last g c = c.last_of-last.ensures ∙ ap (λ (l : List Entry). get_or l
+pub returns-clause-active_entry : goal.returns-clause-active_entry
+returns-clause-active_entry g c = c.active_entry_of-active_entry.ensures ∙ ap (λ (l : List Entry). get_or l
     (length l - 1) no_entry) c.as_slice.ensures
 
 pub returns-clause-frozen : goal.returns-clause-frozen

@@ -207,7 +207,7 @@ returns-clause-cut g c =
       parts = all_by (λ (e : Entry). D.marks d2 e.file ≡ shut_at e.length)
           (λ (e : Entry). (D.marks d2 e.file).size ≡ e.length) (λ e shut. ap (λ (m : Marks). m.size) shut)
           (front_of c.in_ok-slots.field-0.slots.current) c.in_ok-parts.ensures.shut;
-      active = ap (λ (e : Entry). (D.marks d2 e.file).size) (sym c.in_ok-slots.ensures.last)
+      active = ap (λ (e : Entry). (D.marks d2 e.file).size) (sym c.in_ok-slots.ensures.active_entry)
           ∙ c.in_ok-parts.ensures.size;
     }
 
@@ -223,8 +223,8 @@ returns-clause-cut_images g c h image is =
           (λ (e : Entry). length (image e.file) ≡ e.length)
           (λ e shut. long e.file (ap (λ (m : Marks). m.settled) shut) ∙ ap (λ (m : Marks). m.size) shut)
           (front_of c.in_ok-slots.field-0.slots.current) c.in_ok-parts.ensures.shut;
-      active = ap (λ (e : Entry). length (image e.file)) (sym c.in_ok-slots.ensures.last)
-          ∙ long c.in_ok-slots.field-0.last.file c.in_ok-parts.ensures.ready.settled
+      active = ap (λ (e : Entry). length (image e.file)) (sym c.in_ok-slots.ensures.active_entry)
+          ∙ long c.in_ok-slots.field-0.active_entry.file c.in_ok-parts.ensures.ready.settled
           ∙ c.in_ok-parts.ensures.size;
     }
 

@@ -76,7 +76,7 @@ returns-then-start-size-clause-refused g c h p at =
     let D = g.D.Disk in
     let d0 = c.args.disk.now in
     let d1 = c.length.new.self in
-    let f = c.args.last.file in
+    let f = c.args.active_entry.file in
     let h1 = subst IsTrue (sym c.length.ensures.honest) h in
     absurd (omega (
       arith,

@@ -51,8 +51,9 @@ module _ (g : Over) (c : In_ok-active g) (h : IsTrue (g.D.Disk.honest c.args.dis
   active : IsActiveAt (g.D.Disk.held c.args.disk.now (active_of c.args.manifest.now).file).reads
       (active_of c.args.manifest.now) (part_of c.in_ok-active.active)
   active = let p = part_of c.in_ok-active.active in
-      subst (λ (x : Entry). IsActiveAt (g.D.Disk.held c.args.disk.now x.file).reads x p) c.requires.last
-      (subst (λ (f : Held). IsActiveAt f.reads c.args.last p) (c.read_entries.ensures.held h c.args.last.file)
+      subst (λ (x : Entry). IsActiveAt (g.D.Disk.held c.args.disk.now x.file).reads x p) c.requires.active_entry
+      (subst (λ (f : Held). IsActiveAt f.reads c.args.active_entry p) (c.read_entries.ensures.held h
+      c.args.active_entry.file)
       (c.in_ok-active.ensures.found (subst IsTrue (sym c.read_entries.ensures.honest) h)))
 
   same : {s : State} → s.manifest ≡ c.args.manifest.now → HoldsFiles (reads_of (g.D.Disk.held c.args.disk.now)) s
@@ -147,8 +148,8 @@ returns-clause-counted g c = λ parts.
     record {
       valid = c.requires.valid;
       next = omega arith;
-      last_is = c.requires.last;
-      end_is = omega (arith, c.in_ok-active.ensures.ends.0, ap (λ (x : Entry). x.prefix) c.requires.last);
+      active_entry_is = c.requires.active_entry;
+      end_is = omega (arith, c.in_ok-active.ensures.ends.0, ap (λ (x : Entry). x.prefix) c.requires.active_entry);
       long = λ some. omega (arith, whole some, c.in_ok-active.ensures.ends.0);
       total_is = total g at;
       within = within g at parts;

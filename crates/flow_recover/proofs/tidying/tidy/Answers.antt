@@ -36,8 +36,8 @@ each : {entries l : List Entry} (P : Entry → Type 0) → l ≡ entries → All
 each {entries} {l} P is all = all_take P (length l - 1) l (subst (AllByRecursion P) (sym is) all)
 
 -- and of the last one
-at_last : {m : Manifest} {last : Entry} (P : Entry → Type 0) → IsValidManifest m → last ≡ active_of m
-    → AllByRecursion P m.entries → P last
+at_last : {m : Manifest} {active_entry : Entry} (P : Entry → Type 0) → IsValidManifest m → active_entry ≡ active_of m
+    → AllByRecursion P m.entries → P active_entry
 at_last {m} P valid is all =
     subst P (sym is) (all_last P (front_of m) (active_of m) (subst (AllByRecursion P) (split m valid) all))
 
@@ -59,18 +59,19 @@ still g h run = record {
 }
 
 module _ (g : Over) (c : After-freeze_files g) where
-  here : g.D.Disk.marks c.freeze_files.new.disk c.args.last.file ≡ g.D.Disk.marks c.args.disk.now c.args.last.file
+  here : g.D.Disk.marks c.freeze_files.new.disk c.args.active_entry.file
+      ≡ g.D.Disk.marks c.args.disk.now c.args.active_entry.file
   here = let m = c.args.manifest.now in
-      c.freeze_files.ensures.other_marks c.args.last.file
+      c.freeze_files.ensures.other_marks c.args.active_entry.file
       (rw (front c.as_slice-entries.ensures) (all_by (IsOther m) _
-      (λ e one is. one.apart (is ∙ ap (λ (x : Entry). x.file) c.requires.last)) _
+      (λ e one is. one.apart (is ∙ ap (λ (x : Entry). x.file) c.requires.active_entry)) _
       (are_entries m c.requires.valid).front))
 
 module _ (g : Over) (c : After-cut_file g) where
   same_marks : (n : ℕ) → AllByRecursion (λ (e : Entry). e.file ≢ n) c.args.manifest.now.entries
       → g.D.Disk.marks c.cut_file.new.disk n ≡ g.D.Disk.marks c.args.disk.now n
   same_marks n apart =
-      c.cut_file.ensures.other_marks n (λ is. at_last _ c.requires.valid c.requires.last apart (sym is))
+      c.cut_file.ensures.other_marks n (λ is. at_last _ c.requires.valid c.requires.active_entry apart (sym is))
       ∙ c.freeze_files.ensures.other_marks n (each _ c.as_slice-entries.ensures apart)
 
   honest1 : IsTrue (g.D.Disk.honest c.args.disk.now) → IsTrue (g.D.Disk.honest c.freeze_files.new.disk)
@@ -84,7 +85,7 @@ module _ (g : Over) (c : After-cut_file g) where
   same_slots h slot =
       let apart = outside c.args.manifest.now c.requires.valid (file_of slot) (inl (slot_below slot)) in
       c.cut_file.ensures.other_files (honest1 h) (file_of slot)
-      (λ is. at_last _ c.requires.valid c.requires.last apart (sym is))
+      (λ is. at_last _ c.requires.valid c.requires.active_entry apart (sym is))
       ∙ c.freeze_files.ensures.other_files h (file_of slot) (each _ c.as_slice-entries.ensures apart)
 
   cut : IsTrue (g.D.Disk.honest c.args.disk.now) → {slots : Slots} {s : State} → s.manifest ≡ c.args.manifest.now
@@ -94,13 +95,14 @@ module _ (g : Over) (c : After-cut_file g) where
       (stopped (still g (honest1 h) (c.freeze_files.ensures.any_moment h slots s
       (ap front_of man ∙ sym (front c.as_slice-entries.ensures)) all)) c.cut_file.ensures.any_moment
       (λ a b known step. trimming slots s _ _ a b (ap (λ (k : Manifest). (active_of k).file) man
-      ∙ sym (ap (λ (e : Entry). e.file) c.requires.last)) end_is known step))
+      ∙ sym (ap (λ (e : Entry). e.file) c.requires.active_entry)) end_is known step))
 
 module _ (g : Over) (c : After-remove_unnamed g) where
-  active : g.D.Disk.marks c.remove_unnamed.new.disk c.args.last.file
-      ≡ g.D.Disk.marks c.cut_file.new.disk c.args.last.file
-  active = c.remove_unnamed.ensures.marks c.args.last.file (ap (λ (e : Entry). is_file_of c.args.manifest.now e.file)
-      c.requires.last ∙ active_named c.args.manifest.now c.requires.valid)
+  active : g.D.Disk.marks c.remove_unnamed.new.disk c.args.active_entry.file
+      ≡ g.D.Disk.marks c.cut_file.new.disk c.args.active_entry.file
+  active = c.remove_unnamed.ensures.marks c.args.active_entry.file (ap (λ (e : Entry). is_file_of c.args.manifest.now
+      e.file)
+      c.requires.active_entry ∙ active_named c.args.manifest.now c.requires.valid)
 
 -- ---- what the calls take
 pub freeze_files-requires-clause-own : goal.freeze_files-requires-clause-own
@@ -117,12 +119,13 @@ freeze_files-requires-clause-settled g c =
 
 pub cut_file-requires-clause-thawed : goal.cut_file-requires-clause-thawed
 cut_file-requires-clause-thawed g c =
-    rw (here g (goal.at.cut_file-requires-clause-thawed g c).After-freeze_files) (c.requires.thawed c.args.last.file)
+    rw (here g (goal.at.cut_file-requires-clause-thawed g c).After-freeze_files) (c.requires.thawed
+    c.args.active_entry.file)
 
 pub cut_file-requires-clause-settled : goal.cut_file-requires-clause-settled
 cut_file-requires-clause-settled g c =
     rw (here g (goal.at.cut_file-requires-clause-settled g c).After-freeze_files)
-    (at_last _ c.requires.valid c.requires.last c.requires.settled)
+    (at_last _ c.requires.valid c.requires.active_entry c.requires.settled)
 
 pub remove_unnamed-requires : goal.remove_unnamed-requires
 remove_unnamed-requires g c n unnamed =
@@ -167,12 +170,12 @@ returns-in_err-cut_file-clause-refused g c h slots s man end_is all =
     let known = all reads (λ n. g.met.D.Disk.reads_image c.args.disk.now n h) in
     let room = known.files.active.gated.closed.room in
     let there = ap (λ (k : Manifest). length (reads (active_of k).file)) man in
-    let too = ap (λ (e : Entry). length (reads e.file)) c.requires.last in
+    let too = ap (λ (e : Entry). length (reads e.file)) c.requires.active_entry in
     let size = ap (λ (k : Marks). k.size) (here g at.After-freeze_files) in
     passed_on c.from_residual-in_err-cut_file.result
     (c.in_err-cut_file.field-0).0 IsDeviceOrMemory c.from_residual-in_err-cut_file.ensures.1
     (c.in_err-cut_file.ensures.refused (honest1 g at.After-cut_file h)
-    (omega (arith, g.met.D.Disk.has_size c.args.disk.now c.args.last.file h)))
+    (omega (arith, g.met.D.Disk.has_size c.args.disk.now c.args.active_entry.file h)))
 
 -- ---- what is Ok
 pub returns-clause-parts : goal.returns-clause-parts
@@ -218,7 +221,8 @@ returns-clause-shut g c =
     let new = g.D.Disk.marks c.remove_unnamed.new.disk in
     let same = all_both (IsOther m) (λ e. is_file_of m e.file ≡ true) (λ e. new e.file ≡ old e.file)
     (λ e one is. c.remove_unnamed.ensures.marks e.file is
-    ∙ c.cut_file.ensures.other_marks e.file (λ there. one.apart (there ∙ ap (λ (e : Entry). e.file) c.requires.last)))
+    ∙ c.cut_file.ensures.other_marks e.file (λ there. one.apart (there
+    ∙ ap (λ (e : Entry). e.file) c.requires.active_entry)))
     _ (are_entries m c.requires.valid).front (all_take _ _ _ (entries_named m)) in
     all_both _ (λ e. old e.file ≡ shut_at e.length) _ (λ e same is. same ∙ is) _ same
     (rw (← front c.as_slice-entries.ensures) c.in_ok-parts.ensures.shut)
@@ -263,4 +267,4 @@ pub returns-clause-still : goal.returns-clause-still
 returns-clause-still g c n named was =
     rw (c.remove_unnamed.ensures.marks n named) (⊎_elim (λ same. rw same c.in_ok-cut_file.ensures.listed)
     (λ differs. rw (c.cut_file.ensures.other_marks n differs) (c.in_ok-parts.ensures.still n was))
-    (cases_eq n c.args.last.file))
+    (cases_eq n c.args.active_entry.file))

@@ -4,9 +4,9 @@ use Rattle.std.proofs.lemmas.Bool.{eqb-true, eqb-false}
 use Rattle.std.specs.Prelude.{Result, Ok, Err, OnOk, is_err, false}
 use Rattle.flow_rolled.specs.declared.row.RolledRow.{RolledRow}
 use Rattle.flow_rolled.specs.Rows.{AreRows, sums_of}
-use Rattle.flow_rolled.specs.Parts.{Follows, last_part, rows_within}
-use Rattle.flow_rolled.specs.Octets.{part_octets}
-use Rattle.flow_rolled.specs.Reading.{part_of}
+use Rattle.flow_rolled.specs.Messages.{Follows, last_message, rows_within}
+use Rattle.flow_rolled.specs.Octets.{message_octets}
+use Rattle.flow_rolled.specs.Reading.{data_of}
 use Rattle.flow_rolled.proofs.Breaking.{one_table}
 use Rattle.flow_rolled.proofs.SameParts.{part_long}
 use Rattle.flow_rolled.proofs.SoFar.{IsSoFar, at_start, at_end, one_more, rows_follow, broken, broken_end, no_sums}
@@ -38,10 +38,10 @@ pub loop-rest-smaller : goal.loop-rest-smaller
 loop-rest-smaller c =
     let found = rw c.in-Some.is at c.in_ok-message.ensures.found in
     let len : length c.loop-rest.rest.now ≡ length
-    (part_octets c.args.width (part_of c.in-Some.message) ++ c.in-Some.after.now) =
+    (message_octets c.args.width (data_of c.in-Some.message) ++ c.in-Some.after.now) =
     ap (λ (l : List ℕ). length l) found in
-    let sum = length-append (part_octets c.args.width (part_of c.in-Some.message)) c.in-Some.after.now in
-    let some = part_long c.args.width (part_of c.in-Some.message) in
+    let sum = length-append (message_octets c.args.width (data_of c.in-Some.message)) c.in-Some.after.now in
+    let some = part_long c.args.width (data_of c.in-Some.message) in
     let less : length c.in-Some.after.now < length c.loop-rest.rest.now = omega (arith, len, sum, some) in less
 
 pub add_rows-requires : goal.add_rows-requires
@@ -49,10 +49,10 @@ add_rows-requires c =
     let w = c.args.width in
     let front = c.loop-rest.invariant.0 in
     let h = c.loop-rest.invariant.1 in
-    let p = part_of c.in-Some.message in
+    let p = data_of c.in-Some.message in
     let found = rw c.in-Some.is at c.in_ok-message.ensures.found in
     let follows = rw c.in-Some.is at c.in_ok-message.ensures.follows in
-    let next : Follows w (last_part None front) p = follows (last_part None front) h.stands in
+    let next : Follows w (last_message None front) p = follows (last_message None front) h.stands in
     let width : c.loop-rest.rows.width ≡ w = ap (λ t. t.width) h.sums in
     let sums : c.loop-rest.rows.sums ≡ sums_of (rows_within front) = ap (λ t. t.sums) h.sums in
     let list : c.deref.result.now ≡ p.rows = c.deref.ensures.value in
@@ -69,10 +69,10 @@ loop-rest-preserved c =
     let w = c.args.width in
     let front = c.loop-rest.invariant.0 in
     let h = c.loop-rest.invariant.1 in
-    let p = part_of c.in-Some.message in
+    let p = data_of c.in-Some.message in
     let found = rw c.in-Some.is at c.in_ok-message.ensures.found in
     let follows = rw c.in-Some.is at c.in_ok-message.ensures.follows in
-    let next : Follows w (last_part None front) p = follows (last_part None front) h.stands in
+    let next : Follows w (last_message None front) p = follows (last_message None front) h.stands in
     let width : c.loop-rest.rows.width ≡ w = ap (λ t. t.width) h.sums in
     let sums : c.loop-rest.rows.sums ≡ sums_of (rows_within front) = ap (λ t. t.sums) h.sums in
     let list : c.deref.result.now ≡ p.rows = c.deref.ensures.value in

@@ -1,6 +1,6 @@
 use Rattle.std.proofs.Common.{◌≡◌, Bool, true, false, subst, sym, ◌∙◌}
-use Rattle.flow_rolled.specs.Parts.{Follows}
-use Rattle.flow_rolled.specs.Reading.{part_of}
+use Rattle.flow_rolled.specs.Messages.{Follows}
+use Rattle.flow_rolled.specs.Reading.{data_of}
 use Rattle.flow_rolled.proofs.SameParts.{same_part}
 use Rattle.flow_rolled.proofs.Breaking.{stands_part}
 use Rattle.flow_rolled.proofs.decoding.next_message.Goals as goal
@@ -16,7 +16,7 @@ returns-in_default-clause-stuck c = λ b stands p more follows e.
 pub returns-then-not-follows-clause-stuck : goal.returns-then-not-follows-clause-stuck
 returns-then-not-follows-clause-stuck c = λ b stands p more follows e.
     let w = c.args.width in
-    let m = part_of c.in-Some.message in
+    let m = data_of c.in-Some.message in
     let found = rw c.in-Some.is at c.in_ok-message.ensures.found in
     let part = rw c.in-Some.is at c.in_ok-message.ensures.part in
     let same = (same_part w m p c.in-Some.rest.now more c.ranges.width.fits part

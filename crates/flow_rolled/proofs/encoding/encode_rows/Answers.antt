@@ -8,8 +8,8 @@ use Rattle.flow_measure.specs.declared.rows.Sums.{Sums}
 use Rattle.flow_measure.specs.Sums.{Table, key_cmp, IsKeyBy, AreSound, AllFit, Fits}
 use Rattle.flow_rolled.specs.declared.row.RolledRow.{RolledRow}
 use Rattle.flow_rolled.specs.Rows.{rows_of, rows_in, in_file_order, IsTable, IsEntry}
-use Rattle.flow_rolled.specs.Parts.{parts_of}
-use Rattle.flow_rolled.specs.Octets.{parts_octets}
+use Rattle.flow_rolled.specs.Messages.{messages_with}
+use Rattle.flow_rolled.specs.Octets.{messages_octets}
 use Rattle.flow_rolled.specs.Rollup.{rollup_octets, IsRollup}
 use Rattle.flow_rolled.proofs.Sorting.{sorted_order}
 use Rattle.flow_rolled.proofs.encoding.encode_rows.Goals as goal
@@ -25,10 +25,11 @@ returns-clause-octets c =
     sorted_order sums c.sort_entries.new.entries.items same c.sort_entries.ensures.sorted in
     let rows : c.deref-2.result.now ≡ rows_in sums = c.deref-2.ensures.value ∙ c.in_ok-rows.ensures
     ∙ ap (flat_map rows_of) (c.deref.ensures.value ∙ sym order) in
-    subst (λ w. IfOk c.messages_of.result (λ octets. octets.items ≡ parts_octets w (parts_of time (rows_in sums))))
+    subst (λ w. IfOk c.messages_of.result (λ octets. octets.items
+    ≡ messages_octets w (messages_with time (rows_in sums))))
     c.width-width.ensures.width
     (subst (λ (l : List RolledRow). IfOk c.messages_of.result
-    (λ octets. octets.items ≡ parts_octets c.width-width.result (parts_of time l))) rows c.messages_of.ensures)
+    (λ octets. octets.items ≡ messages_octets c.width-width.result (messages_with time l))) rows c.messages_of.ensures)
 
 valid : (w : ℕ) (sums : FinMap key_cmp Sums) → AreSound w sums → AllFit (record { width = w; sums = sums })
     → IsTable (record { width = w; sums = sums })

@@ -1,8 +1,8 @@
 use Rattle.std.proofs.Common.{◌<◌, List, ◌++◌, length, Some, sym, ap, subst, ◌∙◌, arith}
 use Rattle.std.proofs.lemmas.Bool.{eqb-true, eqb-false}
 use Rattle.flow_rolled.specs.declared.row.RolledRow.{RolledRow}
-use Rattle.flow_rolled.specs.Parts.{Part, parts_of}
-use Rattle.flow_rolled.specs.Octets.{part_octets, parts_octets}
+use Rattle.flow_rolled.specs.Messages.{RolledMessage, messages_with}
+use Rattle.flow_rolled.specs.Octets.{message_octets, messages_octets}
 use Rattle.flow_rolled.proofs.Grouping.{no_length}
 use Rattle.flow_rolled.proofs.WrittenParts.{IsWritten, work, none_written, place_moves, one_written, all_written}
 use Rattle.flow_rolled.proofs.encoding.messages_of.Goals as goal
@@ -34,12 +34,12 @@ loop-left-preserved c =
     let time = c.args.time in
     let left = c.loop-left.left.now in
     let place = c.next_place-place.result in
-    let all = parts_octets w (parts_of time c.args.rows.now) in
+    let all = messages_octets w (messages_with time c.args.rows.now) in
     let some = eqb-false (length left) 0 (sym c.is_empty.ensures ∙ c.loop-left-test.true) in
-    let front : List RolledRow → Part =
+    let front : List RolledRow → RolledMessage =
     λ rows. record { time = time; sequence = place.sequence; domain = place.domain; rows = rows } in
     let new = c.in_ok-put_message.ensures
-    ∙ ap (λ (l : List RolledRow). c.loop-left.octets.items ++ part_octets w (front l)) c.split_at.ensures.front in
+    ∙ ap (λ (l : List RolledRow). c.loop-left.octets.items ++ message_octets w (front l)) c.split_at.ensures.front in
     record {
       few = c.next_place-place.ensures.few;
       written = subst (IsWritten w time all c.put_message.new.octets.items (Some place)) (sym c.split_at.ensures.back)

@@ -1,6 +1,6 @@
 use Rattle.std.proofs.Common.{◌≡◌, List, get_or, length, None, ap, subst, ◌∙◌, arith}
 use Rattle.flow_rolled.specs.declared.row.RolledRow.{RolledRow}
-use Rattle.flow_rolled.specs.Parts.{group}
+use Rattle.flow_rolled.specs.Messages.{group}
 use Rattle.flow_rolled.specs.Writing.{IsPlaceOf}
 use Rattle.flow_rolled.proofs.WrittenParts.{group_at, group_within}
 use Rattle.flow_rolled.proofs.encoding.next_place.Goals as goal

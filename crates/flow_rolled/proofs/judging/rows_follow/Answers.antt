@@ -1,6 +1,6 @@
 use Rattle.std.proofs.Common.{⊎_elim, inl, inr, None, sym, subst, ◌∙◌}
 use Rattle.flow_rolled.specs.Rows.{AreRows, AllMayFollow}
-use Rattle.flow_rolled.specs.Parts.{last_from}
+use Rattle.flow_rolled.specs.Messages.{last_from}
 use Rattle.flow_rolled.proofs.Judgement.{each_row, each_own, in_order, may_follow}
 use Rattle.flow_rolled.proofs.judging.rows_follow.Goals as goal
 

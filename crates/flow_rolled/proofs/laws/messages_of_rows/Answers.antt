@@ -1,6 +1,6 @@
 use Rattle.std.proofs.Common.{◌≡◌, ◌*◌, List, length, None, subst, ⊎_elim}
 use Rattle.std.specs.List.{AllByRecursion}
-use Rattle.flow_rolled.specs.Parts.{Part, AllFollow}
+use Rattle.flow_rolled.specs.Messages.{RolledMessage, AllFollow}
 use Rattle.flow_rolled.proofs.Breaking.{all_parts}
 use Rattle.flow_rolled.proofs.Complete.{parts_are}
 use Rattle.flow_rolled.proofs.PartsLaws.{all_few, all_own, all_times, once, only_parts, opened}
@@ -26,7 +26,7 @@ returns-clause-opened c = λ width time rows before more p small order is some.
     let times = all_times (2 * length rows) time None rows in
     ⊎_elim (λ there. there) (λ none. absurd none)
     (opened width time None before more p (subst (AllFollow width None) is follow)
-    (subst (λ (ps : List Part). AllByRecursion (λ q. q.time ≡ time) ps) is times) some)
+    (subst (λ (ps : List RolledMessage). AllByRecursion (λ q. q.time ≡ time) ps) is times) some)
 
 pub returns-clause-once : goal.returns-clause-once
 returns-clause-once c = λ width time rows before more p small order is none.

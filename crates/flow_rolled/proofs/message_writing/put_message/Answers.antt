@@ -1,11 +1,11 @@
 use Rattle.std.proofs.Common.{◌≡◌, ℕ, ◌+◌, List, ◌++◌, length, sym, ap, ◌∙◌}
 use Rattle.std.specs.Int.{w16, w32, to_be_bytes}
-use Rattle.flow_rolled.specs.Octets.{sets_of, part_octets}
+use Rattle.flow_rolled.specs.Octets.{sets_of, message_octets}
 use Rattle.flow_rolled.proofs.WrittenRows.{put_six}
 use Rattle.flow_rolled.proofs.message_writing.put_message.Goals as goal
 
 pub returns : goal.returns
-unfolding part_octets
+unfolding message_octets
 returns c =
     let sets = sets_of c.args.width c.args.rows.now in
     let len : c.len.result ≡ length sets = c.len.ensures ∙ sym c.deref.ensures.len

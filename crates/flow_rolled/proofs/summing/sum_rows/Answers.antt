@@ -2,7 +2,7 @@ use Rattle.std.proofs.Common.{◌≡◌, ◌<◌, ◌^◌, List, [], ◌++◌, N
 use Rattle.std.specs.Prelude.{IsTrue}
 use Rattle.flow_measure.specs.Sums.{Table, IsRefused}
 use Rattle.flow_rolled.specs.declared.row.RolledRow.{RolledRow}
-use Rattle.flow_rolled.specs.Parts.{last_from}
+use Rattle.flow_rolled.specs.Messages.{last_from}
 use Rattle.flow_measure.specs.Printed.{sum_refusal}
 use Rattle.flow_refusals.specs.Printed.{sum_of_read}
 use Rattle.flow_rolled.specs.Stored.{Rollup, Reader, HasGiven, IsAdded, IsNotAdded, IsSpentBy, AreCounted, with_rows}

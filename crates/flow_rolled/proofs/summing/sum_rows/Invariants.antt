@@ -1,7 +1,7 @@
 use Rattle.std.proofs.Common.{◌≡◌, ◌-◌, List, None}
 use Rattle.std.specs.Prelude.{IsTrue}
 use Rattle.flow_rolled.specs.declared.row.RolledRow.{RolledRow}
-use Rattle.flow_rolled.specs.Parts.{last_from}
+use Rattle.flow_rolled.specs.Messages.{last_from}
 use Rattle.flow_rolled.specs.Stored.{HasGiven, HasRead, with_rows}
 use Rattle.flow_rolled.proofs.Widened.{HasKey}
 use Rattle.flow_rolled.proofs.summing.sum_rows.Given as goal

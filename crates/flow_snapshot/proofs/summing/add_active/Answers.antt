@@ -3,7 +3,7 @@ use Rattle.std.proofs.lemmas.List.{drop_all, take_all}
 use Rattle.flow_measure.specs.History.{flows_in}
 use Rattle.flow_measure.specs.Sums.{AllFit}
 use Rattle.flow_segment.specs.PartFlows.{with_flows}
-use Rattle.flow_snapshot.specs.Told.{IsNoDamage}
+use Rattle.flow_snapshot.specs.Answered.{IsNoDamage}
 use Rattle.flow_snapshot.proofs.Finding.{all_accepted, message_behind, none_behind, AreBehind}
 use Rattle.flow_snapshot.proofs.KeptFlows.{message_told, next_item, taken_all, Taken}
 use Rattle.flow_snapshot.proofs.Adding.{added_all, adding_step, made_blameless, nothing_added, spent_all, HasAddedFlows}

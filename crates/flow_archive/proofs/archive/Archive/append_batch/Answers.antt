@@ -41,10 +41,10 @@ module _ (g : Over) (c : After-add_batch g) where
   more = slices c.args.messages.now
 
   file_is : (active_of c.self.inside.slots.current).file ≡ c.self.inside.active.file
-  file_is = ap (λ (x : Entry). x.file) (sym ((c.self.invariant.0).counted).last_is)
+  file_is = ap (λ (x : Entry). x.file) (sym ((c.self.invariant.0).counted).active_entry_is)
 
   start : c.self.inside.active.prefix ≡ (active_of c.self.inside.slots.current).prefix
-  start = ap (λ (x : Entry). x.prefix) ((c.self.invariant.0).counted).last_is
+  start = ap (λ (x : Entry). x.prefix) ((c.self.invariant.0).counted).active_entry_is
 
   counted : IsCounted (appended was more) c.self.inside.active (c.self.inside.end + octet_sum more)
       (c.self.inside.total + length more)
@@ -83,7 +83,7 @@ returns-in_default-clause-step g c =
 pub returns-in_err-batch-clause-answers : goal.returns-in_err-batch-clause-answers
 returns-in_err-batch-clause-answers g c =
     let a = c.self.inside in
-    let start = ap (λ (x : Entry). x.prefix) ((c.self.invariant.0).counted).last_is in
+    let start = ap (λ (x : Entry). x.prefix) ((c.self.invariant.0).counted).active_entry_is in
     rw (← c.self.view_is, c.reserve.ensures.items) (err_is c.from_residual.result _
     (λ r. AnswersAppend a.closed (state_of a) (slices c.args.messages.now) r (state_of a)) c.from_residual.ensures.1
     (not_admitted _ _ _ a.carry _ _ _ c.if-self.false ((c.self.invariant.0).still_open c.if-self.false).segment
@@ -110,7 +110,7 @@ add_batch-requires-clause-messages g c =
 pub add_batch-requires-clause-gated : goal.add_batch-requires-clause-gated
 add_batch-requires-clause-gated g c h image is =
     let kept = ((c.self.invariant.0).still_open c.if-self.false).kept in
-    rw (g.met.D.Disk.settled_alone _ _ image h kept.ready.settled is, kept.counted.last_is, kept.counted.end_is)
+    rw (g.met.D.Disk.settled_alone _ _ image h kept.ready.settled is, kept.counted.active_entry_is, kept.counted.end_is)
     (kept.known h _ (λ n. g.met.D.Disk.reads_image c.self.inside.disk n h)).files.active.gated.closed
 
 pub returns-in-Err-clause-answers : goal.returns-in-Err-clause-answers

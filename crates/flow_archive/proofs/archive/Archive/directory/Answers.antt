@@ -3,7 +3,7 @@ use Rattle.flow_manifest.specs.Following.{front_of}
 use Rattle.flow_measure.specs.View.{view_of}
 use Rattle.flow_model.specs.Changes.{counts_of}
 use Rattle.flow_model.specs.Shelf.{Shelf}
-use Rattle.flow_snapshot.specs.Sight.{Sight}
+use Rattle.flow_snapshot.specs.ShelfSeen.{ShelfSeen}
 use Rattle.flow_model.specs.Views.{IsViewOf}
 use Rattle.flow_model.specs.State.{State}
 use Rattle.flow_archive.specs.Frozen.{shelf_with, AreHeldAs}
@@ -78,7 +78,7 @@ returns-clause-active g c =
     let inside = c.self.inside in
     let m = inside.slots.current in
     let shelf : c.new.result.shelf ≡ shelf_with m.width m.wide inside.files.items inside.prefix inside.messages.items =
-    ap (λ (x : Sight). x.shelf) c.new.ensures ∙ c.in_ok-files.ensures.shelf m.width m.wide in
+    ap (λ (x : ShelfSeen). x.shelf) c.new.ensures ∙ c.in_ok-files.ensures.shelf m.width m.wide in
     rw (← c.self.view_is) (record {
       width = ap (λ (x : Shelf). x.width) shelf;
       wide = ap (λ (x : Shelf). x.wide) shelf;
@@ -92,7 +92,7 @@ returns-clause-every g c =
     let inside = c.self.inside in
     let m = inside.slots.current in
     let shelf : c.new.result.shelf ≡ shelf_with m.width m.wide inside.files.items inside.prefix inside.messages.items =
-    ap (λ (x : Sight). x.shelf) c.new.ensures ∙ c.in_ok-files.ensures.shelf m.width m.wide in
+    ap (λ (x : ShelfSeen). x.shelf) c.new.ensures ∙ c.in_ok-files.ensures.shelf m.width m.wide in
     rw (← c.self.view_is) (shelf
     ∙ shelf_is (D.honest inside.disk) (state_of inside) inside.files.items (c.self.invariant.0).files_are refl)
 
@@ -104,7 +104,7 @@ returns-clause-shown g c h =
     let held = (c.self.invariant.0).files_are in
     let honest : IsTrue (D.honest inside.disk) = subst (λ (x : Seen g.row.D.Denot). IsTrue (D.honest x.disk)) (sym c.self.view_is) h in (
       returns-clause-every g c,
-      ap (λ (x : Sight). x.honest) c.new.ensures
+      ap (λ (x : ShelfSeen). x.honest) c.new.ensures
           ∙ c.in_ok-files.ensures.honest (honest_all (front_of m) inside.files.items
           (subst (λ (b : Bool). AreHeldAs b (front_of m) inside.files.items) honest held)) m.width m.wide,
     )

@@ -164,7 +164,7 @@ invariant_of-self g c =
     let counted = archive.counted in
     let still = archive.still_open c.if-self.false in
     let are = are_entries m counted.valid in
-    let file = ap (λ (e : Entry). e.file) counted.last_is in
+    let file = ap (λ (e : Entry). e.file) counted.active_entry_is in
     let far : m.next ≤ inside.next = counted.next in
     let above : 3 ≤ inside.next = omega (arith, far, are.active.file_from, are.active.file_below) in
     rw (held_is g at) (

@@ -78,7 +78,7 @@ module _ (g : Over) (c : After-seal_segment g) where
       let still = (c.self.invariant.0).still_open c.if-self.false in
       let carry = c.self.inside.carry in
       record {
-        active_is = ap (λ (x : Entry). x.file) (sym counted.last_is);
+        active_is = ap (λ (x : Entry). x.file) (sym counted.active_entry_is);
         next_is = refl;
         next_from = counted.next;
         end_is = sym counted.end_is;
@@ -109,7 +109,7 @@ module _ (g : Over) (c : After-new g) where
 
   new_files : c.push_reserved.new.self.items ≡ c.self.inside.files.items ++ part ∷ []
   new_files = let counted = (c.self.invariant.0).counted in
-      rw (c.push_reserved.ensures.items, c.reserve.ensures.items, c.named.ensures, counted.last_is)
+      rw (c.push_reserved.ensures.items, c.reserve.ensures.items, c.named.ensures, counted.active_entry_is)
       (rw (counted.end_is, c.len-count.ensures, many c.self.inside))
 
 pub returns-in_err-next-clause-answers : goal.returns-in_err-next-clause-answers
@@ -154,7 +154,7 @@ pub next_segment-requires-clause-long : goal.next_segment-requires-clause-long
 next_segment-requires-clause-long g c some =
     let counted = (c.self.invariant.0).counted in
     let count = c.len-count.ensures ∙ many c.self.inside in
-    let start = ap (λ (x : Entry). x.prefix) counted.last_is in
+    let start = ap (λ (x : Entry). x.prefix) counted.active_entry_is in
     omega (arith, counted.long (omega (arith, some, count)), start)
 
 pub next_segment-requires-clause-within : goal.next_segment-requires-clause-within
@@ -170,7 +170,7 @@ pub seal_segment-requires-clause-active : goal.seal_segment-requires-clause-acti
 seal_segment-requires-clause-active g c =
     let counted = (c.self.invariant.0).counted in
     let are = are_entries c.self.inside.slots.current counted.valid in
-    let file = ap (λ (x : Entry). x.file) counted.last_is in
+    let file = ap (λ (x : Entry). x.file) counted.active_entry_is in
     (omega (arith, file, are.active.file_from), omega (arith, file, are.active.file_below, counted.next))
 
 pub seal_segment-requires-clause-slots : goal.seal_segment-requires-clause-slots
@@ -213,7 +213,7 @@ invariant_of-self-in-Ok-seal_segment g c =
     let moves : SealsMarks (D.marks a.disk) (D.marks d1) a.active.file a.next slot (length (prefix_of a.carry)) =
     rw (← kept_prefix g moved) c.in-Ok-seal_segment.ensures.marks in
     let apart : (n : ℕ) → IsUnnamed s n → (n ≢ a.active.file) × (n ≢ a.next) × (n ≢ slot) = λ n is. (
-      (λ same. other_file s n counted.valid is (same ∙ ap (λ (x : Entry). x.file) counted.last_is)),
+      (λ same. other_file s n counted.valid is (same ∙ ap (λ (x : Entry). x.file) counted.active_entry_is)),
       (λ same. omega (arith, same, is.below)),
       (λ same. omega (arith, same, is.from, slot_below (other a.slots.current_slot))),
     ) in
@@ -249,7 +249,7 @@ returns-in-Ok-seal_segment-clause-answers g c =
           a.carry a.files.items a.prefix a.messages.items (part g end) (archive.counted).valid archive.files_are
           (archive.still_open c.if-self.false)
           (λ h. c.in-Ok-seal_segment.ensures.part h (state_of a) (move g moved h))),
-      ap (λ (x : Entry). x.file) (archive.counted).last_is,
+      ap (λ (x : Entry). x.file) (archive.counted).active_entry_is,
     )
 
 pub returns-in-Ok-seal_segment-clause-step : goal.returns-in-Ok-seal_segment-clause-step

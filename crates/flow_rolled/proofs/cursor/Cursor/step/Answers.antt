@@ -1,15 +1,15 @@
 use Rattle.std.proofs.Common.{◌+◌, ◌-◌, ℕ, List, ◌++◌, length, drop, refl, sym, ap, ◌∙◌}
 use Rattle.flow_disk.specs.Window.{Window}
-use Rattle.flow_rolled.specs.Reading.{part_of}
-use Rattle.flow_rolled.specs.Octets.{part_octets}
+use Rattle.flow_rolled.specs.Reading.{data_of}
+use Rattle.flow_rolled.specs.Octets.{message_octets}
 use Rattle.flow_rolled.proofs.Pieces.{passed}
 use Rattle.flow_rolled.proofs.cursor.Cursor.step.Goals as goal
 
 pub returns-clause-steps : goal.returns-clause-steps
 returns-clause-steps c =
     let old = c.args.self.now in
-    let p = part_of c.in-Some-2.message in
-    let front = part_octets old.width p in
+    let p = data_of c.in-Some-2.message in
+    let front = message_octets old.width p in
     let rest = c.in-Some-2.rest.now in
     let ahead = c.ahead-ahead.result.now in
     let count = length ahead - length rest in

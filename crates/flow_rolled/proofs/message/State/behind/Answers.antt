@@ -2,8 +2,8 @@ use Rattle.std.proofs.Common.{◌≡◌, ◌-◌, List, [], ◌∷◌, length, O
 use Rattle.std.proofs.Common.{ap, ◌∙◌, arith}
 use Rattle.std.specs.Prelude.{slice_get}
 use Rattle.flow_rolled.specs.declared.row.RolledRow.{RolledRow}
-use Rattle.flow_rolled.specs.Parts.{last_from}
-use Rattle.flow_rolled.specs.Reading.{part_of}
+use Rattle.flow_rolled.specs.Messages.{last_from}
+use Rattle.flow_rolled.specs.Reading.{data_of}
 use Rattle.flow_rolled.proofs.message.State.behind.Goals as goal
 
 last_at : (r : RolledRow) (rs : List RolledRow) (o : Option RolledRow)
@@ -26,7 +26,7 @@ returns c = λ w part.
       domain = refl;
       small_time = part.time;
       small_domain = part.domain;
-      due_is = c.due_behind.ensures (part_of c.args.message.now) refl len;
+      due_is = c.due_behind.ensures (data_of c.args.message.now) refl len;
       count = sym len;
       last = c.copied.ensures ∙ c.last.ensures.value
           ∙ ap (λ (l : List RolledRow). slice_get l (length l - 1)) c.deref.ensures.value ∙ last_is rows;

@@ -1,6 +1,6 @@
 use Rattle.flow_gate.specs.Steps.{slices}
 use Rattle.flow_shared.specs.Calls.{by}
-use Rattle.flow_shared.specs.Held.{all_of}
+use Rattle.flow_shared.specs.UnderLock.{all_of}
 use Rattle.flow_shared.specs.Calls.{added_by}
 use Rattle.flow_shared.proofs.Behind.{fits_after, seal_has_room, seal_refused, sealed_then}
 use Rattle.flow_shared.proofs.locked.Locked.once_sealed.Goals as goal

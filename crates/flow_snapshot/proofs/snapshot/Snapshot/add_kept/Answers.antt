@@ -9,7 +9,7 @@ use Rattle.flow_segment.specs.Prefix.{IsRestated}
 use Rattle.flow_snapshot.specs.Directories.{sight_of}
 use Rattle.flow_snapshot.specs.Files.{is_honest, is_honest_sum, shared}
 use Rattle.flow_model.specs.Views.{first_prefix, AreKept}
-use Rattle.flow_snapshot.specs.Sight.{Sight}
+use Rattle.flow_snapshot.specs.ShelfSeen.{ShelfSeen}
 use Rattle.flow_model.specs.Views.{IsViewOf}
 use Rattle.flow_snapshot.proofs.Adding.{made_blameless, made_err}
 use Rattle.flow_snapshot.proofs.Asking.{honest_sealed}
@@ -29,11 +29,11 @@ returns-in_err-add_sealed-clause-given g c = λ honest v is.
     let inside = c.self.inside in
     let files = inside.files in
     let s = (sight_of inside.width inside.wide files).shelf in
-    let here = subst (λ (x : Sight). IsViewOf x.shelf v) (sym c.self.view_is) is in
+    let here = subst (λ (x : ShelfSeen). IsViewOf x.shelf v) (sym c.self.view_is) is in
     let sums = list_all is_honest_sum (shared files.merged.items) && list_all is_honest_sum
     (shared files.rolled.items) in
     let all = honest_sealed sums (list_all (is_honest {files = g.S.SealedFile}) (shared files.sealed.items))
-    (subst (λ (x : Sight). IsTrue x.honest) (sym c.self.view_is) honest) in
+    (subst (λ (x : ShelfSeen). IsTrue x.honest) (sym c.self.view_is) honest) in
     let start = c.in_ok-templates.ensures.given honest v.templates is.prefixes in
     let given = rw c.as_slice-sealed.ensures.value at c.in_err-add_sealed.ensures.given in
     let h = halves s v here in
@@ -48,19 +48,19 @@ returns-clause-found g c = λ honest.
     let inside = c.self.inside in
     let files = inside.files in
     let s = (sight_of inside.width inside.wide files).shelf in
-    let seen = subst (λ (x : Sight). IsTrue x.honest) (sym c.self.view_is) honest in
+    let seen = subst (λ (x : ShelfSeen). IsTrue x.honest) (sym c.self.view_is) honest in
     let merged = list_all is_honest_sum (shared files.merged.items) in
     let rolled = list_all is_honest_sum (shared files.rolled.items) in
     let sealed = list_all (is_honest {files = g.S.SealedFile}) (shared files.sealed.items) in
     let all = second_of_two (merged && rolled) sealed seen in
-    let restated = subst (λ (x : Sight).
+    let restated = subst (λ (x : ShelfSeen).
     IsRestated (first_prefix x.shelf.sealed x.shelf.prefix) c.in_ok-templates.templates)
     (sym c.self.view_is) (c.in_ok-templates.ensures.found honest) in
     let found = (rw c.as_slice-sealed.ensures.value at c.in_ok-add_sealed.ensures.found) all in
     let given = rw c.as_slice-sealed.ensures.value at c.in_ok-add_sealed.ensures.given in
     let active = rw c.as_slice-active.ensures.value at c.add_active.ensures.found in
     let added = rw c.as_slice-active.ensures.value at c.add_active.ensures.given in
-    subst (λ (x : Sight). OnOk c.add_active.result ((t : AllTemplates) × (kept : List Accepted)
+    subst (λ (x : ShelfSeen). OnOk c.add_active.result ((t : AllTemplates) × (kept : List Accepted)
     × AreKept x.shelf t kept × (c.add_active.new.rows ≡ with_flows (flows_in kept) c.args.rows.now))) c.self.view_is
     (kept_summed s c.in_ok-templates.templates c.add_sealed.new.templates restated found c.add_active.new.templates
     c.args.rows.now c.add_sealed.new.rows c.add_active.new.rows c.args.first
@@ -72,11 +72,11 @@ returns-clause-given g c = λ honest v is.
     let inside = c.self.inside in
     let files = inside.files in
     let s = (sight_of inside.width inside.wide files).shelf in
-    let here = subst (λ (x : Sight). IsViewOf x.shelf v) (sym c.self.view_is) is in
+    let here = subst (λ (x : ShelfSeen). IsViewOf x.shelf v) (sym c.self.view_is) is in
     let sums = list_all is_honest_sum (shared files.merged.items) && list_all is_honest_sum
     (shared files.rolled.items) in
     let all = honest_sealed sums (list_all (is_honest {files = g.S.SealedFile}) (shared files.sealed.items))
-    (subst (λ (x : Sight). IsTrue x.honest) (sym c.self.view_is) honest) in
+    (subst (λ (x : ShelfSeen). IsTrue x.honest) (sym c.self.view_is) honest) in
     let start = c.in_ok-templates.ensures.given honest v.templates is.prefixes in
     let given = rw c.as_slice-sealed.ensures.value at c.in_ok-add_sealed.ensures.given in
     let h = halves s v here in

@@ -8,7 +8,7 @@ use Rattle.flow_segment.specs.Prefix.{IsRestated}
 use Rattle.flow_snapshot.specs.Directories.{sight_of}
 use Rattle.flow_snapshot.specs.Files.{is_honest, is_honest_sum, shared}
 use Rattle.flow_model.specs.Views.{first_prefix, AreKept}
-use Rattle.flow_snapshot.specs.Sight.{Sight}
+use Rattle.flow_snapshot.specs.ShelfSeen.{ShelfSeen}
 use Rattle.flow_model.specs.Views.{IsViewOf}
 use Rattle.flow_snapshot.proofs.Asking.{active_blameless, flows_are, honest_sealed, sealed_blameless}
 use Rattle.flow_snapshot.proofs.KeptFlows.{answered_err, more_flows}
@@ -23,8 +23,8 @@ returns-in_err-collect_sealed-clause-given g c = λ honest v is.
     let sums = list_all is_honest_sum (shared files.merged.items) && list_all is_honest_sum
     (shared files.rolled.items) in
     let all = honest_sealed sums (list_all (is_honest {files = g.S.SealedFile}) (shared files.sealed.items))
-    (subst (λ (x : Sight). IsTrue x.honest) (sym c.self.view_is) honest) in
-    let here = subst (λ (x : Sight). IsViewOf x.shelf v) (sym c.self.view_is) is in
+    (subst (λ (x : ShelfSeen). IsTrue x.honest) (sym c.self.view_is) honest) in
+    let here = subst (λ (x : ShelfSeen). IsViewOf x.shelf v) (sym c.self.view_is) is in
     let start = c.in_ok-templates.ensures.given honest v.templates is.prefixes in
     let given = rw c.as_slice-sealed.ensures.value at c.in_err-collect_sealed.ensures.given in
     answered_err _ c.from_residual-in_err-collect_sealed.result _ c.from_residual-in_err-collect_sealed.ensures.1
@@ -40,8 +40,8 @@ returns-in_err-collect_active-clause-given g c = λ honest v is.
     let sums = list_all is_honest_sum (shared files.merged.items) && list_all is_honest_sum
     (shared files.rolled.items) in
     let all = honest_sealed sums (list_all (is_honest {files = g.S.SealedFile}) (shared files.sealed.items))
-    (subst (λ (x : Sight). IsTrue x.honest) (sym c.self.view_is) honest) in
-    let here = subst (λ (x : Sight). IsViewOf x.shelf v) (sym c.self.view_is) is in
+    (subst (λ (x : ShelfSeen). IsTrue x.honest) (sym c.self.view_is) honest) in
+    let here = subst (λ (x : ShelfSeen). IsViewOf x.shelf v) (sym c.self.view_is) is in
     let start = c.in_ok-templates.ensures.given honest v.templates is.prefixes in
     let sealed = rw (c.as_slice-sealed.ensures.value, c.new-flows.ensures.items)
     at c.in_ok-collect_sealed.ensures.given in
@@ -56,12 +56,12 @@ returns-clause-found g c = λ honest.
     let inside = c.self.inside in
     let files = inside.files in
     let s = (sight_of inside.width inside.wide files).shelf in
-    let seen = subst (λ (x : Sight). IsTrue x.honest) (sym c.self.view_is) honest in
+    let seen = subst (λ (x : ShelfSeen). IsTrue x.honest) (sym c.self.view_is) honest in
     let merged = list_all is_honest_sum (shared files.merged.items) in
     let rolled = list_all is_honest_sum (shared files.rolled.items) in
     let sealed = list_all (is_honest {files = g.S.SealedFile}) (shared files.sealed.items) in
     let all = second_of_two (merged && rolled) sealed seen in
-    let restated = subst (λ (x : Sight).
+    let restated = subst (λ (x : ShelfSeen).
     IsRestated (first_prefix x.shelf.sealed x.shelf.prefix) c.in_ok-templates.templates)
     (sym c.self.view_is) (c.in_ok-templates.ensures.found honest) in
     let before = c.in_ok-templates.templates in
@@ -73,7 +73,7 @@ returns-clause-found g c = λ honest.
     let active = rw c.as_slice-active.ensures.value at c.in_ok-collect_active.ensures.found in
     let more = (rw c.as_slice-active.ensures.value at c.in_ok-collect_active.ensures.given) active.0 active.1
     active.2 in
-    subst (λ (x : Sight). (t : AllTemplates) × (kept : List Accepted) × AreKept x.shelf t kept
+    subst (λ (x : ShelfSeen). (t : AllTemplates) × (kept : List Accepted) × AreKept x.shelf t kept
     × (c.collect_active.new.flows.items ≡ flows_within c.args.from c.args.to (flows_in kept))) c.self.view_is (
       before,
       found.0 ++ active.0,
@@ -89,8 +89,8 @@ returns-clause-given g c = λ honest v is.
     let sums = list_all is_honest_sum (shared files.merged.items) && list_all is_honest_sum
     (shared files.rolled.items) in
     let all = honest_sealed sums (list_all (is_honest {files = g.S.SealedFile}) (shared files.sealed.items))
-    (subst (λ (x : Sight). IsTrue x.honest) (sym c.self.view_is) honest) in
-    let here = subst (λ (x : Sight). IsViewOf x.shelf v) (sym c.self.view_is) is in
+    (subst (λ (x : ShelfSeen). IsTrue x.honest) (sym c.self.view_is) honest) in
+    let here = subst (λ (x : ShelfSeen). IsViewOf x.shelf v) (sym c.self.view_is) is in
     let start = c.in_ok-templates.ensures.given honest v.templates is.prefixes in
     let sealed = rw (c.as_slice-sealed.ensures.value, c.new-flows.ensures.items)
     at c.in_ok-collect_sealed.ensures.given in

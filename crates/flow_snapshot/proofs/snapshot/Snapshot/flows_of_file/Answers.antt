@@ -6,7 +6,7 @@ use Rattle.std.specs.Arc.{arc_value}
 use Rattle.flow_snapshot.specs.Directories.{sight_of}
 use Rattle.flow_snapshot.specs.Files.{is_honest, is_honest_sum, segment_of, shared}
 use Rattle.flow_snapshot.specs.Found.{kept_by_file, HaveFlows}
-use Rattle.flow_snapshot.specs.Sight.{Sight}
+use Rattle.flow_snapshot.specs.ShelfSeen.{ShelfSeen}
 use Rattle.flow_snapshot.proofs.Asking.{honest_sealed}
 use Rattle.flow_snapshot.proofs.ByFile.{at_the_end, honest_there, own_octets}
 use Rattle.flow_snapshot.proofs.KeptFlows.{answered_err}
@@ -18,8 +18,8 @@ returns-in_err-flows_of_segment-in-Some-clause-given g c = λ honest octets ther
     let sums = list_all is_honest_sum (shared files.merged.items) && list_all is_honest_sum
     (shared files.rolled.items) in
     let all = honest_sealed sums (list_all (is_honest {files = g.S.SealedFile}) (shared files.sealed.items))
-    (subst (λ (x : Sight). IsTrue x.honest) (sym c.self.view_is) honest) in
-    let here = subst (λ (x : Sight). slice_get (kept_by_file x.shelf) c.args.at ≡ Some octets) (sym c.self.view_is)
+    (subst (λ (x : ShelfSeen). IsTrue x.honest) (sym c.self.view_is) honest) in
+    let here = subst (λ (x : ShelfSeen). slice_get (kept_by_file x.shelf) c.args.at ≡ Some octets) (sym c.self.view_is)
     there in
     let look = rw c.deref.ensures.value at c.in-Some.ensures.lookup in
     let part = c.deref-in-Some.result.now in
@@ -37,8 +37,8 @@ returns-in_ok-flows_of_segment-in-Some-clause-found g c = λ honest octets there
     let sums = list_all is_honest_sum (shared files.merged.items) && list_all is_honest_sum
     (shared files.rolled.items) in
     let all = honest_sealed sums (list_all (is_honest {files = g.S.SealedFile}) (shared files.sealed.items))
-    (subst (λ (x : Sight). IsTrue x.honest) (sym c.self.view_is) honest) in
-    let here = subst (λ (x : Sight). slice_get (kept_by_file x.shelf) c.args.at ≡ Some octets) (sym c.self.view_is)
+    (subst (λ (x : ShelfSeen). IsTrue x.honest) (sym c.self.view_is) honest) in
+    let here = subst (λ (x : ShelfSeen). slice_get (kept_by_file x.shelf) c.args.at ≡ Some octets) (sym c.self.view_is)
     there in
     let look = rw c.deref.ensures.value at c.in-Some.ensures.lookup in
     let part = c.deref-in-Some.result.now in
@@ -56,8 +56,8 @@ returns-in_ok-flows_of_segment-in-Some-clause-given g c = λ honest octets there
     let sums = list_all is_honest_sum (shared files.merged.items) && list_all is_honest_sum
     (shared files.rolled.items) in
     let all = honest_sealed sums (list_all (is_honest {files = g.S.SealedFile}) (shared files.sealed.items))
-    (subst (λ (x : Sight). IsTrue x.honest) (sym c.self.view_is) honest) in
-    let here = subst (λ (x : Sight). slice_get (kept_by_file x.shelf) c.args.at ≡ Some octets) (sym c.self.view_is)
+    (subst (λ (x : ShelfSeen). IsTrue x.honest) (sym c.self.view_is) honest) in
+    let here = subst (λ (x : ShelfSeen). slice_get (kept_by_file x.shelf) c.args.at ≡ Some octets) (sym c.self.view_is)
     there in
     let look = rw c.deref.ensures.value at c.in-Some.ensures.lookup in
     let part = c.deref-in-Some.result.now in
@@ -71,9 +71,9 @@ pub returns-in-None-clause-found : goal.returns-in-None-clause-found
 returns-in-None-clause-found g c = λ honest octets there.
     let inside = c.self.inside in
     let s = (sight_of inside.width inside.wide inside.files).shelf in
-    let here = subst (λ (x : Sight). slice_get (kept_by_file x.shelf) c.args.at ≡ Some octets) (sym c.self.view_is)
+    let here = subst (λ (x : ShelfSeen). slice_get (kept_by_file x.shelf) c.args.at ≡ Some octets) (sym c.self.view_is)
     there in
-    let most = subst (λ (x : Sight). c.args.at ≤ length x.shelf.sealed) (sym c.self.view_is) c.requires in
+    let most = subst (λ (x : ShelfSeen). c.args.at ≤ length x.shelf.sealed) (sym c.self.view_is) c.requires in
     let look = rw c.deref.ensures.value at c.in-None.ensures.lookup in
     let count = length-map (shared inside.files.sealed.items) (segment_of {files = g.S.SealedFile})
     ∙ length-map inside.files.sealed.items arc_value in
@@ -86,9 +86,9 @@ pub returns-in-None-clause-given : goal.returns-in-None-clause-given
 returns-in-None-clause-given g c = λ honest octets there messages accepted is.
     let inside = c.self.inside in
     let s = (sight_of inside.width inside.wide inside.files).shelf in
-    let here = subst (λ (x : Sight). slice_get (kept_by_file x.shelf) c.args.at ≡ Some octets) (sym c.self.view_is)
+    let here = subst (λ (x : ShelfSeen). slice_get (kept_by_file x.shelf) c.args.at ≡ Some octets) (sym c.self.view_is)
     there in
-    let most = subst (λ (x : Sight). c.args.at ≤ length x.shelf.sealed) (sym c.self.view_is) c.requires in
+    let most = subst (λ (x : ShelfSeen). c.args.at ≤ length x.shelf.sealed) (sym c.self.view_is) c.requires in
     let look = rw c.deref.ensures.value at c.in-None.ensures.lookup in
     let count = length-map (shared inside.files.sealed.items) (segment_of {files = g.S.SealedFile})
     ∙ length-map inside.files.sealed.items arc_value in

@@ -4,7 +4,7 @@ use Rattle.std.proofs.lemmas.Iterator.Adapters.{YieldsList-from_vec}
 use Rattle.std.proofs.lemmas.Iterator.Consumers.{YieldsList-end, YieldsList-turn}
 use Rattle.flow_measure.specs.Sums.{empty_table}
 use Rattle.flow_snapshot.specs.Shares.{AllPartsFit, IsOwnRead}
-use Rattle.flow_snapshot.specs.Sight.{Sight}
+use Rattle.flow_snapshot.specs.ShelfSeen.{ShelfSeen}
 use Rattle.flow_snapshot.proofs.Adding.{made_err}
 use Rattle.flow_snapshot.proofs.Dealt.{all_read, joined_read, one_more_read}
 use Rattle.flow_snapshot.proofs.Joining.{all_joined, join_any, none_joined, share_at, Joined}
@@ -17,8 +17,8 @@ loop-share-init g c = record {
   joined = λ honest wide narrow are_wide are_narrow.
       none_joined c.args.self.now.shelf (length c.args.shares.items) wide narrow
       (record { narrow = c.new.result; wide = c.new-2.result })
-      (c.new-2.ensures ∙ ap (λ (x : Sight). empty_table x.shelf.wide) c.self.view_is)
-      (c.new.ensures ∙ ap (λ (x : Sight). empty_table x.shelf.width) c.self.view_is);
+      (c.new-2.ensures ∙ ap (λ (x : ShelfSeen). empty_table x.shelf.wide) c.self.view_is)
+      (c.new.ensures ∙ ap (λ (x : ShelfSeen). empty_table x.shelf.width) c.self.view_is);
 }
 
 pub loop-share-preserved : goal.loop-share-preserved

@@ -7,8 +7,8 @@ use Rattle.flow_snapshot.specs.Directories.{sight_of}
 use Rattle.flow_snapshot.specs.Files.{is_honest, is_honest_sum, shared}
 use Rattle.flow_model.specs.Shelf.{cut_of, messages_in}
 use Rattle.flow_snapshot.specs.Found.{IsMessageAt}
-use Rattle.flow_snapshot.specs.Sight.{Sight}
-use Rattle.flow_snapshot.specs.Told.{octets_in}
+use Rattle.flow_snapshot.specs.ShelfSeen.{ShelfSeen}
+use Rattle.flow_snapshot.specs.Answered.{octets_in}
 use Rattle.flow_model.specs.Views.{IsViewOf}
 use Rattle.flow_snapshot.proofs.Asking.{honest_sealed}
 use Rattle.flow_snapshot.proofs.KeptFlows.{answered_err}
@@ -21,11 +21,11 @@ returns-in_err-sealed_message-clause-given g c = λ honest v is.
     let inside = c.self.inside in
     let files = inside.files in
     let s = (sight_of inside.width inside.wide files).shelf in
-    let here = subst (λ (x : Sight). IsViewOf x.shelf v) (sym c.self.view_is) is in
+    let here = subst (λ (x : ShelfSeen). IsViewOf x.shelf v) (sym c.self.view_is) is in
     let sums = list_all is_honest_sum (shared files.merged.items) && list_all is_honest_sum
     (shared files.rolled.items) in
     let all = honest_sealed sums (list_all (is_honest {files = g.S.SealedFile}) (shared files.sealed.items))
-    (subst (λ (x : Sight). IsTrue x.honest) (sym c.self.view_is) honest) in
+    (subst (λ (x : ShelfSeen). IsTrue x.honest) (sym c.self.view_is) honest) in
     let given = rw c.as_slice-sealed.ensures.value at c.in_err-sealed_message.ensures.given in
     answered_err _ c.from_residual.result _ c.from_residual.ensures.1 (given all (sealed_cut s v here c.args.n))
 
@@ -34,12 +34,12 @@ returns-then-place-count-clause-given g c = λ honest v is.
     let inside = c.self.inside in
     let files = inside.files in
     let s = (sight_of inside.width inside.wide files).shelf in
-    let here = subst (λ (x : Sight). IsViewOf x.shelf v) (sym c.self.view_is) is in
+    let here = subst (λ (x : ShelfSeen). IsViewOf x.shelf v) (sym c.self.view_is) is in
     let sums = list_all is_honest_sum (shared files.merged.items) && list_all is_honest_sum
     (shared files.rolled.items) in
     let all = honest_sealed sums (list_all (is_honest {files = g.S.SealedFile}) (shared files.sealed.items))
-    (subst (λ (x : Sight). IsTrue x.honest) (sym c.self.view_is) honest) in
-    let cut : cut_of s ≡ c.cut-cut.result = ap (λ (x : Sight). cut_of x.shelf) c.self.view_is
+    (subst (λ (x : ShelfSeen). IsTrue x.honest) (sym c.self.view_is) honest) in
+    let cut : cut_of s ≡ c.cut-cut.result = ap (λ (x : ShelfSeen). cut_of x.shelf) c.self.view_is
     ∙ omega (arith, c.cut-cut.ensures, c.if-n-cut.false, c.ranges.n.fits) in
     let place = c.args.n - c.cut-cut.result - 1 in
     let count = rw c.as_slice-sealed.ensures.value at c.sealed_count-count.ensures in
@@ -53,8 +53,8 @@ returns-in_ok-from_slice-in-Some-clause-given g c = λ honest v is.
     let inside = c.self.inside in
     let files = inside.files in
     let s = (sight_of inside.width inside.wide files).shelf in
-    let here = subst (λ (x : Sight). IsViewOf x.shelf v) (sym c.self.view_is) is in
-    let cut : cut_of s ≡ c.cut-cut.result = ap (λ (x : Sight). cut_of x.shelf) c.self.view_is
+    let here = subst (λ (x : ShelfSeen). IsViewOf x.shelf v) (sym c.self.view_is) is in
+    let cut : cut_of s ≡ c.cut-cut.result = ap (λ (x : ShelfSeen). cut_of x.shelf) c.self.view_is
     ∙ omega (arith, c.cut-cut.ensures, c.if-n-cut.false, c.ranges.n.fits) in
     let place = c.args.n - c.cut-cut.result - 1 in
     let count = rw c.as_slice-sealed.ensures.value at c.sealed_count-count.ensures in
@@ -72,8 +72,8 @@ returns-in-None-clause-given g c = λ honest v is.
     let inside = c.self.inside in
     let files = inside.files in
     let s = (sight_of inside.width inside.wide files).shelf in
-    let here = subst (λ (x : Sight). IsViewOf x.shelf v) (sym c.self.view_is) is in
-    let cut : cut_of s ≡ c.cut-cut.result = ap (λ (x : Sight). cut_of x.shelf) c.self.view_is
+    let here = subst (λ (x : ShelfSeen). IsViewOf x.shelf v) (sym c.self.view_is) is in
+    let cut : cut_of s ≡ c.cut-cut.result = ap (λ (x : ShelfSeen). cut_of x.shelf) c.self.view_is
     ∙ omega (arith, c.cut-cut.ensures, c.if-n-cut.false, c.ranges.n.fits) in
     let place = c.args.n - c.cut-cut.result - 1 in
     let count = rw c.as_slice-sealed.ensures.value at c.sealed_count-count.ensures in
@@ -96,14 +96,14 @@ returns-then-place-count-clause-found g c = λ honest.
     let sums = list_all is_honest_sum (shared files.merged.items) && list_all is_honest_sum
     (shared files.rolled.items) in
     let all = honest_sealed sums (list_all (is_honest {files = g.S.SealedFile}) (shared files.sealed.items))
-    (subst (λ (x : Sight). IsTrue x.honest) (sym c.self.view_is) honest) in
-    let cut : cut_of s ≡ c.cut-cut.result = ap (λ (x : Sight). cut_of x.shelf) c.self.view_is
+    (subst (λ (x : ShelfSeen). IsTrue x.honest) (sym c.self.view_is) honest) in
+    let cut : cut_of s ≡ c.cut-cut.result = ap (λ (x : ShelfSeen). cut_of x.shelf) c.self.view_is
     ∙ omega (arith, c.cut-cut.ensures, c.if-n-cut.false, c.ranges.n.fits) in
     let place = c.args.n - c.cut-cut.result - 1 in
     let count = rw c.as_slice-sealed.ensures.value at c.sealed_count-count.ensures in
     let within : place < length (messages_in s.sealed) = omega (arith, count, c.if-place-count.true) in
     let found = (rw c.as_slice-sealed.ensures.value at c.in_ok-sealed_message.ensures.found) all in
-    subst (λ (x : Sight). IsMessageAt x.shelf c.args.n (octets_in c.in_ok-sealed_message.field-0)) c.self.view_is
+    subst (λ (x : ShelfSeen). IsMessageAt x.shelf c.args.n (octets_in c.in_ok-sealed_message.field-0)) c.self.view_is
     (sealed_at s c.args.n place (octets_in c.in_ok-sealed_message.field-0)
     (omega (arith, cut, c.if-n-cut.false)) within found)
 
@@ -112,7 +112,7 @@ returns-in_ok-from_slice-in-Some-clause-found g c = λ honest.
     let inside = c.self.inside in
     let files = inside.files in
     let s = (sight_of inside.width inside.wide files).shelf in
-    let cut : cut_of s ≡ c.cut-cut.result = ap (λ (x : Sight). cut_of x.shelf) c.self.view_is
+    let cut : cut_of s ≡ c.cut-cut.result = ap (λ (x : ShelfSeen). cut_of x.shelf) c.self.view_is
     ∙ omega (arith, c.cut-cut.ensures, c.if-n-cut.false, c.ranges.n.fits) in
     let place = c.args.n - c.cut-cut.result - 1 in
     let count = rw c.as_slice-sealed.ensures.value at c.sealed_count-count.ensures in
@@ -123,7 +123,7 @@ returns-in_ok-from_slice-in-Some-clause-found g c = λ honest.
     omega (arith, cut, full, c.if-n-cut.false, c.if-place-count.false) in
     let found = rw (sym full, c.deref.ensures.value) at c.in-Some.ensures.lookup in
     let message = c.in_ok-from_slice-in-Some.field-0.items in
-    subst (λ (x : Sight). IsMessageAt x.shelf c.args.n (Some message)) c.self.view_is
+    subst (λ (x : ShelfSeen). IsMessageAt x.shelf c.args.n (Some message)) c.self.view_is
     (active_at s c.args.n i message at
     (slice_get-get_or s.active i c.in-Some.message.now (ltb-true i (length s.active) (sym found.0))
     ∙ sym (ap Some (c.in_ok-from_slice-in-Some.ensures.items ∙ c.as_slice.ensures ∙ found.1))))
@@ -133,7 +133,7 @@ returns-in-None-clause-found g c = λ honest.
     let inside = c.self.inside in
     let files = inside.files in
     let s = (sight_of inside.width inside.wide files).shelf in
-    let cut : cut_of s ≡ c.cut-cut.result = ap (λ (x : Sight). cut_of x.shelf) c.self.view_is
+    let cut : cut_of s ≡ c.cut-cut.result = ap (λ (x : ShelfSeen). cut_of x.shelf) c.self.view_is
     ∙ omega (arith, c.cut-cut.ensures, c.if-n-cut.false, c.ranges.n.fits) in
     let place = c.args.n - c.cut-cut.result - 1 in
     let count = rw c.as_slice-sealed.ensures.value at c.sealed_count-count.ensures in
@@ -143,5 +143,5 @@ returns-in-None-clause-found g c = λ honest.
     let at : c.args.n ≡ suc (cut_of s + length (messages_in s.sealed) + i) =
     omega (arith, cut, full, c.if-n-cut.false, c.if-place-count.false) in
     let found = rw (sym full, c.deref.ensures.value) at c.in-None.ensures.lookup in
-    subst (λ (x : Sight). IsMessageAt x.shelf c.args.n None) c.self.view_is
+    subst (λ (x : ShelfSeen). IsMessageAt x.shelf c.args.n None) c.self.view_is
     (none_at s c.args.n i at (ltb-false i (length s.active) (sym found.0)))

@@ -10,7 +10,7 @@ use Rattle.flow_segment.specs.PartFlows.{with_flows}
 use Rattle.flow_snapshot.specs.Directories.{sight_of}
 use Rattle.flow_snapshot.specs.Files.{is_honest, is_honest_sum, shared}
 use Rattle.flow_model.specs.Views.{AreKept, IsReadIn}
-use Rattle.flow_snapshot.specs.Sight.{Sight}
+use Rattle.flow_snapshot.specs.ShelfSeen.{ShelfSeen}
 use Rattle.flow_model.specs.Views.{AreRolled, AreRolledInto, IsViewOf}
 use Rattle.flow_snapshot.proofs.Adding.{made_err}
 use Rattle.flow_snapshot.proofs.Sharing.{first_of_two, second_of_two}
@@ -23,8 +23,8 @@ returns-in_err-add_rolled-clause-given g c = λ honest v is.
     let inside = c.self.inside in
     let files = inside.files in
     let s = (sight_of inside.width inside.wide files).shelf in
-    let here = subst (λ (x : Sight). IsViewOf x.shelf v) (sym c.self.view_is) is in
-    let seen = subst (λ (x : Sight). IsTrue x.honest) (sym c.self.view_is) honest in
+    let here = subst (λ (x : ShelfSeen). IsViewOf x.shelf v) (sym c.self.view_is) is in
+    let seen = subst (λ (x : ShelfSeen). IsTrue x.honest) (sym c.self.view_is) honest in
     let merged = list_all is_honest_sum (shared files.merged.items) in
     let rolled = list_all is_honest_sum (shared files.rolled.items) in
     let sealed = list_all (is_honest {files = g.S.SealedFile}) (shared files.sealed.items) in
@@ -43,8 +43,8 @@ returns-in_err-add_kept-clause-given g c = λ honest v is.
     let inside = c.self.inside in
     let files = inside.files in
     let s = (sight_of inside.width inside.wide files).shelf in
-    let here = subst (λ (x : Sight). IsViewOf x.shelf v) (sym c.self.view_is) is in
-    let seen = subst (λ (x : Sight). IsTrue x.honest) (sym c.self.view_is) honest in
+    let here = subst (λ (x : ShelfSeen). IsViewOf x.shelf v) (sym c.self.view_is) is in
+    let seen = subst (λ (x : ShelfSeen). IsTrue x.honest) (sym c.self.view_is) honest in
     let merged = list_all is_honest_sum (shared files.merged.items) in
     let rolled = list_all is_honest_sum (shared files.rolled.items) in
     let sealed = list_all (is_honest {files = g.S.SealedFile}) (shared files.sealed.items) in
@@ -65,7 +65,7 @@ returns-clause-found g c = λ honest wide into.
     let inside = c.self.inside in
     let files = inside.files in
     let s = (sight_of inside.width inside.wide files).shelf in
-    let seen = subst (λ (x : Sight). IsTrue x.honest) (sym c.self.view_is) honest in
+    let seen = subst (λ (x : ShelfSeen). IsTrue x.honest) (sym c.self.view_is) honest in
     let merged = list_all is_honest_sum (shared files.merged.items) in
     let rolled = list_all is_honest_sum (shared files.rolled.items) in
     let sealed = list_all (is_honest {files = g.S.SealedFile}) (shared files.sealed.items) in
@@ -76,11 +76,11 @@ returns-clause-found g c = λ honest wide into.
     let given = rw c.as_slice-rolled.ensures.value at c.in_ok-add_rolled.ensures.given in
     let are = subst (λ w. AreRolled w s.rolled found.0) (ap (λ (t : Table). t.width) none) found.1 in
     let rows = c.add_kept.new.rows in
-    let kept = subst (λ (x : Sight). (t : AllTemplates) × (kept : List Accepted) × AreKept x.shelf t kept
+    let kept = subst (λ (x : ShelfSeen). (t : AllTemplates) × (kept : List Accepted) × AreKept x.shelf t kept
     × (rows ≡ with_flows (flows_in kept) c.add_rolled.new.rows)) (sym c.self.view_is)
     (c.in_ok-add_kept.ensures.found honest) in
-    let here = subst (λ (x : Sight). AreRolledInto x.shelf.wide x.shelf.merged wide) (sym c.self.view_is) into in
-    subst (λ (x : Sight). (v : View) × IsReadIn x.shelf v × (v.merged ≡ wide) × (rows ≡ narrow_table_in v))
+    let here = subst (λ (x : ShelfSeen). AreRolledInto x.shelf.wide x.shelf.merged wide) (sym c.self.view_is) into in
+    subst (λ (x : ShelfSeen). (v : View) × IsReadIn x.shelf v × (v.merged ≡ wide) × (rows ≡ narrow_table_in v))
     c.self.view_is
     (narrow_read s wide start c.add_rolled.new.rows rows here none (found.0, are) (given sums found.0 found.1) kept)
 
@@ -89,8 +89,8 @@ returns-clause-given g c = λ honest v is.
     let inside = c.self.inside in
     let files = inside.files in
     let s = (sight_of inside.width inside.wide files).shelf in
-    let here = subst (λ (x : Sight). IsViewOf x.shelf v) (sym c.self.view_is) is in
-    let seen = subst (λ (x : Sight). IsTrue x.honest) (sym c.self.view_is) honest in
+    let here = subst (λ (x : ShelfSeen). IsViewOf x.shelf v) (sym c.self.view_is) is in
+    let seen = subst (λ (x : ShelfSeen). IsTrue x.honest) (sym c.self.view_is) honest in
     let merged = list_all is_honest_sum (shared files.merged.items) in
     let rolled = list_all is_honest_sum (shared files.rolled.items) in
     let sealed = list_all (is_honest {files = g.S.SealedFile}) (shared files.sealed.items) in

@@ -6,7 +6,7 @@ use Rattle.flow_snapshot.specs.Directories.{sight_of}
 use Rattle.flow_snapshot.specs.Files.{is_honest, is_honest_sum, rollup_of, segment_of, shared}
 use Rattle.flow_snapshot.specs.Shares.{added_if, own, summed, turn_after, AreNarrow, IsFileSum, IsNarrowRead, IsOwnSum}
 use Rattle.flow_snapshot.specs.Shares.{IsSegmentSum}
-use Rattle.flow_snapshot.specs.Sight.{Sight}
+use Rattle.flow_snapshot.specs.ShelfSeen.{ShelfSeen}
 use Rattle.flow_snapshot.specs.Totals.{with_maps}
 use Rattle.flow_snapshot.proofs.Adding.{made_err}
 use Rattle.flow_snapshot.proofs.Sharing.{first_of_two, second_of_two}
@@ -19,11 +19,11 @@ returns-in_err-turn-clause-given g c = λ honest narrow are.
     let inside = c.self.inside in
     let files = inside.files in
     let s = (sight_of inside.width inside.wide files).shelf in
-    let seen = subst (λ (x : Sight). IsTrue x.honest) (sym c.self.view_is) honest in
+    let seen = subst (λ (x : ShelfSeen). IsTrue x.honest) (sym c.self.view_is) honest in
     let merged = list_all is_honest_sum (shared files.merged.items) in
     let rolled = list_all is_honest_sum (shared files.rolled.items) in
     let sealed = list_all (is_honest {files = g.S.SealedFile}) (shared files.sealed.items) in
-    let here = subst (λ (x : Sight). AreNarrow x.shelf narrow) (sym c.self.view_is) are in
+    let here = subst (λ (x : ShelfSeen). AreNarrow x.shelf narrow) (sym c.self.view_is) are in
     let start = c.new-rows.result in
     let none = c.new-rows.ensures in
     let of_rolled = second_of_two merged rolled (first_of_two (merged && rolled) sealed seen) in
@@ -40,11 +40,11 @@ returns-in_err-turn-2-clause-given g c = λ honest narrow are.
     let inside = c.self.inside in
     let files = inside.files in
     let s = (sight_of inside.width inside.wide files).shelf in
-    let seen = subst (λ (x : Sight). IsTrue x.honest) (sym c.self.view_is) honest in
+    let seen = subst (λ (x : ShelfSeen). IsTrue x.honest) (sym c.self.view_is) honest in
     let merged = list_all is_honest_sum (shared files.merged.items) in
     let rolled = list_all is_honest_sum (shared files.rolled.items) in
     let sealed = list_all (is_honest {files = g.S.SealedFile}) (shared files.sealed.items) in
-    let here = subst (λ (x : Sight). AreNarrow x.shelf narrow) (sym c.self.view_is) are in
+    let here = subst (λ (x : ShelfSeen). AreNarrow x.shelf narrow) (sym c.self.view_is) are in
     let start = c.new-rows.result in
     let none = c.new-rows.ensures in
     let of_rolled = second_of_two merged rolled (first_of_two (merged && rolled) sealed seen) in
@@ -72,11 +72,11 @@ returns-in_err-add_own_active-clause-given g c = λ honest narrow are.
     let inside = c.self.inside in
     let files = inside.files in
     let s = (sight_of inside.width inside.wide files).shelf in
-    let seen = subst (λ (x : Sight). IsTrue x.honest) (sym c.self.view_is) honest in
+    let seen = subst (λ (x : ShelfSeen). IsTrue x.honest) (sym c.self.view_is) honest in
     let merged = list_all is_honest_sum (shared files.merged.items) in
     let rolled = list_all is_honest_sum (shared files.rolled.items) in
     let sealed = list_all (is_honest {files = g.S.SealedFile}) (shared files.sealed.items) in
-    let here = subst (λ (x : Sight). AreNarrow x.shelf narrow) (sym c.self.view_is) are in
+    let here = subst (λ (x : ShelfSeen). AreNarrow x.shelf narrow) (sym c.self.view_is) are in
     let start = c.new-rows.result in
     let none = c.new-rows.ensures in
     let of_rolled = second_of_two merged rolled (first_of_two (merged && rolled) sealed seen) in
@@ -112,7 +112,7 @@ returns-clause-found g c = λ honest.
     let inside = c.self.inside in
     let files = inside.files in
     let s = (sight_of inside.width inside.wide files).shelf in
-    let seen = subst (λ (x : Sight). IsTrue x.honest) (sym c.self.view_is) honest in
+    let seen = subst (λ (x : ShelfSeen). IsTrue x.honest) (sym c.self.view_is) honest in
     let merged = list_all is_honest_sum (shared files.merged.items) in
     let rolled = list_all is_honest_sum (shared files.rolled.items) in
     let sealed = list_all (is_honest {files = g.S.SealedFile}) (shared files.sealed.items) in
@@ -133,7 +133,7 @@ returns-clause-found g c = λ honest.
     let sealed_sums = (rw c.as_slice-sealed.ensures.value at c.in_ok-turn-2.ensures.found) of_sealed in
     let active_sums = rw (c.as_slice-prefix.ensures, c.as_slice-active.ensures.value)
     at c.in_ok-add_own_active.ensures.found in
-    subst (λ (x : Sight). IsNarrowRead x.shelf c.args.workers c.args.worker c.args.turn) c.self.view_is
+    subst (λ (x : ShelfSeen). IsNarrowRead x.shelf c.args.workers c.args.worker c.args.turn) c.self.view_is
     (own_narrow_read s c.args.workers c.args.worker c.args.turn t1 t2 _ _ _ first_is second_is w0 w1 w2 rolled_sums
     sealed_sums active_sums)
 
@@ -142,11 +142,11 @@ returns-clause-given g c = λ honest narrow are.
     let inside = c.self.inside in
     let files = inside.files in
     let s = (sight_of inside.width inside.wide files).shelf in
-    let seen = subst (λ (x : Sight). IsTrue x.honest) (sym c.self.view_is) honest in
+    let seen = subst (λ (x : ShelfSeen). IsTrue x.honest) (sym c.self.view_is) honest in
     let merged = list_all is_honest_sum (shared files.merged.items) in
     let rolled = list_all is_honest_sum (shared files.rolled.items) in
     let sealed = list_all (is_honest {files = g.S.SealedFile}) (shared files.sealed.items) in
-    let here = subst (λ (x : Sight). AreNarrow x.shelf narrow) (sym c.self.view_is) are in
+    let here = subst (λ (x : ShelfSeen). AreNarrow x.shelf narrow) (sym c.self.view_is) are in
     let start = c.new-rows.result in
     let none = c.new-rows.ensures in
     let of_rolled = second_of_two merged rolled (first_of_two (merged && rolled) sealed seen) in
@@ -173,4 +173,4 @@ returns-clause-given g c = λ honest narrow are.
     at c.in_ok-add_own_active.ensures.given in
     narrow_done s c.args.workers c.args.worker c.args.turn narrow here start none t1 t2 first_is second_is
     c.add_own_files.new.rows c.add_own_segments.new.rows c.add_own_active.new.rows r1 r2 (given here.active last)
-    ∙ ap (λ (x : Sight). summed x.shelf.width (own c.args.workers c.args.worker c.args.turn narrow)) c.self.view_is
+    ∙ ap (λ (x : ShelfSeen). summed x.shelf.width (own c.args.workers c.args.worker c.args.turn narrow)) c.self.view_is

@@ -4,7 +4,7 @@ use Rattle.std.specs.List.{list_all}
 use Rattle.flow_segment.specs.Prefix.{IsRestated}
 use Rattle.flow_snapshot.specs.Files.{is_honest_sum, shared}
 use Rattle.flow_model.specs.Views.{first_prefix}
-use Rattle.flow_snapshot.specs.Sight.{Sight}
+use Rattle.flow_snapshot.specs.ShelfSeen.{ShelfSeen}
 use Rattle.flow_model.specs.Views.{AreRestated}
 use Rattle.flow_snapshot.proofs.Asking.{active_templates, first_item, first_templates, no_item, templates_blameless}
 use Rattle.flow_snapshot.proofs.KeptFlows.{answered_err}
@@ -19,8 +19,8 @@ returns-in_err-templates_of-in-Some-clause-given g c = λ honest before restated
     let first = first_item c.deref.result.now c.in-Some.part.now c.in-Some.ensures.value in
     let right = first_templates files.sealed.items first.0 c.in-Some.part.now c.deref-in-Some.result.now sums before
     files.prefix (sym c.deref.ensures.value ∙ first.1) c.deref-in-Some.ensures
-    (subst (λ (x : Sight). IsTrue x.honest) (sym c.self.view_is) honest)
-    (subst (λ (x : Sight). AreRestated before x.shelf.sealed x.shelf.prefix) (sym c.self.view_is) restated) in
+    (subst (λ (x : ShelfSeen). IsTrue x.honest) (sym c.self.view_is) honest)
+    (subst (λ (x : ShelfSeen). AreRestated before x.shelf.sealed x.shelf.prefix) (sym c.self.view_is) restated) in
     answered_err _ c.from_residual.result _ c.from_residual.ensures.1
     (templates_blameless c.in_err-templates_of-in-Some.field-0.0 before
     (c.in_err-templates_of-in-Some.ensures.given right.0 before right.1))
@@ -33,8 +33,8 @@ returns-in_ok-templates_of-in-Some-clause-given g c = λ honest before restated.
     let first = first_item c.deref.result.now c.in-Some.part.now c.in-Some.ensures.value in
     let right = first_templates files.sealed.items first.0 c.in-Some.part.now c.deref-in-Some.result.now sums before
     files.prefix (sym c.deref.ensures.value ∙ first.1) c.deref-in-Some.ensures
-    (subst (λ (x : Sight). IsTrue x.honest) (sym c.self.view_is) honest)
-    (subst (λ (x : Sight). AreRestated before x.shelf.sealed x.shelf.prefix) (sym c.self.view_is) restated) in
+    (subst (λ (x : ShelfSeen). IsTrue x.honest) (sym c.self.view_is) honest)
+    (subst (λ (x : ShelfSeen). AreRestated before x.shelf.sealed x.shelf.prefix) (sym c.self.view_is) restated) in
     c.in_ok-templates_of-in-Some.ensures.given right.0 before right.1
 
 pub returns-in_ok-templates_of-in-Some-clause-found : goal.returns-in_ok-templates_of-in-Some-clause-found
@@ -44,17 +44,17 @@ returns-in_ok-templates_of-in-Some-clause-found g c = λ honest.
     (shared files.rolled.items) in
     let first = first_item c.deref.result.now c.in-Some.part.now c.in-Some.ensures.value in
     let templates = c.in_ok-templates_of-in-Some.field-0 in
-    subst (λ (x : Sight). IsRestated (first_prefix x.shelf.sealed x.shelf.prefix) templates) c.self.view_is
+    subst (λ (x : ShelfSeen). IsRestated (first_prefix x.shelf.sealed x.shelf.prefix) templates) c.self.view_is
     (first_found files.sealed.items first.0 c.in-Some.part.now c.deref-in-Some.result.now sums files.prefix templates
     (sym c.deref.ensures.value ∙ first.1) c.deref-in-Some.ensures
-    (subst (λ (x : Sight). IsTrue x.honest) (sym c.self.view_is) honest) c.in_ok-templates_of-in-Some.ensures.found)
+    (subst (λ (x : ShelfSeen). IsTrue x.honest) (sym c.self.view_is) honest) c.in_ok-templates_of-in-Some.ensures.found)
 
 pub returns-in-None-clause-found : goal.returns-in-None-clause-found
 returns-in-None-clause-found g c = λ honest.
     let files = c.self.inside.files in
     let none = sym c.deref.ensures.value ∙ no_item c.deref.result.now c.in-None.ensures.value in
     let found = rw c.as_slice.ensures at c.restated.ensures.found in
-    subst (λ (x : Sight). IfOk c.restated.result (λ t. IsRestated (first_prefix x.shelf.sealed x.shelf.prefix) t))
+    subst (λ (x : ShelfSeen). IfOk c.restated.result (λ t. IsRestated (first_prefix x.shelf.sealed x.shelf.prefix) t))
     c.self.view_is (active_found files.sealed.items files.prefix c.restated.result none found)
 
 pub returns-in-None-clause-given : goal.returns-in-None-clause-given
@@ -63,4 +63,4 @@ returns-in-None-clause-given g c = λ honest before restated.
     let none = sym c.deref.ensures.value ∙ no_item c.deref.result.now c.in-None.ensures.value in
     let given = rw c.as_slice.ensures at c.restated.ensures.given in
     given before (active_templates files.sealed.items before files.prefix none
-    (subst (λ (x : Sight). AreRestated before x.shelf.sealed x.shelf.prefix) (sym c.self.view_is) restated))
+    (subst (λ (x : ShelfSeen). AreRestated before x.shelf.sealed x.shelf.prefix) (sym c.self.view_is) restated))

@@ -6,7 +6,7 @@ use Rattle.flow_measure.specs.declared.rows.Sums.{Sums}
 use Rattle.flow_measure.specs.Sums.{key_cmp, AllFit, Table}
 use Rattle.flow_snapshot.specs.Directories.{sight_of}
 use Rattle.flow_snapshot.specs.Files.{is_honest, is_honest_sum, shared}
-use Rattle.flow_snapshot.specs.Sight.{Sight}
+use Rattle.flow_snapshot.specs.ShelfSeen.{ShelfSeen}
 use Rattle.flow_snapshot.specs.Totals.{wide_table_in, with_maps}
 use Rattle.flow_model.specs.Views.{AreRolled, AreRolledInto, IsViewOf}
 use Rattle.flow_snapshot.proofs.Adding.{made_err}
@@ -20,12 +20,12 @@ returns-in_err-add_rolled-clause-given g c = λ honest v is.
     let inside = c.self.inside in
     let files = inside.files in
     let s = (sight_of inside.width inside.wide files).shelf in
-    let here = subst (λ (x : Sight). IsViewOf x.shelf v) (sym c.self.view_is) is in
+    let here = subst (λ (x : ShelfSeen). IsViewOf x.shelf v) (sym c.self.view_is) is in
     let merged = list_all is_honest_sum (shared files.merged.items) in
     let rolled = list_all is_honest_sum (shared files.rolled.items) in
     let sealed = list_all (is_honest {files = g.S.SealedFile}) (shared files.sealed.items) in
     let sums = first_of_two merged rolled (first_of_two (merged && rolled) sealed
-    (subst (λ (x : Sight). IsTrue x.honest) (sym c.self.view_is) honest)) in
+    (subst (λ (x : ShelfSeen). IsTrue x.honest) (sym c.self.view_is) honest)) in
     let start = c.new-rows.result in
     let are = subst (λ w. AreRolled w s.merged here.merged.0) (sym (ap (λ (t : Table). t.width) c.new-rows.ensures))
     here.merged.1 in
@@ -39,7 +39,7 @@ returns-clause-found g c = λ honest.
     let inside = c.self.inside in
     let files = inside.files in
     let s = (sight_of inside.width inside.wide files).shelf in
-    let seen = subst (λ (x : Sight). IsTrue x.honest) (sym c.self.view_is) honest in
+    let seen = subst (λ (x : ShelfSeen). IsTrue x.honest) (sym c.self.view_is) honest in
     let merged = list_all is_honest_sum (shared files.merged.items) in
     let rolled = list_all is_honest_sum (shared files.rolled.items) in
     let sealed = list_all (is_honest {files = g.S.SealedFile}) (shared files.sealed.items) in
@@ -50,7 +50,7 @@ returns-clause-found g c = λ honest.
     let given = rw c.as_slice-merged.ensures.value at c.in_ok-add_rolled.ensures.given in
     let are = subst (λ w. AreRolled w s.merged found.0) (ap (λ (t : Table). t.width) none) found.1 in
     let rows = c.add_rolled.new.rows in
-    subst (λ (x : Sight). (sums : FinMap key_cmp Sums) × AreRolledInto x.shelf.wide x.shelf.merged sums
+    subst (λ (x : ShelfSeen). (sums : FinMap key_cmp Sums) × AreRolledInto x.shelf.wide x.shelf.merged sums
     × (rows ≡ record { width = x.shelf.wide; sums = sums })) c.self.view_is
     (wide_read s start rows none (found.0, are) (given sums found.0 found.1))
 
@@ -59,12 +59,12 @@ returns-clause-given g c = λ honest v is.
     let inside = c.self.inside in
     let files = inside.files in
     let s = (sight_of inside.width inside.wide files).shelf in
-    let here = subst (λ (x : Sight). IsViewOf x.shelf v) (sym c.self.view_is) is in
+    let here = subst (λ (x : ShelfSeen). IsViewOf x.shelf v) (sym c.self.view_is) is in
     let merged = list_all is_honest_sum (shared files.merged.items) in
     let rolled = list_all is_honest_sum (shared files.rolled.items) in
     let sealed = list_all (is_honest {files = g.S.SealedFile}) (shared files.sealed.items) in
     let sums = first_of_two merged rolled (first_of_two (merged && rolled) sealed
-    (subst (λ (x : Sight). IsTrue x.honest) (sym c.self.view_is) honest)) in
+    (subst (λ (x : ShelfSeen). IsTrue x.honest) (sym c.self.view_is) honest)) in
     let are = subst (λ w. AreRolled w s.merged here.merged.0) (sym (ap (λ (t : Table). t.width) c.new-rows.ensures))
     here.merged.1 in
     let given = rw c.as_slice-merged.ensures.value at c.in_ok-add_rolled.ensures.given in

@@ -1,6 +1,6 @@
 use Rattle.std.proofs.Common.{arith}
 use Rattle.flow_report.proofs.Digits.{one_digit, two_digits, three_digits}
-use Rattle.flow_report.proofs.tables.part_of.Goals as goal
+use Rattle.flow_report.proofs.tables.dotted_octet.Goals as goal
 
 pub returns-then-octet-lt10-clause-text : goal.returns-then-octet-lt10-clause-text
 returns-then-octet-lt10-clause-text c = one_digit c.args.octet c.if-octet-lt10.true

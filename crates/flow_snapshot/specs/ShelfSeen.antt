@@ -3,6 +3,6 @@ use Rattle.std.specs.Prelude.{Bool}
 use Rattle.flow_model.specs.Shelf.{Shelf}
 
 -- whether all files are on honest disks, which read as they are, and the shelf of these files
-pub record Sight : Type 0 where
+pub record ShelfSeen : Type 0 where
   pub honest : Bool
   pub shelf : Shelf

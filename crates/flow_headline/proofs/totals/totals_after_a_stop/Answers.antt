@@ -1,5 +1,5 @@
 use Rattle.flow_headline.proofs.Telling.{refusal, told}
-use Rattle.flow_headline.proofs.totals.totals_behind_a_stop.Goals as goal
+use Rattle.flow_headline.proofs.totals.totals_after_a_stop.Goals as goal
 
 pub returns-in-Ok-clause-totals : goal.returns-in-Ok-clause-totals
 returns-in-Ok-clause-totals c =

@@ -7,7 +7,7 @@ use std::alloc::Global;
 
 /// The octets of a file, of which each read fails that reaches octet `bad`.
 #[derive(Drop)]
-pub(crate) struct Held {
+pub(crate) struct ChosenFile {
     pub(crate) number: u64,
     pub(crate) octets: Vec<u8>,
     pub(crate) bad: u64,
@@ -16,11 +16,11 @@ pub(crate) struct Held {
 /// What shows that a read failed.
 pub(crate) struct Failed;
 
-impl MayFail for Held {
+impl MayFail for ChosenFile {
     type Failure = Failed;
 }
 
-impl SealedFile for Held {
+impl SealedFile for ChosenFile {
     ghost use Rattle.std.specs.Prelude.{length, true, refl};
 
     ghost octets = { λ f. f.octets.items };
@@ -59,12 +59,12 @@ impl SealedFile for Held {
     }
 }
 
-impl Held {
+impl ChosenFile {
     /// The file with this number and these octets, of which no read fails.
-    pub(crate) fn whole(number: u64, octets: Vec<u8>) -> Held
+    pub(crate) fn whole(number: u64, octets: Vec<u8>) -> ChosenFile
         ensures { result.octets ≡ octets }
     {
-        Held {
+        ChosenFile {
             number,
             octets,
             bad: u64::MAX,

@@ -6,7 +6,7 @@ use std::collections::BTreeMap;
 
 /// What was reported of a file: how many octets it has, and whether it is settled, frozen and listed.
 #[derive(Clone, Copy)]
-pub(crate) struct Told {
+pub(crate) struct Reported {
     pub(crate) size: u64,
     pub(crate) settled: bool,
     pub(crate) frozen: bool,
@@ -17,7 +17,7 @@ pub(crate) struct Told {
 /// What was reported of each file. Of a file that no call has named, only that it isn't frozen.
 #[derive(Drop)]
 pub(crate) struct Table {
-    told: BTreeMap<u64, Told>,
+    reported: BTreeMap<u64, Reported>,
 }
 
 impl Table {
@@ -31,17 +31,17 @@ impl Table {
         ensures settled { (n : ℕ) → (marks_in result n).settled ≡ false }
     {
         Table {
-            told: BTreeMap::new(alloc),
+            reported: BTreeMap::new(alloc),
         }
     }
 
     /// What was reported of a file.
-    pub(crate) fn of(&self, file: u64) -> Told
+    pub(crate) fn of(&self, file: u64) -> Reported
         ensures { marks_of result ≡ marks_in self.now file }
     {
-        match self.told.get(&file) {
-            Some(told) => *told,
-            None => Told {
+        match self.reported.get(&file) {
+            Some(reported) => *reported,
+            None => Reported {
                 size: 0,
                 settled: false,
                 frozen: false,
@@ -51,11 +51,11 @@ impl Table {
     }
 
     /// Reports this of a file from now on. Answers whether there was memory.
-    pub(crate) fn tell(&mut self, file: u64, told: Told) -> Result<(), NoRoom>
-        ensures done { OnOk result (Changes (marks_in self.old) (marks_in self.new) file (marks_of told)) }
+    pub(crate) fn report(&mut self, file: u64, reported: Reported) -> Result<(), NoRoom>
+        ensures done { OnOk result (Changes (marks_in self.old) (marks_in self.new) file (marks_of reported)) }
         ensures failed { OnErr result (Stays (marks_in self.old) (marks_in self.new)) }
     {
-        match self.told.insert(file, told) {
+        match self.reported.insert(file, reported) {
             Ok(_) => Ok(()),
             Err(_) => Err(NoRoom),
         }
