@@ -54,7 +54,7 @@ import tempfile
 
 PAGE = 4096
 FOLDER = "the folder"
-SECONDS = 600
+SECONDS = 120
 NAMES = ("openat open creat close dup dup2 dup3 fcntl write writev pwrite64 pwritev pwritev2 ftruncate truncate "
          "fallocate fsync fdatasync sync_file_range syncfs sync unlink unlinkat rename renameat renameat2 link linkat "
          "symlink symlinkat mkdir mkdirat fchmod chmod fchmodat copy_file_range sendfile")
