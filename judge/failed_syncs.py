@@ -679,6 +679,7 @@ def plan(cases, counts, short):
 
 def begin_worker(program, place, traces, every):
     global JUDGE
+    signal.signal(signal.SIGTERM, signal.SIG_DFL)
     own = os.path.join(place, "worker%d" % os.getpid())
     os.mkdir(own)
     JUDGE = Judge(program, own, traces, every)
@@ -757,6 +758,9 @@ def judged(asked, place):
         chosen = [(name, pool.imap(work, tasks)) for name, tasks in groups if asked.only in name and tasks]
         for name, results in chosen:
             sums = [a + b for a, b in zip(sums, report(name, results))]
+        # (leaving the pool would end its workers by a signal, which one that waits for a task may miss)
+        pool.close()
+        pool.join()
     print("%d runs, %d stops: %d failed" % tuple(sums))
     return 1 if sums[2] else 0
 
