@@ -1,6 +1,6 @@
 //! Octets that were read from an input and not yet taken.
 
-ghost use Rattle.std.specs.Prelude.{◌≡◌, ◌≤◌, ◌<◌, [], length, drop, vec_len, IfOk};
+ghost use Rattle.std.specs.Prelude.{◌≡◌, ◌+◌, ◌≤◌, ◌<◌, [], length, drop, vec_len, IfOk};
 
 use crate::patient::{Patience, ReadFailed};
 use std::alloc::{AllocError, Global};
@@ -52,14 +52,15 @@ impl Window {
         self.start += count;
     }
 
-    /// Moves the held octets to the start of the memory, where there is no room after them.
+    /// Moves the held octets to the start of the memory, where there is less room after them than the longest message
+    /// needs: of a socket of datagrams each read takes a whole one.
     fn make_room(&mut self)
         requires { length (held self.old) < 65536 }
         ensures kept { held self.new ≡ held self.old }
-        ensures room { self.new.end < 262144 }
+        ensures room { self.new.end + 65535 ≤ 262144 }
     {
         let (start, end) = (self.start, self.end);
-        if end == ROOM {
+        if ROOM - end < 65_535 {
             self.octets.copy_within(start..end, 0);
             self.start = 0;
             self.end = end - start;
