@@ -142,12 +142,13 @@ impl<D: Disk> Archive<D> {
         self.total
     }
 
-    /// What the messages that were taken in since the last call, or since it was opened, show of records that aren't
-    /// read; those of the active segment count as taken in when it was opened.
-    pub fn take_losses(&mut self) -> Losses
+    /// What the messages that were taken in show of records that aren't read, counted from what was put here last, or
+    /// since it was opened; those of the active segment count as taken in when it was opened. From now on they are
+    /// counted from these on.
+    pub fn replace_losses(&mut self, losses: Losses) -> Losses
         ensures { self.new ≡ self.old }
     {
-        self.carry.take_losses()
+        self.carry.replace_losses(losses)
     }
 
     /// The job that is under way.

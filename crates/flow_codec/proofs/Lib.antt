@@ -48,4 +48,5 @@ pub mod Restating
 pub mod RestatingAll
 pub mod Writing
 pub mod InPlace
+mod Pieces
 mod Files

@@ -1,5 +1,6 @@
 -- What messages show of records that aren't read.
-use Rattle.std.specs.Prelude.{ℕ, ◌+◌, ◌-◌, ◌%◌, ◌^◌, min, Option, Some, None, nat_eq, nat_lt, if◌then◌else◌}
+use Rattle.std.specs.Prelude.{ℕ, ◌+◌, ◌-◌, ◌%◌, ◌^◌, ◌≤◌, List, [], ◌∷◌, min, Option, Some, None, nat_eq, nat_lt}
+use Rattle.std.specs.Prelude.{if◌then◌else◌}
 use Rattle.std.specs.Option.{option_or}
 use Rattle.flow_codec.specs.declared.losses.Losses.{Losses}
 use Rattle.flow_codec.specs.declared.walk.Walked.{Walked}
@@ -42,7 +43,7 @@ elsewhere_of (Some first) more = elsewhere_than first more.domain more
 abbrev pub up_to : ℕ → ℕ
 up_to count = min count (2 ^ 64 - 1)
 
--- those of messages, and of messages after them
+-- those of messages, and of one message after them
 abbrev pub both_losses : Losses → Losses → Losses
 both_losses a b = record {
   unread = up_to (a.unread + b.unread);
@@ -51,3 +52,28 @@ both_losses a b = record {
   gaps = up_to (a.gaps + b.gaps);
   missing = up_to (a.missing + b.missing);
 }
+
+-- ---- of messages that are counted by pieces, as those of several batches
+
+-- of one message after the other, counted from some on
+abbrev pub losses_from : Losses → List Losses → Losses
+losses_from a [] = a
+losses_from a (message ∷ messages) = losses_from (both_losses a message) messages
+
+-- what counts messages after these begins with their first domain, and with nothing else
+abbrev pub none_after : Losses → Losses
+none_after a = record { unread = 0; domain = a.domain; elsewhere = 0; gaps = 0; missing = 0 }
+
+-- those of messages, and those of a piece of messages after them, which was counted from `none_after` on
+abbrev pub joined_losses : Losses → Losses → Losses
+joined_losses a piece = record {
+  unread = up_to (a.unread + piece.unread);
+  domain = piece.domain;
+  elsewhere = up_to (a.elsewhere + piece.elsewhere);
+  gaps = up_to (a.gaps + piece.gaps);
+  missing = up_to (a.missing + piece.missing);
+}
+
+-- counts that stopped at 2^64 - 1
+abbrev pub AreCounts : Losses → Type 0
+AreCounts a = (a.unread ≤ 2 ^ 64 - 1) × (a.elsewhere ≤ 2 ^ 64 - 1) × (a.gaps ≤ 2 ^ 64 - 1) × (a.missing ≤ 2 ^ 64 - 1)

@@ -2,7 +2,9 @@
 
 ghost use Rattle.std.specs.Prelude.{◌≡◌, ◌≢◌, ◌<◌, ◌≤◌, ◌+◌, ◌^◌, List, [], ◌++◌, length, ℕ, Some};
 ghost use Rattle.flow_elements.specs.declared.element.ElementId.{ElementId};
+ghost use Rattle.flow_codec.specs.declared.losses.Losses.{Losses};
 ghost use Rattle.flow_codec.specs.Layout.{Layout};
+ghost use Rattle.flow_codec.specs.Losses.{joined_losses, losses_from, none_after, AreCounts};
 ghost use Rattle.flow_codec.specs.Fields.{AreFields, fields_in};
 ghost use Rattle.flow_codec.specs.Templates.{AllTemplates, AreDefinitions, AreTemplatesInForce, IsOnce, applied};
 ghost use Rattle.flow_codec.specs.Templates.{definition_of, definitions_of, unless_own};
@@ -60,6 +62,12 @@ pub fn unread_sets()
 pub fn replaced_definitions()
     ensures { (octets : List ℕ) (before after : AllTemplates) (m : RawMessage) (h : IsMessage octets before m after)
         → AreReplaced m.header.domain before h.sets (replaced_of before octets) }
+{}
+
+/// What messages show of records that aren't read is the same, whether they are counted as one piece or as two.
+pub fn losses_by_pieces()
+    ensures { (a : Losses) (messages : List Losses) → AreCounts a
+        → joined_losses a (losses_from (none_after a) messages) ≡ losses_from a messages }
 {}
 
 /// A message has fewer than 65,536 octets, at least one for each data record after its header, and changes the

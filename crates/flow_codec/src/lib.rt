@@ -40,8 +40,8 @@ pub use fields::{read_message, split_field};
 pub use file::{FileError, Span, front_of, one_front, split_file};
 pub use kind::TemplateKind;
 pub use laws::{
-    files_and_fronts, message_bounds, one_answer, one_division, replaced_definitions,
-    restated_templates, template_changes, unread_sets,
+    files_and_fronts, losses_by_pieces, message_bounds, one_answer, one_division,
+    replaced_definitions, restated_templates, template_changes, unread_sets,
 };
 pub use losses::Losses;
 pub use message::{DataRecord, Field, Header, Message};

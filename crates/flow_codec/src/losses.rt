@@ -1,7 +1,8 @@
 //! What messages show of records that aren't read.
 
 ghost use Rattle.std.specs.Prelude.{◌≡◌};
-ghost use Rattle.flow_codec.specs.Losses.{both_losses, elsewhere_of, gap_of, losses_of, no_losses};
+ghost use Rattle.flow_codec.specs.Losses.{both_losses, elsewhere_of, gap_of, joined_losses, losses_of, no_losses};
+ghost use Rattle.flow_codec.specs.Losses.{none_after};
 
 use crate::walk::Walked;
 
@@ -60,18 +61,41 @@ impl Losses {
         }
     }
 
-    /// With those of messages after these.
-    pub fn and(self, more: Losses) -> Losses
-        ensures { result ≡ both_losses self more }
+    /// Of no message after these: a piece of messages after them, as a batch, is counted from here on.
+    pub fn none_after(self) -> Losses
+        ensures { result ≡ none_after self }
     {
         Losses {
-            unread: self.unread.saturating_add(more.unread),
-            domain: self.domain.or(more.domain),
+            domain: self.domain,
+            ..Losses::none()
+        }
+    }
+
+    /// With those of one message after these.
+    pub fn and(self, message: Losses) -> Losses
+        ensures { result ≡ both_losses self message }
+    {
+        Losses {
+            unread: self.unread.saturating_add(message.unread),
+            domain: self.domain.or(message.domain),
             elsewhere: self
                 .elsewhere
-                .saturating_add(elsewhere_of(self.domain, more)),
-            gaps: self.gaps.saturating_add(more.gaps),
-            missing: self.missing.saturating_add(more.missing),
+                .saturating_add(elsewhere_of(self.domain, message)),
+            gaps: self.gaps.saturating_add(message.gaps),
+            missing: self.missing.saturating_add(message.missing),
+        }
+    }
+
+    /// With those of a piece of messages after these, which was counted from `none_after` on.
+    pub fn and_piece(self, piece: Losses) -> Losses
+        ensures { result ≡ joined_losses self piece }
+    {
+        Losses {
+            unread: self.unread.saturating_add(piece.unread),
+            domain: piece.domain,
+            elsewhere: self.elsewhere.saturating_add(piece.elsewhere),
+            gaps: self.gaps.saturating_add(piece.gaps),
+            missing: self.missing.saturating_add(piece.missing),
         }
     }
 }

@@ -149,7 +149,8 @@ pub(crate) const FAULT: &str =
     "30 Fault: the system refused or failed a call on the archive's folder.\n\
 Usual cause: the folder isn't there, or isn't a folder; its owner or its rights\n\
 don't allow it; another flowvault uses it, or the name of one of its files is that\n\
-of a link or a folder, which a second line says; the disk is full or failing.\n\
+of a link or a folder; the disk is full, read-only or failing. A second line says\n\
+which, where the system said so.\n\
 What to do: look at the folder with 'ls -ld DIR' and 'df DIR', and at the system's\n\
 log, and mend that. Then 'flowvault check DIR' says how many messages the archive\n\
 has: each that was acknowledged, and perhaps the message or batch under way. While\n\
@@ -174,8 +175,11 @@ What to do: seal, and append again.\n";
 pub(crate) const MANIFEST_FULL: &str =
     "41 ManifestFull: the archive has 4096 files, the most that it names.\n\
 Usual cause: many segments were sealed, and none were rolled.\n\
-What to do: roll old segments ('flowvault roll DIR 8') and merge old sums ('flowvault\n\
-merge DIR 8'); or begin a new archive with a greater --limit.\n";
+What to do: roll old segments ('flowvault roll DIR 8'), of which then sums alone are\n\
+left; and merge old sums ('flowvault merge DIR 8'), of which then sums over wide\n\
+intervals alone are left: a day, unless 'create --wide' said another width. Bills by\n\
+peak, as the 95th percentile, can't be made of these. Or begin a new archive with a\n\
+greater --limit.\n";
 
 pub(crate) const NOTHING_TO_SEAL: &str =
     "42 NothingToSeal: the active segment has no message that was appended.\n\

@@ -16,6 +16,7 @@ use flow_codec::{
 use indexmap::IndexMap;
 use std::alloc::{AllocError, Global};
 use std::marker::Model;
+use std::mem;
 
 /// The templates in force after messages, the next Sequence Number of each Observation Domain that has some (RFC 7011,
 /// section 3.1), and the Export Time of the last message: what a segment passes to the next one, which restates it.
@@ -24,7 +25,7 @@ pub struct Carry {
     templates: Templates,
     due: IndexMap<u32, u32>,
     time: u32,
-    /// What the messages that were taken in since the last `take_losses` show of records that aren't read. It is passed
+    /// What the messages that were taken in since the last `replace_losses` show of records that aren't read. It is passed
     /// on to nobody.
     losses: Losses,
 }
@@ -112,14 +113,12 @@ impl Carry {
         })
     }
 
-    /// What the messages that were taken in since the last call show of records that aren't read. Those of a batch that
-    /// was refused show nothing.
-    pub fn take_losses(&mut self) -> Losses
+    /// What the messages that were taken in show of records that aren't read, counted from what was put here last;
+    /// from now on they are counted from these on. Those of a batch that was refused show nothing.
+    pub fn replace_losses(&mut self, losses: Losses) -> Losses
         ensures { self.new ≡ self.old }
     {
-        let losses = self.losses;
-        self.losses = Losses::none();
-        losses
+        mem::replace(&mut self.losses, losses)
     }
 
     /// A copy of the templates.
