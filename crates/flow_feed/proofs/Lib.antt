@@ -1,3 +1,4 @@
 mod Taking
 mod Readings
 mod Batches
+mod Sharing

@@ -1,3 +1,4 @@
 pub mod Feed
 pub mod Given
 pub mod Stopped
+pub mod Shared

@@ -1,14 +1,15 @@
 //! What appends messages to an archive.
 
-ghost use Rattle.std.specs.Prelude.{◌≤◌, ℕ, length, List, Result};
+ghost use Rattle.std.specs.Prelude.{◌≡◌, true, ◌≤◌, ℕ, length, List, Result};
 ghost use Rattle.flow_gate.specs.Steps.{slices};
 ghost use Rattle.flow_archive.specs.declared.refusal.ArchiveError.{ArchiveError as Refusal};
 
 use flow_archive::ArchiveError;
 use flow_codec::Losses;
 use flow_disk::Disk;
-use flow_shared::{Locked, Naming, SharedArchive};
+use flow_shared::{Locked, Naming, SharedArchive, Told};
 use std::alloc::Global;
+use std::marker::Model;
 use std::sync::Wait;
 
 /// Appends messages to an archive.
@@ -38,22 +39,36 @@ impl<D: Disk, J: Naming, W: Wait> Appender for Locked<D, J, W> {
     }
 }
 
-/// An archive that threads share, with the handle by which one of them waits for its lock. What others append in
-/// between is not known.
+/// An archive that threads share, with the handle by which one of them waits for its lock, and the steps that this one
+/// knows. It is seen as these steps, and whether they have the step of each batch that it was acknowledged.
 #[derive(Drop)]
 pub struct SharedAppender<'a, D: Disk, J: Naming, W: Wait> {
     shared: &'a SharedArchive<D, J, W>,
     rt: &'a W,
     losses: Losses,
+    steps: Told<J>,
+    is_whole: bool,
+}
+
+impl<'a, D: Disk, J: Naming, W: Wait> Model for SharedAppender<'a, D, J, W> {
+    ghost use Rattle.flow_feed.specs.Shared.{known, Known};
+
+    ghost Value = { Known };
+
+    ghost view = { λ a. known a.steps a.is_whole };
 }
 
 impl<'a, D: Disk, J: Naming, W: Wait> SharedAppender<'a, D, J, W> {
     /// One that waits by this handle.
-    pub fn new(rt: &'a W, shared: &'a SharedArchive<D, J, W>) -> Self {
+    pub fn new(rt: &'a W, shared: &'a SharedArchive<D, J, W>) -> Self
+        ensures { result.whole ≡ true }
+    {
         SharedAppender {
             shared,
             rt,
             losses: Losses::none(),
+            steps: shared.steps(rt),
+            is_whole: true,
         }
     }
 
@@ -61,14 +76,28 @@ impl<'a, D: Disk, J: Naming, W: Wait> SharedAppender<'a, D, J, W> {
     pub fn losses(&self) -> Losses {
         self.losses
     }
+
+    /// Whether the steps that it knows have the step of each batch that it was acknowledged.
+    pub fn is_whole(&self) -> bool
+        ensures { result ≡ self.now.whole }
+    {
+        self.is_whole
+    }
 }
 
 impl<D: Disk, J: Naming, W: Wait> Appender for SharedAppender<'_, D, J, W> {
-    ghost appends = { λ old new messages result. Unit {0} };
+    ghost use Rattle.flow_feed.specs.Shared.{IsGivenShared};
+
+    ghost appends = { λ old new messages result. IsGivenShared D.Disk J.opening old new messages result };
 
     fn append_batch(&mut self, alloc: Global, messages: &[&[u8]]) -> Result<u64, ArchiveError> {
-        let receipt = self.shared.append_batch(self.rt, alloc, messages)?;
-        self.losses = self.losses.and(receipt.losses);
+        let receipt = self
+            .shared
+            .append_batch(self.rt, alloc, &mut self.steps, messages, self.losses)?;
+        self.losses = self.losses.and_piece(receipt.losses);
+        if !receipt.made {
+            self.is_whole = false;
+        }
         Ok(receipt.position)
     }
 }

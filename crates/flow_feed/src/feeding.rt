@@ -1,16 +1,20 @@
 //! A File into an archive.
 
-ghost use Rattle.std.specs.Prelude.{◌≡◌, None};
+ghost use Rattle.std.specs.Prelude.{◌≡◌, None, true};
 ghost use Rattle.flow_codec.specs.Stream.{progress};
 ghost use Rattle.flow_feed.specs.Feed.{ArePassed, IsFed};
+ghost use Rattle.flow_feed.specs.Shared.{IsGivenShared, IsInSteps};
 
-use crate::appender::Appender;
+use crate::appender::{Appender, SharedAppender};
 use crate::batch::{Fed, FeedStop};
 use crate::giving::give;
 use crate::reading::read_batch;
 use flow_codec::MessageReader;
+use flow_disk::Disk;
+use flow_shared::Naming;
 use std::alloc::Global;
 use std::io::Read;
+use std::sync::Wait;
 
 /// Reads the first messages of a File without giving them to anybody: so many, or where it has fewer all of them, and
 /// then how it ended.
@@ -78,4 +82,19 @@ pub fn feed<A: Appender, R: Read>(appender: &mut A, alloc: Global, input: &mut R
             };
         }
     }
+}
+
+/// The same into an archive that threads share. Where the appender is whole then, the steps that it learnt meanwhile add
+/// the messages that are reported, but for those that are only read, each once, in the File's order.
+pub fn feed_shared<D: Disk, J: Naming, W: Wait, R: Read>(
+    appender: &mut SharedAppender<'_, D, J, W>,
+    alloc: Global,
+    input: &mut R,
+    first: u64,
+) -> Fed
+    ensures fed { IsFed (IsGivenShared D.Disk J.opening) first appender.old appender.new (R.remaining input.old) result }
+    ensures steps { appender.new.whole ≡ true
+        → IsInSteps first appender.old.steps appender.new.steps (R.remaining input.old) result }
+{
+    feed(appender, alloc, input, first)
 }

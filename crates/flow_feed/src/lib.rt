@@ -3,7 +3,8 @@
 //! Promised to the layer above: `feed` takes the messages of a File, as they are read, in batches, and gives each batch
 //! to an appender: the value under the archive's lock, or the archive that threads share. What is acknowledged of the
 //! File are the messages after those that are passed over, in their order, each once, and as many as are reported, and
-//! where nothing stopped it all the rest of the File.
+//! where nothing stopped it all the rest of the File. Into an archive that threads share `feed_shared` does the same,
+//! and says of the thread that feeds that the steps which it learnt meanwhile add these messages.
 #![tactic(auto)]
 
 mod appender;
@@ -14,4 +15,4 @@ mod reading;
 
 pub use appender::{Appender, SharedAppender};
 pub use batch::{Fed, FeedStop};
-pub use feeding::feed;
+pub use feeding::{feed, feed_shared};

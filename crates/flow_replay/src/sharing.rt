@@ -6,10 +6,11 @@ ghost use Rattle.flow_model.specs.Shelved.{shelf_of};
 use crate::asked::asked;
 use crate::report::Report;
 use flow_archive::{Archive, ArchiveError};
+use flow_codec::Losses;
 use flow_disk::{Disk, Faults};
 use flow_memory_disk::MemoryDisk;
 use flow_scripts::{Command, Event, Line, Question, Script};
-use flow_shared::{ArchiveReader, Naming, Opened, Receipt, SharedArchive, start};
+use flow_shared::{ArchiveReader, Naming, Opened, Receipt, SharedArchive, Told, start};
 use flow_snapshot::Snapshot;
 use flow_turns::Turn;
 use std::alloc::{AllocError, Global};
@@ -19,12 +20,13 @@ use std::sync::Wait;
 /// The most messages of a batch.
 const MOST_MESSAGES: usize = 64;
 
-/// A reader, the snapshot that it holds, and the width of narrow intervals.
+/// A reader, the snapshot that it holds, the width of narrow intervals, and the steps that whoever appends batches has.
 #[derive(Drop)]
 struct Reading<D: Disk, J: Naming> {
     reader: ArchiveReader<D::Sealed, J>,
     held: Option<Snapshot<D::Sealed>>,
     narrow: u32,
+    steps: Told<J>,
 }
 
 impl<D: Disk, J: Naming> Reading<D, J> {
@@ -113,7 +115,8 @@ fn batch<D: Disk, J: Naming, W: Wait>(
     if slices.is_empty() || slices.len() > MOST_MESSAGES {
         return "a batch has from 1 to 64 messages".to_string(alloc);
     }
-    let answer = shared.append_batch(rt, alloc, slices.as_slice());
+    let known = &mut reading.steps;
+    let answer = shared.append_batch(rt, alloc, known, slices.as_slice(), Losses::none());
     reading.receipt(alloc, answer)
 }
 
@@ -213,6 +216,7 @@ fn answer_all<D: Disk, J: Naming, W: Wait>(
         reader,
         held: None,
         narrow,
+        steps: shared.steps(rt),
     };
     answer_lines(rt, alloc, &shared, &mut reading, script.name, lines, report)?;
     drop(reading);

@@ -8,3 +8,4 @@ pub mod Kept
 pub mod Tells
 pub mod Meaning
 pub mod Behind
+mod Known

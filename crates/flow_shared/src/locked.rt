@@ -3,6 +3,7 @@
 ghost use Rattle.std.specs.Prelude.{◌≡◌, ◌≢◌, ◌⊎◌, MatchBool, ◌++◌, ◌∷◌, [], ◌≤◌, ◌<◌, ◌↔◌, List, length, true, false};
 ghost use Rattle.std.specs.Prelude.{IfOk, IfErr, OnOk, IsTrue};
 ghost use Rattle.std.specs.Option.{option_to_list};
+ghost use mathlib.Core.List.{IsPrefix};
 ghost use Rattle.left_right.specs.Handles.{published, pending};
 ghost use Rattle.flow_disk.specs.Cause.{HasCause};
 ghost use Rattle.flow_gate.specs.Gate.{octet_sum};
@@ -15,7 +16,7 @@ ghost use Rattle.flow_turns.specs.Turns.{due, IsTurn};
 ghost use Rattle.flow_shared.specs.Calls.{added_by, by, AppendsOnce, AppendsSealed, Appends, IsClosedBy};
 ghost use Rattle.flow_shared.specs.Calls.{IsRefusedBefore, IsSeal, IsTurnedBy};
 ghost use Rattle.flow_shared.specs.UnderLock.{all_of, LockState};
-ghost use Rattle.flow_shared.specs.Told.{after, HasOwn};
+ghost use Rattle.flow_shared.specs.Told.{after, HasAdded, HasOwn};
 
 use crate::calls::{add_marked, seal_marked, tell, turn_marked};
 use crate::history::{Entry, Naming, Tip, Told};
@@ -23,6 +24,7 @@ use crate::receipt::Receipt;
 use crate::shown::{Shown, Telling};
 use crate::writing::{Waits, post, show};
 use flow_archive::{Archive, ArchiveError};
+use flow_codec::Losses;
 use flow_disk::{Disk, Faults};
 use flow_manifest::JobKind;
 use flow_snapshot::Mark;
@@ -122,6 +124,7 @@ where
     fn drain(&mut self, alloc: Global) -> Result<(), AllocError>
         ensures core { self.new.core ≡ self.old.core }
         ensures told { self.new.told ≡ self.old.told }
+        ensures later { IsPrefix self.old.made self.new.made }
         ensures all { all_of self.new ≡ all_of self.old }
         ensures done { OnOk result (self.new.backlog ≡ []) }
     {
@@ -142,6 +145,7 @@ where
     /// Publishes what is pending, and says whether readers see all steps.
     fn publish(&mut self) -> bool
         ensures core { self.new.core ≡ self.old.core }
+        ensures made { self.new.made ≡ self.old.made }
         ensures all { all_of self.new ≡ all_of self.old }
         ensures backlog { self.new.backlog ≡ self.old.backlog }
         ensures shown { IsTrue result ↔ ((self.new.pending ≡ []) × (self.new.backlog ≡ [])) }
@@ -156,17 +160,44 @@ where
         }
     }
 
-    /// The archive's files are the opening ones with all steps.
+    /// The archive's files are the opening ones with all steps, which are those that are made and those that aren't.
     pub fn facts(&self)
-        ensures { after J.opening (all_of self.now) ≡ shelf_of self.now.core.state }
+        ensures files { after J.opening (all_of self.now) ≡ shelf_of self.now.core.state }
+        ensures all { all_of self.now ≡ self.now.made ++ self.now.backlog }
     {
         let _ = &self.told;
+    }
+
+    /// What messages show of records that aren't read is counted as of messages after those of `losses`, in the next
+    /// call that appends.
+    pub(crate) fn count_from(&mut self, losses: Losses)
+        ensures { self.new ≡ self.old }
+    {
+        self.archive.replace_losses(losses.none_after());
+    }
+
+    /// The steps that are made.
+    pub(crate) fn made(&self) -> &Told<J>
+        ensures { result.now ≡ self.now.made }
+    {
+        &self.told
+    }
+
+    /// Whether all steps are made.
+    fn is_made(&self) -> bool
+        ensures { IsTrue result ↔ (self.now.backlog ≡ []) }
+    {
+        match self.backlog {
+            Some(_) => false,
+            None => true,
+        }
     }
 
     /// Turns what is older into pending steps, unless the archive is closed.
     fn ready(&mut self, alloc: Global) -> Result<(), ArchiveError>
         ensures core { self.new.core ≡ self.old.core }
         ensures told { self.new.told ≡ self.old.told }
+        ensures later { IsPrefix self.old.made self.new.made }
         ensures all { all_of self.new ≡ all_of self.old }
         ensures done { OnOk result (self.new.backlog ≡ []) }
         ensures refused { IfErr result (λ e. ((self.old.core.closed ≡ true) × (e ≡ ArchiveError.Closed))
@@ -188,6 +219,7 @@ where
         ensures calls { AppendsOnce D.Disk self.old.core self.new.core (slices messages.now) result
             (added_by (slices messages.now) result) }
         ensures steps { all_of self.new ≡ all_of self.old ++ added_by (slices messages.now) result }
+        ensures later { IsPrefix self.old.made self.new.made }
         ensures position { IfOk result (λ n. n ≡ position_of (shelf_of self.new.core.state)) }
         ensures cause { HasCause ArchiveError.Fault (D.faults self.old.core.disk) (D.faults self.new.core.disk) result }
     {
@@ -201,6 +233,8 @@ where
     fn receipt(&mut self, alloc: Global, position: u64) -> Receipt<J>
         ensures core { self.new.core ≡ self.old.core }
         ensures all { all_of self.new ≡ all_of self.old }
+        ensures later { IsPrefix self.old.made self.new.made }
+        ensures made { IsTrue result.made ↔ (self.new.backlog ≡ []) }
         ensures position { result.position ≡ position }
         ensures told { result.told ≡ self.new.told }
         ensures shown { IsTrue result.shown ↔ ((self.new.pending ≡ []) × (self.new.backlog ≡ [])) }
@@ -208,11 +242,13 @@ where
     {
         let _late = self.drain(alloc);
         let shown = self.publish();
+        let made = self.is_made();
         Receipt {
             position,
             shown,
+            made,
             told: self.writer.published().told().again(),
-            losses: self.archive.take_losses(),
+            losses: self.archive.replace_losses(Losses::none()),
         }
     }
 
@@ -224,12 +260,17 @@ where
             (by (λ r. r.position) result) (added_by (slices messages.now) (by (λ r. r.position) result)) }
         ensures steps { all_of self.new ≡ all_of self.old
             ++ added_by (slices messages.now) (by (λ r. r.position) result) }
+        ensures later { IsPrefix self.old.made self.new.made }
+        ensures made { IfOk result (λ r. IsTrue r.made ↔ (self.new.backlog ≡ [])) }
+        ensures added { IfOk result (λ r. IsTrue r.made
+            → HasAdded J.opening self.old.made self.new.made (slices messages.now) r.position) }
         ensures told { IfOk result (λ r. r.told ≡ self.new.told) }
         ensures shown { IfOk result (λ r. IsTrue r.shown ↔ ((self.new.pending ≡ []) × (self.new.backlog ≡ []))) }
         ensures own { IfOk result (λ r. IsTrue r.shown
             → HasOwn J.opening r.told (slices messages.now) r.position) }
         ensures cause { HasCause ArchiveError.Fault (D.faults self.old.core.disk) (D.faults self.new.core.disk) result }
     {
+        self.facts();
         let position = self.add(alloc, messages)?;
         let receipt = self.receipt(alloc, position);
         self.facts();
@@ -248,6 +289,10 @@ where
         ensures calls { (steps : List Change)
             × Appends D.Disk self.old.core self.new.core (slices messages.now) (by (λ r. r.position) result) steps
             × (all_of self.new ≡ all_of self.old ++ steps) }
+        ensures later { IsPrefix self.old.made self.new.made }
+        ensures made { IfOk result (λ r. IsTrue r.made ↔ (self.new.backlog ≡ [])) }
+        ensures added { IfOk result (λ r. IsTrue r.made
+            → HasAdded J.opening self.old.made self.new.made (slices messages.now) r.position) }
         ensures told { IfOk result (λ r. r.told ≡ self.new.told) }
         ensures shown { IfOk result (λ r. IsTrue r.shown ↔ ((self.new.pending ≡ []) × (self.new.backlog ≡ []))) }
         ensures own { IfOk result (λ r. IsTrue r.shown
@@ -283,6 +328,10 @@ where
         ensures calls { (steps : List Change)
             × AppendsSealed D.Disk self.old.core self.new.core (slices messages.now) (by (λ r. r.position) result) steps
             × (all_of self.new ≡ all_of self.old ++ steps) }
+        ensures later { IsPrefix self.old.made self.new.made }
+        ensures made { IfOk result (λ r. IsTrue r.made ↔ (self.new.backlog ≡ [])) }
+        ensures added { IfOk result (λ r. IsTrue r.made
+            → HasAdded J.opening self.old.made self.new.made (slices messages.now) r.position) }
         ensures told { IfOk result (λ r. r.told ≡ self.new.told) }
         ensures shown { IfOk result (λ r. IsTrue r.shown ↔ ((self.new.pending ≡ []) × (self.new.backlog ≡ []))) }
         ensures own { IfOk result (λ r. IsTrue r.shown
@@ -301,6 +350,10 @@ where
         ensures calls { (steps : List Change)
             × Appends D.Disk self.old.core self.new.core (message.now ∷ []) (by (λ r. r.position) result) steps
             × (all_of self.new ≡ all_of self.old ++ steps) }
+        ensures later { IsPrefix self.old.made self.new.made }
+        ensures made { IfOk result (λ r. IsTrue r.made ↔ (self.new.backlog ≡ [])) }
+        ensures added { IfOk result (λ r. IsTrue r.made
+            → HasAdded J.opening self.old.made self.new.made (message.now ∷ []) r.position) }
         ensures told { IfOk result (λ r. r.told ≡ self.new.told) }
         ensures shown { IfOk result (λ r. IsTrue r.shown ↔ ((self.new.pending ≡ []) × (self.new.backlog ≡ []))) }
         ensures own { IfOk result (λ r. IsTrue r.shown → HasOwn J.opening r.told (message.now ∷ []) r.position) }
@@ -317,6 +370,7 @@ where
             ⊎ IsRefusedBefore self.old.core self.new.core result }
         ensures steps { (steps : List Change) × IsClosedBy (D.honest self.old.core.disk) self.old.core.state
             self.new.core.state result steps × (all_of self.new ≡ all_of self.old ++ steps) }
+        ensures later { IsPrefix self.old.made self.new.made }
         ensures cause { HasCause ArchiveError.Fault (D.faults self.old.core.disk) (D.faults self.new.core.disk) result }
     {
         self.ready(alloc)?;
@@ -331,6 +385,7 @@ where
             ⊎ IsRefusedBefore self.old.core self.new.core result }
         ensures steps { (steps : List Change) × IsClosedBy (D.honest self.old.core.disk) self.old.core.state
             self.new.core.state result steps × (all_of self.new ≡ all_of self.old ++ steps) }
+        ensures later { IsPrefix self.old.made self.new.made }
         ensures cause { HasCause ArchiveError.Fault (D.faults self.old.core.disk) (D.faults self.new.core.disk) result }
     {
         let file = self.close(alloc)?;
@@ -349,6 +404,7 @@ where
         ensures turn { IsTurn D.Disk self.old.core self.new.core (due kind keep self.old.core.state) result
             ⊎ IsRefusedBefore self.old.core self.new.core result }
         ensures steps { (steps : List Change) × IsTurnedBy result steps × (all_of self.new ≡ all_of self.old ++ steps) }
+        ensures later { IsPrefix self.old.made self.new.made }
         ensures cause { HasCause ArchiveError.Fault (D.faults self.old.core.disk) (D.faults self.new.core.disk) result }
         ensures unread { HasCause ArchiveError.SourceFault faults.old faults.new result }
     {
@@ -370,6 +426,7 @@ where
         ensures turn { IsTurn D.Disk self.old.core self.new.core (due Roll keep self.old.core.state) result
             ⊎ IsRefusedBefore self.old.core self.new.core result }
         ensures steps { (steps : List Change) × IsTurnedBy result steps × (all_of self.new ≡ all_of self.old ++ steps) }
+        ensures later { IsPrefix self.old.made self.new.made }
         ensures cause { HasCause ArchiveError.Fault (D.faults self.old.core.disk) (D.faults self.new.core.disk) result }
         ensures unread { HasCause ArchiveError.SourceFault faults.old faults.new result }
     {
@@ -389,6 +446,7 @@ where
         ensures turn { IsTurn D.Disk self.old.core self.new.core (due Merge keep self.old.core.state) result
             ⊎ IsRefusedBefore self.old.core self.new.core result }
         ensures steps { (steps : List Change) × IsTurnedBy result steps × (all_of self.new ≡ all_of self.old ++ steps) }
+        ensures later { IsPrefix self.old.made self.new.made }
         ensures cause { HasCause ArchiveError.Fault (D.faults self.old.core.disk) (D.faults self.new.core.disk) result }
         ensures unread { HasCause ArchiveError.SourceFault faults.old faults.new result }
     {
@@ -401,6 +459,7 @@ where
     pub fn refresh(&mut self, alloc: Global) -> bool
         ensures core { self.new.core ≡ self.old.core }
         ensures all { all_of self.new ≡ all_of self.old }
+        ensures later { IsPrefix self.old.made self.new.made }
         ensures shown { IsTrue result ↔ ((self.new.pending ≡ []) × (self.new.backlog ≡ [])) }
     {
         let _late = self.drain(alloc);

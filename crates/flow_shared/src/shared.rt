@@ -1,11 +1,15 @@
 //! An archive that threads share.
 
-ghost use Rattle.std.specs.Prelude.{◌≡◌, ◌<◌, ◌≤◌, ◌∷◌, [], true, length, All, IsTrue, IfErr, IfOk};
+ghost use Rattle.std.specs.Prelude.{◌≡◌, ◌<◌, ◌≤◌, ◌∷◌, ◌⊎◌, ◌↔◌, [], true, length, All, Err, IsTrue, IfErr, IfOk};
+ghost use mathlib.Core.List.{IsPrefix};
 ghost use Rattle.left_right.specs.Handles.{published, pending};
 ghost use Rattle.flow_disk.specs.Cause.{HasCause};
 ghost use Rattle.flow_gate.specs.Steps.{slices};
 ghost use Rattle.flow_model.specs.Shelved.{shelf_of};
-ghost use Rattle.flow_shared.specs.Told.{after, HasOwn};
+ghost use Rattle.flow_shared.specs.Calls.{by};
+ghost use Rattle.flow_shared.specs.Known.{IsAppendBy};
+ghost use Rattle.flow_shared.specs.UnderLock.{LockState};
+ghost use Rattle.flow_shared.specs.Told.{after, HasAdded, HasOwn};
 
 use crate::history::{Entry, Naming, Opened, Told};
 use crate::locked::Locked;
@@ -14,6 +18,7 @@ use crate::receipt::Receipt;
 use crate::shown::{Shown, Telling};
 use crate::writing::Waits;
 use flow_archive::{Archive, ArchiveError};
+use flow_codec::Losses;
 use flow_disk::{Disk, Faults, SealedFile};
 use flow_turns::Turn;
 use left_right::{Absorb, WriteHandle};
@@ -39,22 +44,49 @@ where
     pub fn append(&self, rt: &W, alloc: Global, message: &[u8]) -> Result<Receipt<J>, ArchiveError>
         ensures { IfOk result (λ r. IsTrue r.shown → HasOwn J.opening r.told (message.now ∷ []) r.position) }
     {
-        self.lock.lock(rt).append(alloc, message)
+        let mut locked = self.lock.lock(rt);
+        locked.count_from(Losses::none());
+        locked.append(alloc, message)
+    }
+
+    /// The steps that are made.
+    pub fn steps(&self, rt: &W) -> Told<J> {
+        self.lock.lock(rt).made().again()
     }
 
     /// Adds messages, from 1 to 64, all of them or none, and answers the number of the last one with what readers then
     /// see. Where the active segment has no room for them, it is sealed before; 40 is answered where no segment has.
+    /// What they show of records that aren't read is counted as of messages after those of `losses`. `known` is a list
+    /// of steps that the caller has. From then on it has all that are made: after those that it had come the steps of
+    /// others, and at the end the caller's, unless for want of memory that one isn't made yet.
     pub fn append_batch(
         &self,
         rt: &W,
         alloc: Global,
+        known: &mut Told<J>,
         messages: &[&[u8]],
+        losses: Losses,
     ) -> Result<Receipt<J>, ArchiveError>
         requires some { 1 ≤ length messages.now }
         requires few { length messages.now ≤ 64 }
-        ensures { IfOk result (λ r. IsTrue r.shown → HasOwn J.opening r.told (slices messages.now) r.position) }
+        ensures known { IsPrefix known.old known.new }
+        ensures added { IfOk result (λ r. IsTrue r.made
+            → HasAdded J.opening known.old known.new (slices messages.now) r.position) }
+        ensures own { IfOk result (λ r. IsTrue r.shown → HasOwn J.opening r.told (slices messages.now) r.position) }
+        ensures calls { ((known.new ≡ known.old) × (by (λ r. r.position) result ≡ Err ArchiveError.OutOfMemory))
+            ⊎ ((new : LockState D) × IsAppendBy D.Disk J.opening known.old known.new (slices messages.now)
+            (by (λ r. r.position) result) new × IfOk result (λ r. IsTrue r.made ↔ (new.backlog ≡ []))) }
     {
-        self.lock.lock(rt).append_batch(alloc, messages)
+        let mut locked = self.lock.lock(rt);
+        // What a caller has was made under this lock before: it is never refused here.
+        if !known.begins(locked.made()) {
+            return Err(ArchiveError::OutOfMemory);
+        }
+        locked.count_from(losses);
+        let answer = locked.append_batch(alloc, messages);
+        locked.facts();
+        *known = locked.made().again();
+        answer
     }
 
     /// Seals the active segment, and answers the number of the sealed file.
@@ -185,7 +217,7 @@ pub fn start<D: Disk, J: Naming, W: Wait>(
     let (tip, told) = opened.named::<J>();
     let mut archive = archive;
     // What was taken in before counts for no append.
-    archive.take_losses();
+    archive.replace_losses(Losses::none());
     match places_of(alloc, &mut archive, &told, places) {
         Ok((writer, readers)) => {
             let locked: Locked<D, J, W> = Locked::new(archive, writer, tip, told);

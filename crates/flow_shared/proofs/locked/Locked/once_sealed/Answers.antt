@@ -3,6 +3,7 @@ use Rattle.flow_shared.specs.Calls.{by}
 use Rattle.flow_shared.specs.UnderLock.{all_of}
 use Rattle.flow_shared.specs.Calls.{added_by}
 use Rattle.flow_shared.proofs.Behind.{fits_after, seal_has_room, seal_refused, sealed_then}
+use Rattle.flow_shared.proofs.Known.{added_later_if}
 use Rattle.flow_shared.proofs.locked.Locked.once_sealed.Goals as goal
 
 pub returns-in-Ok-clause-calls : goal.returns-in-Ok-clause-calls
@@ -32,3 +33,9 @@ returns-in-Err-clause-room g c =
     let D = g.D.Disk in
     seal_has_room D c.args.self.now.core c.seal.new.self.core c.in-Err.error
     c.in-Err.ensures.call
+
+pub returns-in-Ok-clause-added : goal.returns-in-Ok-clause-added
+returns-in-Ok-clause-added g c =
+    added_later_if g.J.Naming.opening c.args.self.now.made c.seal.new.self.made c.once.new.self.made
+    (slices c.args.messages.now) (λ r. r.made) (λ r. r.position) c.in-Ok.ensures.later c.once.result
+    c.once.ensures.added
