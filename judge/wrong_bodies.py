@@ -1,13 +1,21 @@
 #!/usr/bin/env python3
-"""wrong_bodies.py [CRATE..]: tries the wrong bodies of crates/CRATE/edits/, of all crates where none is named, in copies of
-the repository: the prover must refuse each. `./verify --edits` calls it.
+"""wrong_bodies.py [CRATE..]: tries the wrong bodies of crates/CRATE/edits/, of all crates where none is named, in
+copies: the prover must refuse each. `./verify --edits` calls it.
+
+wrong_bodies.py --gate CRATE: the same of those in crates/CRATE/edits/gate/; the gate calls it.
 
 Many are tried in one check of their crate, at most one of each function: what is proved of a function rests on the
 contracts of those that it calls, and not on their bodies, so each is judged by its own function's verdict. One whose
-function couldn't be judged beside the others is tried again, and one that is in no function alone. Libraries and work
-that earlier checks kept of these sources are used; else they are made first, which takes as long as proving the crates.
-Prints a line for each, and ends with 'N refused, M not refused'; status 0 only where M is 0."""
+function couldn't be judged beside the others is tried again, and one that is in no function alone. Where `./verify` has
+proved the crates below in this clone as they are now, the functions that are changed, and those that they call, are
+checked over the libraries that it left. Else, but not with `--gate`, libraries and work that earlier checks kept are
+used, or made first, which takes as long as proving the crates.
+Prints a line for each, and ends with 'N refused, K only where a proof names what is gone, M not refused': the K aren't
+among the N, since a proof that names what a body took away says nothing of the contract; status 0 only where M is 0,
+and with `--gate` K too."""
 import concurrent.futures
+import glob
+import hashlib
 import os
 import re
 import shutil
@@ -16,6 +24,9 @@ import sys
 import tempfile
 
 REFUSED, PROVED, UNJUDGED, BAD = "refused", "NOT REFUSED", "unjudged", "BAD EDIT"
+
+# Why a body is refused that a proof alone refuses.
+ONLY_GONE = "only where its proof names what is gone"
 
 # What a function's line says where it wasn't judged, since one that it calls is refused.
 BLOCKED = re.compile(r"(no proof: |not proved; )?(it calls |it waits |it passes )")
@@ -102,22 +113,23 @@ def owner_of(head):
 def verdict(edit, places, said):
     """What a check says of a wrong body, by the lines of the functions that it changes, and why it is refused."""
     lines = said.rstrip("\n").split("\n")
-    if not lines[-1].startswith(("logic=", "rt: ")) or not any(it.startswith("logic=") for it in lines):
+    ends = [it for it in lines if it.startswith(("logic=", "only="))]
+    if not ends or not lines[-1].startswith(("logic=", "only=", "rt: ")):
         return UNJUDGED, ""
     if not places:
-        return (REFUSED, "alone") if "logic=not-proved" in lines else (PROVED, "")
+        return (REFUSED, "alone") if "logic=not-proved" in ends else (PROVED, "")
     found = []
     for module, owner, name in places:
         # (a method is named by its type's module, which needn't be that of the `impl`)
         before = r"(?:\w+::)*%s" % owner if owner else module
         of_it = r"fn %s::%s::%s: (.*)" % (edit.crate, before, name)
         own = [it[1] for it in map(re.compile(of_it).match, lines) if it]
-        bad = [it for it in own if it != "proved"]
+        bad = [it for it in own if not re.match(r"proved(, |$)", it)]
         if [it for it in bad if not BLOCKED.match(it)]:
             in_proof = re.compile(r"(\./)?proofs/(\S*/)?%s/.*: error" % name)
             errors = [it for it in lines if in_proof.match(it)]
             only = bool(errors) and all(map(GONE.search, errors)) and not any("did not prove" in it for it in bad)
-            found.append((REFUSED, "only where its proof names what is gone" if only else ""))
+            found.append((REFUSED, ONLY_GONE if only else ""))
         elif bad or not own:
             found.append((UNJUDGED, ""))
         else:
@@ -140,7 +152,114 @@ def sets_of(edits, folder):
     return [members for _, members in sets]
 
 
-def tried(members, folder):
+def check_kept(folder, _):
+    """Checks a crate in a copy of the repository, over what earlier checks kept: what is printed."""
+    words = ["rt", "check", "--jobs", "1"]
+    return subprocess.run(words, cwd=folder, stdout=subprocess.PIPE, stderr=subprocess.STDOUT, text=True).stdout
+
+
+class Crates:
+    """The crates of crates.txt, and what was proved of them."""
+
+    # The sum of each crate's text, and of those below, when `rt ci` left its library.
+    PROVED = "built/libraries"
+
+    def __init__(self):
+        with open("crates.txt") as lines:
+            named = (it.partition(":") for it in lines if re.match(r"\w+:", it))
+            self.uses = {name: uses.split() for name, _, uses in named}
+
+    def below(self, crate):
+        """The libraries of the repository that a crate uses, and those that these use."""
+        found = []
+        for name in self.uses[crate]:
+            found += [it for it in [*self.below(name), name] if it not in found] if name in self.uses else []
+        return found
+
+    def sum_of(self, crate):
+        """A sum of what the proof of a crate reads in the repository."""
+        total = hashlib.sha256()
+        for name in [*self.below(crate), crate]:
+            total.update(repr((name, self.uses[name])).encode())
+            for part in ("src", "specs", "proofs"):
+                for path in sorted(glob.glob("crates/%s/%s/**" % (name, part), recursive=True)):
+                    if os.path.isfile(path):
+                        with open(path, "rb") as text:
+                            total.update(repr((path, text.read())).encode())
+        return total.hexdigest()
+
+    def note_proved(self):
+        """Notes that `rt ci` has proved all crates, and left their libraries; not of a crate whose library `rt check` had
+        made before, since that one is put back at the end."""
+        os.makedirs(os.path.dirname(self.PROVED), exist_ok=True)
+        its_own = [it for it in self.uses if not os.path.exists("crates/%s/out/rlib/stamp" % it)]
+        with open(self.PROVED, "w") as lines:
+            lines.writelines("%s %s\n" % (name, self.sum_of(name)) for name in its_own)
+
+    def are_proved_below(self, crate):
+        """Whether `rt ci` left the libraries of all crates below, as they are now."""
+        try:
+            with open(self.PROVED) as lines:
+                proved = dict(line.split() for line in lines)
+        except OSError:
+            return False
+        is_there = "crates/{0}/out/rlib/{0}.rlib".format
+        return all(os.path.isdir(is_there(it)) and proved.get(it) == self.sum_of(it) for it in self.below(crate))
+
+
+class OverProved:
+    """Checks of a crate over the libraries that `rt ci` left."""
+
+    def __init__(self, crates, crate, work):
+        """`work` is a folder for what checks keep for each other."""
+        self.crates, self.crate, self.work = crates, crate, work
+
+    def words(self):
+        """The words for the prover."""
+        kit = os.path.dirname(os.path.dirname(os.path.realpath(shutil.which("rt"))))
+        uses, of_all = self.crates.uses[self.crate], self.crates.uses
+        libraries = {it: os.path.abspath("crates/%s/out/rlib" % it) for it in self.crates.below(self.crate)}
+        words = [kit + "/bin/rattle", "check", "--crate-name", self.crate]
+        words += ["src/main.rt" if os.path.exists("crates/%s/src/main.rt" % self.crate) else "src/lib.rt"]
+        for name in ["std", *(it for it in uses if it not in of_all)]:
+            words += ["--extern", "%s=%s/rlibs/%s.rlib" % (name, kit, name)]
+        words += ["-L", "dependency=%s/rlibs" % kit]
+        for name in (it for it in uses if it in of_all):
+            words += ["--extern", "%s=%s/%s.rlib" % (name, libraries[name], name)]
+        for folder in libraries.values():
+            words += ["-L", "dependency=" + folder]
+        words += ["--antt-project", kit + "/rattle/logic/antt-project.json", "--logic-built", kit + "/logic_built"]
+        return [*words, "--links", self.crate + "=", "--jobs", "1", "--incremental", self.work]
+
+    def __call__(self, folder, members):
+        """Checks the functions that these wrong bodies change, or the whole crate where one is in no function: what is
+        printed."""
+        only = [path_of(folder, *it) for _, places in members for it in sorted(places)]
+        ran = None
+        for paths in [only] * all(places for _, places in members) + [[]]:
+            words = [*self.words(), *(word for it in paths for word in ("--only", it))]
+            ran = subprocess.run(words, cwd=folder, stdout=subprocess.PIPE, stderr=subprocess.STDOUT, text=True)
+            if ran.returncode != 2:
+                break
+        return ran.stdout
+
+
+def path_of(folder, module, owner, name):
+    """A function's path as the prover takes it: a method has its type's module; one of a trait is had by its module."""
+    if not owner:
+        return "%s::%s" % (module, name)
+    if not owner.isalnum():
+        return module
+    for at, _, files in os.walk(os.path.join(folder, "src")):
+        for file in sorted(it for it in files if it.endswith(".rt")):
+            path = os.path.join(at, file)
+            with open(path) as text:
+                if re.search(r"^\s*(pub(\(\w+\))? )?(struct|enum) %s\b" % owner, text.read(), re.MULTILINE):
+                    module = os.path.relpath(path, os.path.join(folder, "src"))[: -len(".rt")].replace("/", "::")
+    return "%s::%s::%s" % (module.removesuffix("::mod"), owner, name)
+
+
+def tried(members, folder, check):
     """Checks a crate with these wrong bodies in place, and puts its text back: what is said of each, and which didn't fit
     beside the others."""
     aside, placed, late = folder + ".aside", [], []
@@ -148,27 +267,29 @@ def tried(members, folder):
     try:
         for edit, places in members:
             (placed if edit.apply(folder) else late).append((edit, places))
-        ran = subprocess.run(
-            ["rt", "check", "--jobs", "1"], cwd=folder, stdout=subprocess.PIPE, stderr=subprocess.STDOUT, text=True
-        )
+        printed = check(folder, placed)
     finally:
         shutil.rmtree(os.path.join(folder, "src"))
         os.rename(aside, os.path.join(folder, "src"))
-    said = [(edit, *verdict(edit, places, ran.stdout)) for edit, places in placed]
+    said = [(edit, *verdict(edit, places, printed)) for edit, places in placed]
     return said, [edit for edit, _ in late]
 
 
-def crate_tried(crate, root):
-    """Tries all wrong bodies of a crate in a copy of the repository: how many are refused, and how many not."""
-    folder = os.path.join(root, "crates", crate)
-    names = sorted(it for it in os.listdir(os.path.join(folder, "edits")) if it.endswith(".edit"))
-    left = [Edit(crate, os.path.join(folder, "edits", it)) for it in names]
-    refused = 0
+def edits_in(crate, folder):
+    """The wrong bodies of a crate that are in a folder."""
+    return [Edit(crate, os.path.join(folder, it)) for it in sorted(os.listdir(folder)) if it.endswith(".edit")]
+
+
+def crate_tried(crate, folder, left, check):
+    """Tries wrong bodies of a crate in a copy of its folder: how many are refused, how many only where a proof names
+    what is gone, and how many not."""
+    all_of_them = len(left)
+    refused = by_name = 0
     while left:
         again, ended = [], 0
         sets = sets_of(left, folder)
         for members in sets:
-            said, late = tried(members, folder)
+            said, late = tried(members, folder, check)
             again += late
             for edit, what, why in said:
                 is_alone = len(members) == 1
@@ -176,18 +297,20 @@ def crate_tried(crate, root):
                     again.append(edit)
                     continue
                 ended += 1
-                refused += what == REFUSED
+                refused += what == REFUSED and why != ONLY_GONE
+                by_name += what == REFUSED and why == ONLY_GONE
                 what = BAD if what == UNJUDGED else what
                 print("%s/%s: %s%s" % (crate, edit.name, what, why and " (%s)" % why), flush=True)
         if again and not ended:
             # none could be judged beside another one
             first, again = again[0], again[1:]
-            said, _ = tried([(first, first.functions(folder))], folder)
-            what = said[0][1] if said else BAD
-            refused += what == REFUSED
-            print("%s/%s: %s" % (crate, first.name, BAD if what == UNJUDGED else what), flush=True)
+            said, _ = tried([(first, first.functions(folder))], folder, check)
+            what, why = said[0][1:] if said else (BAD, "")
+            refused += what == REFUSED and why != ONLY_GONE
+            by_name += what == REFUSED and why == ONLY_GONE
+            print("%s/%s: %s%s" % (crate, first.name, BAD if what == UNJUDGED else what, why and " (%s)" % why), flush=True)
         left = again
-    return refused, len(names) - refused
+    return refused, by_name, all_of_them - refused - by_name
 
 
 def without_work(keeping):
@@ -197,7 +320,7 @@ def without_work(keeping):
         if os.path.basename(folder) == "out":
             kept = ("rlib", "incremental") if os.path.basename(os.path.dirname(folder)) == keeping else ("rlib",)
             return [name for name in names if name not in kept]
-        return [name for name in names if name in (".git", "built", "must-fail")]
+        return [name for name in names if name in (".git", "built")]
 
     return ignored
 
@@ -213,14 +336,47 @@ def copied(source, target):
 
 
 def tried_in_copy(crate):
-    """Tries all wrong bodies of a crate in a copy of its own."""
+    """Tries all wrong bodies of a crate but those of the gate, in a copy of its own."""
+    crates = Crates()
+    if crates.are_proved_below(crate):
+        return tried_over_proved(crates, crate, "edits")
     with tempfile.TemporaryDirectory() as place:
         root = os.path.join(place, "flowvault")
         shutil.copytree(".", root, ignore=without_work(crate), copy_function=copied)
-        return crate_tried(crate, root)
+        folder = os.path.join(root, "crates", crate)
+        return crate_tried(crate, folder, edits_in(crate, os.path.join(folder, "edits")), check_kept)
+
+
+def tried_over_proved(crates, crate, edits):
+    """Tries the wrong bodies of a crate that are in this folder of it, over the libraries that `rt ci` left."""
+    source = os.path.join("crates", crate)
+    with tempfile.TemporaryDirectory() as place:
+        folder, work = os.path.join(place, crate), os.path.join(place, "work")
+        os.makedirs(work)
+        for part in ("src", "specs", "proofs"):
+            if os.path.isdir(os.path.join(source, part)):
+                shutil.copytree(os.path.join(source, part), os.path.join(folder, part))
+        return crate_tried(crate, folder, edits_in(crate, os.path.join(source, edits)), OverProved(crates, crate, work))
+
+
+def tried_in_gate(crate):
+    """Tries the wrong bodies of a crate that the gate has: the status."""
+    crates = Crates()
+    if not crates.are_proved_below(crate):
+        print("%s: `rt ci` hasn't left the libraries below, as they are now: ./verify in a clean clone does" % crate)
+        return 1
+    counts = tried_over_proved(crates, crate, os.path.join("edits", "gate"))
+    say_counts(*counts)
+    return int(sum(counts[1:]) > 0)
+
+
+def say_counts(refused, by_name, others):
+    print("%d refused, %d only where a proof names what is gone, %d not refused" % (refused, by_name, others))
 
 
 def main(names, lanes=1):
+    if names[:1] == ["--gate"] and len(names) == 2:
+        return tried_in_gate(names[1])
     all_names = sorted(it for it in os.listdir("crates") if os.path.isdir(os.path.join("crates", it, "edits")))
     for name in names:
         if name not in all_names:
@@ -228,8 +384,8 @@ def main(names, lanes=1):
             return 2
     with concurrent.futures.ThreadPoolExecutor(lanes) as pool:
         counts = list(pool.map(tried_in_copy, names or all_names))
-    refused, others = map(sum, zip(*counts))
-    print("%d refused, %d not refused" % (refused, others))
+    refused, by_name, others = map(sum, zip(*counts))
+    say_counts(refused, by_name, others)
     return int(others > 0)
 
 

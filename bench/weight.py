@@ -1,0 +1,106 @@
+#!/usr/bin/env python3
+"""weight.py COMMAND..: runs a command that proves crates (./verify, rt ci NAME) and samples its processes: prints how
+many processor seconds each crate took, by what for, and those of all else. Status is the command's.
+
+What for: `proof` (a crate's first check and its library), `tests` (their proofs and their program), `seed` and `edits`
+(what wrong bodies are tried over, and each of them), `code` (LLVM and linking). A process that ends between two samples
+(a fifth of a second) is counted up to its last one; so the sum is less than what the system counted for all children,
+which is the last line, with the machine's load (a mean of its one-minute averages) and how long it took. Run it on a
+machine that kept nothing, with nothing beside it: proofs side by side slow each other."""
+import os
+import re
+import resource
+import subprocess
+import sys
+import time
+
+EVERY = 0.2
+TICKS = os.sysconf("SC_CLK_TCK")
+KINDS = ("proof", "tests", "seed", "edits", "code")
+
+
+def read(path):
+    try:
+        with open(path, "rb") as file:
+            return file.read()
+    except OSError:
+        return b""
+
+
+def descendants(root):
+    """The processes that a process started, and those that they started, with their processor seconds."""
+    parents, spent = {}, {}
+    for name in filter(str.isdigit, os.listdir("/proc")):
+        fields = read("/proc/%s/stat" % name).rpartition(b")")[2].split()
+        if fields:
+            parents[int(name)], spent[int(name)] = int(fields[1]), (int(fields[11]) + int(fields[12])) / TICKS
+    found, last = {root}, set()
+    while found != last:
+        last, found = found, found | {pid for pid, parent in parents.items() if parent in found}
+    return {pid: spent[pid] for pid in found - {root} if pid in spent}
+
+
+def what_for(pid):
+    """The crate that a process is for, and what it does with it; nothing where it proves and builds none."""
+    words = read("/proc/%d/cmdline" % pid).decode(errors="replace").split("\0")
+    program = os.path.basename(words[0])
+    try:
+        place = os.readlink("/proc/%d/cwd" % pid)
+    except OSError:
+        return None
+    crate = words[words.index("--crate-name") + 1] if "--crate-name" in words[:-1] else None
+    if crate is None:
+        of = re.search(r"/crates/(\w+)", " ".join([place, *words]))
+        return (of[1] if of else "", "code") if program.startswith(("clang", "llvm", "ld", "rattle-link")) else None
+    if "--test" in words:
+        return crate, "tests"
+    if "/rt-edit-" in place:
+        return crate, "edits" if "/seed" not in " ".join(words) else "seed"
+    return crate, "edits" if "--only" in words else "proof"
+
+
+def sampled(command):
+    """Runs a command: its status, the seconds of each process with what it was for, and the loads."""
+    spent, kinds, loads = {}, {}, []
+    ran = subprocess.Popen(command)
+    while ran.poll() is None:
+        for pid, seconds in descendants(ran.pid).items():
+            kinds[pid] = kinds.get(pid) or what_for(pid)
+            spent[pid] = max(seconds, spent.get(pid, 0))
+        loads.append(os.getloadavg()[0])
+        time.sleep(EVERY)
+    return ran.returncode, [(kinds[pid], seconds) for pid, seconds in spent.items()], loads
+
+
+def table(processes):
+    """Prints the seconds of each crate, those that took most first."""
+    crates, rest = {}, 0.0
+    for kind, seconds in processes:
+        if kind:
+            crate = crates.setdefault(kind[0] or "(any)", dict.fromkeys(KINDS, 0.0))
+            crate[kind[1]] += seconds
+        else:
+            rest += seconds
+    print("%-22s" % "crate" + "".join("%8s" % it for it in KINDS) + "%8s" % "all")
+    for name, crate in sorted(crates.items(), key=lambda it: -sum(it[1].values())):
+        print("%-22s" % name + "".join("%8.0f" % crate[it] for it in KINDS) + "%8.0f" % sum(crate.values()))
+    sums = [sum(crate[it] for crate in crates.values()) for it in KINDS]
+    print("%-22s" % "all crates" + "".join("%8.0f" % it for it in sums) + "%8.0f" % sum(sums))
+    print("%-22s%48.0f" % ("all else", rest))
+
+
+def main():
+    if len(sys.argv) < 2:
+        print(__doc__)
+        return 2
+    began = time.time()
+    status, processes, loads = sampled(sys.argv[1:])
+    table(processes)
+    used = resource.getrusage(resource.RUSAGE_CHILDREN)
+    print("the system counted %.0f s for it (%.0f user); it took %.0f s, under a load of %.1f"
+          % (used.ru_utime + used.ru_stime, used.ru_utime, time.time() - began, sum(loads) / max(1, len(loads))))
+    return status
+
+
+if __name__ == "__main__":
+    sys.exit(main())
