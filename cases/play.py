@@ -71,7 +71,7 @@ class Run:
         """What is wanted on standard error."""
         if self.shown is not None:
             return self.shown
-        return "".join(line + "\n" for line in self.err + self.see()).encode()
+        return "".join(line + "\n" for line in self.errors()).encode()
 
     def sorted(self, octets):
         """Lines in the order of the word that they are sorted by, if any; those with one such word stay in order."""
@@ -79,10 +79,14 @@ class Run:
             return octets
         return b"".join(sorted(octets.splitlines(True), key=lambda line: line.split()[self.by - 1]))
 
-    def see(self):
-        """The last line on standard error of a refusal, which cases leave out."""
+    def errors(self):
+        """The lines on standard error, with the one of a refusal that cases leave out: it is the last one, but for what
+        the system said."""
         refused = re.match(r"flowvault: (\d+) [A-Z]", self.err[0]) if self.err else None
-        return ["flowvault: see: flowvault explain " + refused[1]] if refused else []
+        if not refused:
+            return self.err
+        last = len(self.err) - int(self.err[-1].startswith("flowvault: the system said: "))
+        return self.err[:last] + ["flowvault: see: flowvault explain " + refused[1]] + self.err[last:]
 
     def differs(self, got):
         """Yields each difference of what came, as (what, wanted, came)."""

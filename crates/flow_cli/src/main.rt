@@ -4,6 +4,9 @@
 //! fault; a refusal is that of the first fault by place.
 #![tactic(auto)]
 
+mod sources;
+
+use crate::sources::VERSION;
 use flow_commands::Progress;
 use flow_program::run_line;
 use std::env;
@@ -41,6 +44,7 @@ fn main(rt: HostRuntime) -> ExitCode {
     let progress = Progress::new(Some(rt.stderr()), errors.is_terminal());
     let status = run_line(
         &rt,
+        VERSION,
         words.as_slice(),
         &mut input,
         &mut output,

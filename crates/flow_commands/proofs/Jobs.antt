@@ -46,6 +46,7 @@ event_unwritten archive.Closed = tt
 pub folder_unwritten : (are : List ℕ → Type 0) (output : Option (List ℕ)) (e : FolderError)
     → WritesOrNot are (of_folder e) output output
 folder_unwritten are output folder.NotThere = Keeps-refl output
+folder_unwritten are output folder.NotAFolder = Keeps-refl output
 folder_unwritten are output folder.InUse = Keeps-refl output
 folder_unwritten are output (folder.NotAFile file) = Keeps-refl output
 folder_unwritten are output folder.NoHandles = Keeps-refl output

@@ -314,6 +314,7 @@ opening_not_fed reads opening.OutOfMemory why = tt
 pub folder_kept : (count : ℕ) (output : Option (List ℕ)) (e : FolderError)
     → KeepsOrFeeds count (of_folder e) output output
 folder_kept count output folder.NotThere = Keeps-refl output
+folder_kept count output folder.NotAFolder = Keeps-refl output
 folder_kept count output folder.InUse = Keeps-refl output
 folder_kept count output (folder.NotAFile file) = Keeps-refl output
 folder_kept count output folder.NoHandles = Keeps-refl output

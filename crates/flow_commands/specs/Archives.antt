@@ -20,14 +20,16 @@ use Rattle.flow_report.specs.declared.text_error.TextError.TheVariants as text
 use Rattle.flow_commands.specs.declared.archive_refusal.ArchiveRefusal.{ArchiveRefusal}
 use Rattle.flow_commands.specs.declared.archive_refusal.ArchiveRefusal.TheVariants.{Folder, Opening, Archive}
 use Rattle.flow_commands.specs.declared.folder_fault.FolderFault.{FolderFault}
-use Rattle.flow_commands.specs.declared.folder_fault.FolderFault.TheVariants.{NotThere, Refused, InUse, NotAFile}
+use Rattle.flow_commands.specs.declared.folder_fault.FolderFault.TheVariants.{NotThere, NotAFolder, Refused, InUse, NotAFile}
 use Rattle.flow_commands.specs.declared.folder_fault.FolderFault.TheVariants.{NoHandles, NoClock}
 use Rattle.flow_commands.specs.declared.archive_refusal.ArchiveRefusal.TheVariants.{Query}
 use Rattle.flow_commands.specs.declared.archive_refusal.ArchiveRefusal.TheVariants.{OutOfMemory, Write}
 
--- A second line says that the folder isn't there or in use, which name in it isn't a file's, or what the system lacks.
+-- A second line says that the folder isn't there, is none or is in use, which name in it isn't a file's, or what the system lacks.
 abbrev pub fault_printed : FolderFault → List ℕ
 fault_printed NotThere = code_text code.Fault ++ codes "\nflowvault: there is no such folder"
+fault_printed NotAFolder =
+    code_text code.Fault ++ codes "\nflowvault: that is a file, and DIR is the folder of an archive"
 fault_printed Refused =
     code_text code.Fault ++ codes "\nflowvault: the system refused the folder: may this user read, write and enter it?"
 fault_printed InUse = code_text code.Fault ++ codes "\nflowvault: the folder is in use, by a flowvault that still runs"
@@ -81,6 +83,7 @@ of_text (text.Write failed) = Write failed
 
 abbrev pub of_folder : FolderError → ArchiveRefusal
 of_folder folder.NotThere = Folder NotThere
+of_folder folder.NotAFolder = Folder NotAFolder
 of_folder folder.InUse = Folder InUse
 of_folder (folder.NotAFile file) = Folder (NotAFile file)
 of_folder folder.NoHandles = Folder NoHandles

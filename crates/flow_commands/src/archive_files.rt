@@ -26,7 +26,7 @@ use crate::checking::Standing;
 use crate::ending::ended;
 use flow_archive::{Archive, Refused};
 use flow_disk::{Disk, Faults, SealedFile};
-use flow_folder::{FolderDisk, Lockable};
+use flow_folder::{FirstFault, FolderDisk, Lockable};
 use flow_manifest::{Entry, Kind, OpenError};
 use flow_measure::{Row, Rows};
 use flow_model::one_view_of_a_state;
@@ -308,6 +308,7 @@ pub fn check_files<D: Disk, W: Write>(
 pub fn check_files_in<H: Files + AllocGlobal + Clone + Drop, W: Write>(
     rt: &H,
     folder: &str,
+    first_fault: &FirstFault,
     output: &mut W,
 ) -> Result<(), ArchiveRefusal>
 where
@@ -315,6 +316,6 @@ where
     ensures written { OnOk result (Writes AreListings (W.contents output.old) (W.contents output.new)) }
     ensures kept { IfErr result (λ e. WritesOrNot AreListings e (W.contents output.old) (W.contents output.new)) }
 {
-    let disk = FolderDisk::new(rt, folder)?;
+    let disk = FolderDisk::noting(rt, folder, first_fault)?;
     ended(check_files(rt.alloc(), disk, output, &mut Faults::new()))
 }

@@ -113,6 +113,7 @@ impl From<FolderError> for ArchiveRefusal {
     fn from(error: FolderError) -> ArchiveRefusal {
         match error {
             FolderError::NotThere => ArchiveRefusal::Folder(FolderFault::NotThere),
+            FolderError::NotAFolder => ArchiveRefusal::Folder(FolderFault::NotAFolder),
             FolderError::Refused(_) => ArchiveRefusal::Folder(FolderFault::Refused),
             FolderError::InUse => ArchiveRefusal::Folder(FolderFault::InUse),
             FolderError::NotAFile(file) => ArchiveRefusal::Folder(FolderFault::NotAFile(file)),

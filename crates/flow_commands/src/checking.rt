@@ -14,7 +14,7 @@ ghost use Rattle.flow_commands.specs.Check.{standing_by, standing_of, summed_cou
 
 use crate::archive_refusal::ArchiveRefusal;
 use flow_disk::Disk;
-use flow_folder::{FolderDisk, Lockable};
+use flow_folder::{FirstFault, FolderDisk, Lockable};
 use flow_manifest::{Entry, Kind, Manifest, OpenError, count_of};
 use flow_recover::recover;
 use flow_report::{Patience, push_count, write_patiently};
@@ -127,6 +127,7 @@ pub fn check<D: Disk, W: Write>(
 pub fn check_in<H: Files + AllocGlobal + Clone + Drop, W: Write>(
     rt: &H,
     folder: &str,
+    first_fault: &FirstFault,
     output: &mut W,
 ) -> Result<(), ArchiveRefusal>
 where
@@ -134,6 +135,6 @@ where
     ensures written { OnOk result (IsChecked (W.contents output.old) (W.contents output.new)) }
     ensures kept { IfErr result (λ e. KeepsOrChecks e (W.contents output.old) (W.contents output.new)) }
 {
-    let mut disk = FolderDisk::new(rt, folder)?;
+    let mut disk = FolderDisk::noting(rt, folder, first_fault)?;
     check(rt.alloc(), &mut disk, output)
 }

@@ -12,7 +12,7 @@ use crate::ending::ended;
 use crate::plan::NewArchive;
 use flow_archive::{Archive, ArchiveError, Refused};
 use flow_disk::Disk;
-use flow_folder::{FolderDisk, Lockable};
+use flow_folder::{FirstFault, FolderDisk, Lockable};
 use std::alloc::{AllocGlobal, Global};
 use std::fs::Files;
 use std::os::unix::fs::FileExt;
@@ -43,12 +43,13 @@ pub fn create<D: Disk>(
 pub fn create_in<H: Files + AllocGlobal + Clone + Drop>(
     rt: &H,
     folder: &str,
+    first_fault: &FirstFault,
     plan: &NewArchive,
 ) -> Result<(), ArchiveRefusal>
 where
     H::File: FileExt + Lockable,
 {
-    let disk = FolderDisk::new(rt, folder)?;
+    let disk = FolderDisk::noting(rt, folder, first_fault)?;
     ended(create(rt.alloc(), disk, plan))?;
     Ok(())
 }

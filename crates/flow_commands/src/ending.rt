@@ -5,8 +5,6 @@ ghost use Rattle.flow_commands.specs.Rolling.{done_of};
 
 use flow_archive::{Archive, Refused};
 use flow_disk::Disk;
-use flow_shared::{Naming, SharedArchive};
-use std::sync::Wait;
 
 /// What a command answers where it gives an archive back, or the disk with a refusal. Both are dropped, which leaves a
 /// folder to others again.
@@ -17,9 +15,4 @@ pub(crate) fn ended<D: Disk, E: Drop>(given: Result<Archive<D>, Refused<D, E>>) 
         Ok(_) => Ok(()),
         Err(refused) => Err(refused.error),
     }
-}
-
-/// Ends a shared archive and drops it, which leaves a folder to others again.
-pub(crate) fn end_shared<D: Disk, J: Naming, H: Wait>(rt: &H, shared: SharedArchive<D, J, H>) {
-    let _archive = shared.end(rt);
 }

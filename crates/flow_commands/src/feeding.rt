@@ -15,15 +15,14 @@ ghost use Rattle.std.specs.IoError.{error_kind};
 ghost use Rattle.std.specs.declared.io.ErrorKind.TheVariants as kind;
 
 use crate::archive_refusal::ArchiveRefusal;
-use crate::ending::end_shared;
 use crate::feed_line::{fed_line, stop_status};
 use crate::plan::FeedPlan;
 use crate::progress::{Progress, Watched};
-use crate::warning::{LossyFile, StoppedFile, UnopenedFile};
+use crate::warning::{LossyFile, PassedFile, RolledMessages, StoppedFile, UnopenedFile};
 use flow_archive::{Archive, ArchiveError};
 use flow_codec::Losses;
 use flow_disk::{Disk, Faults};
-use flow_feed::{Fed, FeedStop, SharedAppender, feed};
+use flow_feed::{Fed, FeedStop, SharedAppender, feed_shared};
 use flow_folder::{FolderDisk, Lockable};
 use flow_report::{Patience, write_patiently};
 use flow_roller::{Bell, roll_beside};
@@ -73,7 +72,7 @@ fn stream<H: AllocGlobal + Wait, D: Disk, J: Naming, R: Read, P: Write + Drop>(
 ) -> Streamed {
     let mut input = Watched::new(rt, input, progress, bell, span);
     let mut appender = SharedAppender::new(rt, shared);
-    let fed = feed(&mut appender, rt.alloc(), &mut input, passed);
+    let fed = feed_shared(&mut appender, rt.alloc(), &mut input, passed);
     let losses = appender.losses();
     Streamed { fed, losses }
 }
@@ -108,6 +107,9 @@ fn feed_named<H: AllocGlobal + Wait, D: Disk, J: Naming, R: Read, P: Write + Dro
     if let Some(line) = LossyFile::of(number, path, streamed.losses) {
         progress.say(rt, &line);
     }
+    if let Some(line) = PassedFile::of(number, path, streamed.fed, passed) {
+        progress.tell(rt, &line);
+    }
     streamed.fed
 }
 
@@ -140,7 +142,7 @@ fn warn_of_unopened<H: Wait, P: Write + Drop>(
         path,
         error,
     };
-    progress.say(rt, &line);
+    progress.tell(rt, &line);
 }
 
 /// The same of the File of this number at a path.
@@ -365,6 +367,21 @@ fn warn_of_stops<H: Wait, S: AsStr, P: Write + Drop>(
     }
 }
 
+/// Warns of messages that are in sums alone, where more of them are than were before; then drops the archive, which
+/// leaves a folder to others again.
+fn warn_of_rolled<H: Wait, D: Disk, P: Write + Drop>(
+    rt: &H,
+    before: u64,
+    archive: Archive<D>,
+    progress: &Progress<P>,
+) {
+    let rolled = archive.manifest().rolled;
+    let messages = archive.position();
+    if rolled > before {
+        progress.say(rt, &RolledMessages { rolled, messages });
+    }
+}
+
 /// Writes the lines of Files, and answers the status of the first that stopped.
 fn tell_files<W: Write>(
     alloc: Global,
@@ -455,14 +472,15 @@ where
 {
     let alloc = rt.alloc();
     let span = archive.limit();
+    let rolled = archive.manifest().rolled;
     let Ok((shared, places)) = start::<D, J, H>(alloc, archive, opened, 1) else {
         return Err(ArchiveRefusal::OutOfMemory);
     };
     drop(places);
     let (feds, refused) = feed_beside(rt, &shared, span, plan, paths, input, progress, feds);
-    end_shared(rt, shared);
     progress.clear(rt);
     warn_of_stops(rt, paths, feds.as_slice(), progress);
+    warn_of_rolled(rt, rolled, shared.end(rt), progress);
     tell_files(alloc, feds.as_slice(), refused, output)
 }
 
@@ -547,6 +565,6 @@ where
     if plan.warn {
         progress.warn(rt);
     }
-    let disk = FolderDisk::new(rt, folder)?;
+    let disk = FolderDisk::noting(rt, folder, progress.first_fault())?;
     feed_on(rt, disk, plan, paths, input, output, progress)
 }

@@ -26,8 +26,10 @@ impl fmt::Display for FileName {
 /// Why a folder can't be opened, or no time is known, printed as 30 Fault, and a second line.
 #[derive(Debug, Drop)]
 pub enum FolderFault {
-    /// There is no folder at this path.
+    /// There is nothing at this path.
     NotThere,
+    /// There is a file at this path, or another thing that is no folder.
+    NotAFolder,
     /// The system refused it.
     Refused,
     /// It is in use.
@@ -48,6 +50,11 @@ impl fmt::Display for FolderFault {
             FolderFault::NotThere => write!(
                 f,
                 "{}\nflowvault: there is no such folder",
+                RefusalCode::Fault
+            ),
+            FolderFault::NotAFolder => write!(
+                f,
+                "{}\nflowvault: that is a file, and DIR is the folder of an archive",
                 RefusalCode::Fault
             ),
             FolderFault::Refused => write!(

@@ -38,4 +38,4 @@ pub use plan::{FeedPlan, NewArchive, StartSpan, Workers};
 pub use progress::Progress;
 pub use rolling::{roll, roll_in, roll_on};
 pub use totalling::{ask_rows, totals, totals_in};
-pub use warning::warn_of_input;
+pub use warning::{tell_fault, warn_of_input, warn_of_wide};

@@ -24,7 +24,7 @@ use crate::ending::ended;
 use crate::plan::StartSpan;
 use flow_archive::{Archive, Refused};
 use flow_disk::{Disk, Faults, SealedFile};
-use flow_folder::{FolderDisk, Lockable};
+use flow_folder::{FirstFault, FolderDisk, Lockable};
 use flow_manifest::OpenError;
 use flow_refusals::ReadRefusal;
 use flow_report::{FlowLines, Format};
@@ -177,6 +177,7 @@ pub fn flows<D: Disk, W: Write>(
 pub fn flows_in<H: Files + AllocGlobal + Clone + Drop, W: Write>(
     rt: &H,
     folder: &str,
+    first_fault: &FirstFault,
     span: &StartSpan,
     format: Format,
     output: &mut W,
@@ -186,7 +187,7 @@ where
     ensures written { OnOk result (Writes (AreFlows format) (W.contents output.old) (W.contents output.new)) }
     ensures kept { IfErr result (λ e. WritesUpTo (AreFlows format) e (W.contents output.old) (W.contents output.new)) }
 {
-    let disk = FolderDisk::new(rt, folder)?;
+    let disk = FolderDisk::noting(rt, folder, first_fault)?;
     let faults = &mut Faults::new();
     ended(flows(rt.alloc(), disk, span, format, output, faults))
 }

@@ -1,5 +1,6 @@
 //! How far feeding is, on a terminal, and what it warns of.
 
+use flow_folder::FirstFault;
 use flow_roller::Bell;
 use std::fmt::Display;
 use std::io;
@@ -33,6 +34,15 @@ impl<W: Write + Drop> Shown<W> {
         }
         self.is_shown = false;
     }
+
+    /// Writes a line, in place of what is shown.
+    fn write<L: Display>(&mut self, line: &L) {
+        self.clear();
+        if let Some(errors) = &mut self.errors {
+            let _ = write!(errors, "flowvault: {line}\n");
+            let _ = errors.flush();
+        }
+    }
 }
 
 /// Shows on a terminal how much of the Files is read, by whichever threads, and writes warnings there, or where they
@@ -40,6 +50,7 @@ impl<W: Write + Drop> Shown<W> {
 #[derive(Drop)]
 pub struct Progress<W: Write + Drop> {
     shown: Mutex<Shown<W>>,
+    first_fault: FirstFault,
 }
 
 impl<W: Write + Drop> Progress<W> {
@@ -55,6 +66,7 @@ impl<W: Write + Drop> Progress<W> {
         };
         Progress {
             shown: Mutex::new(shown),
+            first_fault: FirstFault::new(),
         }
     }
 
@@ -79,17 +91,29 @@ impl<W: Write + Drop> Progress<W> {
         }
     }
 
+    /// What the system said of the first call on a folder that failed is noted here.
+    pub fn first_fault(&self) -> &FirstFault {
+        &self.first_fault
+    }
+
+    /// Writes a line.
+    pub(crate) fn tell<H: Wait, L: Display>(&self, rt: &H, line: &L) {
+        self.shown.lock(rt).write(line);
+    }
+
     /// Writes a line, where warnings are written.
     pub(crate) fn say<H: Wait, L: Display>(&self, rt: &H, line: &L) {
-        let mut guard = self.shown.lock(rt);
-        let shown = &mut *guard;
-        if !shown.warns {
-            return;
+        let mut shown = self.shown.lock(rt);
+        if shown.warns {
+            shown.write(line);
         }
-        shown.clear();
-        if let Some(errors) = &mut shown.errors {
-            let _ = write!(errors, "flowvault: {line}\n");
-            let _ = errors.flush();
+    }
+
+    /// Writes a line, where it is a terminal.
+    pub(crate) fn note<H: Wait, L: Display>(&self, rt: &H, line: &L) {
+        let mut shown = self.shown.lock(rt);
+        if shown.is_terminal {
+            shown.write(line);
         }
     }
 

@@ -8,7 +8,7 @@ use crate::archive_refusal::ArchiveRefusal;
 use crate::ending::ended;
 use flow_archive::{Archive, Refused};
 use flow_disk::{Disk, Faults};
-use flow_folder::{FolderDisk, Lockable};
+use flow_folder::{FirstFault, FolderDisk, Lockable};
 use flow_manifest::JobKind;
 use flow_report::{Patience, push_count, write_patiently};
 use flow_turns::run_job;
@@ -110,6 +110,7 @@ pub fn roll_on<D: Disk, W: Write>(
 pub fn roll_in<H: Files + AllocGlobal + Clone + Drop, W: Write>(
     rt: &H,
     folder: &str,
+    first_fault: &FirstFault,
     kind: JobKind,
     keep: u32,
     output: &mut W,
@@ -119,6 +120,6 @@ where
     ensures written { OnOk result (Writes (IsJobLine kind) (W.contents output.old) (W.contents output.new)) }
     ensures kept { IfErr result (λ e. WritesOrNot (IsJobLine kind) e (W.contents output.old) (W.contents output.new)) }
 {
-    let disk = FolderDisk::new(rt, folder)?;
+    let disk = FolderDisk::noting(rt, folder, first_fault)?;
     ended(roll_on(rt.alloc(), disk, kind, keep, output))
 }

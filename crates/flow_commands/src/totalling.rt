@@ -25,7 +25,7 @@ use crate::ending::ended;
 use crate::plan::{StartSpan, Workers};
 use flow_archive::{Archive, Refused};
 use flow_disk::{Disk, Faults, SealedFile};
-use flow_folder::{FolderDisk, Lockable};
+use flow_folder::{FirstFault, FolderDisk, Lockable};
 use flow_manifest::OpenError;
 use flow_measure::Row;
 use flow_refusals::ReadRefusal;
@@ -202,6 +202,7 @@ where
 pub fn totals_in<H: Files + AllocGlobal + Clone + Drop + Threads + Send + Sync, W: Write>(
     rt: &H,
     folder: &str,
+    first_fault: &FirstFault,
     span: &StartSpan,
     workers: Option<Workers>,
     format: Format,
@@ -217,7 +218,7 @@ where
         Some(workers) => workers,
         None => Workers::of_processors(rt),
     };
-    let disk = FolderDisk::new(rt, folder)?;
+    let disk = FolderDisk::noting(rt, folder, first_fault)?;
     ended(totals(
         rt,
         rt.alloc(),

@@ -7,7 +7,7 @@ ghost use Rattle.flow_commands.specs.Warnings.{stop_place, stream_place, unread_
 use crate::progress::Progress;
 use flow_archive::ArchiveError;
 use flow_codec::{FileError, Losses, MessageError, StreamError};
-use flow_feed::FeedStop;
+use flow_feed::{Fed, FeedStop};
 use std::io::Write;
 use std::sync::Wait;
 use std::{fmt, io};
@@ -109,6 +109,94 @@ impl fmt::Display for UnopenedFile<'_> {
             "warning: file {} ({}): can't be opened: {}",
             self.number, self.path, self.error
         )
+    }
+}
+
+/// The File of this number and path has fewer messages than were to be passed over.
+#[derive(Debug, Drop)]
+pub(crate) struct PassedFile<'a> {
+    number: u64,
+    path: &'a str,
+    messages: u64,
+    passed: u64,
+}
+
+impl<'a> PassedFile<'a> {
+    /// Nothing where it stopped, or has as many.
+    pub(crate) fn of(number: u64, path: &'a str, fed: Fed, passed: u64) -> Option<PassedFile<'a>> {
+        if fed.stop.is_some() || fed.messages >= passed {
+            return None;
+        }
+        Some(PassedFile {
+            number,
+            path,
+            messages: fed.messages,
+            passed,
+        })
+    }
+}
+
+impl fmt::Display for PassedFile<'_> {
+    fn fmt<W: fmt::Write>(&self, f: &mut fmt::Formatter<W>) -> fmt::Result {
+        write!(
+            f,
+            "warning: file {} ({}): nothing is taken in, since --from {} is past its last message: {}",
+            self.number, self.path, self.passed, self.messages
+        )
+    }
+}
+
+/// So many messages of so many in all are in sums alone.
+#[derive(Debug, Drop)]
+pub(crate) struct RolledMessages {
+    pub(crate) rolled: u64,
+    pub(crate) messages: u64,
+}
+
+impl fmt::Display for RolledMessages {
+    fn fmt<W: fmt::Write>(&self, f: &mut fmt::Formatter<W>) -> fmt::Result {
+        write!(
+            f,
+            "{} of {} messages are in sums alone now",
+            self.rolled, self.messages
+        )
+    }
+}
+
+/// What sums over wide intervals lose.
+#[derive(Debug, Drop)]
+struct WideSums;
+
+impl fmt::Display for WideSums {
+    fn fmt<W: fmt::Write>(&self, f: &mut fmt::Formatter<W>) -> fmt::Result {
+        write!(
+            f,
+            "merged sums are over wide intervals alone: peaks and percentiles of shorter ones can't be had of them"
+        )
+    }
+}
+
+/// Says on a terminal what sums over wide intervals lose.
+pub fn warn_of_wide<H: Wait, P: Write + Drop>(rt: &H, progress: &Progress<P>) {
+    progress.note(rt, &WideSums);
+}
+
+/// What the system said of the first call on a folder that failed.
+#[derive(Debug, Drop)]
+struct SystemSaid {
+    error: io::Error,
+}
+
+impl fmt::Display for SystemSaid {
+    fn fmt<W: fmt::Write>(&self, f: &mut fmt::Formatter<W>) -> fmt::Result {
+        write!(f, "the system said: {}", self.error)
+    }
+}
+
+/// Says what the system said of the first call on a folder that failed, where one did.
+pub fn tell_fault<H: Wait, P: Write + Drop>(rt: &H, progress: &Progress<P>) {
+    if let Some(error) = progress.first_fault().said() {
+        progress.tell(rt, &SystemSaid { error });
     }
 }
 

@@ -5,6 +5,7 @@ ghost use Rattle.std.specs.BTreeMap.{get};
 ghost use Rattle.flow_disk.specs.Cause.{HasRisen, FailsOnlyByFault};
 ghost use Rattle.flow_folder.specs.Table.{marks_in};
 
+use crate::first_fault::FirstFault;
 use crate::folder::Folder;
 use crate::reported::{Reported, Table};
 use crate::sealed::FolderSealed;
@@ -12,7 +13,7 @@ use crate::system::{FolderError, Lockable};
 use flow_disk::{Disk, DiskError, LIMIT, SealedFile};
 use std::alloc::{AllocGlobal, Global};
 use std::fs::Files;
-use std::io::ErrorKind;
+use std::io::{self, ErrorKind};
 use std::os::unix::fs::FileExt;
 
 /// A folder of the system as a disk. No file of it passes 2^62 octets: a longer one, and a write past them, is a fault,
@@ -37,8 +38,33 @@ where
     pub fn new(rt: &'a R, folder: &'a str) -> Result<Self, FolderError>
         ensures { IfOk result (λ disk. (n : ℕ) → (marks_in disk.table n).frozen ≡ false) }
     {
+        Self::opened(rt, folder, None)
+    }
+
+    /// The same; what the system says of the first call that fails is noted.
+    pub fn noting(
+        rt: &'a R,
+        folder: &'a str,
+        first_fault: &'a FirstFault,
+    ) -> Result<Self, FolderError>
+        ensures { IfOk result (λ disk. (n : ℕ) → (marks_in disk.table n).frozen ≡ false) }
+    {
+        let opened = Self::opened(rt, folder, Some(first_fault));
+        if let Err(FolderError::Refused(error)) = &opened {
+            first_fault.note(error);
+        }
+        opened
+    }
+
+    fn opened(
+        rt: &'a R,
+        folder: &'a str,
+        first_fault: Option<&'a FirstFault>,
+    ) -> Result<Self, FolderError>
+        ensures { IfOk result (λ disk. (n : ℕ) → (marks_in disk.table n).frozen ≡ false) }
+    {
         Ok(FolderDisk {
-            folder: Folder::open(rt, folder)?,
+            folder: Folder::open(rt, folder, first_fault)?,
             table: Table::new(rt.alloc()),
             failed: 0,
         })
@@ -54,6 +80,18 @@ where
     {
         self.failed = self.failed.saturating_add(1);
         DiskError::Fault
+    }
+
+    /// Counts a fault, and notes what the system said.
+    fn fault_of(&mut self, error: &io::Error) -> DiskError
+        ensures fault { result ≡ DiskError.Fault }
+        ensures table { self.new.table ≡ self.old.table }
+        ensures folder { self.new.folder ≡ self.old.folder }
+        ensures later { self.old.failed ≤ self.new.failed }
+        ensures risen { HasRisen self.old.failed self.new.failed }
+    {
+        self.folder.note(error);
+        self.fault()
     }
 
     /// Reports this of a file from now on, where there is memory. Only a file without a pending change is marked as
@@ -87,8 +125,8 @@ where
                 listed: reported.listed,
             },
         )?;
-        if self.folder.remove(file).is_err() {
-            return Err(self.fault());
+        if let Err(error) = self.folder.remove(file) {
+            return Err(self.fault_of(&error));
         }
         self.report(
             file,
@@ -156,7 +194,8 @@ where
                 )?;
                 Ok(size)
             }
-            _ => Err(self.fault()),
+            Ok(_) => Err(self.fault()),
+            Err(error) => Err(self.fault_of(&error)),
         }
     }
 
@@ -171,7 +210,7 @@ where
         match self.folder.read(file, at, &mut octets) {
             Ok(()) => Ok(octets),
             Err(e) if e.kind() == ErrorKind::OutOfMemory => Err(DiskError::OutOfMemory),
-            Err(_) => Err(self.fault()),
+            Err(error) => Err(self.fault_of(&error)),
         }
     }
 
@@ -190,12 +229,8 @@ where
                 listed: reported.listed,
             },
         )?;
-        if self
-            .folder
-            .write(file, at, octets, reported.settled)
-            .is_err()
-        {
-            return Err(self.fault());
+        if let Err(error) = self.folder.write(file, at, octets, reported.settled) {
+            return Err(self.fault_of(&error));
         }
         self.report(
             file,
@@ -219,8 +254,8 @@ where
                 listed: reported.listed,
             },
         )?;
-        if self.folder.cut(file, count, reported.settled).is_err() {
-            return Err(self.fault());
+        if let Err(error) = self.folder.cut(file, count, reported.settled) {
+            return Err(self.fault_of(&error));
         }
         self.report(
             file,
@@ -244,8 +279,8 @@ where
                 listed: reported.listed,
             },
         )?;
-        if self.folder.sync(file, reported.settled).is_err() {
-            return Err(self.fault());
+        if let Err(error) = self.folder.sync(file, reported.settled) {
+            return Err(self.fault_of(&error));
         }
         self.report(
             file,
@@ -270,14 +305,15 @@ where
                 Ok(files)
             }
             Err(e) if e.kind() == ErrorKind::OutOfMemory => Err(DiskError::OutOfMemory),
-            Err(_) => Err(self.fault()),
+            Err(error) => Err(self.fault_of(&error)),
         }
     }
 
     fn freeze(&mut self, file: u64) -> Result<FolderSealed<'a, R>, DiskError> {
         let reported = self.table.of(file);
-        let Ok(sealed) = self.folder.seal(file, reported.size) else {
-            return Err(self.fault());
+        let sealed = match self.folder.seal(file, reported.size) {
+            Ok(sealed) => sealed,
+            Err(error) => return Err(self.fault_of(&error)),
         };
         self.report(
             file,

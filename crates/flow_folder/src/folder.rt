@@ -4,6 +4,7 @@ ghost use Rattle.std.specs.Prelude.{is_some, IsSome, IfSome, length, IfOk, OnOk,
 ghost use Rattle.std.specs.Ordering.{nat_cmp};
 ghost use Rattle.std.specs.BTreeMap.{get};
 
+use crate::first_fault::FirstFault;
 use crate::found::{Access, Found, is_read_only, look_up};
 use crate::naming::{file_named, path_of};
 use crate::pending::{Pending, Stage};
@@ -23,6 +24,7 @@ const MODE: u32 = 0o640;
 #[derive(Drop)]
 pub(crate) struct Folder<'a, R: Files> {
     rt: &'a R,
+    first_fault: Option<&'a FirstFault>,
     place: Arc<Place<R::File>>,
     pub(crate) names_pending: bool,
     pub(crate) pending: BTreeMap<u64, Pending<R::File>>,
@@ -40,7 +42,11 @@ where
     R::File: FileExt + Lockable,
 {
     /// Opens and locks a folder that exists. Each entry with the name of a file has to be a regular file.
-    pub(crate) fn open(rt: &'a R, path: &str) -> Result<Self, FolderError>
+    pub(crate) fn open(
+        rt: &'a R,
+        path: &str,
+        first_fault: Option<&'a FirstFault>,
+    ) -> Result<Self, FolderError>
         ensures names { IfOk result (λ folder. folder.names_pending ≡ true) }
         ensures files { IfOk result (λ folder. (n : ℕ) → get nat_cmp folder.pending n ≡ None) }
     {
@@ -48,10 +54,18 @@ where
         look_at_names(rt, place.path.as_str())?;
         Ok(Folder {
             rt,
+            first_fault,
             place: Arc::new(rt.alloc(), place)?,
             names_pending: true,
             pending: BTreeMap::new(rt.alloc()),
         })
+    }
+
+    /// Notes what the system said of a call that failed, where that is asked for.
+    pub(crate) fn note(&self, error: &io::Error) {
+        if let Some(first) = self.first_fault {
+            first.note(error);
+        }
     }
 
     /// How many octets a file has.
@@ -246,6 +260,7 @@ where
         }
         Ok(FolderSealed {
             rt: self.rt,
+            first_fault: self.first_fault,
             place: Arc::try_clone(&self.place)?,
             file,
             size,
@@ -315,7 +330,7 @@ impl<F: OpenFile + Lockable + Drop> Place<F> {
         let handle = File::open(rt, path)?;
         let opened = handle.metadata()?;
         if !opened.is_dir() {
-            return Err(FolderError::NotThere);
+            return Err(FolderError::NotAFolder);
         }
         handle.try_lock()?;
         let path = format!(in rt.alloc(); "/proc/self/fd/{}", handle.descriptor())?;

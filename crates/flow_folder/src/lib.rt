@@ -20,6 +20,7 @@
 #![tactic(auto)]
 
 mod disk;
+mod first_fault;
 mod folder;
 mod found;
 mod naming;
@@ -30,5 +31,6 @@ mod sealed;
 mod system;
 
 pub use disk::FolderDisk;
+pub use first_fault::FirstFault;
 pub use sealed::{FolderSealed, ReadFailed};
 pub use system::{FolderError, Lockable};

@@ -1,6 +1,7 @@
 // A frozen file of a folder.
 ghost use Rattle.std.specs.Prelude.{◌≡◌};
 
+use crate::first_fault::FirstFault;
 use crate::folder::{Place, read_file};
 use crate::system::Lockable;
 use flow_disk::{DiskError, Faults, MayFail, SealedFile};
@@ -21,6 +22,7 @@ pub struct ReadFailed {
 #[derive(Drop)]
 pub struct FolderSealed<'a, R: Files> {
     pub(crate) rt: &'a R,
+    pub(crate) first_fault: Option<&'a FirstFault>,
     pub(crate) place: Arc<Place<R::File>>,
     pub(crate) file: u64,
     pub(crate) size: u64,
@@ -69,7 +71,10 @@ where
         match read_file(self.rt, folder, self.file, at, &mut octets) {
             Ok(()) => Ok(octets),
             Err(e) if e.kind() == ErrorKind::OutOfMemory => Err(DiskError::OutOfMemory),
-            Err(_) => {
+            Err(error) => {
+                if let Some(first) = self.first_fault {
+                    first.note(&error);
+                }
                 faults.raise(&ReadFailed { _made_here: () });
                 Err(DiskError::Fault)
             }

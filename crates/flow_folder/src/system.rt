@@ -27,8 +27,10 @@ impl Lockable for File {
 /// Why a folder can't be opened as a disk.
 #[derive(Debug, Drop)]
 pub enum FolderError {
-    /// There is no folder at this path.
+    /// There is nothing at this path.
     NotThere,
+    /// There is a file at this path, or another thing that is no folder.
+    NotAFolder,
     /// Another value has it, of this process or another.
     InUse,
     /// The name of this file is that of a symbolic link, a folder, a pipe or a device.

@@ -27,7 +27,7 @@ use Rattle.flow_program.specs.declared.request.LineError.{LineError}
 use Rattle.flow_program.specs.declared.request.LineError.TheVariants as line
 use Rattle.flow_program.specs.Arguments.{requested, request_in}
 use Rattle.flow_program.specs.CommandLine.{asked, flowvault}
-use Rattle.flow_program.specs.Arguments.{format_in}
+use Rattle.flow_program.specs.Arguments.{are_swapped, format_in}
 use Rattle.flow_program.specs.Requested.{IsLineError, wrong_values, wrong_values_in, wrong_values_of}
 use Rattle.flow_program.proofs.Walking.{Fails}
 use Rattle.flow_program.proofs.Verdicts.{Verdict, verdict}
@@ -95,6 +95,7 @@ IsOurs line.Width = ⊤
 IsOurs line.Plan = ⊤
 IsOurs line.Span = ⊤
 IsOurs line.Totals = ⊤
+IsOurs line.Swapped = ⊤
 IsOurs line.Keep = ⊤
 IsOurs line.Files = ⊤
 IsOurs line.Number = ⊤
@@ -127,7 +128,9 @@ named_ours name =
 values_ours : (command : Option (Text × List Row)) → IsOurs (wrong_values command)
 values_ours None = tt
 values_ours (Some c) =
-    either_ours (is_some (format_in c.1)) (wrong_values_of c.0) line.Formats (named_ours c.0) tt
+    let named : LineError = if are_swapped c.1 then line.Swapped else wrong_values_of c.0 in
+    either_ours (is_some (format_in c.1)) named line.Formats
+    (either_ours (are_swapped c.1) line.Swapped (wrong_values_of c.0) tt (named_ours c.0)) tt
 
 -- what is said of the values of the command that the parser finds, by its name and its rows
 pub values_named : (m : ArgMatches) (name : Text) (rows : List Row) → Some name ≡ subcommand_name_of m
@@ -151,6 +154,7 @@ wrong_words asking line.Width is none = (none, is)
 wrong_words asking line.Plan is none = (none, is)
 wrong_words asking line.Span is none = (none, is)
 wrong_words asking line.Totals is none = (none, is)
+wrong_words asking line.Swapped is none = (none, is)
 wrong_words asking line.Keep is none = (none, is)
 wrong_words asking line.Files is none = (none, is)
 wrong_words asking line.Number is none = (none, is)

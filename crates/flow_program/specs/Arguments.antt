@@ -14,7 +14,7 @@ use Rattle.flow_program.specs.declared.request.Request.TheVariants.{Feed, Shell,
 use Rattle.flow_refusals.specs.Table.{is_refusal}
 use Rattle.flow_program.specs.declared.arguments.MomentSpan.{MomentSpan}
 use Rattle.flow_moments.specs.declared.moment.Moment.{Moment}
-use Rattle.flow_moments.specs.declared.moment.Moment.TheVariants.{Second}
+use Rattle.flow_moments.specs.declared.moment.Moment.TheVariants.{Ago, Second}
 use Rattle.flow_moments.specs.Moments.{is_relative, moment_of, second_at}
 use Rattle.flow_report.specs.declared.format.Format.{Format}
 use Rattle.flow_report.specs.declared.format.Layout.{Layout}
@@ -109,10 +109,25 @@ worded_span_in rows =
     else option_and_then (λ from. option_map (λ to. record { from = from; to = to })
     (moment_in (codes "UNTIL") (Second 4294967296) rows)) (moment_in (codes "SINCE") (Second 0) rows)
 
+-- the first of two moments is later, whatever second it is now
+abbrev pub is_later : Moment → Moment → Bool
+is_later (Second a) (Second b) = nat_lt b a
+is_later (Ago a) (Ago b) = nat_lt a b
+is_later (Second a) (Ago b) = false
+is_later (Ago a) (Second b) = false
+
+-- a span that doesn't end before it begins
+abbrev pub forward : MomentSpan → Option MomentSpan
+forward span = if is_later span.from span.to then None else Some span
+
 abbrev pub span_in : List Row → Option MomentSpan
 span_in rows =
-    if is_given (codes "SINCE") rows || is_given (codes "UNTIL") rows then worded_span_in rows
+    if is_given (codes "SINCE") rows || is_given (codes "UNTIL") rows then option_and_then forward (worded_span_in rows)
     else numbered_span_in rows
+
+-- `--since` is later than `--until`
+abbrev pub are_swapped : List Row → Bool
+are_swapped rows = option_map_or (λ span. is_later span.from span.to) (worded_span_in rows) false
 
 abbrev pub folder_in : List Row → Option Text
 folder_in rows = first_of (codes "DIR") rows
@@ -144,27 +159,26 @@ keep_in rows = option_and_then (number_between 0 4294967295) (first_of (codes "K
 abbrev pub rolled_in : (Text → ℕ → Request) → List Row → Option Request
 rolled_in request rows = option_and_then (λ folder. option_map (request folder) (keep_in rows)) (folder_in rows)
 
--- how many of the newest segments `feed` and `shell` leave: 8 where nothing else is asked for
-abbrev pub kept_in : List Row → Option ℕ
-kept_in rows = option_map_or (number_between 0 4294967295) (first_of (codes "KEEP") rows) (Some 8)
+-- how many of the newest segments are left, or as many as usual
+abbrev pub kept_or : ℕ → List Row → Option ℕ
+kept_or usual rows = option_map_or (number_between 0 4294967295) (first_of (codes "KEEP") rows) (Some usual)
 
 -- how many of the first messages of a File are only read: none where nothing is asked for
 abbrev pub passed_in : List Row → Option ℕ
 passed_in rows = option_map_or (number_between 0 (too_many_messages - 1)) (first_of (codes "COUNT") rows) (Some 0)
 
--- how Files are fed
+-- how Files are fed: of the segments 8 are left where nothing else is asked for
 abbrev pub feeding_in : List Row → Option FeedPlan
 feeding_in rows =
     option_and_then (λ keep. option_map (λ passed. record {
       keep = keep;
       passed = passed;
       warn = is_set (codes "warn") rows;
-    }) (passed_in rows)) (kept_in rows)
+    }) (passed_in rows)) (kept_or 8 rows)
 
--- Messages of one File alone are passed.
-abbrev pub fed_alone : Text → FeedPlan → List Text → Option Request
-fed_alone folder plan files =
-    if nat_lt 0 plan.passed && nat_lt 1 (length files) then None else Some (Feed folder plan files)
+-- Messages of one File alone are passed: `--from`, whatever its number, goes with no other File.
+abbrev pub fed_alone : Bool → Text → FeedPlan → List Text → Option Request
+fed_alone passes folder plan files = if passes && nat_lt 1 (length files) then None else Some (Feed folder plan files)
 
 -- at most 8 Files
 abbrev pub few_of : List Text → Option (List Text)
@@ -191,8 +205,9 @@ inspected_in rows = option_map (inspected_of (given_in rows)) (format_in rows)
 
 -- what `feed` asks for
 abbrev pub fed_in : List Row → Option Request
-fed_in rows = option_and_then (λ folder. option_and_then (λ plan. option_and_then (fed_alone folder plan)
-    (files_in rows)) (feeding_in rows)) (folder_in rows)
+fed_in rows = option_and_then (λ folder. option_and_then (λ plan.
+    option_and_then (fed_alone (is_given (codes "COUNT") rows) folder plan) (files_in rows)) (feeding_in rows))
+    (folder_in rows)
 
 -- what `explain` asks for: the number of a refusal
 abbrev pub explained_in : List Row → Option ℕ
@@ -200,9 +215,9 @@ explained_in rows =
     option_and_then (λ n. if is_refusal n then Some n else None)
     (option_and_then (number_between 0 99) (first_of (codes "NUMBER") rows))
 
--- what `shell` asks for
+-- what `shell` asks for: all segments are left where nothing else is asked for
 abbrev pub shelled_in : List Row → Option Request
-shelled_in rows = option_and_then (λ folder. option_map (Shell folder) (kept_in rows)) (folder_in rows)
+shelled_in rows = option_and_then (λ folder. option_map (Shell folder) (kept_or 4294967295 rows)) (folder_in rows)
 
 -- what the name of a command that changes an archive, and the values of its arguments, ask for
 abbrev pub changing : Text → List Row → Option Request

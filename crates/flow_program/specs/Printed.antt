@@ -12,8 +12,8 @@ use Rattle.flow_program.specs.declared.request.LineError.TheVariants as line
 abbrev pub kind_text : ErrorKind → List ℕ
 kind_text MissingSubcommand = codes "a command is needed: flowvault --help lists them"
 kind_text MissingRequiredArgument =
-    codes "an argument is missing, as WIDTH in: flowvault measure 300 < FILE; flowvault help COMMAND lists them"
-kind_text _ = codes "a word isn't understood; a File is read from standard input: flowvault measure 300 < FILE"
+    codes "an argument is missing: flowvault help COMMAND lists them"
+kind_text _ = codes "a word isn't understood: flowvault help COMMAND lists what it takes; measure and dump read standard input"
 
 abbrev pub words_text : LineError → List ℕ
 words_text (line.Parser error) = kind_text (kind_of error)
@@ -26,6 +26,7 @@ words_text line.Span =
 words_text line.Totals =
     codes "FROM and TO are seconds since 1970-01-01 00:00 UTC, digits alone, 0 to 4294967296; --since and --until, "
     ++ codes "in their place, are as 2026-11-25, 2026-11-25T06:00, 1d, 6h or now; --workers is 1 to 64"
+words_text line.Swapped = codes "--since is later than --until: the span ends before it begins"
 words_text line.Keep = codes "KEEP is how many of the newest files are left, digits alone, 0 to 4294967295"
 words_text line.Files =
     codes "FILE is given 1 to 8 times, but once with --from, 0 to 281474976710655; --keep is how many of the newest "

@@ -8,8 +8,8 @@ use Rattle.clap.specs.Simple.{subcommand_of}
 use Rattle.clap.specs.Walk.{Row, Text}
 use Rattle.flow_program.specs.declared.request.LineError.{LineError}
 use Rattle.flow_program.specs.declared.request.LineError.TheVariants.{Parser, Width, Plan, Span, Keep, Files}
-use Rattle.flow_program.specs.declared.request.LineError.TheVariants.{Formats, Number, OutOfMemory, Totals}
-use Rattle.flow_program.specs.Arguments.{format_in}
+use Rattle.flow_program.specs.declared.request.LineError.TheVariants.{Formats, Number, OutOfMemory, Swapped, Totals}
+use Rattle.flow_program.specs.Arguments.{are_swapped, format_in}
 use Rattle.flow_program.specs.CommandLine.{asked, flowvault}
 
 -- what is said of the values of a command, by its name
@@ -25,9 +25,13 @@ wrong_values_of name =
     else if bytes_eq (codes "explain") name then Number
     else Width
 
--- what is said of the values of a command: that two formats are asked for, or what is said by its name
+-- of values that have one format: that a span ends before it begins, or what is said by the command's name
+abbrev pub formatted_values : Text → List Row → LineError
+formatted_values name rows = if are_swapped rows then Swapped else wrong_values_of name
+
+-- what is said of the values of a command: that two formats are asked for, or what is said of those of one format
 abbrev pub wrong_values_in : Text → List Row → LineError
-wrong_values_in name rows = if is_some (format_in rows) then wrong_values_of name else Formats
+wrong_values_in name rows = if is_some (format_in rows) then formatted_values name rows else Formats
 
 -- what is said of the values of what the parser finds
 abbrev pub wrong_values : Option (Text × List Row) → LineError
@@ -45,6 +49,7 @@ IsLineError words Width = IsOfValues words Width
 IsLineError words Plan = IsOfValues words Plan
 IsLineError words Span = IsOfValues words Span
 IsLineError words Totals = IsOfValues words Totals
+IsLineError words Swapped = IsOfValues words Swapped
 IsLineError words Keep = IsOfValues words Keep
 IsLineError words Files = IsOfValues words Files
 IsLineError words Number = IsOfValues words Number

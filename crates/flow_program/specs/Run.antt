@@ -9,7 +9,7 @@ use Rattle.flow_report.specs.declared.refusal.Refusal.{Refusal}
 use Rattle.flow_report.specs.declared.refusal.Refusal.TheVariants as refusal
 use Rattle.flow_program.specs.declared.request.LineError.{LineError}
 use Rattle.flow_program.specs.declared.request.LineError.TheVariants.{Parser, Width, Plan, Span, Keep, Files}
-use Rattle.flow_program.specs.declared.request.LineError.TheVariants.{Formats, Number, OutOfMemory}
+use Rattle.flow_program.specs.declared.request.LineError.TheVariants.{Formats, Number, OutOfMemory, Swapped}
 use Rattle.flow_program.specs.declared.request.LineError.TheVariants.{Totals as TotalsWrong}
 use Rattle.flow_program.specs.declared.request.Request.{Request}
 use Rattle.flow_program.specs.declared.request.Request.TheVariants.{Measure, Dump, Inspect, InspectFiles}
@@ -168,6 +168,7 @@ IsTold Width old new before after status = IsWrong Width old new before after st
 IsTold Plan old new before after status = IsWrong Plan old new before after status
 IsTold Span old new before after status = IsWrong Span old new before after status
 IsTold TotalsWrong old new before after status = IsWrong TotalsWrong old new before after status
+IsTold Swapped old new before after status = IsWrong Swapped old new before after status
 IsTold Keep old new before after status = IsWrong Keep old new before after status
 IsTold Files old new before after status = IsWrong Files old new before after status
 IsTold Number old new before after status = IsWrong Number old new before after status

@@ -8,7 +8,7 @@ ghost use Rattle.clap.specs.Walk.{rows_of};
 ghost use Rattle.flow_program.specs.Arguments.{explained_in, few_of, folder_in, limit_in, plan_in, second_in, span_in};
 ghost use Rattle.flow_program.specs.Arguments.{wide_in};
 ghost use Rattle.flow_program.specs.Arguments.{feeding_in, files_in, format_in, given_in, is_given, is_set, keep_in};
-ghost use Rattle.flow_program.specs.Arguments.{kept_in};
+ghost use Rattle.flow_program.specs.Arguments.{are_swapped, forward, is_later, kept_or};
 ghost use Rattle.flow_program.specs.Arguments.{layout_in, times_in};
 ghost use Rattle.flow_program.specs.Arguments.{moment_in, numbered_span_in, passed_in, worded_span_in};
 ghost use Rattle.flow_program.specs.Arguments.{width_in, workers_in};
@@ -38,8 +38,11 @@ const LAST: Moment = Moment::Second(MOST_SECOND);
 /// The most files that may be left.
 const MOST_KEEP: u64 = 4_294_967_295;
 
-/// How many of the newest segments `feed` and `shell` leave where nothing else is asked for.
+/// How many of the newest segments `feed` leaves where nothing else is asked for.
 const USUAL_KEEP: u32 = 8;
+
+/// As many as `shell` leaves then: all of them.
+const ALL_KEPT: u32 = 4_294_967_295;
 
 /// The most Files that are fed in one run.
 const MOST_FILES: usize = 8;
@@ -244,12 +247,44 @@ fn worded_span_in(arguments: &ArgMatches<'_>) -> Option<MomentSpan>
     Some(MomentSpan { from, to })
 }
 
+/// Whether the first of two moments is later, whatever second it is now.
+fn is_later(from: Moment, to: Moment) -> bool
+    ensures { result ≡ is_later from to }
+{
+    match (from, to) {
+        (Moment::Second(from), Moment::Second(to)) => to < from,
+        (Moment::Ago(from), Moment::Ago(to)) => from < to,
+        (Moment::Second(_), Moment::Ago(_)) => false,
+        (Moment::Ago(_), Moment::Second(_)) => false,
+    }
+}
+
+/// A span that doesn't end before it begins.
+fn forward(span: MomentSpan) -> Option<MomentSpan>
+    ensures { result ≡ forward span }
+{
+    if is_later(span.from, span.to) {
+        return None;
+    }
+    Some(span)
+}
+
+/// Whether `--since` is later than `--until`, among the arguments of a command.
+pub(crate) fn are_swapped(arguments: &ArgMatches<'_>) -> bool
+    ensures { result ≡ are_swapped (rows_of (found_of arguments.now)) }
+{
+    match worded_span_in(arguments) {
+        Some(span) => is_later(span.from, span.to),
+        None => false,
+    }
+}
+
 /// The span among the arguments of a command that asks for one: by two numbers, or by options alone.
 pub(crate) fn span_in(arguments: &ArgMatches<'_>) -> Option<MomentSpan>
     ensures { result ≡ span_in (rows_of (found_of arguments.now)) }
 {
     if is_given(arguments, "SINCE") || is_given(arguments, "UNTIL") {
-        worded_span_in(arguments)
+        forward(worded_span_in(arguments)?)
     } else {
         numbered_span_in(arguments)
     }
@@ -319,16 +354,30 @@ pub(crate) fn keep_in(arguments: &ArgMatches<'_>) -> Option<u32>
     Some(keep as u32)
 }
 
-/// How many of the newest segments are left, among the arguments of `feed` and `shell`.
+/// How many of the newest segments are left, among the arguments of `feed` and `shell`, or as many as usual.
 #[tactic(auto, using(crate::proofs::Reading::first_value_is))]
-pub(crate) fn kept_in(arguments: &ArgMatches<'_>) -> Option<u32>
-    ensures { result ≡ kept_in (rows_of (found_of arguments.now)) }
+fn kept_or(arguments: &ArgMatches<'_>, usual: u32) -> Option<u32>
+    ensures { result ≡ kept_or usual (rows_of (found_of arguments.now)) }
 {
     let Some(word) = arguments.get_str("KEEP") else {
-        return Some(USUAL_KEEP);
+        return Some(usual);
     };
     let keep = number_between(0, MOST_KEEP, word.as_bytes())?;
     Some(keep as u32)
+}
+
+/// How many of the newest segments `shell` leaves, among its arguments: all of them where nothing is said.
+pub(crate) fn kept_in_shell(arguments: &ArgMatches<'_>) -> Option<u32>
+    ensures { result ≡ kept_or 4294967295 (rows_of (found_of arguments.now)) }
+{
+    kept_or(arguments, ALL_KEPT)
+}
+
+/// Whether `--from` is among the arguments of `feed`.
+pub(crate) fn passes(arguments: &ArgMatches<'_>) -> bool
+    ensures { result ≡ is_given (codes "COUNT") (rows_of (found_of arguments.now)) }
+{
+    is_given(arguments, "COUNT")
 }
 
 /// How many of the first messages of a File are only read, among the arguments of `feed`.
@@ -346,7 +395,7 @@ fn passed_in(arguments: &ArgMatches<'_>) -> Option<u64>
 pub(crate) fn feeding_in(arguments: &ArgMatches<'_>) -> Option<FeedPlan>
     ensures { result ≡ feeding_in (rows_of (found_of arguments.now)) }
 {
-    let keep = kept_in(arguments)?;
+    let keep = kept_or(arguments, USUAL_KEEP)?;
     let passed = passed_in(arguments)?;
     let warn = is_set(arguments, "warn");
     Some(FeedPlan { keep, passed, warn })

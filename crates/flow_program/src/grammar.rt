@@ -78,8 +78,10 @@ const CREATE_ABOUT: &str = "Makes an archive in a folder that exists";
 const CREATE_HELP: &str =
     "Writes nothing on standard output. A segment takes --limit octets of messages;\n\
      old sums are made over --wide seconds, the greatest multiple of WIDTH where it\n\
-     isn't given. A folder with any n.ipfix, 1.slot or 2.slot is refused: 27\n\
-     NotEmpty, status 1. One that isn't there, or is in use: 30 Fault, status 3.\n\
+     isn't given. These have no peaks within a wide interval, and no percentiles of\n\
+     shorter ones, which a terminal on standard error is shown. A folder with any\n\
+     n.ipfix, 1.slot or 2.slot is refused: 27 NotEmpty, status 1. One that isn't\n\
+     there, or is in use: 30 Fault, status 3.\n\
      \n\
      Example: mkdir flows && flowvault create flows 300";
 
@@ -142,10 +144,11 @@ const FEED_HELP: &str =
      later, a stop of the machine too: feed the rest of a File, not all of it again:\n\
      --from MESSAGES passes over what was taken in, where there is one FILE.\n\
      Meanwhile sealed segments but the newest --keep are rolled, as of roll; no more\n\
-     than these are left in the end. A terminal on standard error is shown how much\n\
-     is read, the octet at which a File stopped, and which records it lacks: those\n\
-     without a template in force, and those that Sequence Numbers leave out; --warn\n\
-     shows these anywhere, but for how much is read.\n\
+     than these are left in the end, and sums of the others: --keep 4294967295 rolls\n\
+     nothing. A terminal on standard error is shown how much is read, the octet at\n\
+     which a File stopped, which records it lacks: those without a template in force,\n\
+     and those that Sequence Numbers leave out, and how many messages are in sums\n\
+     alone in the end; --warn shows these anywhere, but for how much is read.\n\
      The exit status is that of the first File that stopped. An archive that can't be\n\
      opened is reported on standard error before a File is read.\n\
      \n\
@@ -163,12 +166,13 @@ const SHELL_HELP: &str =
      \x20 flows FROM TO   lines as of flows\n\
      \x20 message N       the octets of the Nth message in hexadecimal digits, or none\n\
      \x20 check           ok POSITION CUT ROLLED SEALED, as of check\n\
-     \x20 keep N          the newest N sealed segments aren't rolled from now on\n\
+     \x20 keep N          from now on sealed segments but the newest N are rolled\n\
      \x20 wait            answered when all Files have ended\n\
      \x20 quit            answered last: Files end with what was read of them\n\
      An answer ends with done STATUS: 0, or as an exit status, after refused NUMBER\n\
      NAME; 2 is no request. Between two answers the line of a File that has ended is\n\
-     written, as of feed. No answer waits for a File.\n\
+     written, as of feed. No answer waits for a File. Nothing is rolled before a\n\
+     keep, unless --keep says how many segments aren't.\n\
      \n\
      Example: flowvault shell flows --keep 24 < REQUESTS";
 
@@ -189,7 +193,9 @@ const MERGE_ABOUT: &str =
 /// What help has below the arguments of `merge`.
 const MERGE_HELP: &str = "All rolled files but the newest KEEP become one file of sums over wide\n\
      intervals, and are removed. Writes merged K: how many they were, 0 where there\n\
-     are none.\n\
+     are none. These sums have no peaks within a wide interval, a day unless create\n\
+     was given --wide, and no percentiles of shorter ones, which a terminal on\n\
+     standard error is shown.\n\
      \n\
      Example: flowvault merge flows 8";
 
@@ -514,7 +520,7 @@ fn shell_command<'a>(alloc: Global) -> Result<Command<'a>, AllocError>
             alloc,
             "KEEP",
             "keep",
-            "Newest segments that aren't rolled: 0 to 4294967295 [8]",
+            "Newest segments that aren't rolled: 0 to 4294967295 [all]",
         ))
 }
 
@@ -551,65 +557,65 @@ fn explain_command<'a>(alloc: Global) -> Result<Command<'a>, AllocError>
 }
 
 /// The program without its commands, with its help.
-fn program<'a>(alloc: Global) -> Command<'a>
+fn program<'a>(alloc: Global, version: &'a str) -> Command<'a>
     ensures { app_of result ≡ program }
 {
     Command::new(alloc, "flowvault")
         .about("A crash-safe archive of IPFIX Files (RFC 5655)")
-        .version("0.1.0")
+        .version(version)
         .after_help(PROGRAM_HELP)
         .subcommand_required(true)
 }
 
 /// The program with the commands that read standard input.
-fn with_streams<'a>(alloc: Global) -> Result<Command<'a>, AllocError>
+fn with_streams<'a>(alloc: Global, version: &'a str) -> Result<Command<'a>, AllocError>
     ensures { IfOk result (λ command. app_of command ≡ with_streams) }
 {
-    program(alloc)
+    program(alloc, version)
         .subcommand(measure_command(alloc)?)?
         .subcommand(dump_command(alloc))?
         .subcommand(inspect_command(alloc)?)
 }
 
 /// The program with these, and those that make or open an archive and ask it nothing.
-fn with_archives<'a>(alloc: Global) -> Result<Command<'a>, AllocError>
+fn with_archives<'a>(alloc: Global, version: &'a str) -> Result<Command<'a>, AllocError>
     ensures { IfOk result (λ command. app_of command ≡ with_archives) }
 {
-    with_streams(alloc)?
+    with_streams(alloc, version)?
         .subcommand(create_command(alloc)?)?
         .subcommand(check_command(alloc)?)
 }
 
 /// The program with these, and those that ask an archive.
-fn with_queries<'a>(alloc: Global) -> Result<Command<'a>, AllocError>
+fn with_queries<'a>(alloc: Global, version: &'a str) -> Result<Command<'a>, AllocError>
     ensures { IfOk result (λ command. app_of command ≡ with_queries) }
 {
-    with_archives(alloc)?
+    with_archives(alloc, version)?
         .subcommand(totals_command(alloc)?)?
         .subcommand(query_command(alloc, "flows", FLOWS_ABOUT, FLOWS_HELP)?)
 }
 
 /// The program with these, and those that take Files into an archive.
-fn with_feeding<'a>(alloc: Global) -> Result<Command<'a>, AllocError>
+fn with_feeding<'a>(alloc: Global, version: &'a str) -> Result<Command<'a>, AllocError>
     ensures { IfOk result (λ command. app_of command ≡ with_feeding) }
 {
-    with_queries(alloc)?
+    with_queries(alloc, version)?
         .subcommand(feed_command(alloc)?)?
         .subcommand(shell_command(alloc)?)
 }
 
 /// The program with these, and those that roll the files of an archive.
-fn with_rolling<'a>(alloc: Global) -> Result<Command<'a>, AllocError>
+fn with_rolling<'a>(alloc: Global, version: &'a str) -> Result<Command<'a>, AllocError>
     ensures { IfOk result (λ command. app_of command ≡ with_rolling) }
 {
-    with_feeding(alloc)?
+    with_feeding(alloc, version)?
         .subcommand(keep_command(alloc, "roll", ROLL_ABOUT, ROLL_HELP)?)?
         .subcommand(keep_command(alloc, "merge", MERGE_ABOUT, MERGE_HELP)?)
 }
 
 /// The command line, with its commands and their help.
-pub(crate) fn command_line<'a>(alloc: Global) -> Result<Command<'a>, AllocError>
+pub(crate) fn command_line<'a>(alloc: Global, version: &'a str) -> Result<Command<'a>, AllocError>
     ensures { IfOk result (λ command. app_of command ≡ flowvault) }
 {
-    with_rolling(alloc)?.subcommand(explain_command(alloc)?)
+    with_rolling(alloc, version)?.subcommand(explain_command(alloc)?)
 }

@@ -9,6 +9,7 @@ mod arguments;
 mod explaining;
 mod grammar;
 mod inspecting;
+mod refusing;
 mod request;
 mod run;
 

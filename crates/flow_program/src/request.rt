@@ -8,13 +8,15 @@ ghost use Rattle.clap.specs.Simple.{subcommand_rows_of};
 ghost use Rattle.flow_program.specs.Arguments.{changing, checked_in, create_in, fed_alone, fed_in, inspected_in};
 ghost use Rattle.flow_program.specs.Arguments.{queried, request_in, requested, without_files};
 ghost use Rattle.flow_program.specs.CommandLine.{asked};
-ghost use Rattle.flow_program.specs.Requested.{IsLineError, wrong_values, wrong_values_in, wrong_values_of};
+ghost use Rattle.flow_program.specs.Requested.{formatted_values, wrong_values, wrong_values_in, wrong_values_of};
+ghost use Rattle.flow_program.specs.Requested.{IsLineError};
 ghost use Rattle.clap.specs.declared.error.kind.ErrorKind.TheVariants as ErrorKind;
 ghost use Rattle.flow_program.specs.declared.request.LineError.TheVariants as LineError;
 
 use crate::arguments::{
-    FileNames, FolderName, MomentSpan, explained_in, feeding_in, files_in, folder_in, format_in,
-    given_in, is_set, keep_in, kept_in, plan_in, span_in, width_in, workers_in,
+    FileNames, FolderName, MomentSpan, are_swapped, explained_in, feeding_in, files_in, folder_in,
+    format_in, given_in, is_set, keep_in, kept_in_shell, passes, plan_in, span_in, width_in,
+    workers_in,
 };
 use crate::explaining::Explanation;
 use crate::grammar::command_line;
@@ -113,11 +115,12 @@ pub enum LineError {
     Span,
     /// The same of the span of `totals`, or how many workers scan isn't digits alone, from 1 to 64.
     Totals,
+    /// The span ends before it begins: `--since` is later than `--until`.
+    Swapped,
     /// How many files are left isn't digits alone, or is past 2^32 - 1.
     Keep,
     /// There are more than 8 Files, or how many segments are left isn't digits alone, or is past 2^32 - 1; or how many
-    /// messages are passed isn't digits alone, or is past 2^48 - 1, or there are several Files of which some are
-    /// passed.
+    /// messages are passed isn't digits alone, or is past 2^48 - 1, or is said of several Files.
     Files,
     /// No refusal has the number.
     Number,
@@ -173,7 +176,7 @@ fn changing<'a>(name: &str, arguments: &ArgMatches<'a>) -> Option<Request<'a>>
         }),
         "shell" => Some(Request::Shell {
             folder: folder_in(arguments)?,
-            keep: kept_in(arguments)?,
+            keep: kept_in_shell(arguments)?,
         }),
         _ => None,
     }
@@ -219,15 +222,16 @@ fn without_files<'a>(name: &str, arguments: &ArgMatches<'a>) -> Option<Request<'
     }
 }
 
-/// What `feed` asks for: messages are passed of one File alone.
+/// What `feed` asks for: messages are passed of one File alone, so `--from` goes with no other.
 fn fed_alone<'a>(
+    passes: bool,
     folder: FolderName<'a>,
     plan: FeedPlan,
     files: FileNames<'a>,
 ) -> Option<Request<'a>>
-    ensures { result ≡ fed_alone folder.entry plan files.entry }
+    ensures { result ≡ fed_alone passes folder.entry plan files.entry }
 {
-    if plan.passed > 0 && files.paths.len() > 1 {
+    if passes && files.paths.len() > 1 {
         return None;
     }
     Some(Request::Feed {
@@ -243,7 +247,9 @@ fn fed_in<'a>(alloc: Global, arguments: &ArgMatches<'a>) -> Result<Option<Reques
 {
     let files = files_in(alloc, arguments)?;
     match (folder_in(arguments), feeding_in(arguments), files) {
-        (Some(folder), Some(plan), Some(files)) => Ok(fed_alone(folder, plan, files)),
+        (Some(folder), Some(plan), Some(files)) => {
+            Ok(fed_alone(passes(arguments), folder, plan, files))
+        }
         _ => Ok(None),
     }
 }
@@ -304,12 +310,22 @@ fn wrong_values_of(name: &str) -> LineError
     }
 }
 
+/// What is wrong with the values of a command that have one format, by its name and its arguments.
+fn formatted_values(name: &str, arguments: &ArgMatches<'_>) -> LineError
+    ensures { result ≡ formatted_values name.now (rows_of (found_of arguments.now)) }
+{
+    if are_swapped(arguments) {
+        return LineError::Swapped;
+    }
+    wrong_values_of(name)
+}
+
 /// What is wrong with the values of a command, by its name and its arguments.
 fn wrong_values_in(name: &str, arguments: &ArgMatches<'_>) -> LineError
     ensures { result ≡ wrong_values_in name.now (rows_of (found_of arguments.now)) }
 {
     match format_in(arguments) {
-        Some(_) => wrong_values_of(name),
+        Some(_) => formatted_values(name, arguments),
         None => LineError::Formats,
     }
 }
@@ -324,12 +340,16 @@ fn wrong_values(matches: &ArgMatches<'_>) -> LineError
     }
 }
 
-/// Reads the words, of which the first is the program's name.
-pub fn parse<'a, S: AsStr>(alloc: Global, words: &'a [S]) -> Result<Request<'a>, LineError>
+/// Reads the words, of which the first is the program's name. `version` is what `--version` shows.
+pub fn parse<'a, S: AsStr>(
+    alloc: Global,
+    version: &'a str,
+    words: &'a [S],
+) -> Result<Request<'a>, LineError>
     ensures found { IfOk result (λ request. asked (map S.text words.now) ≡ Some request) }
     ensures refused { IfErr result (λ e. IsLineError (map S.text words.now) e) }
 {
-    let Ok(command) = command_line(alloc) else {
+    let Ok(command) = command_line(alloc, version) else {
         return Err(LineError::OutOfMemory);
     };
     match command.try_get_matches_from(words) {

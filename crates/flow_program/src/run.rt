@@ -5,8 +5,8 @@ ghost use Rattle.std.specs.Prelude.{string_bytes};
 ghost use Rattle.std.specs.Io.KnownBytes.{Appends, Keeps};
 ghost use Rattle.clap.specs.Values.{kind_of};
 ghost use Rattle.flow_report.specs.Refusals.{status_of};
-ghost use Rattle.flow_report.specs.Printed.{printed, line_of};
-ghost use Rattle.flow_program.specs.Printed.{first_word, kind_text, told_lines, words_text};
+ghost use Rattle.flow_report.specs.Printed.{printed};
+ghost use Rattle.flow_program.specs.Printed.{first_word, told_lines};
 ghost use Rattle.flow_report.specs.Writing.{AppendsFront};
 ghost use Rattle.flow_commands.specs.Archives.{archive_printed, archive_status};
 ghost use Rattle.flow_commands.specs.ArchiveFiles.{AreListings};
@@ -17,28 +17,26 @@ ghost use Rattle.flow_commands.specs.Feeding.{FeedsLines, KeepsOrFeeds};
 ghost use Rattle.flow_commands.specs.Rolling.{IsJobLine};
 ghost use Rattle.flow_program.specs.Arguments.{has_input, span_at};
 ghost use Rattle.flow_program.specs.Run.{AskEnds, CheckEnds, CreateEnds, FeedEnds, ListEnds, Runs, ShellEnds};
-ghost use Rattle.flow_program.specs.Run.{AreWordsLines, AreWordsTold, IsArchiveTold, IsHelp, IsTold};
-ghost use Rattle.flow_program.specs.Run.{IsRefusalTold, IsAnswered, IsShown};
+ghost use Rattle.flow_program.specs.Run.{IsArchiveTold, IsRefusalTold, IsAnswered, IsShown};
 ghost use Rattle.flow_program.specs.declared.request.Request.TheVariants as asked;
 
 use crate::arguments::{FileNames, FolderName, MomentSpan};
 use crate::explaining::Explanation;
 use crate::inspecting::run_inspect_files;
-use crate::request::{LineError, Request, parse};
-use clap::Error;
-use clap::error::ErrorKind;
+use crate::refusing::refuse;
+use crate::request::{Request, parse};
 use flow_commands::{
     ArchiveRefusal, FeedPlan, FolderFault, NewArchive, Progress, StartSpan, Workers,
-    check_files_in, check_in, create_in, feed_in, flows_in, roll_in, totals_in, warn_of_input,
+    check_files_in, check_in, create_in, feed_in, flows_in, roll_in, tell_fault, totals_in,
+    warn_of_input, warn_of_wide,
 };
-use flow_folder::Lockable;
+use flow_folder::{FirstFault, Lockable};
 use flow_inspect::inspect;
 use flow_manifest::JobKind;
 use flow_report::{Format, Patience, Refusal, Width, dump, measure, write_patiently};
 use flow_shell::shell_in;
 use std::alloc::{AllocError, AllocGlobal, Global};
 use std::convert::AsStr;
-use std::fmt::Display;
 use std::fs::Files;
 use std::io::{Empty, Read, Write};
 use std::os::unix::fs::FileExt;
@@ -49,58 +47,8 @@ use std::time::{Clock, SystemTime};
 /// The status of a run that did its work, or showed its help.
 pub(crate) const DONE: u8 = 0;
 
-/// The status of a run whose words ask for nothing.
-const WRONG_LINE: u8 = 2;
-
 /// The line where no memory was found.
 const NO_MEMORY: &str = "flowvault: 11 OutOfMemory\nflowvault: see: flowvault explain 11\n";
-
-/// The line for a width that isn't one.
-const WRONG_WIDTH: &str =
-    "flowvault: WIDTH is 1 to 86400, digits alone, as in: flowvault measure 300 < FILE\n";
-
-/// The line for numbers that no new archive has.
-const WRONG_PLAN: &str =
-    "flowvault: WIDTH is 1 to 86400, --limit 65535 to 16777216, --wide a multiple of WIDTH up to \
-     86400, all digits alone\n";
-
-/// The line for seconds that no span has.
-const WRONG_SPAN: &str =
-    "flowvault: FROM and TO are seconds since 1970-01-01 00:00 UTC, digits alone, 0 to 4294967296; --since and \
-     --until, in their place, are as 2026-11-25, 2026-11-25T06:00, 1d, 6h or now\n";
-
-/// The line for seconds that no span has, or of a number of workers that no scan has.
-const WRONG_TOTALS: &str =
-    "flowvault: FROM and TO are seconds since 1970-01-01 00:00 UTC, digits alone, 0 to 4294967296; --since and \
-     --until, in their place, are as 2026-11-25, 2026-11-25T06:00, 1d, 6h or now; --workers is 1 to 64\n";
-
-/// The line for a number of files that can't be left.
-const WRONG_KEEP: &str =
-    "flowvault: KEEP is how many of the newest files are left, digits alone, 0 to 4294967295\n";
-
-/// The line for too many Files, or of a number of segments that can't be left.
-const WRONG_FILES: &str =
-    "flowvault: FILE is given 1 to 8 times, but once with --from, 0 to 281474976710655; --keep is how many of the \
-     newest segments are left, 0 to 4294967295\n";
-
-/// The line for a number that no refusal has.
-const WRONG_NUMBER: &str =
-    "flowvault: no refusal has this NUMBER: they are 1 to 11, 14 to 17, 20 to 27, 30 to 32, 40 to 50\n";
-
-/// What is reported of two formats.
-const WRONG_FORMATS: &str =
-    "flowvault: --csv and --json are two formats: one of them is taken, not both\n";
-
-/// The line where a command is missing.
-const NO_COMMAND: &str = "flowvault: a command is needed: flowvault --help lists them\n";
-
-/// The line where an argument is missing.
-const NO_ARGUMENT: &str =
-    "flowvault: an argument is missing, as WIDTH in: flowvault measure 300 < FILE; flowvault help COMMAND lists them\n";
-
-/// The line for any other wrong words.
-const WRONG_WORDS: &str =
-    "flowvault: a word isn't understood; a File is read from standard input: flowvault measure 300 < FILE\n";
 
 /// Writes octets.
 pub(crate) fn write_octets<W: Write>(to: &mut W, octets: &[u8]) -> Result<(), Refusal>
@@ -161,7 +109,7 @@ fn tell_refusal<E: Write>(alloc: Global, errors: &mut E, refusal: &Refusal)
 }
 
 /// Tells a refusal, and answers its exit status.
-fn tell<E: Write>(alloc: Global, errors: &mut E, refusal: &Refusal) -> u8
+pub(crate) fn tell<E: Write>(alloc: Global, errors: &mut E, refusal: &Refusal) -> u8
     ensures status { result ≡ status_of refusal.now }
     ensures failed { 1 ≤ result }
     ensures other { result ≢ 2 }
@@ -273,11 +221,12 @@ fn run_inspect<R: Read, W: Write, E: Write>(
 }
 
 /// Runs `create`.
-fn run_create<H: Files + AllocGlobal + Clone + Drop, E: Write>(
+fn run_create<H: Files + AllocGlobal + Clone + Drop + Wait, E: Write, P: Write + Drop>(
     rt: &H,
     folder: &FolderName<'_>,
     plan: &NewArchive,
     errors: &mut E,
+    progress: &Progress<P>,
 ) -> u8
 where
     H::File: FileExt + Lockable,
@@ -286,8 +235,11 @@ where
     ensures status { result ≤ 5 }
     ensures other { result ≢ 2 }
 {
-    match create_in(rt, folder.path, plan) {
-        Ok(()) => DONE,
+    match create_in(rt, folder.path, progress.first_fault(), plan) {
+        Ok(()) => {
+            warn_of_wide(rt, progress);
+            DONE
+        }
         Err(refusal) => tell_of_archive(rt.alloc(), errors, &refusal),
     }
 }
@@ -296,6 +248,7 @@ where
 fn run_check<H: Files + AllocGlobal + Clone + Drop, W: Write, E: Write>(
     rt: &H,
     folder: &FolderName<'_>,
+    first_fault: &FirstFault,
     output: &mut W,
     errors: &mut E,
 ) -> u8
@@ -307,7 +260,7 @@ where
     ensures status { result ≤ 5 }
     ensures other { result ≢ 2 }
 {
-    match check_in(rt, folder.path, output) {
+    match check_in(rt, folder.path, first_fault, output) {
         Ok(()) => DONE,
         Err(refusal) => tell_of_archive(rt.alloc(), errors, &refusal),
     }
@@ -317,6 +270,7 @@ where
 fn run_check_files<H: Files + AllocGlobal + Clone + Drop, W: Write, E: Write>(
     rt: &H,
     folder: &FolderName<'_>,
+    first_fault: &FirstFault,
     output: &mut W,
     errors: &mut E,
 ) -> u8
@@ -328,7 +282,7 @@ where
     ensures status { result ≤ 5 }
     ensures other { result ≢ 2 }
 {
-    match check_files_in(rt, folder.path, output) {
+    match check_files_in(rt, folder.path, first_fault, output) {
         Ok(()) => DONE,
         Err(refusal) => tell_of_archive(rt.alloc(), errors, &refusal),
     }
@@ -365,6 +319,7 @@ fn seconds_of<H: Clock>(rt: &H, span: MomentSpan) -> Result<StartSpan, ArchiveRe
 fn write_totals<H: Files + AllocGlobal + Clock + Clone + Drop + Threads + Send + Sync, W: Write>(
     rt: &H,
     folder: &FolderName<'_>,
+    first_fault: &FirstFault,
     span: MomentSpan,
     workers: Option<Workers>,
     format: Format,
@@ -377,7 +332,7 @@ where
     ensures kept { IfErr result (λ e. WritesOrNot (AreRows format) e (W.contents output.old) (W.contents output.new)) }
 {
     let span = seconds_of(rt, span)?;
-    totals_in(rt, folder.path, &span, workers, format, output)
+    totals_in(rt, folder.path, first_fault, &span, workers, format, output)
 }
 
 /// Runs `totals`.
@@ -388,6 +343,7 @@ fn run_totals<
 >(
     rt: &H,
     folder: &FolderName<'_>,
+    first_fault: &FirstFault,
     span: MomentSpan,
     workers: Option<Workers>,
     format: Format,
@@ -403,7 +359,7 @@ where
     ensures status { result ≤ 5 }
     ensures other { result ≢ 2 }
 {
-    match write_totals(rt, folder, span, workers, format, output) {
+    match write_totals(rt, folder, first_fault, span, workers, format, output) {
         Ok(()) => DONE,
         Err(refusal) => tell_of_archive(rt.alloc(), errors, &refusal),
     }
@@ -413,6 +369,7 @@ where
 fn write_flows<H: Files + AllocGlobal + Clock + Clone + Drop, W: Write>(
     rt: &H,
     folder: &FolderName<'_>,
+    first_fault: &FirstFault,
     span: MomentSpan,
     format: Format,
     output: &mut W,
@@ -423,13 +380,14 @@ where
     ensures kept { IfErr result (λ e. WritesUpTo (AreFlows format) e (W.contents output.old) (W.contents output.new)) }
 {
     let span = seconds_of(rt, span)?;
-    flows_in(rt, folder.path, &span, format, output)
+    flows_in(rt, folder.path, first_fault, &span, format, output)
 }
 
 /// Runs `flows`.
 fn run_flows<H: Files + AllocGlobal + Clock + Clone + Drop, W: Write, E: Write>(
     rt: &H,
     folder: &FolderName<'_>,
+    first_fault: &FirstFault,
     span: MomentSpan,
     format: Format,
     output: &mut W,
@@ -443,7 +401,7 @@ where
     ensures status { result ≤ 5 }
     ensures other { result ≢ 2 }
 {
-    match write_flows(rt, folder, span, format, output) {
+    match write_flows(rt, folder, first_fault, span, format, output) {
         Ok(()) => DONE,
         Err(refusal) => tell_of_archive(rt.alloc(), errors, &refusal),
     }
@@ -522,7 +480,15 @@ fn run_shell<
     R: Read,
     W: Write,
     E: Write,
->(rt: &H, folder: &FolderName<'_>, keep: u32, input: &mut R, output: &mut W, errors: &mut E) -> u8
+>(
+    rt: &H,
+    folder: &FolderName<'_>,
+    first_fault: &FirstFault,
+    keep: u32,
+    input: &mut R,
+    output: &mut W,
+    errors: &mut E,
+) -> u8
 where
     H::File: FileExt + Lockable + Send + Sync,
     H::Dir: Send + Sync,
@@ -531,20 +497,21 @@ where
     ensures status { result ≤ 5 }
     ensures other { result ≢ 2 }
 {
-    match shell_in(rt, folder.path, keep, input, output) {
+    match shell_in(rt, folder.path, first_fault, keep, input, output) {
         Ok(status) => status,
         Err(refusal) => tell_of_archive(rt.alloc(), errors, &refusal),
     }
 }
 
 /// Runs `roll` or `merge`.
-fn run_job<H: Files + AllocGlobal + Clone + Drop, W: Write, E: Write>(
+fn run_job<H: Files + AllocGlobal + Clone + Drop + Wait, W: Write, E: Write, P: Write + Drop>(
     rt: &H,
     folder: &FolderName<'_>,
     kind: JobKind,
     keep: u32,
     output: &mut W,
     errors: &mut E,
+    progress: &Progress<P>,
 ) -> u8
 where
     H::File: FileExt + Lockable,
@@ -554,8 +521,13 @@ where
     ensures status { result ≤ 5 }
     ensures other { result ≢ 2 }
 {
-    match roll_in(rt, folder.path, kind, keep, output) {
-        Ok(()) => DONE,
+    match roll_in(rt, folder.path, progress.first_fault(), kind, keep, output) {
+        Ok(()) => {
+            if let JobKind::Merge = kind {
+                warn_of_wide(rt, progress);
+            }
+            DONE
+        }
         Err(refusal) => tell_of_archive(rt.alloc(), errors, &refusal),
     }
 }
@@ -602,6 +574,7 @@ where
     ensures status { result ≤ 5 }
     ensures other { result ≢ 2 }
 {
+    let first_fault = progress.first_fault();
     match request {
         Request::Measure {
             width,
@@ -613,36 +586,56 @@ where
         Request::InspectFiles { format, files } => {
             run_inspect_files(rt, format, &files, input, output, errors)
         }
-        Request::Create { folder, plan } => run_create(rt, &folder, &plan, errors),
-        Request::Check { folder } => run_check(rt, &folder, output, errors),
-        Request::CheckFiles { folder } => run_check_files(rt, &folder, output, errors),
+        Request::Create { folder, plan } => run_create(rt, &folder, &plan, errors, progress),
+        Request::Check { folder } => run_check(rt, &folder, first_fault, output, errors),
+        Request::CheckFiles { folder } => run_check_files(rt, &folder, first_fault, output, errors),
         Request::Totals {
             folder,
             span,
             workers,
             format,
-        } => run_totals(rt, &folder, span, workers, format, output, errors),
+        } => run_totals(
+            rt,
+            &folder,
+            first_fault,
+            span,
+            workers,
+            format,
+            output,
+            errors,
+        ),
         Request::Flows {
             folder,
             span,
             format,
-        } => run_flows(rt, &folder, span, format, output, errors),
+        } => run_flows(rt, &folder, first_fault, span, format, output, errors),
         Request::Feed {
             folder,
             plan,
             files,
         } => run_feed(rt, &folder, plan, &files, input, output, errors, progress),
-        Request::Shell { folder, keep } => { run_shell(rt, &folder, keep, input, output, errors) }
-        Request::Roll { folder, keep } => run_job(rt, &folder, JobKind::Roll, keep, output, errors),
+        Request::Shell { folder, keep } => {
+            run_shell(rt, &folder, first_fault, keep, input, output, errors)
+        }
+        Request::Roll { folder, keep } => run_job(
+            rt,
+            &folder,
+            JobKind::Roll,
+            keep,
+            output,
+            errors,
+            progress,
+        ),
         Request::Merge { folder, keep } => {
-            run_job(rt, &folder, JobKind::Merge, keep, output, errors)
+            run_job(rt, &folder, JobKind::Merge, keep, output, errors, progress)
         }
         Request::Explain { refusal } => run_explain(rt.alloc(), &refusal, output, errors),
     }
 }
 
-/// Runs one command line, whose first word is the program's name, and answers the exit status. Feeding shows its
-/// `progress`, of which no clause speaks.
+/// Runs one command line, whose first word is the program's name, and answers the exit status; `version` is what
+/// `--version` shows. Feeding shows its `progress`, and what the system said of a call on a folder that failed is written
+/// there, of which no clause speaks.
 pub fn run_line<
     H: Files + AllocGlobal + Clock + Clone + Drop + Threads + Wait + Send + Sync,
     S: AsStr,
@@ -650,7 +643,15 @@ pub fn run_line<
     W: Write,
     E: Write,
     P: Write + Drop + Send,
->(rt: &H, words: &[S], input: &mut R, output: &mut W, errors: &mut E, progress: &Progress<P>) -> u8
+>(
+    rt: &H,
+    version: &str,
+    words: &[S],
+    input: &mut R,
+    output: &mut W,
+    errors: &mut E,
+    progress: &Progress<P>,
+) -> u8
 where
     H::File: FileExt + Lockable + Send + Sync,
     H::Dir: Send + Sync,
@@ -662,137 +663,12 @@ where
     // Of words that ask for nothing nothing is written but why.
     ensures wrong { result ≡ 2 → Keeps (W.contents output.old) (W.contents output.new) }
 {
-    match parse(rt.alloc(), words) {
-        Ok(request) => run(rt, request, input, output, errors, progress),
+    match parse(rt.alloc(), version, words) {
+        Ok(request) => {
+            let status = run(rt, request, input, output, errors, progress);
+            tell_fault(rt, progress);
+            status
+        }
         Err(error) => refuse(rt.alloc(), &error, output, errors),
-    }
-}
-
-/// Tells why a command line asks for nothing, or shows the help that it asks for. It answers the exit status.
-fn refuse<W: Write, E: Write>(
-    alloc: Global,
-    error: &LineError,
-    output: &mut W,
-    errors: &mut E,
-) -> u8
-    ensures told { IsTold error.now (W.contents output.old) (W.contents output.new) (E.contents errors.old)
-        (E.contents errors.new) result }
-    ensures quiet { result ≡ 0 → Keeps (E.contents errors.old) (E.contents errors.new) }
-    ensures status { result ≤ 5 }
-    ensures wrong { result ≡ 2 → Keeps (W.contents output.old) (W.contents output.new) }
-{
-    match error {
-        LineError::Parser(error) if error.use_stderr() => {
-            tell_words(alloc, errors, error);
-            WRONG_LINE
-        }
-        LineError::Parser(help) => show(alloc, help, output, errors),
-        LineError::Width => {
-            tell_line(errors, WRONG_WIDTH.as_bytes());
-            WRONG_LINE
-        }
-        LineError::Plan => {
-            tell_line(errors, WRONG_PLAN.as_bytes());
-            WRONG_LINE
-        }
-        LineError::Span => {
-            tell_line(errors, WRONG_SPAN.as_bytes());
-            WRONG_LINE
-        }
-        LineError::Totals => {
-            tell_line(errors, WRONG_TOTALS.as_bytes());
-            WRONG_LINE
-        }
-        LineError::Keep => {
-            tell_line(errors, WRONG_KEEP.as_bytes());
-            WRONG_LINE
-        }
-        LineError::Files => {
-            tell_line(errors, WRONG_FILES.as_bytes());
-            WRONG_LINE
-        }
-        LineError::Number => {
-            tell_line(errors, WRONG_NUMBER.as_bytes());
-            WRONG_LINE
-        }
-        LineError::Formats => {
-            tell_line(errors, WRONG_FORMATS.as_bytes());
-            WRONG_LINE
-        }
-        LineError::OutOfMemory => tell(alloc, errors, &Refusal::OutOfMemory),
-    }
-}
-
-/// The line for words that the parser of the command line refuses.
-fn kind_line(kind: ErrorKind) -> &'static str
-    ensures { result.now ≡ line_of (kind_text kind) }
-{
-    match kind {
-        ErrorKind::MissingSubcommand => NO_COMMAND,
-        ErrorKind::MissingRequiredArgument => NO_ARGUMENT,
-        _ => WRONG_WORDS,
-    }
-}
-
-/// The part of a text before a mark, or all of it.
-fn before<'a>(text: &'a str, mark: &str) -> &'a str {
-    match text.split_once(mark) {
-        Some((front, _)) => front,
-        None => text,
-    }
-}
-
-/// What the parser of the command line says of words that it refuses: which word, and which one is like it, but not how
-/// the command is used; nothing where no command is there.
-fn said_of(alloc: Global, error: &Error) -> Result<String, AllocError> {
-    if error.kind() == ErrorKind::MissingSubcommand {
-        return Ok(String::new(alloc));
-    }
-    let text = format!(in alloc; "{error}")?;
-    let said = before(before(text.as_str(), "\nUsage:"), "\nFor more information");
-    format!(in alloc; "{}\n", said.trim_end())
-}
-
-/// The line for words that the parser of the command line refuses, and what it says of them.
-fn words_lines(alloc: Global, error: &Error) -> Result<String, AllocError>
-    ensures { IfOk result (λ lines. AreWordsLines error.now (string_bytes lines)) }
-{
-    let said = said_of(alloc, error)?;
-    let mut lines = String::from_str(alloc, kind_line(error.kind()))?;
-    lines.push_str(said.as_str())?;
-    Ok(lines)
-}
-
-/// Writes why the parser of the command line refuses words. Where there is no memory for what it says of them, the line
-/// is written alone.
-fn tell_words<E: Write>(alloc: Global, errors: &mut E, error: &Error)
-    ensures { AreWordsTold error.now (E.contents errors.old) (E.contents errors.new) }
-{
-    match words_lines(alloc, error) {
-        Ok(lines) => tell_line(errors, lines.as_bytes()),
-        Err(AllocError) => tell_line(errors, kind_line(error.kind()).as_bytes()),
-    }
-}
-
-/// Writes a text.
-fn write_text<W: Write, D: Display + Drop>(
-    alloc: Global,
-    to: &mut W,
-    text: D,
-) -> Result<(), Refusal> {
-    let text = format!(in alloc; "{text}")?;
-    write_octets(to, text.as_bytes())
-}
-
-/// Shows help on `output`.
-fn show<W: Write, E: Write>(alloc: Global, help: &Error, output: &mut W, errors: &mut E) -> u8
-    ensures shown { IsShown (E.contents errors.old) (E.contents errors.new) result }
-    ensures quiet { result ≡ 0 → Keeps (E.contents errors.old) (E.contents errors.new) }
-    ensures status { result ≤ 5 }
-    ensures other { result ≢ 2 }
-{
-    match write_text(alloc, output, help) {
-        Ok(()) => DONE,
-        Err(refusal) => tell(alloc, errors, &refusal),
     }
 }

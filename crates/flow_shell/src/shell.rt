@@ -18,7 +18,7 @@ use crate::refusal::ShellRefusal;
 use flow_archive::{Archive, ArchiveError};
 use flow_commands::{ArchiveRefusal, Progress, Workers, fed_line, feed_stream, unopened};
 use flow_disk::{Disk, Faults, SealedFile};
-use flow_folder::{FolderDisk, Lockable};
+use flow_folder::{FirstFault, FolderDisk, Lockable};
 use flow_report::{Patience, write_patiently};
 use flow_roller::{Bell, roll_beside};
 use flow_shared::{ArchiveReader, Naming, Opened, SharedArchive, start};
@@ -597,13 +597,20 @@ pub fn shell_in<
     H: Files + AllocGlobal + Clone + Drop + Threads + Wait + Send + Sync,
     R: Read,
     W: Write,
->(rt: &H, folder: &str, keep: u32, input: &mut R, output: &mut W) -> Result<u8, ArchiveRefusal>
+>(
+    rt: &H,
+    folder: &str,
+    first_fault: &FirstFault,
+    keep: u32,
+    input: &mut R,
+    output: &mut W,
+) -> Result<u8, ArchiveRefusal>
 where
     H::File: FileExt + Lockable + Send + Sync,
     H::Dir: Send + Sync,
     ensures most { IfOk result (λ status. status ≤ 5) }
     ensures other { IfOk result (λ status. status ≢ 2) }
 {
-    let disk = FolderDisk::new(rt, folder)?;
+    let disk = FolderDisk::noting(rt, folder, first_fault)?;
     serve_disk(rt, disk, keep, input, output)
 }

@@ -1,6 +1,6 @@
 use Rattle.std.proofs.Common.{refl}
 use Rattle.std.proofs.KnownBytes.{Keeps-refl}
-use Rattle.flow_program.proofs.run.refuse.Goals as goal
+use Rattle.flow_program.proofs.refusing.refuse.Goals as goal
 
 pub returns-in-Width-clause-told : goal.returns-in-Width-clause-told
 returns-in-Width-clause-told g c =
@@ -33,3 +33,7 @@ returns-in-Files-clause-told g c =
 pub returns-in-Formats-clause-told : goal.returns-in-Formats-clause-told
 returns-in-Formats-clause-told g c =
     rw c.in-Formats.is (refl, Keeps-refl _, rw c.as_bytes-in-Formats.ensures.value at c.tell_line-in-Formats.ensures)
+
+pub returns-in-Swapped-clause-told : goal.returns-in-Swapped-clause-told
+returns-in-Swapped-clause-told g c =
+    rw c.in-Swapped.is (refl, Keeps-refl _, rw c.as_bytes-in-Swapped.ensures.value at c.tell_line-in-Swapped.ensures)

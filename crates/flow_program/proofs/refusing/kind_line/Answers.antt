@@ -1,6 +1,6 @@
 use Rattle.clap.specs.declared.error.kind.ErrorKind.TheVariants as kind
 use Rattle.flow_program.proofs.Told.{kind_is, other_kind}
-use Rattle.flow_program.proofs.run.kind_line.Goals as goal
+use Rattle.flow_program.proofs.refusing.kind_line.Goals as goal
 
 pub returns-in-MissingSubcommand : goal.returns-in-MissingSubcommand
 returns-in-MissingSubcommand c = kind_is c.args.kind kind.MissingSubcommand c.in-MissingSubcommand.is
