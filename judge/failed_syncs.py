@@ -732,7 +732,7 @@ def arguments():
     parser = argparse.ArgumentParser(description=__doc__.split("\n\n")[0])
     parser.add_argument("program", metavar="PROGRAM")
     parser.add_argument("--short", action="store_true", help="a sample, of some two minutes on two processors")
-    parser.add_argument("--jobs", type=int, default=os.cpu_count(), help="how many runs at once")
+    parser.add_argument("--jobs", type=int, default=len(os.sched_getaffinity(0)), help="how many runs at once")
     parser.add_argument("--only", default="", metavar="WORD", help="the groups with this in their name alone")
     parser.add_argument("--keep-traces", metavar="FOLDER", help="where the traces are kept")
     asked = parser.parse_args()

@@ -1,0 +1,48 @@
+# Completion of flowvault for bash: put it into /usr/share/bash-completion/completions/flowvault, or read it by
+# `. flowvault.bash`. judge/completions.py holds it against the program's help.
+
+_flowvault() {
+    local commands='measure dump inspect create check totals flows feed shell roll merge explain help'
+    local current=${COMP_WORDS[COMP_CWORD]} previous=${COMP_WORDS[COMP_CWORD - 1]} words= paths=
+    COMPREPLY=()
+    if [ "$COMP_CWORD" -eq 1 ]; then
+        words="$commands -h --help -V --version"
+    else
+        case $previous in
+        --limit | --wide | --keep | --from | --since | --until | --workers) return ;;
+        esac
+        case ${COMP_WORDS[1]} in
+        measure) words='--csv --json --utc --warn' ;;
+        dump) ;;
+        inspect) words='--csv --json --utc' paths=-f ;;
+        create) words='--limit --wide' paths=-d ;;
+        check) words='--files' paths=-d ;;
+        totals) words='--since --until --csv --json --utc --workers' paths=-d ;;
+        flows) words='--since --until --csv --json --utc' paths=-d ;;
+        feed) words='--keep --from --warn' paths=-f ;;
+        shell) words='--keep' paths=-d ;;
+        roll | merge) paths=-d ;;
+        explain) ;;
+        help)
+            COMPREPLY=($(compgen -W "$commands" -- "$current"))
+            return
+            ;;
+        *) return ;;
+        esac
+        words="$words -h --help"
+        # (a path is what a word may be that isn't an option)
+        case $current in
+        -*) paths= ;;
+        *) words= ;;
+        esac
+    fi
+    if [ -n "$paths" ]; then
+        compopt -o filenames 2>/dev/null
+        local IFS=$'\n'
+        COMPREPLY=($(compgen "$paths" -- "$current"))
+    else
+        COMPREPLY=($(compgen -W "$words" -- "$current"))
+    fi
+}
+
+complete -F _flowvault flowvault
