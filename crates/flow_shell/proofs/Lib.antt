@@ -1,3 +1,4 @@
 pub mod Names
 pub mod Shown
+pub mod Table
 pub mod Writing

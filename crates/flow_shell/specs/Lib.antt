@@ -1,4 +1,5 @@
 pub mod Answers
 pub mod Asked
+pub mod Places
 pub mod Refusals
 pub mod Written

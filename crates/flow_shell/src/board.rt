@@ -1,5 +1,8 @@
 //! The Files that are fed, and how those ended that aren't written down yet.
 
+ghost use Rattle.std.specs.Prelude.{◌≡◌, ◌≢◌, ◌↔◌, IsTrue};
+ghost use Rattle.flow_shell.specs.Places.{Begins, Frees, HasFed, IsFirst, Replaces};
+
 use flow_feed::Fed;
 use std::io;
 use std::io::{ErrorKind, Read};
@@ -18,6 +21,16 @@ enum Place {
     Ended(u64, Fed),
 }
 
+impl Place {
+    /// `to` in place of `from`; any other is as it was.
+    fn replaced(self, from: Place, to: Place) -> Place
+        ensures same { self ≡ from → result ≡ to }
+        ensures other { self ≢ from → result ≡ self }
+    {
+        if self == from { to } else { self }
+    }
+}
+
 /// All places.
 #[derive(Clone, Copy)]
 struct Places {
@@ -29,7 +42,9 @@ struct Places {
 
 impl Places {
     /// Whether a File is fed.
-    fn has_fed(&self) -> bool {
+    fn has_fed(&self) -> bool
+        ensures { IsTrue result ↔ HasFed self.now.places }
+    {
         for place in &self.places {
             if let Place::Fed(_) = place {
                 return true;
@@ -39,7 +54,9 @@ impl Places {
     }
 
     /// A place for one File more, which has the number that is answered; none where all are taken.
-    fn begin(&mut self) -> Option<u64> {
+    fn begin(&mut self) -> Option<u64>
+        ensures { Begins self.old result self.new }
+    {
         let number = self.count.saturating_add(1);
         for place in &mut self.places {
             if let Place::Free = *place {
@@ -51,17 +68,26 @@ impl Places {
         None
     }
 
-    /// The File of this number has ended so.
-    fn end(&mut self, number: u64, fed: Fed) {
+    /// Each place that is `from` is `to` from then on.
+    fn replace(&mut self, from: Place, to: Place)
+        ensures { Replaces from to self.old self.new }
+    {
         for place in &mut self.places {
-            if *place == Place::Fed(number) {
-                *place = Place::Ended(number, fed);
-            }
+            *place = place.replaced(from, to);
         }
     }
 
-    /// The File with the least number that has ended, whose place is free from then on.
-    fn take_ended(&mut self) -> Option<(u64, Fed)> {
+    /// The File of this number has ended so.
+    fn end(&mut self, number: u64, fed: Fed)
+        ensures { Replaces (Place.Fed number) (Place.Ended number fed) self.old self.new }
+    {
+        self.replace(Place::Fed(number), Place::Ended(number, fed));
+    }
+
+    /// The File with the least number that has ended.
+    fn first_ended(&self) -> Option<(u64, Fed)>
+        ensures { IsFirst self.now.places result }
+    {
         let mut first = None;
         for place in &self.places {
             if let Place::Ended(number, fed) = *place {
@@ -71,12 +97,17 @@ impl Places {
                 };
             }
         }
+        first
+    }
+
+    /// The File with the least number that has ended, whose place is free from then on.
+    fn take_ended(&mut self) -> Option<(u64, Fed)>
+        ensures answered { IsFirst self.old.places result }
+        ensures freed { Frees result self.old self.new }
+    {
+        let first = self.first_ended();
         if let Some((number, fed)) = first {
-            for place in &mut self.places {
-                if *place == Place::Ended(number, fed) {
-                    *place = Place::Free;
-                }
-            }
+            self.replace(Place::Ended(number, fed), Place::Free);
         }
         first
     }
