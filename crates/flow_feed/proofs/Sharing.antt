@@ -8,7 +8,7 @@ use Rattle.flow_model.specs.Changes.{Change}
 use Rattle.flow_model.specs.Changes.Change.{added}
 use Rattle.flow_model.specs.Shelf.{Shelf}
 use Rattle.flow_archive.specs.declared.refusal.ArchiveError.{ArchiveError}
-use Rattle.flow_shared.specs.Known.{IsAppendBy}
+use Rattle.flow_shared.specs.Known.{IsAppendBy, Says}
 use Rattle.flow_shared.specs.Told.{HasAdded}
 use Rattle.flow_shared.specs.UnderLock.{LockState}
 use Rattle.flow_feed.specs.declared.batch.Fed.{Fed}
@@ -38,14 +38,14 @@ late_of g opening knew knows messages position made under append is other = reco
 
 -- messages that are accepted, where a step isn't made
 pub late_then : {D S X : Type 0} (g : Ghosts D S X) (opening : Shelf) (knew knows : List Change)
-    (messages : List (List ℕ)) (position : ℕ) (error : ArchiveError) (made : Bool)
+    (messages : List (List ℕ)) (position : ℕ) (error : ArchiveError) (made shown : Bool) (told : List Change)
     → ((knows ≡ knew) × (Ok position ≡ Err error)) ⊎ ((under : LockState D)
-    × IsAppendBy g opening knew knows messages (Ok position) under × (IsTrue made ↔ (under.backlog ≡ [])))
+    × IsAppendBy g opening knew knows messages (Ok position) under × Says under made shown told)
     → not made ≡ true → IsLate g opening knew knows messages position
-late_then g opening knew knows messages position error made (inl x) other =
+late_then g opening knew knows messages position error made shown told (inl x) other =
     absurd (let never : Ok position ≡ Err error = x.1 in cc never)
-late_then g opening knew knows messages position error made (inr x) other =
-    late_of g opening knew knows messages position made x.0 x.1 x.2 other
+late_then g opening knew knows messages position error made shown told (inr x) other =
+    late_of g opening knew knows messages position made x.0 x.1 (x.2).0 other
 
 -- ---- a File
 

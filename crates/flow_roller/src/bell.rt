@@ -1,5 +1,7 @@
 //! What a roller waits for.
 
+ghost use Rattle.std.specs.Prelude.{◌≡◌, ◌≢◌, ◌⊎◌, ◌↔◌, ◌≤◌, IsTrue};
+
 use std::sync::{Condvar, Mutex, Wait};
 
 /// What a roller knows of the work beside it.
@@ -10,6 +12,47 @@ struct Work {
     has_ended: bool,
     /// How many of the newest sealed segments are left as they are.
     keep: u32,
+}
+
+impl Work {
+    /// There may be something to roll.
+    fn ring(&mut self)
+        ensures later { self.old.rings ≤ self.new.rings }
+        ensures same { (self.new.keep ≡ self.old.keep) × (self.new.has_ended ≡ self.old.has_ended) }
+    {
+        self.rings = self.rings.saturating_add(1);
+    }
+
+    /// From now on so many of the newest segments are left as they are.
+    fn set_keep(&mut self, keep: u32)
+        ensures keep { self.new.keep ≡ keep }
+        ensures same { (self.new.rings ≡ self.old.rings) × (self.new.has_ended ≡ self.old.has_ended) }
+    {
+        self.keep = keep;
+    }
+
+    /// How many of the newest segments are left as they are.
+    fn kept(&self) -> u32
+        ensures { result ≡ self.now.keep }
+    {
+        self.keep
+    }
+
+    /// Whether it has rung more often than this, or nothing more is appended.
+    fn has_news(&self, heard: u64) -> bool
+        ensures { IsTrue result ↔ (IsTrue self.now.has_ended ⊎ (self.now.rings ≢ heard)) }
+    {
+        self.has_ended || self.rings != heard
+    }
+
+    /// Whether nothing more is appended. `heard` is then the count of the rings.
+    fn hear(&self, heard: &mut u64) -> bool
+        ensures ended { result ≡ self.now.has_ended }
+        ensures heard { heard.new ≡ self.now.rings }
+    {
+        *heard = self.rings;
+        self.has_ended
+    }
 }
 
 /// By which those who append wake a roller: there may be something to roll, or nothing more is appended.
@@ -36,21 +79,21 @@ impl Bell {
     /// Says that there may be something to roll.
     pub fn ring<W: Wait>(&self, rt: &W) {
         let mut work = self.work.lock(rt);
-        work.rings = work.rings.saturating_add(1);
+        work.ring();
         drop(work);
         self.changed.notify_all();
     }
 
     /// How many of the newest sealed segments are left as they are.
     pub(crate) fn keep<W: Wait>(&self, rt: &W) -> u32 {
-        self.work.lock(rt).keep
+        self.work.lock(rt).kept()
     }
 
     /// From now on the newest `keep` sealed segments are left as they are.
     pub fn set_keep<W: Wait>(&self, rt: &W, keep: u32) {
         let mut work = self.work.lock(rt);
-        work.keep = keep;
-        work.rings = work.rings.saturating_add(1);
+        work.set_keep(keep);
+        work.ring();
         drop(work);
         self.changed.notify_all();
     }
@@ -65,15 +108,16 @@ impl Bell {
 
     /// Waits until it has rung more often than `heard` says, or nothing more is appended, and answers whether the
     /// latter is so. `heard` is then the count of its rings.
-    pub(crate) fn wait<W: Wait>(&self, rt: &W, heard: &mut u64) -> bool {
+    pub(crate) fn wait<W: Wait>(&self, rt: &W, heard: &mut u64) -> bool
+        ensures { IsTrue result ⊎ (heard.new ≢ heard.old) }
+    {
         let mut work = self.work.lock(rt);
         for _ in rt.forever() {
-            if work.has_ended || work.rings != *heard {
+            if work.has_news(*heard) {
                 break;
             }
             work = self.changed.wait(rt, work);
         }
-        *heard = work.rings;
-        work.has_ended
+        work.hear(heard)
     }
 }

@@ -1,6 +1,10 @@
 //! A roller beside those who append.
 
+ghost use Rattle.std.specs.Prelude.{◌≡◌, ◌⊎◌, ℕ, List, Ok, Err, IfOk, IfErr, OnOk, length};
+ghost use Rattle.std.specs.List.{AllByRecursion};
 ghost use Rattle.flow_disk.specs.Cause.{HasCause};
+ghost use Rattle.flow_turns.specs.declared.turn.Turn.{Turn};
+ghost use Rattle.flow_roller.specs.Rolling.{IsDone, IsRolled, RollsOn};
 
 use crate::bell::Bell;
 use crate::gate::Open;
@@ -30,6 +34,9 @@ fn clear<D: Disk, J: Naming, W: Wait>(
     faults: &mut Faults<D::Sealed>,
 ) -> Result<(), ArchiveError>
     ensures unread { HasCause ArchiveError.SourceFault faults.old faults.new result }
+    // No job begins: each turn is made by one who keeps all.
+    ensures turns { (all : List Turn) × RollsOn D.Disk J.opening 4294967295 all result
+        × IfOk result (λ _. IsDone 1000000 all) }
 {
     for _ in 0..MOST_CALLS {
         shared.refresh(rt, alloc);
@@ -39,6 +46,26 @@ fn clear<D: Disk, J: Naming, W: Wait>(
         }
     }
     Ok(())
+}
+
+/// One round of the roller: so many turns, then what `clear` does, and one turn more, which it answers.
+fn round<D: Disk, J: Naming, W: Wait>(
+    shared: &SharedArchive<D, J, W>,
+    rt: &W,
+    alloc: Global,
+    keep: u32,
+    faults: &mut Faults<D::Sealed>,
+) -> Result<Turn, ArchiveError>
+    ensures unread { HasCause ArchiveError.SourceFault faults.old faults.new result }
+    ensures worked { OnOk result ((all : List Turn)
+        × AllByRecursion (λ turn. IsRolled D.Disk J.opening keep (Ok turn)) all × (length all ≡ 16)) }
+    ensures last { IfOk result (λ turn. IsRolled D.Disk J.opening keep (Ok turn)) }
+    ensures refused { IfErr result (λ e. IsRolled D.Disk J.opening keep (Err e)
+        ⊎ IsRolled D.Disk J.opening 4294967295 (Err e)) }
+{
+    roll_worker(shared, rt, alloc, &Open, keep, TURNS, faults)?;
+    clear(shared, rt, alloc, faults)?;
+    shared.roll_turn(rt, alloc, keep, faults)
 }
 
 /// Makes turns of rolling while others append, until they have ended and there is nothing left to do: all sealed
@@ -53,14 +80,13 @@ pub fn roll_beside<D: Disk, J: Naming, W: Wait>(
     faults: &mut Faults<D::Sealed>,
 ) -> Result<(), ArchiveError>
     ensures unread { HasCause ArchiveError.SourceFault faults.old faults.new result }
+    ensures refused { IfErr result (λ e. (keep : ℕ) × IsRolled D.Disk J.opening keep (Err e)) }
 {
     let mut heard = 0;
     let mut has_ended = false;
     for _ in 0..MOST_CALLS {
         let keep = bell.keep(rt);
-        roll_worker(shared, rt, alloc, &Open, keep, TURNS, faults)?;
-        clear(shared, rt, alloc, faults)?;
-        if shared.roll_turn(rt, alloc, keep, faults)? == Turn::Idle {
+        if round(shared, rt, alloc, keep, faults)? == Turn::Idle {
             if has_ended {
                 return Ok(());
             }

@@ -1,7 +1,8 @@
 -- An append, after a seal.
 use Rattle.std.proofs.Common.{◌≡◌, ◌⊎◌, ⊎_elim, ℕ, List, [], ◌++◌, Result, Ok, Err, refl, sym, ap, ◌∙◌, subst}
-use Rattle.std.proofs.Common.{append_assoc, ◌≢◌, ◌≤◌, ◌<◌, [], ◌∷◌, arith}
+use Rattle.std.proofs.Common.{append_assoc, ◌≢◌, ◌≤◌, ◌<◌, [], ◌∷◌, length, arith}
 use Rattle.std.specs.Prelude.{IfErr}
+use Rattle.flow_disk.specs.Cause.{HasCause}
 use Rattle.flow_disk.specs.declared.disk.Disk.{Ghosts}
 use Rattle.flow_gate.specs.Gate.{octet_sum}
 use Rattle.flow_segment.specs.Carry.{prefix_of}
@@ -109,3 +110,36 @@ module _ {D S Y : Type 0} (g : Ghosts D S Y) where
       → IfErr result (λ error. error ≡ NoRoom → Holds)
   never_so Holds (Ok x) other = tt
   never_so Holds (Err error) other = λ is. absurd (other is)
+
+-- ---- answers by one part of them
+
+-- there is no room is what a call answers where a part of it does
+pub has_room_by : {X Y : Type 0} (part : X → Y) (result : Result X ArchiveError) → IfErr result (λ e. e ≢ NoRoom)
+    → by part result ≢ Err NoRoom
+has_room_by part (Ok x) has = λ (is : Ok (part x) ≡ Err NoRoom). cc is
+has_room_by part (Err e) has = λ (is : Err e ≡ Err NoRoom). has (cc is)
+
+pub cause_by : {X Y : Type 0} (part : X → Y) (failed : ArchiveError) (before now : ℕ) (result : Result X ArchiveError)
+    → HasCause failed before now result → HasCause failed before now (by part result)
+cause_by part failed before now (Ok x) is = record {
+  later = is.later;
+  done = is.done;
+  risen = λ (never : Ok (part x) ≡ Err failed). absurd (cc never);
+  other = is.other;
+}
+cause_by part failed before now (Err e) is = record {
+  later = is.later;
+  done = is.done;
+  risen = λ (same : Err e ≡ Err failed).
+      let error : e ≡ failed = cc same in
+      is.risen (ap (λ (x : ArchiveError). Err x) error);
+  other = is.other;
+}
+
+pub room_by : {X Y : Type 0} (part : X → Y) (Less Then : Type 0) → (Less → Then) → (result : Result X ArchiveError)
+    → IfErr result (λ e. e ≡ NoRoom → Less) → IfErr (by part result) (λ e. e ≡ NoRoom → Then)
+room_by part Less Then so (Ok x) is = is
+room_by part Less Then so (Err e) is = λ (none : e ≡ NoRoom). so (is none)
+
+pub one_message : (limit : ℕ) (message : List ℕ) → limit < length message → limit < octet_sum (message ∷ [])
+one_message limit message less = omega arith

@@ -1,11 +1,14 @@
 -- Lists that go on.
-use Rattle.std.proofs.Common.{◌≡◌, ℕ, List, [], ◌∷◌, ◌++◌, refl, ap, sym, ◌∙◌, append_assoc, subst}
-use Rattle.std.specs.Prelude.{Bool, IfOk, IsTrue, Result, Ok, Err}
+use Rattle.std.proofs.Common.{◌≡◌, ℕ, List, [], ◌∷◌, ◌++◌, ap, sym, ◌∙◌, append_assoc, subst}
+use Rattle.std.specs.Prelude.{◌↔◌, Bool, IfOk, IsTrue, Result, Ok, Err}
 use Rattle.std.proofs.lemmas.List.{append-nil}
 use mathlib.Core.List.{IsPrefix}
 use Rattle.flow_model.specs.Changes.{added, Change}
 use Rattle.flow_model.specs.Shelf.{position_of, Shelf}
+use Rattle.flow_model.specs.Shelved.{shelf_of}
+use Rattle.flow_shared.specs.Known.{Says}
 use Rattle.flow_shared.specs.Told.{after, HasAdded}
+use Rattle.flow_shared.specs.UnderLock.{all_of, IsAllShown, IsUnderLock, LockState}
 
 pub prefix_same : {A : Type 0} (xs ys : List A) → ys ≡ xs → IsPrefix xs ys
 prefix_same xs ys same = ([], append-nil xs ∙ sym same)
@@ -39,3 +42,18 @@ pub added_later_if : {X E : Type 0} (opening : Shelf) (a b c : List Change) (mes
 added_later_if opening a b c messages made position pre (Ok r) there =
     λ is. added_later opening a b c messages (position r) pre (there is)
 added_later_if opening a b c messages made position pre (Err e) there = tt
+
+-- what is seen of a value under the lock holds of the value
+pub sound_of : {D : Type 0} (opening : Shelf) (seen now : LockState D) → seen ≡ now
+    → after opening (all_of seen) ≡ shelf_of seen.core.state → all_of seen ≡ seen.made ++ seen.backlog → IsUnderLock opening now
+sound_of {D} opening seen now same files all = subst (λ (h : LockState D). IsUnderLock opening h) same (record {
+  all_are = all;
+  files = files;
+})
+
+-- what a receipt says, from its parts
+pub says : {D X E : Type 0} (now : LockState D) (made shown : X → Bool) (told : X → List Change) (result : Result X E)
+    → IfOk result (λ r. IsTrue (made r) ↔ (now.backlog ≡ [])) → IfOk result (λ r. IsTrue (shown r) ↔ IsAllShown now)
+    → IfOk result (λ r. told r ≡ now.told) → IfOk result (λ r. Says now (made r) (shown r) (told r))
+says now made shown told (Ok r) is_made is_shown is_told = (is_made, is_shown, is_told)
+says now made shown told (Err e) is_made is_shown is_told = tt

@@ -9,3 +9,4 @@ pub mod Tells
 pub mod Meaning
 pub mod Behind
 mod Known
+pub mod Called

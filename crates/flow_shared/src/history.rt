@@ -183,7 +183,7 @@ impl<J: Naming> Told<J> {
     }
 
     /// Whether the other list is no shorter. Then it begins with this one, and else this one with it.
-    pub(crate) fn begins(&self, other: &Told<J>) -> bool
+    pub fn begins(&self, other: &Told<J>) -> bool
         ensures { MatchBool result (IsPrefix self.now other.now) (IsPrefix other.now self.now) }
     {
         let mut both = self.seen.again();

@@ -7,7 +7,8 @@ ghost use Rattle.flow_disk.specs.Cause.{HasCause};
 ghost use Rattle.flow_gate.specs.Steps.{slices};
 ghost use Rattle.flow_model.specs.Shelved.{shelf_of};
 ghost use Rattle.flow_shared.specs.Calls.{by};
-ghost use Rattle.flow_shared.specs.Known.{IsAppendBy};
+ghost use Rattle.flow_manifest.specs.declared.following.JobKind.TheVariants.{Merge, Roll};
+ghost use Rattle.flow_shared.specs.Known.{Adds, IsAppendBy, Refreshes, Says, Seals, Turns, WasCalled, WasSeen};
 ghost use Rattle.flow_shared.specs.UnderLock.{LockState};
 ghost use Rattle.flow_shared.specs.Told.{after, HasAdded, HasOwn};
 
@@ -42,16 +43,26 @@ where
     /// Adds a message, and answers its number with what readers then see. Where the active segment has no room for it,
     /// it is sealed before. What else it does is said at the call of `Locked`.
     pub fn append(&self, rt: &W, alloc: Global, message: &[u8]) -> Result<Receipt<J>, ArchiveError>
-        ensures { IfOk result (λ r. IsTrue r.shown → HasOwn J.opening r.told (message.now ∷ []) r.position) }
+        ensures own { IfOk result (λ r. IsTrue r.shown → HasOwn J.opening r.told (message.now ∷ []) r.position) }
+        ensures calls { WasCalled J.opening (λ (old : LockState D) (new : LockState D) steps.
+            Adds D.Disk (message.now ∷ []) (by (λ r. r.position) result) old new steps
+            × IfOk result (λ r. Says new r.made r.shown r.told)) }
     {
         let mut locked = self.lock.lock(rt);
+        locked.facts();
         locked.count_from(Losses::none());
-        locked.append(alloc, message)
+        let answer = locked.append(alloc, message);
+        locked.facts();
+        answer
     }
 
     /// The steps that are made.
-    pub fn steps(&self, rt: &W) -> Told<J> {
-        self.lock.lock(rt).made().again()
+    pub fn steps(&self, rt: &W) -> Told<J>
+        ensures calls { WasSeen J.opening (λ (now : LockState D). result ≡ now.made) }
+    {
+        let locked = self.lock.lock(rt);
+        locked.facts();
+        locked.made().again()
     }
 
     /// Adds messages, from 1 to 64, all of them or none, and answers the number of the last one with what readers then
@@ -75,9 +86,10 @@ where
         ensures own { IfOk result (λ r. IsTrue r.shown → HasOwn J.opening r.told (slices messages.now) r.position) }
         ensures calls { ((known.new ≡ known.old) × (by (λ r. r.position) result ≡ Err ArchiveError.OutOfMemory))
             ⊎ ((new : LockState D) × IsAppendBy D.Disk J.opening known.old known.new (slices messages.now)
-            (by (λ r. r.position) result) new × IfOk result (λ r. IsTrue r.made ↔ (new.backlog ≡ []))) }
+            (by (λ r. r.position) result) new × IfOk result (λ r. Says new r.made r.shown r.told)) }
     {
         let mut locked = self.lock.lock(rt);
+        locked.facts();
         // What a caller has was made under this lock before: it is never refused here.
         if !known.begins(locked.made()) {
             return Err(ArchiveError::OutOfMemory);
@@ -90,8 +102,15 @@ where
     }
 
     /// Seals the active segment, and answers the number of the sealed file.
-    pub fn seal(&self, rt: &W, alloc: Global) -> Result<u64, ArchiveError> {
-        self.lock.lock(rt).seal(alloc)
+    pub fn seal(&self, rt: &W, alloc: Global) -> Result<u64, ArchiveError>
+        ensures calls { WasCalled J.opening (Seals D.Disk result) }
+    {
+        let mut guard = self.lock.lock(rt);
+        let locked = &mut *guard;
+        locked.facts();
+        let answer = locked.seal(alloc);
+        locked.facts();
+        answer
     }
 
     /// A turn of rolling: the next step of the job that is under way, else a job over all sealed segments but the
@@ -103,9 +122,15 @@ where
         keep: u32,
         faults: &mut Faults<D::Sealed>,
     ) -> Result<Turn, ArchiveError>
+        ensures calls { WasCalled J.opening (Turns D.Disk Roll keep result) }
         ensures unread { HasCause ArchiveError.SourceFault faults.old faults.new result }
     {
-        self.lock.lock(rt).roll_turn(alloc, keep, faults)
+        let mut guard = self.lock.lock(rt);
+        let locked = &mut *guard;
+        locked.facts();
+        let answer = locked.roll_turn(alloc, keep, faults);
+        locked.facts();
+        answer
     }
 
     /// The same of merging, of rolled files.
@@ -116,29 +141,55 @@ where
         keep: u32,
         faults: &mut Faults<D::Sealed>,
     ) -> Result<Turn, ArchiveError>
+        ensures calls { WasCalled J.opening (Turns D.Disk Merge keep result) }
         ensures unread { HasCause ArchiveError.SourceFault faults.old faults.new result }
     {
-        self.lock.lock(rt).merge_turn(alloc, keep, faults)
+        let mut guard = self.lock.lock(rt);
+        let locked = &mut *guard;
+        locked.facts();
+        let answer = locked.merge_turn(alloc, keep, faults);
+        locked.facts();
+        answer
     }
 
     /// Shows readers what they don't see yet, and says whether they see all steps.
-    pub fn refresh(&self, rt: &W, alloc: Global) -> bool {
-        self.lock.lock(rt).refresh(alloc)
+    pub fn refresh(&self, rt: &W, alloc: Global) -> bool
+        ensures calls { WasCalled {D = D} J.opening (Refreshes result) }
+    {
+        let mut guard = self.lock.lock(rt);
+        let locked = &mut *guard;
+        locked.facts();
+        let shown = locked.refresh(alloc);
+        locked.facts();
+        shown
     }
 }
 
 impl<D: Disk, J: Naming, W: Wait> SharedArchive<D, J, W> {
-    /// Ends the writer, drops the steps that readers weren't shown, and gives the archive back.
-    pub fn end(self, _rt: &W) -> Archive<D> {
+    /// Ends the writer, drops the steps that readers weren't shown, and gives the archive back, with the steps that
+    /// were made.
+    pub fn end_with_steps(self, _rt: &W) -> (Archive<D>, Told<J>)
+        ensures calls { WasSeen J.opening (λ (last : LockState D). (result.0 ≡ last.core) × (result.1 ≡ last.made)) }
+    {
+        let locked = self.lock.into_inner();
+        locked.facts();
         let Locked {
             archive,
             writer,
-            told: _,
+            told,
             tip: _,
             late: _,
             backlog: _,
-        } = self.lock.into_inner();
+        } = locked;
         drop(writer.take());
+        (archive, told)
+    }
+
+    /// The same, and gives the archive back alone.
+    pub fn end(self, rt: &W) -> Archive<D>
+        ensures calls { WasSeen J.opening (λ (last : LockState D). result ≡ last.core) }
+    {
+        let (archive, _told) = self.end_with_steps(rt);
         archive
     }
 }

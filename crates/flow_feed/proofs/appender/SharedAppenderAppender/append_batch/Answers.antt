@@ -23,7 +23,7 @@ returns g c =
         ap (λ (k : Known). k.whole) w.self-is,
         subst (λ (k : Known). IsLate D opening old.steps k.steps messages receipt.position) (sym w.self-is)
             (subst (λ (l : List Change). IsLate D opening l now messages receipt.position) knew
-            (late_then D opening c.self.inside.steps now messages receipt.position OutOfMemory receipt.made given.calls
+            (late_then D opening c.self.inside.steps now messages receipt.position OutOfMemory receipt.made receipt.shown receipt.told given.calls
             w.if-not-receipt.true)),
       )
       | else-not-receipt w ↦ inl (
