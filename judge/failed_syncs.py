@@ -12,6 +12,8 @@ restart shows. In the model
   that failed marks pages and length clean without writing them, so that no later sync writes them by itself;
 - a name that is made or removed is on the device after a good sync of the folder; one that failed forgets the names
   that waited; a file's sync settles no name;
+- after a good sync of a file the device must have just the octets that are read of it, and octets must be written only
+  to a file that has a name on the device;
 - a stop of the machine leaves what the device has, and of what is dirty nothing, all, or some of it: of each page any
   content that it had since the last sync, of each length likewise, of the names that wait the first ones.
 
@@ -32,7 +34,9 @@ a start time and a count of octets of its own, so that the lines of totals and f
 The File of `feed` and its rolling are two threads. A fault is one of the Nth sync of each thread, of which the first
 closes the archive to the other; so the syncs of both are failed in turn, and no run is exactly another.
 
-What it doesn't show: pages are written whole or not at all; a failed sync writes none of its pages; nothing is dropped
+What it doesn't show: that a name which a failed sync of the folder lost isn't taken for durable, or for gone, later in
+the same process, for the program changes nothing more in an archive that met a fault (crate flow_checks has tests of a
+folder alone); pages are written whole or not at all; a failed sync writes none of its pages; nothing is dropped
 from the page cache, and the device fails in syncs alone, not in reads and writes; the order of names is kept; and the
 folder is in memory (tmpfs), so no file system is tried. The device's octets that were never written are zeros.
 
@@ -142,6 +146,10 @@ class Inode:
             self.device_mode = self.mode
         self.dirty, self.lengths = {}, []
 
+    def agrees(self):
+        """Whether the device has just the octets that are read."""
+        return self.left("none", None)[0] == self.octets
+
     def left(self, choice, chance):
         """Octets and mode after a stop: of what is dirty "none", "all" or "some"."""
         pages, length, mode = dict(self.device), self.device_length, self.device_mode
@@ -204,6 +212,8 @@ class Model:
         if name in ("fsync", "fdatasync"):
             if target is not None:
                 (self if target == FOLDER else target).sync(answer == 0)
+            if answer == 0 and isinstance(target, Inode) and not target.agrees():
+                raise Seen("wrong: after a good sync of a file the device has other octets of it, or another length")
             return target is not None
         if answer < 0:
             return False
@@ -250,6 +260,8 @@ class Model:
         if inode == FOLDER:
             raise Unmodelled("%s of the folder" % call)
         if call == "pwrite64":
+            if not any(named is inode for named in self.device.values()):
+                raise Seen("wrong: octets are written to a file that has no name on the device")
             inode.write(int(words[3]), octets_of(words[1])[:answer])
         elif call == "ftruncate":
             inode.cut(int(words[1]))

@@ -290,17 +290,17 @@ const SYNCS: [Row<'static>; 12] = [
     // and synced, so not once more
     Row(Call::Sync(3), 0, true, [2, 2, 1]),
     Row(Call::Write(3, 4, b"Z"), 0, true, [3, 2, 1]),
-    // what was written since
-    Row(Call::Sync(3), 2, false, [4, 2, 1]),
+    // what was written since, with the length, though nothing was cut
+    Row(Call::Sync(3), 2, false, [4, 3, 1]),
     // once more, since that sync failed too
-    Row(Call::Sync(3), 0, true, [5, 2, 1]),
+    Row(Call::Sync(3), 0, true, [5, 4, 1]),
     // not after a good one
-    Row(Call::Sync(3), 0, true, [5, 2, 1]),
-    Row(Call::Write(3, 0, b"A"), 0, true, [6, 2, 1]),
-    Row(Call::Write(3, 3, b"D"), 0, true, [7, 2, 1]),
+    Row(Call::Sync(3), 0, true, [5, 4, 1]),
+    Row(Call::Write(3, 0, b"A"), 0, true, [6, 4, 1]),
+    Row(Call::Write(3, 3, b"D"), 0, true, [7, 4, 1]),
     // each of the two places
-    Row(Call::Sync(3), 1, false, [9, 2, 1]),
-    Row(Call::Sync(3), 0, true, [9, 2, 1]),
+    Row(Call::Sync(3), 1, false, [9, 5, 1]),
+    Row(Call::Sync(3), 0, true, [9, 5, 1]),
 ];
 
 /// Files of others are written again.
@@ -358,6 +358,32 @@ const NAMES: [Row<'static>; 6] = [
     Row(Call::Files(&[]), 0, true, [1, 0, 5]),
 ];
 
+/// A name that a failed sync has lost isn't gone for good by the next good sync of the folder.
+const LOST: [Row<'static>; 8] = [
+    Row(Call::Write(3, 0, b"abc"), 0, true, [1, 0, 1]),
+    Row(Call::Sync(3), 0, true, [1, 0, 1]),
+    // no sync has failed: nothing is made where there is no file
+    Row(Call::Sync(4), 0, true, [1, 0, 1]),
+    Row(Call::Remove(3), 2, false, [1, 0, 2]),
+    // which syncs the folder
+    Row(Call::Write(4, 0, b"d"), 0, true, [2, 0, 3]),
+    // made and taken away
+    Row(Call::Sync(3), 0, true, [2, 0, 4]),
+    Row(Call::Remove(3), 0, true, [2, 0, 5]),
+    Row(Call::Files(&[4]), 0, true, [2, 0, 5]),
+];
+
+/// Nor is the name of a file without octets durable by a sync of that file, or its cut.
+const EMPTY: [Row<'static>; 6] = [
+    Row(Call::Write(3, 0, b"abc"), 2, false, [0, 0, 2]),
+    Row(Call::Cut(3, 0), 0, true, [0, 0, 2]),
+    // made anew
+    Row(Call::Sync(3), 0, true, [0, 0, 3]),
+    Row(Call::Cut(3, 0), 0, true, [0, 0, 3]),
+    Row(Call::Write(3, 0, b"abc"), 0, true, [1, 0, 4]),
+    Row(Call::Sync(3), 0, true, [1, 0, 4]),
+];
+
 /// A full device is a fault.
 const FULL: [Row<'static>; 4] = [
     Row(Call::Write(3, 0, b"abc"), 0, true, [1, 0, 1]),
@@ -370,11 +396,13 @@ const FULL: [Row<'static>; 4] = [
 /// A file of two pieces is written again in two, each where it was.
 const PIECES: [Session<'static>; 1] = [Session::Calls(&[Row(Call::Sync(3), 0, true, [2, 1, 0])])];
 
-const FOLDERS: [Folder<'static>; 5] = [
+const FOLDERS: [Folder<'static>; 7] = [
     (b"", 1000, &[Session::Calls(&SYNCS)], b"AbcDZ"),
     (b"abcdef", 1000, &AGAIN, b"abcdefg"),
     (b"", 1000, &DOUBTFUL, b"abc"),
     (b"", 1000, &[Session::Calls(&NAMES)], b""),
+    (b"", 1000, &[Session::Calls(&LOST)], b""),
+    (b"", 1000, &[Session::Calls(&EMPTY)], b"abc"),
     (b"", 5, &[Session::Calls(&FULL)], b"ABc"),
 ];
 

@@ -60,7 +60,12 @@ fn files_have_their_names(rt: HostRuntime) -> Result<(), Fail> {
     Ok(())
 }
 
-const OCTETS: [Call<'static>; 9] = [
+const OCTETS: [Call<'static>; 14] = [
+    Call::Write(3, 0, b"zzz"),
+    Call::Cut(3, 1),
+    Call::Length(3, 1),
+    Call::Cut(3, 0),
+    Call::Length(3, 0),
     Call::Write(3, 0, b"abcdef"),
     Call::Write(3, 2, b"XY"),
     Call::Read(3, 1, b"bXYe"),

@@ -3,6 +3,7 @@ ghost use Rattle.std.specs.Prelude.{◌≡◌, ◌≢◌, ℕ, ◌+◌, ◌<◌,
 ghost use Rattle.std.specs.Prelude.{is_some, IsSome, IfSome, length, IfOk, OnOk, OnErr};
 ghost use Rattle.std.specs.Ordering.{nat_cmp};
 ghost use Rattle.std.specs.BTreeMap.{get};
+ghost use Rattle.flow_folder.specs.Names.{KeepsLost};
 
 use crate::first_fault::FirstFault;
 use crate::found::{Access, Found, is_read_only, look_up};
@@ -20,13 +21,27 @@ use std::sync::Arc;
 /// Who may read and write a new file, where the process's mask allows it: its owner both, its group the first.
 const MODE: u32 = 0o640;
 
-/// A folder of the system, locked as long as a handle of it is open, and its files that are not settled.
+/// By what it is durable that the folder has a name no more.
+#[derive(Clone, Copy, PartialEq, Eq)]
+pub(crate) enum Gone {
+    /// The folder was synced after each change of a name that this value knows of, and no such sync failed.
+    Synced,
+    /// The name was taken away, made before that where it wasn't there, and the folder synced after it.
+    Anew,
+}
+
+/// A folder of the system, locked as long as a handle of it is open, and its files that are not settled. Each of these
+/// has a durable name. `names_pending` says that names were made or taken away since the last good sync of the folder,
+/// or may have been by others; `names_lost` that a sync of it failed. Linux takes the folder's names in its memory for
+/// those of the device from then on, and the next good sync writes none of those that waited: so the device may have
+/// another file under a name, or one that the folder has no more, until that very name is changed and synced.
 #[derive(Drop)]
 pub(crate) struct Folder<'a, R: Files> {
     rt: &'a R,
     first_fault: Option<&'a FirstFault>,
     place: Arc<Place<R::File>>,
     pub(crate) names_pending: bool,
+    pub(crate) names_lost: bool,
     pub(crate) pending: BTreeMap<u64, Pending<R::File>>,
 }
 
@@ -48,6 +63,7 @@ where
         first_fault: Option<&'a FirstFault>,
     ) -> Result<Self, FolderError>
         ensures names { IfOk result (λ folder. folder.names_pending ≡ true) }
+        ensures lost { IfOk result (λ folder. folder.names_lost ≡ false) }
         ensures files { IfOk result (λ folder. (n : ℕ) → get nat_cmp folder.pending n ≡ None) }
     {
         let place = Place::lock(rt, path)?;
@@ -57,6 +73,7 @@ where
             first_fault,
             place: Arc::new(rt.alloc(), place)?,
             names_pending: true,
+            names_lost: false,
             pending: BTreeMap::new(rt.alloc()),
         })
     }
@@ -98,6 +115,7 @@ where
     ) -> io::Result<()>
         requires { at + length octets.now < 2 ^ 64 }
         ensures file { OnOk result (IsSome (get nat_cmp self.new.pending file)) }
+        ensures lost { KeepsLost self.old.names_lost self.new.names_lost result }
         ensures others { (n : ℕ) → n ≢ file → is_some (get nat_cmp self.new.pending n)
             ≡ is_some (get nat_cmp self.old.pending n) }
     {
@@ -114,6 +132,7 @@ where
     /// A file that is to be written: the existing one, or a new one. One without octets is made anew, since its name
     /// may not be durable; so no octet is written to a file before its name is durable.
     fn begin(&mut self, file: u64, settled: bool) -> io::Result<Pending<R::File>>
+        ensures lost { KeepsLost self.old.names_lost self.new.names_lost result }
         ensures others { self.new.pending ≡ self.old.pending }
     {
         let path = self.path_of(file)?;
@@ -126,9 +145,12 @@ where
         }
     }
 
-    /// Cuts a file to so many octets, of those that it has. A read-only file that has just as many stays as it is.
+    /// Cuts a file to so many octets, of those that it has. A read-only file that has just as many stays as it is, and
+    /// so does one without octets: its name may not be durable.
     pub(crate) fn cut(&mut self, file: u64, count: u64, settled: bool) -> io::Result<()>
-        ensures { (n : ℕ) → n ≢ file → is_some (get nat_cmp self.new.pending n)
+        ensures names { self.new.names_pending ≡ self.old.names_pending }
+        ensures lost { self.new.names_lost ≡ self.old.names_lost }
+        ensures others { (n : ℕ) → n ≢ file → is_some (get nat_cmp self.new.pending n)
             ≡ is_some (get nat_cmp self.old.pending n) }
     {
         if !self.pending.contains_key(&file) {
@@ -136,12 +158,12 @@ where
                 return Ok(());
             }
             match self.find(file, Access::Change)? {
-                Some(found) => {
+                Some(found) if found.length > 0 => {
                     let begun = found.into_pending(self.rt.alloc(), settled)?;
                     self.pending.insert(file, begun)?;
                 }
-                None if count == 0 => return Ok(()),
-                None => return Err(ErrorKind::NotFound.into()),
+                _ if count == 0 => return Ok(()),
+                _ => return Err(ErrorKind::NotFound.into()),
             }
         }
         match self.pending.get_mut(&file) {
@@ -150,16 +172,26 @@ where
         }
     }
 
-    /// Syncs a file, and the folder where a name may not be durable. Then it lets go of the file's handle.
+    /// Syncs a file, and the folder where a name may not be durable. Then it lets go of the file's handle. A file with
+    /// octets has a durable name; one without is made anew, since the device may have another under its name.
     pub(crate) fn sync(&mut self, file: u64, settled: bool) -> io::Result<()>
         ensures file { OnOk result (is_some (get nat_cmp self.new.pending file) ≡ false) }
         ensures names { OnOk result (self.new.names_pending ≡ false) }
+        ensures lost { KeepsLost self.old.names_lost self.new.names_lost result }
         ensures others { (n : ℕ) → n ≢ file → is_some (get nat_cmp self.new.pending n)
             ≡ is_some (get nat_cmp self.old.pending n) }
     {
         if !self.pending.contains_key(&file) {
             match self.find(file, Access::Sync)? {
-                None => return self.sync_names(),
+                None => {
+                    let _ = self.sync_absent(file)?;
+                    return Ok(());
+                }
+                Some(found) if found.length == 0 => {
+                    let path = self.path_of(file)?;
+                    let _ = self.make(path.as_str())?;
+                    return Ok(());
+                }
                 Some(found) if found.read_only => {
                     found.sync_read_only()?;
                     return self.sync_names();
@@ -185,14 +217,35 @@ where
         ensures others { (n : ℕ) → n ≢ file → is_some (get nat_cmp self.new.pending n)
             ≡ is_some (get nat_cmp self.old.pending n) }
         ensures names { self.new.names_pending ≡ self.old.names_pending }
+        ensures lost { self.new.names_lost ≡ self.old.names_lost }
     {
         let _ = self.pending.remove(&file);
     }
 
-    /// Removes a file, and syncs the folder. Where that fails, it is done once more at once; the answer stays.
-    pub(crate) fn remove(&mut self, file: u64) -> io::Result<()>
+    /// Makes durable that there is no such file. After a failed sync of the folder no other sync does so: the device
+    /// may have the name. Names that a value before this one lost aren't known here.
+    fn sync_absent(&mut self, file: u64) -> io::Result<Gone>
+        requires { is_some (get nat_cmp self.old.pending file) ≡ false }
+        ensures anew { self.old.names_lost ≡ true → IfOk result (λ by. by ≡ Gone.Anew) }
         ensures file { OnOk result (is_some (get nat_cmp self.new.pending file) ≡ false) }
         ensures names { OnOk result (self.new.names_pending ≡ false) }
+        ensures lost { KeepsLost self.old.names_lost self.new.names_lost result }
+        ensures others { (n : ℕ) → n ≢ file → is_some (get nat_cmp self.new.pending n)
+            ≡ is_some (get nat_cmp self.old.pending n) }
+    {
+        if self.names_lost {
+            return self.remove(file);
+        }
+        self.sync_names()?;
+        Ok(Gone::Synced)
+    }
+
+    /// Removes a file, and syncs the folder. Where that fails, it is done once more at once; the answer stays.
+    pub(crate) fn remove(&mut self, file: u64) -> io::Result<Gone>
+        ensures anew { IfOk result (λ by. by ≡ Gone.Anew) }
+        ensures file { OnOk result (is_some (get nat_cmp self.new.pending file) ≡ false) }
+        ensures names { OnOk result (self.new.names_pending ≡ false) }
+        ensures lost { KeepsLost self.old.names_lost self.new.names_lost result }
         ensures others { (n : ℕ) → n ≢ file → is_some (get nat_cmp self.new.pending n)
             ≡ is_some (get nat_cmp self.old.pending n) }
     {
@@ -205,24 +258,27 @@ where
         removed
     }
 
-    /// Takes a name away for good. Where the folder has it no more, but the device may have it, it is made and taken
-    /// away.
-    fn take_name(&mut self, path: &str) -> io::Result<()>
+    /// Takes a name away for good. Where the folder doesn't have it the device may, since a sync failed here or in a
+    /// value before this one: it is made and taken away, so that the next sync of the folder writes that it is gone.
+    fn take_name(&mut self, path: &str) -> io::Result<Gone>
+        ensures anew { IfOk result (λ by. by ≡ Gone.Anew) }
         ensures names { OnOk result (self.new.names_pending ≡ false) }
+        ensures lost { KeepsLost self.old.names_lost self.new.names_lost result }
         ensures others { self.new.pending ≡ self.old.pending }
     {
-        let pending = self.names_pending;
         self.doubt_names();
-        if !unlink(self.rt, path)? && pending {
+        if !unlink(self.rt, path)? {
             let _ = create_new(self.rt, path)?;
             let _ = unlink(self.rt, path)?;
         }
-        self.sync_names()
+        self.sync_names()?;
+        Ok(Gone::Anew)
     }
 
     /// A name is made or taken away from here on: it may not be durable until the folder's next good sync.
     fn doubt_names(&mut self)
         ensures names { self.new.names_pending ≡ true }
+        ensures lost { self.new.names_lost ≡ self.old.names_lost }
         ensures others { self.new.pending ≡ self.old.pending }
     {
         self.names_pending = true;
@@ -289,6 +345,7 @@ where
     /// stays.
     fn make(&mut self, path: &str) -> io::Result<R::File>
         ensures names { OnOk result (self.new.names_pending ≡ false) }
+        ensures lost { KeepsLost self.old.names_lost self.new.names_lost result }
         ensures others { self.new.pending ≡ self.old.pending }
     {
         let made = self.make_name(path);
@@ -301,6 +358,7 @@ where
     /// Makes a file without octets and its name anew.
     fn make_name(&mut self, path: &str) -> io::Result<R::File>
         ensures names { OnOk result (self.new.names_pending ≡ false) }
+        ensures lost { KeepsLost self.old.names_lost self.new.names_lost result }
         ensures others { self.new.pending ≡ self.old.pending }
     {
         self.doubt_names();
@@ -310,14 +368,20 @@ where
         Ok(handle)
     }
 
-    /// Syncs the folder where a name was made or removed since its last good sync, or may have been by others.
+    /// Syncs the folder where a name was made or removed since its last good sync, or may have been by others. From a
+    /// sync that fails on, names may be lost.
     fn sync_names(&mut self) -> io::Result<()>
         ensures done { OnOk result (self.new.names_pending ≡ false) }
         ensures failed { OnErr result (self.new.names_pending ≡ true) }
+        ensures lost { KeepsLost self.old.names_lost self.new.names_lost result }
+        ensures lost_by_this { OnErr result (self.new.names_lost ≡ true) }
         ensures others { self.new.pending ≡ self.old.pending }
     {
         if self.names_pending {
-            self.place.handle.sync_all()?;
+            if let Err(error) = self.place.handle.sync_all() {
+                self.names_lost = true;
+                return Err(error);
+            }
             self.names_pending = false;
         }
         Ok(())

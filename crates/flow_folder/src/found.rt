@@ -82,8 +82,10 @@ impl<F: FileExt + OpenFile + Drop> Found<F> {
         synced
     }
 
-    /// A file to be changed or synced. One that isn't known to be settled is written again before its next sync.
+    /// A file with octets, so with a durable name, to be changed or synced. One that isn't known to be settled is
+    /// written again before its next sync.
     pub(crate) fn into_pending(self, alloc: Global, settled: bool) -> io::Result<Pending<F>>
+        requires { 0 < self.length }
         ensures doubtful { settled ≡ false → self.read_only ≡ false
             → IfOk result (λ pending. pending.stage ≡ Stage.Doubtful) }
         ensures whole { settled ≡ false → self.read_only ≡ false → IfOk result

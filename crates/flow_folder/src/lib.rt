@@ -7,12 +7,13 @@
 //!
 //! Nothing is trusted that the device may not hold. A write keeps its handle open until a sync answers Ok, since the
 //! system reports a lost write to such handles alone. A sync makes octets and name durable. Where it fails, what was
-//! written since the last good one is written again and synced at once, since the system then counts the octets of its
-//! memory as those of the device; the answer stays `Fault`. A file that another value may have changed without a good
-//! sync is written again whole, with the octets that it has, before its first sync here. A frozen file is made
-//! read-only, which says to later values that it is settled: so an opening writes few files again, however many there
-//! are. A new file's name is made durable before its first octet is written. docs/DISK.md says what is assumed of the
-//! system.
+//! written since the last good one is written again, with the file's length, and synced at once, since the system then
+//! counts octets and length in its memory as those of the device; the answer stays `Fault`. A file that another value
+//! may have changed without a good sync is written again whole, with the octets that it has, before its first sync
+//! here. A frozen file is made read-only, which says to later values that it is settled: so an opening writes few files
+//! again, however many there are. A new file's name is made durable before its first octet is written, and one that a
+//! failed sync of the folder may have lost is made anew before an Ok says that it is durable, or gone. docs/DISK.md
+//! says what is assumed of the system.
 //!
 //! Files are opened by the folder's handle, so the folder may be renamed; a name of a file that a symbolic link, a
 //! folder, a pipe or a device has is refused. The folder is locked as long as its disk or a frozen file of it exists.

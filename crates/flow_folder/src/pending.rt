@@ -44,7 +44,6 @@ impl Stage {
 pub(crate) struct Pending<F> {
     file: F,
     pub(crate) written: Ranges,
-    was_cut: bool,
     pub(crate) stage: Stage,
 }
 
@@ -56,7 +55,6 @@ impl<F: FileExt + OpenFile + Drop> Pending<F> {
         Ok(Pending {
             file,
             written: Ranges::none(alloc)?,
-            was_cut: false,
             stage: Stage::Changed,
         })
     }
@@ -66,7 +64,6 @@ impl<F: FileExt + OpenFile + Drop> Pending<F> {
         ensures stage { IfOk result (λ pending. pending.stage ≡ Stage.Doubtful) }
         ensures whole { IfOk result
             (λ pending. (place : ℕ) → place < length → IsWritten pending.written.ranges.items place) }
-        ensures cut { IfOk result (λ pending. pending.was_cut ≡ true) }
     {
         let mut written = Ranges::none(alloc)?;
         written.add(Range {
@@ -76,7 +73,6 @@ impl<F: FileExt + OpenFile + Drop> Pending<F> {
         Ok(Pending {
             file,
             written,
-            was_cut: true,
             stage: Stage::Doubtful,
         })
     }
@@ -98,7 +94,6 @@ impl<F: FileExt + OpenFile + Drop> Pending<F> {
             → IsWritten self.new.written.ranges.items place }
         ensures before { (place : ℕ) → IsWritten self.old.written.ranges.items place
             → IsWritten self.new.written.ranges.items place }
-        ensures cut { self.new.was_cut ≡ self.old.was_cut }
         ensures unsynced { self.new.stage ≢ Stage.Synced }
         ensures doubtful { self.new.stage ≡ Stage.Doubtful ↔ self.old.stage ≡ Stage.Doubtful }
     {
@@ -112,7 +107,6 @@ impl<F: FileExt + OpenFile + Drop> Pending<F> {
 
     /// Cuts the file to so many octets, of those that it has.
     pub(crate) fn cut(&mut self, count: u64) -> io::Result<()>
-        ensures cut { OnOk result (self.new.was_cut ≡ true) }
         ensures written { self.new.written ≡ self.old.written }
         ensures unsynced { self.new.stage ≢ Stage.Synced }
         ensures doubtful { self.new.stage ≡ Stage.Doubtful ↔ self.old.stage ≡ Stage.Doubtful }
@@ -121,7 +115,6 @@ impl<F: FileExt + OpenFile + Drop> Pending<F> {
         if self.length()? < count {
             return Err(ErrorKind::UnexpectedEof.into());
         }
-        self.was_cut = true;
         self.file.set_len(count)
     }
 
@@ -132,7 +125,6 @@ impl<F: FileExt + OpenFile + Drop> Pending<F> {
         ensures done { OnOk result (self.new.stage ≡ Stage.Synced) }
         ensures failed { OnErr result (self.new.stage ≢ Stage.Synced) }
         ensures written { self.new.written ≡ self.old.written }
-        ensures cut { self.new.was_cut ≡ self.old.was_cut }
     {
         match self.settle() {
             Ok(()) => {
@@ -151,7 +143,6 @@ impl<F: FileExt + OpenFile + Drop> Pending<F> {
         ensures done { OnOk result (self.new.stage ≡ Stage.Changed) }
         ensures failed { OnErr result (self.new.stage ≡ Stage.Doubtful) }
         ensures written { self.new.written ≡ self.old.written }
-        ensures cut { self.new.was_cut ≡ self.old.was_cut }
     {
         let doubtful = self.stage == Stage::Doubtful;
         self.stage = Stage::Doubtful;
@@ -163,12 +154,12 @@ impl<F: FileExt + OpenFile + Drop> Pending<F> {
         Ok(())
     }
 
-    /// Makes the changes since the last good sync again.
+    /// Makes the changes since the last good sync again. The file is cut to the length that it has, whether it was cut
+    /// before or not: after the failed sync the system may count a length as the device's that the device doesn't have,
+    /// and write it no more.
     fn write_again(&self) -> io::Result<()> {
         let end = self.length()?;
-        if self.was_cut {
-            self.file.set_len(end)?;
-        }
+        self.file.set_len(end)?;
         for range in self.written.each() {
             self.copy_over(range.from, range.to.min(end))?;
         }
