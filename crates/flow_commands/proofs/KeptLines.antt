@@ -3,10 +3,11 @@ use Rattle.std.proofs.Common.{◌≡◌, ◌∙◌, ℕ, ◌+◌, ◌<◌, List,
 use Rattle.std.proofs.Common.{◌≢◌, refl, sym, ap, subst, append-nil, append_assoc, arith, inl, inr}
 use Rattle.std.specs.Io.KnownBytes.{Appends}
 use Rattle.std.proofs.KnownBytes.{Appends-nil, Keeps-refl}
-use Rattle.std.specs.Prelude.{slice_get, IfErr, IsTrue, OnOk, Result, Ok, Err}
+use Rattle.std.specs.Prelude.{slice_get, true, IfErr, IsTrue, OnOk, Result, Ok, Err}
 use Rattle.std.specs.List.{flat_map}
 use Rattle.std.proofs.lemmas.List.{drop_more, length-append, length-map}
 use Rattle.std.proofs.lemmas.List.Concat.{flat_map-append}
+use Rattle.std.proofs.lemmas.List.Elements.{All-append, All-nil}
 use Rattle.std.proofs.lemmas.Option.{slice_get-get_or}
 use Rattle.flow_codec.specs.Templates.{AllTemplates}
 use Rattle.flow_measure.specs.declared.flow.Flow.{Flow}
@@ -31,9 +32,10 @@ use Rattle.flow_model.specs.Views.{IsViewOf}
 use Rattle.flow_commands.specs.declared.archive_refusal.ArchiveRefusal.{ArchiveRefusal}
 use Rattle.flow_commands.specs.declared.archive_refusal.ArchiveRefusal.TheVariants as refusal
 use Rattle.flow_commands.specs.Archives.{of_opening, of_query}
-use Rattle.flow_commands.specs.Asking.{flows_lines, Always, AreFlows, HasFront, HasSome, IsBlameless, IsReadAs}
+use Rattle.flow_commands.specs.Asking.{flows_lines, Always, AreFlowsIn, FlowsStartIn, HasFront, HasSome, IsBlameless}
+use Rattle.flow_commands.specs.Asking.{IsReadAs}
 use Rattle.flow_commands.specs.Asking.{IsUnopened, IsViewRead, IsWhileAsking, TellsLines, TellsUpTo, WritesUpTo}
-use Rattle.flow_commands.specs.Plans.{Span}
+use Rattle.flow_commands.specs.Plans.{is_in, Span}
 
 abbrev pub lines_of : Format → List Flow → List ℕ
 lines_of format flows = flat_map (flow_line format) flows
@@ -146,28 +148,38 @@ module _ (format : Format) (from to : ℕ) (old now new : Option (List ℕ)) (he
       (stops_then old now new held mid (lines_of format first) (lines_of format own) next.has
       (subst (λ (fs : List Flow). TellsFront now mid new (lines_of format fs)) right.1 told)))))
 
--- ---- lines of any flows
+-- ---- lines of any flows of a span
 
-pub some_more : (format : Format) (old now new : Option (List ℕ)) (held mid left : List ℕ) (more : List Flow)
-    → HasSome format old held now mid → Tells now mid new left (lines_of format more)
-    → HasSome format old held new left
-some_more format old now new held mid left more (flows, told) next = (
+pub no_flows_in : (span : Span) → FlowsStartIn span []
+no_flows_in span = All-nil (λ (f : Flow). is_in span f.start ≡ true)
+
+both_in : (span : Span) (flows more : List Flow) → FlowsStartIn span flows → FlowsStartIn span more
+    → FlowsStartIn span (flows ++ more)
+both_in span flows more = All-append (λ (f : Flow). is_in span f.start ≡ true) flows more
+
+pub some_more : (format : Format) (span : Span) (old now new : Option (List ℕ)) (held mid left : List ℕ)
+    (more : List Flow) → FlowsStartIn span more → HasSome format span old held now mid
+    → Tells now mid new left (lines_of format more) → HasSome format span old held new left
+some_more format span old now new held mid left more within (flows, all, told) next = (
   flows ++ more,
+  both_in span flows more all within,
   subst (Tells old held new left) (sym (flat_map-append (flow_line format) flows more))
       (tells_then old now new held mid left (lines_of format flows) (lines_of format more) told next),
 )
 
-pub some_cut : (format : Format) (old now new : Option (List ℕ)) (held mid : List ℕ) (more : List Flow)
-    → HasSome format old held now mid → TellsFront now mid new (lines_of format more) → HasFront format old held new
-some_cut format old now new held mid more (flows, told) next = (
+pub some_cut : (format : Format) (span : Span) (old now new : Option (List ℕ)) (held mid : List ℕ) (more : List Flow)
+    → FlowsStartIn span more → HasSome format span old held now mid → TellsFront now mid new (lines_of format more)
+    → HasFront format span old held new
+some_cut format span old now new held mid more within (flows, all, told) next = (
   flows ++ more,
+  both_in span flows more all within,
   subst (TellsFront old held new) (sym (flat_map-append (flow_line format) flows more))
       (stops_then old now new held mid (lines_of format flows) (lines_of format more) told next),
 )
 
-pub some_stopped : (format : Format) (old now : Option (List ℕ)) (held mid : List ℕ)
-    → HasSome format old held now mid → HasFront format old held now
-some_stopped format old now held mid (flows, told) = (flows, (mid, told))
+pub some_stopped : (format : Format) (span : Span) (old now : Option (List ℕ)) (held mid : List ℕ)
+    → HasSome format span old held now mid → HasFront format span old held now
+some_stopped format span old now held mid (flows, all, told) = (flows, all, (mid, told))
 
 -- ---- with the heading
 
@@ -186,14 +198,17 @@ none_alone output text = (0, omega arith, Appends-nil output)
 
 -- ---- refusals
 
-pub up_to : (format : Format) (e : ArchiveRefusal) (old new : Option (List ℕ)) (flows : List Flow) → IsWhileAsking e
-    → AppendsFront old new (flows_text format flows) → WritesUpTo (AreFlows format) e old new
-up_to format (refusal.Query e) old new flows asking front = (flows_text format flows, (flows, refl), front)
-up_to format (refusal.Write failed) old new flows asking front = (flows_text format flows, (flows, refl), front)
-up_to format refusal.OutOfMemory old new flows asking front = (flows_text format flows, (flows, refl), front)
-up_to format (refusal.Opening e) old new flows asking front = absurd asking
-up_to format (refusal.Archive e) old new flows asking front = absurd asking
-up_to format (refusal.Folder why) old new flows asking front = absurd asking
+pub up_to : (format : Format) (span : Span) (e : ArchiveRefusal) (old new : Option (List ℕ)) (flows : List Flow)
+    → FlowsStartIn span flows → IsWhileAsking e → AppendsFront old new (flows_text format flows)
+    → WritesUpTo (AreFlowsIn format span) e old new
+up_to format span (refusal.Query e) old new flows all asking front = (flows_text format flows, (flows, all, refl), front)
+up_to format span (refusal.Write failed) old new flows all asking front =
+    (flows_text format flows, (flows, all, refl), front)
+up_to format span refusal.OutOfMemory old new flows all asking front =
+    (flows_text format flows, (flows, all, refl), front)
+up_to format span (refusal.Opening e) old new flows all asking front = absurd asking
+up_to format span (refusal.Archive e) old new flows all asking front = absurd asking
+up_to format span (refusal.Folder why) old new flows all asking front = absurd asking
 
 told_up_to : (format : Format) (span : Span) (reads : ℕ → List ℕ) (v : View) (e : ArchiveRefusal)
     (old new : Option (List ℕ)) → IsViewRead reads v → IsWhileAsking e
@@ -243,7 +258,7 @@ lines_told format span reads sight width (Ok x) old new (v, read, (honest, view,
 
 pub up_to_told : {A : Type 0} (format : Format) (span : Span) (reads : ℕ → List ℕ) (sight : ShelfSeen) (width : ℕ)
     (r : Result A ArchiveRefusal) (old new : Option (List ℕ)) → IsReadAs reads sight width
-    → IfErr r (λ e. IsWhileAsking e × WritesUpTo (AreFlows format) e old new)
+    → IfErr r (λ e. IsWhileAsking e × WritesUpTo (AreFlowsIn format span) e old new)
     → (IsTrue sight.honest → (v : View) → IsViewOf sight.shelf v
     → IfErr r (λ e. IsBlameless e × AppendsFront old new (flows_lines format span v)))
     → IfErr r (TellsUpTo (flows_lines format span) Always reads old new)
@@ -251,35 +266,35 @@ up_to_told format span reads sight width (Ok x) old new is some cut = tt
 up_to_told format span reads sight width (Err e) old new (v, read, (honest, view, wide)) some cut =
     told_up_to format span reads v e old new read some.0 (cut honest v view)
 
-pub written_up_to : {A : Type 0} (format : Format) (r : Result A ArchiveRefusal) (old new : Option (List ℕ))
-    → IfErr r (λ e. IsWhileAsking e × WritesUpTo (AreFlows format) e old new)
-    → IfErr r (λ e. WritesUpTo (AreFlows format) e old new)
-written_up_to format (Ok x) old new some = tt
-written_up_to format (Err e) old new some = some.1
+pub written_up_to : {A : Type 0} (format : Format) (span : Span) (r : Result A ArchiveRefusal) (old new : Option (List ℕ))
+    → IfErr r (λ e. IsWhileAsking e × WritesUpTo (AreFlowsIn format span) e old new)
+    → IfErr r (λ e. WritesUpTo (AreFlowsIn format span) e old new)
+written_up_to format span (Ok x) old new some = tt
+written_up_to format span (Err e) old new some = some.1
 
-pub no_opening : {A : Type 0} (format : Format) (r : Result A ArchiveRefusal) (old new : Option (List ℕ))
-    → IfErr r (λ e. IsWhileAsking e × WritesUpTo (AreFlows format) e old new)
+pub no_opening : {A : Type 0} (format : Format) (span : Span) (r : Result A ArchiveRefusal) (old new : Option (List ℕ))
+    → IfErr r (λ e. IsWhileAsking e × WritesUpTo (AreFlowsIn format span) e old new)
     → IfErr r (λ e. e ≢ refusal.Opening opening.Fault)
-no_opening format (Ok x) old new some = tt
-no_opening format (Err e) old new some = asking_is_no_opening e some.0
+no_opening format span (Ok x) old new some = tt
+no_opening format span (Err e) old new some = asking_is_no_opening e some.0
 
 -- nothing was written
-pub none_up_to : (format : Format) (output : Option (List ℕ)) (e : ArchiveRefusal)
-    → WritesUpTo (AreFlows format) e output output
-none_up_to format output (refusal.Query e) =
-    up_to format (refusal.Query e) output output [] tt (none_alone output (flows_text format []))
-none_up_to format output (refusal.Write failed) =
-    up_to format (refusal.Write failed) output output [] tt (none_alone output (flows_text format []))
-none_up_to format output refusal.OutOfMemory =
-    up_to format refusal.OutOfMemory output output [] tt (none_alone output (flows_text format []))
-none_up_to format output (refusal.Opening e) = Keeps-refl output
-none_up_to format output (refusal.Archive e) = Keeps-refl output
-none_up_to format output (refusal.Folder why) = Keeps-refl output
+pub none_up_to : (format : Format) (span : Span) (output : Option (List ℕ)) (e : ArchiveRefusal)
+    → WritesUpTo (AreFlowsIn format span) e output output
+none_up_to format span output (refusal.Query e) =
+    up_to format span (refusal.Query e) output output [] (no_flows_in span) tt (none_alone output (flows_text format []))
+none_up_to format span output (refusal.Write failed) =
+    up_to format span (refusal.Write failed) output output [] (no_flows_in span) tt (none_alone output (flows_text format []))
+none_up_to format span output refusal.OutOfMemory =
+    up_to format span refusal.OutOfMemory output output [] (no_flows_in span) tt (none_alone output (flows_text format []))
+none_up_to format span output (refusal.Opening e) = Keeps-refl output
+none_up_to format span output (refusal.Archive e) = Keeps-refl output
+none_up_to format span output (refusal.Folder why) = Keeps-refl output
 
-pub away_up_to : {A : Type 0} (format : Format) (r : Result A ArchiveRefusal) (output : Option (List ℕ))
-    → IfErr r (λ e. WritesUpTo (AreFlows format) e output output)
-away_up_to format (Ok x) output = tt
-away_up_to format (Err e) output = none_up_to format output e
+pub away_up_to : {A : Type 0} (format : Format) (span : Span) (r : Result A ArchiveRefusal) (output : Option (List ℕ))
+    → IfErr r (λ e. WritesUpTo (AreFlowsIn format span) e output output)
+away_up_to format span (Ok x) output = tt
+away_up_to format span (Err e) output = none_up_to format span output e
 
 -- an archive that isn't opened
 pub unopened_up_to : (format : Format) (span : Span) (reads : ℕ → List ℕ) (output : Option (List ℕ)) (e : OpenError)

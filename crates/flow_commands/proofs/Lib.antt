@@ -10,3 +10,5 @@ mod FileLines
 mod HandedOn
 mod KeptLines
 mod OneEach
+mod RollEnds
+mod Spans

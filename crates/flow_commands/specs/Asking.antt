@@ -1,7 +1,7 @@
 -- What `totals` and `flows` answer of a disk, and what they write.
 use Rattle.std.specs.Prelude.{◌≡◌, ◌⊎◌, ⊤, ℕ, true, List, Option}
 use Rattle.std.specs.Io.KnownBytes.{Appends, Keeps}
-use Rattle.std.specs.List.{flat_map}
+use Rattle.std.specs.List.{flat_map, AllPass}
 use Rattle.flow_measure.specs.declared.flow.Flow.{Flow}
 use Rattle.flow_measure.specs.declared.rows.Row.{Row}
 use Rattle.flow_measure.specs.Query.{flows_in_view, totals_in_view}
@@ -23,7 +23,7 @@ use Rattle.flow_commands.specs.declared.archive_refusal.ArchiveRefusal.TheVarian
 use Rattle.flow_report.specs.declared.format.Format.{Format}
 use Rattle.flow_report.specs.ArchiveLines.{flow_line, flows_text, rows_text}
 use Rattle.flow_report.specs.Telling.{Tells, TellsFront}
-use Rattle.flow_commands.specs.Plans.{Span}
+use Rattle.flow_commands.specs.Plans.{is_in, Span}
 use Rattle.flow_report.specs.Writing.{AppendsFront}
 
 -- ---- by the archive's view
@@ -126,6 +126,21 @@ AreRows format text = (width : ℕ) × (rows : List Row) × (text ≡ rows_text 
 abbrev pub AreFlows : Format → List ℕ → Type 0
 AreFlows format text = (flows : List Flow) × (text ≡ flows_text format flows)
 
+-- rows that start in a span, and their lines
+abbrev pub RowsStartIn : Span → List Row → Type 0
+RowsStartIn span rows = AllPass (λ r. is_in span r.key.start) rows
+
+abbrev pub AreRowsIn : Format → Span → List ℕ → Type 0
+AreRowsIn format span text =
+    (width : ℕ) × (rows : List Row) × RowsStartIn span rows × (text ≡ rows_text format width rows)
+
+-- flows that start in a span, and their lines
+abbrev pub FlowsStartIn : Span → List Flow → Type 0
+FlowsStartIn span flows = AllPass (λ f. is_in span f.start) flows
+
+abbrev pub AreFlowsIn : Format → Span → List ℕ → Type 0
+AreFlowsIn format span text = (flows : List Flow) × FlowsStartIn span flows × (text ≡ flows_text format flows)
+
 -- such lines were written
 abbrev pub Writes : (List ℕ → Type 0) → Option (List ℕ) → Option (List ℕ) → Type 0
 Writes are old new = (text : List ℕ) × are text × Appends old new text
@@ -164,13 +179,15 @@ IsBlameless e = ⊤
 
 -- ---- lines of flows on their way
 
--- the lines of some flows came after what was held: what was written, and what is still held
-abbrev pub HasSome : Format → Option (List ℕ) → List ℕ → Option (List ℕ) → List ℕ → Type 0
-HasSome format old held now left = (flows : List Flow) × Tells old held now left (flat_map (flow_line format) flows)
+-- the lines of some flows of a span came after what was held: what was written, and what is still held
+abbrev pub HasSome : Format → Span → Option (List ℕ) → List ℕ → Option (List ℕ) → List ℕ → Type 0
+HasSome format span old held now left =
+    (flows : List Flow) × FlowsStartIn span flows × Tells old held now left (flat_map (flow_line format) flows)
 
 -- or a prefix of them was written
-abbrev pub HasFront : Format → Option (List ℕ) → List ℕ → Option (List ℕ) → Type 0
-HasFront format old held now = (flows : List Flow) × TellsFront old held now (flat_map (flow_line format) flows)
+abbrev pub HasFront : Format → Span → Option (List ℕ) → List ℕ → Option (List ℕ) → Type 0
+HasFront format span old held now =
+    (flows : List Flow) × FlowsStartIn span flows × TellsFront old held now (flat_map (flow_line format) flows)
 
 -- a refusal before anything is written
 abbrev pub IsBeforeWriting : ArchiveRefusal → Type 0

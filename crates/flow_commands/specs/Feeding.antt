@@ -1,13 +1,20 @@
 -- What `feed` does to an archive, what it writes, and its status.
-use Rattle.std.specs.Prelude.{◌≡◌, ◌⊎◌, ⊤, ℕ, suc, List, [], ◌∷◌, ◌++◌, length, Option, Some, None, Result, Ok}
-use Rattle.std.specs.Prelude.{Err, codes}
+use Rattle.std.specs.Prelude.{◌≡◌, ◌⊎◌, ⊤, ℕ, suc, true, List, [], ◌∷◌, ◌++◌, length, Option, Some, None}
+use Rattle.std.specs.Prelude.{Result, Ok, Err, codes, IfSome}
 use Rattle.std.specs.Fmt.{decimal}
 use Rattle.std.specs.Option.{option_or}
 use Rattle.std.specs.Io.KnownBytes.{Appends, Keeps}
 use Rattle.flow_archive.specs.declared.refusal.ArchiveError.{ArchiveError}
+use Rattle.flow_archive.specs.declared.refusal.ArchiveError.TheVariants as archive
+use Rattle.flow_disk.specs.declared.disk.Disk.{Ghosts}
+use Rattle.flow_disk.specs.Cause.{HasCause}
+use Rattle.flow_model.specs.Shelf.{Shelf}
+use Rattle.flow_feed.specs.Feed.{IsFed}
+use Rattle.flow_feed.specs.Shared.{IsGivenShared, IsInSteps, Known}
 use Rattle.flow_feed.specs.declared.batch.Fed.{Fed}
 use Rattle.flow_feed.specs.Stopped.{stop_code}
 use Rattle.flow_feed.specs.declared.batch.FeedStop.{FeedStop}
+use Rattle.flow_roller.specs.Rolling.{IsRolled}
 use Rattle.flow_refusals.specs.Table.{code_text, row_of}
 use Rattle.flow_report.specs.Writing.{AppendsFront}
 use Rattle.flow_commands.specs.declared.archive_refusal.ArchiveRefusal.{ArchiveRefusal}
@@ -54,6 +61,36 @@ abbrev pub feed_ended : Option FeedStop → Option ArchiveError → Result ℕ A
 feed_ended (Some stopped) refused = Ok (stop_status stopped)
 feed_ended None (Some error) = Err (of_archive error)
 feed_ended None None = Ok 0
+
+-- ---- what the threads did
+
+-- The messages of the File of these octets were taken in after its first ones, by a thread that knows the steps of its
+-- batches from the beginning on; where it knows them to the end, the steps that it learnt add these messages.
+pub record IsStreamed {D S X : Type 0} (g : Ghosts D S X) (opening : Shelf) (passed : ℕ) (octets : Option (List ℕ))
+    (fed : Fed) : Type 0 where
+  pub old : Known
+  pub new : Known
+  pub whole : old.whole ≡ true
+  pub taken : IsFed (IsGivenShared g opening) passed old new octets fed
+  pub steps : new.whole ≡ true → IsInSteps passed old.steps new.steps octets fed
+
+-- A file was opened, and its messages were taken in; or none could be opened.
+abbrev pub IsPathFed : {D S X F : Type 0} → Ghosts D S X → (F → Option (List ℕ)) → Shelf → ℕ → Fed → Type 0
+IsPathFed {F = F} g octets opening passed fed =
+    ((file : F) × IsStreamed g opening passed (octets file) fed)
+    ⊎ ((why : FeedStop) × (fed ≡ unopened why))
+
+-- by a refusal, if any
+abbrev pub answer_by : Option ArchiveError → Result (Unit {0}) ArchiveError
+answer_by None = Ok tt
+answer_by (Some error) = Err error
+
+-- How rolling beside Files ended: a refusal is that of a turn, and is that of a source exactly where a read of one
+-- failed.
+pub record IsRollEnd {D S X : Type 0} (g : Ghosts D S X) (opening : Shelf) (before now : ℕ)
+    (refused : Option ArchiveError) : Type 0 where
+  pub turn : IfSome refused (λ e. (keep : ℕ) × IsRolled g opening keep (Err e))
+  pub unread : HasCause archive.SourceFault before now (answer_by refused)
 
 -- ---- what is written
 

@@ -1,5 +1,5 @@
 -- What some commands are given: the numbers of a new archive, and a span of starts.
-use Rattle.std.specs.Prelude.{◌≡◌, ℕ, ◌≤◌, ◌%◌, Option, IfSome}
+use Rattle.std.specs.Prelude.{◌≡◌, ℕ, ◌≤◌, ◌%◌, ◌&&◌, nat_le, nat_lt, Bool, Option, IfSome}
 use Rattle.flow_manifest.specs.Limits.{greatest_width, least_limit, greatest_limit}
 
 -- A new archive: the width of its intervals in seconds, a wide width where one is asked for, and how many octets of
@@ -26,3 +26,7 @@ pub record IsPlan (p : Plan) : Type 0 where
 pub record Span : Type 0 where
   pub from : ℕ
   pub to : ℕ
+
+-- whether a start is one of them
+abbrev pub is_in : Span → ℕ → Bool
+is_in span start = nat_le span.from start && nat_lt start span.to

@@ -24,6 +24,7 @@ use Rattle.flow_commands.specs.declared.archive_refusal.ArchiveRefusal.TheVarian
 use Rattle.flow_commands.specs.declared.archive_refusal.ArchiveRefusal.TheVariants.{OutOfMemory, Write}
 use Rattle.flow_commands.specs.Archives.{of_archive, of_opening}
 use Rattle.flow_commands.specs.Asking.{IsUnopened}
+use Rattle.flow_commands.specs.Made.{IsAway}
 use Rattle.flow_commands.specs.Opened.{KeepsArchive}
 
 abbrev pub job_name : JobKind → List ℕ
@@ -98,3 +99,13 @@ abbrev pub RollsOn : {D S X : Type 0} → Ghosts D S X → JobKind → ℕ → D
     → Result (Seen D) (Refused D ArchiveRefusal) → Type 0
 RollsOn g kind keep disk old new result =
     IsRolledOn g kind keep disk old new result ⊎ IsErrAnd result (IsNotRolled g disk old new)
+
+-- ---- of the archive in a folder
+
+-- The folder's disk was rolled on; or the folder couldn't be opened, and nothing was written.
+abbrev pub RollsIn : {D S X : Type 0} → Ghosts D S X → JobKind → ℕ → Option (List ℕ) → Option (List ℕ)
+    → Result (Unit {0}) ArchiveRefusal → Type 0
+RollsIn {D} g kind keep old new result =
+    ((disk : D) × (given : Result (Seen D) (Refused D ArchiveRefusal)) × RollsOn g kind keep disk old new given
+    × (result ≡ done_of given))
+    ⊎ (IsAway result × Keeps old new)

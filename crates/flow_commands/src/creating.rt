@@ -5,7 +5,7 @@ ghost use Rattle.flow_disk.specs.Disk.{AllImages};
 ghost use Rattle.flow_disk.specs.Cause.{HasCause};
 ghost use Rattle.flow_model.specs.Standing.{StandsFor};
 ghost use Rattle.flow_archive.specs.Beginning.{HasFiles, IsNotMade, answer_of, disk_of};
-ghost use Rattle.flow_commands.specs.Made.{first_state};
+ghost use Rattle.flow_commands.specs.Made.{first_state, CreatesIn};
 
 use crate::archive_refusal::ArchiveRefusal;
 use crate::ending::ended;
@@ -40,14 +40,15 @@ pub fn create<D: Disk>(
 }
 
 /// Makes an archive in a folder, and leaves the folder to others again.
-pub fn create_in<H: Files + AllocGlobal + Clone + Drop>(
-    rt: &H,
-    folder: &str,
-    first_fault: &FirstFault,
+pub fn create_in<'a, H: Files + AllocGlobal + Clone + Drop>(
+    rt: &'a H,
+    folder: &'a str,
+    first_fault: &'a FirstFault,
     plan: &NewArchive,
 ) -> Result<(), ArchiveRefusal>
 where
     H::File: FileExt + Lockable,
+    ensures told { CreatesIn ⟦<FolderDisk<'a, H> as Disk>⟧ plan.now result }
 {
     let disk = FolderDisk::noting(rt, folder, first_fault)?;
     ended(create(rt.alloc(), disk, plan))?;

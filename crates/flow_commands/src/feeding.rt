@@ -1,15 +1,16 @@
 //! The command `feed`.
 
 ghost use Rattle.std.specs.Prelude.{◌≡◌, ◌≢◌, ◌≤◌, ◌<◌, ◌⊎◌, ℕ, Err, List, Option, Some, None, false, length, IsTrue};
-ghost use Rattle.std.specs.Prelude.{IfOk, IfErr};
-ghost use Rattle.std.specs.Prelude.{IfSome};
+ghost use Rattle.std.specs.Prelude.{codes, slice_index_or, IfOk, IfErr, IfSome};
 ghost use Rattle.std.specs.Io.KnownBytes.{Keeps};
 ghost use Rattle.flow_manifest.specs.Slots.{reads_of};
 ghost use Rattle.flow_model.specs.Shelved.{shelf_of};
 ghost use Rattle.flow_archive.specs.declared.refusal.ArchiveError.{ArchiveError as Refusal};
 ghost use Rattle.flow_feed.specs.declared.batch.Fed.{Fed as FedFile};
-ghost use Rattle.flow_commands.specs.Feeding.{FeedsLines, KeepsOrFeeds, TellsFed, TellsFile, TellsFiles};
-ghost use Rattle.flow_commands.specs.Feeding.{feed_ended, unopened, IsNotFed};
+ghost use Rattle.flow_commands.specs.Feeding.{FeedsLines, IsNotFed, IsPathFed};
+ghost use Rattle.flow_commands.specs.Feeding.{IsRollEnd, IsStreamed, KeepsOrFeeds, TellsFed, TellsFile, TellsFiles};
+ghost use Rattle.flow_commands.specs.Feeding.{feed_ended, unopened};
+ghost use Rattle.flow_feed.specs.declared.batch.FeedStop.{FeedStop as WhyStopped};
 ghost use Rattle.flow_feed.specs.declared.batch.FeedStop.TheVariants as stop;
 ghost use Rattle.std.specs.IoError.{error_kind};
 ghost use Rattle.std.specs.declared.io.ErrorKind.TheVariants as kind;
@@ -69,7 +70,9 @@ fn stream<H: AllocGlobal + Wait, D: Disk, J: Naming, R: Read, P: Write + Drop>(
     input: &mut R,
     progress: &Progress<P>,
     passed: u64,
-) -> Streamed {
+) -> Streamed
+    ensures { IsStreamed D.Disk J.opening passed (R.remaining input.old) result.fed }
+{
     let mut input = Watched::new(rt, input, progress, bell, span);
     let mut appender = SharedAppender::new(rt, shared);
     let fed = feed_shared(&mut appender, rt.alloc(), &mut input, passed);
@@ -87,7 +90,9 @@ pub fn feed_stream<H: AllocGlobal + Wait, D: Disk, J: Naming, R: Read, P: Write 
     input: &mut R,
     progress: &Progress<P>,
     passed: u64,
-) -> Fed {
+) -> Fed
+    ensures { IsStreamed D.Disk J.opening passed (R.remaining input.old) result }
+{
     stream(rt, shared, bell, span, input, progress, passed).fed
 }
 
@@ -102,7 +107,9 @@ fn feed_named<H: AllocGlobal + Wait, D: Disk, J: Naming, R: Read, P: Write + Dro
     input: &mut R,
     progress: &Progress<P>,
     passed: u64,
-) -> Fed {
+) -> Fed
+    ensures { IsStreamed D.Disk J.opening passed (R.remaining input.old) result }
+{
     let streamed = stream(rt, shared, bell, span, input, progress, passed);
     if let Some(line) = LossyFile::of(number, path, streamed.losses) {
         progress.say(rt, &line);
@@ -117,6 +124,7 @@ fn feed_named<H: AllocGlobal + Wait, D: Disk, J: Naming, R: Read, P: Write + Dro
 pub fn unopened(error: &io::Error) -> Fed
     ensures memory { error_kind error.now ≡ kind.OutOfMemory → result ≡ unopened stop.OutOfMemory }
     ensures other { error_kind error.now ≢ kind.OutOfMemory → result ≡ unopened stop.Unopened }
+    ensures some { (why : WhyStopped) × (result ≡ unopened why) }
 {
     let stop = if error.kind() == ErrorKind::OutOfMemory {
         FeedStop::OutOfMemory
@@ -155,7 +163,9 @@ fn feed_path<H: Files + AllocGlobal + Clone + Drop + Wait, D: Disk, J: Naming, P
     path: &str,
     progress: &Progress<P>,
     passed: u64,
-) -> Fed {
+) -> Fed
+    ensures { IsPathFed D.Disk H.File.remaining J.opening passed result }
+{
     match File::open(rt, path) {
         Ok(file) => {
             let mut file = file;
@@ -170,14 +180,20 @@ fn feed_path<H: Files + AllocGlobal + Clone + Drop + Wait, D: Disk, J: Naming, P
     }
 }
 
-/// Rolls beside Files that are fed, and answers the first refusal of that, if any.
+/// Rolls beside Files that are fed, and answers the first refusal of that, if any, and which reads of sources failed.
 fn roll_files<D: Disk, J: Naming, H: Wait>(
     rt: &H,
     alloc: Global,
     shared: &SharedArchive<D, J, H>,
     bell: &Bell,
-) -> Option<ArchiveError> {
-    roll_beside(shared, rt, alloc, bell, &mut Faults::new()).err()
+) -> (Option<ArchiveError>, Faults<D::Sealed>)
+    ensures { IsRollEnd D.Disk J.opening 0 result.1 result.0 }
+{
+    let mut faults = Faults::new();
+    match roll_beside(shared, rt, alloc, bell, &mut faults) {
+        Ok(()) => (None, faults),
+        Err(error) => (Some(error), faults),
+    }
 }
 
 /// Takes the Files at these paths but standard input into an archive that threads share, each by a thread of its own
@@ -221,7 +237,8 @@ where
 
 /// The first of these paths that is standard input.
 fn place_of_input<S: AsStr>(paths: &[S]) -> Option<usize>
-    ensures { IfSome result (λ i. i < length paths.now) }
+    ensures within { IfSome result (λ i. i < length paths.now) }
+    ensures input { IfSome result (λ i. (path : S) → S.text (slice_index_or paths.now i path) ≡ codes "-") }
 {
     for (i, path) in paths.iter().enumerate() {
         if path.as_str() == STANDARD_INPUT {
@@ -287,8 +304,8 @@ where
     feds
 }
 
-/// The same, while another thread rolls, where one can be made. It answers the first refusal of the rolling besides, if
-/// any.
+/// The same, while another thread rolls; where none can be made, this one rolls once they are fed. It answers the first
+/// refusal of the rolling besides, if any. Reads of sources that fail raise `faults`.
 fn feed_beside<
     H: Files + AllocGlobal + Clone + Drop + Threads + Wait + Send + Sync,
     D: Disk + Send,
@@ -305,25 +322,28 @@ fn feed_beside<
     input: Option<&mut R>,
     progress: &Progress<P>,
     feds: Vec<Fed>,
+    faults: &mut Faults<D::Sealed>,
 ) -> (Vec<Fed>, Option<ArchiveError>)
 where
     H::File: Send + Sync,
     H::Dir: Send + Sync,
     D::Sealed: Send + Sync,
     requires { length feds.items ≡ length paths.now }
-    ensures { length result.0.items ≡ length paths.now }
+    ensures count { length result.0.items ≡ length paths.now }
+    ensures rolled { IsRollEnd D.Disk J.opening faults.old faults.new result.1 }
 {
     let bell = Bell::new(plan.keep);
     let rung = &bell;
     let alloc = rt.alloc();
-    thread::scope(
-        thread::scope_env(),
+    let ((refused, unread), feds) = thread::join(
         rt,
-        move |scope| -> (Vec<Fed>, Option<ArchiveError>)
+        move || -> (Option<ArchiveError>, Faults<D::Sealed>)
+            ensures { IsRollEnd D.Disk J.opening 0 result.1 result.0 }
+        { roll_files(rt, alloc, shared, rung) },
+        move || -> Vec<Fed>
             requires { length feds.items ≡ length paths.now }
-            ensures { length result.0.items ≡ length paths.entry.now }
+            ensures { length result.items ≡ length paths.entry.now }
         {
-            let roller = scope.spawn(move || roll_files(rt, alloc, shared, rung));
             let feds = feed_all(
                 rt,
                 shared,
@@ -336,12 +356,11 @@ where
                 feds,
             );
             rung.end(rt);
-            match roller {
-                Ok(roller) => (feds, roller.join(rt)),
-                Err(_) => (feds, None),
-            }
+            feds
         },
-    )
+    );
+    faults.add(unread);
+    (feds, refused)
 }
 
 /// Warns of each File that stopped, with its place; of one that isn't opened that was done.
@@ -477,7 +496,10 @@ where
         return Err(ArchiveRefusal::OutOfMemory);
     };
     drop(places);
-    let (feds, refused) = feed_beside(rt, &shared, span, plan, paths, input, progress, feds);
+    let faults = &mut Faults::new();
+    let (feds, refused) = feed_beside(
+        rt, &shared, span, plan, paths, input, progress, feds, faults,
+    );
     progress.clear(rt);
     warn_of_stops(rt, paths, feds.as_slice(), progress);
     warn_of_rolled(rt, rolled, shared.end(rt), progress);

@@ -1,6 +1,7 @@
 //! The command `flows`.
 
-ghost use Rattle.std.specs.Prelude.{◌≡◌, ◌≢◌, List, ℕ, false, IsTrue, OnOk, IfOk, IfErr};
+ghost use Rattle.std.specs.Prelude.{◌≡◌, ◌≢◌, ◌≤◌, List, ℕ, Some, false, length, slice_get, IsTrue, OnOk, IfOk};
+ghost use Rattle.std.specs.Prelude.{IfErr};
 ghost use Rattle.std.specs.List.{flat_map};
 ghost use Rattle.std.specs.Io.KnownBytes.{Appends};
 ghost use Rattle.flow_disk.specs.Cause.{HasCause};
@@ -9,8 +10,14 @@ ghost use Rattle.flow_archive.specs.Beginning.{answer_of, disk_of};
 ghost use Rattle.flow_model.specs.Standing.{StandsFor};
 ghost use Rattle.flow_commands.specs.declared.archive_refusal.ArchiveRefusal.TheVariants as refusal;
 ghost use Rattle.flow_commands.specs.Opened.{IsAsked, IsHandedOn, KeepsArchive};
-ghost use Rattle.flow_commands.specs.Asking.{flows_lines, Always, AreFlows, IsBlameless, IsWhileAsking, TellsLines};
-ghost use Rattle.flow_commands.specs.Asking.{HasFront, HasSome, TellsUpTo, Writes, WritesUpTo};
+ghost use Rattle.flow_commands.specs.Asking.{flows_lines, Always, AreFlows, AreFlowsIn, FlowsStartIn, IsBlameless};
+ghost use Rattle.flow_commands.specs.Asking.{HasFront, HasSome, IsWhileAsking, TellsLines, TellsUpTo, Writes};
+ghost use Rattle.flow_commands.specs.Asking.{WritesUpTo};
+ghost use Rattle.flow_measure.specs.History.{Accepted, AreAcceptedFrom, flows_in, templates_from};
+ghost use Rattle.flow_segment.specs.Carry.{octets_of};
+ghost use Rattle.flow_segment.specs.PartFlows.{flows_within};
+ghost use Rattle.flow_snapshot.specs.Answered.{IsAnswered};
+ghost use Rattle.flow_snapshot.specs.Found.{kept_by_file};
 ghost use Rattle.flow_measure.specs.Query.{flows_in_view};
 ghost use Rattle.flow_measure.specs.View.{View};
 ghost use Rattle.flow_model.specs.Views.{IsViewOf};
@@ -23,9 +30,11 @@ use crate::asking::to_ask;
 use crate::ending::ended;
 use crate::plan::StartSpan;
 use flow_archive::{Archive, Refused};
+use flow_codec::Templates;
 use flow_disk::{Disk, Faults, SealedFile};
 use flow_folder::{FirstFault, FolderDisk, Lockable};
 use flow_manifest::OpenError;
+use flow_measure::Flow;
 use flow_refusals::ReadRefusal;
 use flow_report::{FlowLines, Format};
 use flow_snapshot::Snapshot;
@@ -33,6 +42,30 @@ use std::alloc::{AllocGlobal, Global};
 use std::fs::Files;
 use std::io::Write;
 use std::os::unix::fs::FileExt;
+
+/// The flows of one file's kept messages that start in a span. Whatever the file is, no other one is among them.
+fn flows_of_file<S: SealedFile>(
+    alloc: Global,
+    snapshot: &Snapshot<S>,
+    at: u64,
+    templates: &mut Templates,
+    span: &StartSpan,
+    faults: &mut Faults<S>,
+) -> Result<Vec<Flow>, ReadRefusal>
+    requires { at ≤ length snapshot.now.shelf.sealed }
+    ensures cause { HasCause ReadRefusal.Fault faults.old faults.new result }
+    ensures within { IfOk result (λ flows. FlowsStartIn span.now flows.items) }
+    ensures given { IsTrue snapshot.now.honest → (octets : List (List ℕ))
+        → slice_get (kept_by_file snapshot.now.shelf) at ≡ Some octets → (messages : List Accepted)
+        → AreAcceptedFrom templates.old messages → octets_of messages ≡ octets
+        → IsAnswered (λ flows. (templates.new ≡ templates_from templates.old messages)
+        × (flows.items ≡ flows_within span.now.from span.now.to (flows_in messages))) result }
+{
+    let (from, to) = (span.from(), span.to());
+    let mut flows = snapshot.flows_of_file(alloc, at, templates, from, to, faults)?;
+    flows.retain(|flow| span.has(flow.start));
+    Ok(flows)
+}
 
 /// Takes the lines of a snapshot's flows that start in a span, those of one file after the other: no more flows are
 /// held than one file has. They go to the writer as they come.
@@ -44,11 +77,11 @@ fn tell_kept<S: SealedFile, W: Write>(
     output: &mut W,
     faults: &mut Faults<S>,
 ) -> Result<(), ArchiveRefusal>
-    // On every disk: the lines of some flows, or a prefix of such lines.
-    ensures all { OnOk result (HasSome lines.old.format (W.contents output.old) lines.old.held
+    // On every disk: the lines of some flows of the span, or a prefix of such lines.
+    ensures all { OnOk result (HasSome lines.old.format span.now (W.contents output.old) lines.old.held
         (W.contents output.new) lines.new.held) }
-    ensures some { IfErr result (λ e. IsWhileAsking e × HasFront lines.old.format (W.contents output.old) lines.old.held
-        (W.contents output.new)) }
+    ensures some { IfErr result (λ e. IsWhileAsking e × HasFront lines.old.format span.now (W.contents output.old)
+        lines.old.held (W.contents output.new)) }
     // On honest ones: those of each view of the files, or a prefix of these, and no damage is reported.
     ensures told { IsTrue snapshot.now.honest → (v : View) → IsViewOf snapshot.now.shelf v
         → OnOk result (Tells (W.contents output.old) lines.old.held (W.contents output.new) lines.new.held
@@ -59,11 +92,10 @@ fn tell_kept<S: SealedFile, W: Write>(
         (flows_in_view span.now.from span.now.to v))) }
     ensures cause { HasCause (refusal.Query ReadRefusal.Fault) faults.old faults.new result }
 {
-    let (from, to) = (span.from(), span.to());
     let mut templates = snapshot.templates(alloc, faults)?;
     let files = snapshot.kept_files();
     for at in 0..files {
-        let flows = snapshot.flows_of_file(alloc, at, &mut templates, from, to, faults)?;
+        let flows = flows_of_file(alloc, snapshot, at, &mut templates, span, faults)?;
         lines.put(output, flows.as_slice())?;
     }
     Ok(())
@@ -78,10 +110,11 @@ fn write_kept<S: SealedFile, W: Write>(
     output: &mut W,
     faults: &mut Faults<S>,
 ) -> Result<(), ArchiveRefusal>
-    // On every disk: the lines of some flows, or a prefix of such lines.
-    ensures written { OnOk result (Writes (AreFlows format) (W.contents output.old) (W.contents output.new)) }
+    // On every disk: the lines of some flows of the span, or a prefix of such lines.
+    ensures written { OnOk result (Writes (AreFlowsIn format span.now) (W.contents output.old)
+        (W.contents output.new)) }
     ensures some { IfErr result (λ e. IsWhileAsking e
-        × WritesUpTo (AreFlows format) e (W.contents output.old) (W.contents output.new)) }
+        × WritesUpTo (AreFlowsIn format span.now) e (W.contents output.old) (W.contents output.new)) }
     // On honest ones: those of each view of the files, or a prefix of these, and no damage is reported.
     ensures told { IsTrue snapshot.now.honest → (v : View) → IsViewOf snapshot.now.shelf v
         → OnOk result (Appends (W.contents output.old) (W.contents output.new) (flows_lines format span.now v)) }
@@ -112,8 +145,10 @@ fn list<D: Disk, W: Write>(
     ensures refused { IsTrue (D.honest archive.old.disk) → (reads : ℕ → List ℕ) → StandsFor reads archive.old.state
         → IfErr result (TellsUpTo (flows_lines format span.now) Always reads (W.contents output.old)
         (W.contents output.new)) }
-    ensures written { OnOk result (Writes (AreFlows format) (W.contents output.old) (W.contents output.new)) }
-    ensures kept { IfErr result (λ e. WritesUpTo (AreFlows format) e (W.contents output.old) (W.contents output.new)) }
+    ensures written { OnOk result (Writes (AreFlowsIn format span.now) (W.contents output.old)
+        (W.contents output.new)) }
+    ensures kept { IfErr result
+        (λ e. WritesUpTo (AreFlowsIn format span.now) e (W.contents output.old) (W.contents output.new)) }
     ensures opened { IfErr result (λ e. e ≢ refusal.Opening OpenError.Fault) }
     ensures cause { HasCause (refusal.Query ReadRefusal.Fault) faults.old faults.new result }
 {
@@ -143,9 +178,10 @@ pub fn flows<D: Disk, W: Write>(
     ensures refused { IsTrue (D.honest disk) → IfErr result (λ r. TellsUpTo (flows_lines format span.now) Always
         (reads_of (D.held disk)) (W.contents output.old) (W.contents output.new) r.error) }
     // And whatever the disk:
-    ensures written { OnOk result (Writes (AreFlows format) (W.contents output.old) (W.contents output.new)) }
+    ensures written { OnOk result (Writes (AreFlowsIn format span.now) (W.contents output.old)
+        (W.contents output.new)) }
     ensures kept { IfErr result
-        (λ r. WritesUpTo (AreFlows format) r.error (W.contents output.old) (W.contents output.new)) }
+        (λ r. WritesUpTo (AreFlowsIn format span.now) r.error (W.contents output.old) (W.contents output.new)) }
     ensures honest { D.honest (disk_of result) ≡ D.honest disk }
     // A stop at any moment leaves what opens as the archive that was there, and that is the one that is handed on.
     ensures any_moment { KeepsArchive D.Disk disk (disk_of result) }
@@ -184,6 +220,10 @@ pub fn flows_in<H: Files + AllocGlobal + Clone + Drop, W: Write>(
 ) -> Result<(), ArchiveRefusal>
 where
     H::File: FileExt + Lockable,
+    ensures within { OnOk result (Writes (AreFlowsIn format span.now) (W.contents output.old)
+        (W.contents output.new)) }
+    ensures kept_within { IfErr result
+        (λ e. WritesUpTo (AreFlowsIn format span.now) e (W.contents output.old) (W.contents output.new)) }
     ensures written { OnOk result (Writes (AreFlows format) (W.contents output.old) (W.contents output.new)) }
     ensures kept { IfErr result (λ e. WritesUpTo (AreFlows format) e (W.contents output.old) (W.contents output.new)) }
 {

@@ -2,7 +2,7 @@
 
 ghost use Rattle.std.specs.Prelude.{◌≡◌, ◌≤◌, ◌%◌, IfSome};
 ghost use Rattle.flow_manifest.specs.Limits.{greatest_limit, greatest_width, least_limit};
-ghost use Rattle.flow_commands.specs.Plans.{IsPlan};
+ghost use Rattle.flow_commands.specs.Plans.{is_in, IsPlan};
 
 use std::marker::Model;
 use std::thread;
@@ -104,6 +104,13 @@ impl StartSpan {
         ensures { result ≡ self.now.to }
     {
         self.to
+    }
+
+    /// Whether a start is one of them.
+    pub(crate) fn has(&self, start: u32) -> bool
+        ensures { result ≡ is_in self.now start }
+    {
+        self.from <= u64::from(start) && u64::from(start) < self.to
     }
 }
 

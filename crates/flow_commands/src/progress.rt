@@ -1,5 +1,7 @@
 //! How far feeding is, on a terminal, and what it warns of.
 
+ghost use Rattle.std.specs.Prelude.{◌≡◌};
+
 use flow_folder::FirstFault;
 use flow_roller::Bell;
 use std::fmt::Display;
@@ -143,7 +145,9 @@ impl<'a, H: Wait, R: Read, W: Write + Drop> Watched<'a, H, R, W> {
         progress: &'a Progress<W>,
         bell: &'a Bell,
         span: u32,
-    ) -> Self {
+    ) -> Self
+        ensures { result.input.now ≡ input.old }
+    {
         Watched {
             rt,
             input,

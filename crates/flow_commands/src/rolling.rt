@@ -2,7 +2,8 @@
 
 ghost use Rattle.std.specs.Prelude.{◌≡◌, ℕ, false, Ok, OnOk, IfOk, IfErr};
 ghost use Rattle.flow_commands.specs.Asking.{Writes, WritesOrNot};
-ghost use Rattle.flow_commands.specs.Rolling.{IsJobLine, IsRolled, RollsOn, TellsJob, job_line, job_name};
+ghost use Rattle.flow_commands.specs.Rolling.{IsJobLine, IsRolled, RollsIn, RollsOn, TellsJob};
+ghost use Rattle.flow_commands.specs.Rolling.{job_line, job_name};
 
 use crate::archive_refusal::ArchiveRefusal;
 use crate::ending::ended;
@@ -107,16 +108,18 @@ pub fn roll_on<D: Disk, W: Write>(
 }
 
 /// Rolls or merges the files of the archive in a folder, and writes how many they were.
-pub fn roll_in<H: Files + AllocGlobal + Clone + Drop, W: Write>(
-    rt: &H,
-    folder: &str,
-    first_fault: &FirstFault,
+pub fn roll_in<'a, H: Files + AllocGlobal + Clone + Drop, W: Write>(
+    rt: &'a H,
+    folder: &'a str,
+    first_fault: &'a FirstFault,
     kind: JobKind,
     keep: u32,
     output: &mut W,
 ) -> Result<(), ArchiveRefusal>
 where
     H::File: FileExt + Lockable,
+    ensures told { RollsIn ⟦<FolderDisk<'a, H> as Disk>⟧ kind keep (W.contents output.old) (W.contents output.new)
+        result }
     ensures written { OnOk result (Writes (IsJobLine kind) (W.contents output.old) (W.contents output.new)) }
     ensures kept { IfErr result (λ e. WritesOrNot (IsJobLine kind) e (W.contents output.old) (W.contents output.new)) }
 {

@@ -1,6 +1,6 @@
 //! The command `totals`.
 
-ghost use Rattle.std.specs.Prelude.{◌≡◌, ◌≢◌, List, ℕ, false, IsTrue, OnOk, IfOk, IfErr};
+ghost use Rattle.std.specs.Prelude.{◌≡◌, ◌≢◌, List, ℕ, false, filter, IsTrue, OnOk, IfOk, IfErr};
 ghost use Rattle.flow_disk.specs.Cause.{HasCause};
 ghost use Rattle.flow_manifest.specs.Slots.{reads_of};
 ghost use Rattle.flow_archive.specs.Beginning.{answer_of, disk_of};
@@ -13,9 +13,10 @@ ghost use Rattle.flow_snapshot.specs.Totals.{first_file, IsMade, IsWithinLimits,
 ghost use Rattle.flow_model.specs.Views.{IsViewOf};
 ghost use Rattle.flow_commands.specs.declared.archive_refusal.ArchiveRefusal.TheVariants as refusal;
 ghost use Rattle.flow_commands.specs.Opened.{IsAsked, IsHandedOn, KeepsArchive};
-ghost use Rattle.flow_commands.specs.Asking.{AreLinesOf, AreRows, IsBeforeWriting, IsNotFound, TellsLines};
-ghost use Rattle.flow_commands.specs.Asking.{TellsNoLines};
+ghost use Rattle.flow_commands.specs.Asking.{AreLinesOf, AreRows, AreRowsIn, IsBeforeWriting, IsNotFound};
+ghost use Rattle.flow_commands.specs.Asking.{RowsStartIn, TellsLines, TellsNoLines};
 ghost use Rattle.flow_commands.specs.Asking.{Writes, WritesOrNot, totals_lines};
+ghost use Rattle.flow_commands.specs.Plans.{is_in};
 ghost use Rattle.flow_report.specs.declared.format.Format.{Format};
 ghost use Rattle.flow_report.specs.ArchiveLines.{rows_text};
 
@@ -46,9 +47,18 @@ struct FoundRows {
     width: u32,
 }
 
+/// The rows that start in a span.
+fn rows_in(rows: Vec<Row>, span: &StartSpan) -> Vec<Row>
+    ensures { result.items ≡ filter (λ row. is_in span.now row.key.start) rows.items }
+{
+    let mut rows = rows;
+    rows.retain(|row| span.has(row.key.start));
+    rows
+}
+
 /// What a snapshot answers to `totals`, by so many workers. Where one of them is refused, it is asked once more by one
 /// thread, so that what is answered doesn't depend on how many there are.
-pub fn ask_rows<S: SealedFile + Send + Sync, H: Threads + Sync>(
+fn scan_rows<S: SealedFile + Send + Sync, H: Threads + Sync>(
     rt: &H,
     alloc: Global,
     snapshot: &Snapshot<S>,
@@ -75,6 +85,32 @@ pub fn ask_rows<S: SealedFile + Send + Sync, H: Threads + Sync>(
     snapshot.totals(alloc, from, to, faults)
 }
 
+/// What a snapshot answers to `totals`, by so many workers. Whatever its files are, no row starts outside the span.
+pub fn ask_rows<S: SealedFile + Send + Sync, H: Threads + Sync>(
+    rt: &H,
+    alloc: Global,
+    snapshot: &Snapshot<S>,
+    span: &StartSpan,
+    workers: &Workers,
+    faults: &mut Faults<S>,
+) -> Result<Vec<Row>, ReadRefusal>
+    ensures cause { HasCause ReadRefusal.Fault faults.old faults.new result }
+    ensures within { IfOk result (λ rows. RowsStartIn span.now rows.items) }
+    // On honest disks: what is answered by each view of the files; where its sums fit their types none is damaged.
+    ensures given { IsTrue snapshot.now.honest → (v : View) → IsViewOf snapshot.now.shelf v
+        → IsMade (first_file snapshot.now.shelf) (SumsFit v)
+        (λ rows. rows.items ≡ totals_in_view span.now.from span.now.to v) result }
+    // Where the view is that of a history within the limits: its totals, and never damage.
+    ensures answered { IsTrue snapshot.now.honest → (h : History) (counts : List ℕ) → IsHistory h
+        → AreCountsOf h counts → IsWithinLimits h → IsViewOf snapshot.now.shelf (view_of h counts)
+        → IsAnswered (λ rows. rows.items ≡ totals_between span.now.from span.now.to h) result }
+{
+    match scan_rows(rt, alloc, snapshot, span, workers, faults) {
+        Ok(rows) => Ok(rows_in(rows, span)),
+        Err(error) => Err(error),
+    }
+}
+
 /// Asks an archive for its sums, by so many workers.
 fn find_rows<D: Disk, H: Threads + Sync>(
     rt: &H,
@@ -92,6 +128,7 @@ where
         (rows_text format found.width found.rows.items)) }
     ensures refused { IsTrue (D.honest archive.old.disk) → (reads : ℕ → List ℕ) → StandsFor reads archive.old.state
         → IfErr result (IsNotFound SumsFit reads) }
+    ensures within { IfOk result (λ found. RowsStartIn span.now found.rows.items) }
     ensures unwritten { IfErr result (λ e. IsBeforeWriting e) }
     ensures opened { IfErr result (λ e. e ≢ refusal.Opening OpenError.Fault) }
     ensures cause { HasCause (refusal.Query ReadRefusal.Fault) faults.old faults.new result }
@@ -124,8 +161,9 @@ where
     ensures refused { IsTrue (D.honest archive.old.disk) → (reads : ℕ → List ℕ) → StandsFor reads archive.old.state
         → IfErr result (TellsNoLines (totals_lines format span.now) SumsFit reads (W.contents output.old)
         (W.contents output.new)) }
-    ensures written { OnOk result (Writes (AreRows format) (W.contents output.old) (W.contents output.new)) }
-    ensures kept { IfErr result (λ e. WritesOrNot (AreRows format) e (W.contents output.old) (W.contents output.new)) }
+    ensures written { OnOk result (Writes (AreRowsIn format span.now) (W.contents output.old) (W.contents output.new)) }
+    ensures kept { IfErr result
+        (λ e. WritesOrNot (AreRowsIn format span.now) e (W.contents output.old) (W.contents output.new)) }
     ensures opened { IfErr result (λ e. e ≢ refusal.Opening OpenError.Fault) }
     ensures cause { HasCause (refusal.Query ReadRefusal.Fault) faults.old faults.new result }
 {
@@ -158,9 +196,9 @@ where
     ensures refused { IsTrue (D.honest disk) → IfErr result (λ r. TellsNoLines (totals_lines format span.now) SumsFit
         (reads_of (D.held disk)) (W.contents output.old) (W.contents output.new) r.error) }
     // And whatever the disk:
-    ensures written { OnOk result (Writes (AreRows format) (W.contents output.old) (W.contents output.new)) }
+    ensures written { OnOk result (Writes (AreRowsIn format span.now) (W.contents output.old) (W.contents output.new)) }
     ensures kept { IfErr result
-        (λ r. WritesOrNot (AreRows format) r.error (W.contents output.old) (W.contents output.new)) }
+        (λ r. WritesOrNot (AreRowsIn format span.now) r.error (W.contents output.old) (W.contents output.new)) }
     ensures honest { D.honest (disk_of result) ≡ D.honest disk }
     // A stop at any moment leaves what opens as the archive that was there, and that is the one that is handed on.
     ensures any_moment { KeepsArchive D.Disk disk (disk_of result) }
@@ -211,6 +249,10 @@ pub fn totals_in<H: Files + AllocGlobal + Clone + Drop + Threads + Send + Sync, 
 where
     H::File: FileExt + Lockable + Send + Sync,
     H::Dir: Send + Sync,
+    ensures within { OnOk result (Writes (AreRowsIn format span.now) (W.contents output.old)
+        (W.contents output.new)) }
+    ensures kept_within { IfErr result
+        (λ e. WritesOrNot (AreRowsIn format span.now) e (W.contents output.old) (W.contents output.new)) }
     ensures written { OnOk result (Writes (AreRows format) (W.contents output.old) (W.contents output.new)) }
     ensures kept { IfErr result (λ e. WritesOrNot (AreRows format) e (W.contents output.old) (W.contents output.new)) }
 {

@@ -30,4 +30,4 @@ returns-in-Err-clause-refused g c = λ honest.
     (unopened_up_to c.args.format c.args.span.now reads output c.in-Err.refused.error (c.in-Err.ensures.told honest))
 
 pub returns-in-Err-clause-kept : goal.returns-in-Err-clause-kept
-returns-in-Err-clause-kept g c = none_up_to c.args.format (g.W.Write.contents c.args.output.now) c.from.result
+returns-in-Err-clause-kept g c = none_up_to c.args.format c.args.span.now (g.W.Write.contents c.args.output.now) c.from.result

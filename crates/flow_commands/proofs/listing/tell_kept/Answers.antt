@@ -10,9 +10,9 @@ use Rattle.flow_report.proofs.Joining.{holds_more, none_told}
 use Rattle.flow_commands.specs.declared.archive_refusal.ArchiveRefusal.TheVariants as refusal
 use Rattle.flow_commands.specs.Archives.{of_query}
 use Rattle.flow_commands.specs.Asking.{HasFront, IsBlameless, IsWhileAsking}
-use Rattle.flow_commands.proofs.KeptLines.{all_in, all_kept, cut_off, file_blameless, files_count, lines_of, one_more}
+use Rattle.flow_commands.proofs.KeptLines.{all_in, all_kept, cut_off, file_blameless, files_count, lines_of, no_flows_in}
 use Rattle.flow_commands.proofs.KeptLines.{query_asks, query_blameless, some_cut, some_more, some_stopped, stopped}
-use Rattle.flow_commands.proofs.KeptLines.{HasTold}
+use Rattle.flow_commands.proofs.KeptLines.{one_more, HasTold}
 use Rattle.flow_commands.proofs.listing.tell_kept.Goals as goal
 
 pub loop-at-init : goal.loop-at-init
@@ -23,7 +23,7 @@ loop-at-init g c =
     record {
       faults = c.in_ok-templates.ensures.cause.done;
       format = refl;
-      some = ([], none);
+      some = ([], no_flows_in c.args.span.now, none);
       told = λ honest v is. record {
         front = [];
         rest = v.kept;
@@ -52,12 +52,13 @@ loop-at-preserved g c =
     record {
       faults = c.in_ok-flows.ensures.cause.done ∙ c.loop-at.invariant.faults;
       format = c.put.ensures.format ∙ c.loop-at.invariant.format;
-      some = some_more format old now new held mid left flows c.loop-at.invariant.some told;
+      some = some_more format c.args.span.now old now new held mid left flows c.in_ok-flows.ensures.within
+          c.loop-at.invariant.some told;
       told = λ honest v is.
           one_more format c.args.span.now.from c.args.span.now.to old now new held mid v.templates c.loop-at.templates
           c.flows_of_file.new.templates v.kept (kept_by_file s) c.loop-at.at flows within is.accepted
           (c.loop-at.invariant.told honest v is)
-          ((rw (c.from-from.ensures, c.to-to.ensures) at c.in_ok-flows.ensures.given) honest) left told;
+          (c.in_ok-flows.ensures.given honest) left told;
     }
 
 pub returns-clause-told : goal.returns-clause-told
@@ -77,8 +78,8 @@ returns-in_err-templates-clause-some g c =
     let output = g.W.Write.contents c.args.output.now in
     let held = c.args.lines.now.held in
     passed_on c.from_residual.result (of_query e)
-    (λ e. IsWhileAsking e × HasFront c.args.lines.now.format output held output) c.from_residual.ensures.1
-    (query_asks e, ([], none_told output held []))
+    (λ e. IsWhileAsking e × HasFront c.args.lines.now.format c.args.span.now output held output) c.from_residual.ensures.1
+    (query_asks e, ([], no_flows_in c.args.span.now, none_told output held []))
 
 pub returns-in_err-templates-clause-cut : goal.returns-in_err-templates-clause-cut
 returns-in_err-templates-clause-cut g c = λ honest v is.
@@ -99,8 +100,8 @@ returns-in_err-flows-clause-some g c =
     let format = c.args.lines.now.format in
     let e = (c.in_err-flows.field-0).0 in
     passed_on c.from_residual-in_err-flows.result (of_query e)
-    (λ e. IsWhileAsking e × HasFront format old held now) c.from_residual-in_err-flows.ensures.1
-    (query_asks e, some_stopped format old now held mid c.loop-at.invariant.some)
+    (λ e. IsWhileAsking e × HasFront format c.args.span.now old held now) c.from_residual-in_err-flows.ensures.1
+    (query_asks e, some_stopped format c.args.span.now old now held mid c.loop-at.invariant.some)
 
 pub returns-in_err-flows-clause-cut : goal.returns-in_err-flows-clause-cut
 returns-in_err-flows-clause-cut g c = λ honest v is.
@@ -137,8 +138,11 @@ returns-in_err-put-clause-some g c =
     let front = subst (λ (f : Format). TellsFront now mid new (lines_of f flows)) c.loop-at.invariant.format
     (rw c.as_slice.ensures.value at c.in_err-put.ensures.front) in
     passed_on c.from_residual-in_err-put.result (refusal.Write (c.in_err-put.field-0).0)
-    (λ e. IsWhileAsking e × HasFront format old held new) c.from_residual-in_err-put.ensures.1
-    (tt, some_cut format old now new held mid flows c.loop-at.invariant.some front)
+    (λ e. IsWhileAsking e × HasFront format c.args.span.now old held new) c.from_residual-in_err-put.ensures.1 (
+      tt,
+      some_cut format c.args.span.now old now new held mid flows c.in_ok-flows.ensures.within
+          c.loop-at.invariant.some front,
+    )
 
 pub returns-in_err-put-clause-cut : goal.returns-in_err-put-clause-cut
 returns-in_err-put-clause-cut g c = λ honest v is.
@@ -161,5 +165,5 @@ returns-in_err-put-clause-cut g c = λ honest v is.
       cut_off format c.args.span.now.from c.args.span.now.to old now new held mid v.templates c.loop-at.templates
           c.flows_of_file.new.templates v.kept (kept_by_file s) c.loop-at.at flows within is.accepted
           (c.loop-at.invariant.told honest v is)
-          ((rw (c.from-from.ensures, c.to-to.ensures) at c.in_ok-flows.ensures.given) honest) front,
+          (c.in_ok-flows.ensures.given honest) front,
     )

@@ -17,7 +17,7 @@ invariant-loop-at g l =
     record {
       faults : l.faults ≡ l.fn.faults;
       format : l.lines.format ≡ l.fn.lines.format;
-      some : HasSome l.fn.lines.format old held now l.lines.held;
+      some : HasSome l.fn.lines.format l.fn.span old held now l.lines.held;
       told : IsTrue l.fn.snapshot.honest → (v : View) → IsViewOf l.fn.snapshot.shelf v
           → Taken (HasTold l.fn.lines.format l.fn.span.from l.fn.span.to old held now l.lines.held) v.templates v.kept
           (all_in (drop l.at (kept_by_file l.fn.snapshot.shelf))) l.templates;

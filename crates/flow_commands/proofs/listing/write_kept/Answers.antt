@@ -7,8 +7,10 @@ use Rattle.flow_report.specs.Telling.{Tells, TellsFront}
 use Rattle.flow_report.specs.Writing.{AppendsFront}
 use Rattle.flow_report.proofs.Joining.{with_held_cut}
 use Rattle.flow_commands.specs.declared.archive_refusal.ArchiveRefusal.TheVariants as refusal
-use Rattle.flow_commands.specs.Asking.{flows_lines, AreFlows, HasFront, HasSome, IsBlameless, IsWhileAsking, WritesUpTo}
-use Rattle.flow_commands.proofs.KeptLines.{all_ended, end_cut, lines_of, none_alone, up_to}
+use Rattle.flow_commands.specs.Asking.{flows_lines, AreFlowsIn, HasFront, HasSome, IsBlameless, IsWhileAsking}
+use Rattle.flow_commands.specs.Asking.{WritesUpTo}
+use Rattle.flow_commands.proofs.KeptLines.{all_ended, end_cut, lines_of, no_flows_in, none_alone}
+use Rattle.flow_commands.proofs.KeptLines.{up_to}
 use Rattle.flow_commands.proofs.listing.write_kept.Goals as goal
 
 pub returns-in_err-lines-clause-some : goal.returns-in_err-lines-clause-some
@@ -16,8 +18,11 @@ returns-in_err-lines-clause-some g c =
     let format = c.args.format in
     let output = g.W.Write.contents c.args.output.now in
     passed_on c.from_residual.result refusal.OutOfMemory
-    (λ e. IsWhileAsking e × WritesUpTo (AreFlows format) e output output) c.from_residual.ensures.1
-    (tt, up_to format refusal.OutOfMemory output output [] tt (none_alone output (flows_text format [])))
+    (λ e. IsWhileAsking e × WritesUpTo (AreFlowsIn format c.args.span.now) e output output) c.from_residual.ensures.1 (
+      tt,
+      up_to format c.args.span.now refusal.OutOfMemory output output [] (no_flows_in c.args.span.now) tt
+          (none_alone output (flows_text format [])),
+    )
 
 pub returns-in_err-tell_kept-clause-some : goal.returns-in_err-tell_kept-clause-some
 returns-in_err-tell_kept-clause-some g c =
@@ -25,13 +30,13 @@ returns-in_err-tell_kept-clause-some g c =
     let old = g.W.Write.contents c.args.output.now in
     let new = g.W.Write.contents c.tell_kept.new.output in
     let e = (c.in_err-tell_kept.field-0).0 in
-    let some = subst (λ (t : FlowText). IsWhileAsking e × HasFront t.format old t.held new) c.in_ok-lines.ensures
+    let some = subst (λ (t : FlowText). IsWhileAsking e × HasFront t.format c.args.span.now old t.held new) c.in_ok-lines.ensures
     c.in_err-tell_kept.ensures.some in
-    passed_on c.from_residual-in_err-tell_kept.result e (λ e. IsWhileAsking e × WritesUpTo (AreFlows format) e old new)
+    passed_on c.from_residual-in_err-tell_kept.result e (λ e. IsWhileAsking e × WritesUpTo (AreFlowsIn format c.args.span.now) e old new)
     c.from_residual-in_err-tell_kept.ensures.1 (
       some.0,
-      up_to format e old new some.1.0 some.0
-          (with_held_cut old new (heading format.layout flow_names) (lines_of format some.1.0) some.1.1),
+      up_to format c.args.span.now e old new some.1.0 some.1.1 some.0
+          (with_held_cut old new (heading format.layout flow_names) (lines_of format some.1.0) some.1.2),
     )
 
 pub returns-in_err-tell_kept-clause-cut : goal.returns-in_err-tell_kept-clause-cut
@@ -56,13 +61,13 @@ returns-in_err-end-clause-some g c =
     let new = g.W.Write.contents c.end.new.output in
     let left = c.tell_kept.new.lines.held in
     let e = refusal.Write (c.in_err-end.field-0).0 in
-    let all = subst (λ (t : FlowText). HasSome t.format old t.held mid left) c.in_ok-lines.ensures
+    let all = subst (λ (t : FlowText). HasSome t.format c.args.span.now old t.held mid left) c.in_ok-lines.ensures
     c.in_ok-tell_kept.ensures.all in
-    passed_on c.from_residual-in_err-end.result e (λ e. IsWhileAsking e × WritesUpTo (AreFlows format) e old new)
+    passed_on c.from_residual-in_err-end.result e (λ e. IsWhileAsking e × WritesUpTo (AreFlowsIn format c.args.span.now) e old new)
     c.from_residual-in_err-end.ensures.1 (
       tt,
-      up_to format e old new all.0 tt
-          (end_cut old mid new (heading format.layout flow_names) left (lines_of format all.0) all.1
+      up_to format c.args.span.now e old new all.0 all.1 tt
+          (end_cut old mid new (heading format.layout flow_names) left (lines_of format all.0) all.2
           c.in_err-end.ensures.front),
     )
 
@@ -90,10 +95,10 @@ returns-clause-written g c =
     let mid = g.W.Write.contents c.tell_kept.new.output in
     let new = g.W.Write.contents c.end.new.output in
     let left = c.tell_kept.new.lines.held in
-    let all = subst (λ (t : FlowText). HasSome t.format old t.held mid left) c.in_ok-lines.ensures
+    let all = subst (λ (t : FlowText). HasSome t.format c.args.span.now old t.held mid left) c.in_ok-lines.ensures
     c.in_ok-tell_kept.ensures.all in (
       flows_text format all.0,
-      (all.0, refl),
-      all_ended old mid new (heading format.layout flow_names) left (lines_of format all.0) all.1
+      (all.0, all.1, refl),
+      all_ended old mid new (heading format.layout flow_names) left (lines_of format all.0) all.2
           c.in_ok-end.ensures.all,
     )

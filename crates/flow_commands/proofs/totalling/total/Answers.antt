@@ -7,7 +7,7 @@ use Rattle.flow_snapshot.specs.Totals.{SumsFit}
 use Rattle.flow_report.specs.ArchiveLines.{rows_text}
 use Rattle.flow_commands.specs.declared.archive_refusal.ArchiveRefusal.TheVariants as refusal
 use Rattle.flow_commands.specs.Archives.{of_text}
-use Rattle.flow_commands.specs.Asking.{AreRows, TellsNoLines, WritesOrNot, totals_lines}
+use Rattle.flow_commands.specs.Asking.{AreRowsIn, TellsNoLines, WritesOrNot, totals_lines}
 use Rattle.flow_commands.proofs.Asked.{cut_told, cut_written, none_told, none_written}
 use Rattle.flow_commands.proofs.Causes.{other_than, text_is_no_opening, text_is_no_query}
 use Rattle.flow_commands.proofs.totalling.total.Goals as goal
@@ -23,9 +23,9 @@ returns-in_err-found-clause-refused g c h reads stands =
 pub returns-in_err-found-clause-kept : goal.returns-in_err-found-clause-kept
 returns-in_err-found-clause-kept g c =
     let output = g.W.Write.contents c.args.output.now in
-    passed_on c.from_residual.result (c.in_err-found.field-0).0 (λ e. WritesOrNot (AreRows c.args.format) e output output)
+    passed_on c.from_residual.result (c.in_err-found.field-0).0 (λ e. WritesOrNot (AreRowsIn c.args.format c.args.span.now) e output output)
     c.from_residual.ensures.1
-    (none_written (AreRows c.args.format) output (c.in_err-found.field-0).0 c.in_err-found.ensures.unwritten)
+    (none_written (AreRowsIn c.args.format c.args.span.now) output (c.in_err-found.field-0).0 c.in_err-found.ensures.unwritten)
 
 pub returns-in_err-found-clause-opened : goal.returns-in_err-found-clause-opened
 returns-in_err-found-clause-opened g c =
@@ -53,11 +53,11 @@ pub returns-in_err-write_rows-clause-kept : goal.returns-in_err-write_rows-claus
 returns-in_err-write_rows-clause-kept g c =
     let found = c.in_ok-found.found in
     passed_on c.from_residual-in_err-write_rows.result (of_text (c.in_err-write_rows.field-0).0)
-    (λ e. WritesOrNot (AreRows c.args.format) e (g.W.Write.contents c.args.output.now)
+    (λ e. WritesOrNot (AreRowsIn c.args.format c.args.span.now) e (g.W.Write.contents c.args.output.now)
     (g.W.Write.contents c.write_rows.new.output))
     c.from_residual-in_err-write_rows.ensures.1
-    (cut_written (AreRows c.args.format) _ _ (rows_text c.args.format found.width found.rows.items)
-    (found.width, found.rows.items, refl)
+    (cut_written (AreRowsIn c.args.format c.args.span.now) _ _ (rows_text c.args.format found.width found.rows.items)
+    (found.width, found.rows.items, c.in_ok-found.ensures.within, refl)
     (c.in_err-write_rows.field-0).0 (rw c.as_slice.ensures.value at c.in_err-write_rows.ensures.cut))
 
 pub returns-in_err-write_rows-clause-opened : goal.returns-in_err-write_rows-clause-opened
@@ -84,6 +84,6 @@ pub returns-clause-written : goal.returns-clause-written
 returns-clause-written g c =
     let found = c.in_ok-found.found in (
       rows_text c.args.format found.width found.rows.items,
-      (found.width, found.rows.items, refl),
+      (found.width, found.rows.items, c.in_ok-found.ensures.within, refl),
       rw c.as_slice.ensures.value at c.in_ok-write_rows.ensures.all,
     )

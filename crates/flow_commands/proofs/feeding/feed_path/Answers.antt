@@ -1,0 +1,8 @@
+use Rattle.std.proofs.Common.{inl, inr}
+use Rattle.flow_commands.proofs.feeding.feed_path.Goals as goal
+
+pub returns-in-Ok : goal.returns-in-Ok
+returns-in-Ok g c = inl (c.in-Ok.file, c.feed_named.ensures)
+
+pub returns-in-Err : goal.returns-in-Err
+returns-in-Err g c = inr c.unopened.ensures.some

@@ -1,0 +1,26 @@
+use Rattle.std.proofs.Common.{rules, ◌≡◌, ◌∙◌, true, ap}
+use Rattle.std.specs.Prelude.{filter}
+use Rattle.std.proofs.lemmas.Fn.{filter_same}
+use Rattle.std.proofs.lemmas.List.Elements.{All-same, filter_passes}
+use Rattle.flow_measure.specs.declared.flow.Flow.{Flow}
+use Rattle.flow_measure.specs.History.{flows_in}
+use Rattle.flow_commands.specs.Plans.{is_in}
+use Rattle.flow_commands.proofs.Spans.{filter_all}
+use Rattle.flow_commands.proofs.listing.flows_of_file.Goals as goal
+
+pub returns-clause-within : goal.returns-clause-within
+returns-clause-within g c =
+    let kept : c.retain.new.self.items ≡ filter (λ (f : Flow). is_in c.args.span.now f.start) c.in_ok-flows.flows.items =
+    filter_same _ (λ (f : Flow). is_in c.args.span.now f.start) _ (λ x b f' k. search rules) _ _
+    c.retain.ensures.filtered in
+    All-same (λ (f : Flow). is_in c.args.span.now f.start ≡ true) _ _ kept
+    (filter_passes (λ (f : Flow). is_in c.args.span.now f.start) c.in_ok-flows.flows.items)
+
+pub returns-clause-given : goal.returns-clause-given
+returns-clause-given g c honest octets at messages accepted is =
+    let test = λ (f : Flow). is_in c.args.span.now f.start in
+    let kept : c.retain.new.self.items ≡ filter test c.in_ok-flows.flows.items =
+    filter_same _ test _ (λ x b f' k. search rules) _ _ c.retain.ensures.filtered in
+    let given = (rw (c.from-from.ensures, c.to-to.ensures) at c.in_ok-flows.ensures.given) honest octets at messages
+    accepted is in
+    (given.0, kept ∙ ap (filter test) given.1 ∙ filter_all test _ (filter_passes test (flows_in messages)))
