@@ -1,4 +1,6 @@
+pub mod EndedLines
 pub mod Names
+pub mod Said
 pub mod Shown
 pub mod Table
 pub mod Writing

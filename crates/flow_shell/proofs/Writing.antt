@@ -15,7 +15,7 @@ use Rattle.flow_shell.specs.Answers.{KeepsBefore}
 use Rattle.flow_shell.specs.Written.{done_line, IsAnswer, IsEndedBy, IsFinished, IsRefusalWritten, IsWritten}
 
 -- a prefix of what is written after a text
-front_after : (a b c : Option (List ℕ)) (one more : List ℕ) → Appends a b one → AppendsFront b c more
+pub front_after : (a b c : Option (List ℕ)) (one more : List ℕ) → Appends a b one → AppendsFront b c more
     → AppendsFront a c (one ++ more)
 front_after a b c one more written (n, most, front) =
     let long = length-append one more in (

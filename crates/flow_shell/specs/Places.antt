@@ -5,6 +5,11 @@ use Rattle.flow_shell.specs.declared.board.Place.{Place}
 use Rattle.flow_shell.specs.declared.board.Place.TheVariants.{Free, Fed, Ended}
 use Rattle.flow_shell.specs.declared.board.Places.{Places}
 
+-- Each File that has ended did so as is said of it.
+abbrev pub AreSaid : (ℕ → HowFar → Type 0) → List Place → Type 0
+AreSaid said places =
+    (k number : ℕ) (fed : HowFar) → slice_get places k ≡ Some (Ended number fed) → ∥ said number fed ∥₁
+
 -- some File is fed
 abbrev pub HasFed : List Place → Type 0
 HasFed places = (k : ℕ) × (number : ℕ) × (slice_get places k ≡ Some (Fed number))

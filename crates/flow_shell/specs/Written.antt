@@ -1,10 +1,13 @@
 -- What is written of an answer.
 use Rattle.std.specs.Prelude.{◌≡◌, ◌⊎◌, ℕ, ◌+◌, List, [], ◌∷◌, ◌++◌, Option, Result, Ok, Err, codes}
 use Rattle.std.specs.Fmt.{decimal}
+use Rattle.std.specs.List.{flat_map, AllByRecursion}
 use Rattle.std.specs.Io.KnownBytes.{Appends, Keeps}
 use Rattle.flow_report.specs.Writing.{AppendsFront}
 use Rattle.flow_commands.specs.declared.archive_refusal.ArchiveRefusal.{ArchiveRefusal}
-use Rattle.flow_commands.specs.declared.archive_refusal.ArchiveRefusal.TheVariants.{Write}
+use Rattle.flow_commands.specs.declared.archive_refusal.ArchiveRefusal.TheVariants.{Write, OutOfMemory}
+use Rattle.flow_commands.specs.Feeding.{fed_line}
+use Rattle.flow_feed.specs.declared.batch.Fed.{Fed}
 use Rattle.flow_shell.specs.declared.refusal.ShellRefusal.{ShellRefusal}
 use Rattle.flow_shell.specs.declared.refusal.ShellRefusal.TheVariants.{Archive, Reader}
 use Rattle.flow_shell.specs.Refusals.{shell_printed, shell_status}
@@ -51,3 +54,27 @@ IsFinished (Err (Reader e)) old new result = IsRefusalWritten (Reader e) old new
 abbrev pub IsAnswer : List ℕ → Option (List ℕ) → Option (List ℕ) → Type 0
 IsAnswer lines old new =
     Appends old new (lines ++ done_line 0) ⊎ ((e : ShellRefusal) × IsRefusalWritten e old new (Ok tt))
+
+-- ---- the lines of Files
+
+-- Files by their numbers, of each of which it is said that it ended so
+abbrev pub AreEnded : (ℕ → Fed → Type 0) → List (ℕ × Fed) → Type 0
+AreEnded said files = AllByRecursion (λ (file : ℕ × Fed). ∥ said file.0 file.1 ∥₁) files
+
+-- their lines
+abbrev pub ended_lines : List (ℕ × Fed) → List ℕ
+ended_lines files = flat_map (λ (file : ℕ × Fed). fed_line file.0 file.1) files
+
+-- the lines of Files that ended so were written
+abbrev pub HasTold : (ℕ → Fed → Type 0) → Option (List ℕ) → Option (List ℕ) → Type 0
+HasTold said old new = (files : List (ℕ × Fed)) × AreEnded said files × Appends old new (ended_lines files)
+
+-- The lines of Files that ended so were written; all but one for which memory was wanting, or a prefix of them where
+-- writing failed.
+abbrev pub TellsEnded : (ℕ → Fed → Type 0) → Option (List ℕ) → Option (List ℕ) → Result (Unit {0}) ArchiveRefusal
+    → Type 0
+TellsEnded said old new (Ok done) = HasTold said old new
+TellsEnded said old new (Err OutOfMemory) = HasTold said old new
+TellsEnded said old new (Err (Write failed)) =
+    (files : List (ℕ × Fed)) × AreEnded said files × AppendsFront old new (ended_lines files)
+TellsEnded said old new (Err e) = ⊥

@@ -1,12 +1,15 @@
 //! The Files that are fed, and how those ended that aren't written down yet.
 
-ghost use Rattle.std.specs.Prelude.{◌≡◌, ◌≢◌, ◌↔◌, IsTrue};
-ghost use Rattle.flow_shell.specs.Places.{Begins, Frees, HasFed, IsFirst, Replaces};
+ghost use Rattle.std.specs.Prelude.{◌≡◌, ◌≢◌, ◌↔◌, IfSome, IsTrue};
+ghost use Rattle.std.specs.Sync.Mutex.{mutex_guard_value};
+ghost use Rattle.flow_shell.specs.Places.{AreSaid, Begins, Frees, HasFed, IsFirst, Replaces};
 
 use flow_feed::Fed;
+use flow_roller::Bell;
 use std::io;
 use std::io::{ErrorKind, Read};
-use std::sync::{Condvar, Mutex, Wait};
+use std::marker::{Brand, PhantomData};
+use std::sync::{Condvar, Mutex, MutexGuard, Wait};
 
 /// The most Files that are fed at once.
 const MOST_FILES: usize = 8;
@@ -113,82 +116,181 @@ impl Places {
     }
 }
 
-/// What the threads that feed, and the one that answers, know of each other.
-#[derive(Drop)]
-pub(crate) struct Board {
-    places: Mutex<Places>,
-    changed: Condvar,
+/// What is said of how Files ended. Each use of a board picks it.
+pub(crate) trait Ends {
+    ghost use Rattle.std.specs.Prelude.{ℕ};
+    ghost use Rattle.flow_feed.specs.declared.batch.Fed.{Fed as HowFar};
+
+    /// The File of this number ended so.
+    ghost said: { ℕ → HowFar → Type 0 };
 }
 
-impl Board {
+impl Ends for Brand {
+    ghost use Rattle.std.specs.Prelude.{⊤};
+
+    ghost said = { λ number fed. ⊤ };
+}
+
+/// The places, of which each File that has ended did so as is said of it.
+#[derive(Drop)]
+struct Table<B: Ends> {
+    places: Places,
+    of: PhantomData<B>,
+    ghost are_said: { AreSaid B.said places.places },
+}
+
+impl<B: Ends> Table<B> {
     /// No File is fed.
-    pub(crate) fn new() -> Board {
+    #[tactic(auto, using(crate::proofs::Said::none_ended))]
+    fn new() -> Table<B> {
         let places = Places {
             places: [Place::Free; MOST_FILES],
             count: 0,
             is_ending: false,
         };
+        Table {
+            places,
+            of: PhantomData,
+        }
+    }
+
+    /// Whether a File is fed.
+    fn has_fed(&self) -> bool
+        ensures { IsTrue result ↔ HasFed self.now.places.places }
+    {
+        self.places.has_fed()
+    }
+
+    /// A place for one File more, which has the number that is answered; none where all are taken.
+    #[tactic(auto, using(crate::proofs::Said::begun))]
+    fn begin(&mut self) -> Option<u64>
+        ensures { Begins self.old.places result self.new.places }
+    {
+        self.places.begin()
+    }
+
+    /// The File of this number has ended so.
+    #[tactic(auto, using(crate::proofs::Said::ended))]
+    fn end(&mut self, number: u64, fed: Fed)
+        requires { ∥ B.said number fed ∥₁ }
+        ensures { Replaces (Place.Fed number) (Place.Ended number fed) self.old.places self.new.places }
+    {
+        self.places.end(number, fed);
+    }
+
+    /// The File with the least number that has ended, whose place is free from then on.
+    #[tactic(auto, using(crate::proofs::Said::freed, crate::proofs::Said::taken))]
+    fn take_ended(&mut self) -> Option<(u64, Fed)>
+        ensures answered { IsFirst self.old.places.places result }
+        ensures freed { Frees result self.old.places self.new.places }
+        ensures said { IfSome result (λ ended. ∥ B.said ended.0 ended.1 ∥₁) }
+    {
+        self.places.take_ended()
+    }
+
+    /// No File is read from now on.
+    fn quit(&mut self)
+        ensures { self.new.places.places ≡ self.old.places.places }
+    {
+        self.places.is_ending = true;
+    }
+}
+
+/// What the threads that feed, and the one that answers, know of each other.
+#[derive(Drop)]
+pub(crate) struct Board<B: Ends> {
+    table: Mutex<Table<B>>,
+    changed: Condvar,
+}
+
+impl<B: Ends> Board<B> {
+    /// No File is fed.
+    pub(crate) fn new() -> Board<B> {
         Board {
-            places: Mutex::new(places),
+            table: Mutex::new(Table::new()),
             changed: Condvar::new(),
         }
     }
 
     /// A place for one File more, which has the number that is answered; none where all are taken.
     pub(crate) fn begin<H: Wait>(&self, rt: &H) -> Option<u64> {
-        self.places.lock(rt).begin()
+        self.table.lock(rt).begin()
     }
 
     /// The File of this number has ended so.
-    pub(crate) fn end<H: Wait>(&self, rt: &H, number: u64, fed: Fed) {
-        let mut places = self.places.lock(rt);
-        places.end(number, fed);
-        drop(places);
+    pub(crate) fn end<H: Wait>(&self, rt: &H, number: u64, fed: Fed)
+        requires { ∥ B.said number fed ∥₁ }
+    {
+        let mut table = self.table.lock(rt);
+        table.end(number, fed);
+        drop(table);
         self.changed.notify_all();
     }
 
     /// The File with the least number that has ended, whose place is free from then on.
-    pub(crate) fn take_ended<H: Wait>(&self, rt: &H) -> Option<(u64, Fed)> {
-        self.places.lock(rt).take_ended()
+    pub(crate) fn take_ended<H: Wait>(&self, rt: &H) -> Option<(u64, Fed)>
+        ensures { IfSome result (λ ended. ∥ B.said ended.0 ended.1 ∥₁) }
+    {
+        self.table.lock(rt).take_ended()
+    }
+
+    /// The table, at a moment when no File is fed.
+    fn settled<H: Wait>(&self, rt: &H) -> MutexGuard<'_, Table<B>>
+        ensures { HasFed (mutex_guard_value result).places.places → ⊥ }
+    {
+        let table = self.table.lock(rt);
+        self.changed.wait_while(
+            rt,
+            table,
+            |table: &mut Table<B>| -> bool
+                ensures kept { table.new ≡ table.old }
+                ensures fed { IsTrue result ↔ HasFed table.new.places.places }
+            { table.has_fed() },
+        )
     }
 
     /// Waits until no File is fed.
     pub(crate) fn wait<H: Wait>(&self, rt: &H) {
-        let mut places = self.places.lock(rt);
-        for _ in rt.forever() {
-            if !places.has_fed() {
-                break;
-            }
-            places = self.changed.wait(rt, places);
-        }
+        drop(self.settled(rt));
     }
 
     /// No File is read from now on.
     pub(crate) fn quit<H: Wait>(&self, rt: &H) {
-        self.places.lock(rt).is_ending = true;
+        self.table.lock(rt).quit();
     }
 
     /// Whether no File is read any more.
     fn is_ending<H: Wait>(&self, rt: &H) -> bool {
-        self.places.lock(rt).is_ending
+        self.table.lock(rt).places.is_ending
     }
 }
 
-/// A File that is read until the shell ends.
+/// A File that is read until the shell ends. It rings a bell for each `span` octets that are read.
 #[derive(Drop)]
-pub(crate) struct Stoppable<'a, H: Wait, R: Read> {
+pub(crate) struct Stoppable<'a, B: Ends, H: Wait, R: Read> {
     pub(crate) rt: &'a H,
-    pub(crate) board: &'a Board,
+    pub(crate) board: &'a Board<B>,
+    pub(crate) bell: &'a Bell,
+    pub(crate) span: u32,
     pub(crate) input: &'a mut R,
+    /// How many were read.
+    pub(crate) octets: u64,
 }
 
-impl<H: Wait, R: Read> Read for Stoppable<'_, H, R> {
+impl<B: Ends, H: Wait, R: Read> Read for Stoppable<'_, B, H, R> {
     ghost remaining = { λ file. R.remaining file.input.now };
 
     fn read(&mut self, buf: &mut [u8]) -> io::Result<usize> {
         if self.board.is_ending(self.rt) {
             return Err(io::Error::from(ErrorKind::ConnectionAborted));
         }
-        self.input.read(buf)
+        let count = self.input.read(buf)?;
+        let before = self.octets;
+        self.octets = self.octets.saturating_add(count as u64);
+        let span = u64::from(self.span.max(1));
+        if self.octets / span > before / span {
+            self.bell.ring(self.rt);
+        }
+        Ok(count)
     }
 }

@@ -11,6 +11,7 @@ mod asked;
 mod board;
 mod refusal;
 mod shell;
+mod telling;
 
 pub use answering::{answer_flows, answer_message, answer_totals};
 pub use asked::{FileName, Query, ShellRequest, request_of};

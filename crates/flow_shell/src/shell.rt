@@ -1,6 +1,7 @@
 //! Requests, answered one after the other while Files are fed.
 
-ghost use Rattle.std.specs.Prelude.{◌≡◌, ◌≢◌, ◌≤◌, ◌++◌, ⊤, ℕ, false, IfErr, IfOk, IsTrue, OnOk, string_bytes};
+ghost use Rattle.std.specs.Prelude.{◌≡◌, ◌≢◌, ◌≤◌, ◌++◌, ⊤, ℕ, false, IfErr, IfOk, IsTrue, List, OnOk, Option};
+ghost use Rattle.std.specs.Prelude.{string_bytes};
 ghost use Rattle.std.specs.Io.KnownBytes.{Appends};
 ghost use mathlib.Core.List.{IsPrefix};
 ghost use Rattle.flow_measure.specs.History.{History};
@@ -9,15 +10,22 @@ ghost use Rattle.flow_model.specs.Shelved.{shelf_of};
 ghost use Rattle.flow_shell.specs.Answers.{query_lines, KeepsBefore};
 ghost use Rattle.flow_shell.specs.Written.{IsAnswer};
 ghost use Rattle.flow_shell.specs.Written.{began_line, done_line, refused_line, IsEndedBy};
-ghost use Rattle.flow_shell.specs.Written.{IsFinished, IsRefusalWritten, IsWritten};
+ghost use Rattle.flow_shell.specs.Written.{HasTold, IsFinished, IsRefusalWritten, IsWritten};
+ghost use Rattle.flow_shell.specs.Fed.{EndsSo, WasFed};
+ghost use Rattle.flow_shell.specs.Endings.{answer_by, end_status, end_text, shell_ended};
+ghost use Rattle.flow_disk.specs.Cause.{HasCause};
+ghost use Rattle.flow_archive.specs.declared.refusal.ArchiveError.TheVariants as event;
+ghost use Rattle.flow_feed.specs.declared.batch.Fed.{Fed as FedFile};
 
 use crate::answering::{answer_check, answer_flows, answer_message, answer_totals};
 use crate::asked::{Query, ShellRequest, request_of};
-use crate::board::{Board, Stoppable};
+use crate::board::{Board, Ends, Stoppable};
 use crate::refusal::ShellRefusal;
+use crate::telling::tell_ended;
 use flow_archive::{Archive, ArchiveError};
-use flow_commands::{ArchiveRefusal, Progress, Workers, fed_line, feed_stream, unopened};
+use flow_commands::{ArchiveRefusal, Workers, unopened};
 use flow_disk::{Disk, Faults, SealedFile};
+use flow_feed::{Fed, SharedAppender, feed_shared};
 use flow_folder::{FirstFault, FolderDisk, Lockable};
 use flow_report::{Patience, write_patiently};
 use flow_roller::{Bell, roll_beside};
@@ -54,52 +62,87 @@ const REFUSED: u8 = 1;
 /// The status where requests can't be read.
 const UNREAD: u8 = 3;
 
-/// A progress that isn't shown, since answers are written meanwhile.
-type Silent = Progress<Vec<u8>>;
-
 /// What is answered where requests can't be read.
 const UNREADABLE: &str = "refused 31 Read\n";
-
-/// The most Files that are fed at once.
-const MOST_FILES: usize = 8;
 
 /// What `feed` is answered where 8 Files are fed.
 const NO_PLACE: &str = "refused 8 Files are fed\n";
 
-/// Takes the File at a path into the archive, and says how it ended.
-fn feed_one<H: Files + AllocGlobal + Clone + Drop + Wait, D: Disk, J: Naming>(
+/// Takes the File that `input` reads into the archive, until the shell ends, and says how it ended.
+fn feed_file<H: AllocGlobal + Wait, D: Disk, J: Naming, B: Ends, R: Read>(
     rt: &H,
     shared: &SharedArchive<D, J, H>,
     bell: &Bell,
-    board: &Board,
+    board: &Board<B>,
+    limit: u32,
+    input: &mut R,
+) -> Fed
+    ensures { WasFed D.Disk J.opening (R.remaining input.old) result }
+{
+    let mut input = Stoppable {
+        rt,
+        board,
+        bell,
+        span: limit,
+        input,
+        octets: 0,
+    };
+    let mut appender = SharedAppender::new(rt, shared);
+    feed_shared(&mut appender, rt.alloc(), &mut input, 0)
+}
+
+/// The same of the File at a path.
+fn feed_path<H: Files + AllocGlobal + Clone + Drop + Wait, D: Disk, J: Naming, B: Ends>(
+    rt: &H,
+    shared: &SharedArchive<D, J, H>,
+    bell: &Bell,
+    board: &Board<B>,
+    limit: u32,
+    path: &str,
+) -> Fed
+    ensures { EndsSo D.Disk J.opening result }
+{
+    match File::open(rt, path) {
+        Ok(file) => {
+            let mut file = file;
+            feed_file(rt, shared, bell, board, limit, &mut file)
+        }
+        Err(error) => unopened(&error),
+    }
+}
+
+/// Takes the File of this number, at a path, into the archive, and says how it ended.
+fn feed_one<H: Files + AllocGlobal + Clone + Drop + Wait, D: Disk, J: Naming, B: Ends>(
+    rt: &H,
+    shared: &SharedArchive<D, J, H>,
+    bell: &Bell,
+    board: &Board<B>,
     limit: u32,
     number: u64,
     path: String,
-    progress: &Silent,
-) {
-    let fed = match File::open(rt, path.as_str()) {
-        Ok(file) => {
-            let mut file = file;
-            let mut input = Stoppable {
-                rt,
-                board,
-                input: &mut file,
-            };
-            feed_stream(rt, shared, bell, limit, &mut input, progress, 0)
-        }
-        Err(error) => unopened(&error),
-    };
+)
+    // What is said of its end is what feeding it gives.
+    requires { (fed : FedFile) → EndsSo D.Disk J.opening fed → ∥ B.said number fed ∥₁ }
+{
+    let fed = feed_path(rt, shared, bell, board, limit, path.as_str());
     board.end(rt, number, fed);
 }
 
-/// Rolls beside the shell, and answers the first refusal of that, if any.
+/// Rolls beside the shell, and answers the first refusal of that, if any. Reads of a job's sources that fail raise
+/// `faults`.
 fn roll_files<D: Disk, J: Naming, H: Wait>(
     rt: &H,
     alloc: Global,
     shared: &SharedArchive<D, J, H>,
     bell: &Bell,
-) -> Option<ArchiveError> {
-    roll_beside(shared, rt, alloc, bell, &mut Faults::new()).err()
+    faults: &mut Faults<D::Sealed>,
+) -> Option<ArchiveError>
+    ensures { HasCause event.SourceFault faults.old faults.new (answer_by result) }
+{
+    match roll_beside(shared, rt, alloc, bell, faults) {
+        Ok(()) => None,
+        Err(error) => Some(error),
+    }
 }
 
 /// The end of an answer: `done STATUS`.
@@ -187,23 +230,6 @@ fn finish<W: Write>(
     }
 }
 
-/// Writes the lines of the Files that have ended since the last answer.
-fn tell_ended<H: Wait, W: Write>(
-    rt: &H,
-    alloc: Global,
-    board: &Board,
-    output: &mut W,
-) -> Result<(), ArchiveRefusal> {
-    for _ in 0..MOST_FILES {
-        let Some((number, fed)) = board.take_ended(rt) else {
-            return Ok(());
-        };
-        let line = fed_line(alloc, number, fed)?;
-        write_patiently(output, line.as_slice(), &mut Patience::new())?;
-    }
-    Ok(())
-}
-
 /// The line for the File of this number, which is fed from now on.
 fn began_line(alloc: Global, number: u64) -> Result<String, AllocError>
     ensures { IfOk result (λ line. string_bytes line ≡ began_line number) }
@@ -219,6 +245,7 @@ fn begin_feed<
     H: Files + AllocGlobal + Clone + Drop + Threads + Wait + Send + Sync,
     D: Disk + Send,
     J: Naming + Send + Sync,
+    B: Ends + Send + Sync,
     W: Write,
 >(
     scope: &Scope<'s, E>,
@@ -226,16 +253,16 @@ fn begin_feed<
     alloc: Global,
     shared: &'s SharedArchive<D, J, H>,
     bell: &'s Bell,
-    board: &'s Board,
+    board: &'s Board<B>,
     limit: u32,
     path: &str,
-    progress: &'s Silent,
     output: &mut W,
 ) -> Result<(), ArchiveRefusal>
 where
     H::File: Send + Sync,
     H::Dir: Send + Sync,
     D::Sealed: Send + Sync,
+    requires { (number : ℕ) (fed : FedFile) → EndsSo D.Disk J.opening fed → ∥ B.said number fed ∥₁ }
 {
     let Ok(path) = String::from_str(alloc, path) else {
         return answer_text(NO_MEMORY, WITHOUT_MEMORY, output);
@@ -243,7 +270,11 @@ where
     let Some(number) = board.begin(rt) else {
         return answer_text(NO_PLACE, REFUSED, output);
     };
-    match scope.spawn(move || feed_one(rt, shared, bell, board, limit, number, path, progress)) {
+    match scope.spawn(
+        move ||
+            requires { (fed : FedFile) → EndsSo D.Disk J.opening fed → ∥ B.said number fed ∥₁ }
+        { feed_one(rt, shared, bell, board, limit, number, path) },
+    ) {
         Ok(_) => {}
         Err(refused) => (refused.value)(),
     }
@@ -337,6 +368,7 @@ fn serve<
     H: Files + AllocGlobal + Clone + Drop + Threads + Wait + Send + Sync,
     D: Disk + Send,
     J: Naming + Send + Sync,
+    B: Ends + Send + Sync,
     R: Read,
     W: Write,
 >(
@@ -345,17 +377,17 @@ fn serve<
     alloc: Global,
     shared: &'s SharedArchive<D, J, H>,
     bell: &'s Bell,
-    board: &'s Board,
+    board: &'s Board<B>,
     limit: u32,
     asking: &mut Asking<D::Sealed, J>,
     input: &mut R,
     output: &mut W,
-    progress: &'s Silent,
 ) -> Result<End, ArchiveRefusal>
 where
     H::File: Send + Sync,
     H::Dir: Send + Sync,
     D::Sealed: Send + Sync,
+    requires { (number : ℕ) (fed : FedFile) → EndsSo D.Disk J.opening fed → ∥ B.said number fed ∥₁ }
 {
     let Ok(input) = BufReader::new(alloc, input) else {
         return Err(ArchiveRefusal::OutOfMemory);
@@ -387,7 +419,7 @@ where
                 end_answer(DONE, output)?;
             }
             Some(ShellRequest::Feed(file)) => begin_feed(
-                scope, rt, alloc, shared, bell, board, limit, file.path, progress, output,
+                scope, rt, alloc, shared, bell, board, limit, file.path, output,
             )?,
         }
     }
@@ -395,13 +427,17 @@ where
 }
 
 /// Ends the Files that are fed, and writes their lines; and the end of the answer to `quit`.
-fn leave<H: Wait, W: Write>(
+fn leave<B: Ends, H: Wait, W: Write>(
     rt: &H,
     alloc: Global,
-    board: &Board,
+    board: &Board<B>,
     end: End,
     output: &mut W,
 ) -> Result<u8, ArchiveRefusal>
+    ensures status { IfOk result (λ status. status ≡ end_status end) }
+    // The lines of Files that ended so, and what is written at the end.
+    ensures written { OnOk result ((mid : Option (List ℕ)) × HasTold B.said (W.contents output.old) mid
+        × Appends mid (W.contents output.new) (end_text end)) }
     ensures most { IfOk result (λ status. status ≤ 5) }
     ensures other { IfOk result (λ status. status ≢ 2) }
 {
@@ -443,9 +479,8 @@ where
     ensures { IfOk result.0 (λ status. (status ≤ 5) × (status ≢ 2)) }
 {
     let bell = Bell::new(keep);
-    let board = Board::new();
-    let silent = Silent::new(None, false);
-    let (rung, places, progress) = (&bell, &board, &silent);
+    let board: Board<Brand> = Board::new();
+    let (rung, places) = (&bell, &board);
     let alloc = rt.alloc();
     thread::scope(
         thread::scope_env(),
@@ -454,9 +489,15 @@ where
             requires { ⊤ }
             ensures { IfOk result.0 (λ status. (status ≤ 5) × (status ≢ 2)) }
         {
-            let roller = scope.spawn(move || roll_files(rt, alloc, shared, rung));
+            let roller = scope.spawn(move || roll_files(
+                rt,
+                alloc,
+                shared,
+                rung,
+                &mut Faults::new(),
+            ));
             let served = serve(
-                scope, rt, alloc, shared, rung, places, limit, asking, input, output, progress,
+                scope, rt, alloc, shared, rung, places, limit, asking, input, output,
             );
             places.quit(rt);
             places.wait(rt);
@@ -479,6 +520,7 @@ fn ended(
     refused: Option<ArchiveError>,
 ) -> Result<u8, ArchiveRefusal>
     requires { IfOk status (λ status. (status ≤ 5) × (status ≢ 2)) }
+    ensures value { result ≡ shell_ended status refused }
     ensures most { IfOk result (λ status. status ≤ 5) }
     ensures other { IfOk result (λ status. status ≢ 2) }
 {
