@@ -18,7 +18,7 @@ use Rattle.flow_archive.specs.Answers.{Answers, Takes}
 use Rattle.flow_archive.specs.Runs.{IsAfter, IsRun, Leads, StandsForSome}
 use Rattle.flow_archive.specs.Seen.{Seen, IsStep}
 use Rattle.flow_archive.proofs.Running.{all_moments, closed_run}
-use Rattle.flow_headline.specs.Front.{IsPrefix, StopsBetween, all_added}
+use Rattle.flow_headline.specs.Front.{AreMoments, IsPrefix, all_added}
 use Rattle.flow_headline.proofs.Closing.{all_refused, closed_answers}
 use Rattle.flow_headline.proofs.Fronts.{IsNoFault, IsStanding, fault_or, goes_on, one_first, one_more}
 use Rattle.flow_headline.proofs.Growing.{IsGrown, event_adds, has_more, more_then, same_history, sound_of}
@@ -82,11 +82,20 @@ none_begun : (n : ℕ) → AllByRecursion (λ (a : Result Answer ArchiveError). 
 none_begun zero = tt
 none_begun (suc n) = tt
 
-take_fewer : {X : Type 0} (i j : ℕ) (xs : List X) → i ≤ j → take i (take j xs) ≡ take i xs
+pub take_fewer : {X : Type 0} (i j : ℕ) (xs : List X) → i ≤ j → take i (take j xs) ≡ take i xs
 take_fewer zero j xs le = refl
 take_fewer (suc i) zero xs le = absurd (omega (arith, le))
 take_fewer (suc i) (suc j) [] le = refl
 take_fewer (suc i) (suc j) (x ∷ xs) le = ap (λ ys. x ∷ ys) (take_fewer i j xs (omega (arith, le)))
+
+-- the first ones and the others are
+all_closed : (n : ℕ) (answers : List (Result Answer ArchiveError))
+    → AllByRecursion (λ (a : Result Answer ArchiveError). a ≡ Err Closed) (take n answers)
+    → AllByRecursion (λ (a : Result Answer ArchiveError). a ≡ Err Closed) (drop n answers)
+    → AllByRecursion (λ (a : Result Answer ArchiveError). a ≡ Err Closed) answers
+all_closed zero answers first others = others
+all_closed (suc n) [] first others = tt
+all_closed (suc n) (a ∷ answers) first others = (first.0, all_closed n answers first.1 others)
 
 module _ {D S X : Type 0} (disk : Ghosts D S X) where
   abbrev pub IsHere : Seen D → Type 0
@@ -97,16 +106,6 @@ module _ {D S X : Type 0} (disk : Ghosts D S X) where
 
   abbrev pub Leaves : Seen D → Seen D → ((ℕ → List ℕ) → Type 0) → Type 0
   Leaves old new P = LeavesOnly disk old.disk new.disk P
-
-  split : (i : ℕ) (old : Seen D) (events : List Event) (answers : List (Result Answer ArchiveError)) (new : Seen D)
-      → Ran old events answers new → (mid : Seen D) × Ran old (take i events) (take i answers) mid
-      × Ran mid (drop i events) (drop i answers) new
-  split zero old events answers new run = (old, refl, run)
-  split (suc i) old [] [] new run = (old, refl, run)
-  split (suc i) old [] (a ∷ answers) new run = absurd run
-  split (suc i) old (e ∷ events) [] new run = absurd run
-  split (suc i) old (e ∷ events) (a ∷ answers) new run =
-      let rest = split i run.0 events answers new run.3 in (rest.0, (run.0, run.1, run.2, rest.1), rest.2)
 
   pub honest_after : (old : Seen D) (events : List Event) (answers : List (Result Answer ArchiveError)) (new : Seen D)
       → Ran old events answers new → disk.honest new.disk ≡ disk.honest old.disk
@@ -239,87 +238,123 @@ module _ {D S X : Type 0} (disk : Ghosts D S X) where
         (run_of.each image (earlier mid.disk (disk.moment old.disk) image (subst IsTrue (sym step.honest_too) h)
         run_of.later left)))
 
-    -- the archive before event i, and what a stop leaves from then on
-    abbrev IsFrom : ℕ → Seen D → List Event → List (Result Answer ArchiveError) → Seen D → Type 0
-    IsFrom i old events answers new = (mid : Seen D) × Ran old (take i events) (take i answers) mid
-        × Ran mid (drop i events) (drop i answers) new × Leaves mid new (IsImageIn i old.state events answers)
-
-    at_fault : (i : ℕ) (old mid new : Seen D) (e : Event) (events : List Event)
+    -- what a stop leaves from event i on, where a fault closed the archive under the first event
+    at_fault : (i : ℕ) (old mid early new : Seen D) (e : Event) (events : List Event)
         (answers : List (Result Answer ArchiveError))
         → Answers (disk.honest old.disk) old.closed old.state e (Err Fault) mid.state
         → IsStep {T = Answer} disk old mid (Takes true old.state e) (Err Fault)
-        → Ran mid events answers new → IsTrue (disk.honest old.disk) → old.closed ≡ false → IsHere old
-        → IsFrom (suc i) old (e ∷ events) (Err Fault ∷ answers) new
-    at_fault i old mid new e events answers told step run h still here =
+        → Ran mid (take i events) (take i answers) early → Ran early (drop i events) (drop i answers) new
+        → IsTrue (disk.honest old.disk) → old.closed ≡ false → IsHere old
+        → Leaves early new (IsImageIn (suc i) old.state (e ∷ events) (Err Fault ∷ answers))
+    at_fault i old mid early new e events answers told step before after h still here =
         let closed = (step.fault refl).1 in
-        let parts = split i mid events answers new run in
         let P = IsImageIn (suc i) old.state (e ∷ events) (Err Fault ∷ answers) in
-        let first = fault_in i old mid e events answers told step h still here
-        (closed_answers disk mid events answers new run closed) in
-        let last : Leaves mid new P = subst (λ (s : Seen D). Leaves mid s P)
-        (sym (closed_run disk mid events answers new run closed)) first in (
-          parts.0,
-          (mid, told, step, parts.1),
-          parts.2,
-          subst (λ (s : Seen D). Leaves s new P)
-              (sym (closed_run disk mid (take i events) (take i answers) parts.0 parts.1 closed))
-              last,
-        )
+        let first : early ≡ mid = closed_run disk mid (take i events) (take i answers) early before closed in
+        let run : Ran mid (drop i events) (drop i answers) new =
+        subst (λ (s : Seen D). Ran s (drop i events) (drop i answers) new) first after in
+        let last : new ≡ mid = closed_run disk mid (drop i events) (drop i answers) new run closed in
+        let refused = all_closed i answers
+        (closed_answers disk mid (take i events) (take i answers) early before closed)
+        (closed_answers disk mid (drop i events) (drop i answers) new run closed) in
+        subst (λ (s : Seen D). Leaves s new P) (sym first)
+        (subst (λ (s : Seen D). Leaves mid s P) (sym last)
+        (fault_in i old mid e events answers told step h still here refused))
 
-    from_event : (i : ℕ) (old : Seen D) (events : List Event) (answers : List (Result Answer ArchiveError))
-        (new : Seen D) → Ran old events answers new → IsTrue (disk.honest old.disk) → old.closed ≡ false → IsHere old
-        → IsFrom i old events answers new
-    from_event zero old events answers new run h still here =
-        (old, refl, run, any_moment old events answers new run h still here)
-    from_event (suc i) old [] [] new run h still here = (
-      old,
-      refl,
-      run,
-      subst (λ (s : Seen D). Leaves old s (IsImageIn (suc i) old.state [] [])) (sym run)
-          (started disk old.disk (IsImageIn (suc i) old.state [] [])
-          (λ image left. none_in (suc i) old.state [] [] image tt (here.images image left))),
-    )
-    from_event (suc i) old [] (b ∷ answers) new run h still here = absurd run
-    from_event (suc i) old (e ∷ events) [] new run h still here = absurd run
-    from_event (suc i) old (e ∷ events) (a ∷ answers) new run h still here =
-        let mid = run.0 in
+    -- what a stop leaves from event i on
+    from_event : (i : ℕ) (old early : Seen D) (events : List Event) (answers : List (Result Answer ArchiveError))
+        (new : Seen D) → Ran old (take i events) (take i answers) early → Ran early (drop i events) (drop i answers) new
+        → IsTrue (disk.honest old.disk) → old.closed ≡ false → IsHere old
+        → Leaves early new (IsImageIn i old.state events answers)
+    from_event zero old early events answers new before after h still here =
+        subst (λ (s : Seen D). Leaves s new (IsImageIn 0 old.state events answers)) (sym before)
+        (any_moment old events answers new (subst (λ (s : Seen D). Ran s events answers new) before after) h still here)
+    from_event (suc i) old early [] [] new before after h still here =
+        subst (λ (s : Seen D). Leaves s new (IsImageIn (suc i) old.state [] [])) (sym before)
+        (subst (λ (s : Seen D). Leaves old s (IsImageIn (suc i) old.state [] [])) (sym (after ∙ before))
+        (started disk old.disk (IsImageIn (suc i) old.state [] [])
+        (λ image left. none_in (suc i) old.state [] [] image tt (here.images image left))))
+    from_event (suc i) old early [] (b ∷ answers) new before after h still here = absurd before
+    from_event (suc i) old early (e ∷ events) [] new before after h still here = absurd before
+    from_event (suc i) old early (e ∷ events) (a ∷ answers) new before after h still here =
+        let mid = before.0 in
         ⊎_elim
         (λ fault. subst (λ (r : Result Answer ArchiveError).
         Answers (disk.honest old.disk) old.closed old.state e r mid.state
         → IsStep disk old mid (Takes true old.state e) r
-        → IsFrom (suc i) old (e ∷ events) (r ∷ answers) new) (sym fault)
-        (λ told step. at_fault i old mid new e events answers told step run.3 h still here) run.1 run.2)
-        (λ other. let goes = goes_on disk old mid e a run.2 h still other in
-        let h1 = subst IsTrue (sym run.2.honest_too) h in
-        let rest = from_event i mid events answers new run.3 h1 goes.0 (here_after old mid e a run.2 h1 goes.0) in (
-          rest.0,
-          (mid, run.1, run.2, rest.1),
-          rest.2,
-          by disk (rest.0).disk new.disk (IsImageIn i mid.state events answers)
-              (IsImageIn (suc i) old.state (e ∷ events) (a ∷ answers)) rest.3
-              (λ image found. more_in i (suc i) old mid e a events answers image run.1 goes.1 other here
-              (λ n refused. refused) found),
-        ))
+        → Leaves early new (IsImageIn (suc i) old.state (e ∷ events) (r ∷ answers))) (sym fault)
+        (λ told step. at_fault i old mid early new e events answers told step before.3 after h still here)
+        before.1 before.2)
+        (λ other. let goes = goes_on disk old mid e a before.2 h still other in
+        let h1 = subst IsTrue (sym before.2.honest_too) h in
+        by disk early.disk new.disk (IsImageIn i mid.state events answers)
+        (IsImageIn (suc i) old.state (e ∷ events) (a ∷ answers))
+        (from_event i mid early events answers new before.3 after h1 goes.0
+        (here_after old mid e a before.2 h1 goes.0))
+        (λ image found. more_in i (suc i) old mid e a events answers image before.1 goes.1 other here
+        (λ n refused. refused) found))
         (fault_or a)
 
-    pub stops_between : (i j : ℕ) (old : Seen D) (events : List Event) (answers : List (Result Answer ArchiveError))
-        (new : Seen D) → i ≤ j → Ran old events answers new → IsTrue (disk.honest old.disk) → old.closed ≡ false
-        → IsHere old
-        → StopsBetween disk old new events answers i j
-    stops_between i j old events answers new le run h still here =
-        let parts = split j old events answers new run in
-        let late = parts.0 in
-        let found = from_event i old (take j events) (take j answers) late parts.1 h still here in
-        record {
-          early = found.0;
-          late = late;
-          run_before = subst (λ (es : List Event). Ran old es (take i answers) found.0) (take_fewer i j events le)
-              (subst (λ (rs : List (Result Answer ArchiveError)). Ran old (take i (take j events)) rs found.0)
-              (take_fewer i j answers le) found.1);
-          run_between = found.2;
-          run_after = parts.2;
-          leaves = by disk (found.0).disk late.disk (IsImageIn i old.state (take j events) (take j answers))
-              (λ image. (left : State) × IsPrefix old.state (take j events) (take j answers) i left
-              × StandsFor image left) found.3
-              (λ image is. prefix_of i old.state (take j events) (take j answers) image is);
-        }
+    pub prefixes_between : (i j : ℕ) (old early late : Seen D) (events : List Event)
+        (answers : List (Result Answer ArchiveError)) → i ≤ j → Ran old (take i events) (take i answers) early
+        → Ran early (drop i (take j events)) (drop i (take j answers)) late
+        → IsTrue (disk.honest old.disk) → old.closed ≡ false → IsHere old
+        → Leaves early late (λ image. (left : State) × IsPrefix old.state (take j events) (take j answers) i left
+        × StandsFor image left)
+    prefixes_between i j old early late events answers le before between h still here =
+        by disk early.disk late.disk (IsImageIn i old.state (take j events) (take j answers))
+        (λ image. (left : State) × IsPrefix old.state (take j events) (take j answers) i left × StandsFor image left)
+        (from_event i old early (take j events) (take j answers) late
+        (subst (λ (es : List Event). Ran old es (take i (take j answers)) early) (sym (take_fewer i j events le))
+        (subst (λ (rs : List (Result Answer ArchiveError)). Ran old (take i events) rs early)
+        (sym (take_fewer i j answers le)) before))
+        between h still here)
+        (λ image is. prefix_of i old.state (take j events) (take j answers) image is)
+
+  -- ---- the archive when each event begins
+
+  abbrev pub moment_of : (old : Seen D) (events : List Event) (answers : List (Result Answer ArchiveError)) (new : Seen D)
+      → Ran old events answers new → ℕ → Seen D
+  moment_of old events answers new run zero = old
+  moment_of old [] answers new run (suc i) = old
+  moment_of old (e ∷ events) [] new run (suc i) = old
+  moment_of old (e ∷ events) (a ∷ answers) new run (suc i) = moment_of run.0 events answers new run.3 i
+
+  run_before : (i : ℕ) (old : Seen D) (events : List Event) (answers : List (Result Answer ArchiveError))
+      (new : Seen D) (run : Ran old events answers new)
+      → Ran old (take i events) (take i answers) (moment_of old events answers new run i)
+  run_before zero old events answers new run = refl
+  run_before (suc i) old [] [] new run = refl
+  run_before (suc i) old [] (a ∷ answers) new run = absurd run
+  run_before (suc i) old (e ∷ events) [] new run = absurd run
+  run_before (suc i) old (e ∷ events) (a ∷ answers) new run =
+      (run.0, run.1, run.2, run_before i run.0 events answers new run.3)
+
+  run_after : (i : ℕ) (old : Seen D) (events : List Event) (answers : List (Result Answer ArchiveError))
+      (new : Seen D) (run : Ran old events answers new)
+      → Ran (moment_of old events answers new run i) (drop i events) (drop i answers) new
+  run_after zero old events answers new run = run
+  run_after (suc i) old [] [] new run = run
+  run_after (suc i) old [] (a ∷ answers) new run = absurd run
+  run_after (suc i) old (e ∷ events) [] new run = absurd run
+  run_after (suc i) old (e ∷ events) (a ∷ answers) new run = run_after i run.0 events answers new run.3
+
+  run_between : (i j : ℕ) (old : Seen D) (events : List Event) (answers : List (Result Answer ArchiveError))
+      (new : Seen D) (run : Ran old events answers new) → i ≤ j
+      → Ran (moment_of old events answers new run i) (drop i (take j events)) (drop i (take j answers))
+      (moment_of old events answers new run j)
+  run_between zero j old events answers new run le = run_before j old events answers new run
+  run_between (suc i) zero old events answers new run le = absurd (omega (arith, le))
+  run_between (suc i) (suc j) old [] [] new run le = refl
+  run_between (suc i) (suc j) old [] (a ∷ answers) new run le = absurd run
+  run_between (suc i) (suc j) old (e ∷ events) [] new run le = absurd run
+  run_between (suc i) (suc j) old (e ∷ events) (a ∷ answers) new run le =
+      run_between i j run.0 events answers new run.3 (omega (arith, le))
+
+  pub are_moments : (old : Seen D) (events : List Event) (answers : List (Result Answer ArchiveError)) (new : Seen D)
+      (run : Ran old events answers new)
+      → AreMoments disk old new events answers (moment_of old events answers new run)
+  are_moments old events answers new run = record {
+    before = λ i. run_before i old events answers new run;
+    between = λ i j le. run_between i j old events answers new run le;
+    after = λ i. run_after i old events answers new run;
+  }

@@ -4,3 +4,9 @@ mod Fronts
 mod Between
 mod Stopping
 mod Telling
+mod OneState
+mod JobFiles
+mod TwoStates
+mod Opened
+mod Living
+mod Listening

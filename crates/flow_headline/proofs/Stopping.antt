@@ -1,13 +1,13 @@
 -- What a stop leaves of a disk in memory.
-use Rattle.std.proofs.Common.{◌≡◌, ℕ, true, false, IsTrue, List, Result, refl, subst, arith}
-use Rattle.flow_disk.specs.Disk.{AllImages, IsDiskImage}
+use Rattle.std.proofs.Common.{◌≡◌, ℕ, ◌≤◌, true, false, IsTrue, List, Result, refl, sym, ◌∙◌, ap, subst, arith}
+use Rattle.flow_disk.specs.Disk.{AllImages, IsDiskImage, IsImage}
 use Rattle.flow_manifest.specs.Slots.{reads_of}
 use Rattle.flow_memory_disk.specs.declared.choice.Choice.{Choice}
 use Rattle.flow_memory_disk.specs.declared.disk.MemoryDisk.{MemoryDisk}
 use Rattle.flow_memory_disk.specs.Calls.{Story, held_of}
 use Rattle.flow_memory_disk.specs.Memory.{left_of, moment_of, story_of}
-use Rattle.flow_memory_disk.specs.Sound.{now_alone, now_counts, sound}
-use Rattle.flow_memory_disk.specs.Stopped.{stopped}
+use Rattle.flow_memory_disk.specs.Sound.{now_alone, now_counts, settled_one, sound}
+use Rattle.flow_memory_disk.specs.Stopped.{image_of, stopped}
 use Rattle.flow_memory_disk.specs.Stopping.{CanCrash}
 use Rattle.flow_model.specs.State.{State, reopened}
 use Rattle.flow_model.specs.Standing.{StandsFor}
@@ -16,7 +16,8 @@ use Rattle.flow_archive.specs.declared.event.Event.{Event}
 use Rattle.flow_archive.specs.declared.refusal.ArchiveError.{ArchiveError}
 use Rattle.flow_archive.specs.Seen.{Seen}
 use Rattle.flow_headline.specs.Front.{IsFront}
-use Rattle.flow_headline.specs.Machine.{fused_disk, Fused, IsFusedRun, IsStoppedRun}
+use Rattle.flow_headline.specs.Machine.{fused_disk, Fused, IsFusedRun, IsStoppedRun, memory_disk}
+use Rattle.flow_headline.specs.Openings.{IsLeftBy}
 use Rattle.flow_headline.proofs.Fronts.{front_of, image_of_run}
 
 -- what it reads as is an image of it
@@ -54,3 +55,18 @@ left_by_stop old new events answers choice after run still stands fits image sto
       },
       found.stands,
     )
+
+-- what a stop leaves by a choice is a disk that a stop leaves
+pub left_by_choice : (disk left : MemoryDisk) (choice : Choice) → story_of left ≡ stopped (story_of disk) choice
+    → IsDiskImage (held_of (story_of disk)) (λ n. (held_of (story_of left) n).reads)
+    → ((n : ℕ) → ((story_of left).marks n).frozen ≡ false) → (early : MemoryDisk) → moment_of early ≤ moment_of disk
+    → IsLeftBy memory_disk early disk left
+left_by_choice disk left choice story reads thawed early le = record {
+  honest = refl;
+  thawed = thawed;
+  images = λ image is. now_counts (story_of disk) (moment_of early) image le (λ n.
+      let own = image_of choice (held_of (story_of disk) n) in
+      let one : image n ≡ own = settled_one own (image n)
+      (subst (λ (s : Story). IsImage (held_of s n) (image n)) story (is n)) in
+      subst (IsImage (held_of (story_of disk) n)) (ap (λ (s : Story). (held_of s n).reads) story ∙ sym one) (reads n));
+}

@@ -125,14 +125,18 @@ pub record IsPrefix (s : State) (events : List Event) (answers : List (Result An
   pub history : (h : History) → HasHistory s h
       → HasMore h (all_added (take taken events) (take taken answers)) left
 
--- Of a run of events, each counted from 0: a stop at any moment from the one on at which event i begins, and before
--- event j begins, leaves a prefix of the first j events, with all that were acknowledged of the first i.
+-- The archive when event i (from 0) of a run begins, which is when the one before it was answered; for each i from their
+-- count on, when the last one was.
+pub record AreMoments {D S X : Type 0} (g : Ghosts D S X) (old new : Seen D) (events : List Event)
+    (answers : List (Result Answer ArchiveError)) (at : ℕ → Seen D) : Type 0 where
+  pub before : (i : ℕ) → IsRun g old (take i events) (take i answers) (at i)
+  pub between : (i j : ℕ) → i ≤ j → IsRun g (at i) (drop i (take j events)) (drop i (take j answers)) (at j)
+  pub after : (i : ℕ) → IsRun g (at i) (drop i events) (drop i answers) new
+
+-- With the archive of each moment: a stop at any moment from the one on at which event i begins, and before event j
+-- does, leaves a prefix of the first j events, with all that were acknowledged of the first i.
 pub record StopsBetween {D S X : Type 0} (g : Ghosts D S X) (old new : Seen D) (events : List Event)
-    (answers : List (Result Answer ArchiveError)) (i j : ℕ) : Type 0 where
-  pub early : Seen D
-  pub late : Seen D
-  pub run_before : IsRun g old (take i events) (take i answers) early
-  pub run_between : IsRun g early (drop i (take j events)) (drop i (take j answers)) late
-  pub run_after : IsRun g late (drop j events) (drop j answers) new
-  pub leaves : LeavesOnly g early.disk late.disk (λ image. (left : State)
+    (answers : List (Result Answer ArchiveError)) (at : ℕ → Seen D) : Type 0 where
+  pub moments : AreMoments g old new events answers at
+  pub leaves : (i j : ℕ) → i ≤ j → LeavesOnly g (at i).disk (at j).disk (λ image. (left : State)
       × IsPrefix old.state (take j events) (take j answers) i left × StandsFor image left)

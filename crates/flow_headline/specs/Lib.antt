@@ -1,3 +1,6 @@
 pub mod Front
+pub mod Heard
+pub mod Lives
 pub mod Machine
+pub mod Openings
 pub mod Printed

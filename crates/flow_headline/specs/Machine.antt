@@ -33,6 +33,17 @@ use Rattle.flow_headline.specs.declared.error.TotalsRefusal.{TotalsRefusal}
 use Rattle.flow_headline.specs.declared.error.TotalsRefusal.TheVariants.{NotOpened, NotAnswered}
 use Rattle.flow_headline.specs.Front.{IsFront, grown}
 
+-- What a disk in memory keeps: it is honest.
+abbrev pub memory_disk : Ghosts MemoryDisk MemorySealed Infallible
+memory_disk = record {
+  honest = λ disk. true;
+  marks = λ disk. (story_of disk).marks;
+  held = λ disk. held_of (story_of disk);
+  moment = λ disk. moment_of disk;
+  left_since = λ disk. left_of disk;
+  faults = λ disk. disk.faults;
+}
+
 -- a disk in memory that fails from some call on
 abbrev pub Fused : Type 0
 Fused = FailingDisk MemoryDisk Fuse MemorySealed Infallible

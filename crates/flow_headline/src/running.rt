@@ -1,10 +1,11 @@
 //! Events on any disk, and what a stop leaves of them.
 
-ghost use Rattle.std.specs.Prelude.{◌≡◌, ◌≤◌, ℕ, false, All, IfErr, IfOk, IsTrue, MatchResult};
+ghost use Rattle.std.specs.Prelude.{◌≡◌, ℕ, false, All, IfErr, IfOk, IsTrue, MatchResult};
 ghost use Rattle.flow_disk.specs.Disk.{AllImages};
 ghost use Rattle.flow_disk.specs.Calls.{LeavesOnly};
 ghost use Rattle.flow_model.specs.State.{State};
 ghost use Rattle.flow_model.specs.Standing.{StandsFor};
+ghost use Rattle.flow_archive.specs.Seen.{Seen};
 ghost use Rattle.flow_archive.specs.Runs.{AreCaused, IsEvent, IsRun, IsSince, StandsForSome};
 ghost use Rattle.flow_headline.specs.Front.{EndsAtFault, IsFront, StopsBetween};
 
@@ -34,12 +35,12 @@ pub fn run_on_disk<D: Disk>(
         (StandsForSome archive.old.state events.now answers.items)) }
     ensures since { IsTrue (D.honest archive.old.disk) → archive.old.closed ≡ false
         → IfOk result (λ answers. (i : ℕ) → IsSince D.Disk archive.old archive.new events.now answers.items i) }
-    // A stop at any moment, since event i began and before event j does, leaves a prefix of the first j events, with
-    // all that were acknowledged of the first i: so all that were before the stop, and at most the one under way
-    // besides.
+    // There is an archive of the moment at which each event began, and for all of them: a stop since event i began, and
+    // before event j did, leaves a prefix of the first j events, with all that were acknowledged of the first i: so all
+    // that were before the stop, and at most the one under way besides.
     ensures between { IsTrue (D.honest archive.old.disk) → archive.old.closed ≡ false
-        → IfOk result (λ answers. (i j : ℕ) → i ≤ j
-        → StopsBetween D.Disk archive.old archive.new events.now answers.items i j) }
+        → IfOk result (λ answers. (at : ℕ → Seen D)
+        × StopsBetween D.Disk archive.old archive.new events.now answers.items at) }
     // A stop after all events leaves a prefix of them, with all that were acknowledged.
     ensures left { IsTrue (D.honest archive.old.disk) → archive.old.closed ≡ false
         → IfOk result (λ answers. AllImages (D.held archive.new.disk) (λ image. (left : State)
