@@ -1,0 +1,5 @@
+mod Making
+mod Stepped
+mod Turning
+mod Calling
+mod Chaining
