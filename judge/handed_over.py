@@ -4,6 +4,10 @@ without the kit:
 
 - `./flowvault` unpacks the released program and runs it, within 2 seconds; a second call only runs it; where one octet
   of a source, or of a file of release/, is changed, it doesn't run it, and says so;
+- `./flowvault --prove` proves and builds the program by one call of `rt ci`, in a copy of the crates that it uses and
+  no others, and takes over what was built; it says which crate isn't proved, and ends rt then; however it is ended,
+  nothing half made and no process is left; a program whose sources are changed meanwhile isn't run as one of these (all
+  with a script in the place of rt);
 - `./renew-release` makes a release of programs that stand for the built ones, twice the same, and none where one isn't
   built, or a source was changed since;
 - `./package` makes the same packages twice; each is unpacked, and cases are played on the program in it. (The .deb only
@@ -14,6 +18,7 @@ import filecmp
 import glob
 import os
 import shutil
+import signal
 import subprocess
 import sys
 import tempfile
@@ -25,7 +30,45 @@ CASES = "cases/messages.txt"
 SECONDS = 2
 
 # A program in the place of the built ones: it prints the version that it was built with.
-STAND_IN = "#!/bin/sh\necho 'flowvault 1.0.0 (sources %s)'\n"
+STAND_IN = "#!/bin/sh\necho 'flowvault 1.0.1 (sources %s)'\n"
+
+# A script in the place of the kit's rt: it notes how it was called, and in what, begins two crates and proves one. Then
+# it does what the file `does` beside it has, while a process of its own runs.
+RT = r"""#!/bin/sh
+here=$(dirname "$0")
+{
+    echo "rt $* by $RT_JOBS"
+    echo crates/*
+    sed 's/:.*//' crates.txt | LC_ALL=C sort | tr '\n' ' '
+    ls -d .git HANDLES crates/*/out crates/*/edits crates/flow_cli/stdout 2>/dev/null
+} >>"$here/calls"
+[ "$*" = ci ] || exit 2
+mkdir crates/flow_disk/out crates/flow_codec/out
+printf '== flow_disk\nnote: no error of flow_disk\nrt: flow_disk proved\n'
+sleep 300 &
+echo $! >"$here/beside"
+# (as all that rt started ends with it)
+(while kill -0 $$ 2>/dev/null; do sleep 0.1; done; kill "$(cat "$here/beside")") &
+. "$here/does"
+"""
+
+# What it does where all is proved; where a crate isn't; and where that takes long.
+PROVED = """mkdir -p crates/flow_cli/out && cp "$here/built" crates/flow_cli/out/flow_cli
+printf 'rt: flow_cli proved\n26 passed, 0 failed\n'
+"""
+NOT_PROVED = """printf '== flow_codec\nfn flow_codec::window::next: no proof\nrt: flow_codec NOT PROVED\n'
+exec sleep 100
+"""
+LONG = "exec sleep 100\n"
+
+# By which signals a process is ended.
+SIGNALS = (signal.SIGHUP, signal.SIGINT, signal.SIGPIPE, signal.SIGTERM)
+
+
+def heed_signals():
+    """Has a process end by these signals, also where whoever runs this ignores them."""
+    for it in SIGNALS:
+        signal.signal(it, signal.SIG_DFL)
 
 
 def without_work(folder, names):
@@ -130,6 +173,116 @@ class Trial:
         shutil.rmtree(self.path("release"))
         self.compare("no release", (125, ""), self.measured()[:2])
 
+    # -- ./flowvault --prove --
+
+    def proves(self, does):
+        """Has the script in the place of rt do this, and nothing built."""
+        shutil.rmtree(self.path("built"), ignore_errors=True)
+        self.write("kit/does", does)
+        self.write("kit/calls", "")
+
+    def begun(self, *words):
+        """A call of ./flowvault by that script, and what it printed, once it ends."""
+        more = {**self.environment, "RT": self.path("kit", "rt"), "TMPDIR": self.path("kit", "tmp")}
+        more.pop("RT_JOBS", None)
+        with open("examples/plain.ipfix", "rb") as file:
+            return subprocess.Popen(["./flowvault", *words], cwd=self.top, env=more, stdin=file, text=True,
+                                    stdout=subprocess.PIPE, stderr=subprocess.PIPE, preexec_fn=heed_signals)
+
+    def proved(self):
+        """What `./flowvault --prove measure 300` answers, on the sample."""
+        call = self.begun("--prove", "measure", "300")
+        out, err = call.communicate(timeout=120)
+        return call.returncode, out, err
+
+    def text(self, *names):
+        with open(self.path(*names)) as file:
+            return file.read()
+
+    def nothing_left(self, what):
+        """Holds that no copy, nothing half made and no process is left, soon."""
+        found = None
+        for _ in range(50):
+            names = os.listdir(self.path("kit", "tmp")) + [it for it in os.listdir(self.path("built")) if "." in it]
+            found = names + [it for it in (self.text("kit", "beside").strip(),) if os.path.exists("/proc/" + it)]
+            if not found:
+                break
+            time.sleep(0.2)
+        self.compare(what + ": what is left", [], found)
+
+    def prove(self):
+        self.release()
+        for names in (("kit", "tmp"), ("crates", "flow_disk", "out"), ("crates", "flow_disk", "edits")):
+            os.makedirs(self.path(*names))
+        self.write("kit/rt", RT)
+        os.chmod(self.path("kit", "rt"), 0o755)
+        shutil.copy(self.program, self.path("kit", "built"))
+        self.prove_well()
+        self.prove_badly()
+        self.prove_and_end()
+        self.prove_what_changes()
+
+    def prove_well(self):
+        self.proves(PROVED)
+        status, out, err = self.proved()
+        crates = sorted(self.ran("judge/sources.sh", "--crates", "flow_cli").stdout.split())
+        words = (int(self.ran("judge/lanes.py").stdout), " ".join("crates/" + it for it in crates), " ".join(crates))
+        calls = "rt ci by %d\n%s\n%s .git\nHANDLES\ncrates/flow_cli/stdout\n" % words
+        self.compare("--prove", (0, LINE), (status, out))
+        self.compare("one call of rt", calls, self.text("kit", "calls"))
+        self.compare("--prove says of octets", True, "flowvault: its octets are those of release/\n" in err)
+        self.nothing_left("--prove")
+        self.compare("the call after --prove", (0, LINE, ""), self.again())
+        self.write("kit/built", STAND_IN % ("0" * 12))
+        os.chmod(self.path("kit", "built"), 0o755)
+        self.compare("other octets", True, "its octets aren't those of release/" in self.proved()[2])
+        shutil.copy(self.program, self.path("kit", "built"))
+
+    def prove_badly(self):
+        self.proves(NOT_PROVED)
+        began = time.monotonic()
+        status, out, err = self.proved()
+        self.compare("not proved", (125, ""), (status, out))
+        self.compare("it isn't waited for others", True, time.monotonic() - began < 90)
+        why = "the crate flow_codec isn't proved:\n    fn flow_codec::window::next: no proof\n"
+        self.compare("the reason is shown", True, why in err and "no error of flow_disk" not in err)
+        self.compare("all is in built/log", True, "flow_disk proved" in self.text("built", "log"))
+        self.nothing_left("not proved")
+        self.proves("exit 2\n")
+        self.compare("rt stops", 125, self.proved()[0])
+        self.nothing_left("rt stops")
+
+    def prove_and_end(self):
+        for number in (signal.SIGKILL, *SIGNALS):
+            self.proves(LONG)
+            call = self.begun("--prove", "measure", "300")
+            for _ in range(600):
+                if self.text("kit", "calls").endswith("stdout\n"):
+                    break
+                time.sleep(0.1)
+            time.sleep(0.2)
+            call.send_signal(number)
+            err = call.communicate(timeout=60)[1]
+            self.compare(number.name, (-number, True), (call.returncode, "0 of " in err or "1 of " in err))
+            self.nothing_left(number.name)
+        self.proves(LONG)
+        call = self.begun("--prove", "measure", "300")
+        call.stderr.close()
+        self.compare("nobody reads what it says", -signal.SIGPIPE, call.wait(timeout=60))
+        self.nothing_left("nobody reads what it says")
+
+    def prove_what_changes(self):
+        """A source that is changed while all is proved: the program isn't of these sources then."""
+        path = "crates/flow_codec/src/window.rt"
+        self.proves("printf ' ' >>\"$here/../%s\"\n%s" % (path, PROVED))
+        was = self.text(path)
+        self.proved()
+        self.write("kit/does", "exit 2\n")
+        call = self.begun("measure", "300")
+        call.communicate(timeout=120)
+        self.compare("a source that is changed meanwhile", 125, call.returncode)
+        self.write(path, was)
+
     # -- ./renew-release --
 
     def renewed(self):
@@ -208,6 +361,7 @@ def main(program):
     with tempfile.TemporaryDirectory() as place:
         trial = Trial(program, place)
         trial.run_at_once()
+        trial.prove()
         trial.package()
         trial.renew()
     for line in trial.found:
