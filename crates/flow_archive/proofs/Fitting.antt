@@ -15,7 +15,7 @@ use Rattle.flow_measure.proofs.ViewLaws.{flows-append}
 use Rattle.flow_segment.specs.Carry.{Carry}
 use Rattle.flow_segment.proofs.FewMessages.{few_fit_behind}
 use Rattle.flow_segment.proofs.FlowsFit.{messages_fit}
-use Rattle.flow_snapshot.specs.Totals.{IsWithinLimits}
+use Rattle.flow_snapshot.specs.Totals.{IsWithinHistoryLimits}
 use Rattle.flow_model.proofs.Accepting.{accepted_first, accepted_rest}
 use Rattle.flow_model.specs.Chain.{HandsOn}
 use Rattle.flow_model.specs.Jobs.{cut_before, source_parts, width_made, IsJobSum}
@@ -32,7 +32,7 @@ fit_in_two : (xs ys : List Flow) → AllByRecursion FlowFits (xs ++ ys)
 fit_in_two [] ys fit = (tt, fit)
 fit_in_two (x ∷ xs) ys fit = let more = fit_in_two xs ys fit.1 in ((fit.0, more.0), more.1)
 
-fit_between : (h : History) → IsHistory h → IsWithinLimits h → (width from count : ℕ)
+fit_between : (h : History) → IsHistory h → IsWithinHistoryLimits h → (width from count : ℕ)
     → AllFit (table_of width (flows_in (take count (drop from h.all))))
 fit_between h is within width from count =
     let front = take from h.all in
@@ -53,7 +53,7 @@ fit_between h is within width from count =
 
 module _ (s : State) (c : Carry) (h : History) (valid : IsValidManifest s.manifest) (hands : HandsOn s c)
     (image : ℕ → List ℕ) (stand : PartsStand image (front_of s.manifest) s.parts) (has : HasHistory s h)
-    (within : IsWithinLimits h) (kind : JobKind) (sources read : ℕ) (staged : Option StagedFile)
+    (within : IsWithinHistoryLimits h) (kind : JobKind) (sources read : ℕ) (staged : Option StagedFile)
     (few : sources ≤ count_of (source_of kind) s.manifest.entries) (lt : read < sources) where
   never_spent : IsSpent s (record { kind = kind; sources = sources; read = read; staged = staged }) → ⊥
   never_spent (table, sum, spent) =

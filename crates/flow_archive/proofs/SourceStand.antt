@@ -30,7 +30,7 @@ use Rattle.flow_archive.specs.declared.refusal.ArchiveError.TheVariants as refus
 use Rattle.flow_refusals.specs.declared.sum_refusal.SumRefusal.{SumRefusal}
 use Rattle.flow_refusals.specs.declared.sum_refusal.SumRefusal.TheVariants as source
 use Rattle.flow_archive.specs.Advancing.{IsTaken, IsTakenIn}
-use Rattle.flow_archive.specs.JobAnswers.{left_of, stepped, AnswersStep, HasJob, IsFirstFile, IsNextFile}
+use Rattle.flow_archive.specs.JobAnswers.{sources_left, stepped, AnswersStep, HasJob, IsFirstFile, IsNextFile}
 use Rattle.flow_archive.specs.Seen.{IsArchive}
 use Rattle.flow_archive.specs.Sources.{of_source, IsJobTime, IsSource}
 use Rattle.flow_archive.specs.UnderWay.{FrozenStaged, RunningJob, job_in, staged_in, IsRunningJob, IsStaged}
@@ -223,7 +223,7 @@ taken_rolling honest s old new is lt (same, width) sums =
 -- ---- what is answered
 
 pub at_end : (s : State) (j : RunningJob) → s.job ≡ job_in (Some j) → j.read ≡ j.sources
-    → HasJob s (λ job. (0 ≡ left_of (stepped job))
+    → HasJob s (λ job. (0 ≡ sources_left (stepped job))
     × (record s { job = job_in (Some j) } ≡ record s { job = Some (stepped job) }))
 at_end s j is end = (
   record { kind = j.kind; sources = j.sources; read = j.read; staged = staged_in j.staged },
@@ -237,7 +237,7 @@ at_end s j is end = (
 )
 
 pub one_less : (s : State) (j new : RunningJob) → s.job ≡ job_in (Some j) → j.read < j.sources → IsTaken j new
-    → HasJob s (λ job. (new.sources - new.read ≡ left_of (stepped job))
+    → HasJob s (λ job. (new.sources - new.read ≡ sources_left (stepped job))
     × (record s { job = job_in (Some new) } ≡ record s { job = Some (stepped job) }))
 one_less s j new is lt (same, width) =
     let next : j.read + 1 ≡ min (j.read + 1) j.sources = omega (arith, lt) in (

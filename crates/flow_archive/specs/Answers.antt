@@ -40,8 +40,8 @@ IsNotAdmitted octets carry room positions e = ⊥
 -- ---- numbers
 
 -- how many messages an archive has, rolled and kept: the number of the last one
-abbrev pub position_of : State → ℕ
-position_of s = messages_of s.manifest.entries + length s.active.messages
+abbrev pub archive_position : State → ℕ
+archive_position s = messages_of s.manifest.entries + length s.active.messages
 
 -- so many octets more are within the limit of the active segment
 abbrev pub HasRoom : State → ℕ → Type 0
@@ -49,7 +49,7 @@ HasRoom s octets = octet_sum s.active.messages + octets ≤ s.manifest.limit
 
 -- and so many messages within that of all
 abbrev pub HasPositions : State → ℕ → Type 0
-HasPositions s count = position_of s + count < too_many_messages
+HasPositions s count = archive_position s + count < too_many_messages
 
 -- a file that is staged will take a generation
 abbrev pub staged_generations : Option StagedFile → ℕ
@@ -84,7 +84,7 @@ pub record MayAppend (s : State) (octets : List (List ℕ)) : Type 0 where
 -- 49 it may be 11, in place of an Ok 30.
 abbrev pub AnswersAppend : Bool → State → List (List ℕ) → Result ℕ ArchiveError → State → Type 0
 AnswersAppend closed s octets (Ok position) after =
-    (closed ≡ false) × MayAppend s octets × (after ≡ appended s octets) × (position ≡ position_of after)
+    (closed ≡ false) × MayAppend s octets × (after ≡ appended s octets) × (position ≡ archive_position after)
 AnswersAppend closed s octets (Err Closed) after = (closed ≡ true) × (after ≡ s)
 AnswersAppend closed s octets (Err (Message fault)) after =
     (closed ≡ false) × IsRefused s octets fault × (after ≡ s)

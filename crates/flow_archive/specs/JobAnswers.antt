@@ -41,8 +41,8 @@ AnswersBegin closed s kind count other after = ⊥
 -- ---- one source more is read
 
 -- so many sources are left to be read
-abbrev pub left_of : Job → ℕ
-left_of job = job.sources - job.read
+abbrev pub sources_left : Job → ℕ
+sources_left job = job.sources - job.read
 
 -- one source more is read, where one is left
 abbrev pub stepped : Job → Job
@@ -83,17 +83,17 @@ IsStepped s after = HasJob s (λ job. after ≡ record s { job = Some (stepped j
 abbrev pub AnswersStep : Bool → Bool → State → Result ℕ ArchiveError → State → Type 0
 AnswersStep honest closed s (Ok left) after =
     (closed ≡ false)
-    × HasJob s (λ job. (left ≡ left_of (stepped job)) × (after ≡ record s { job = Some (stepped job) }))
+    × HasJob s (λ job. (left ≡ sources_left (stepped job)) × (after ≡ record s { job = Some (stepped job) }))
 AnswersStep honest closed s (Err Closed) after = (closed ≡ true) × (after ≡ s)
 AnswersStep honest closed s (Err NoRoll) after = (closed ≡ false) × (s.job ≡ None) × (after ≡ s)
 AnswersStep honest closed s (Err (Damaged file at)) after =
     (closed ≡ false)
-    × HasJob s (λ job. (1 ≤ left_of job) × IsStepDamage honest s job file at)
+    × HasJob s (λ job. (1 ≤ sources_left job) × IsStepDamage honest s job file at)
     × (after ≡ s)
 AnswersStep honest closed s (Err SourceFault) after =
-    (closed ≡ false) × HasJob s (λ job. 1 ≤ left_of job) × (after ≡ s)
+    (closed ≡ false) × HasJob s (λ job. 1 ≤ sources_left job) × (after ≡ s)
 AnswersStep honest closed s (Err OutOfMemory) after =
-    (closed ≡ false) × HasJob s (λ job. 1 ≤ left_of job) × (after ≡ s)
+    (closed ≡ false) × HasJob s (λ job. 1 ≤ sources_left job) × (after ≡ s)
 AnswersStep honest closed s other after = ⊥
 
 -- ---- the file is made
@@ -111,7 +111,7 @@ HasStagedNumbers s = (s.next + 1 < 2 ^ 64) × (s.manifest.generation + 1 < 2 ^ 6
 
 -- nothing speaks against it: all sources are read, and the file isn't made yet
 pub record MayWrite (s : State) (job : Job) : Type 0 where
-  pub read : left_of job ≡ 0
+  pub read : sources_left job ≡ 0
   pub none : job.staged ≡ None
   pub numbers : HasStagedNumbers s
 
@@ -130,7 +130,7 @@ IsStagedIn honest s job None after =
     × ((octets : List ℕ) × (IsTrue honest → IsJobFile s job octets) × (after ≡ with_staged s job octets))
 
 abbrev pub IsWritten : Bool → State → State → Type 0
-IsWritten honest s after = HasJob s (λ job. (left_of job ≡ 0) × IsStagedIn honest s job job.staged after)
+IsWritten honest s after = HasJob s (λ job. (sources_left job ≡ 0) × IsStagedIn honest s job job.staged after)
 
 -- The file is made, or was made before, which changes nothing; or the first of the refusals 49, 44, 46, 25 that holds.
 -- In place of any but 49 it may be 11 where no file was made before, in place of an Ok 30.
@@ -139,9 +139,9 @@ AnswersWrite honest closed s (Ok x) after = (closed ≡ false) × IsWritten hone
 AnswersWrite honest closed s (Err Closed) after = (closed ≡ true) × (after ≡ s)
 AnswersWrite honest closed s (Err NoRoll) after = (closed ≡ false) × (s.job ≡ None) × (after ≡ s)
 AnswersWrite honest closed s (Err RollNotDone) after =
-    (closed ≡ false) × HasJob s (λ job. 1 ≤ left_of job) × (after ≡ s)
+    (closed ≡ false) × HasJob s (λ job. 1 ≤ sources_left job) × (after ≡ s)
 AnswersWrite honest closed s (Err NumbersSpent) after =
-    (closed ≡ false) × HasJob s (λ job. (left_of job ≡ 0) × (job.staged ≡ None)) × (HasStagedNumbers s → ⊥)
+    (closed ≡ false) × HasJob s (λ job. (sources_left job ≡ 0) × (job.staged ≡ None)) × (HasStagedNumbers s → ⊥)
     × (after ≡ s)
 AnswersWrite honest closed s (Err OutOfMemory) after = (closed ≡ false) × HasJob s (MayWrite s) × (after ≡ s)
 AnswersWrite honest closed s (Err Fault) after = (closed ≡ false) × HasJob s (MayWrite s) × (after ≡ s)

@@ -8,10 +8,10 @@ ghost use Rattle.flow_manifest.specs.Manifest.{IsValidManifest};
 ghost use Rattle.flow_model.specs.Shelved.{shelf_of};
 ghost use Rattle.flow_model.specs.State.{end_of, reopened};
 ghost use Rattle.flow_model.specs.Standing.{StandsFor};
-ghost use Rattle.flow_archive.specs.Answers.{HasRoom, position_of};
+ghost use Rattle.flow_archive.specs.Answers.{HasRoom, archive_position};
 ghost use Rattle.flow_archive.specs.Seen.{Seen};
 ghost use Rattle.flow_archive.specs.UnderWay.{status_of};
-ghost use Rattle.flow_model.specs.Shelf as shelf;
+ghost use Rattle.flow_model.specs.Shelf.{position_of};
 
 use crate::frozen::FrozenFile;
 use crate::job::{JobStatus, RunningJob, status};
@@ -74,7 +74,7 @@ impl<D: Disk> Archive<D> {
         ensures valid { IsValidManifest self.now.state.manifest }
         // Each file but the active one has its part, and its files have as many messages as its numbers say.
         ensures parts { length self.now.state.parts ≡ length (front_of self.now.state.manifest) }
-        ensures counted { shelf.position_of (shelf_of self.now.state) ≡ position_of self.now.state }
+        ensures counted { position_of (shelf_of self.now.state) ≡ archive_position self.now.state }
     {
         self.closed
     }
@@ -137,7 +137,7 @@ impl<D: Disk> Archive<D> {
 
     /// How many messages it has in all, those in sums too.
     pub fn position(&self) -> u64
-        ensures { result ≡ position_of self.now.state }
+        ensures { result ≡ archive_position self.now.state }
     {
         self.total
     }

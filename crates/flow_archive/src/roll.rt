@@ -6,7 +6,7 @@ ghost use Rattle.flow_disk.specs.Cause.{HasCause, FailsOnlyByFault};
 ghost use Rattle.flow_manifest.specs.declared.following.JobKind.TheVariants.{Merge, Roll};
 ghost use Rattle.flow_manifest.specs.declared.manifest.Manifest.{Manifest};
 ghost use Rattle.flow_measure.specs.History.{History};
-ghost use Rattle.flow_snapshot.specs.Totals.{IsWithinLimits};
+ghost use Rattle.flow_snapshot.specs.Totals.{IsWithinHistoryLimits};
 ghost use Rattle.flow_model.specs.Jobs.{width_made, IsJobSum};
 ghost use Rattle.flow_model.specs.Shelved.{HasHistory};
 ghost use Rattle.flow_model.specs.State.{Part};
@@ -70,7 +70,8 @@ impl<D: Disk> Archive<D> {
         ensures step { IsStep D.Disk self.old self.new (λ after. IsStepped self.old.state after) result }
         ensures unread { HasCause ArchiveError.SourceFault faults.old faults.new result }
         // On an honest disk 20 never comes where the archive has a history within the limits.
-        ensures fits { IsTrue (D.honest self.old.disk) → (h : History) → HasHistory self.old.state h → IsWithinLimits h
+        ensures fits { IsTrue (D.honest self.old.disk) → (h : History) → HasHistory self.old.state h
+            → IsWithinHistoryLimits h
             → (file at : ℕ) → result ≢ Err (ArchiveError.Damaged file at) }
     {
         if self.closed {

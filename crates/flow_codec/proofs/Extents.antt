@@ -15,7 +15,7 @@ use Rattle.flow_codec.specs.declared.error.MessageError.TheVariants.{RecordCut}
 use Rattle.flow_codec.specs.declared.plan.Role.{Role}
 use Rattle.flow_codec.specs.declared.plan.FieldStep.{FieldStep}
 use Rattle.flow_codec.specs.declared.plan.FieldStep.TheVariants.{Skip, Fixed, Variable}
-use Rattle.flow_codec.specs.Layout.{least}
+use Rattle.flow_codec.specs.Layout.{least_length}
 use Rattle.flow_codec.specs.Plan.{role_of, is_counted, step_of, fixed_step, steps_of, before_steps}
 use Rattle.flow_codec.specs.Reading.{◌>>=◌, behind, number_at, octets_at, counted_at, field_at, extent_at}
 use Rattle.flow_codec.specs.Extent.{step_at, extent_by}
@@ -177,7 +177,7 @@ by_steps at (f ∷ fs) octets =
 
 -- definitions of fixed lengths alone
 pub all_fixed : (at : ℕ) (fs : List (ElementId × ℕ)) (octets : List ℕ) → list_all (λ f. nat_lt f.1 65535) fs ≡ true
-    → octets_at at (sum_by (λ f. least f.1) fs) octets ≡ extent_at at fs octets
+    → octets_at at (sum_by (λ f. least_length f.1) fs) octets ≡ extent_at at fs octets
 unfolding extent_at
 all_fixed at [] octets h =
     let none : ltb (length octets) 0 ≡ false = le-ltb _ _ (omega arith) in
@@ -185,10 +185,11 @@ all_fixed at [] octets h =
 all_fixed at (f ∷ fs) octets h =
     let both = and_both (ltb f.1 65535) (list_all (λ f. nat_lt f.1 65535) fs) h in
     let short : eqb f.1 65535 ≡ false = ne_eqb f.1 65535 (λ e. absurd (omega (arith, e, ltb-true _ _ both.0))) in
-    let sum : sum_by (λ f. least f.1) (f ∷ fs) ≡ f.1 + sum_by (λ f. least f.1) fs = sum_by-cons (λ f. least f.1) f fs
+    let sum : sum_by (λ f. least_length f.1) (f ∷ fs) ≡ f.1 + sum_by (λ f. least_length f.1) fs =
+    sum_by-cons (λ f. least_length f.1) f fs
     ∙ rw short refl in
     let one : field_at at f.1 octets ≡ octets_at at f.1 octets = rw short refl in
-    ap (λ (n : ℕ). octets_at at n octets) sum ∙ octets_then at f.1 (sum_by (λ f. least f.1) fs) octets
-    ∙ each_same (octets_at at f.1 octets) (octets_at at (sum_by (λ f. least f.1) fs)) (extent_at at fs)
+    ap (λ (n : ℕ). octets_at at n octets) sum ∙ octets_then at f.1 (sum_by (λ f. least_length f.1) fs) octets
+    ∙ each_same (octets_at at f.1 octets) (octets_at at (sum_by (λ f. least_length f.1) fs)) (extent_at at fs)
     (λ rest. all_fixed at fs rest both.1)
     ∙ ap (λ (r : Result (List ℕ × List ℕ) MessageError). r >>= each (extent_at at fs)) (sym one)

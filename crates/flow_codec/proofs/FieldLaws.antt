@@ -9,7 +9,7 @@ use Rattle.std.proofs.lemmas.List.Sums.{sum_by-cons}
 use Rattle.flow_elements.specs.declared.element.ElementId.{ElementId}
 use Rattle.flow_codec.specs.declared.error.MessageError.TheVariants.{RecordCut}
 use Rattle.flow_codec.specs.declared.message.Field.{Field}
-use Rattle.flow_codec.specs.Layout.{least}
+use Rattle.flow_codec.specs.Layout.{least_length}
 use Rattle.flow_codec.specs.Fields.{IsField, AreFields, counted_of, value_of, fields_in}
 use Rattle.flow_codec.specs.Reading.{◌>>=◌, number_at, octets_at, behind, counted_at, field_at, extent_at}
 use Rattle.flow_codec.proofs.Steps.{bind_ok, guard_ok, ok_is, chosen}
@@ -139,7 +139,7 @@ value_again len octets value rest (inr (inr (variable, below, same))) =
     ∙ rw (back, take_at value rest n refl, drop_at value rest n refl) refl in
     rw (test, same) (ap counted_of regrouped ∙ inner)
 
-pub field_long : (len : ℕ) (octets value : List ℕ) → IsField len octets value → least len ≤ length octets
+pub field_long : (len : ℕ) (octets value : List ℕ) → IsField len octets value → least_length len ≤ length octets
 field_long len octets value (inl (fixed, same, is)) =
     let test : eqb len 65535 ≡ false = ne_eqb len 65535 fixed in
     rw (test, same) (omega (arith, is))
@@ -192,7 +192,7 @@ extent_again at (f ∷ fs) octets rest (x ∷ xs) h =
 
 -- a record has at least the octets of the smallest
 pub extent_long : (fs : List (ElementId × ℕ)) (octets : List ℕ) (xs : List Field) → AreFields fs octets xs
-    → sum_by (λ f. least f.1) fs ≤ length octets
+    → sum_by (λ f. least_length f.1) fs ≤ length octets
 extent_long [] octets xs h = omega arith
 extent_long (f ∷ fs) octets [] h = absurd h
 extent_long (f ∷ fs) octets (x ∷ xs) h =

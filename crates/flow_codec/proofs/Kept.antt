@@ -10,7 +10,7 @@ use Rattle.flow_codec.specs.declared.templates.DomainTemplates.{DomainTemplates}
 use Rattle.flow_codec.specs.declared.templates.TemplateRecord.{TemplateRecord}
 use Rattle.flow_codec.specs.declared.templates.TemplateRecord.TheVariants.{Define, Withdraw, WithdrawAll}
 use Rattle.flow_codec.specs.Templates.{AllTemplates, no_definitions, definitions_of, is_empty, changed, with_domain}
-use Rattle.flow_codec.specs.Templates.{applied, IsTemplateRecord, domain_size, IsWithin, IsOnce, IsEntry}
+use Rattle.flow_codec.specs.Templates.{applied, IsTemplateRecord, domain_size, IsWithinTemplateLimits, IsOnce, IsEntry}
 use Rattle.flow_codec.specs.Templates.{AreDefinitions, IsDomain, AreTemplatesInForce}
 use Rattle.flow_codec.specs.Raw.{RawRecord, RawMessage}
 use Rattle.flow_codec.specs.Reading.{sets_at, limited, division_at}
@@ -191,7 +191,7 @@ within_domains domain (e ∷ es) once h size = elim (by_bool (nat_eq domain e.0)
 ]
 
 -- Templates that were kept, and that pass no limit, are in force.
-pub in_force_again : (domain : ℕ) (all : AllTemplates) → AreKept domain all → IsWithin domain all
+pub in_force_again : (domain : ℕ) (all : AllTemplates) → AreKept domain all → IsWithinTemplateLimits domain all
     → AreTemplatesInForce all
 in_force_again domain all h within =
     record { once = h.once; domains = within_domains domain all h.once h.domains within.size; count = within.domains }

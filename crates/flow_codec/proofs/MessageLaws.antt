@@ -7,7 +7,7 @@ use Rattle.std.proofs.lemmas.List.{append-nil}
 use Rattle.flow_codec.specs.declared.error.MessageError.TheVariants.{Short, Version, Length, TemplatesFull, DomainsFull}
 use Rattle.flow_codec.specs.declared.message.Header.{Header}
 use Rattle.flow_codec.specs.Raw.{RawRecord, RawMessage}
-use Rattle.flow_codec.specs.Templates.{AllTemplates, definitions_of, domain_size, IsWithin}
+use Rattle.flow_codec.specs.Templates.{AllTemplates, definitions_of, domain_size, IsWithinTemplateLimits}
 use Rattle.flow_codec.specs.Reading.{◌>>=◌, number_at, sets_at, header_at, behind_length, behind_version, limited}
 use Rattle.flow_codec.specs.Reading.{division_at, message_at}
 use Rattle.flow_codec.specs.Message.{header_octets, HeaderFits, Front, IsMessage, IsAccepted}
@@ -140,7 +140,8 @@ division_again before octets message after front =
 -- ---- the limits
 
 pub limits_hold : (message : RawMessage) (after : AllTemplates) (x : RawMessage × AllTemplates)
-    → limited message after ≡ Ok x → IsWithin message.header.domain after × (let read : RawMessage × AllTemplates =
+    → limited message after ≡ Ok x
+    → IsWithinTemplateLimits message.header.domain after × (let read : RawMessage × AllTemplates =
     (message, after) in read ≡ x)
 limits_hold message after x e =
     let domain = message.header.domain in
@@ -150,7 +151,7 @@ limits_hold message after x e =
     let b = past (ltb 64 (length after)) DomainsFull (Ok (message, after)) x a.1 in
     (record { size = ltb-false _ _ a.0; domains = ltb-false _ _ b.0 }, ok_is (message, after) x b.1)
 
-pub within_again : (message : RawMessage) (after : AllTemplates) → IsWithin message.header.domain after
+pub within_again : (message : RawMessage) (after : AllTemplates) → IsWithinTemplateLimits message.header.domain after
     → limited message after ≡ Ok (message, after)
 within_again message after h =
     let size : ltb 60000 (domain_size (definitions_of message.header.domain after)) ≡ false = le-ltb _ _ h.size in

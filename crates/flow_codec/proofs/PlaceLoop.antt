@@ -14,7 +14,7 @@ use Rattle.flow_codec.specs.declared.plan.Place.{Place}
 use Rattle.flow_codec.specs.declared.plan.Places.{Places}
 use Rattle.flow_codec.specs.declared.plan.Plan.{Plan}
 use Rattle.flow_codec.specs.declared.plan.Way.TheVariants.{ByPlaces, BySteps}
-use Rattle.flow_codec.specs.Layout.{least}
+use Rattle.flow_codec.specs.Layout.{least_length}
 use Rattle.flow_codec.specs.Plan.{role_of, counts_as, behind, place_of, places_of, no_places}
 use Rattle.flow_codec.specs.Plan.{steps_of}
 use Rattle.flow_codec.specs.Plan.{with_place, noted, are_fixed, plan_of}
@@ -133,11 +133,11 @@ plan_by smallest places = record { smallest = smallest; way = ByPlaces places }
 abbrev pub plan_from : Places → ℕ → List (ElementId × ℕ) → Option Plan
 plan_from places at fields =
     if are_fixed fields then Some
-    (plan_by (at + sum_by (λ f. least f.1) fields) (all_places places at fields)) else None
+    (plan_by (at + sum_by (λ f. least_length f.1) fields) (all_places places at fields)) else None
 
 pub from_start : (fs : List (ElementId × ℕ))
     → plan_from no_places 0 fs ≡ (if are_fixed fs then Some (plan_of fs) else None)
-from_start fs = by (are_fixed fs) (sum_by (λ f. least f.1) fs)
+from_start fs = by (are_fixed fs) (sum_by (λ f. least_length f.1) fs)
   where
     by : (b : Bool) (smallest : ℕ) → cond b (Some (plan_by (0 + smallest) (all_places no_places 0 fs))) None
         ≡ cond b (Some (record {
@@ -155,9 +155,9 @@ module _ (places : Places) (at : ℕ) (f : ElementId × ℕ) (fs : List (Element
       ≡ plan_from (noted (role_of f.0) (record { at = at; len = f.1 }) places) (at + f.1) fs
   passes less =
       let short : eqb f.1 65535 ≡ false = ne_eqb f.1 65535 (λ e. absurd (omega (arith, e, less))) in
-      let one : least f.1 ≡ f.1 = rw short refl in
-      let sum : at + sum_by (λ g. least g.1) (f ∷ fs) ≡ (at + f.1) + sum_by (λ g. least g.1) fs =
-      omega (arith, sum_by-cons (λ (g : ElementId × ℕ). least g.1) f fs, one) in
+      let one : least_length f.1 ≡ f.1 = rw short refl in
+      let sum : at + sum_by (λ g. least_length g.1) (f ∷ fs) ≡ (at + f.1) + sum_by (λ g. least_length g.1) fs =
+      omega (arith, sum_by-cons (λ (g : ElementId × ℕ). least_length g.1) f fs, one) in
       let fixed : are_fixed (f ∷ fs) ≡ are_fixed fs = rw (lt-ltb f.1 65535 less) refl in
       rw (
         fixed,

@@ -7,14 +7,14 @@ use Rattle.std.proofs.lemmas.List.{append-nil, length-append}
 use Rattle.std.proofs.lemmas.List.Concat.{flat_map-cons}
 use Rattle.flow_codec.specs.declared.error.MessageError.{MessageError}
 use Rattle.flow_codec.specs.Layout.{Layout, smallest}
-use Rattle.flow_codec.specs.Raw.{RawRecord, raw, IsWhole}
+use Rattle.flow_codec.specs.Raw.{RawRecord, raw, IsWholeRecord}
 use Rattle.flow_codec.specs.Reading.{◌>>=◌, extent_at, records_at, records_of, data_at}
 use Rattle.flow_codec.specs.Message.{AreRecords, IsData, joined}
 use Rattle.flow_codec.proofs.Steps.{bind_ok, ok_is, chosen}
 use Rattle.flow_codec.proofs.NumberLaws.{IsBytes}
 use Rattle.flow_codec.proofs.FieldLaws.{suffix, extent_takes, extent_again, extent_long}
 
-pub whole_long : (layout : Layout) (octets : List ℕ) → IsWhole layout octets → smallest layout ≤ length octets
+pub whole_long : (layout : Layout) (octets : List ℕ) → IsWholeRecord layout octets → smallest layout ≤ length octets
 whole_long layout octets h = extent_long layout.fields octets h.0 h.1
 
 pub records_take : (n end id : ℕ) (layout : Layout) (octets : List ℕ) (xs : List RawRecord) → IsBytes octets

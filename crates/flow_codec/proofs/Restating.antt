@@ -18,7 +18,8 @@ use Rattle.flow_codec.specs.Raw.{RawRecord}
 use Rattle.flow_codec.specs.Working.{put_back}
 use Rattle.flow_codec.specs.Message.{AreTemplates, Division, set_octets, joined, IsSet, AreSets, header_octets}
 use Rattle.flow_codec.specs.Message.{IsAccepted}
-use Rattle.flow_codec.specs.Prefix.{records_of, template_set, template_sets, prefix_header, prefix_message, prefix_read}
+use Rattle.flow_codec.specs.Prefix.{defining_records, template_set, template_sets, prefix_header, prefix_message}
+use Rattle.flow_codec.specs.Prefix.{prefix_read}
 use Rattle.flow_codec.proofs.Entries.{without, found, lookup-insert, remove-absent}
 use Rattle.flow_codec.proofs.KeyLaws.{in_two, none_in}
 use Rattle.flow_codec.proofs.SlotLaws.{front-lacks, insert-absent}
@@ -42,10 +43,10 @@ joined_size : (t : List ℕ) (rs : List (List ℕ)) (m n : ℕ) → length t ≡
 joined_size t rs m n a b = ap length (flat_map-cons (λ r. r) t rs) ∙ length-append t (joined rs) ∙ rw (a, b) refl
 
 pub records_size : (kind : TemplateKind) (es : List (ℕ × Layout)) → AllByRecursion (IsEntry kind) es
-    → length (joined (records_of kind es)) ≡ entries_size es
+    → length (joined (defining_records kind es)) ≡ entries_size es
 records_size kind [] h = refl
 records_size kind (e ∷ es) h =
-    joined_size (template kind (Define e.0 e.1)) (records_of kind es) (definition_size e.1) (entries_size es)
+    joined_size (template kind (Define e.0 e.1)) (defining_records kind es) (definition_size e.1) (entries_size es)
     (template_size kind e.0 e.1 (h.0).layout.options) (records_size kind es h.1)
     ∙ sym (sum_by-cons (λ (x : ℕ × Layout). definition_size x.1) e es)
 
@@ -56,7 +57,7 @@ module _ (d : ℕ) (front : AllTemplates) (once : IsOnce front) (new : found d f
   with_here ts os = put_back d true (record { templates = ts; options = os }) front
 
   plain_run : (done es : List (ℕ × Layout)) → IsOnce (done ++ es) → AllByRecursion (IsEntry Plain) es
-      → AreTemplates d Plain (with_here done []) (records_of Plain es) (with_here (done ++ es) [])
+      → AreTemplates d Plain (with_here done []) (defining_records Plain es) (with_here (done ++ es) [])
   plain_run done [] o h = ap (λ (ts : List (ℕ × Layout)). with_here ts []) (append-nil done)
   plain_run done (e ∷ es) o h =
       let flat : (done ++ e ∷ []) ++ es ≡ done ++ e ∷ es = append_assoc done (e ∷ []) es in
@@ -69,14 +70,14 @@ module _ (d : ℕ) (front : AllTemplates) (once : IsOnce front) (new : found d f
         (h.0.id, h.0.layout),
         refl,
         subst
-            (λ (s : AllTemplates). AreTemplates d Plain s (records_of Plain es) (with_here (done ++ e ∷ es) []))
+            (λ (s : AllTemplates). AreTemplates d Plain s (defining_records Plain es) (with_here (done ++ e ∷ es) []))
             (sym step) (subst (λ (ts : List (ℕ × Layout)). AreTemplates d Plain (with_here (done ++ e ∷ []) [])
-            (records_of Plain es) (with_here ts [])) flat more),
+            (defining_records Plain es) (with_here ts [])) flat more),
       )
 
   options_run : (ts done es : List (ℕ × Layout)) → IsOnce (ts ++ (done ++ es)) → IsOnce (done ++ es)
       → AllByRecursion (IsEntry Options) es
-      → AreTemplates d Options (with_here ts done) (records_of Options es) (with_here ts (done ++ es))
+      → AreTemplates d Options (with_here ts done) (defining_records Options es) (with_here ts (done ++ es))
   options_run ts done [] all o h = ap (λ (os : List (ℕ × Layout)). with_here ts os) (append-nil done)
   options_run ts done (e ∷ es) all o h =
       let flat : (done ++ e ∷ []) ++ es ≡ done ++ e ∷ es = append_assoc done (e ∷ []) es in
@@ -95,9 +96,10 @@ module _ (d : ℕ) (front : AllTemplates) (once : IsOnce front) (new : found d f
         (h.0.id, h.0.layout),
         refl,
         subst
-            (λ (s : AllTemplates). AreTemplates d Options s (records_of Options es) (with_here ts (done ++ e ∷ es)))
+            (λ (s : AllTemplates). AreTemplates d Options s (defining_records Options es)
+            (with_here ts (done ++ e ∷ es)))
             (sym step) (subst (λ (os : List (ℕ × Layout)). AreTemplates d Options (with_here ts (done ++ e ∷ []))
-            (records_of Options es) (with_here ts os)) flat more),
+            (defining_records Options es) (with_here ts os)) flat more),
       )
 
 -- ---- the Sets of a domain's definitions
@@ -131,14 +133,15 @@ is_set kind d before rs after short h = record {
 
 -- none or one
 sets_of_kind : (kind : TemplateKind) (d : ℕ) (before : AllTemplates) (es : List (ℕ × Layout)) (after : AllTemplates)
-    → AllByRecursion (IsEntry kind) es → entries_size es ≤ 60000 → AreTemplates d kind before (records_of kind es) after
+    → AllByRecursion (IsEntry kind) es → entries_size es ≤ 60000
+    → AreTemplates d kind before (defining_records kind es) after
     → AreSets d before (template_set kind es) [] after
 sets_of_kind kind d before [] after all short h = (refl, h)
 sets_of_kind kind d before (e ∷ es) after all short h = (
   [],
   [],
   after,
-  is_set kind d before (records_of kind (e ∷ es)) after
+  is_set kind d before (defining_records kind (e ∷ es)) after
       (omega (arith, records_size kind (e ∷ es) all, short)) h,
   (refl, refl),
   refl,
@@ -166,7 +169,7 @@ set_size : (kind : TemplateKind) (es : List (ℕ × Layout)) → AllByRecursion 
     → length (flat_map set_octets (template_set kind es)) ≤ 4 + entries_size es
 set_size kind [] h = omega arith
 set_size kind (e ∷ es) h =
-    let rs = records_of kind (e ∷ es) in
+    let rs = defining_records kind (e ∷ es) in
     one (set_id kind) rs (entries_size (e ∷ es)) (records_size kind (e ∷ es) h)
   where
     one : (id : ℕ) (rs : List (List ℕ)) (n : ℕ) → length (joined rs) ≡ n
@@ -206,10 +209,11 @@ module _ (time due : ℕ) (d : ℕ) (here : DomainTemplates) (front : AllTemplat
       is.definitions.options in
       let middle : AllTemplates = put_back d true (record { templates = here.templates; options = [] }) front in
       let first = sets_of_kind Plain d front here.templates middle is.definitions.templates (omega (arith, is.size))
-      (subst (λ (x : AllTemplates). AreTemplates d Plain x (records_of Plain here.templates) middle) begun plain) in
+      (subst (λ (x : AllTemplates). AreTemplates d Plain x (defining_records Plain here.templates) middle) begun
+      plain) in
       let second = sets_of_kind Options d middle here.options (front ++ entry ∷ []) is.definitions.options
       (omega (arith, is.size))
-      (subst (λ (x : AllTemplates). AreTemplates d Options middle (records_of Options here.options) x) ended
+      (subst (λ (x : AllTemplates). AreTemplates d Options middle (defining_records Options here.options) x) ended
       options) in
       sets_both d front middle (front ++ entry ∷ []) (template_set Plain here.templates)
       (template_set Options here.options) first second

@@ -5,7 +5,7 @@ use Rattle.std.proofs.lemmas.Bool.{eqb-true}
 use Rattle.flow_elements.specs.declared.element.ElementId.{ElementId}
 use Rattle.flow_codec.specs.declared.plan.Role.{Role}
 use Rattle.flow_codec.specs.declared.plan.Role.TheVariants.{Octets, Packets, Protocol, Seconds, Milliseconds}
-use Rattle.flow_codec.specs.Plan.{number_of, role_of, is_counted, counts_as}
+use Rattle.flow_codec.specs.Plan.{element_of, role_of, is_counted, counts_as}
 use Rattle.flow_codec.proofs.Steps.{by_bool}
 
 pub every : (P : Role → Type 0) → P Octets → P Packets → P Protocol → P Seconds → P Milliseconds → (r : Role) → P r
@@ -18,12 +18,12 @@ every P a b c d e Milliseconds = e
 -- whether a field of an element of this role, or of none, counts in another
 abbrev pub counts_in : Role → Option Role → ℕ → Bool
 counts_in role None len = false
-counts_in role (Some r) len = eqb (number_of r) (number_of role) && is_counted r len
+counts_in role (Some r) len = eqb (element_of r) (element_of role) && is_counted r len
 
 module _ (role : Role) (len : ℕ) where
   Agree : Role → Role → Type 0
-  Agree r s = (eqb (number_of r) (number_of s) && is_counted s len)
-      ≡ (eqb (number_of r) (number_of s) && is_counted r len)
+  Agree r s = (eqb (element_of r) (element_of s) && is_counted s len)
+      ≡ (eqb (element_of r) (element_of s) && is_counted r len)
 
   agree : (r s : Role) → Agree r s
   unfolding Agree
@@ -34,7 +34,7 @@ module _ (role : Role) (len : ℕ) where
   agree Milliseconds s = every (Agree Milliseconds) refl refl refl refl refl s
 
   IsAt : ℕ → Type 0
-  IsAt n = (eqb n (number_of role) && is_counted role len)
+  IsAt n = (eqb n (element_of role) && is_counted role len)
       ≡ counts_in role (role_of (record { enterprise = None; number = n })) len
 
   numbered : (n : ℕ) → IsAt n
@@ -50,8 +50,8 @@ module _ (role : Role) (len : ℕ) where
           | inr d ↦ elim (by_bool (eqb n 152)) [
             | inl w ↦ subst IsAt (sym (eqb-true n 152 w)) (agree Milliseconds role)
             | inr e ↦
-                let other : eqb n (number_of role) ≡ false =
-                every (λ r. eqb n (number_of r) ≡ false) a b c d e role in
+                let other : eqb n (element_of role) ≡ false =
+                every (λ r. eqb n (element_of r) ≡ false) a b c d e role in
                 rw (other, a, b, c, d, e) refl
           ]
         ]

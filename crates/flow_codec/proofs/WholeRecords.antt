@@ -5,7 +5,7 @@ use Rattle.std.specs.Prelude.{IfOk}
 use Rattle.std.proofs.lemmas.List.{take_all, length-append}
 use Rattle.flow_codec.specs.declared.error.MessageError.{MessageError}
 use Rattle.flow_codec.specs.Layout.{Layout, smallest}
-use Rattle.flow_codec.specs.Raw.{IsWhole}
+use Rattle.flow_codec.specs.Raw.{IsWholeRecord}
 use Rattle.flow_codec.specs.Reading.{Gives, extent_at}
 use Rattle.flow_codec.proofs.NumberLaws.{IsBytes}
 use Rattle.flow_codec.proofs.FieldLaws.{extent_takes, extent_long}
@@ -15,7 +15,7 @@ seen x = (x.0.now, x.1.now)
 
 pub whole_of : (at : ℕ) (layout : Layout) (octets : List ℕ) (r : Result (Bor (List ℕ) × Bor (List ℕ)) MessageError)
     → IsBytes octets → Gives seen r (extent_at at layout.fields octets)
-    → IfOk r (λ x. IsWhole layout x.0.now × (length x.0.now + length x.1.now ≡ length octets)
+    → IfOk r (λ x. IsWholeRecord layout x.0.now × (length x.0.now + length x.1.now ≡ length octets)
     × (smallest layout ≤ length x.0.now))
 whole_of at layout octets (Ok x) fits e =
     let t = extent_takes at layout.fields octets (seen x) fits e in

@@ -11,16 +11,17 @@ use Rattle.flow_codec.specs.declared.templates.DomainTemplates.{DomainTemplates}
 use Rattle.flow_codec.specs.Layout.{Layout, set_id}
 use Rattle.flow_codec.specs.Templates.{AllTemplates, entries_size, IsEntry, IsDomain}
 use Rattle.flow_codec.specs.Message.{set_octets, joined}
-use Rattle.flow_codec.specs.Prefix.{records_of, template_set, template_sets, prefix_message, prefix_messages}
+use Rattle.flow_codec.specs.Prefix.{defining_records, template_set, template_sets, prefix_message, prefix_messages}
 use Rattle.flow_codec.specs.Prefix.{prefix_octets, due_in}
 use Rattle.flow_codec.proofs.Restating.{records_size}
 
 pub set_text : (kind : TemplateKind) (es : List (ℕ × Layout)) (n : ℕ) → AllByRecursion (IsEntry kind) es
     → eqb (length es) 0 ≡ false → n ≡ entries_size es
     → flat_map set_octets (template_set kind es) ≡ to_be_bytes w16 (set_id kind) ++
-    (to_be_bytes w16 (4 + n) ++ joined (records_of kind es))
+    (to_be_bytes w16 (4 + n) ++ joined (defining_records kind es))
 set_text kind [] n h some e = absurd cc
-set_text kind (x ∷ xs) n h some e = one (set_id kind) (records_of kind (x ∷ xs)) (records_size kind (x ∷ xs) h ∙ sym e)
+set_text kind (x ∷ xs) n h some e =
+    one (set_id kind) (defining_records kind (x ∷ xs)) (records_size kind (x ∷ xs) h ∙ sym e)
   where
     one : (id : ℕ) (rs : List (List ℕ)) → length (joined rs) ≡ n
         → flat_map set_octets (record { id = id; records = rs; rest = [] } ∷ []) ≡ to_be_bytes w16 id ++
@@ -34,7 +35,7 @@ set_text kind (x ∷ xs) n h some e = one (set_id kind) (records_of kind (x ∷ 
 pub set_long : (kind : TemplateKind) (es : List (ℕ × Layout)) (n : ℕ) → AllByRecursion (IsEntry kind) es
     → eqb (length es) 0 ≡ false → n ≡ entries_size es → 4 + n ≡ length (flat_map set_octets (template_set kind es))
 set_long kind es n h some e =
-    sym (ap length (set_text kind es n h some e) ∙ one (set_id kind) (joined (records_of kind es))
+    sym (ap length (set_text kind es n h some e) ∙ one (set_id kind) (joined (defining_records kind es))
     (records_size kind es h ∙ sym e))
   where
     one : (id : ℕ) (t : List ℕ) → length t ≡ n → length (to_be_bytes w16 id ++ (to_be_bytes w16 (4 + n) ++ t)) ≡ 4 + n

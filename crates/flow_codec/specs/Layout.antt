@@ -61,12 +61,12 @@ pub record IsLayout (kind : TemplateKind) (layout : Layout) : Type 0 where
 -- ---- the records of a definition
 
 -- a field of variable length has at least its one length octet
-abbrev pub least : ℕ → ℕ
-least len = if len == 65535 then 1 else len
+abbrev pub least_length : ℕ → ℕ
+least_length len = if len == 65535 then 1 else len
 
 -- the octets of the smallest record
 abbrev pub smallest : Layout → ℕ
-smallest layout = sum_by (λ f. least f.1) layout.fields
+smallest layout = sum_by (λ f. least_length f.1) layout.fields
 
 -- the octets of the template record
 abbrev pub specifier_size : ElementId × ℕ → ℕ

@@ -12,9 +12,9 @@ use Rattle.flow_codec.specs.declared.message.Message.{Message}
 use Rattle.flow_codec.specs.declared.message.DataRecord.{DataRecord}
 use Rattle.flow_codec.specs.Layout.{Layout, smallest, set_id}
 use Rattle.flow_codec.specs.Templates.{AllTemplates, applied, definition_of, definitions_of, template, IsTemplateRecord}
-use Rattle.flow_codec.specs.Templates.{IsWithin}
+use Rattle.flow_codec.specs.Templates.{IsWithinTemplateLimits}
 use Rattle.flow_codec.specs.Fields.{fields_in}
-use Rattle.flow_codec.specs.Raw.{RawRecord, RawMessage, raw, IsWhole}
+use Rattle.flow_codec.specs.Raw.{RawRecord, RawMessage, raw, IsWholeRecord}
 
 -- ---- data records
 
@@ -23,7 +23,7 @@ abbrev pub AreRecords : ℕ → Layout → List (List ℕ) → List RawRecord �
 AreRecords id layout [] [] = Unit {0}
 AreRecords id layout [] (x ∷ xs) = ⊥
 AreRecords id layout (r ∷ rs) [] = ⊥
-AreRecords id layout (r ∷ rs) (x ∷ xs) = (0 < smallest layout) × (x ≡ raw id layout r) × IsWhole layout r
+AreRecords id layout (r ∷ rs) (x ∷ xs) = (0 < smallest layout) × (x ≡ raw id layout r) × IsWholeRecord layout r
     × AreRecords id layout rs xs
 
 -- fewer octets than the smallest record has
@@ -111,7 +111,8 @@ IsMessage octets before message after = Front octets before message.header messa
 
 -- a message that leaves the templates within their limits: what is accepted
 abbrev pub IsAccepted : List ℕ → AllTemplates → RawMessage → AllTemplates → Type 0
-IsAccepted octets before message after = IsMessage octets before message after × IsWithin message.header.domain after
+IsAccepted octets before message after =
+    IsMessage octets before message after × IsWithinTemplateLimits message.header.domain after
 
 -- ---- a message in fields
 

@@ -13,16 +13,16 @@ use Rattle.flow_codec.specs.declared.plan.Places.{Places}
 use Rattle.flow_codec.specs.declared.plan.Plan.{Plan}
 use Rattle.flow_codec.specs.declared.plan.Way.TheVariants.{ByPlaces, BySteps}
 use Rattle.flow_codec.specs.declared.message.Field.{Field}
-use Rattle.flow_codec.specs.Layout.{least}
+use Rattle.flow_codec.specs.Layout.{least_length}
 use Rattle.flow_codec.specs.Fields.{value_of}
 
 -- the number of the element of a role, and the lengths in which it counts
-abbrev pub number_of : Role → ℕ
-number_of Octets = 1
-number_of Packets = 2
-number_of Protocol = 4
-number_of Seconds = 150
-number_of Milliseconds = 152
+abbrev pub element_of : Role → ℕ
+element_of Octets = 1
+element_of Packets = 2
+element_of Protocol = 4
+element_of Seconds = 150
+element_of Milliseconds = 152
 
 abbrev pub least_of : Role → ℕ
 least_of Octets = 1
@@ -94,7 +94,7 @@ steps_of (f ∷ fs) = before_steps (step_of f.0 f.1) (steps_of fs)
 
 -- whether a field counts in this role
 abbrev pub counts_as : Role → ElementId × ℕ → Bool
-counts_as role f = is_none f.0.enterprise && (f.0.number == number_of role && is_counted role f.1)
+counts_as role f = is_none f.0.enterprise && (f.0.number == element_of role && is_counted role f.1)
 
 -- a place with `count` more octets before it
 abbrev pub behind : ℕ → Place → Place
@@ -138,7 +138,7 @@ are_fixed fields = list_all (λ f. nat_lt f.1 65535) fields
 
 abbrev pub plan_of : List (ElementId × ℕ) → Plan
 plan_of fields = record {
-  smallest = sum_by (λ f. least f.1) fields;
+  smallest = sum_by (λ f. least_length f.1) fields;
   way = if are_fixed fields then ByPlaces (places_of fields) else BySteps (steps_of fields);
 }
 

@@ -13,13 +13,13 @@ use Rattle.flow_codec.specs.Raw.{RawMessage}
 use Rattle.flow_codec.specs.Message.{Division, set_octets, header_octets, joined}
 
 -- the template records that give these definitions, in order
-abbrev pub records_of : TemplateKind → List (ℕ × Layout) → List (List ℕ)
-records_of kind entries = map (λ e. template kind (Define e.0 e.1)) entries
+abbrev pub defining_records : TemplateKind → List (ℕ × Layout) → List (List ℕ)
+defining_records kind entries = map (λ e. template kind (Define e.0 e.1)) entries
 
 -- one Set of them, without padding, where there are any
 abbrev pub template_set : TemplateKind → List (ℕ × Layout) → List Division
 template_set kind [] = []
-template_set kind (e ∷ es) = record { id = set_id kind; records = records_of kind (e ∷ es); rest = [] } ∷ []
+template_set kind (e ∷ es) = record { id = set_id kind; records = defining_records kind (e ∷ es); rest = [] } ∷ []
 
 -- Templates first, Options Templates after them
 abbrev pub template_sets : DomainTemplates → List Division

@@ -19,8 +19,8 @@ abbrev pub raw : ℕ → Layout → List ℕ → RawRecord
 raw id layout octets = record { id = id; layout = layout; octets = octets }
 
 -- the octets of one whole record of this layout
-abbrev pub IsWhole : Layout → List ℕ → Type 0
-IsWhole layout octets = (fields : List Field) × AreFields layout.fields octets fields
+abbrev pub IsWholeRecord : Layout → List ℕ → Type 0
+IsWholeRecord layout octets = (fields : List Field) × AreFields layout.fields octets fields
 
 -- a record beside the header of its message
 abbrev pub Placed : Type 0

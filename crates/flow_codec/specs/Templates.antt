@@ -96,7 +96,7 @@ abbrev pub domain_size : DomainTemplates → ℕ
 domain_size here = entries_size here.templates + entries_size here.options
 
 -- at most 60,000 octets of template records in a domain, and at most 64 domains
-pub record IsWithin (domain : ℕ) (all : AllTemplates) : Type 0 where
+pub record IsWithinTemplateLimits (domain : ℕ) (all : AllTemplates) : Type 0 where
   pub size : domain_size (definitions_of domain all) ≤ 60000
   pub domains : length all ≤ 64
 

@@ -11,7 +11,7 @@ ghost use Rattle.flow_codec.specs.Working.{overlaid, IsOver};
 ghost use Rattle.std.specs.List.{AllByRecursion};
 ghost use Rattle.flow_codec.specs.Templates.{IsEntry};
 ghost use Rattle.flow_codec.specs.Message.{joined};
-ghost use Rattle.flow_codec.specs.Prefix.{records_of};
+ghost use Rattle.flow_codec.specs.Prefix.{defining_records};
 
 use crate::kind::TemplateKind;
 use crate::overlay::Overlay;
@@ -77,7 +77,7 @@ impl Definitions {
         kind: TemplateKind,
     ) -> Result<(), AllocError>
         requires { AllByRecursion (IsEntry kind) self.now }
-        ensures { OnOk result (octets.new.items ≡ octets.old.items ++ joined (records_of kind self.now)) }
+        ensures { OnOk result (octets.new.items ≡ octets.old.items ++ joined (defining_records kind self.now)) }
     {
         self.table.put_records(octets, kind)
     }

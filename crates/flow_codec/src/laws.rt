@@ -8,7 +8,7 @@ ghost use Rattle.flow_codec.specs.Losses.{joined_losses, losses_from, none_after
 ghost use Rattle.flow_codec.specs.Fields.{AreFields, fields_in};
 ghost use Rattle.flow_codec.specs.Templates.{AllTemplates, AreDefinitions, AreTemplatesInForce, IsOnce, applied};
 ghost use Rattle.flow_codec.specs.Templates.{definition_of, definitions_of, unless_own};
-ghost use Rattle.flow_codec.specs.Raw.{RawMessage, IsWhole};
+ghost use Rattle.flow_codec.specs.Raw.{RawMessage, IsWholeRecord};
 ghost use Rattle.flow_codec.specs.Message.{IsAccepted, IsMessage};
 ghost use Rattle.flow_codec.specs.Replaced.{AreReplaced, replaced_of};
 ghost use Rattle.flow_codec.specs.Unread.{AreUnread, unread_of};
@@ -42,12 +42,12 @@ pub fn one_answer()
 /// The octets of a whole record divide into fields in one way, which `fields_in` gives, and octets begin with at most
 /// one whole record of a definition.
 pub fn one_division()
-    ensures fields { (layout : Layout) (octets : List ℕ) → IsWhole layout octets
+    ensures fields { (layout : Layout) (octets : List ℕ) → IsWholeRecord layout octets
         → AreFields layout.fields octets (fields_in layout.fields octets) }
     ensures one { (specifiers : List (ElementId × ℕ)) (octets : List ℕ) (xs ys : List Field)
         → AreFields specifiers octets xs → AreFields specifiers octets ys → xs ≡ ys }
-    ensures front { (layout : Layout) (octets others rest back : List ℕ) → IsWhole layout octets
-        → IsWhole layout others → octets ++ rest ≡ others ++ back → octets ≡ others }
+    ensures front { (layout : Layout) (octets others rest back : List ℕ) → IsWholeRecord layout octets
+        → IsWholeRecord layout others → octets ++ rest ≡ others ++ back → octets ≡ others }
 {}
 
 /// The data Sets of a message without a definition in force, which are found by reading, are those of its Sets of which

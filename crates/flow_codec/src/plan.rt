@@ -1,7 +1,7 @@
 //! What is known of every record of a definition before it is read.
 
 ghost use Rattle.std.specs.Prelude.{◌≡◌, ◌<◌, ◌^◌, ◌++◌, Some, None, if◌then◌else◌, length, sum_by, IfOk, OnOk};
-ghost use Rattle.flow_codec.specs.Layout.{least};
+ghost use Rattle.flow_codec.specs.Layout.{least_length};
 ghost use Rattle.flow_codec.specs.Plan.{role_of, is_counted, step_of, skip_of, steps_of};
 ghost use Rattle.flow_codec.specs.Plan.{no_places, noted, are_fixed, plan_of};
 
@@ -183,7 +183,7 @@ fn steps_of(alloc: Global, fields: &[(ElementId, u16)]) -> Result<ShortList<Fiel
 /// The octets of the smallest record of these fields.
 fn smallest_of(fields: &[(ElementId, u16)]) -> usize
     requires { length fields.now < 2 ^ 16 }
-    ensures { result ≡ sum_by (λ f. least f.1) fields.now }
+    ensures { result ≡ sum_by (λ f. least_length f.1) fields.now }
 {
     let mut octets = 0;
     for (_, len) in fields {

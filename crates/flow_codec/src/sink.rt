@@ -1,7 +1,7 @@
 //! Sinks, which take a message's data records.
 
 ghost use Rattle.std.specs.Prelude.{◌≡◌, ◌++◌, ◌∷◌, [], List, OnOk, IfErr};
-ghost use Rattle.flow_codec.specs.Raw.{Placed, RawRecord, raw, IsWhole};
+ghost use Rattle.flow_codec.specs.Raw.{Placed, RawRecord, raw, IsWholeRecord};
 
 use crate::error::MessageError;
 use crate::message::Header;
@@ -33,7 +33,7 @@ pub trait RecordSink {
         definition: &Definition,
         octets: &[u8],
     ) -> Result<(), Self::Error>
-        requires { IsWhole definition.now octets.now }
+        requires { IsWholeRecord definition.now octets.now }
         ensures taken { OnOk result ((start : Self) (taken : List Placed) → holds start taken self.old
             → holds start (taken ++ (header.now, raw id definition.now octets.now) ∷ []) self.new) }
         ensures refused { IfErr result (λ e. (start : Self) (taken : List Placed) → holds start taken self.old

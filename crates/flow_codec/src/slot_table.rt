@@ -9,7 +9,7 @@ ghost use Rattle.indexmap.specs.IndexMap.{insert_entry, shift_remove_entry};
 ghost use Rattle.flow_codec.specs.Slots.{entries_of, begun, change_by, made, started, IsTable, HasRoom, IsReady};
 ghost use Rattle.flow_codec.specs.Templates.{IsEntry};
 ghost use Rattle.flow_codec.specs.Message.{joined};
-ghost use Rattle.flow_codec.specs.Prefix.{records_of};
+ghost use Rattle.flow_codec.specs.Prefix.{defining_records};
 
 use crate::kind::TemplateKind;
 use crate::prefix::put_definition;
@@ -160,7 +160,7 @@ impl SlotTable {
     ) -> Result<(), AllocError>
         requires { AllByRecursion (IsEntry kind) (entries_of self.now) }
         ensures { OnOk result
-            (octets.new.items ≡ octets.old.items ++ joined (records_of kind (entries_of self.now))) }
+            (octets.new.items ≡ octets.old.items ++ joined (defining_records kind (entries_of self.now))) }
     {
         for slot in self.slots.as_slice() {
             if let Some((id, definition)) = slot {

@@ -2,7 +2,7 @@
 
 ghost use Rattle.std.specs.Prelude.{◌⊎◌, ◌≡◌, ◌+◌, ◌≤◌, ◌<◌, length, List, None, OnOk, OnErr, IfOk, IfErr};
 ghost use Rattle.flow_codec.specs.Layout.{smallest};
-ghost use Rattle.flow_codec.specs.Raw.{RawRecord, RawMessage, Took, IsWhole};
+ghost use Rattle.flow_codec.specs.Raw.{RawRecord, RawMessage, Took, IsWholeRecord};
 ghost use Rattle.flow_codec.specs.Templates.{AllTemplates, definitions_of};
 ghost use Rattle.flow_codec.specs.Working.{current, AreChanges};
 ghost use Rattle.flow_codec.specs.Reading.{Gives, Feeds, FeedsAlone, IsRefused, IsWalked, octets_at, counted_at};
@@ -115,7 +115,7 @@ fn extent_of<'a>(
     octets: &'a [u8],
 ) -> Result<(&'a [u8], &'a [u8]), MessageError>
     ensures exact { Gives (λ x. (x.0.now, x.1.now)) result (extent_at at definition.now.fields octets.now) }
-    ensures whole { IfOk result (λ x. IsWhole definition.now x.0.now
+    ensures whole { IfOk result (λ x. IsWholeRecord definition.now x.0.now
         × (length x.0.now + length x.1.now ≡ length octets.now) × (smallest definition.now ≤ length x.0.now)) }
 {
     let plan = definition.plan();

@@ -11,7 +11,7 @@ use Rattle.flow_refusals.specs.declared.read_refusal.ReadRefusal.{ReadRefusal}
 use Rattle.flow_refusals.specs.declared.read_refusal.ReadRefusal.TheVariants as query
 use Rattle.flow_snapshot.specs.ShelfSeen.{ShelfSeen}
 use Rattle.flow_snapshot.specs.Answered.{IsNoDamage}
-use Rattle.flow_snapshot.specs.Totals.{IsSpent, SumsFit}
+use Rattle.flow_snapshot.specs.Totals.{IsTotalsRefusal, SumsFit}
 use Rattle.flow_model.specs.Shelf.{Shelf}
 use Rattle.flow_model.specs.Views.{IsViewOf}
 use Rattle.flow_manifest.specs.declared.error.OpenError.{OpenError}
@@ -79,7 +79,7 @@ not_found has_answer reads (refusal.Archive e) told = absurd told
 not_found has_answer reads (refusal.Folder why) told = absurd told
 
 pub sums_told : (fit : View → Type 0) (reads : ℕ → List ℕ) (first : ℕ) (v : View) → IsViewRead reads v
-    → (e : ReadRefusal) → IsSpent first (fit v) e → IsNotFound fit reads (of_query e)
+    → (e : ReadRefusal) → IsTotalsRefusal first (fit v) e → IsNotFound fit reads (of_query e)
 sums_told fit reads first v read (query.Damaged file at) spent = (v, read, spent.2)
 sums_told fit reads first v read query.Fault spent = tt
 sums_told fit reads first v read query.OutOfMemory spent = tt
@@ -143,7 +143,7 @@ rows_read format reads sight width span from to rows (v, read, (honest, view, wi
 
 pub rows_refused : (reads : ℕ → List ℕ) (sight : ShelfSeen) (width first : ℕ) (e : ReadRefusal)
     → IsReadAs reads sight width
-    → (IsTrue sight.honest → (v : View) → IsViewOf sight.shelf v → IsSpent first (SumsFit v) e)
+    → (IsTrue sight.honest → (v : View) → IsViewOf sight.shelf v → IsTotalsRefusal first (SumsFit v) e)
     → IsNotFound SumsFit reads (of_query e)
 rows_refused reads sight width first e (v, read, (honest, view, wide)) given =
     sums_told SumsFit reads first v read e (given honest v view)

@@ -13,7 +13,7 @@ use Rattle.flow_refusals.specs.declared.read_refusal.ReadRefusal.{ReadRefusal}
 use Rattle.flow_refusals.specs.declared.read_refusal.ReadRefusal.TheVariants as query
 use Rattle.flow_snapshot.specs.Shares.{AllPartsFit, AreNarrow, AreWide}
 use Rattle.flow_model.specs.Shelf.{Shelf}
-use Rattle.flow_snapshot.specs.Totals.{IsSpent, SumsFit}
+use Rattle.flow_snapshot.specs.Totals.{IsTotalsRefusal, SumsFit}
 use Rattle.flow_model.specs.Views.{IsViewOf}
 use Rattle.flow_snapshot.proofs.Dealing.{parts_fit, parts_of}
 use Rattle.flow_model.specs.Chain.{IsChained}
@@ -30,8 +30,8 @@ use Rattle.flow_commands.specs.Asking.{IsNotFound}
 use Rattle.flow_commands.proofs.Asked.{sums_told}
 
 -- where less fits, a sum is spent for more
-pub spent_for : (first : ℕ) (fit other : Type 0) → (other → fit) → (e : ReadRefusal) → IsSpent first fit e
-    → IsSpent first other e
+pub spent_for : (first : ℕ) (fit other : Type 0) → (other → fit) → (e : ReadRefusal) → IsTotalsRefusal first fit e
+    → IsTotalsRefusal first other e
 spent_for first fit other by (query.Damaged file at) h = (h.0, h.1, λ o. h.2 (by o))
 spent_for first fit other by query.Fault h = tt
 spent_for first fit other by query.OutOfMemory h = tt
@@ -63,7 +63,7 @@ pub record SumsOf (reads : ℕ → List ℕ) (shelf : Shelf) : Type 0 where
   pub narrow : List (FinMap key_cmp Sums)
   pub are_wide : AreWide shelf wide
   pub are_narrow : AreNarrow shelf narrow
-  pub spent : (first : ℕ) (e : ReadRefusal) → IsSpent first (AllPartsFit shelf wide narrow) e
+  pub spent : (first : ℕ) (e : ReadRefusal) → IsTotalsRefusal first (AllPartsFit shelf wide narrow) e
       → IsNotFound SumsFit reads (of_query e)
 
 pub sums_of : (reads : ℕ → List ℕ) (s : State) → StandsFor reads s

@@ -8,7 +8,7 @@ use Rattle.std.proofs.lemmas.List.Elements.{All-append, All-cons, All-head, All-
 use Rattle.flow_measure.specs.declared.flow.Flow.{Flow}
 use Rattle.flow_measure.specs.declared.rows.Row.{Row}
 use Rattle.flow_measure.specs.Query.{interleaved, rows_of_both}
-use Rattle.flow_measure.specs.Sums.{is_within, key_cmp, merged, row_of, rows_between, Table}
+use Rattle.flow_measure.specs.Sums.{is_within, key_cmp, merged, table_row, rows_between, Table}
 use Rattle.flow_commands.specs.Asking.{AreFlows, AreFlowsIn, AreRows, AreRowsIn, RowsStartIn, Writes, WritesOrNot, WritesUpTo}
 use Rattle.flow_commands.specs.declared.archive_refusal.ArchiveRefusal.{ArchiveRefusal}
 use Rattle.flow_commands.specs.declared.archive_refusal.ArchiveRefusal.TheVariants as refusal
@@ -42,7 +42,7 @@ interleaved_all P (suc steps) (r ∷ rows) (o ∷ others) one other =
 
 between_in : (span : Span) (t : Table) → RowsStartIn span (rows_between span.from span.to t)
 between_in span t =
-    All-map (λ (r : Row). is_in span r.key.start ≡ true) (row_of t.width)
+    All-map (λ (r : Row). is_in span r.key.start ≡ true) (table_row t.width)
     (filter (λ e. is_within span.from span.to e.0) (entries t.sums))
     (filter_passes (λ e. is_within span.from span.to e.0) (entries t.sums))
 

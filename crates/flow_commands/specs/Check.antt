@@ -9,7 +9,7 @@ use Rattle.flow_manifest.specs.Following.{count_of}
 use Rattle.flow_recover.specs.Opening.{IsDeviceOrMemory, StandsForNone}
 use Rattle.flow_model.specs.Standing.{StandsFor}
 use Rattle.flow_model.specs.State.{State}
-use Rattle.flow_archive.specs.Answers.{position_of}
+use Rattle.flow_archive.specs.Answers.{archive_position}
 use Rattle.flow_commands.specs.declared.archive_refusal.ArchiveRefusal.{ArchiveRefusal}
 use Rattle.flow_commands.specs.declared.archive_refusal.ArchiveRefusal.TheVariants.{Folder, Opening, Archive}
 use Rattle.flow_commands.specs.declared.archive_refusal.ArchiveRefusal.TheVariants.{Query}
@@ -32,7 +32,7 @@ standing_by m position = record {
 }
 
 abbrev pub standing_of : State → Standing
-standing_of s = standing_by s.manifest (position_of s)
+standing_of s = standing_by s.manifest (archive_position s)
 
 unfoldable pub standing_line : Standing → List ℕ
 standing_line t = codes "ok" ++ 32 ∷ decimal t.position ++ 32 ∷ decimal t.cut ++ 32 ∷ decimal t.rolled ++ 32 ∷

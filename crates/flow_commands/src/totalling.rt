@@ -9,7 +9,7 @@ ghost use Rattle.flow_measure.specs.History.{History, IsHistory};
 ghost use Rattle.flow_measure.specs.Query.{totals_between, totals_in_view};
 ghost use Rattle.flow_measure.specs.View.{view_of, AreCountsOf, View};
 ghost use Rattle.flow_snapshot.specs.Answered.{IsAnswered};
-ghost use Rattle.flow_snapshot.specs.Totals.{first_file, IsMade, IsWithinLimits, SumsFit};
+ghost use Rattle.flow_snapshot.specs.Totals.{first_file, IsMade, IsWithinHistoryLimits, SumsFit};
 ghost use Rattle.flow_model.specs.Views.{IsViewOf};
 ghost use Rattle.flow_commands.specs.declared.archive_refusal.ArchiveRefusal.TheVariants as refusal;
 ghost use Rattle.flow_commands.specs.Opened.{IsAsked, IsHandedOn, KeepsArchive};
@@ -73,7 +73,7 @@ fn scan_rows<S: SealedFile + Send + Sync, H: Threads + Sync>(
         (λ rows. rows.items ≡ totals_in_view span.now.from span.now.to v) result }
     // Where the view is that of a history within the limits: its totals, and never damage.
     ensures answered { IsTrue snapshot.now.honest → (h : History) (counts : List ℕ) → IsHistory h
-        → AreCountsOf h counts → IsWithinLimits h → IsViewOf snapshot.now.shelf (view_of h counts)
+        → AreCountsOf h counts → IsWithinHistoryLimits h → IsViewOf snapshot.now.shelf (view_of h counts)
         → IsAnswered (λ rows. rows.items ≡ totals_between span.now.from span.now.to h) result }
 {
     let (from, to) = (span.from(), span.to());
@@ -102,7 +102,7 @@ pub fn ask_rows<S: SealedFile + Send + Sync, H: Threads + Sync>(
         (λ rows. rows.items ≡ totals_in_view span.now.from span.now.to v) result }
     // Where the view is that of a history within the limits: its totals, and never damage.
     ensures answered { IsTrue snapshot.now.honest → (h : History) (counts : List ℕ) → IsHistory h
-        → AreCountsOf h counts → IsWithinLimits h → IsViewOf snapshot.now.shelf (view_of h counts)
+        → AreCountsOf h counts → IsWithinHistoryLimits h → IsViewOf snapshot.now.shelf (view_of h counts)
         → IsAnswered (λ rows. rows.items ≡ totals_between span.now.from span.now.to h) result }
 {
     match scan_rows(rt, alloc, snapshot, span, workers, faults) {

@@ -44,7 +44,7 @@ use Rattle.flow_archive.specs.Answers.{Answers, AnswersAppend, AnswersSeal, AreA
 use Rattle.flow_archive.specs.Answers.{Takes, told_as}
 use Rattle.flow_archive.specs.JobAnswers.{begun, dropped, stepped, with_staged, IsInstalled, IsStagedIn}
 use Rattle.flow_archive.specs.Runs.{Leads}
-use Rattle.flow_headline.specs.Front.{HasMore, added_by, grown, messages_in}
+use Rattle.flow_headline.specs.Front.{HasMore, added_by, grown, event_messages}
 
 -- ---- histories
 
@@ -295,7 +295,7 @@ may_seal honest closed s after (Err Closed) taken told = absurd taken
 
 taken_adds : (honest closed : Bool) (s next after : State) (e : Event) (a : Result Answer ArchiveError) (h : History)
     → IsSound s → IsTaken a → Answers honest closed s e a after → Takes true s e next → HasHistory s h
-    → IsGrown h (messages_in e) next
+    → IsGrown h (event_messages e) next
 taken_adds honest closed s next after (Append message) a h sound taken (position, is, told) takes has =
     let may = may_append closed s after (message.items ∷ []) position
     (told_taken Position position (subst IsTaken is taken)) told in

@@ -5,7 +5,7 @@ use Rattle.flow_manifest.specs.Slots.{reads_of}
 use Rattle.flow_memory_disk.specs.declared.choice.Choice.{Choice}
 use Rattle.flow_memory_disk.specs.declared.disk.MemoryDisk.{MemoryDisk}
 use Rattle.flow_memory_disk.specs.Calls.{Story, held_of}
-use Rattle.flow_memory_disk.specs.Memory.{left_of, moment_of, story_of}
+use Rattle.flow_memory_disk.specs.Memory.{left_after_stop, moment_of, story_of}
 use Rattle.flow_memory_disk.specs.Sound.{now_alone, now_counts, settled_one, sound}
 use Rattle.flow_memory_disk.specs.Stopped.{image_of, stopped}
 use Rattle.flow_memory_disk.specs.Stopping.{CanCrash}
@@ -22,7 +22,7 @@ use Rattle.flow_headline.proofs.Fronts.{front_of, image_of_run}
 
 -- what it reads as is an image of it
 some_image : (disk : Fused) → IsTrue true
-    → (image : ℕ → List ℕ) × left_of disk.disk (moment_of disk.disk) image
+    → (image : ℕ → List ℕ) × left_after_stop disk.disk (moment_of disk.disk) image
 some_image disk h = (
   reads_of (held_of (story_of disk.disk)),
   now_counts (story_of disk.disk) (moment_of disk.disk) (reads_of (held_of (story_of disk.disk))) (omega arith)

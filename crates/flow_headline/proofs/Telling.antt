@@ -14,7 +14,7 @@ use Rattle.flow_refusals.specs.declared.read_refusal.ReadRefusal.TheVariants as 
 use Rattle.flow_model.specs.Changes.{counts_of}
 use Rattle.flow_model.specs.Shelf.{Shelf}
 use Rattle.flow_snapshot.specs.Answered.{IsNoDamage}
-use Rattle.flow_snapshot.specs.Totals.{first_file, IsSpent, IsWithinLimits, SumsFit}
+use Rattle.flow_snapshot.specs.Totals.{first_file, IsTotalsRefusal, IsWithinHistoryLimits, SumsFit}
 use Rattle.flow_model.specs.Views.{IsViewOf}
 use Rattle.flow_model.proofs.Following.{all_counted}
 use Rattle.flow_model.specs.State.{State}
@@ -28,13 +28,13 @@ use Rattle.flow_headline.specs.Machine.{AreTotals, Fused, IsRefusal, IsStoppedRu
 -- damage that is reported of an archive in memory
 pub unanswered : (s : State) (honest : Bool) (shelf : Shelf) (e : ReadRefusal) (file at : ℕ)
     → e ≡ query.Damaged file at → honest ≡ true → shelf ≡ shelf_of s
-    → (IsTrue honest → (v : View) → IsViewOf shelf v → IsSpent (first_file shelf) (SumsFit v) e)
-    → (IsTrue honest → (h : History) (counts : List ℕ) → IsHistory h → AreCountsOf h counts → IsWithinLimits h
+    → (IsTrue honest → (v : View) → IsViewOf shelf v → IsTotalsRefusal (first_file shelf) (SumsFit v) e)
+    → (IsTrue honest → (h : History) (counts : List ℕ) → IsHistory h → AreCountsOf h counts → IsWithinHistoryLimits h
     → IsViewOf shelf (view_of h counts) → IsNoDamage e)
     → IsUnanswered s (NotAnswered (query.Damaged file at))
 unanswered s honest shelf e file at damaged reads same given answered = (
-  λ v is. subst (λ (r : ReadRefusal). IsSpent (first_file (shelf_of s)) (SumsFit v) r) damaged
-      (subst (λ (x : Shelf). IsSpent (first_file x) (SumsFit v) e) same
+  λ v is. subst (λ (r : ReadRefusal). IsTotalsRefusal (first_file (shelf_of s)) (SumsFit v) r) damaged
+      (subst (λ (x : Shelf). IsTotalsRefusal (first_file x) (SumsFit v) e) same
       (given reads v (subst (λ (x : Shelf). IsViewOf x v) (sym same) is))),
   λ h has within. subst (λ (r : ReadRefusal). IsNoDamage r) damaged
       (answered reads h (counts_of (shelf_of s)) has.history (all_counted (shelf_of s) h has.history has.view) within

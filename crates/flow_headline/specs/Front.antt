@@ -31,23 +31,23 @@ use Rattle.flow_archive.specs.Seen.{Seen}
 -- ---- messages
 
 -- the messages of an event
-abbrev pub messages_in : Event → List (List ℕ)
-messages_in (Append message) = message.items ∷ []
-messages_in (AppendBatch messages) = texts messages.items
-messages_in Seal = []
-messages_in (RollBegin count) = []
-messages_in (MergeBegin count) = []
-messages_in RollStep = []
-messages_in RollWrite = []
-messages_in RollInstall = []
-messages_in RollDrop = []
-messages_in Retire = []
+abbrev pub event_messages : Event → List (List ℕ)
+event_messages (Append message) = message.items ∷ []
+event_messages (AppendBatch messages) = texts messages.items
+event_messages Seal = []
+event_messages (RollBegin count) = []
+event_messages (MergeBegin count) = []
+event_messages RollStep = []
+event_messages RollWrite = []
+event_messages RollInstall = []
+event_messages RollDrop = []
+event_messages Retire = []
 
 -- What an event with this answer added. One under which a fault closed the archive counts as taken; a source that
 -- wasn't read (SourceFault) closes nothing, and adds nothing.
 abbrev pub added_by : Event → Result Answer ArchiveError → List (List ℕ)
-added_by event (Ok answer) = messages_in event
-added_by event (Err Fault) = messages_in event
+added_by event (Ok answer) = event_messages event
+added_by event (Err Fault) = event_messages event
 added_by event (Err (Message fault)) = []
 added_by event (Err OutOfMemory) = []
 added_by event (Err NumbersSpent) = []

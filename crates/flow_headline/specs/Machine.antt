@@ -10,7 +10,7 @@ use Rattle.flow_memory_disk.specs.declared.failing.FailingDisk.{FailingDisk}
 use Rattle.flow_memory_disk.specs.declared.sealed.MemorySealed.{MemorySealed}
 use Rattle.flow_memory_disk.specs.declared.when.Fuse.{Fuse}
 use Rattle.flow_memory_disk.specs.Calls.{held_of}
-use Rattle.flow_memory_disk.specs.Memory.{story_of, moment_of, left_of}
+use Rattle.flow_memory_disk.specs.Memory.{story_of, moment_of, left_after_stop}
 use Rattle.flow_memory_disk.specs.Stopped.{stopped}
 use Rattle.flow_memory_disk.specs.Stopping.{CanCrash}
 use Rattle.flow_measure.specs.declared.rows.Row.{Row}
@@ -18,7 +18,7 @@ use Rattle.flow_measure.specs.History.{History}
 use Rattle.flow_measure.specs.Query.{totals_between}
 use Rattle.flow_measure.specs.View.{View}
 use Rattle.flow_refusals.specs.declared.read_refusal.ReadRefusal.TheVariants as query
-use Rattle.flow_snapshot.specs.Totals.{first_file, IsSpent, IsWithinLimits, SumsFit}
+use Rattle.flow_snapshot.specs.Totals.{first_file, IsTotalsRefusal, IsWithinHistoryLimits, SumsFit}
 use Rattle.flow_model.specs.Views.{IsViewOf}
 use Rattle.flow_model.specs.State.{State}
 use Rattle.flow_model.specs.Shelved.{HasHistory, shelf_of}
@@ -40,7 +40,7 @@ memory_disk = record {
   marks = λ disk. (story_of disk).marks;
   held = λ disk. held_of (story_of disk);
   moment = λ disk. moment_of disk;
-  left_since = λ disk. left_of disk;
+  left_since = λ disk. left_after_stop disk;
   faults = λ disk. disk.faults;
 }
 
@@ -55,7 +55,7 @@ fused_disk = record {
   marks = λ disk. (story_of disk.disk).marks;
   held = λ disk. held_of (story_of disk.disk);
   moment = λ disk. moment_of disk.disk;
-  left_since = λ disk. left_of disk.disk;
+  left_since = λ disk. left_after_stop disk.disk;
   faults = λ disk. disk.failed + disk.disk.faults;
 }
 
@@ -99,9 +99,9 @@ pub record IsOverflow (archive : Seen Fused) (events : List Event) (choice : Cho
   pub stopped : IsStoppedRun archive events answers choice left
   pub front : IsFront archive.state events answers left
   pub spent : (v : View) → IsViewOf (shelf_of left) v
-      → IsSpent (first_file (shelf_of left)) (SumsFit v) (query.Damaged file at)
+      → IsTotalsRefusal (first_file (shelf_of left)) (SumsFit v) (query.Damaged file at)
   pub beyond : (h : History) (has : HasHistory archive.state h)
-      → IsWithinLimits (grown h (front.history h has).more left) → ⊥
+      → IsWithinHistoryLimits (grown h (front.history h has).more left) → ⊥
 
 -- why there are no totals after these events and this stop
 abbrev pub IsRefusal : Seen Fused → List Event → Choice → TotalsRefusal → Type 0
@@ -118,7 +118,8 @@ abbrev pub IsUnanswered : State → TotalsRefusal → Type 0
 IsUnanswered s (NotOpened OutOfMemory) = ⊤
 IsUnanswered s (NotOpened NoSuchStop) = ⊥
 IsUnanswered s (NotAnswered (query.Damaged file at)) =
-    ((v : View) → IsViewOf (shelf_of s) v → IsSpent (first_file (shelf_of s)) (SumsFit v) (query.Damaged file at))
-    × ((h : History) → HasHistory s h → IsWithinLimits h → ⊥)
+    ((v : View) → IsViewOf (shelf_of s) v
+    → IsTotalsRefusal (first_file (shelf_of s)) (SumsFit v) (query.Damaged file at))
+    × ((h : History) → HasHistory s h → IsWithinHistoryLimits h → ⊥)
 IsUnanswered s (NotAnswered query.Fault) = ⊥
 IsUnanswered s (NotAnswered query.OutOfMemory) = ⊤

@@ -11,7 +11,7 @@ use Rattle.flow_manifest.specs.declared.manifest.Manifest.{Manifest}
 use Rattle.flow_manifest.specs.declared.error.ManifestError.{ManifestError}
 use Rattle.flow_manifest.specs.declared.error.ManifestError.TheVariants as error
 use Rattle.flow_manifest.specs.declared.head.Head.{Head}
-use Rattle.flow_manifest.specs.Manifest.{Fits, IsSaid, IsValidManifest, IsBody, Format, format_number, head_of}
+use Rattle.flow_manifest.specs.Manifest.{FitsHead, IsSaid, IsValidManifest, IsBody, Format, format_number, head_of}
 use Rattle.flow_manifest.specs.Manifest.{head_octets, head_length, entry_octets}
 use Rattle.flow_manifest.specs.Fault.{IsFault, IsFaultBehind, IsDecoded}
 use Rattle.flow_manifest.proofs.Bodies.{entry_long, entries_long, one_manifest}
@@ -84,7 +84,7 @@ answer_fault octets e is = record {
 
 pub answer : (format : Format) (octets behind rest : List ℕ) (head : Head) (result : Result Manifest ManifestError)
     → octets ≡ to_be_bytes w16 (format_number format) ++ behind → behind ≡ head_octets format head ++ rest
-    → Fits head → IsSaid format head → IsFoundBehind head rest result → IsAnswer octets result
+    → FitsHead head → IsSaid format head → IsFoundBehind head rest result → IsAnswer octets result
 answer format octets behind rest head (Ok m) begins is fits said found =
     let whole : octets ≡ to_be_bytes w16 (format_number format) ++ head_octets format
     (head_of m) ++ flat_map entry_octets m.entries =

@@ -2,7 +2,7 @@
 use Rattle.std.proofs.Common.{◌≡◌, ℕ, zero, suc, ◌/◌, ◌*◌, ◌^◌, ◌<◌, List, ◌++◌, length, refl, sym, ap, ◌∙◌, arith}
 use Rattle.std.specs.Int.{w16, w32, w64, to_be_bytes}
 use Rattle.flow_manifest.specs.declared.head.Head.{Head}
-use Rattle.flow_manifest.specs.Manifest.{Fits, IsSaid, Format, format_1, format_2, format_number, head_octets}
+use Rattle.flow_manifest.specs.Manifest.{FitsHead, IsSaid, Format, format_1, format_2, format_number, head_octets}
 use Rattle.flow_manifest.specs.Manifest.{head_length}
 use Rattle.flow_manifest.proofs.Numbers.{wide16, wide32, wide64, same_number}
 
@@ -64,7 +64,8 @@ abbrev two_2 : Head → List ℕ → List ℕ
 two_2 h rest = to_be_bytes w32 h.width ++ two_3 h rest
 
 -- the same octets after the format begin with the same head, and the same octets follow
-pub same_head : (format : Format) (h k : Head) (xs ys : List ℕ) → Fits h → Fits k → IsSaid format h → IsSaid format k
+pub same_head : (format : Format) (h k : Head) (xs ys : List ℕ) → FitsHead h → FitsHead k → IsSaid format h
+    → IsSaid format k
     → head_octets format h ++ xs ≡ head_octets format k ++ ys → (h ≡ k) × (xs ≡ ys)
 unfolding head_octets
 same_head format_1 h k xs ys fits_h fits_k said_h said_k e =

@@ -7,7 +7,8 @@ use Rattle.flow_manifest.specs.declared.error.ManifestError.{ManifestError}
 use Rattle.flow_manifest.specs.declared.error.ManifestError.TheVariants.{Format, Entries, Cut, OutOfMemory}
 use Rattle.flow_manifest.specs.Manifest as manifest
 use Rattle.flow_manifest.specs.declared.head.Head.{Head}
-use Rattle.flow_manifest.specs.Manifest.{Fits, IsInRange, IsSaid, IsValidManifest, head_of, entry_octets, format_number}
+use Rattle.flow_manifest.specs.Manifest.{FitsHead, IsInRange, IsSaid, IsValidManifest, head_of, entry_octets}
+use Rattle.flow_manifest.specs.Manifest.{format_number}
 use Rattle.flow_manifest.specs.Manifest.{head_octets, head_length}
 
 -- A number of the head is out of its range, else another count of octets follows than that of its entries, else no
@@ -24,7 +25,7 @@ abbrev pub IsFaultIn : manifest.Format → List ℕ → ManifestError → Type 0
 IsFaultIn format octets fault =
     ((length octets < head_length format) × (fault ≡ Cut))
     ⊎ ((head : Head) × (rest : List ℕ)
-    × (octets ≡ to_be_bytes w16 (format_number format) ++ head_octets format head ++ rest) × Fits head
+    × (octets ≡ to_be_bytes w16 (format_number format) ++ head_octets format head ++ rest) × FitsHead head
     × IsSaid format head × IsFaultBehind head rest fault)
 
 -- No format, an unknown one, or a fault in a known one.

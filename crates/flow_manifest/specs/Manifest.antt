@@ -25,7 +25,7 @@ head_of m = record {
 }
 
 -- each number fits its octets
-pub record Fits (h : Head) : Type 0 where
+pub record FitsHead (h : Head) : Type 0 where
   pub generation : h.generation < 2 ^ 64
   pub width : h.width < 2 ^ 32
   pub wide : h.wide < 2 ^ 32
@@ -100,7 +100,7 @@ rolled_messages Sealed messages = 0
 rolled_messages Active messages = 0
 
 pub record IsValidManifest (m : Manifest) : Type 0 where
-  pub fits : Fits (head_of m)
+  pub fits : FitsHead (head_of m)
   pub ranges : IsInRange (head_of m)
   pub order : IsInOrder m.entries
   pub files : HaveOwnFiles m.entries

@@ -3,7 +3,7 @@
 ghost use Rattle.std.specs.Prelude.{◌≡◌, ◌≢◌, ◌↔◌, ◌<◌, ◌≤◌, ◌^◌, IsTrue, length};
 ghost use Rattle.std.specs.List.{sum_by, AllByRecursion};
 ghost use Rattle.flow_manifest.specs.Limits.{most_entries};
-ghost use Rattle.flow_manifest.specs.Manifest.{head_of, Fits, IsValidManifest, IsInRange, IsInOrder, HaveOwnFiles};
+ghost use Rattle.flow_manifest.specs.Manifest.{head_of, FitsHead, IsValidManifest, IsInRange, IsInOrder, HaveOwnFiles};
 ghost use Rattle.flow_manifest.specs.Manifest.{IsEntry, rank, wide_messages, rolled_messages};
 
 use crate::head::Head;
@@ -41,7 +41,7 @@ pub(crate) fn is_in_range(head: &Head) -> bool
 
 /// Whether a manifest is valid, once the numbers before the entries are in range.
 pub(crate) fn is_valid(manifest: &Manifest) -> bool
-    requires fits { Fits (head_of manifest.now) }
+    requires fits { FitsHead (head_of manifest.now) }
     requires ranges { IsInRange (head_of manifest.now) }
     ensures { IsTrue result ↔ IsValidManifest manifest.now }
 {

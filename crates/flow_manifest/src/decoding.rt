@@ -9,7 +9,8 @@ ghost use Rattle.flow_manifest.specs.declared.error.ManifestError.{ManifestError
 ghost use Rattle.flow_manifest.specs.declared.manifest.Entry.{Entry};
 ghost use Rattle.flow_manifest.specs.declared.manifest.Kind.{Kind};
 ghost use Rattle.flow_manifest.specs.declared.manifest.Manifest.{Manifest};
-ghost use Rattle.flow_manifest.specs.Manifest.{IsBody, IsSaid, IsValidManifest, Fits, FitsEntry, head_of, entry_octets};
+ghost use Rattle.flow_manifest.specs.Manifest.{IsBody, IsSaid, IsValidManifest, FitsHead, FitsEntry, head_of};
+ghost use Rattle.flow_manifest.specs.Manifest.{entry_octets};
 ghost use Rattle.flow_manifest.specs.Manifest.{kind_number, head_octets, format_1, format_2};
 ghost use Rattle.flow_manifest.specs.Fault.{IsFault, IsFaultBehind, IsDecoded};
 
@@ -74,7 +75,7 @@ pub fn decode(alloc: Global, octets: &[u8]) -> Result<Manifest, ManifestError>
 fn head_1_of(octets: &[u8]) -> (Head, &[u8])
     requires { 36 ≤ length octets.now }
     ensures is { octets.now ≡ head_octets format_1 result.0 ++ result.1.now }
-    ensures fits { Fits result.0 }
+    ensures fits { FitsHead result.0 }
     ensures said { IsSaid format_1 result.0 }
 {
     let (generation, rest) = u64_of(octets);
@@ -100,7 +101,7 @@ fn head_1_of(octets: &[u8]) -> (Head, &[u8])
 fn head_2_of(octets: &[u8]) -> (Head, &[u8])
     requires { 48 ≤ length octets.now }
     ensures is { octets.now ≡ head_octets format_2 result.0 ++ result.1.now }
-    ensures fits { Fits result.0 }
+    ensures fits { FitsHead result.0 }
 {
     let (generation, rest) = u64_of(octets);
     let (width, rest) = u32_of(rest);
@@ -135,7 +136,7 @@ fn greatest_multiple(width: u32) -> u32
 
 /// The manifest with these numbers, and with the entries that follow them.
 fn manifest_of(alloc: Global, head: Head, octets: &[u8]) -> Result<Manifest, ManifestError>
-    requires { Fits head }
+    requires { FitsHead head }
     ensures found { IfOk result (λ m. IsValidManifest m × (head_of m ≡ head)
         × (flat_map entry_octets m.entries ≡ octets.now)) }
     ensures fault { IfErr result (λ e. (e ≡ ManifestError.OutOfMemory) ⊎ IsFaultBehind head octets.now e) }

@@ -18,7 +18,7 @@ use Rattle.flow_measure.specs.declared.rows.Key.{Key}
 use Rattle.flow_measure.specs.declared.rows.Row.{Row}
 use Rattle.flow_measure.specs.declared.rows.Sums.{Sums}
 use Rattle.flow_measure.specs.Query.{interleaved, rows_of_both}
-use Rattle.flow_measure.specs.Sums.{Table, key_cmp, merged, rows_between, row_of, is_within}
+use Rattle.flow_measure.specs.Sums.{Table, key_cmp, merged, rows_between, table_row, is_within}
 use Rattle.flow_measure.proofs.Gathering.{first, second}
 use Rattle.flow_measure.proofs.Keys.{keys_total}
 
@@ -220,18 +220,18 @@ below_turned Greater h = absurd h
 
 module _ (width from to : ℕ) where
   abbrev rows_of : List (Key × Sums) → List Row
-  rows_of es = map (row_of width) (filter (λ (e : Key × Sums). is_within from to e.0) es)
+  rows_of es = map (table_row width) (filter (λ (e : Key × Sums). is_within from to e.0) es)
 
   rows_after : (e : Key × Sums) (es : List (Key × Sums)) → T (below_all key_cmp e.0 es)
-      → AllByRecursion (λ s. before s (row_of width e) ≡ false) (rows_of es)
+      → AllByRecursion (λ s. before s (table_row width e) ≡ false) (rows_of es)
   rows_after e [] h = tt
   rows_after e (f ∷ es) h =
-      elim (is_within from to f.0) as (λ b. AllByRecursion (λ s. before s (row_of width e) ≡ false)
-      (map (row_of width)
+      elim (is_within from to f.0) as (λ b. AllByRecursion (λ s. before s (table_row width e) ≡ false)
+      (map (table_row width)
       (cond b (f ∷ filter (λ (e : Key × Sums). is_within from to e.0) es)
       (filter (λ (e : Key × Sums). is_within from to e.0) es)))) [
         | true ↦ (
-          turned (row_of width e) (row_of width f) ∙ below_turned (key_cmp e.0 f.0) (first _ _ h),
+          turned (table_row width e) (table_row width f) ∙ below_turned (key_cmp e.0 f.0) (first _ _ h),
           rows_after e es (second _ _ h),
         )
         | false ↦ rows_after e es (second _ _ h)
@@ -240,7 +240,7 @@ module _ (width from to : ℕ) where
   rows_rise : (es : List (Key × Sums)) → T (is_sorted key_cmp es) → Rising (rows_of es)
   rows_rise [] h = tt
   rows_rise (e ∷ es) h =
-      elim (is_within from to e.0) as (λ b. Rising (map (row_of width)
+      elim (is_within from to e.0) as (λ b. Rising (map (table_row width)
       (cond b (e ∷ filter (λ (e : Key × Sums). is_within from to e.0) es)
       (filter (λ (e : Key × Sums). is_within from to e.0) es)))) [
         | true ↦ (rows_after e es (first _ _ h), rows_rise es (second _ _ h))
@@ -251,7 +251,7 @@ module _ (width from to : ℕ) where
   fewer_rows [] = omega arith
   fewer_rows (e ∷ es) =
       let fewer = fewer_rows es in
-      elim (is_within from to e.0) as (λ b. length (map (row_of width)
+      elim (is_within from to e.0) as (λ b. length (map (table_row width)
       (cond b (e ∷ filter (λ (e : Key × Sums). is_within from to e.0) es)
       (filter (λ (e : Key × Sums). is_within from to e.0) es))) ≤ length (e ∷ es)) [
         | true ↦ omega (arith, fewer)

@@ -13,7 +13,7 @@ use Rattle.flow_codec.specs.declared.plan.Role.{Role}
 use Rattle.flow_codec.specs.declared.plan.Role.TheVariants.{Octets, Packets, Protocol, Seconds, Milliseconds}
 use Rattle.flow_codec.specs.declared.plan.Place.{Place}
 use Rattle.flow_codec.specs.Fields.{IsField, AreFields, fields_in}
-use Rattle.flow_codec.specs.Plan.{number_of as element_of, role_of, is_counted, least_of, most_of, counting, values_of}
+use Rattle.flow_codec.specs.Plan.{element_of, role_of, is_counted, least_of, most_of, counting, values_of}
 use Rattle.flow_codec.specs.Plan.{counts_as, behind, place_of, places_of, are_fixed}
 use Rattle.flow_codec.proofs.RoleLaws.{counts_in, counts_is}
 use Rattle.flow_codec.proofs.Steps.{by_bool}

@@ -15,7 +15,7 @@ use Rattle.flow_measure.specs.Flows.{flows_of}
 use Rattle.flow_codec.specs.Message.{in_fields}
 use Rattle.flow_measure.specs.Sums.{Table, key_cmp, gathered, sums_by}
 use Rattle.flow_measure.specs.History.{Accepted, History, IsHistory, flows_in}
-use Rattle.flow_measure.specs.View.{view_of, parted, rolled_messages, AreCountsOf, gathered_all}
+use Rattle.flow_measure.specs.View.{view_of, parted, messages_between_cuts, AreCountsOf, gathered_all}
 use Rattle.flow_measure.specs.Query.{rows_of_both, narrow_table, narrow_table_in, wide_table, totals_between}
 use Rattle.flow_measure.specs.Query.{totals_in_view, flows_between, flows_in_view, message_at, message_in_view}
 use Rattle.flow_measure.proofs.Gathering.{sum_at-append, sum_at-entries, get-gathered, gathered-same, joined, sum_at}
@@ -57,21 +57,22 @@ parts_sum width (n ∷ ns) ms h =
     ∙ ap (sums_by width) (sym (flows-append (take n ms) (drop n ms)) ∙ ap flows_in (take-append-drop n ms))
 
 module _ (h : History) (counts : List ℕ) (is : IsHistory h) (all : AreCountsOf h counts) where
-  short : length (rolled_messages h) ≤ sum counts
+  short : length (messages_between_cuts h) ≤ sum counts
   short = omega (arith, length-take (h.cut - h.second) (drop h.second h.all), all)
 
-  joined_messages : rolled_messages h ++ drop h.cut h.all ≡ drop h.second h.all
+  joined_messages : messages_between_cuts h ++ drop h.cut h.all ≡ drop h.second h.all
   joined_messages =
-      ap (λ (n : ℕ). rolled_messages h ++ drop n h.all) (omega (arith, is.second))
-      ∙ ap (λ (ms : List Accepted). rolled_messages h ++ ms) (sym (drop-drop (h.cut - h.second) h.second h.all))
+      ap (λ (n : ℕ). messages_between_cuts h ++ drop n h.all) (omega (arith, is.second))
+      ∙ ap (λ (ms : List Accepted). messages_between_cuts h ++ ms) (sym (drop-drop (h.cut - h.second) h.second h.all))
       ∙ take-append-drop (h.cut - h.second) (drop h.second h.all)
 
   narrow : narrow_table_in (view_of h counts) ≡ narrow_table h
   narrow = ap (λ (m : FinMap key_cmp Sums). record { width = h.width; sums = m })
       (ap (λ (m : FinMap key_cmp Sums). gathered (entries m ++ entries (sums_by h.width (flows_in (drop h.cut h.all)))))
-      (parts_sum h.width counts (rolled_messages h) short)
-      ∙ both_sums h.width (flows_in (rolled_messages h)) (flows_in (drop h.cut h.all))
-      ∙ ap (sums_by h.width) (sym (flows-append (rolled_messages h) (drop h.cut h.all)) ∙ ap flows_in joined_messages))
+      (parts_sum h.width counts (messages_between_cuts h) short)
+      ∙ both_sums h.width (flows_in (messages_between_cuts h)) (flows_in (drop h.cut h.all))
+      ∙ ap (sums_by h.width) (sym (flows-append (messages_between_cuts h) (drop h.cut h.all))
+      ∙ ap flows_in joined_messages))
 
   pub totals_same : (from to : ℕ) → totals_in_view from to (view_of h counts) ≡ totals_between from to h
   totals_same from to = ap (λ (t : Table). rows_of_both from to t (wide_table h)) narrow

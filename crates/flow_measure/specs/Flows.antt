@@ -8,7 +8,7 @@ use Rattle.flow_codec.specs.declared.message.Message.{Message}
 use Rattle.flow_codec.specs.declared.message.DataRecord.{DataRecord}
 use Rattle.flow_codec.specs.declared.plan.Role.{Role}
 use Rattle.flow_codec.specs.declared.plan.Role.TheVariants.{Octets, Packets, Protocol, Seconds, Milliseconds}
-use Rattle.flow_codec.specs.Plan.{number_of as element_of, values_of}
+use Rattle.flow_codec.specs.Plan.{element_of, values_of}
 use Rattle.flow_codec.specs.Raw.{Placed}
 use Rattle.flow_codec.specs.Message.{interpreted}
 use Rattle.flow_measure.specs.declared.flow.Flow.{Flow}

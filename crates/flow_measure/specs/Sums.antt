@@ -133,12 +133,12 @@ AreSums t flows = t ≡ table_of t.width flows
 abbrev pub is_within : ℕ → ℕ → Key → Bool
 is_within from to key = nat_le from key.start && nat_lt key.start to
 
-abbrev pub row_of : ℕ → Key × Sums → Row
-row_of width e = record { key = e.0; sums = e.1; width = width }
+abbrev pub table_row : ℕ → Key × Sums → Row
+table_row width e = record { key = e.0; sums = e.1; width = width }
 
 -- the rows from one start up to another, in the order of their keys
 abbrev pub rows_between : ℕ → ℕ → Table → List Row
-rows_between from to t = map (row_of t.width) (filter (λ e. is_within from to e.0) (entries t.sums))
+rows_between from to t = map (table_row t.width) (filter (λ e. is_within from to e.0) (entries t.sums))
 
 -- ---- codes
 

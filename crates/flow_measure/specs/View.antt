@@ -27,14 +27,14 @@ parted [] xs = []
 parted (n ∷ ns) xs = take n xs ∷ parted ns (drop n xs)
 
 -- the messages of a history after its second cut and up to its cut
-abbrev pub rolled_messages : History → List Accepted
-rolled_messages h = take (h.cut - h.second) (drop h.second h.all)
+abbrev pub messages_between_cuts : History → List Accepted
+messages_between_cuts h = take (h.cut - h.second) (drop h.second h.all)
 
 -- the view of a history whose rolled entries have so many messages each, the oldest first
 abbrev pub view_of : History → List ℕ → View
 view_of h counts = record {
   merged = sums_by h.wide (flows_in (take h.second h.all));
-  rolled = map (λ messages. sums_by h.width (flows_in messages)) (parted counts (rolled_messages h));
+  rolled = map (λ messages. sums_by h.width (flows_in messages)) (parted counts (messages_between_cuts h));
   kept = drop h.cut h.all;
   templates = templates_of (take h.cut h.all);
   second = h.second;

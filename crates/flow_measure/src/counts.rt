@@ -4,7 +4,7 @@ ghost use Rattle.std.specs.Prelude.{◌≡◌, ◌≤◌, length};
 ghost use Rattle.std.specs.List.{AllByRecursion};
 ghost use Rattle.flow_codec.specs.Fields.{fields_in};
 ghost use Rattle.flow_codec.specs.Plan.{most_of, values_by, values_of};
-ghost use Rattle.flow_codec.specs.Raw.{IsWhole};
+ghost use Rattle.flow_codec.specs.Raw.{IsWholeRecord};
 ghost use Rattle.flow_elements.specs.Values.{number_of};
 ghost use Rattle.flow_measure.specs.Counting.{no_counts, with_value, counts_with, flow_by, step_values, step_rest};
 ghost use Rattle.flow_measure.specs.Counting.{IsStep, IsPlace, IsWide, ArePlaces, number_at, counts_at};
@@ -196,7 +196,7 @@ fn counts_at(octets: &[u8], places: &Places) -> Counts
 /// The flow of a whole record of a Template. Where each field is of fixed length, its numbers are read at their places.
 #[inline(always)]
 pub fn flow_of(header: &Header, definition: &Definition, octets: &[u8]) -> Flow
-    requires { IsWhole definition.now octets.now }
+    requires { IsWholeRecord definition.now octets.now }
     ensures { result ≡ flow_from header.now (values_of (fields_in definition.now.fields octets.now)) }
 {
     let counts = match &definition.plan().way {

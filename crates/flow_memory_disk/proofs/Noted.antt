@@ -6,7 +6,7 @@ use Rattle.std.proofs.lemmas.Bool.{cases_eq, ne_eqb}
 use Rattle.flow_disk.specs.Disk.{Held, Marks, changed, settled_at}
 use Rattle.flow_disk.proofs.Images.{changed_here, changed_there}
 use Rattle.flow_memory_disk.specs.declared.stored.StoredFile.{StoredFile}
-use Rattle.flow_memory_disk.specs.Calls.{Call, made, after, file_of, replayed, marks_made, told, frozen_in}
+use Rattle.flow_memory_disk.specs.Calls.{Call, made, after, file_of_call, replayed, marks_made, told, frozen_in}
 use Rattle.flow_memory_disk.specs.Stored.{looked, held_in, first_in, marks_in, room_in, unwritten, IsPlace}
 use Rattle.flow_memory_disk.specs.Stored.{IsNamedAfter}
 use Rattle.flow_memory_disk.proofs.Named.{named_set, fits_set}
@@ -21,11 +21,11 @@ pub replayed_push : (n : ℕ) (h : Held) (calls : List Call) (call : Call)
 replayed_push n h [] call = refl
 replayed_push n h (first ∷ calls) call = replayed_push n (after n h first) calls call
 
-pub after_here : (n : ℕ) (h : Held) (call : Call) → n ≡ file_of call → after n h call ≡ made h call
-after_here n h call is = ap (λ (b : Bool). if b then made h call else h) (eq-eqb n (file_of call) is)
+pub after_here : (n : ℕ) (h : Held) (call : Call) → n ≡ file_of_call call → after n h call ≡ made h call
+after_here n h call is = ap (λ (b : Bool). if b then made h call else h) (eq-eqb n (file_of_call call) is)
 
-pub after_there : (n : ℕ) (h : Held) (call : Call) → n ≢ file_of call → after n h call ≡ h
-after_there n h call differs = ap (λ (b : Bool). if b then made h call else h) (ne_eqb n (file_of call) differs)
+pub after_there : (n : ℕ) (h : Held) (call : Call) → n ≢ file_of_call call → after n h call ≡ h
+after_there n h call differs = ap (λ (b : Bool). if b then made h call else h) (ne_eqb n (file_of_call call) differs)
 
 -- what the stored files hold is what the record makes of them
 abbrev pub Replays : List StoredFile → List Call → Type 0
@@ -34,7 +34,7 @@ Replays files calls = (n : ℕ)
 
 -- `to` is what this call made of the file `was` at a place
 pub record IsMadeBy (files : List StoredFile) (i : ℕ) (was to : StoredFile) (call : Call) : Type 0 where
-  pub place : IsPlace files (file_of call) i
+  pub place : IsPlace files (file_of_call call) i
   pub stood : was ≡ get_or files i was
   pub number : to.number ≡ was.number
   pub held : held_in to ≡ made (held_in was) call
@@ -43,48 +43,48 @@ pub record IsMadeBy (files : List StoredFile) (i : ℕ) (was to : StoredFile) (c
   pub marks : marks_in to ≡ marks_made (marks_in was) call
 
 module _ (files : List StoredFile) (i : ℕ) (was to : StoredFile) (call : Call) (is : IsMadeBy files i was to call) where
-  same_number : to.number ≡ file_of call
-  same_number = number_there files (file_of call) i was to is.place is.stood is.number
+  same_number : to.number ≡ file_of_call call
+  same_number = number_there files (file_of_call call) i was to is.place is.stood is.number
 
-  stood_there : {A : Type 0} (view : StoredFile → A) (none : A) → looked view none files (file_of call) ≡ view was
-  stood_there view none = looked_place view none files (file_of call) i was is.place ∙ ap view (sym is.stood)
+  stood_there : {A : Type 0} (view : StoredFile → A) (none : A) → looked view none files (file_of_call call) ≡ view was
+  stood_there view none = looked_place view none files (file_of_call call) i was is.place ∙ ap view (sym is.stood)
 
   pub base_stays : (n : ℕ) → looked first_in [] (set files i to) n ≡ looked first_in [] files n
-  base_stays n = looked_set first_in [] files (file_of call) i to is.place same_number n
+  base_stays n = looked_set first_in [] files (file_of_call call) i to is.place same_number n
       ∙ ⊎_elim
-      (λ same. ap (changed (looked first_in [] files) (file_of call) (first_in to)) same
-      ∙ changed_here (looked first_in [] files) (file_of call) (first_in to) ∙ is.first
+      (λ same. ap (changed (looked first_in [] files) (file_of_call call) (first_in to)) same
+      ∙ changed_here (looked first_in [] files) (file_of_call call) (first_in to) ∙ is.first
       ∙ sym (stood_there first_in []) ∙ ap (looked first_in [] files) (sym same))
-      (λ differs. changed_there (looked first_in [] files) (file_of call) (first_in to) n differs)
-      (cases_eq n (file_of call))
+      (λ differs. changed_there (looked first_in [] files) (file_of_call call) (first_in to) n differs)
+      (cases_eq n (file_of_call call))
 
   pub replays_on : (calls : List Call) → Replays files calls → Replays (set files i to) (calls ++ call ∷ [])
-  replays_on calls replays n = looked_set held_in (settled_at []) files (file_of call) i to is.place same_number n
+  replays_on calls replays n = looked_set held_in (settled_at []) files (file_of_call call) i to is.place same_number n
       ∙ ⊎_elim
-      (λ same. ap (changed (looked held_in (settled_at []) files) (file_of call) (held_in to)) same
-      ∙ changed_here (looked held_in (settled_at []) files) (file_of call) (held_in to) ∙ is.held
+      (λ same. ap (changed (looked held_in (settled_at []) files) (file_of_call call) (held_in to)) same
+      ∙ changed_here (looked held_in (settled_at []) files) (file_of_call call) (held_in to) ∙ is.held
       ∙ ap (λ (h : Held). made h call) (sym (stood_there held_in (settled_at []))
       ∙ ap (looked held_in (settled_at []) files) (sym same) ∙ replays n)
       ∙ sym (after_here n (replayed n (settled_at (looked first_in [] files n)) calls) call same))
-      (λ differs. changed_there (looked held_in (settled_at []) files) (file_of call) (held_in to) n differs
+      (λ differs. changed_there (looked held_in (settled_at []) files) (file_of_call call) (held_in to) n differs
       ∙ replays n ∙ sym (after_there n (replayed n (settled_at (looked first_in [] files n)) calls) call differs))
-      (cases_eq n (file_of call))
+      (cases_eq n (file_of_call call))
       ∙ sym (replayed_push n (settled_at (looked first_in [] files n)) calls call)
       ∙ ap (λ (octets : List ℕ). replayed n (settled_at octets) (calls ++ call ∷ [])) (sym (base_stays n))
 
   pub fits_on : (fit : ℕ × ℕ) → ((n : ℕ) → looked room_in fit files n ≡ fit)
       → (n : ℕ) → looked room_in fit (set files i to) n ≡ fit
-  fits_on fit = fits_set files (file_of call) i was to fit is.place is.stood is.number is.room
+  fits_on fit = fits_set files (file_of_call call) i was to fit is.place is.stood is.number is.room
 
-  pub named_on : (old : List StoredFile) → IsNamedAfter old files (file_of call)
-      → IsNamedAfter old (set files i to) (file_of call)
-  named_on old = named_set old files (file_of call) i was to is.place is.stood is.number
+  pub named_on : (old : List StoredFile) → IsNamedAfter old files (file_of_call call)
+      → IsNamedAfter old (set files i to) (file_of_call call)
+  named_on old = named_set old files (file_of_call call) i was to is.place is.stood is.number
 
   pub marks_told : (n : ℕ)
-      → looked marks_in unwritten (set files i to) n ≡ changed (looked marks_in unwritten files) (file_of call)
-      (marks_made (looked marks_in unwritten files (file_of call)) call) n
-  marks_told n = looked_set marks_in unwritten files (file_of call) i to is.place same_number n
-      ∙ ap (λ (m : Marks). changed (looked marks_in unwritten files) (file_of call) m n) (is.marks
+      → looked marks_in unwritten (set files i to) n ≡ changed (looked marks_in unwritten files) (file_of_call call)
+      (marks_made (looked marks_in unwritten files (file_of_call call)) call) n
+  marks_told n = looked_set marks_in unwritten files (file_of_call call) i to is.place same_number n
+      ∙ ap (λ (m : Marks). changed (looked marks_in unwritten files) (file_of_call call) m n) (is.marks
       ∙ ap (λ (m : Marks). marks_made m call) (sym (stood_there marks_in unwritten)))
 
   pub story_told : (log new : Record)

@@ -4,13 +4,14 @@ use Rattle.std.proofs.lemmas.List.{take-append-le, drop-append-le}
 use Rattle.flow_memory_disk.specs.declared.deed.Deed.{Deed}
 use Rattle.flow_memory_disk.specs.declared.deed.Deed.TheVariants.{Wrote, Cut, Synced, Abandoned, Removed}
 use Rattle.flow_memory_disk.specs.Calls.{Call, written}
-use Rattle.flow_memory_disk.specs.Record.{call_of, calls_of, count_of, count_all}
+use Rattle.flow_memory_disk.specs.Record.{call_of, calls_of, octet_count, count_all}
 
-pub octets_push : (deeds : List Deed) (deed : Deed) → count_all (deeds ++ deed ∷ []) ≡ count_all deeds + count_of deed
+pub octets_push : (deeds : List Deed) (deed : Deed)
+    → count_all (deeds ++ deed ∷ []) ≡ count_all deeds + octet_count deed
 octets_push [] deed = omega arith
 octets_push (first ∷ deeds) deed = omega (arith, octets_push deeds deed)
 
-call_front : (deed : Deed) (octets more : List ℕ) → count_of deed ≤ length octets
+call_front : (deed : Deed) (octets more : List ℕ) → octet_count deed ≤ length octets
     → call_of deed (octets ++ more) ≡ call_of deed octets
 call_front (Wrote file at count) octets more le = ap (written file at) (take-append-le count octets more le)
 call_front (Cut file count) octets more le = refl
@@ -26,12 +27,12 @@ pub calls_push : (deeds : List Deed) (deed : Deed) (octets more : List ℕ) → 
     → calls_of (deeds ++ deed ∷ []) (octets ++ more) ≡ calls_of deeds octets ++ call_of deed more ∷ []
 calls_push [] deed octets more whole = ap (λ (l : List ℕ). call_of deed (l ++ more) ∷ []) (no_octets octets whole)
 calls_push (first ∷ deeds) deed octets more whole =
-    let rest = calls_push deeds deed (drop (count_of first) octets) more
-    (omega (arith, whole, length-drop (count_of first) octets)) in
+    let rest = calls_push deeds deed (drop (octet_count first) octets) more
+    (omega (arith, whole, length-drop (octet_count first) octets)) in
     let same : call_of first (octets ++ more) ≡ call_of first octets =
     call_front first octets more (omega (arith, whole)) in
-    let behind : drop (count_of first) (octets ++ more) ≡ drop (count_of first) octets ++ more =
-    drop-append-le (count_of first) octets more (omega (arith, whole)) in
-    ap (λ (c : Call). c ∷ calls_of (deeds ++ deed ∷ []) (drop (count_of first) (octets ++ more))) same
+    let behind : drop (octet_count first) (octets ++ more) ≡ drop (octet_count first) octets ++ more =
+    drop-append-le (octet_count first) octets more (omega (arith, whole)) in
+    ap (λ (c : Call). c ∷ calls_of (deeds ++ deed ∷ []) (drop (octet_count first) (octets ++ more))) same
     ∙ ap (λ (l : List ℕ). call_of first octets ∷ calls_of (deeds ++ deed ∷ []) l) behind
     ∙ ap (λ (l : List Call). call_of first octets ∷ l) rest

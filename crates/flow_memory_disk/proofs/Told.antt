@@ -9,31 +9,32 @@ use Rattle.flow_disk.specs.Disk.{given_up}
 use Rattle.flow_disk.specs.Moments.{Elapses, Covers}
 use Rattle.flow_disk.specs.Files.{Makes}
 use Rattle.flow_disk.proofs.Images.{changed_here, changed_there}
-use Rattle.flow_memory_disk.specs.Calls.{Call, Story, abandoned, removed, made, file_of, replayed, held_of, held_at}
+use Rattle.flow_memory_disk.specs.Calls.{Call, Story, abandoned, removed, made, file_of_call, replayed, held_of}
+use Rattle.flow_memory_disk.specs.Calls.{held_at}
 use Rattle.flow_memory_disk.specs.Calls.{LeftSince, told, frozen_in}
 use Rattle.flow_memory_disk.specs.Sound.{sound, settled_one}
 use Rattle.flow_memory_disk.proofs.Noted.{replayed_push, after_here, after_there}
 
 pub held_here : (old : Story) (call : Call)
-    → held_of (told old call) (file_of call) ≡ made (held_of old (file_of call)) call
-held_here old call = replayed_push (file_of call) (settled_at (old.base (file_of call))) old.calls call
-    ∙ after_here (file_of call) (held_of old (file_of call)) call refl
+    → held_of (told old call) (file_of_call call) ≡ made (held_of old (file_of_call call)) call
+held_here old call = replayed_push (file_of_call call) (settled_at (old.base (file_of_call call))) old.calls call
+    ∙ after_here (file_of_call call) (held_of old (file_of_call call)) call refl
 
-pub held_there : (old : Story) (call : Call) (n : ℕ) → n ≢ file_of call → held_of (told old call) n ≡ held_of old n
+pub held_there : (old : Story) (call : Call) (n : ℕ) → n ≢ file_of_call call → held_of (told old call) n ≡ held_of old n
 held_there old call n differs = replayed_push n (settled_at (old.base n)) old.calls call
     ∙ after_there n (held_of old n) call differs
 
 pub makes : {T E : Type 0} (old new : Story) (call : Call) (left : Held) (result : Result T E)
-    → OnOk result (new ≡ told old call) → OnErr result (new ≡ old) → IsWithin (held_of old (file_of call)) left
-    → Makes (held_of old) (held_of new) (file_of call) (made (held_of old (file_of call)) call) left result
+    → OnOk result (new ≡ told old call) → OnErr result (new ≡ old) → IsWithin (held_of old (file_of_call call)) left
+    → Makes (held_of old) (held_of new) (file_of_call call) (made (held_of old (file_of_call call)) call) left result
 makes old new call left (Ok v) ok err within = record {
-  done = ap (λ (s : Story). held_of s (file_of call)) ok ∙ held_here old call;
+  done = ap (λ (s : Story). held_of s (file_of_call call)) ok ∙ held_here old call;
   failed = tt;
   others = λ n differs. ap (λ (s : Story). held_of s n) ok ∙ held_there old call n differs;
 }
 makes old new call left (Err e) ok err within = record {
   done = tt;
-  failed = λ octets is. within octets (subst (λ (s : Story). IsImage (held_of s (file_of call)) octets) err is);
+  failed = λ octets is. within octets (subst (λ (s : Story). IsImage (held_of s (file_of_call call)) octets) err is);
   others = λ n differs. ap (λ (s : Story). held_of s n) err;
 }
 
@@ -93,9 +94,10 @@ pub keeps_told : (old : Story) (call : Call) (t : ℕ) (image : ℕ → List ℕ
 keeps_told old call t image left =
     (left.0, left.1, omega (arith, left.2, length_push old.calls call), still old call left.0 image left.2 left.3)
 
-pub elapses_told : (old : Story) (call : Call) (left : Held) → IsWithin (made (held_of old (file_of call)) call) left
+pub elapses_told : (old : Story) (call : Call) (left : Held)
+    → IsWithin (made (held_of old (file_of_call call)) call) left
     → Elapses (length old.calls) (length (told old call).calls) (LeftSince old) (LeftSince (told old call))
-    (changed (held_of old) (file_of call) left)
+    (changed (held_of old) (file_of_call call) left)
 elapses_told old call left within = record {
   later = omega (arith, length_push old.calls call);
   nothing_else = λ t image le since. ⊎_elim
@@ -105,7 +107,7 @@ elapses_told old call left within = record {
         omega (arith, early),
         earlier old call since.0 image (omega (arith, early)) since.3,
       ))
-      (λ late. inr (inside (held_of old) (held_of (told old call)) (file_of call) left
+      (λ late. inr (inside (held_of old) (held_of (told old call)) (file_of_call call) left
       (λ octets is. within octets (subst (λ (h : Held). IsImage h octets) (held_here old call) is))
       (held_there old call) image
       (latest (told old call) since.0 image (omega (arith, late, length_push old.calls call)) since.3)))
@@ -124,30 +126,31 @@ elapses_idle old during = record {
 
 pub elapses : {T E : Type 0} (old new : Story) (call : Call) (left : Held) (result : Result T E)
     → OnOk result (new ≡ told old call) → OnErr result (new ≡ old)
-    → IsWithin (made (held_of old (file_of call)) call) left
+    → IsWithin (made (held_of old (file_of_call call)) call) left
     → Elapses (length old.calls) (length new.calls) (LeftSince old) (LeftSince new)
-    (changed (held_of old) (file_of call) left)
+    (changed (held_of old) (file_of_call call) left)
 elapses old new call left (Ok v) ok err within =
     subst (λ (s : Story). Elapses (length old.calls) (length s.calls) (LeftSince old) (LeftSince s)
-    (changed (held_of old) (file_of call) left)) (sym ok) (elapses_told old call left within)
+    (changed (held_of old) (file_of_call call) left)) (sym ok) (elapses_told old call left within)
 elapses old new call left (Err e) ok err within =
     subst (λ (s : Story). Elapses (length old.calls) (length s.calls) (LeftSince old) (LeftSince s)
-    (changed (held_of old) (file_of call) left)) (sym err)
-    (elapses_idle old (changed (held_of old) (file_of call) left))
+    (changed (held_of old) (file_of_call call) left)) (sym err)
+    (elapses_idle old (changed (held_of old) (file_of_call call) left))
 
-covers_told : (old : Story) (call : Call) (left : Held) → IsWithin left (made (held_of old (file_of call)) call)
-    → Covers (length old.calls) (LeftSince (told old call)) (changed (held_of old) (file_of call) left)
+covers_told : (old : Story) (call : Call) (left : Held) → IsWithin left (made (held_of old (file_of_call call)) call)
+    → Covers (length old.calls) (LeftSince (told old call)) (changed (held_of old) (file_of_call call) left)
 covers_told old call left within t image le is =
     now_is (told old call) t image (omega (arith, le, length_push old.calls call))
-    (outside (held_of old) (held_of (told old call)) (file_of call) left
+    (outside (held_of old) (held_of (told old call)) (file_of_call call) left
     (λ octets of. subst (λ (h : Held). IsImage h octets) (sym (held_here old call)) (within octets of))
     (held_there old call) image is)
 
 pub covers : {T E : Type 0} (old new : Story) (call : Call) (left : Held) (result : Result T E)
-    → OnOk result (new ≡ told old call) → IsWithin left (made (held_of old (file_of call)) call)
-    → OnOk result (Covers (length old.calls) (LeftSince new) (changed (held_of old) (file_of call) left))
+    → OnOk result (new ≡ told old call) → IsWithin left (made (held_of old (file_of_call call)) call)
+    → OnOk result (Covers (length old.calls) (LeftSince new) (changed (held_of old) (file_of_call call) left))
 covers old new call left (Ok v) ok within =
-    subst (λ (s : Story). Covers (length old.calls) (LeftSince s) (changed (held_of old) (file_of call) left)) (sym ok)
+    subst (λ (s : Story). Covers (length old.calls) (LeftSince s) (changed (held_of old) (file_of_call call) left))
+    (sym ok)
     (covers_told old call left within)
 covers old new call left (Err e) ok within = tt
 
@@ -202,14 +205,14 @@ unchanged files file n = ⊎_elim
 
 pub elapses_quiet : {T E : Type 0} (old new : Story) (call : Call) (result : Result T E)
     → OnOk result (new ≡ told old call) → OnErr result (new ≡ old)
-    → IsWithin (made (held_of old (file_of call)) call) (held_of old (file_of call))
+    → IsWithin (made (held_of old (file_of_call call)) call) (held_of old (file_of_call call))
     → Elapses (length old.calls) (length new.calls) (LeftSince old) (LeftSince new) (held_of old)
 elapses_quiet old new call result ok err within =
-    let time = elapses old new call (held_of old (file_of call)) result ok err within in
+    let time = elapses old new call (held_of old (file_of_call call)) result ok err within in
     record {
       later = time.later;
       nothing_else = λ t image le left. ⊎_elim (λ early. inl early)
-          (λ now. inr (λ n. subst (λ (h : Held). IsImage h (image n)) (unchanged (held_of old) (file_of call) n)
+          (λ now. inr (λ n. subst (λ (h : Held). IsImage h (image n)) (unchanged (held_of old) (file_of_call call) n)
           (now n))) (time.nothing_else t image le left);
       keeps = time.keeps;
     }

@@ -11,12 +11,12 @@ pub data Call : Type 0 where
   abandoned : ℕ → Call
   removed : ℕ → Call
 
-abbrev pub file_of : Call → ℕ
-file_of (written file at octets) = file
-file_of (shortened file count) = file
-file_of (settled file) = file
-file_of (abandoned file) = file
-file_of (removed file) = file
+abbrev pub file_of_call : Call → ℕ
+file_of_call (written file at octets) = file
+file_of_call (shortened file count) = file
+file_of_call (settled file) = file
+file_of_call (abandoned file) = file
+file_of_call (removed file) = file
 
 -- what a call makes of its file
 abbrev pub made : Held → Call → Held
@@ -28,7 +28,7 @@ made file (removed n) = settled_at []
 
 -- a file, by its number, after a call and after several
 abbrev pub after : ℕ → Held → Call → Held
-after n file call = if n == file_of call then made file call else file
+after n file call = if n == file_of_call call then made file call else file
 
 abbrev pub replayed : ℕ → Held → List Call → Held
 replayed n file [] = file
@@ -69,7 +69,7 @@ told story call = record {
   base = story.base;
   calls = story.calls ++ call ∷ [];
   marks =
-      changed story.marks (file_of call) (marks_made (story.marks (file_of call)) call);
+      changed story.marks (file_of_call call) (marks_made (story.marks (file_of_call call)) call);
 }
 
 -- the story with a file frozen: no call of the record

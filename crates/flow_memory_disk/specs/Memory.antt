@@ -22,5 +22,5 @@ abbrev pub moment_of : MemoryDisk → ℕ
 moment_of disk = length (story_of disk).calls
 
 -- what a stop at a moment since another might have left
-abbrev pub left_of : MemoryDisk → ℕ → (ℕ → List ℕ) → Type 0
-left_of disk = LeftSince (story_of disk)
+abbrev pub left_after_stop : MemoryDisk → ℕ → (ℕ → List ℕ) → Type 0
+left_after_stop disk = LeftSince (story_of disk)

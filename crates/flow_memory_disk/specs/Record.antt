@@ -5,16 +5,16 @@ use Rattle.flow_memory_disk.specs.declared.deed.Deed.{Deed}
 use Rattle.flow_memory_disk.specs.declared.deed.Deed.TheVariants.{Wrote, Cut, Synced, Abandoned, Removed}
 use Rattle.flow_memory_disk.specs.Calls.{Call, written, shortened, settled, abandoned, removed}
 
-abbrev pub count_of : Deed → ℕ
-count_of (Wrote file at count) = count
-count_of (Cut file count) = 0
-count_of (Synced file) = 0
-count_of (Abandoned file) = 0
-count_of (Removed file) = 0
+abbrev pub octet_count : Deed → ℕ
+octet_count (Wrote file at count) = count
+octet_count (Cut file count) = 0
+octet_count (Synced file) = 0
+octet_count (Abandoned file) = 0
+octet_count (Removed file) = 0
 
 abbrev pub count_all : List Deed → ℕ
 count_all [] = 0
-count_all (deed ∷ deeds) = count_of deed + count_all deeds
+count_all (deed ∷ deeds) = octet_count deed + count_all deeds
 
 abbrev pub call_of : Deed → List ℕ → Call
 call_of (Wrote file at count) octets = written file at (take count octets)
@@ -25,4 +25,4 @@ call_of (Removed file) octets = removed file
 
 abbrev pub calls_of : List Deed → List ℕ → List Call
 calls_of [] octets = []
-calls_of (deed ∷ deeds) octets = call_of deed octets ∷ calls_of deeds (drop (count_of deed) octets)
+calls_of (deed ∷ deeds) octets = call_of deed octets ∷ calls_of deeds (drop (octet_count deed) octets)

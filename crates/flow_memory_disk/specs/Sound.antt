@@ -7,7 +7,8 @@ use Rattle.std.proofs.lemmas.List.{take_all}
 use Rattle.std.proofs.lemmas.Bool.{false≢true}
 use Rattle.std.proofs.lemmas.Bool.Decides.{nat_tests}
 use Rattle.flow_disk.specs.Disk.{Held, IsImage, IsDiskImage, settled_at, touched_at, loosened_at, given_up, put_at}
-use Rattle.flow_memory_disk.specs.Calls.{Call, written, shortened, settled, abandoned, removed, made, after, file_of}
+use Rattle.flow_memory_disk.specs.Calls.{Call, written, shortened, settled, abandoned, removed, made, after}
+use Rattle.flow_memory_disk.specs.Calls.{file_of_call}
 use Rattle.flow_memory_disk.specs.Calls.{replayed, Story, held_of, LeftSince}
 
 pub record IsSound (file : Held) : Type 0 where
@@ -127,7 +128,7 @@ pub sound_replayed : (n : ℕ) (h : Held) (calls : List Call) → IsSound h → 
 sound_replayed n h [] sound = sound
 sound_replayed n h (call ∷ calls) sound =
     sound_replayed n (after n h call) calls
-    (sound_if (n == file_of call) (made h call) h (made_sound h call sound) sound)
+    (sound_if (n == file_of_call call) (made h call) h (made_sound h call sound) sound)
 
 pub sound : (story : Story) (n : ℕ) → IsSound (held_of story n)
 sound story n = sound_replayed n (settled_at (story.base n)) story.calls (settled_sound (story.base n))

@@ -13,11 +13,11 @@ pub(crate) enum Deed {
 
 impl Deed {
     ghost use Rattle.std.specs.Prelude.{◌≡◌};
-    ghost use Rattle.flow_memory_disk.specs.Record.{count_of};
+    ghost use Rattle.flow_memory_disk.specs.Record.{octet_count};
 
     /// How many octets it wrote.
     pub(crate) fn count(&self) -> usize
-        ensures { result ≡ count_of self.now }
+        ensures { result ≡ octet_count self.now }
     {
         match self {
             Deed::Wrote(_, _, count) => *count,

@@ -18,7 +18,7 @@ impl Disk for MemoryDisk {
     ghost use Rattle.flow_disk.specs.Files.{Writes, Cuts, Syncs, Removes, while_writing, while_cutting};
     ghost use Rattle.flow_disk.specs.Files.{while_removing, MarkedByWrite, MarkedBySync, MarkedByRemoval, frozen_as};
     ghost use Rattle.flow_memory_disk.specs.Calls.{held_of};
-    ghost use Rattle.flow_memory_disk.specs.Memory.{story_of, moment_of, left_of};
+    ghost use Rattle.flow_memory_disk.specs.Memory.{story_of, moment_of, left_after_stop};
     ghost use Rattle.flow_memory_disk.specs.Room.{lacks_file, lacks_room, lacks_octets, IsRefused};
     ghost use Rattle.flow_memory_disk.specs.Stored.{IsNamedAfter};
     ghost use Rattle.flow_memory_disk.specs.Sound.{sound, now_counts, now_alone};
@@ -32,7 +32,7 @@ impl Disk for MemoryDisk {
 
     ghost moment = { moment_of };
 
-    ghost left_since = { left_of };
+    ghost left_since = { left_after_stop };
 
     ghost faults = { λ d. d.faults };
 
@@ -60,7 +60,7 @@ impl Disk for MemoryDisk {
         ensures frozen { ((story_of self.new).marks file).frozen ≡ ((story_of self.old).marks file).frozen }
         ensures listed { ((story_of self.new).marks file).listed ≡ ((story_of self.old).marks file).listed }
         ensures held { Stays (held_of (story_of self.old)) (held_of (story_of self.new)) }
-        ensures time { Passes moment_of left_of self.old self.new (held_of (story_of self.old)) }
+        ensures time { Passes moment_of left_after_stop self.old self.new (held_of (story_of self.old)) }
         ensures cause { FailsOnlyByFault self.old.faults self.new.faults result }
         ensures sure { IsErrOf result DiskError.Fault → ⊥ }
         ensures same { self.new ≡ self.old }
@@ -82,7 +82,7 @@ impl Disk for MemoryDisk {
             (λ octets. octets.items ≡ take count (drop at (held_of (story_of self.old) file).reads)) }
         ensures marks { Stays (story_of self.old).marks (story_of self.new).marks }
         ensures held { Stays (held_of (story_of self.old)) (held_of (story_of self.new)) }
-        ensures time { Passes moment_of left_of self.old self.new (held_of (story_of self.old)) }
+        ensures time { Passes moment_of left_after_stop self.old self.new (held_of (story_of self.old)) }
         ensures cause { HasCause DiskError.Fault self.old.faults self.new.faults result }
         ensures sure { IsErrOf result DiskError.Fault → ⊥ }
         ensures same { self.new ≡ self.old }
@@ -98,9 +98,9 @@ impl Disk for MemoryDisk {
         ensures marks { MarkedByWrite (story_of self.old).marks (story_of self.new).marks file
             (max ((story_of self.old).marks file).size (at + length octets.now)) result }
         ensures held { Writes (held_of (story_of self.old)) (held_of (story_of self.new)) file at octets.now result }
-        ensures time { Passes moment_of left_of self.old self.new
+        ensures time { Passes moment_of left_after_stop self.old self.new
             (while_writing (held_of (story_of self.old)) file at octets.now) }
-        ensures covered { OnOk result (Covers (moment_of self.old) (left_of self.new)
+        ensures covered { OnOk result (Covers (moment_of self.old) (left_after_stop self.new)
             (while_writing (held_of (story_of self.old)) file at octets.now)) }
         ensures cause { FailsOnlyByFault self.old.faults self.new.faults result }
         ensures lacks { is_err result ≡ (lacks_room self.old file 1
@@ -118,10 +118,11 @@ impl Disk for MemoryDisk {
         ensures clock { moment_of self.old ≤ moment_of self.new }
         ensures marks { MarkedByWrite (story_of self.old).marks (story_of self.new).marks file count result }
         ensures held { Cuts (held_of (story_of self.old)) (held_of (story_of self.new)) file count result }
-        ensures time { Passes moment_of left_of self.old self.new
+        ensures time { Passes moment_of left_after_stop self.old self.new
             (while_cutting (held_of (story_of self.old)) file count) }
         ensures covered { OnOk result
-            (Covers (moment_of self.old) (left_of self.new) (while_cutting (held_of (story_of self.old)) file count)) }
+            (Covers (moment_of self.old) (left_after_stop self.new)
+            (while_cutting (held_of (story_of self.old)) file count)) }
         ensures cause { FailsOnlyByFault self.old.faults self.new.faults result }
         ensures lacks { is_err result ≡ lacks_room self.old file 1 0 }
         ensures refused { OnErr result (IsRefused self.old self.new) }
@@ -135,7 +136,7 @@ impl Disk for MemoryDisk {
         ensures clock { moment_of self.old ≤ moment_of self.new }
         ensures marks { MarkedBySync (story_of self.old).marks (story_of self.new).marks file result }
         ensures held { Syncs (held_of (story_of self.old)) (held_of (story_of self.new)) file result }
-        ensures time { Passes moment_of left_of self.old self.new (held_of (story_of self.old)) }
+        ensures time { Passes moment_of left_after_stop self.old self.new (held_of (story_of self.old)) }
         ensures cause { FailsOnlyByFault self.old.faults self.new.faults result }
         ensures lacks { is_err result ≡ lacks_room self.old file 1 0 }
         ensures refused { OnErr result (IsRefused self.old self.new) }
@@ -150,9 +151,11 @@ impl Disk for MemoryDisk {
         ensures clock { moment_of self.old ≤ moment_of self.new }
         ensures marks { MarkedByRemoval (story_of self.old).marks (story_of self.new).marks file result }
         ensures held { Removes (held_of (story_of self.old)) (held_of (story_of self.new)) file result }
-        ensures time { Passes moment_of left_of self.old self.new (while_removing (held_of (story_of self.old)) file) }
+        ensures time { Passes moment_of left_after_stop self.old self.new
+            (while_removing (held_of (story_of self.old)) file) }
         ensures covered { OnOk result
-            (Covers (moment_of self.old) (left_of self.new) (while_removing (held_of (story_of self.old)) file)) }
+            (Covers (moment_of self.old) (left_after_stop self.new)
+            (while_removing (held_of (story_of self.old)) file)) }
         ensures cause { FailsOnlyByFault self.old.faults self.new.faults result }
         ensures lacks { is_err result ≡ lacks_room self.old file 2 0 }
         ensures refused { OnErr result (IsRefused self.old self.new) }
@@ -169,7 +172,7 @@ impl Disk for MemoryDisk {
             → Contains files.items n ↔ (((story_of self.new).marks n).listed ≡ true)) }
         ensures marks { Stays (story_of self.old).marks (story_of self.new).marks }
         ensures held { Stays (held_of (story_of self.old)) (held_of (story_of self.new)) }
-        ensures time { Passes moment_of left_of self.old self.new (held_of (story_of self.old)) }
+        ensures time { Passes moment_of left_after_stop self.old self.new (held_of (story_of self.old)) }
         ensures cause { HasCause DiskError.Fault self.old.faults self.new.faults result }
         ensures sure { IsErrOf result DiskError.Fault → ⊥ }
         ensures same { self.new ≡ self.old }
@@ -191,7 +194,7 @@ impl Disk for MemoryDisk {
             (frozen_as ((story_of self.old).marks file))) }
         ensures thawed { OnErr result (Stays (story_of self.old).marks (story_of self.new).marks) }
         ensures held { Stays (held_of (story_of self.old)) (held_of (story_of self.new)) }
-        ensures time { Passes moment_of left_of self.old self.new (held_of (story_of self.old)) }
+        ensures time { Passes moment_of left_after_stop self.old self.new (held_of (story_of self.old)) }
         ensures cause { FailsOnlyByFault self.old.faults self.new.faults result }
         ensures has { OnOk result ((lacks_file self.old file ≡ false) × (self.new.lent ≡ self.old.lent)) }
         ensures lacks { OnErr result ((lacks_file self.old file ≡ true) ⊎ HasRisen self.old.lent self.new.lent) }
@@ -208,9 +211,9 @@ impl Disk for MemoryDisk {
         ensures clock { moment_of self.old ≤ moment_of self.new }
         ensures marks { MarkedByRemoval (story_of self.old).marks (story_of self.new).marks (sealed.number) result }
         ensures held { Removes (held_of (story_of self.old)) (held_of (story_of self.new)) (sealed.number) result }
-        ensures time { Passes moment_of left_of self.old self.new
+        ensures time { Passes moment_of left_after_stop self.old self.new
             (while_removing (held_of (story_of self.old)) (sealed.number)) }
-        ensures covered { OnOk result (Covers (moment_of self.old) (left_of self.new)
+        ensures covered { OnOk result (Covers (moment_of self.old) (left_after_stop self.new)
             (while_removing (held_of (story_of self.old)) (sealed.number))) }
         ensures cause { FailsOnlyByFault self.old.faults self.new.faults result }
         ensures lacks { is_err result ≡ lacks_room self.old sealed.number 2 0 }

@@ -1,7 +1,7 @@
 // The record of the calls that changed a file.
 ghost use Rattle.std.specs.Prelude.{◌≡◌, ◌||◌, nat_lt, ◌+◌, ◌<◌, ◌≤◌, length, IfOk, vec_len, vec_capacity, [], ◌∷◌};
 ghost use Rattle.std.specs.Prelude.{◌++◌};
-ghost use Rattle.flow_memory_disk.specs.Record.{count_all, calls_of, call_of, count_of};
+ghost use Rattle.flow_memory_disk.specs.Record.{count_all, calls_of, call_of, octet_count};
 
 use crate::deed::Deed;
 use crate::reserved::append;
@@ -50,7 +50,7 @@ impl Record {
     pub(crate) fn push(&mut self, deed: Deed, octets: &[u8])
         requires calls { vec_len self.old.deeds < vec_capacity self.old.deeds }
         requires octets { vec_len self.old.octets + length octets.now ≤ vec_capacity self.old.octets }
-        requires count { count_of deed ≡ length octets.now }
+        requires count { octet_count deed ≡ length octets.now }
         ensures calls { calls_of self.new.deeds.items self.new.octets.items ≡ calls_of self.old.deeds.items
             self.old.octets.items ++ call_of deed octets.now ∷ [] }
         ensures len { vec_len self.new.deeds ≡ vec_len self.old.deeds + 1 }

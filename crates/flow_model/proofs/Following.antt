@@ -16,13 +16,13 @@ use Rattle.flow_measure.specs.declared.rows.Sums.{Sums}
 use Rattle.flow_measure.specs.Sums.{Table, key_cmp, gathered, sums_by, table_of, widened}
 use Rattle.flow_measure.specs.History.{Accepted, AreAcceptedFrom, History, IsHistory, flows_in, read_from}
 use Rattle.flow_measure.specs.History.{templates_from, templates_of}
-use Rattle.flow_measure.specs.View.{gathered_all, parted, rolled_messages, view_of}
+use Rattle.flow_measure.specs.View.{gathered_all, parted, messages_between_cuts, view_of}
 use Rattle.flow_measure.proofs.Gathering.{gathered-again}
 use Rattle.flow_measure.proofs.SumLaws.{widened-table_of}
 use Rattle.flow_measure.proofs.ViewLaws.{both_sums, flows-append, no_sums, parts_sum}
 use Rattle.flow_rolled.specs.Rollup.{IsRollup}
 use Rattle.flow_segment.specs.Carry.{octets_of}
-use Rattle.flow_model.specs.Shelf.{Rollup, Segment, Shelf, cut_of, kept_of, messages_in, messages_of}
+use Rattle.flow_model.specs.Shelf.{Rollup, Segment, Shelf, cut_of, kept_of, messages_in, rollup_message_count}
 use Rattle.flow_model.specs.Shelf.{new_shelf}
 use Rattle.flow_model.specs.Views.{AreRestated, AreRolled, AreRolledInto, IsViewOf}
 use Rattle.flow_model.specs.Changes.{Allows, CallsFor, applied, counts_of, history_after, merged_table}
@@ -69,16 +69,16 @@ module _ (s : Shelf) (h : History) (hist : IsHistory h) (is : IsViewOf s (view_o
   abbrev rolled_sums : List Accepted → FinMap key_cmp Sums
   rolled_sums part = sums_by h.width (flows_in part)
 
-  second_is : h.second ≡ messages_of s.merged
+  second_is : h.second ≡ rollup_message_count s.merged
   second_is = is.second
 
-  cut_is : h.cut ≡ messages_of s.merged + messages_of s.rolled
+  cut_is : h.cut ≡ rollup_message_count s.merged + rollup_message_count s.rolled
   cut_is = is.cut
 
   position_is : length h.all ≡ cut_of s + length (kept_of s)
   position_is = is.position
 
-  counted : sum (counts_of s) ≡ messages_of s.rolled
+  counted : sum (counts_of s) ≡ rollup_message_count s.rolled
   counted = sum-map (λ (r : Rollup). r.messages) s.rolled
 
   pub all_counted : sum (counts_of s) ≡ h.cut - h.second
@@ -114,7 +114,7 @@ module _ (s : Shelf) (h : History) (hist : IsHistory h) (is : IsViewOf s (view_o
     same_first : (n : ℕ) → n ≤ h.cut → take n (h.all ++ more) ≡ take n h.all
     same_first n le = take-append-le n h.all more (omega (arith, le, hist.cut))
 
-    same_rolled : rolled_messages (grown more) ≡ rolled_messages h
+    same_rolled : messages_between_cuts (grown more) ≡ messages_between_cuts h
     same_rolled =
         ap (take (h.cut - h.second)) (drop-append-le h.second h.all more (omega (arith, hist.second, hist.cut)))
         ∙ take-append-le (h.cut - h.second) (drop h.second h.all) more
@@ -224,26 +224,26 @@ module _ (s : Shelf) (h : History) (hist : IsHistory h) (is : IsViewOf s (view_o
     own_count = length-take-le file.messages (drop h.cut h.all)
         (omega (arith, length-drop h.cut h.all, position_is, cut_is, enough))
 
-    all_rolled : rolled_messages (history_after h (installed file k)) ≡ rolled_messages h ++ own
+    all_rolled : messages_between_cuts (history_after h (installed file k)) ≡ messages_between_cuts h ++ own
     all_rolled =
         ap (λ (n : ℕ). take n (drop h.second h.all)) (omega (arith, hist.second))
         ∙ take-add (h.cut - h.second) file.messages (drop h.second h.all)
-        ∙ ap (λ (ms : List Accepted). rolled_messages h ++ take file.messages ms)
+        ∙ ap (λ (ms : List Accepted). messages_between_cuts h ++ take file.messages ms)
         (drop-drop (h.cut - h.second) h.second h.all
         ∙ ap (λ (n : ℕ). drop n h.all) (omega (arith, hist.second)))
 
-    rolled_count : length (rolled_messages h) ≡ sum (counts_of s)
+    rolled_count : length (messages_between_cuts h) ≡ sum (counts_of s)
     rolled_count = length-take-le (h.cut - h.second) (drop h.second h.all)
         (omega (arith, length-drop h.second h.all, hist.cut, hist.second)) ∙ sym all_counted
 
-    parts : map rolled_sums (parted (counts_of (applied s (installed file k))) (rolled_messages h ++ own))
-        ≡ map rolled_sums (parted (counts_of s) (rolled_messages h)) ++ rolled_sums own ∷ []
+    parts : map rolled_sums (parted (counts_of (applied s (installed file k))) (messages_between_cuts h ++ own))
+        ≡ map rolled_sums (parted (counts_of s) (messages_between_cuts h)) ++ rolled_sums own ∷ []
     parts =
-        ap (λ (cs : List ℕ). map rolled_sums (parted cs (rolled_messages h ++ own)))
+        ap (λ (cs : List ℕ). map rolled_sums (parted cs (messages_between_cuts h ++ own)))
         (map-append (λ (r : Rollup). r.messages) s.rolled (file ∷ [])
         ∙ ap (λ (n : ℕ). counts_of s ++ n ∷ []) (sym own_count))
-        ∙ ap (map rolled_sums) (parted_then (counts_of s) (rolled_messages h) own rolled_count)
-        ∙ map-append rolled_sums (parted (counts_of s) (rolled_messages h)) (own ∷ [])
+        ∙ ap (map rolled_sums) (parted_then (counts_of s) (messages_between_cuts h) own rolled_count)
+        ∙ map-append rolled_sums (parted (counts_of s) (messages_between_cuts h)) (own ∷ [])
 
     entry : IsRollup s.width file.octets (record { width = s.width; sums = rolled_sums own })
     entry = subst (λ (w : ℕ). IsRollup s.width file.octets
@@ -263,7 +263,7 @@ module _ (s : Shelf) (h : History) (hist : IsHistory h) (is : IsViewOf s (view_o
         ∙ ap (λ (n : ℕ). drop n (messages_in (take k s.sealed) ++ (messages_in (drop k s.sealed) ++ s.active))) count
         ∙ drop-append_seam (messages_in (take k s.sealed)) (messages_in (drop k s.sealed) ++ s.active)
 
-    more_rolled : messages_of (s.rolled ++ file ∷ []) ≡ messages_of s.rolled + file.messages
+    more_rolled : rollup_message_count (s.rolled ++ file ∷ []) ≡ rollup_message_count s.rolled + file.messages
     more_rolled = omega (arith, sum_by-append (λ (r : Rollup). r.messages) s.rolled (file ∷ []))
 
     pub installed_follows : IsViewOf (applied s (installed file k))
@@ -273,7 +273,7 @@ module _ (s : Shelf) (h : History) (hist : IsHistory h) (is : IsViewOf s (view_o
       rolled = subst (AreRolled s.width (s.rolled ++ file ∷ []))
           (sym (ap (λ (ms : List Accepted). map rolled_sums (parted (counts_of (applied s (installed file k))) ms))
           all_rolled ∙ parts))
-          (rolled_then s.width s.rolled (map rolled_sums (parted (counts_of s) (rolled_messages h))) file
+          (rolled_then s.width s.rolled (map rolled_sums (parted (counts_of s) (messages_between_cuts h))) file
           (rolled_sums own) is.rolled entry);
       prefixes = subst (λ (t : AllTemplates). AreRestated t (drop k s.sealed) s.prefix) moved
           (restated_behind k (templates_of (take h.cut h.all)) s.sealed s.prefix s.active (drop h.cut h.all)
@@ -289,8 +289,8 @@ module _ (s : Shelf) (h : History) (hist : IsHistory h) (is : IsViewOf s (view_o
 
   -- ---- rolled files are merged
 
-  module _ (file : Rollup) (k : ℕ) (count : file.messages ≡ messages_of (take k s.rolled)) where
-    few : file.messages + messages_of (drop k s.rolled) ≡ messages_of s.rolled
+  module _ (file : Rollup) (k : ℕ) (count : file.messages ≡ rollup_message_count (take k s.rolled)) where
+    few : file.messages + rollup_message_count (drop k s.rolled) ≡ rollup_message_count s.rolled
     few = omega (arith, count, sum_by-take-drop (λ (r : Rollup). r.messages) s.rolled k)
 
     pub merged_history : IsHistory (history_after h (merged file k))
@@ -310,25 +310,25 @@ module _ (s : Shelf) (h : History) (hist : IsHistory h) (is : IsViewOf s (view_o
     abbrev sources : List Accepted
     sources = take file.messages (drop h.second h.all)
 
-    source_front : take (sum (take k (counts_of s))) (rolled_messages h) ≡ sources
-    source_front = ap (λ (n : ℕ). take n (rolled_messages h)) front_count
+    source_front : take (sum (take k (counts_of s))) (messages_between_cuts h) ≡ sources
+    source_front = ap (λ (n : ℕ). take n (messages_between_cuts h)) front_count
         ∙ take-take file.messages (h.cut - h.second) (drop h.second h.all)
         (omega (arith, few, second_is, cut_is))
 
-    narrow_sums : gathered_all (take k (map rolled_sums (parted (counts_of s) (rolled_messages h))))
+    narrow_sums : gathered_all (take k (map rolled_sums (parted (counts_of s) (messages_between_cuts h))))
         ≡ rolled_sums sources
     narrow_sums =
-        ap gathered_all (take-map rolled_sums k (parted (counts_of s) (rolled_messages h))
-        ∙ ap (map rolled_sums) (parted_front k (counts_of s) (rolled_messages h)))
-        ∙ parts_sum h.width (take k (counts_of s)) (take (sum (take k (counts_of s))) (rolled_messages h))
-        (omega (arith, length-take (sum (take k (counts_of s))) (rolled_messages h)))
+        ap gathered_all (take-map rolled_sums k (parted (counts_of s) (messages_between_cuts h))
+        ∙ ap (map rolled_sums) (parted_front k (counts_of s) (messages_between_cuts h)))
+        ∙ parts_sum h.width (take k (counts_of s)) (take (sum (take k (counts_of s))) (messages_between_cuts h))
+        (omega (arith, length-take (sum (take k (counts_of s))) (messages_between_cuts h)))
         ∙ ap rolled_sums source_front
 
     -- the k oldest rolled files' sums, widened
     abbrev wide_table : Table
     wide_table = widened s.wide (record {
       width = s.width;
-      sums = gathered_all (take k (map rolled_sums (parted (counts_of s) (rolled_messages h))));
+      sums = gathered_all (take k (map rolled_sums (parted (counts_of s) (messages_between_cuts h))));
     })
 
     pub wide_sums : wide_table ≡ table_of s.wide (flows_in sources)
@@ -360,7 +360,8 @@ module _ (s : Shelf) (h : History) (hist : IsHistory h) (is : IsViewOf s (view_o
                 ∙ ap flows_in (sym (take-add h.second file.messages h.all)))),
           )
 
-      rest_rolled : rolled_messages (history_after h (merged file k)) ≡ drop file.messages (rolled_messages h)
+      rest_rolled : messages_between_cuts (history_after h (merged file k))
+          ≡ drop file.messages (messages_between_cuts h)
       rest_rolled =
           let m = h.cut - (h.second + file.messages) in
           let all : file.messages + m ≡ h.cut - h.second = omega (arith, few, second_is, cut_is) in
@@ -368,18 +369,18 @@ module _ (s : Shelf) (h : History) (hist : IsHistory h) (is : IsViewOf s (view_o
           ∙ sym (drop-take file.messages m (drop h.second h.all))
           ∙ ap (λ (n : ℕ). drop file.messages (take n (drop h.second h.all))) all
 
-      rest_parts : drop k (map rolled_sums (parted (counts_of s) (rolled_messages h)))
+      rest_parts : drop k (map rolled_sums (parted (counts_of s) (messages_between_cuts h)))
           ≡ map rolled_sums (parted (counts_of (applied s (merged file k)))
-          (rolled_messages (history_after h (merged file k))))
+          (messages_between_cuts (history_after h (merged file k))))
       rest_parts =
-          drop-map rolled_sums k (parted (counts_of s) (rolled_messages h))
-          ∙ ap (map rolled_sums) (parted_rest k (counts_of s) (rolled_messages h)
-          ∙ ap (λ (n : ℕ). parted (drop k (counts_of s)) (drop n (rolled_messages h))) front_count
-          ∙ ap (λ (cs : List ℕ). parted cs (drop file.messages (rolled_messages h)))
+          drop-map rolled_sums k (parted (counts_of s) (messages_between_cuts h))
+          ∙ ap (map rolled_sums) (parted_rest k (counts_of s) (messages_between_cuts h)
+          ∙ ap (λ (n : ℕ). parted (drop k (counts_of s)) (drop n (messages_between_cuts h))) front_count
+          ∙ ap (λ (cs : List ℕ). parted cs (drop file.messages (messages_between_cuts h)))
           (drop-map (λ (r : Rollup). r.messages) k s.rolled)
           ∙ ap (parted (counts_of (applied s (merged file k)))) (sym rest_rolled))
 
-      more_merged : messages_of (s.merged ++ file ∷ []) ≡ messages_of s.merged + file.messages
+      more_merged : rollup_message_count (s.merged ++ file ∷ []) ≡ rollup_message_count s.merged + file.messages
       more_merged = omega (arith, sum_by-append (λ (r : Rollup). r.messages) s.merged (file ∷ []))
 
       pub merged_follows : IsViewOf (applied s (merged file k))
@@ -387,7 +388,8 @@ module _ (s : Shelf) (h : History) (hist : IsHistory h) (is : IsViewOf s (view_o
       merged_follows = record {
         merged = merged_more;
         rolled = subst (AreRolled s.width (drop k s.rolled)) rest_parts
-            (rolled_rest s.width k s.rolled (map rolled_sums (parted (counts_of s) (rolled_messages h))) is.rolled);
+            (rolled_rest s.width k s.rolled (map rolled_sums (parted (counts_of s) (messages_between_cuts h)))
+            is.rolled);
         prefixes = is.prefixes;
         accepted = is.accepted;
         kept = is.kept;
@@ -444,6 +446,6 @@ starts width wide positive also multiple = (
 
 pub merge_by_messages : (s : Shelf) (h : History) (k : ℕ) → IsHistory h → IsViewOf s (view_of h (counts_of s))
     → merged_table s (view_of h (counts_of s)) k
-    ≡ table_of s.wide (flows_in (take (messages_of (take k s.rolled)) (drop h.second h.all)))
+    ≡ table_of s.wide (flows_in (take (rollup_message_count (take k s.rolled)) (drop h.second h.all)))
 merge_by_messages s h k hist is =
-    wide_sums s h hist is (record { file = 0; messages = messages_of (take k s.rolled); octets = [] }) k refl
+    wide_sums s h hist is (record { file = 0; messages = rollup_message_count (take k s.rolled); octets = [] }) k refl

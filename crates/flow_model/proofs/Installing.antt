@@ -12,8 +12,7 @@ use Rattle.flow_manifest.specs.Manifest.{rank}
 use Rattle.flow_manifest.specs.Following.{messages_of}
 use Rattle.flow_rolled.specs.Rollup.{IsRollup}
 use Rattle.flow_segment.specs.Carry.{Carry}
-use Rattle.flow_model.specs.Shelf.{Rollup, Segment, Shelf, messages_in}
-use Rattle.flow_model.specs.Shelf as shelf
+use Rattle.flow_model.specs.Shelf.{Rollup, Segment, Shelf, messages_in, rollup_message_count}
 use Rattle.flow_model.specs.Changes.{applied, installed, merged}
 use Rattle.flow_model.specs.State.{Part}
 use Rattle.flow_model.specs.Chain.{ArePartsBehind, IsPartBehind, IsSegmentBehind}
@@ -139,7 +138,7 @@ pub record AreRollups (es : List Entry) (ps : List Part) (s : Shelf) : Type 0 wh
   pub front_is : front ≡ rollups_of es ps
   pub long : length front ≡ length es
   pub is : shelved es ps s ≡ record s { rolled = front ++ s.rolled }
-  pub count : shelf.messages_of front ≡ messages_of es
+  pub count : rollup_message_count front ≡ messages_of es
 
 one_rollup : (kind : Kind) (e : Entry) (p : Part) (front : List Rollup) (s : Shelf) → rank kind ≡ 1
     → shelved_first kind e p (record s { rolled = front ++ s.rolled })

@@ -25,8 +25,7 @@ use Rattle.flow_measure.specs.Sums.{Table, key_cmp, table_of, widened}
 use Rattle.flow_measure.specs.View.{gathered_all, view_of}
 use Rattle.flow_rolled.specs.Rollup.{IsRollup}
 use Rattle.flow_segment.specs.Carry.{Carry}
-use Rattle.flow_model.specs.Shelf.{Rollup, Segment, Shelf, messages_in}
-use Rattle.flow_model.specs.Shelf as shelf
+use Rattle.flow_model.specs.Shelf.{Rollup, Segment, Shelf, messages_in, rollup_message_count}
 use Rattle.flow_model.specs.Changes.{applied, counts_of, history_after, installed, merged, merged_table, Allows, Change}
 use Rattle.flow_model.specs.Views.{AreRestated, AreRolled, IsViewOf}
 use Rattle.flow_model.proofs.Following.{history_follows, merge_by_messages, view_follows}
@@ -553,9 +552,9 @@ module _ (s : State) (c : Carry) (h : History) (valid : IsValidManifest s.manife
         ∙ taken count they.front others.rolled (they.long ∙ number s.manifest valid Merge count few)
 
     summed : messages_of (sources_of Merge count s.manifest.entries)
-        ≡ shelf.messages_of (take count (shelf_of s).rolled)
+        ≡ rollup_message_count (take count (shelf_of s).rolled)
     summed = ap messages_of (sources_are s.manifest valid Merge count few) ∙ sym they.count
-        ∙ sym (ap shelf.messages_of rolled_taken)
+        ∙ sym (ap rollup_message_count rolled_taken)
 
     -- what the sources hold
     pub merge_sources : (maps : List (FinMap key_cmp Sums)) → AreRolledSums s.manifest.width o2 maps
@@ -589,7 +588,7 @@ module _ (s : State) (c : Carry) (h : History) (valid : IsValidManifest s.manife
           sums = gathered_all (take count v.rolled);
         })) both.1) in
         shelf_sums ∙ merge_by_messages (shelf_of s) h count has.history has.view
-        ∙ ap (λ (w : ℕ). table_of w (flows_in (take (shelf.messages_of (take count (shelf_of s).rolled))
+        ∙ ap (λ (w : ℕ). table_of w (flows_in (take (rollup_message_count (take count (shelf_of s).rolled))
         (drop h.second h.all)))) both.1
         ∙ sym (ap (λ (k : ℕ). table_of s.manifest.wide (flows_in (take k (drop h.second h.all)))) summed)
 
@@ -611,7 +610,7 @@ module _ (s : State) (c : Carry) (h : History) (valid : IsValidManifest s.manife
         (widths (front_of s.manifest) s.parts (active_shelf s)).1 in
         let change : Change = merged wide_file count in
         let of_shelf : IsRollup (shelf_of s).wide file.octets (table_of (shelf_of s).wide
-        (flows_in (take (shelf.messages_of (take count (shelf_of s).rolled)) (drop h.second h.all)))) =
+        (flows_in (take (rollup_message_count (take count (shelf_of s).rolled)) (drop h.second h.all)))) =
         subst (λ (k : ℕ). IsRollup (shelf_of s).wide file.octets (table_of (shelf_of s).wide
         (flows_in (take k (drop h.second h.all))))) summed
         (subst (λ (w : ℕ). IsRollup w file.octets (table_of w (flows_in (take wide_file.messages

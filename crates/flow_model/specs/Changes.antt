@@ -7,7 +7,7 @@ use Rattle.flow_measure.specs.View.{View, gathered_all}
 use Rattle.flow_rolled.specs.Rollup.{IsRollup}
 use Rattle.flow_segment.specs.Carry.{carry_of, octets_of, prefix_of}
 use Rattle.flow_segment.specs.Prefix.{AreRead}
-use Rattle.flow_model.specs.Shelf.{Rollup, Segment, Shelf, messages_in, messages_of}
+use Rattle.flow_model.specs.Shelf.{Rollup, Segment, Shelf, messages_in, rollup_message_count}
 
 pub data Change : Type 0 where
   -- messages, added to the active segment
@@ -69,5 +69,5 @@ Allows s v (installed file k) =
     (k ≤ length s.sealed) × (file.messages ≡ length (messages_in (take k s.sealed)))
     × IsRollup s.width file.octets (table_of s.width (flows_in (take file.messages v.kept)))
 Allows s v (merged file k) =
-    (k ≤ length s.rolled) × (file.messages ≡ messages_of (take k s.rolled))
+    (k ≤ length s.rolled) × (file.messages ≡ rollup_message_count (take k s.rolled))
     × IsRollup s.wide file.octets (merged_table s v k)

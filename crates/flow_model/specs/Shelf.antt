@@ -38,8 +38,8 @@ new_shelf width wide = record {
 }
 
 -- how many messages were rolled into these files
-abbrev pub messages_of : List Rollup → ℕ
-messages_of files = sum_by (λ r. r.messages) files
+abbrev pub rollup_message_count : List Rollup → ℕ
+rollup_message_count files = sum_by (λ r. r.messages) files
 
 -- the messages of these segments, joined
 abbrev pub messages_in : List Segment → List (List ℕ)
@@ -48,10 +48,10 @@ messages_in segments = flat_map (λ g. g.messages) segments
 -- Messages have numbers from 1 on: the last one that is summed over wide intervals, the last one that is rolled at all,
 -- those that are kept after it, and the last one.
 abbrev pub second_of : Shelf → ℕ
-second_of s = messages_of s.merged
+second_of s = rollup_message_count s.merged
 
 abbrev pub cut_of : Shelf → ℕ
-cut_of s = second_of s + messages_of s.rolled
+cut_of s = second_of s + rollup_message_count s.rolled
 
 abbrev pub kept_of : Shelf → List (List ℕ)
 kept_of s = messages_in s.sealed ++ s.active

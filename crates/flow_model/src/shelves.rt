@@ -4,7 +4,7 @@ ghost use Rattle.std.specs.Prelude.{◌≡◌, ℕ, ◌%◌, ◌<◌, ◌^◌, t
 ghost use Rattle.flow_measure.specs.History.{flows_in, History, IsHistory};
 ghost use Rattle.flow_measure.specs.Sums.{table_of};
 ghost use Rattle.flow_measure.specs.View.{view_of, AreCountsOf, View};
-ghost use Rattle.flow_model.specs.Shelf.{messages_of, new_shelf, Shelf};
+ghost use Rattle.flow_model.specs.Shelf.{rollup_message_count, new_shelf, Shelf};
 ghost use Rattle.flow_model.specs.Views.{IsReadIn, IsViewOf};
 ghost use Rattle.flow_model.specs.Changes.{applied, counts_of, history_after, merged_table, new_history};
 ghost use Rattle.flow_model.specs.Changes.{Allows, Change};
@@ -38,5 +38,5 @@ pub fn views_follow()
         → IsViewOf (applied s c) (view_of (history_after h c) (counts_of (applied s c))) }
     ensures merged { (s : Shelf) (h : History) (k : ℕ) → IsHistory h → IsViewOf s (view_of h (counts_of s))
         → merged_table s (view_of h (counts_of s)) k
-        ≡ table_of s.wide (flows_in (take (messages_of (take k s.rolled)) (drop h.second h.all))) }
+        ≡ table_of s.wide (flows_in (take (rollup_message_count (take k s.rolled)) (drop h.second h.all))) }
 {}

@@ -9,7 +9,7 @@ use Rattle.flow_codec.specs.Raw.{RawMessage}
 use Rattle.flow_codec.specs.Templates.{AllTemplates}
 use Rattle.flow_codec.specs.File.{AcceptedFront, whole, broken, refused}
 use Rattle.std.specs.FinMap.{entries}
-use Rattle.flow_measure.specs.Sums.{Table, row_of, table_of}
+use Rattle.flow_measure.specs.Sums.{Table, table_row, table_of}
 use Rattle.flow_measure.specs.Flows.{flows_of}
 use Rattle.flow_report.specs.declared.refusal.Refusal.{Refusal}
 use Rattle.flow_report.specs.declared.refusal.Refusal.TheVariants.{Message, File, OutOfMemory, SumSpent, NumbersSpent}
@@ -29,7 +29,7 @@ table_of_all width messages = table_of width (flows_of_all messages)
 
 -- all sums, in the order of their keys
 abbrev pub rows_of : Table → List Row
-rows_of table = map (row_of table.width) (entries table.sums)
+rows_of table = map (table_row table.width) (entries table.sums)
 
 abbrev pub lines_of : Format → Table → List ℕ
 lines_of format table = rows_text format table.width (rows_of table)

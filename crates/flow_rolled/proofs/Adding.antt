@@ -14,7 +14,7 @@ use Rattle.flow_measure.proofs.Keys.{is_key-refl}
 use Rattle.flow_measure.proofs.Gathering.{joined, sum_at, gathered-again, get-gathered}
 use Rattle.flow_measure.proofs.Widening.{pushed}
 use Rattle.flow_rolled.specs.declared.row.RolledRow.{RolledRow}
-use Rattle.flow_rolled.specs.Rows.{most, sums_in, sums_of, IsRow, MayFollow, AreRows, IsEntry}
+use Rattle.flow_rolled.specs.Rows.{most, sums_in, sums_of, IsRow, MayFollow, AreRows, IsTableEntry}
 use Rattle.flow_rolled.specs.Messages.{last_from}
 use Rattle.flow_rolled.proofs.Grouping.{rows_front, decide}
 use Rattle.flow_rolled.specs.Rows.{entries_in}
@@ -125,9 +125,10 @@ rows_fit w rows h lt key =
     let valid = sums_table w rows h key in
     subst (λ o. IfSome o Fits) (sym (get-gathered (entries_in rows) key))
     (fits_of (under key (entries_in rows)) (length rows) lt (bounded w None key rows h)
-    (subst (λ o. IfSome o (IsEntry w key)) (get-gathered (entries_in rows) key) valid))
+    (subst (λ o. IfSome o (IsTableEntry w key)) (get-gathered (entries_in rows) key) valid))
   where
-    fits_of : (sums : List Sums) (n : ℕ) → n < 2 ^ 64 → AreBounded n sums → IfSome (some_total sums) (IsEntry w key)
+    fits_of : (sums : List Sums) (n : ℕ) → n < 2 ^ 64 → AreBounded n sums
+        → IfSome (some_total sums) (IsTableEntry w key)
         → IfSome (some_total sums) Fits
     fits_of [] n lt b e = tt
     fits_of (s ∷ ss) n lt b e = let f = e.flows in (omega (arith, f), omega (arith, b.1, lt), omega (arith, b.2, lt))

@@ -13,7 +13,7 @@ use Rattle.flow_rolled.specs.Messages.{Follows, AllFollow, IsDone, EndsWell, las
 use Rattle.flow_rolled.specs.Octets.{message_octets, messages_octets, IsRolledMessage}
 use Rattle.flow_rolled.specs.declared.message.State.{State}
 use Rattle.flow_rolled.specs.Reading.{IsStuck, Stands}
-use Rattle.flow_rolled.specs.Rollup.{messages_in, IsRollup, IsFront, IsBroken}
+use Rattle.flow_rolled.specs.Rollup.{table_messages, IsRollup, IsFront, IsBroken}
 use Rattle.flow_rolled.proofs.Grouping.{Row, Own}
 use Rattle.flow_rolled.proofs.Fronts.{rows_in_order}
 use Rattle.flow_rolled.proofs.Complete.{AreRolledMessages, parts_are, whole_parts}
@@ -129,7 +129,7 @@ compared w wide (p ∷ ps) (q ∷ qs) xs ys hp hq e =
 -- ---- rolled files are messages that follow one another
 
 pub file_parts : (t : Table) (time : ℕ) → time < 2 ^ 32 → IsTable t
-    → AreRolledMessages t.width time (rows_in t.sums) (messages_in t time)
+    → AreRolledMessages t.width time (rows_in t.sums) (table_messages t time)
 file_parts t time small valid = parts_are t.width time (rows_in t.sums) small (table_rows t valid)
 
 -- a rolled file by messages
@@ -146,7 +146,7 @@ table_is t w rows width sums = λ i. record { width = width i; sums = sym sums i
 
 pub read_of : (w : ℕ) (octets : List ℕ) (t : Table) → IsRollup w octets t → IsRead w octets t
 read_of w octets t h =
-    let ps = messages_in t h.time in
+    let ps = table_messages t h.time in
     let file = file_parts t h.time h.small h.valid in
     record {
       parts = ps;
@@ -162,7 +162,7 @@ time_of (p ∷ ps) = p.time
 
 -- messages to a good end are a table's rolled file
 pub whole_file : (w : ℕ) (ps : List RolledMessage) → AllFollow w None ps → IsDone (last_message None ps)
-    → (time : ℕ) × (time < 2 ^ 32) × (messages_in (record { width = w; sums = sums_of (rows_within ps) }) time ≡ ps)
+    → (time : ℕ) × (time < 2 ^ 32) × (table_messages (record { width = w; sums = sums_of (rows_within ps) }) time ≡ ps)
 unfolding messages_from
 whole_file w [] follow done = (0, omega arith, ap (messages_with 0) (same_rows w [] tt))
 whole_file w (p ∷ ps) follow done =
@@ -326,7 +326,7 @@ front_follows w octets at h =
     let all = (file_parts h.table h.time h.small h.valid).follow in
     (follow_front w None h.front h.more
     (subst (λ ps. AllFollow w None ps) h.parts
-    (subst (λ v. AllFollow v None (messages_in h.table h.time)) h.width_is all))).0
+    (subst (λ v. AllFollow v None (table_messages h.table h.time)) h.width_is all))).0
 
 not_further : (w : ℕ) (front zs : List RolledMessage) (rest ys : List ℕ) → IsStuck w (last_message None front) rest
     → AllFollow w None (front ++ zs) → rest ≡ messages_octets w zs ++ ys → zs ≡ []

@@ -13,23 +13,22 @@ use Rattle.flow_codec.specs.declared.templates.DomainTemplates.{DomainTemplates}
 use Rattle.flow_codec.specs.declared.templates.TemplateRecord.TheVariants.{Define}
 use Rattle.flow_codec.specs.Layout.{Layout, IsSpecifier, set_id, smallest}
 use Rattle.flow_codec.specs.Fields.{IsField, AreFields}
-use Rattle.flow_codec.specs.Raw.{IsWhole}
+use Rattle.flow_codec.specs.Raw.{IsWholeRecord}
 use Rattle.flow_codec.specs.Templates.{AllTemplates, IsOnce, no_definitions, definition_of, definitions_of, applied}
 use Rattle.flow_codec.specs.Templates.{template, IsTemplateRecord}
 use Rattle.flow_codec.specs.Working.{put_back}
-use Rattle.flow_codec.specs.Message as codec
 use Rattle.flow_codec.specs.Message.{AreRecords, AreTemplates, Division, IsData, IsSet, AreSets, IsMessage, joined}
-use Rattle.flow_codec.specs.Message.{content}
+use Rattle.flow_codec.specs.Message.{content, header_octets, set_octets}
 use Rattle.flow_codec.proofs.Entries.{found, with_entry, remove-absent, lookup-insert, once_insert, found-insert-other}
 use Rattle.flow_codec.proofs.PuttingBack.{applied_put_back, put_found}
 use Rattle.flow_rolled.specs.declared.row.RolledRow.{RolledRow}
-use Rattle.flow_rolled.specs.Octets.{row_octets, rows_octets, set_octets, sets_of, head_sets, protocol_octets}
+use Rattle.flow_rolled.specs.Octets.{row_octets, rows_octets, row_set_octets, sets_of, head_sets, protocol_octets}
 use Rattle.flow_rolled.specs.Octets.{message_octets}
 use Rattle.flow_rolled.specs.Octets.{messages_octets}
 use Rattle.flow_rolled.specs.Octets.{has_protocol, has_none, IsOf, AreOf, IsRolledMessage}
 use Rattle.flow_rolled.specs.Messages.{RolledMessage, RowsFollow, Follows, AllFollow}
 use Rattle.flow_rolled.specs.Rows.{IsTable}
-use Rattle.flow_rolled.specs.Rollup.{messages_in, rollup_octets}
+use Rattle.flow_rolled.specs.Rollup.{table_messages, rollup_octets}
 use Rattle.flow_measure.specs.Sums.{Table}
 use Rattle.flow_codec.specs.File.{AreMessages, IsFile}
 use Rattle.flow_codec.proofs.Steps.{by_bool}
@@ -98,7 +97,7 @@ counted r = (
   ),
 )
 
-whole_with : (w : ℕ) (r : RolledRow) (p : ℕ) → IsWhole with_protocol (row_by w (Some p) r)
+whole_with : (w : ℕ) (r : RolledRow) (p : ℕ) → IsWholeRecord with_protocol (row_by w (Some p) r)
 whole_with w r p =
     let first = to_be_bytes w64 (r.key.start * 1000) in
     let second = to_be_bytes w64 ((r.key.start + w) * 1000 - 1) in (
@@ -121,7 +120,7 @@ whole_with w r p =
       ),
     )
 
-whole_none : (w : ℕ) (r : RolledRow) → IsWhole without_protocol (row_by w None r)
+whole_none : (w : ℕ) (r : RolledRow) → IsWholeRecord without_protocol (row_by w None r)
 whole_none w r =
     let first = to_be_bytes w64 (r.key.start * 1000) in
     let second = to_be_bytes w64 ((r.key.start + w) * 1000 - 1) in (
@@ -146,10 +145,10 @@ abbrev layout_of : Bool → Layout
 layout_of true = with_protocol
 layout_of false = without_protocol
 
-whole_row : (w d : ℕ) (b : Bool) (r : RolledRow) → IsOf w d b r → IsWhole (layout_of b) (row_octets w r)
+whole_row : (w d : ℕ) (b : Bool) (r : RolledRow) → IsOf w d b r → IsWholeRecord (layout_of b) (row_octets w r)
 whole_row w d b r h = by b r.key.protocol h.kind
   where
-    by : (b : Bool) (o : Option ℕ) → is_some o ≡ b → IsWhole (layout_of b) (row_by w o r)
+    by : (b : Bool) (o : Option ℕ) → is_some o ≡ b → IsWholeRecord (layout_of b) (row_by w o r)
     by true None e = absurd cc
     by true (Some p) e = whole_with w r p
     by false None e = whole_none w r
@@ -177,7 +176,7 @@ content_is : (w id : ℕ) (rows : List RolledRow) → content (division w id row
 content_is w id rows = append-nil (joined (map (row_octets w) rows)) ∙ joined_rows w rows
 
 set_is : (w id : ℕ) (r : RolledRow) (rs : List RolledRow)
-    → codec.set_octets (division w id (r ∷ rs)) ≡ set_octets w id (r ∷ rs)
+    → set_octets (division w id (r ∷ rs)) ≡ row_set_octets w id (r ∷ rs)
 set_is w id r rs = ap (λ (c : List ℕ). to_be_bytes w16 id ++ to_be_bytes w16 (4 + length c) ++ c)
     (content_is w id (r ∷ rs))
 
@@ -252,13 +251,14 @@ module _ (w d : ℕ) (all : AllTemplates)
   )
 
 row_octets_of : (w : ℕ) (xs ys : List RolledRow)
-    → flat_map codec.set_octets (divisions w 256 xs ++ divisions w 257 ys) ≡ set_octets w 256 xs ++ set_octets w 257 ys
+    → flat_map set_octets (divisions w 256 xs ++ divisions w 257 ys)
+    ≡ row_set_octets w 256 xs ++ row_set_octets w 257 ys
 unfolding divisions
 row_octets_of w [] [] = refl
-row_octets_of w [] (y ∷ ys) = append-nil (codec.set_octets (division w 257 (y ∷ ys))) ∙ set_is w 257 y ys
+row_octets_of w [] (y ∷ ys) = append-nil (set_octets (division w 257 (y ∷ ys))) ∙ set_is w 257 y ys
 row_octets_of w (x ∷ xs) [] = ap (λ (l : List ℕ). l ++ []) (set_is w 256 x xs)
 row_octets_of w (x ∷ xs) (y ∷ ys) =
-    (λ i. set_is w 256 x xs i ++ (append-nil (codec.set_octets (division w 257 (y ∷ ys))) ∙ set_is w 257 y ys) i)
+    (λ i. set_is w 256 x xs i ++ (append-nil (set_octets (division w 257 (y ∷ ys))) ∙ set_is w 257 y ys) i)
 
 -- ---- the Sets of a head
 
@@ -329,10 +329,10 @@ options_set = record { id = 3; records = template Options (Define 258 distributi
 abbrev flag_set : Division
 flag_set = record { id = 258; records = (1 ∷ 0 ∷ 1 ∷ []) ∷ (1 ∷ 1 ∷ 1 ∷ []) ∷ []; rest = [] }
 
-head_is : flat_map codec.set_octets (plain_set ∷ options_set ∷ flag_set ∷ []) ≡ head_sets
+head_is : flat_map set_octets (plain_set ∷ options_set ∷ flag_set ∷ []) ≡ head_sets
 head_is = refl
 
-whole_flag : (a b c : ℕ) → IsWhole distribution (a ∷ b ∷ c ∷ [])
+whole_flag : (a b c : ℕ) → IsWholeRecord distribution (a ∷ b ∷ c ∷ [])
 whole_flag a b c = (
   value 145 (a ∷ b ∷ []) ∷ value 384 (c ∷ []) ∷ [],
   (
@@ -463,7 +463,7 @@ sets_in : ℕ → List RolledRow → List Division
 sets_in w [] = plain_set ∷ options_set ∷ flag_set ∷ []
 sets_in w (r ∷ rs) = divisions w 256 (filter has_protocol (r ∷ rs)) ++ divisions w 257 (filter has_none (r ∷ rs))
 
-sets_are : (w : ℕ) (rows : List RolledRow) → flat_map codec.set_octets (sets_in w rows) ≡ sets_of w rows
+sets_are : (w : ℕ) (rows : List RolledRow) → flat_map set_octets (sets_in w rows) ≡ sets_of w rows
 unfolding sets_in
 sets_are w [] = head_is
 sets_are w (r ∷ rs) = row_octets_of w (filter has_protocol (r ∷ rs)) (filter has_none (r ∷ rs))
@@ -478,8 +478,8 @@ is_message : (w : ℕ) (p : RolledMessage) (before after : AllTemplates) → IsR
 unfolding message_octets
 is_message w p before after h hold = record {
   sets = sets_in w p.rows;
-  parts = ap (λ (l : List ℕ). codec.header_octets ((message_of w p).header) ++ l) (sym (sets_are w p.rows))
-      ∙ sym (append-nil (codec.header_octets ((message_of w p).header) ++ flat_map codec.set_octets
+  parts = ap (λ (l : List ℕ). header_octets ((message_of w p).header) ++ l) (sym (sets_are w p.rows))
+      ∙ sym (append-nil (header_octets ((message_of w p).header) ++ flat_map set_octets
       (sets_in w p.rows)));
   len = sym (part_size w p);
   place = omega arith;
@@ -605,14 +605,14 @@ joined_parts w (p ∷ ps) = ap (λ (l : List ℕ). message_octets w p ++ l) (joi
 
 -- a rolled file is an IPFIX File
 pub rolled_file : (t : Table) (time : ℕ) → IsTable t → time < 2 ^ 32
-    → (after : AllTemplates) × IsFile (rollup_octets t time) (messages_of t.width (messages_in t time)) after
+    → (after : AllTemplates) × IsFile (rollup_octets t time) (messages_of t.width (table_messages t time)) after
 rolled_file t time valid small =
-    let all = run t.width None [] (messages_in t time) tt (file_parts t time small valid).follow
+    let all = run t.width None [] (table_messages t time) tt (file_parts t time small valid).follow
     (record { once = tt; above = λ q h. refl; there = tt }) in (
       all.0,
       record {
-        parts = map (message_octets t.width) (messages_in t time);
-        whole = joined_parts t.width (messages_in t time);
+        parts = map (message_octets t.width) (table_messages t time);
+        whole = joined_parts t.width (table_messages t time);
         each = all.1;
       },
     )
@@ -739,8 +739,8 @@ parts_flows w (p ∷ ps) h =
     ∙ sym (map-append flow_of_row p.rows (rows_within ps))
 
 pub rolled_flows : (t : Table) (time : ℕ) → IsTable t → time < 2 ^ 32
-    → flows_within (messages_of t.width (messages_in t time)) ≡ map flow_of_row (rows_in t.sums)
+    → flows_within (messages_of t.width (table_messages t time)) ≡ map flow_of_row (rows_in t.sums)
 rolled_flows t time valid small =
     let file = file_parts t time small valid in
-    parts_flows t.width (messages_in t time) (all_parts t.width None (messages_in t time) tt file.follow)
+    parts_flows t.width (table_messages t time) (all_parts t.width None (table_messages t time) tt file.follow)
     ∙ ap (map flow_of_row) file.same

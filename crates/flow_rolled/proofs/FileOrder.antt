@@ -17,11 +17,11 @@ use Rattle.flow_measure.specs.declared.rows.Sums.{Sums}
 use Rattle.flow_measure.specs.Sums.{key_cmp, is_key, under, some_total}
 use Rattle.flow_measure.proofs.Keys.{same_key, is_key-refl}
 use Rattle.flow_measure.proofs.Gathering.{sum_at}
-use Rattle.flow_rolled.specs.Rows.{without, file_cmp, in_file_order}
+use Rattle.flow_rolled.specs.Rows.{protocol_rank, file_cmp, in_file_order}
 
 pub file_total : IsTotalOrder file_cmp
 file_total = then_total (on_total (λ k. k.domain) nat_cmp_total)
-    (then_total (on_total (λ k. without k.protocol) nat_cmp_total)
+    (then_total (on_total (λ k. protocol_rank k.protocol) nat_cmp_total)
     (then_total (on_total (λ k. k.start) nat_cmp_total) (on_total (λ k. k.protocol) (options_total nat_cmp_total))))
 
 exact_options : CmpEqualImpliesEq (option_cmp nat_cmp)
@@ -49,8 +49,8 @@ exact_file a b h = ap (λ (p : ℕ × Tail). record { start = ((p.1).1).0; domai
     (exact_pairs nat_cmp last_cmp exact_unsigned
     (exact_pairs nat_cmp (option_cmp nat_cmp) exact_unsigned exact_options)) (
       a.domain,
-      (without a.protocol, (a.start, a.protocol)),
-    ) (b.domain, (without b.protocol, (b.start, b.protocol))) h)
+      (protocol_rank a.protocol, (a.start, a.protocol)),
+    ) (b.domain, (protocol_rank b.protocol, (b.start, b.protocol))) h)
 
 pub equal : (o : Ordering) → is_eq o ≡ true → o ≡ Equal
 equal Less h = absurd cc

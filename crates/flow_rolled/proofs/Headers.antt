@@ -3,7 +3,7 @@ use Rattle.std.proofs.Common.{◌≡◌, ◌≢◌, ℕ, ◌+◌, ◌^◌, ◌<�
 use Rattle.std.proofs.Common.{ap, ◌∙◌, arith, append_assoc, length-append}
 use Rattle.std.specs.Int.{w16, w32, to_be_bytes}
 use Rattle.flow_rolled.specs.Messages.{RolledMessage}
-use Rattle.flow_rolled.specs.Octets.{sets_of, header_octets, message_octets, IsRolledMessage}
+use Rattle.flow_rolled.specs.Octets.{sets_of, rolled_header_octets, message_octets, IsRolledMessage}
 use Rattle.flow_rolled.proofs.PartOctets.{same_number, wide16, wide32}
 use Rattle.flow_rolled.proofs.SameParts.{size, from_domain, from_sequence, from_time, from_length, part_is, sets_long}
 
@@ -38,7 +38,7 @@ pub record IsHeader (w len time sequence domain : ℕ) (rest : List ℕ) (p : Ro
 pub header_is : (w len time sequence domain : ℕ) (octets rest : List ℕ) (p : RolledMessage) (more : List ℕ)
     → len < 2 ^ 16
     → time < 2 ^ 32 → sequence < 2 ^ 32 → domain < 2 ^ 32
-    → octets ≡ header_octets len time sequence domain ++ rest → IsRolledMessage w p → octets
+    → octets ≡ rolled_header_octets len time sequence domain ++ rest → IsRolledMessage w p → octets
     ≡ message_octets w p ++ more
     → IsHeader w len time sequence domain rest p more
 header_is w len time sequence domain octets rest p more fl ft fs fd is h e =
@@ -59,12 +59,12 @@ header_is w len time sequence domain octets rest p more fl ft fs fd is h e =
 
 -- a header with the Sets after it is a message
 pub message_made : (w len time sequence domain : ℕ) (octets rest sets after : List ℕ) (p : RolledMessage)
-    → octets ≡ header_octets len time sequence domain ++ rest → rest ≡ sets ++ after → sets ≡ sets_of w p.rows
+    → octets ≡ rolled_header_octets len time sequence domain ++ rest → rest ≡ sets ++ after → sets ≡ sets_of w p.rows
     → len ≡ 16 + length sets → p.time ≡ time → p.sequence ≡ sequence → p.domain ≡ domain
     → octets ≡ message_octets w p ++ after
 unfolding message_octets
 message_made w len time sequence domain octets rest sets after p is is_2 sets_are len_is et es ed =
-    is ∙ (λ i. header_octets ((len_is ∙ ap (λ (l : List ℕ). 16 + length l) sets_are) i) (sym et i) (sym es i)
+    is ∙ (λ i. rolled_header_octets ((len_is ∙ ap (λ (l : List ℕ). 16 + length l) sets_are) i) (sym et i) (sym es i)
     (sym ed i) ++ (is_2 ∙ ap (λ (l : List ℕ). l ++ after) sets_are) i)
-    ∙ sym (append_assoc (header_octets (16 + length (sets_of w p.rows)) p.time p.sequence p.domain)
+    ∙ sym (append_assoc (rolled_header_octets (16 + length (sets_of w p.rows)) p.time p.sequence p.domain)
     (sets_of w p.rows) after)

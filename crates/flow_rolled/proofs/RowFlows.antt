@@ -12,7 +12,7 @@ use Rattle.flow_measure.proofs.Gathering.{joined, sum_at, get-gathered}
 use Rattle.flow_measure.proofs.Widening.{pushed}
 use Rattle.flow_rolled.specs.declared.row.RolledRow.{RolledRow}
 use Rattle.flow_rolled.specs.Rows.{IsRow, AreRows, IsTable, sums_in, entries_in, rows_in}
-use Rattle.flow_rolled.specs.Rollup.{messages_in}
+use Rattle.flow_rolled.specs.Rollup.{table_messages}
 use Rattle.flow_rolled.specs.AsFile.{flow_of_row, flows_within, messages_of, SameCounts}
 use Rattle.flow_rolled.proofs.RowSums.{same_table}
 use Rattle.flow_rolled.proofs.TableRows.{table_rows}
@@ -68,7 +68,7 @@ flows_sum t valid q =
     ∙ ap (λ m. get m q) (same_table t.sums)) same)
 
 pub rolled_sums : (t : Table) (time : ℕ) → IsTable t → time < 2 ^ 32 → (q : Key)
-    → SameCounts (get (sums_by t.width (flows_within (messages_of t.width (messages_in t time)))) q) (get t.sums q)
+    → SameCounts (get (sums_by t.width (flows_within (messages_of t.width (table_messages t time)))) q) (get t.sums q)
 rolled_sums t time valid small q =
     subst (λ (flows : List Flow). SameCounts (get (sums_by t.width flows) q) (get t.sums q))
     (sym (rolled_flows t time valid small)) (flows_sum t valid q)

@@ -7,7 +7,7 @@ use Rattle.std.specs.Int.{w16, to_be_bytes}
 use Rattle.std.proofs.lemmas.List.{append-nil}
 use Rattle.std.proofs.lemmas.List.Elements.{filter-append}
 use Rattle.flow_rolled.specs.declared.row.RolledRow.{RolledRow}
-use Rattle.flow_rolled.specs.Octets.{row_octets, rows_octets, set_octets, sets_of, has_protocol, has_none}
+use Rattle.flow_rolled.specs.Octets.{row_octets, rows_octets, row_set_octets, sets_of, has_protocol, has_none}
 use Rattle.flow_rolled.specs.Octets.{IsOf, AreOf, IsOther, IsSet}
 use Rattle.flow_rolled.proofs.PartOctets.{same_front, same_number, same_row, row_long, rows_long}
 use Rattle.flow_rolled.proofs.PartOctets.{wide16}
@@ -79,7 +79,7 @@ abbrev pub in_front : ℕ → List ℕ → List ℕ
 in_front n xs = to_be_bytes w16 n ++ xs
 
 set_is : (w n : ℕ) (r : RolledRow) (rs : List RolledRow) (more : List ℕ)
-    → set_octets w n (r ∷ rs) ++ more ≡ in_front n
+    → row_set_octets w n (r ∷ rs) ++ more ≡ in_front n
     (to_be_bytes w16 (4 + length (rows_octets w (r ∷ rs))) ++ (rows_octets w (r ∷ rs) ++ more))
 set_is w n r rs more = refl
 
@@ -163,7 +163,7 @@ body_is w len rest body after rows more is long h =
 pub set_made : (w n len : ℕ) (octets rest behind body after : List ℕ) (rows : List RolledRow)
     → octets ≡ in_front n rest → rest ≡ in_front len behind → behind ≡ body ++ after → body ≡ rows_octets w rows
     → length body + 4 ≡ len → 4 < len
-    → octets ≡ set_octets w n rows ++ after
+    → octets ≡ row_set_octets w n rows ++ after
 set_made w n len octets rest behind body after [] a b c e long some =
     absurd (let l = ap (λ (x : List ℕ). length x) e in omega (arith, l, long, some))
 set_made w n len octets rest behind body after (r ∷ rs) a b c e long some =
@@ -175,11 +175,11 @@ set_made w n len octets rest behind body after (r ∷ rs) a b c e long some =
 -- ---- both Sets
 
 pub sets_some : (w : ℕ) (rows : List RolledRow) → 0 < length rows
-    → sets_of w rows ≡ set_octets w 256 (filter has_protocol rows) ++ set_octets w 257 (filter has_none rows)
+    → sets_of w rows ≡ row_set_octets w 256 (filter has_protocol rows) ++ row_set_octets w 257 (filter has_none rows)
 sets_some w [] h = absurd (omega (arith, h))
 sets_some w (r ∷ rs) h = refl
 
-set_other : (w : ℕ) (rows : List RolledRow) → IsOther 256 (set_octets w 257 rows)
+set_other : (w : ℕ) (rows : List RolledRow) → IsOther 256 (row_set_octets w 257 rows)
 set_other w [] more e = let l = ap (λ (x : List ℕ). length x) e in omega (arith, l)
 set_other w (r ∷ rs) more e = let n =
     (same_number w16 (2 ^ 16) wide16 257 256
@@ -194,7 +194,7 @@ fewer w d rows h = let l = ap (λ (x : List RolledRow). length x) h.parted in le
 -- rows of a message are a Set of those with a protocol and one of the others
 pub first_set : (w d : ℕ) (octets : List ℕ) (rows : List RolledRow) → AreOf w d rows → 0 < length rows
     → octets ≡ sets_of w rows
-    → IsSet w d 256 true octets (filter has_protocol rows) (set_octets w 257 (filter has_none rows))
+    → IsSet w d 256 true octets (filter has_protocol rows) (row_set_octets w 257 (filter has_none rows))
 first_set w d octets rows h some e =
     record {
       is = e ∙ sets_some w rows some;
@@ -205,9 +205,9 @@ first_set w d octets rows h some e =
     }
 
 pub second_set : (w d : ℕ) (rest : List ℕ) (rows : List RolledRow) → AreOf w d rows
-    → rest ≡ set_octets w 257 (filter has_none rows) → IsSet w d 257 false rest (filter has_none rows) []
+    → rest ≡ row_set_octets w 257 (filter has_none rows) → IsSet w d 257 false rest (filter has_none rows) []
 second_set w d rest rows h e = record {
-  is = e ∙ sym (append-nil (set_octets w 257 (filter has_none rows)));
+  is = e ∙ sym (append-nil (row_set_octets w 257 (filter has_none rows)));
   all =
       h.without;
   few = let f = fewer w d rows h in omega (arith, f);
@@ -266,12 +266,13 @@ are_of_sets w d xs ys rows is few hx hy =
 
 pub sets_made : (w d : ℕ) (octets rest left : List ℕ) (xs ys rows : List RolledRow) → rows ≡ xs ++ ys → 0 < length rows
     → AllByRecursion (IsOf w d true) xs → AllByRecursion (IsOf w d false) ys
-    → octets ≡ set_octets w 256 xs ++ rest → rest ≡ set_octets w 257 ys ++ left → left ≡ [] → octets ≡ sets_of w rows
+    → octets ≡ row_set_octets w 256 xs ++ rest → rest ≡ row_set_octets w 257 ys ++ left → left ≡ []
+    → octets ≡ sets_of w rows
 sets_made w d octets rest left xs ys rows is some hx hy e f none =
     let k = kinds w d xs ys rows is hx hy in
-    e ∙ ap (λ (l : List ℕ). set_octets w 256 xs ++ l) (f ∙ ap (λ (l : List ℕ). set_octets w 257 ys ++ l) none
-    ∙ append-nil (set_octets w 257 ys))
-    ∙ (λ i. set_octets w 256 (sym k.0 i) ++ set_octets w 257 (sym k.1 i)) ∙ sym (sets_some w rows some)
+    e ∙ ap (λ (l : List ℕ). row_set_octets w 256 xs ++ l) (f ∙ ap (λ (l : List ℕ). row_set_octets w 257 ys ++ l) none
+    ∙ append-nil (row_set_octets w 257 ys))
+    ∙ (λ i. row_set_octets w 256 (sym k.0 i) ++ row_set_octets w 257 (sym k.1 i)) ∙ sym (sets_some w rows some)
 
 pub no_octets : (rest : List ℕ) → length rest ≡ 0 → rest ≡ []
 no_octets [] h = refl

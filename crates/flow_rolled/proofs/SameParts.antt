@@ -11,9 +11,9 @@ use Rattle.std.specs.declared.cmp.Ordering.TheVariants.{Less, Equal}
 use Rattle.std.specs.Cmp.{nat_cmp_is}
 use Rattle.flow_measure.specs.declared.rows.Key.{Key}
 use Rattle.flow_rolled.specs.declared.row.RolledRow.{RolledRow}
-use Rattle.flow_rolled.specs.Rows.{without, file_cmp, MayFollow, AreRows}
+use Rattle.flow_rolled.specs.Rows.{protocol_rank, file_cmp, MayFollow, AreRows}
 use Rattle.flow_rolled.specs.Messages.{RolledMessage}
-use Rattle.flow_rolled.specs.Octets.{set_octets, has_protocol, has_none, head_sets, sets_of, message_octets}
+use Rattle.flow_rolled.specs.Octets.{row_set_octets, has_protocol, has_none, head_sets, sets_of, message_octets}
 use Rattle.flow_rolled.specs.Octets.{IsOf, AreOf, IsRolledMessage}
 use Rattle.flow_rolled.proofs.Grouping.{ordered}
 use Rattle.flow_rolled.proofs.PartOctets.{same_front, same_number, same_set, rows_long, wide16, wide32}
@@ -24,19 +24,21 @@ same_domain : (d e : ℕ) (o : Ordering) → d ≡ e → ordering_then (nat_cmp 
 same_domain d e o same h = let equal : Equal ≡ nat_cmp d e = nat_cmp_is d e Equal same in
     subst (λ r. ordering_then r o ≡ Less) (sym equal) h
 
-without_rises : (a b : Key) → a.domain ≡ b.domain → file_cmp a b ≡ Less → without a.protocol ≤ without b.protocol
-without_rises a b same h = ordered (without a.protocol) (without b.protocol) _ (same_domain a.domain b.domain _ same h)
+without_rises : (a b : Key) → a.domain ≡ b.domain → file_cmp a b ≡ Less
+    → protocol_rank a.protocol ≤ protocol_rank b.protocol
+without_rises a b same h =
+    ordered (protocol_rank a.protocol) (protocol_rank b.protocol) _ (same_domain a.domain b.domain _ same h)
 
 next_without : (a b : RolledRow) → a.key.domain ≡ b.key.domain → MayFollow (Some a) b
-    → without a.key.protocol ≤ without b.key.protocol
-next_without a b same (inl h) = let e = ap (λ (k : Key). without k.protocol) h.key in omega (arith, e)
+    → protocol_rank a.key.protocol ≤ protocol_rank b.key.protocol
+next_without a b same (inl h) = let e = ap (λ (k : Key). protocol_rank k.protocol) h.key in omega (arith, e)
 next_without a b same (inr h) = without_rises a.key b.key same h.order
 
-none_is : (p : Option ℕ) → 1 ≤ without p → is_some p ≡ false
+none_is : (p : Option ℕ) → 1 ≤ protocol_rank p → is_some p ≡ false
 none_is None h = refl
 none_is (Some p) h = absurd (omega (arith, h))
 
-some_is : (p : Option ℕ) → is_some p ≡ false → 1 ≤ without p
+some_is : (p : Option ℕ) → is_some p ≡ false → 1 ≤ protocol_rank p
 some_is None h = omega arith
 some_is (Some p) h = absurd cc
 
@@ -93,9 +95,9 @@ none_of w d b (r ∷ rs) own h =
 -- ---- the Sets of rows
 
 abbrev sets : ℕ → List RolledRow → List RolledRow → List ℕ
-sets w a b = set_octets w 256 a ++ set_octets w 257 b
+sets w a b = row_set_octets w 256 a ++ row_set_octets w 257 b
 
-set_long : (w n : ℕ) (rs : List RolledRow) → length (set_octets w n rs) ≤ 4 + 41 * length rs
+set_long : (w n : ℕ) (rs : List RolledRow) → length (row_set_octets w n rs) ≤ 4 + 41 * length rs
 set_long w n [] = omega arith
 set_long w n (r ∷ rs) = let a = rows_long w (r ∷ rs) in omega (arith, a)
 
@@ -119,11 +121,12 @@ unfolding second_octet
 not_turned w [] c cs d e = let f = ap second_octet e in omega (arith, f)
 not_turned w (b ∷ bs) c cs d e = let f = ap second_octet e in omega (arith, f)
 
-not_empty : (w n : ℕ) (c : RolledRow) (cs : List RolledRow) → [] ≡ set_octets w n (c ∷ cs) → ⊥
+not_empty : (w n : ℕ) (c : RolledRow) (cs : List RolledRow) → [] ≡ row_set_octets w n (c ∷ cs) → ⊥
 not_empty w n c cs e = let f = ap (λ (l : List ℕ). length l) e in omega (arith, f)
 
 same_one : (w n d : ℕ) (k : Bool) (a c : List RolledRow) → w < 2 ^ 32 → n < 2 ^ 16 → length a ≤ 1000 → length c ≤ 1000
-    → AllByRecursion (IsOf w d k) a → AllByRecursion (IsOf w d k) c → set_octets w n a ≡ set_octets w n c → a ≡ c
+    → AllByRecursion (IsOf w d k) a → AllByRecursion (IsOf w d k) c → row_set_octets w n a ≡ row_set_octets w n c
+    → a ≡ c
 same_one w n d k [] [] wide small fa fc ha hc e = refl
 same_one w n d k [] (c ∷ cs) wide small fa fc ha hc e = absurd (not_empty w n c cs e)
 same_one w n d k (a ∷ aa) [] wide small fa fc ha hc e = absurd (not_empty w n a aa (sym e))
@@ -138,7 +141,8 @@ same_sets w d [] b [] e wide few few_2 ha hb hc he is =
 same_sets w d [] b (c ∷ cs) e wide few few_2 ha hb hc he is = absurd (not_turned w b c cs e is)
 same_sets w d (a ∷ aa) b [] e wide few few_2 ha hb hc he is = absurd (not_turned w e a aa b (sym is))
 same_sets w d (a ∷ aa) b (c ∷ cs) e wide few few_2 ha hb hc he is =
-    let one = same_set w 256 d true (a ∷ aa) (c ∷ cs) (set_octets w 257 b) (set_octets w 257 e) wide (omega arith)
+    let one = same_set w 256 d true (a ∷ aa) (c ∷ cs) (row_set_octets w 257 b) (row_set_octets w 257 e) wide
+    (omega arith)
     (omega (arith, few)) (omega (arith, few_2)) ha hc is in
     (one.0, same_one w 257 d false b e wide (omega arith) (omega (arith, few)) (omega (arith, few_2)) hb he one.1)
 
@@ -164,8 +168,8 @@ sets_long w d [] h = omega arith
 sets_long w d (r ∷ rs) h =
     let a = set_long w 256 (filter has_protocol (r ∷ rs)) in
     let b = set_long w 257 (filter has_none (r ∷ rs)) in
-    let c = length-append (set_octets w 256 (filter has_protocol (r ∷ rs)))
-    (set_octets w 257 (filter has_none (r ∷ rs))) in
+    let c = length-append (row_set_octets w 256 (filter has_protocol (r ∷ rs)))
+    (row_set_octets w 257 (filter has_none (r ∷ rs))) in
     let n = count_both w d (r ∷ rs) h in
     let f = h.few in
     omega (arith, a, b, c, n, f)

@@ -15,7 +15,7 @@ use Rattle.flow_rolled.specs.Reading.{Stands, Knows, IsStuck}
 use Rattle.flow_rolled.specs.Stored.{IsEnd}
 use Rattle.flow_rolled.proofs.Grouping.{Row}
 use Rattle.flow_rolled.proofs.Fronts.{rows_in_order}
-use Rattle.flow_rolled.specs.Octets.{row_octets, rows_octets, set_octets, sets_of, has_protocol, has_none}
+use Rattle.flow_rolled.specs.Octets.{row_octets, rows_octets, row_set_octets, sets_of, has_protocol, has_none}
 use Rattle.flow_rolled.proofs.PartOctets.{row_long}
 use Rattle.flow_rolled.proofs.SameParts.{part_long}
 use Rattle.flow_rolled.proofs.Breaking.{last_more, follow_more, octets_more, rollup_of, broken_at}
@@ -139,7 +139,7 @@ rows_least w [] = omega arith
 rows_least w (r ∷ rs) = let a = length-append (row_octets w r) (rows_octets w rs) in let b = (row_long w r).0 in
     let i = rows_least w rs in omega (arith, a, b, i)
 
-set_least : (w n : ℕ) (rs : List Row) → length rs ≤ length (set_octets w n rs)
+set_least : (w n : ℕ) (rs : List Row) → length rs ≤ length (row_set_octets w n rs)
 set_least w n [] = omega arith
 set_least w n (r ∷ rs) = let a = rows_least w (r ∷ rs) in omega (arith, a)
 
@@ -158,8 +158,8 @@ sets_least w [] = omega arith
 sets_least w (r ∷ rs) =
     let a = set_least w 256 (filter has_protocol (r ∷ rs)) in
     let b = set_least w 257 (filter has_none (r ∷ rs)) in
-    let c = length-append (set_octets w 256 (filter has_protocol (r ∷ rs)))
-    (set_octets w 257 (filter has_none (r ∷ rs))) in
+    let c = length-append (row_set_octets w 256 (filter has_protocol (r ∷ rs)))
+    (row_set_octets w 257 (filter has_none (r ∷ rs))) in
     let n = count_parted (r ∷ rs) in
     omega (arith, a, b, c, n)
 

@@ -15,7 +15,7 @@ use Rattle.flow_measure.proofs.Keys.{same_key}
 use Rattle.flow_measure.proofs.Gathering.{sum_at, get-gathered}
 use Rattle.flow_rolled.specs.declared.row.RolledRow.{RolledRow}
 use Rattle.flow_rolled.specs.Rows.{file_cmp, row_of, left_of, further, rows_from, rows_of, sums_of, IsRow}
-use Rattle.flow_rolled.specs.Rows.{MayFollow, AreRows, IsEntry, IsTable}
+use Rattle.flow_rolled.specs.Rows.{MayFollow, AreRows, IsTableEntry, IsTable}
 use Rattle.flow_rolled.specs.Messages.{last_from}
 use Rattle.flow_rolled.proofs.Grouping.{rows_front}
 use Rattle.flow_rolled.proofs.FileOrder.{first, second, sum_at-file, file_refl}
@@ -59,7 +59,7 @@ entries_from w b (e ∷ es) sorted before h =
     (subst (AreRows w b) (flat_map-cons rows_of e es) h) in
     let f = first_fact w (further e.1) b e.0 e.1 parted.0 in
     let l = last_key (further e.1) b e.0 e.1 in
-    let now : IsEntry w e.0 e.1 =
+    let now : IsTableEntry w e.0 e.1 =
     record {
       aligned = (f.0).aligned;
       start = (f.0).start;
@@ -73,11 +73,11 @@ entries_from w b (e ∷ es) sorted before h =
     subst (λ o. IsBefore o es) (sym l.1) (subst (λ k. T (below_all file_cmp k es)) (sym l.2) (first _ _ sorted)) in
     (now, entries_from w (last_from b (rows_of e)) es (second _ _ sorted) past parted.1)
 
-found : (w : ℕ) (q : Key) (es : List (Key × Sums)) → AreEntries w es → IfSome (find key_cmp q es) (IsEntry w q)
+found : (w : ℕ) (q : Key) (es : List (Key × Sums)) → AreEntries w es → IfSome (find key_cmp q es) (IsTableEntry w q)
 found w q [] h = tt
 found w q (e ∷ es) h =
-    elim (is_key q e.0) as (λ b. is_key q e.0 ≡ b → IfSome (cond b (Some e.1) (find key_cmp q es)) (IsEntry w q)) [
-      | true ↦ λ same. subst (λ k. IsEntry w k e.1) (sym (same_key q e.0 same)) h.0
+    elim (is_key q e.0) as (λ b. is_key q e.0 ≡ b → IfSome (cond b (Some e.1) (find key_cmp q es)) (IsTableEntry w q)) [
+      | true ↦ λ same. subst (λ k. IsTableEntry w k e.1) (sym (same_key q e.0 same)) h.0
       | false ↦ λ other. found w q es h.1
     ] refl
 
@@ -87,5 +87,5 @@ pub sums_table : (w : ℕ) (rows : List RolledRow) → AreRows w None rows
 sums_table w rows h =
     let b = blocks w None rows h in
     let entries = entries_from w None b.list b.sorted tt (subst (AreRows w None) (sym b.is) h) in
-    λ q. subst (λ o. IfSome o (IsEntry w q)) (sym (sum_at-file q b.list b.sorted) ∙ sym (all_sums q b.list)
+    λ q. subst (λ o. IfSome o (IsTableEntry w q)) (sym (sum_at-file q b.list b.sorted) ∙ sym (all_sums q b.list)
     ∙ ap (λ l. sum_at q (entries_in l)) b.is ∙ sym (get-gathered (entries_in rows) q)) (found w q b.list entries)

@@ -15,7 +15,7 @@ use Rattle.flow_measure.specs.Sums.{Table, key_cmp, is_key}
 use Rattle.flow_measure.proofs.Keys.{same_key, is_key-refl}
 use Rattle.flow_rolled.specs.declared.row.RolledRow.{RolledRow}
 use Rattle.flow_rolled.specs.Rows.{file_cmp, in_file_order, most, least, row_of, left_of, further, rows_from, rows_of}
-use Rattle.flow_rolled.specs.Rows.{rows_in, IsRow, Continues, MayFollow, AreRows, IsEntry, IsTable}
+use Rattle.flow_rolled.specs.Rows.{rows_in, IsRow, Continues, MayFollow, AreRows, IsTableEntry, IsTable}
 use Rattle.flow_rolled.specs.Messages.{last_from}
 use Rattle.flow_rolled.proofs.Grouping.{rows_append}
 use Rattle.flow_rolled.proofs.FileOrder.{first, second, order_sorted, order_finds, ties}
@@ -112,14 +112,14 @@ IsBefore None es = Unit {0}
 IsBefore (Some l) es = T (below_all file_cmp l.key es)
 
 abbrev pub AreEntries : ℕ → List (Key × Sums) → Type 0
-AreEntries w es = AllByRecursion (λ e. IsEntry w e.0 e.1) es
+AreEntries w es = AllByRecursion (λ e. IsTableEntry w e.0 e.1) es
 
 begins : (b : Option RolledRow) (k : Key) (s : Sums) (es : List (Key × Sums)) → IsBefore b ((k, s) ∷ es) → 0 < s.flows
     → MayFollow b (row_of k s)
 begins None k s es h some = some
 begins (Some l) k s es h some = inr (record { order = less_is _ (first _ _ h); flows = some })
 
-entry_row : (w : ℕ) (k : Key) (s : Sums) → IsEntry w k s → IsRow w (row_of k s)
+entry_row : (w : ℕ) (k : Key) (s : Sums) → IsTableEntry w k s → IsRow w (row_of k s)
 entry_row w k s h = record {
   aligned = h.aligned;
   start = h.start;
@@ -154,13 +154,14 @@ not_below q (e ∷ es) h = rw (sym (ties q e.0) ∙ less (file_cmp q e.0) (first
     less Greater p = absurd p
 
 entries_are : (w : ℕ) (es : List (Key × Sums)) → T (is_sorted file_cmp es)
-    → ((q : Key) → IfSome (find key_cmp q es) (IsEntry w q)) → AreEntries w es
+    → ((q : Key) → IfSome (find key_cmp q es) (IsTableEntry w q)) → AreEntries w es
 entries_are w [] sorted all = tt
 entries_are w (e ∷ es) sorted all = (
-  subst (λ b. IfSome (cond b (Some e.1) (find key_cmp e.0 es)) (IsEntry w e.0)) (is_key-refl e.0) (all e.0),
+  subst (λ b. IfSome (cond b (Some e.1) (find key_cmp e.0 es)) (IsTableEntry w e.0)) (is_key-refl e.0) (all e.0),
   entries_are w es (second _ _ sorted) (λ q. elim (is_key q e.0) as (λ b. is_key q e.0 ≡ b
-      → IfSome (cond b (Some e.1) (find key_cmp q es)) (IsEntry w q) → IfSome (find key_cmp q es) (IsEntry w q)) [
-        | true ↦ λ same h. subst (λ o. IfSome o (IsEntry w q))
+      → IfSome (cond b (Some e.1) (find key_cmp q es)) (IsTableEntry w q)
+      → IfSome (find key_cmp q es) (IsTableEntry w q)) [
+        | true ↦ λ same h. subst (λ o. IfSome o (IsTableEntry w q))
             (sym (not_below q es (subst (λ k. T (below_all file_cmp k es)) (sym (same_key q e.0 same))
             (first _ _ sorted)))) tt
         | false ↦ λ other h. h
@@ -170,4 +171,4 @@ entries_are w (e ∷ es) sorted all = (
 pub table_rows : (t : Table) → IsTable t → AreRows t.width None (rows_in t.sums)
 table_rows t h = all_rows t.width None (in_file_order t.sums) (order_sorted t.sums)
     (entries_are t.width (in_file_order t.sums) (order_sorted t.sums)
-    (λ q. subst (λ o. IfSome o (IsEntry t.width q)) (sym (order_finds t.sums q)) (h q))) tt
+    (λ q. subst (λ o. IfSome o (IsTableEntry t.width q)) (sym (order_finds t.sums q)) (h q))) tt

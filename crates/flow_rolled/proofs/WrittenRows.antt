@@ -10,7 +10,8 @@ use Rattle.flow_measure.specs.declared.rows.Key.{Key}
 use Rattle.flow_measure.specs.declared.rows.Sums.{Sums}
 use Rattle.flow_rolled.specs.declared.row.RolledRow.{RolledRow}
 use Rattle.flow_rolled.specs.Rows.{most, row_of, left_of, further, rows_from}
-use Rattle.flow_rolled.specs.Octets.{row_octets, rows_octets, set_octets, set_around, sets_of, of_kind, has_protocol}
+use Rattle.flow_rolled.specs.Octets.{row_octets, rows_octets, row_set_octets, set_around, sets_of, of_kind}
+use Rattle.flow_rolled.specs.Octets.{has_protocol}
 use Rattle.flow_rolled.specs.Octets.{has_none}
 use Rattle.flow_rolled.proofs.PartOctets.{rows_long}
 use Rattle.flow_rolled.proofs.SoFar.{count_parted}
@@ -85,7 +86,7 @@ row_written w b rows i d lt =
       | false ↦ refl
     ])
 
-pub same_around : (w n : ℕ) (rows : List RolledRow) → set_around n (rows_octets w rows) ≡ set_octets w n rows
+pub same_around : (w n : ℕ) (rows : List RolledRow) → set_around n (rows_octets w rows) ≡ row_set_octets w n rows
 same_around w n [] = refl
 same_around w n (r ∷ rs) = refl
 

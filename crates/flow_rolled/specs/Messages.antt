@@ -13,13 +13,13 @@ pub record RolledMessage : Type 0 where
   pub rows : List RolledRow
 
 -- the data records of a message: a head has two
-abbrev pub count_of : List RolledRow → ℕ
-count_of [] = 2
-count_of (r ∷ rs) = length (r ∷ rs)
+abbrev pub record_count : List RolledRow → ℕ
+record_count [] = 2
+record_count (r ∷ rs) = length (r ∷ rs)
 
 -- the sequence number that the next message of its domain has
 abbrev pub due : RolledMessage → ℕ
-due p = (p.sequence + count_of p.rows) % 2 ^ 32
+due p = (p.sequence + record_count p.rows) % 2 ^ 32
 
 -- the first rows, as long as they are of this domain, up to so many
 unfoldable pub group : ℕ → ℕ → List RolledRow → List RolledRow

@@ -23,9 +23,9 @@ rows_octets width [] = []
 rows_octets width (r ∷ rs) = row_octets width r ++ rows_octets width rs
 
 -- a Set of rows; none is written without rows
-abbrev pub set_octets : ℕ → ℕ → List RolledRow → List ℕ
-set_octets width number [] = []
-set_octets width number (r ∷ rs) =
+abbrev pub row_set_octets : ℕ → ℕ → List RolledRow → List ℕ
+row_set_octets width number [] = []
+row_set_octets width number (r ∷ rs) =
     to_be_bytes w16 number ++ to_be_bytes w16 (4 + length (rows_octets width (r ∷ rs))) ++ rows_octets width (r ∷ rs)
 
 -- a Set of these octets, where there are any
@@ -58,16 +58,16 @@ head_sets =
 abbrev pub sets_of : ℕ → List RolledRow → List ℕ
 sets_of width [] = head_sets
 sets_of width (r ∷ rs) =
-    set_octets width 256 (filter has_protocol (r ∷ rs)) ++ set_octets width 257 (filter has_none (r ∷ rs))
+    row_set_octets width 256 (filter has_protocol (r ∷ rs)) ++ row_set_octets width 257 (filter has_none (r ∷ rs))
 
-abbrev pub header_octets : ℕ → ℕ → ℕ → ℕ → List ℕ
-header_octets len time sequence domain =
+abbrev pub rolled_header_octets : ℕ → ℕ → ℕ → ℕ → List ℕ
+rolled_header_octets len time sequence domain =
     to_be_bytes w16 10 ++ to_be_bytes w16 len ++ to_be_bytes w32 time ++ to_be_bytes w32 sequence ++ to_be_bytes w32
     domain
 
 unfoldable pub message_octets : ℕ → RolledMessage → List ℕ
 message_octets width p =
-    header_octets (16 + length (sets_of width p.rows)) p.time p.sequence p.domain ++ sets_of width p.rows
+    rolled_header_octets (16 + length (sets_of width p.rows)) p.time p.sequence p.domain ++ sets_of width p.rows
 
 abbrev pub messages_octets : ℕ → List RolledMessage → List ℕ
 messages_octets width [] = []
@@ -99,7 +99,7 @@ IsOther number octets = (more : List ℕ) → octets ≢ to_be_bytes w16 number 
 
 -- a Set of rows, or none, and then octets that don't begin with the number of this Set
 pub record IsSet (w d number : ℕ) (b : Bool) (octets : List ℕ) (rows : List RolledRow) (more : List ℕ) : Type 0 where
-  pub is : octets ≡ set_octets w number rows ++ more
+  pub is : octets ≡ row_set_octets w number rows ++ more
   pub all : AllByRecursion (IsOf w d b) rows
   pub few : length rows ≤ 1000
   pub other : IsOther number more

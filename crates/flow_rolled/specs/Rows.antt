@@ -13,14 +13,14 @@ use Rattle.flow_measure.specs.Sums.{key_cmp, gathered, Table}
 use Rattle.flow_rolled.specs.declared.row.RolledRow.{RolledRow}
 
 -- 0 with a protocol, 1 without one
-abbrev pub without : Option ℕ → ℕ
-without None = 1
-without (Some protocol) = 0
+abbrev pub protocol_rank : Option ℕ → ℕ
+protocol_rank None = 1
+protocol_rank (Some protocol) = 0
 
 -- the file's order: by domain, then those with a protocol before those without, then by start and protocol
 abbrev pub file_cmp : Key → Key → Ordering
 file_cmp a b = ordering_then (nat_cmp a.domain b.domain)
-    (ordering_then (nat_cmp (without a.protocol) (without b.protocol))
+    (ordering_then (nat_cmp (protocol_rank a.protocol) (protocol_rank b.protocol))
     (ordering_then (nat_cmp a.start b.start) (option_cmp nat_cmp a.protocol b.protocol)))
 
 abbrev pub in_file_order : FinMap key_cmp Sums → List (Key × Sums)
@@ -107,7 +107,7 @@ AllMayFollow before (r ∷ rs) = MayFollow before r × AllMayFollow (Some r) rs
 -- ---- tables that files are made of
 
 -- what a table has under a key, in numbers that rows hold
-pub record IsEntry (width : ℕ) (key : Key) (s : Sums) : Type 0 where
+pub record IsTableEntry (width : ℕ) (key : Key) (s : Sums) : Type 0 where
   pub aligned : key.start % width ≡ 0
   pub start : key.start < 2 ^ 32
   pub domain : key.domain < 2 ^ 32
@@ -117,4 +117,4 @@ pub record IsEntry (width : ℕ) (key : Key) (s : Sums) : Type 0 where
 
 -- each entry is one
 abbrev pub IsTable : Table → Type 0
-IsTable t = (key : Key) → IfSome (get t.sums key) (IsEntry t.width key)
+IsTable t = (key : Key) → IfSome (get t.sums key) (IsTableEntry t.width key)

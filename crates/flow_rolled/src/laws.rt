@@ -11,7 +11,7 @@ ghost use Rattle.flow_codec.specs.File.{IsFile};
 ghost use Rattle.flow_rolled.specs.declared.row.RolledRow.{RolledRow};
 ghost use Rattle.flow_rolled.specs.Rows.{AreRows, IsTable, rows_in};
 ghost use Rattle.flow_rolled.specs.Messages.{RolledMessage, head, messages_with, rows_within, AllFollow, EndsWell};
-ghost use Rattle.flow_rolled.specs.Rollup.{messages_in};
+ghost use Rattle.flow_rolled.specs.Rollup.{table_messages};
 ghost use Rattle.flow_rolled.specs.AsFile.{messages_of, flows_within, flow_of_row, SameCounts};
 
 /// What is made of a table is its rolled file. Octets are the rolled file of one table at most, whatever the Export
@@ -35,11 +35,11 @@ pub fn one_rollup()
 /// key by key, and no other key; how many flows a key had isn't kept by them.
 pub fn rolled_file()
     ensures file { (t : Table) (time : ℕ) → IsTable t → time < 2 ^ 32
-        → (after : AllTemplates) × IsFile (rollup_octets t time) (messages_of t.width (messages_in t time)) after }
+        → (after : AllTemplates) × IsFile (rollup_octets t time) (messages_of t.width (table_messages t time)) after }
     ensures flows { (t : Table) (time : ℕ) → IsTable t → time < 2 ^ 32
-        → flows_within (messages_of t.width (messages_in t time)) ≡ map flow_of_row (rows_in t.sums) }
+        → flows_within (messages_of t.width (table_messages t time)) ≡ map flow_of_row (rows_in t.sums) }
     ensures sums { (t : Table) (time : ℕ) → IsTable t → time < 2 ^ 32 → (key : Key)
-        → SameCounts (get (sums_by t.width (flows_within (messages_of t.width (messages_in t time)))) key)
+        → SameCounts (get (sums_by t.width (flows_within (messages_of t.width (table_messages t time)))) key)
         (get t.sums key) }
 {}
 

@@ -2,7 +2,7 @@
 
 ghost use Rattle.std.specs.Prelude.{◌≡◌, ◌≢◌, ◌<◌, ℕ, List, ◌++◌, IfOk, IfSome, IfNone};
 ghost use Rattle.flow_rolled.specs.Messages.{RolledMessage};
-ghost use Rattle.flow_rolled.specs.Octets.{header_octets, message_octets, IsRolledMessage};
+ghost use Rattle.flow_rolled.specs.Octets.{rolled_header_octets, message_octets, IsRolledMessage};
 ghost use Rattle.flow_rolled.specs.Reading.{data_of};
 
 use crate::message::Message;
@@ -28,7 +28,7 @@ struct Header {
 /// The header with which octets begin, and the octets after it.
 fn header_of(octets: &[u8]) -> Option<(Header, &[u8])>
     ensures found { IfSome result
-        (λ x. octets.now ≡ header_octets x.0.len x.0.time x.0.sequence x.0.domain ++ x.1.now) }
+        (λ x. octets.now ≡ rolled_header_octets x.0.len x.0.time x.0.sequence x.0.domain ++ x.1.now) }
     ensures none { IfNone result ((width : ℕ) (p : RolledMessage) (more : List ℕ)
         → octets.now ≢ message_octets width p ++ more) }
 {

@@ -1,7 +1,7 @@
 //! The octets of messages.
 
 ghost use Rattle.std.specs.Prelude.{◌≡◌, ◌≤◌, ◌<◌, ◌+◌, ◌++◌, length, filter, OnOk, IfOk};
-ghost use Rattle.flow_rolled.specs.Octets.{rows_octets, set_octets, sets_of, message_octets, set_around, of_kind};
+ghost use Rattle.flow_rolled.specs.Octets.{rows_octets, row_set_octets, sets_of, message_octets, set_around, of_kind};
 
 use crate::message_reading::VERSION;
 use crate::numbers::{put_u16, put_u32};

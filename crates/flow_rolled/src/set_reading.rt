@@ -3,7 +3,7 @@
 ghost use Rattle.std.specs.Prelude.{◌≡◌, ◌≢◌, ◌<◌, ◌≤◌, ◌+◌, ◌*◌, ℕ, List, [], ◌++◌, length, IfOk, IfSome, IfNone};
 ghost use Rattle.std.specs.List.{AllByRecursion};
 ghost use Rattle.flow_rolled.specs.declared.row.RolledRow.{RolledRow};
-ghost use Rattle.flow_rolled.specs.Octets.{rows_octets, set_octets, sets_of, head_sets, IsOf, AreOf, IsSet};
+ghost use Rattle.flow_rolled.specs.Octets.{rows_octets, row_set_octets, sets_of, head_sets, IsOf, AreOf, IsSet};
 
 use crate::message::FULL;
 use crate::numbers::u16_of;
@@ -62,7 +62,7 @@ fn set_of<'a>(
     with: bool,
 ) -> Result<Option<(Vec<RolledRow>, &'a [u8])>, AllocError>
     requires { 0 < width }
-    ensures found { IfOk result (λ o. IfSome o (λ x. octets.now ≡ set_octets width number x.0.items ++ x.1.now)) }
+    ensures found { IfOk result (λ o. IfSome o (λ x. octets.now ≡ row_set_octets width number x.0.items ++ x.1.now)) }
     ensures all { IfOk result (λ o. IfSome o (λ x. AllByRecursion (IsOf width domain with) x.0.items)) }
     ensures only { IfOk result (λ o. IfSome o (λ x. (rows : List RolledRow) (more : List ℕ)
         → IsSet width domain number with octets.now rows more → (x.0.items ≡ rows) × (x.1.now ≡ more))) }

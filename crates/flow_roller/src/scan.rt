@@ -10,7 +10,7 @@ ghost use Rattle.flow_measure.specs.Sums.{key_cmp};
 ghost use Rattle.flow_measure.specs.View.{view_of, AreCountsOf, View};
 ghost use Rattle.flow_snapshot.specs.Shares.{summed, AreNarrow, AreWide, IsShare};
 ghost use Rattle.flow_snapshot.specs.Answered.{IsAnswered};
-ghost use Rattle.flow_snapshot.specs.Totals.{first_file, IsMade, IsWithinLimits, SumsFit};
+ghost use Rattle.flow_snapshot.specs.Totals.{first_file, IsMade, IsWithinHistoryLimits, SumsFit};
 ghost use Rattle.flow_model.specs.Views.{IsViewOf};
 
 use crate::gate::{Gate, Point};
@@ -69,7 +69,7 @@ pub fn scan_by_parts<S: SealedFile + Send + Sync, R: Threads + Sync, G: Gate + S
         → IsMade (first_file snapshot.now.shelf) (SumsFit v) (λ rows. rows.items ≡ totals_in_view from to v) result }
     // Where the view is that of a history within the limits: its totals, and never damage.
     ensures answered { IsTrue snapshot.now.honest → (h : History) (counts : List ℕ) → IsHistory h
-        → AreCountsOf h counts → IsWithinLimits h → IsViewOf snapshot.now.shelf (view_of h counts)
+        → AreCountsOf h counts → IsWithinHistoryLimits h → IsViewOf snapshot.now.shelf (view_of h counts)
         → IsAnswered (λ rows. rows.items ≡ totals_between from to h) result }
 {
     let work = |i: usize| -> Share<S>

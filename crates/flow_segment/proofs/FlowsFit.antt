@@ -17,7 +17,7 @@ use Rattle.flow_codec.specs.Fields.{counted_of, fields_in, value_of}
 use Rattle.flow_codec.specs.Layout.{Layout}
 use Rattle.flow_codec.specs.Message.{content, header_octets, in_fields, interpreted, joined, set_octets, AreRecords}
 use Rattle.flow_codec.specs.Message.{AreSets, Division, IsData, IsMessage, IsSet}
-use Rattle.flow_codec.specs.Plan.{counting, is_counted, number_of as element_of, role_of, values_of}
+use Rattle.flow_codec.specs.Plan.{counting, is_counted, element_of, role_of, values_of}
 use Rattle.flow_codec.specs.Raw.{RawMessage, RawRecord}
 use Rattle.flow_codec.specs.Templates.{AllTemplates, definition_of, definitions_of}
 use Rattle.flow_codec.proofs.SetLaws.{all_octets, by_kind}

@@ -10,13 +10,11 @@ use Rattle.flow_segment.specs.Carry.{prefix_of}
 use Rattle.flow_snapshot.specs.declared.step.Mark.TheVariants.{Added, Sealed, Installed, Merged}
 use Rattle.flow_measure.specs.History.{History}
 use Rattle.flow_model.specs.Changes.{added, applied, sealed, history_after, installed, merged, Change}
-use Rattle.flow_model.specs.Shelf.{cut_of, messages_in, Rollup, Segment, Shelf}
-use Rattle.flow_model.specs.Shelf as shelf
+use Rattle.flow_model.specs.Shelf.{cut_of, messages_in, position_of, Rollup, Segment, Shelf}
 use Rattle.flow_model.specs.Jobs.{history_made}
 use Rattle.flow_model.specs.Shelved.{shelf_of, HasHistory}
 use Rattle.flow_model.specs.State.{Part, StagedFile, State, appended}
-use Rattle.flow_archive.specs.Answers.{IsSealed}
-use Rattle.flow_archive.specs.Answers as answers
+use Rattle.flow_archive.specs.Answers.{IsSealed, archive_position}
 use Rattle.flow_archive.specs.Marks.{made_mark, numbered, HasMark}
 use Rattle.flow_turns.specs.declared.turn.Turn.{Turn}
 use Rattle.flow_turns.specs.declared.turn.Turn.TheVariants as turn
@@ -43,19 +41,19 @@ GoesOn honest s behind change =
 
 pub appended_marked : (honest : Bool) (s behind : State) (messages : List (List ℕ)) (first position : ℕ)
     → 1 ≤ length messages
-    → behind ≡ appended s messages → position ≡ answers.position_of behind
-    → shelf.position_of (shelf_of s) ≡ answers.position_of s → first ≡ position + 1 - length messages
+    → behind ≡ appended s messages → position ≡ archive_position behind
+    → position_of (shelf_of s) ≡ archive_position s → first ≡ position + 1 - length messages
     → HasMark behind (Added first position) → GoesOn honest s behind (added messages)
     → IsMarkOf honest s behind (Added first position) (added messages)
 appended_marked honest s behind messages first position some is at count named stands means =
     let old = shelf_of s in
     let files : shelf_of behind ≡ applied old (added messages) = ap shelf_of is ∙ appended_shelf s messages in
-    let later : position ≡ answers.position_of (appended s messages) = at ∙ ap answers.position_of is in
-    let whole : position ≡ shelf.position_of old + length messages =
+    let later : position ≡ archive_position (appended s messages) = at ∙ ap archive_position is in
+    let whole : position ≡ position_of old + length messages =
     omega (arith, later, count, length-append s.active.messages messages) in
-    let from : first ≡ shelf.position_of old + 1 = omega (arith, named, whole) in
+    let from : first ≡ position_of old + 1 = omega (arith, named, whole) in
     let front = cut_of old + length (messages_in old.sealed) in
-    let all : shelf.position_of old ≡ front + length old.active =
+    let all : position_of old ≡ front + length old.active =
     omega (arith, length-append (messages_in old.sealed) old.active) in
     record {
       stands = stands;

@@ -28,7 +28,7 @@ use Rattle.flow_measure.proofs.ViewLaws.{both_sums, flows-append}
 use Rattle.flow_refusals.specs.declared.sum_refusal.SumRefusal.{SumRefusal}
 use Rattle.flow_refusals.specs.declared.sum_refusal.SumRefusal.TheVariants as sum
 use Rattle.flow_rolled.specs.Rollup.{IsRollup}
-use Rattle.flow_rolled.specs.Rows.{IsEntry, IsTable}
+use Rattle.flow_rolled.specs.Rows.{IsTableEntry, IsTable}
 use Rattle.flow_rolled.specs.Stored as stored
 use Rattle.flow_rolled.specs.Stored.{IsAdded, IsNotAdded}
 use Rattle.flow_rolled.proofs.Breaking.{one_table}
@@ -42,7 +42,7 @@ use Rattle.flow_refusals.specs.declared.read_refusal.ReadRefusal.TheVariants.{Da
 use Rattle.flow_snapshot.specs.Files.{is_honest, is_honest_sum, rollup_of, segment_of, shared}
 use Rattle.flow_model.specs.Shelf.{Rollup}
 use Rattle.flow_snapshot.specs.Answered.{IsNoDamage}
-use Rattle.flow_snapshot.specs.Totals.{told_of_file, with_maps, IsMade, IsSpent}
+use Rattle.flow_snapshot.specs.Totals.{told_of_file, with_maps, IsMade, IsTotalsRefusal}
 use Rattle.flow_model.specs.Views.{AreRolled}
 use Rattle.flow_snapshot.proofs.KeptFlows.{message_told, next_item, taken_next, Next, NextPart, Taken}
 use Rattle.flow_snapshot.proofs.Sharing.{all_rest, first_of_two}
@@ -132,7 +132,7 @@ only_maps width maps = λ i. record {
 table_sound : (width : ℕ) (m : FinMap key_cmp Sums) → IsTable (record { width = width; sums = m }) → AreSound width m
 table_sound width m valid key = by (get m key) (valid key)
   where
-    by : (o : Option Sums) → IfSome o (IsEntry width key) → IfSome o (λ s. IsKeyBy width key × (0 < s.flows))
+    by : (o : Option Sums) → IfSome o (IsTableEntry width key) → IfSome o (λ s. IsKeyBy width key × (0 < s.flows))
     by None h = tt
     by (Some s) h = (
       record { aligned = h.aligned; start = h.start; domain = h.domain; protocol = h.protocol },
@@ -155,7 +155,7 @@ module _ (width : ℕ) (small : width < 2 ^ 32) (octets : List ℕ) (m : FinMap 
       ∙ own_entries
 
   pub file_not_added : (first : ℕ) (part : stored.Rollup) (e : SumRefusal) → part.octets ≡ octets
-      → IsNotAdded part width old e → IsSpent first (AllFit (merged old own_table)) (told_of_file first e)
+      → IsNotAdded part width old e → IsTotalsRefusal first (AllFit (merged old own_table)) (told_of_file first e)
   file_not_added first part (sum.Damaged file at) here h =
       absurd ((h.1).none own_table (subst (λ (os : List ℕ). IsRollup width os own_table) (sym here) is))
   file_not_added first part sum.SumSpent here h = (
@@ -244,11 +244,11 @@ all_summed old maps left now none s =
 
 -- a refusal, passed on to what is made of more
 pub made_err : {Y : Type 0} (Q : Y → Type 0) (first : ℕ) (fit all : Type 0) (r : Result Y ReadRefusal)
-    (e : ReadRefusal) → (all → fit) → IsErrAnd r (λ x. x ≡ e) → IsSpent first fit e → IsMade first all Q r
+    (e : ReadRefusal) → (all → fit) → IsErrAnd r (λ x. x ≡ e) → IsTotalsRefusal first fit e → IsMade first all Q r
 made_err Q first fit all (Ok y) e fewer is h = absurd is
-made_err Q first fit all (Err x) e fewer is h = subst (IsSpent first all) (sym is) (by e h)
+made_err Q first fit all (Err x) e fewer is h = subst (IsTotalsRefusal first all) (sym is) (by e h)
   where
-    by : (e : ReadRefusal) → IsSpent first fit e → IsSpent first all e
+    by : (e : ReadRefusal) → IsTotalsRefusal first fit e → IsTotalsRefusal first all e
     by (Damaged file at) h = (h.0, h.1, λ w. h.2 (fewer w))
     by Fault h = tt
     by OutOfMemory h = tt
@@ -256,16 +256,16 @@ made_err Q first fit all (Err x) e fewer is h = subst (IsSpent first all) (sym i
 pub made_blameless : {Y : Type 0} (Q : Y → Type 0) (first : ℕ) (all : Type 0) (r : Result Y ReadRefusal)
     (e : ReadRefusal) → IsErrAnd r (λ x. x ≡ e) → IsNoDamage e → IsMade first all Q r
 made_blameless Q first all (Ok y) e is h = absurd is
-made_blameless Q first all (Err x) e is h = subst (IsSpent first all) (sym is) (by e h)
+made_blameless Q first all (Err x) e is h = subst (IsTotalsRefusal first all) (sym is) (by e h)
   where
-    by : (e : ReadRefusal) → IsNoDamage e → IsSpent first all e
+    by : (e : ReadRefusal) → IsNoDamage e → IsTotalsRefusal first all e
     by (Damaged file at) h = absurd h
     by Fault h = tt
     by OutOfMemory h = tt
 
 pub part_not_added : (X : Type 0) (before after : AllTemplates) (old new : Table) (messages : List Accepted) (first : ℕ)
     (e : SumRefusal) → AreAdded {X = X} before old messages (Err e) after new
-    → IsSpent first (AllFit (with_flows (flows_in messages) old)) (told_of_file first e)
+    → IsTotalsRefusal first (AllFit (with_flows (flows_in messages) old)) (told_of_file first e)
 part_not_added X before after old new messages first (sum.Damaged file at) h = absurd h
 part_not_added X before after old new messages first sum.SumSpent h = (refl, refl, h.0)
 part_not_added X before after old new messages first sum.Fault h = tt
@@ -316,7 +316,7 @@ pub file_err : {Y : Type 0} (Q : Y → Type 0) (old now : Table) (maps : List (F
     (e : ReadRefusal)
     → IsErrAnd r (λ x. x ≡ e)
     → ((sums : FinMap key_cmp Sums) → IsRollup now.width octets (record { width = now.width; sums = sums })
-    → IsSpent first (AllFit (merged now (record { width = now.width; sums = sums }))) e)
+    → IsTotalsRefusal first (AllFit (merged now (record { width = now.width; sums = sums }))) e)
     → IsMade first (AllFit (with_maps maps old)) Q r
 file_err Q old now maps octets left n first r e is given =
     made_err Q first (AllFit (merged now (record { width = now.width; sums = n.own }))) (AllFit (with_maps maps old)) r
@@ -361,7 +361,7 @@ pub sums_err : {F X Y : Type 0} {files : Ghosts F X} (old rows : Table) (Q : Y �
     → NextPart (HasSums old rows) before messages left templates part → 0 < part.messages → IsErrAnd r (λ x. x ≡ e)
     → (IsTrue (is_honest part) → (own : List Accepted)
     → ArePartMessages (part_octets part.prefix part.length (files.octets part.reader)) templates part.messages own
-    → IsSpent first (AllFit (with_flows (flows_in own) rows)) e)
+    → IsTotalsRefusal first (AllFit (with_flows (flows_in own) rows)) e)
     → IsMade first (AllFit (with_flows (flows_in messages) old)) Q r
 sums_err old rows Q before templates messages left part first r e p some is given =
     let n = p.next in
@@ -423,7 +423,7 @@ spent_all old now messages false is h fit = absurd cc
 -- they would pass their types, or a read failed, or memory ran out
 pub part_spent : (first : ℕ) (before after : AllTemplates) (old rows new : Table) (messages : List Accepted)
     (e : SumRefusal) → old ≡ rows → AreAdded {X = ℕ} before old messages (Err e) after new
-    → IsSpent first (AllFit (with_flows (flows_in messages) rows)) (told_of_file first e)
+    → IsTotalsRefusal first (AllFit (with_flows (flows_in messages) rows)) (told_of_file first e)
 part_spent first before after old rows new messages (sum.Damaged file at) is never = absurd never
 part_spent first before after old rows new messages sum.SumSpent is spent =
     (refl, refl, subst (λ (t : Table). AllFit (with_flows (flows_in messages) t) → ⊥) is spent.0)

@@ -11,7 +11,7 @@ use Rattle.flow_measure.specs.declared.rows.Row.{Row}
 use Rattle.flow_measure.specs.declared.rows.Key.{Key}
 use Rattle.flow_measure.specs.declared.rows.Sums.{Sums}
 use Rattle.flow_measure.specs.Query.{interleaved, rows_of_both}
-use Rattle.flow_measure.specs.Sums.{is_within, key_cmp, row_of, rows_between, Table}
+use Rattle.flow_measure.specs.Sums.{is_within, key_cmp, table_row, rows_between, Table}
 
 -- what was taken, and after it what is left, interleaved, is all
 pub record Rest (all rows others target : List Row) : Type 0 where
@@ -137,7 +137,7 @@ few_between from to t =
     let here = filter (λ (e : Key × Sums). is_within from to e.0) (entries t.sums) in
     omega (
       arith,
-      length-map here (row_of t.width),
+      length-map here (table_row t.width),
       few_pass (λ (e : Key × Sums). is_within from to e.0) (entries t.sums),
     )
 

@@ -32,7 +32,7 @@ use Rattle.flow_snapshot.specs.Files.{cut_into, segment_of, shared}
 use Rattle.flow_snapshot.specs.Shares.{added_if, chosen, next_turn, own, summed, turn_after, AllPartsFit, AreNarrow}
 use Rattle.flow_snapshot.specs.Shares.{AreWide, IsFileSum, IsOwnSum, IsSegmentSum}
 use Rattle.flow_model.specs.Shelf.{Rollup, Segment, Shelf, messages_in}
-use Rattle.flow_snapshot.specs.Totals.{wide_table_in, with_maps, IsMade, IsSpent, SumsFit}
+use Rattle.flow_snapshot.specs.Totals.{wide_table_in, with_maps, IsMade, IsTotalsRefusal, SumsFit}
 use Rattle.flow_model.specs.Views.{AreRestated, AreRolled, IsViewOf}
 use Rattle.flow_model.proofs.Accepting.{accepted_first, accepted_rest, behind_own, own_first}
 use Rattle.flow_snapshot.proofs.Adding.{gathered-behind, made_err, no_maps, only_maps, with_nothing}
@@ -378,7 +378,7 @@ module _ {A : Type 0} (P : ℕ → A → FinMap key_cmp Sums → Type 0) (worker
   pub refused : {Y : Type 0} (Q : Y → Type 0) (first : ℕ) (r : Result Y ReadRefusal) (e : ReadRefusal)
       → IsErrAnd r (λ y. y ≡ e)
       → ((sums : FinMap key_cmp Sums) → P now.width x sums
-      → IsSpent first (AllFit (added_if (turn == worker) sums now)) e)
+      → IsTotalsRefusal first (AllFit (added_if (turn == worker) sums now)) e)
       → IsMade first (AllFit goal) Q r
   refused Q first r e is given =
       made_err Q first (AllFit added) (AllFit goal) r e
@@ -610,7 +610,7 @@ module _ {B Z A : Type 0} (P : ℕ → A → FinMap key_cmp Sums → Type 0) (f 
   pub own_refused : {Y : Type 0} (Q : Y → Type 0) (first : ℕ) (r : Result Y ReadRefusal) (e : ReadRefusal)
       → IsErrAnd r (λ y. y ≡ e)
       → (IsTrue (test part) → (sums : FinMap key_cmp Sums) → P now.width (f part) sums
-      → IsSpent first (AllFit (added_if (turn == worker) sums now)) e)
+      → IsTotalsRefusal first (AllFit (added_if (turn == worker) sums now)) e)
       → IsMade first (AllFit goal) Q r
   own_refused Q first r e is_err given =
       refused P workers worker (f part) left turn now goal before Q first r e is_err

@@ -13,7 +13,7 @@ use Rattle.flow_measure.specs.History.{Accepted, AreAcceptedFrom, flows_in, temp
 use Rattle.flow_measure.specs.declared.rows.Row.{Row}
 use Rattle.flow_measure.specs.Query.{narrow_table_in, rows_of_both, totals_between, totals_in_view}
 use Rattle.flow_measure.specs.Sums.{key_cmp, gathered, empty_table, merged, sums_by, table_of, AllFit, Table}
-use Rattle.flow_measure.specs.View.{rolled_messages, view_of, AreCountsOf, View}
+use Rattle.flow_measure.specs.View.{messages_between_cuts, view_of, AreCountsOf, View}
 use Rattle.flow_measure.proofs.Gathering.{gathered-same, sum_at, sum_at-append}
 use Rattle.flow_measure.proofs.SumLaws.{merged-table_of}
 use Rattle.flow_measure.proofs.ViewLaws.{both_sums, flows-append, parts_sum, totals_same}
@@ -25,7 +25,7 @@ use Rattle.flow_refusals.specs.declared.read_refusal.ReadRefusal.{ReadRefusal}
 use Rattle.flow_refusals.specs.declared.read_refusal.ReadRefusal.TheVariants.{Damaged, Fault, OutOfMemory}
 use Rattle.flow_model.specs.Shelf.{messages_in, Shelf}
 use Rattle.flow_snapshot.specs.Answered.{IsAnswered}
-use Rattle.flow_snapshot.specs.Totals.{wide_table_in, with_maps, IsMade, IsWithinLimits, SumsFit}
+use Rattle.flow_snapshot.specs.Totals.{wide_table_in, with_maps, IsMade, IsWithinHistoryLimits, SumsFit}
 use Rattle.flow_model.specs.Views.{IsViewOf}
 use Rattle.flow_model.proofs.Accepting.{accepted_first, accepted_rest}
 use Rattle.flow_snapshot.proofs.Asking.{kept_in_two}
@@ -128,23 +128,24 @@ merged-comm a b same = λ i. record {
 }
 
 module _ (h : History) (counts : List ℕ) (is : IsHistory h) (all : AreCountsOf h counts) where
-  short : length (rolled_messages h) ≤ sum counts
+  short : length (messages_between_cuts h) ≤ sum counts
   short = omega (arith, length-take (h.cut - h.second) (drop h.second h.all), all)
 
-  later_messages : rolled_messages h ++ drop h.cut h.all ≡ drop h.second h.all
+  later_messages : messages_between_cuts h ++ drop h.cut h.all ≡ drop h.second h.all
   later_messages =
-      ap (λ (n : ℕ). rolled_messages h ++ drop n h.all) (omega (arith, is.second))
-      ∙ ap (λ (ms : List Accepted). rolled_messages h ++ ms) (sym (drop-drop (h.cut - h.second) h.second h.all))
+      ap (λ (n : ℕ). messages_between_cuts h ++ drop n h.all) (omega (arith, is.second))
+      ∙ ap (λ (ms : List Accepted). messages_between_cuts h ++ ms) (sym (drop-drop (h.cut - h.second) h.second h.all))
       ∙ take-append-drop (h.cut - h.second) (drop h.second h.all)
 
   narrow_of : narrow_table_in (view_of h counts) ≡ table_of h.width (flows_in (drop h.second h.all))
   narrow_of = ap (λ (m : FinMap key_cmp Sums). let t : Table = record { width = h.width; sums = m } in t)
       (ap (λ (m : FinMap key_cmp Sums). gathered (entries m ++ entries (sums_by h.width (flows_in (drop h.cut h.all)))))
-      (parts_sum h.width counts (rolled_messages h) short)
-      ∙ both_sums h.width (flows_in (rolled_messages h)) (flows_in (drop h.cut h.all))
-      ∙ ap (sums_by h.width) (sym (flows-append (rolled_messages h) (drop h.cut h.all)) ∙ ap flows_in later_messages))
+      (parts_sum h.width counts (messages_between_cuts h) short)
+      ∙ both_sums h.width (flows_in (messages_between_cuts h)) (flows_in (drop h.cut h.all))
+      ∙ ap (sums_by h.width) (sym (flows-append (messages_between_cuts h) (drop h.cut h.all))
+      ∙ ap flows_in later_messages))
 
-  module _ (within : IsWithinLimits h) where
+  module _ (within : IsWithinHistoryLimits h) where
     all_fit : AllByRecursion FlowFits (flows_in h.all)
     all_fit = messages_fit [] h.all is.accepted within.octets
 

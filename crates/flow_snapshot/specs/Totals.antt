@@ -31,7 +31,7 @@ pub record SumsFit (v : View) : Type 0 where
 
 -- A history within the limits of an archive: its messages are fewer than 2^48, and consist of octets, numbers below
 -- 256.
-pub record IsWithinLimits (h : History) : Type 0 where
+pub record IsWithinHistoryLimits (h : History) : Type 0 where
   pub few : length h.all < 2 ^ 48
   pub octets : AllByRecursion (λ a. IsOctets a.octets) h.all
 
@@ -46,15 +46,15 @@ abbrev pub first_file : Shelf → ℕ
 first_file s = first_of (map (λ r. r.file) s.merged ++ map (λ r. r.file) s.rolled ++ map (λ g. g.file) s.sealed)
 
 -- Damage is reported of this file at its start alone, and only where sums don't fit their types.
-abbrev pub IsSpent : ℕ → Type 0 → ReadRefusal → Type 0
-IsSpent first fit (Damaged file at) = (file ≡ first) × (at ≡ 0) × (fit → ⊥)
-IsSpent first fit Fault = ⊤
-IsSpent first fit OutOfMemory = ⊤
+abbrev pub IsTotalsRefusal : ℕ → Type 0 → ReadRefusal → Type 0
+IsTotalsRefusal first fit (Damaged file at) = (file ≡ first) × (at ≡ 0) × (fit → ⊥)
+IsTotalsRefusal first fit Fault = ⊤
+IsTotalsRefusal first fit OutOfMemory = ⊤
 
 -- What is made is right, unless a read fails or memory runs out, or sums don't fit their types.
 abbrev pub IsMade : {X : Type 0} → ℕ → Type 0 → (X → Type 0) → Result X ReadRefusal → Type 0
 IsMade first fit right (Ok x) = right x
-IsMade first fit right (Err e) = IsSpent first fit e
+IsMade first fit right (Err e) = IsTotalsRefusal first fit e
 
 -- ---- refusals as those of totals
 

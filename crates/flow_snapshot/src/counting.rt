@@ -2,7 +2,7 @@
 
 ghost use Rattle.std.specs.Prelude.{◌≡◌, length, map, min};
 ghost use Rattle.flow_snapshot.specs.Files.{rollup_of, segment_of, shared};
-ghost use Rattle.flow_model.specs.Shelf.{messages_in, messages_of};
+ghost use Rattle.flow_model.specs.Shelf.{messages_in, rollup_message_count};
 
 use flow_disk::SealedFile;
 use flow_rolled::RolledPart;
@@ -11,7 +11,7 @@ use std::sync::Arc;
 
 /// How many messages were rolled into these files; the greatest number where they are more.
 pub(crate) fn rolled_count<S: SealedFile>(parts: &[Arc<RolledPart<S>>]) -> u64
-    ensures { result ≡ min (messages_of (map rollup_of (shared parts.now))) 18446744073709551615 }
+    ensures { result ≡ min (rollup_message_count (map rollup_of (shared parts.now))) 18446744073709551615 }
 {
     let mut count: u64 = 0;
     for part in parts {

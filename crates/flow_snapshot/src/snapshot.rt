@@ -21,7 +21,7 @@ ghost use Rattle.flow_snapshot.specs.Shares.{narrow_turn, own, summed, AllPartsF
 ghost use Rattle.flow_snapshot.specs.Shares.{HaveSums, IsFileSum, IsNarrowRead, IsShare};
 ghost use Rattle.flow_model.specs.Shelf.{cut_of, position_of, second_of};
 ghost use Rattle.flow_snapshot.specs.Answered.{octets_in, IsAnswered};
-ghost use Rattle.flow_snapshot.specs.Totals.{first_file, wide_table_in, IsMade, IsWithinLimits, SumsFit};
+ghost use Rattle.flow_snapshot.specs.Totals.{first_file, wide_table_in, IsMade, IsWithinHistoryLimits, SumsFit};
 ghost use Rattle.flow_model.specs.Views.{AreRestated, AreRolledInto, IsViewOf};
 
 use crate::counting::{rolled_count, sealed_count};
@@ -364,7 +364,7 @@ impl<S: SealedFile> Snapshot<S> {
             → IsMade (first_file self.now.shelf) (SumsFit v) (λ rows. rows.items ≡ totals_in_view from to v) result }
         // Where the view is that of a history within the limits: its totals, and never damage.
         ensures answered { IsTrue self.now.honest → (h : History) (counts : List ℕ) → IsHistory h → AreCountsOf h counts
-            → IsWithinLimits h → IsViewOf self.now.shelf (view_of h counts)
+            → IsWithinHistoryLimits h → IsViewOf self.now.shelf (view_of h counts)
             → IsAnswered (λ rows. rows.items ≡ totals_between from to h) result }
     {
         self.rows_between(alloc, from, to, faults)
@@ -531,7 +531,7 @@ impl<S: SealedFile> Snapshot<S> {
         ensures given { IsTrue self.now.honest → (v : View) → IsViewOf self.now.shelf v
             → IsMade (first_file self.now.shelf) (SumsFit v) (λ rows. rows.items ≡ totals_in_view from to v) result }
         ensures answered { IsTrue self.now.honest → (h : History) (counts : List ℕ) → IsHistory h → AreCountsOf h counts
-            → IsWithinLimits h → IsViewOf self.now.shelf (view_of h counts)
+            → IsWithinHistoryLimits h → IsViewOf self.now.shelf (view_of h counts)
             → IsAnswered (λ rows. rows.items ≡ totals_between from to h) result }
     {
         let first = self.first_file();

@@ -15,7 +15,7 @@ use Rattle.flow_archive.specs.declared.event.Answer.{Answer}
 use Rattle.flow_archive.specs.declared.event.Event.{Event}
 use Rattle.flow_archive.specs.declared.event.Event.TheVariants.{Retire}
 use Rattle.flow_archive.specs.declared.refusal.ArchiveError.{ArchiveError}
-use Rattle.flow_archive.specs.Answers.{position_of}
+use Rattle.flow_archive.specs.Answers.{archive_position}
 use Rattle.flow_archive.specs.JobAnswers.{IsJobFile}
 use Rattle.flow_archive.specs.Runs.{IsRun}
 use Rattle.flow_archive.specs.Seen.{Seen}
@@ -64,7 +64,7 @@ pub record IsReplacement (honest : Bool) (kind : JobKind) (count removed : ℕ) 
   -- there are as many messages as before: in all files that are named, in the active segment, and together
   pub all : messages_of new.manifest.entries ≡ messages_of old.manifest.entries
   pub active : new.active ≡ old.active
-  pub position : position_of new ≡ position_of old
+  pub position : archive_position new ≡ archive_position old
   -- what is under way
   pub next : new.next ≡ old.next + 1
   pub shared : new.shared ≡ old.shared

@@ -3,7 +3,7 @@ use Rattle.std.specs.List.{flat_map, AllByRecursion}
 use Rattle.flow_manifest.specs.declared.manifest.Entry.{Entry}
 use Rattle.flow_manifest.specs.declared.head.Head.{Head}
 use Rattle.flow_manifest.specs.declared.manifest.Manifest.{Manifest}
-use Rattle.flow_manifest.specs.Manifest.{Fits, FitsEntry, IsInRange, IsValidManifest, head_of, entry_octets}
+use Rattle.flow_manifest.specs.Manifest.{FitsHead, FitsEntry, IsInRange, IsValidManifest, head_of, entry_octets}
 use Rattle.flow_manifest.proofs.Decoded.{counted}
 use Rattle.flow_manifest.proofs.Bodies.{same_valid}
 use Rattle.flow_manifest.proofs.decoding.manifest_of.Goals as goal
@@ -41,7 +41,7 @@ pub is_valid-requires-clause-fits : goal.is_valid-requires-clause-fits
 is_valid-requires-clause-fits c =
     let entries : flat_map entry_octets c.from_vec.result ≡ c.args.octets.now =
     ap (flat_map entry_octets) c.from_vec.ensures ∙ c.in_ok-entries.ensures.found in
-    subst Fits (sym (same_head c.args.head c.from_vec.result
+    subst FitsHead (sym (same_head c.args.head c.from_vec.result
     (counted c.from_vec.result c.args.octets.now c.args.head.count entries
     (omega (arith, c.if-octets-head.false))))) c.requires
 

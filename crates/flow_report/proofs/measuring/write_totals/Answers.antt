@@ -5,7 +5,7 @@ use Rattle.std.proofs.lemmas.List.{append-nil}
 use Rattle.std.proofs.lemmas.Result.{err_from_is_err_and}
 use Rattle.flow_measure.specs.declared.rows.Key.{Key}
 use Rattle.flow_measure.specs.declared.rows.Sums.{Sums}
-use Rattle.flow_measure.specs.Sums.{row_of}
+use Rattle.flow_measure.specs.Sums.{table_row}
 use Rattle.flow_report.specs.declared.format.Format.{Format}
 use Rattle.flow_report.specs.ArchiveLines.{row_line, row_names}
 use Rattle.flow_report.specs.Formats.{heading}
@@ -16,7 +16,7 @@ use Rattle.flow_report.proofs.measuring.write_totals.Goals as goal
 
 -- the lines of sums over intervals of this width
 abbrev lines_from : Format → ℕ → List (Key × Sums) → List ℕ
-lines_from format width sums = flat_map (row_line format width) (map (row_of width) sums)
+lines_from format width sums = flat_map (row_line format width) (map (table_row width) sums)
 
 pub rows-init : goal.rows-init
 rows-init g c =

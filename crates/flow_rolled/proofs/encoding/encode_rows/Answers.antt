@@ -7,7 +7,7 @@ use Rattle.flow_measure.specs.declared.rows.Key.{Key}
 use Rattle.flow_measure.specs.declared.rows.Sums.{Sums}
 use Rattle.flow_measure.specs.Sums.{Table, key_cmp, IsKeyBy, AreSound, AllFit, Fits}
 use Rattle.flow_rolled.specs.declared.row.RolledRow.{RolledRow}
-use Rattle.flow_rolled.specs.Rows.{rows_of, rows_in, in_file_order, IsTable, IsEntry}
+use Rattle.flow_rolled.specs.Rows.{rows_of, rows_in, in_file_order, IsTable, IsTableEntry}
 use Rattle.flow_rolled.specs.Messages.{messages_with}
 use Rattle.flow_rolled.specs.Octets.{messages_octets}
 use Rattle.flow_rolled.specs.Rollup.{rollup_octets, IsRollup}
@@ -35,7 +35,8 @@ valid : (w : ℕ) (sums : FinMap key_cmp Sums) → AreSound w sums → AllFit (r
     → IsTable (record { width = w; sums = sums })
 valid w sums sound fit key = entry (get sums key) (sound key) (fit key)
   where
-    entry : (o : Option Sums) → IfSome o (λ s. IsKeyBy w key × (0 < s.flows)) → IfSome o Fits → IfSome o (IsEntry w key)
+    entry : (o : Option Sums) → IfSome o (λ s. IsKeyBy w key × (0 < s.flows)) → IfSome o Fits
+        → IfSome o (IsTableEntry w key)
     entry None h k = tt
     entry (Some s) h k = record {
       aligned = (h.0).aligned;

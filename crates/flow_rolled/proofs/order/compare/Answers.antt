@@ -4,10 +4,10 @@ use Rattle.std.specs.Option.{option_cmp}
 use Rattle.std.specs.Ordering.{nat_cmp, bool_cmp, ordering_then}
 use Rattle.std.specs.declared.cmp.Ordering.{Ordering}
 use Rattle.std.specs.declared.cmp.Ordering.TheVariants.{Less, Equal, Greater}
-use Rattle.flow_rolled.specs.Rows.{without}
+use Rattle.flow_rolled.specs.Rows.{protocol_rank}
 use Rattle.flow_rolled.proofs.order.compare.Goals as goal
 
-kinds : (a b : Option ℕ) → bool_cmp (not (is_some a)) (not (is_some b)) ≡ nat_cmp (without a) (without b)
+kinds : (a b : Option ℕ) → bool_cmp (not (is_some a)) (not (is_some b)) ≡ nat_cmp (protocol_rank a) (protocol_rank b)
 kinds None None = refl
 kinds None (Some q) = refl
 kinds (Some p) None = refl
@@ -28,7 +28,8 @@ regrouped Greater b c d = refl
 pub returns : goal.returns
 returns c =
     let a = c.args.a.now in let b = c.args.b.now in
-    let kind : bool_cmp c.is_none.result c.is_none-2.result ≡ nat_cmp (without a.protocol) (without b.protocol) =
+    let kind : bool_cmp c.is_none.result c.is_none-2.result
+    ≡ nat_cmp (protocol_rank a.protocol) (protocol_rank b.protocol) =
     (λ i. bool_cmp (turned _ c.is_none.result c.is_none.ensures i)
     (turned _ c.is_none-2.result c.is_none-2.ensures i)) ∙ kinds a.protocol b.protocol in
     rw (

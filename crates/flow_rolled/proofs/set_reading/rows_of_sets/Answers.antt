@@ -5,7 +5,7 @@ use Rattle.std.proofs.lemmas.Bool.{eqb-true, eqb-false}
 use Rattle.std.proofs.lemmas.Bool.Decides.{Decides-eqb, not_from_Decides}
 use Rattle.std.proofs.lemmas.Slice.Eq.{slice_eq-Decides}
 use Rattle.flow_rolled.specs.declared.row.RolledRow.{RolledRow}
-use Rattle.flow_rolled.specs.Octets.{sets_of, head_sets, set_octets, has_protocol, has_none}
+use Rattle.flow_rolled.specs.Octets.{sets_of, head_sets, row_set_octets, has_protocol, has_none}
 use Rattle.flow_rolled.proofs.RowSets.{first_set, second_set, both_sets, are_of_sets, sets_made, no_octets}
 use Rattle.flow_rolled.proofs.set_reading.rows_of_sets.Goals as goal
 use Rattle.flow_rolled.proofs.set_reading.rows_of_sets.Goals.{then-is_empty-via-then-is_empty}
@@ -26,7 +26,7 @@ returns-in_default-2-clause-none c = λ rows are e.
     (slice_eq-Decides Decides-eqb c.args.octets.now c.as_slice.result.now c.eq.result c.eq.ensures) c.if-eq.false in
     let some = not_bare w c.args.octets.now rows (λ x. other (x ∙ sym c.as_slice.ensures)) e in
     let only = rw c.in-Some.is at c.in_ok-rows.ensures.only in
-    let first = only (filter has_protocol rows) (set_octets w 257 (filter has_none rows))
+    let first = only (filter has_protocol rows) (row_set_octets w 257 (filter has_none rows))
     (first_set w d c.args.octets.now rows are some e) in
     let none = rw c.in_default-2.is at c.in_ok-more.ensures.none in
     none (filter has_none rows) [] (second_set w d c.in-Some.rest.now rows are first.1)
@@ -39,7 +39,7 @@ returns-then-is_empty-clause-none c = λ rows are e.
     (slice_eq-Decides Decides-eqb c.args.octets.now c.as_slice.result.now c.eq.result c.eq.ensures) c.if-eq.false in
     let some = not_bare w c.args.octets.now rows (λ x. other (x ∙ sym c.as_slice.ensures)) e in
     let only = rw c.in-Some.is at c.in_ok-rows.ensures.only in
-    let first = only (filter has_protocol rows) (set_octets w 257 (filter has_none rows))
+    let first = only (filter has_protocol rows) (row_set_octets w 257 (filter has_none rows))
     (first_set w d c.args.octets.now rows are some e) in
     let only_2 = rw c.in-Some-2.is at c.in_ok-more.ensures.only in
     let second = only_2 (filter has_none rows) [] (second_set w d c.in-Some.rest.now rows are first.1) in
