@@ -62,6 +62,9 @@ impl<D: Disk> Archive<D> {
             → IsWithin (D.held (disk_of result) (file_of slot)) (D.held disk (file_of slot)) }
         ensures kept { IsTrue (D.honest disk) → (IsErrOf (answer_of result) OpenError.Fault → ⊥)
             → (slot : Slot) → (D.held (disk_of result) (file_of slot)).reads ≡ (D.held disk (file_of slot)).reads }
+        // After 20 to 24 each file reads as before.
+        ensures unchanged { IsTrue (D.honest disk) → IfErr result (λ r. (IsDeviceOrMemory r.error → ⊥)
+            → (n : ℕ) → (D.held r.disk n).reads ≡ (D.held disk n).reads) }
         ensures cause { HasCause OpenError.Fault (D.faults disk) (D.faults (disk_of result)) (answer_of result) }
     {
         let mut disk = disk;

@@ -86,6 +86,9 @@ pub fn recover<D: Disk>(alloc: Global, disk: &mut D) -> Result<Recovered<D>, Ope
         → (slot : Slot) → IsWithin (D.held disk.new (file_of slot)) (D.held disk.old (file_of slot)) }
     ensures kept { IsTrue (D.honest disk.old) → (IsErrOf result OpenError.Fault → ⊥)
         → (slot : Slot) → (D.held disk.new (file_of slot)).reads ≡ (D.held disk.old (file_of slot)).reads }
+    // After 20 to 24 each file reads as before.
+    ensures unchanged { IsTrue (D.honest disk.old) → IfErr result (λ e. (IsDeviceOrMemory e → ⊥)
+        → (n : ℕ) → (D.held disk.new n).reads ≡ (D.held disk.old n).reads) }
     ensures any_moment { IsTrue (D.honest disk.old) → (a b : State) → AllImages (D.held disk.old) (StandsForEither a b)
         → LeavesOnly D.Disk disk.old disk.new (StandsForEither a b) }
 {

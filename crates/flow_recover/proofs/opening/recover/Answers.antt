@@ -89,6 +89,27 @@ returns-clause-kept g c h sound slot =
     let h1 = subst IsTrue (sym c.find.ensures.honest) h in
     ap (λ (f : Held). f.reads) (c.tidy.ensures.slots h1 slot) ∙ c.in_ok-slots.ensures.reads h (file_of slot)
 
+pub returns-in_err-slots-clause-unchanged : goal.returns-in_err-slots-clause-unchanged
+returns-in_err-slots-clause-unchanged g c h =
+    let D = g.D.Disk in
+    let error = (c.in_err-slots.field-0).0 in
+    passed_on c.from_residual.result error
+    (λ e. (IsDeviceOrMemory e → ⊥) → (n : ℕ) → (D.held c.find.new.disk n).reads ≡ (D.held c.args.disk.now n).reads)
+    c.from_residual.ensures.1 (λ other. c.in_err-slots.ensures.kept h (λ fault. other (inl fault)))
+
+pub returns-in_err-parts-clause-unchanged : goal.returns-in_err-parts-clause-unchanged
+returns-in_err-parts-clause-unchanged g c h =
+    let D = g.D.Disk in
+    let h1 = subst IsTrue (sym c.find.ensures.honest) h in
+    let slots = c.in_ok-slots.field-0.slots in
+    let read = c.in_ok-slots.ensures.read h in
+    let s = at_rest slots.current read.0 (part_of c.in_ok-slots.field-0.files.active) in
+    let counted = c.in_ok-slots.ensures.counted read.0 in
+    passed_on c.from_residual-in_err-parts.result (c.in_err-parts.field-0).0
+    (λ e. (IsDeviceOrMemory e → ⊥) → (n : ℕ) → (D.held c.tidy.new.disk n).reads ≡ (D.held c.args.disk.now n).reads)
+    c.from_residual-in_err-parts.ensures.1
+    (λ other. absurd (other (c.in_err-parts.ensures.refused h1 slots s refl (sym counted.end_is) read.1.known)))
+
 pub returns-clause-removed : goal.returns-clause-removed
 returns-clause-removed g c h = c.in_ok-parts.ensures.removed (subst IsTrue (sym c.find.ensures.honest) h)
 

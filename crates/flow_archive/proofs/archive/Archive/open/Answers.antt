@@ -127,3 +127,7 @@ returns-in-Ok-clause-kept g c h sound slot =
     let D = g.D.Disk in
     subst (λ (x : g.row.D.Denot). (D.held x (file_of slot)).reads ≡ (D.held c.args.disk (file_of slot)).reads)
     (sym c.resumed.ensures.disk) (c.recover.ensures.kept h (λ is. absurd (cc)) slot)
+
+pub returns-in-Ok-clause-unchanged : goal.returns-in-Ok-clause-unchanged
+returns-in-Ok-clause-unchanged g c h = if_err c.resumed.result (λ r. r.error ≡ refusal.OutOfMemory) _
+    (λ r is. λ other. absurd (other (inr is))) c.resumed.ensures.refused
