@@ -1,14 +1,21 @@
 -- Lists that go on.
 use Rattle.std.proofs.Common.{◌≡◌, ℕ, List, [], ◌∷◌, ◌++◌, ap, sym, ◌∙◌, append_assoc, subst}
-use Rattle.std.specs.Prelude.{◌↔◌, Bool, IfOk, IsTrue, Result, Ok, Err}
+use Rattle.std.specs.Prelude.{◌↔◌, Bool, false, IfOk, IsTrue, Option, Result, Ok, Err}
 use Rattle.std.proofs.lemmas.List.{append-nil}
 use mathlib.Core.List.{IsPrefix}
+use Rattle.flow_disk.specs.declared.disk.Disk.{Ghosts}
+use Rattle.flow_disk.specs.Disk.{AllImages}
 use Rattle.flow_model.specs.Changes.{added, Change}
 use Rattle.flow_model.specs.Shelf.{position_of, Shelf}
 use Rattle.flow_model.specs.Shelved.{shelf_of}
+use Rattle.flow_model.specs.Standing.{StandsFor}
+use Rattle.flow_model.specs.State.{reopened}
+use Rattle.flow_archive.specs.Seen.{Seen}
+use Rattle.flow_snapshot.specs.declared.step.Mark.{Mark}
 use Rattle.flow_shared.specs.Known.{Says}
+use Rattle.flow_shared.specs.Meaning.{Means}
 use Rattle.flow_shared.specs.Told.{after, HasAdded}
-use Rattle.flow_shared.specs.UnderLock.{all_of, IsAllShown, IsUnderLock, LockState}
+use Rattle.flow_shared.specs.UnderLock.{all_of, lock_state, IsAllShown, IsInStep, IsUnderLock, LockState}
 
 pub prefix_same : {A : Type 0} (xs ys : List A) → ys ≡ xs → IsPrefix xs ys
 prefix_same xs ys same = ([], append-nil xs ∙ sym same)
@@ -44,12 +51,27 @@ added_later_if opening a b c messages made position pre (Ok r) there =
 added_later_if opening a b c messages made position pre (Err e) there = tt
 
 -- what is seen of a value under the lock holds of the value
-pub sound_of : {D : Type 0} (opening : Shelf) (seen now : LockState D) → seen ≡ now
-    → after opening (all_of seen) ≡ shelf_of seen.core.state → all_of seen ≡ seen.made ++ seen.backlog → IsUnderLock opening now
-sound_of {D} opening seen now same files all = subst (λ (h : LockState D). IsUnderLock opening h) same (record {
+pub sound_of : {D S X : Type 0} (g : Ghosts D S X) (opening : Shelf) (seen now : LockState D) → seen ≡ now
+    → IsUnderLock g opening seen → IsUnderLock g opening now
+sound_of g opening seen now same is = subst (IsUnderLock g opening) same is
+
+-- what the lock keeps, and what the archive says of its images, is what each value under the lock has
+pub under_lock_of : {D S X : Type 0} (g : Ghosts D S X) (opening : Shelf) (is_honest : Bool) (core : Seen D)
+    (published told : List Change) (backlog : Option Mark) (now : LockState D)
+    → lock_state core published told backlog ≡ now → IsInStep g.honest opening is_honest core told backlog
+    → after opening (all_of now) ≡ shelf_of now.core.state → all_of now ≡ now.made ++ now.backlog
+    → (IsTrue (g.honest core.disk) → core.closed ≡ false
+    → AllImages (g.held core.disk) (λ image. StandsFor image (reopened core.state)))
+    → IsUnderLock g opening now
+under_lock_of {D} g opening is_honest core published told backlog now same in_step files all stands = record {
   all_are = all;
   files = files;
-})
+  means = λ honest. subst (Means opening) (ap (λ (l : LockState D). l.made ++ l.backlog) same ∙ sym all)
+      (in_step.means (subst IsTrue in_step.honest_is
+      (subst (λ (l : LockState D). IsTrue (g.honest l.core.disk)) (sym same) honest)));
+  images = subst (λ (l : LockState D). IsTrue (g.honest l.core.disk) → l.core.closed ≡ false
+      → AllImages (g.held l.core.disk) (λ image. StandsFor image (reopened l.core.state))) same stands;
+}
 
 -- what a receipt says, from its parts
 pub says : {D X E : Type 0} (now : LockState D) (made shown : X → Bool) (told : X → List Change) (result : Result X E)

@@ -14,25 +14,26 @@ use Rattle.flow_shared.specs.Calls.{Appends, SealsOnce, TurnsOnce}
 use Rattle.flow_shared.specs.UnderLock.{all_of, IsAllShown, IsUnderLock, LockState}
 
 -- The value under the lock went on from the one to the other by these steps. What was made stays made.
-pub record GoesOn {D : Type 0} (opening : Shelf) (old new : LockState D) (steps : List Change) : Type 0 where
-  pub before : IsUnderLock opening old
-  pub now : IsUnderLock opening new
+pub record GoesOn {D S X : Type 0} (g : Ghosts D S X) (opening : Shelf) (old new : LockState D)
+    (steps : List Change) : Type 0 where
+  pub before : IsUnderLock g opening old
+  pub now : IsUnderLock g opening new
   pub steps_are : all_of new ≡ all_of old ++ steps
   pub later : IsPrefix old.made new.made
 
 -- There were two values under the lock, the one before and the other after a call: this holds of them, and of the steps
 -- between them.
-pub record WasCalled {D : Type 0} (opening : Shelf) (Call : LockState D → LockState D → List Change → Type 0) : Type 0
-  where
-    pub old : LockState D
-    pub new : LockState D
-    pub steps : List Change
-    pub goes_on : GoesOn opening old new steps
-    pub call : Call old new steps
+pub record WasCalled {D S X : Type 0} (g : Ghosts D S X) (opening : Shelf)
+    (Call : LockState D → LockState D → List Change → Type 0) : Type 0 where
+  pub old : LockState D
+  pub new : LockState D
+  pub steps : List Change
+  pub goes_on : GoesOn g opening old new steps
+  pub call : Call old new steps
 
 -- There was a value under the lock of which this holds.
-abbrev pub WasSeen : {D : Type 0} → Shelf → (LockState D → Type 0) → Type 0
-WasSeen {D} opening Has = (now : LockState D) × IsUnderLock opening now × Has now
+abbrev pub WasSeen : {D S X : Type 0} → Ghosts D S X → Shelf → (LockState D → Type 0) → Type 0
+WasSeen {D} g opening Has = (now : LockState D) × IsUnderLock g opening now × Has now
 
 -- ---- calls
 
@@ -73,6 +74,6 @@ pub record IsAppendBy {D S X : Type 0} (g : Ghosts D S X) (opening : Shelf) (kne
   pub old : LockState D
   pub steps : List Change
   pub adds : Adds g messages result old new steps
-  pub goes_on : GoesOn opening old new steps
+  pub goes_on : GoesOn g opening old new steps
   pub known_before : IsPrefix knew old.made
   pub known_after : knows ≡ new.made

@@ -15,7 +15,7 @@ ghost use Rattle.flow_manifest.specs.declared.following.JobKind.TheVariants.{Mer
 ghost use Rattle.flow_turns.specs.Turns.{due, IsTurn};
 ghost use Rattle.flow_shared.specs.Calls.{added_by, by, AppendsOnce, AppendsSealed, Appends, IsClosedBy};
 ghost use Rattle.flow_shared.specs.Calls.{IsRefusedBefore, IsSeal, IsTurnedBy};
-ghost use Rattle.flow_shared.specs.UnderLock.{all_of, LockState};
+ghost use Rattle.flow_shared.specs.UnderLock.{all_of, IsUnderLock, LockState};
 ghost use Rattle.flow_shared.specs.Told.{after, HasAdded, HasOwn};
 
 use crate::calls::{add_marked, seal_marked, tell, turn_marked};
@@ -160,8 +160,16 @@ where
         }
     }
 
-    /// The archive's files are the opening ones with all steps, which are those that are made and those that aren't.
+    /// What each value under the lock has.
     pub fn facts(&self)
+        ensures under_lock { IsUnderLock D.Disk J.opening self.now }
+    {
+        self.files();
+        let _closed = self.archive.is_closed();
+    }
+
+    /// The archive's files are the opening ones with all steps, which are those that are made and those that aren't.
+    fn files(&self)
         ensures files { after J.opening (all_of self.now) ≡ shelf_of self.now.core.state }
         ensures all { all_of self.now ≡ self.now.made ++ self.now.backlog }
     {
@@ -270,10 +278,10 @@ where
             → HasOwn J.opening r.told (slices messages.now) r.position) }
         ensures cause { HasCause ArchiveError.Fault (D.faults self.old.core.disk) (D.faults self.new.core.disk) result }
     {
-        self.facts();
+        self.files();
         let position = self.add(alloc, messages)?;
         let receipt = self.receipt(alloc, position);
-        self.facts();
+        self.files();
         Ok(receipt)
     }
 

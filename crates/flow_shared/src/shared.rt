@@ -44,7 +44,7 @@ where
     /// it is sealed before. What else it does is said at the call of `Locked`.
     pub fn append(&self, rt: &W, alloc: Global, message: &[u8]) -> Result<Receipt<J>, ArchiveError>
         ensures own { IfOk result (λ r. IsTrue r.shown → HasOwn J.opening r.told (message.now ∷ []) r.position) }
-        ensures calls { WasCalled J.opening (λ (old : LockState D) (new : LockState D) steps.
+        ensures calls { WasCalled D.Disk J.opening (λ (old : LockState D) (new : LockState D) steps.
             Adds D.Disk (message.now ∷ []) (by (λ r. r.position) result) old new steps
             × IfOk result (λ r. Says new r.made r.shown r.told)) }
     {
@@ -58,7 +58,7 @@ where
 
     /// The steps that are made.
     pub fn steps(&self, rt: &W) -> Told<J>
-        ensures calls { WasSeen J.opening (λ (now : LockState D). result ≡ now.made) }
+        ensures calls { WasSeen D.Disk J.opening (λ (now : LockState D). result ≡ now.made) }
     {
         let locked = self.lock.lock(rt);
         locked.facts();
@@ -103,7 +103,7 @@ where
 
     /// Seals the active segment, and answers the number of the sealed file.
     pub fn seal(&self, rt: &W, alloc: Global) -> Result<u64, ArchiveError>
-        ensures calls { WasCalled J.opening (Seals D.Disk result) }
+        ensures calls { WasCalled D.Disk J.opening (Seals D.Disk result) }
     {
         let mut guard = self.lock.lock(rt);
         let locked = &mut *guard;
@@ -122,7 +122,7 @@ where
         keep: u32,
         faults: &mut Faults<D::Sealed>,
     ) -> Result<Turn, ArchiveError>
-        ensures calls { WasCalled J.opening (Turns D.Disk Roll keep result) }
+        ensures calls { WasCalled D.Disk J.opening (Turns D.Disk Roll keep result) }
         ensures unread { HasCause ArchiveError.SourceFault faults.old faults.new result }
     {
         let mut guard = self.lock.lock(rt);
@@ -141,7 +141,7 @@ where
         keep: u32,
         faults: &mut Faults<D::Sealed>,
     ) -> Result<Turn, ArchiveError>
-        ensures calls { WasCalled J.opening (Turns D.Disk Merge keep result) }
+        ensures calls { WasCalled D.Disk J.opening (Turns D.Disk Merge keep result) }
         ensures unread { HasCause ArchiveError.SourceFault faults.old faults.new result }
     {
         let mut guard = self.lock.lock(rt);
@@ -154,7 +154,7 @@ where
 
     /// Shows readers what they don't see yet, and says whether they see all steps.
     pub fn refresh(&self, rt: &W, alloc: Global) -> bool
-        ensures calls { WasCalled {D = D} J.opening (Refreshes result) }
+        ensures calls { WasCalled D.Disk J.opening (Refreshes result) }
     {
         let mut guard = self.lock.lock(rt);
         let locked = &mut *guard;
@@ -169,7 +169,8 @@ impl<D: Disk, J: Naming, W: Wait> SharedArchive<D, J, W> {
     /// Ends the writer, drops the steps that readers weren't shown, and gives the archive back, with the steps that
     /// were made.
     pub fn end_with_steps(self, _rt: &W) -> (Archive<D>, Told<J>)
-        ensures calls { WasSeen J.opening (λ (last : LockState D). (result.0 ≡ last.core) × (result.1 ≡ last.made)) }
+        ensures calls { WasSeen D.Disk J.opening
+            (λ (last : LockState D). (result.0 ≡ last.core) × (result.1 ≡ last.made)) }
     {
         let locked = self.lock.into_inner();
         locked.facts();
@@ -187,7 +188,7 @@ impl<D: Disk, J: Naming, W: Wait> SharedArchive<D, J, W> {
 
     /// The same, and gives the archive back alone.
     pub fn end(self, rt: &W) -> Archive<D>
-        ensures calls { WasSeen J.opening (λ (last : LockState D). result ≡ last.core) }
+        ensures calls { WasSeen D.Disk J.opening (λ (last : LockState D). result ≡ last.core) }
     {
         let (archive, _told) = self.end_with_steps(rt);
         archive

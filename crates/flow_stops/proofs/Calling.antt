@@ -242,14 +242,14 @@ module _ {D S X : Type 0} (g : Ghosts D S X)
       made_weaker g old new steps (FailedSeal old.state new.state result) (FailedAt (seal result) new.state)
       (λ step failed. (failed.0, failed.2)) (closing_made old new result steps here made)
 
-  files_of : (opening : Shelf) (old new : LockState D) (steps : List Change) → GoesOn opening old new steps
+  files_of : (opening : Shelf) (old new : LockState D) (steps : List Change) → GoesOn g opening old new steps
       → shelf_of new.core.state ≡ after (shelf_of old.core.state) steps
   files_of opening old new steps goes =
       sym goes.now.files ∙ ap (after opening) goes.steps_are ∙ after_more opening (all_of old) steps
       ∙ ap (λ (x : Shelf). after x steps) goes.before.files
 
   pub call_made : (opening : Shelf) (old new : LockState D) (steps : List Change) (call : Call) → Here old.core
-      → GoesOn opening old new steps → Makes g call old new steps
+      → GoesOn g opening old new steps → Makes g call old new steps
       → Made old.core new.core steps (FailedAt call new.core.state)
   call_made opening old new steps (append messages result) here goes made =
       appends_made old.core new.core messages result steps here made.0

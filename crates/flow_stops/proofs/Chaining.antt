@@ -1,6 +1,6 @@
 -- Calls of any threads, one after the other.
 use Rattle.std.proofs.Common.{◌≡◌, inl, inr, ⊎_elim, ℕ, ◌≤◌, Bool, true, false, IsTrue, List, [], ◌∷◌, ◌++◌}
-use Rattle.std.proofs.Common.{Option, refl, sym, ◌∙◌, ap, subst, arith, append-nil, append_assoc}
+use Rattle.std.proofs.Common.{Option, Result, Ok, Err, refl, sym, ◌∙◌, ap, subst, arith, append-nil, append_assoc}
 use mathlib.Core.List.{IsPrefix}
 use Rattle.flow_disk.specs.declared.disk.Disk.{Ghosts}
 use Rattle.flow_disk.specs.Disk.{IsDiskImage}
@@ -10,20 +10,24 @@ use Rattle.flow_model.specs.Changes.{Change}
 use Rattle.flow_model.specs.Changes.Change.{added}
 use Rattle.flow_model.specs.Shelf.{position_of, Shelf}
 use Rattle.flow_model.specs.Shelved.{shelf_of, HasHistory}
-use Rattle.flow_model.specs.State.{State}
+use Rattle.flow_model.specs.State.{reopened, State}
 use Rattle.flow_recover.proofs.Recovering.{one_state}
+use Rattle.flow_archive.specs.declared.refusal.ArchiveError.{ArchiveError}
+use Rattle.flow_archive.specs.declared.refusal.ArchiveError.TheVariants.{Closed, OutOfMemory}
 use Rattle.flow_archive.specs.Seen.{Seen}
-use Rattle.flow_shared.specs.Meaning.{history_behind, Means}
+use Rattle.flow_shared.specs.Calls.{Appends, AppendsOnce, AppendsThen}
+use Rattle.flow_shared.specs.Meaning.{history_behind, HasView}
 use Rattle.flow_shared.specs.Told.{after}
 use Rattle.flow_shared.specs.UnderLock.{all_of, IsUnderLock, LockState}
 use Rattle.flow_shared.proofs.Fronts.{prefix_trans}
 use Rattle.flow_feed.specs.declared.batch.Fed.{Fed}
 use Rattle.flow_feed.specs.Shared.{AreAdded, IsInSteps}
 use Rattle.flow_stops.specs.Laws.{Acknowledged, AnyCalls, AppendIsCall, CallIsOne, CallsJoin, FedStays, OneCall}
-use Rattle.flow_stops.specs.Laws.{OpeningFinds, ReportedIsFound, StartIsRepresented, StaysRepresented}
+use Rattle.flow_stops.specs.Laws.{OpeningFinds, ReportedIsFound, SeenIsRepresented, StartIsRepresented}
+use Rattle.flow_stops.specs.Laws.{StaysRepresented}
 use Rattle.flow_stops.specs.Stops.{AreCalls, Call, FailedAt, IsLeft, IsRepresented, MayBeThere}
 use Rattle.flow_stops.specs.Stops.{OneFailedAt}
-use Rattle.flow_stops.proofs.Making.{here_then, left_of, made_then, made_weaker, means_more, same_made, IsHere, IsMade}
+use Rattle.flow_stops.proofs.Making.{here_then, left_of, made_then, made_weaker, same_made, IsHere, IsMade}
 use Rattle.flow_stops.proofs.Making.{IsOne, MayBeClosed}
 use Rattle.flow_stops.proofs.Calling.{call_closed, call_made}
 
@@ -97,6 +101,9 @@ still_fed passed old knows steps octets fed front is = record {
   };
 }
 
+not_ok : (position : ℕ) (e : ArchiveError) → ◌≡◌ {A = Result ℕ ArchiveError} (Ok position) (Err e) → ⊥
+not_ok position e is = cc
+
 module _ {D S X : Type 0} (g : Ghosts D S X) where
   -- ---- a closed archive
 
@@ -112,8 +119,8 @@ module _ {D S X : Type 0} (g : Ghosts D S X) where
       (more.0 ∙ one.0, more.1 ∙ all)
 
   pub under_lock : (opening : Shelf) (old new : LockState D) (calls : List Call) → AreCalls g opening old calls new
-      → IsUnderLock opening old → IsUnderLock opening new
-  under_lock opening old new [] is was = subst (IsUnderLock opening) (sym is) was
+      → IsUnderLock g opening old → IsUnderLock g opening new
+  under_lock opening old new [] is was = subst (IsUnderLock g opening) (sym is) was
   under_lock opening old new (call ∷ calls) (mid, steps, goes, made, rest) was =
       under_lock opening mid new calls rest goes.now
 
@@ -134,10 +141,45 @@ module _ {D S X : Type 0} (g : Ghosts D S X) where
   start_represented core honest still images = record {
     honest = honest;
     still_open = still;
-    images = images;
-    under_lock = record { all_are = refl; files = refl };
-    means = λ h has. has;
+    under_lock = record { all_are = refl; files = refl; means = λ _ h has. has; images = λ _ _. images };
   }
+
+  pub seen_is_represented : SeenIsRepresented g
+  seen_is_represented opening now is honest still = (
+    record { honest = honest; still_open = still; under_lock = is },
+    λ image there. record {
+      left = reopened now.core.state;
+      represents = is.images honest still image there;
+      steps = all_of now;
+      files = sym is.files;
+      history = λ h has.
+          let view =
+          subst (λ (x : Shelf). HasView x (history_behind h (all_of now))) is.files (is.means honest h has) in
+          record { history = view.0; view = view.1 };
+      begins = ([], append-nil (all_of now));
+      ends = inl ([], append-nil (all_of now));
+    },
+  )
+
+  -- an append that was answered Ok leaves the archive open
+  open_once : (old new : Seen D) (messages : List (List ℕ)) (position : ℕ) (steps : List Change)
+      → AppendsOnce g old new messages (Ok position) steps → new.closed ≡ false
+  open_once old new messages position steps (inl is, are) = is.step.done.1
+  open_once old new messages position steps (inr is, are) =
+      ⊎_elim (λ one. absurd (not_ok position Closed one.1)) (λ one. absurd (not_ok position OutOfMemory one.1)) is.told
+
+  open_then : (old mid new : Seen D) (messages : List (List ℕ)) (position : ℕ) (sealed : Result ℕ ArchiveError)
+      (before steps : List Change) → AppendsThen g mid new messages sealed (Ok position) before steps
+      → new.closed ≡ false
+  open_then old mid new messages position (Ok file) before steps (more, once, is) =
+      open_once mid new messages position more once
+  open_then old mid new messages position (Err e) before steps (same, is, are) = absurd (not_ok position e is)
+
+  open_after : (old new : Seen D) (messages : List (List ℕ)) (position : ℕ) (steps : List Change)
+      → Appends g old new messages (Ok position) steps → new.closed ≡ false
+  open_after old new messages position steps (inl once) = open_once old new messages position steps once
+  open_after old new messages position steps (inr (none, other, sealed)) =
+      open_then old sealed.mid new messages position sealed.sealed sealed.before steps sealed.then
 
   -- an image represents one state
   pub opening_finds : OpeningFinds g
@@ -208,22 +250,15 @@ module _ {D S X : Type 0} (g : Ghosts D S X)
 
   -- ---- what a stop leaves
 
-  module _ (counts : (d : D) (t : ℕ) (image : ℕ → List ℕ) → IsTrue (g.honest d) → t ≤ g.moment d
-      → IsDiskImage (g.held d) image → g.left_since d t image)
-      (only : (d : D) (image : ℕ → List ℕ) → IsTrue (g.honest d) → g.left_since d (g.moment d) image
+  module _ (only : (d : D) (image : ℕ → List ℕ) → IsTrue (g.honest d) → g.left_since d (g.moment d) image
       → IsDiskImage (g.held d) image) where
     here_of : (opening : Shelf) (now : LockState D) → IsRepresented g opening now → IsHere g now.core
     here_of opening now is = record {
       honest = is.honest;
       still_open = is.still_open;
-      images = λ image left. is.images image (only now.core.disk image is.honest left);
+      images = λ image left.
+          is.under_lock.images is.honest is.still_open image (only now.core.disk image is.honest left);
     }
-
-    means_now : (opening : Shelf) (first now : LockState D) (calls : List Call) → IsRepresented g opening first
-        → IsRun first now calls → Means opening (all_of now)
-    means_now opening first now calls is done = subst (Means opening) (sym done.all_are)
-        (means_more opening first.core.state now.core.state (all_of first) done.steps is.under_lock.files is.means
-        done.made.goes)
 
     pub represented : StaysRepresented g
     represented opening first now calls is are still =
@@ -233,10 +268,7 @@ module _ {D S X : Type 0} (g : Ghosts D S X)
         record {
           honest = here.honest;
           still_open = still;
-          images = λ image left. here.images image
-              (counts now.core.disk (g.moment now.core.disk) image here.honest (omega arith) left);
           under_lock = under_lock g opening first now calls are is.under_lock;
-          means = means_now opening first now calls is done;
         }
 
     abbrev Leaves : Shelf → LockState D → LockState D → List Call → Type 0
@@ -256,7 +288,8 @@ module _ {D S X : Type 0} (g : Ghosts D S X)
         (λ step may. (may.0, failed_later before between late.core.state step may.1))
         (subst (λ (xs : List Change). IsLeft opening xs (all_of late) M image) (append-nil (all_of early))
         (subst (λ (xs : List Change). IsLeft opening (all_of early ++ []) xs M image) (sym done.all_are)
-        (left_of opening early.core.state (all_of early) [] done.steps M image is.under_lock.files is.means one))))
+        (left_of opening early.core.state (all_of early) [] done.steps M image is.under_lock.files
+        (is.under_lock.means is.honest) one))))
 
     -- of a closed one
     closed_here : (opening : Shelf) (first early : LockState D) (before between : List Call)
@@ -269,7 +302,8 @@ module _ {D S X : Type 0} (g : Ghosts D S X)
         (λ image left. left_weaker opening (all_of early) (all_of early) M (MayBeThere (before ++ between) early) image
         (λ step failed. (closed, failed_early before between early.core.state step failed))
         (subst (λ (xs : List Change). IsLeft opening xs xs M image) (sym done.all_are)
-        (left_of opening first.core.state (all_of first) done.steps done.steps M image is.under_lock.files is.means
+        (left_of opening first.core.state (all_of first) done.steps done.steps M image is.under_lock.files
+        (is.under_lock.means is.honest)
         (done.made.gone closed image left))))
 
     same_late : (opening : Shelf) (early late : LockState D) (calls : List Call)
@@ -319,12 +353,13 @@ module _ {D S X : Type 0} (g : Ghosts D S X)
         (λ image left. (left, still_fed passed old knows left.steps octets fed left.begins reported))
 
     pub reported_is_found : ReportedIsFound g
-    reported_is_found opening first now late before between knew knows messages position image found is are more told
-        has since represents =
+    reported_is_found opening now late between knew knows messages position image found honest more told has since
+        represents =
+        let still = open_after g told.old.core now.core messages position told.steps told.adds.0 in
+        let is = (seen_is_represented g opening now told.goes_on.now honest still).0 in
         let front : IsPrefix knows now.made = ([], append-nil knows ∙ told.known_after) in
-        let left = (acknowledged opening first now late before between knows is are more front).each image since in
-        let same : found ≡ left.left =
-        opening_finds g opening knows late (before ++ between) image found left represents in
+        let left = (acknowledged opening now now late [] between knows is refl more front).each image since in
+        let same : found ≡ left.left = opening_finds g opening knows late between image found left represents in
         let rest = left.begins in
         let steps : left.steps ≡ (knew ++ has.others) ++ added messages ∷ rest.0 =
         sym rest.1 ∙ ap (λ (xs : List Change). xs ++ rest.0) has.new_is

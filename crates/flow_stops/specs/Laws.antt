@@ -13,7 +13,7 @@ use Rattle.flow_archive.specs.declared.refusal.ArchiveError.{ArchiveError}
 use Rattle.flow_archive.specs.Seen.{Seen}
 use Rattle.flow_shared.specs.Known.{GoesOn, IsAppendBy, WasCalled}
 use Rattle.flow_shared.specs.Told.{HasAdded}
-use Rattle.flow_shared.specs.UnderLock.{all_of, LockState}
+use Rattle.flow_shared.specs.UnderLock.{all_of, IsUnderLock, LockState}
 use Rattle.flow_feed.specs.declared.batch.Fed.{Fed}
 use Rattle.flow_feed.specs.Shared.{IsInSteps}
 use Rattle.flow_stops.specs.Stops.{append, AreCalls, Call, HasBatch, IsLeft, IsRepresented, Makes, MayBeThere}
@@ -22,7 +22,7 @@ use Rattle.flow_stops.specs.Stops.{append, AreCalls, Call, HasBatch, IsLeft, IsR
 -- archive is open after it, each image represents that.
 abbrev pub OneCall : {D S X : Type 0} → Ghosts D S X → Type 0
 OneCall {D} g = (opening : Shelf) (old new : LockState D) (steps : List Change) (call : Call)
-    → IsRepresented g opening old → GoesOn opening old new steps → Makes g call old new steps
+    → IsRepresented g opening old → GoesOn g opening old new steps → Makes g call old new steps
     → LeavesOnly g old.core.disk new.core.disk (IsLeft opening (all_of old) (all_of new) (MayBeThere (call ∷ []) new))
     × (new.core.closed ≡ false → IsRepresented g opening new)
 
@@ -62,6 +62,13 @@ StartIsRepresented {D} g = (core : Seen D) → IsTrue (g.honest core.disk) → c
     → IsRepresented g (shelf_of core.state)
     (record { core = core; told = []; made = []; pending = []; backlog = [] })
 
+-- So it is at each value that a thread saw under the lock (WasSeen, WasCalled: `before`, `now`), while the archive is
+-- open: of no earlier call anything is asked.
+abbrev pub SeenIsRepresented : {D S X : Type 0} → Ghosts D S X → Type 0
+SeenIsRepresented {D} g = (opening : Shelf) (now : LockState D) → IsUnderLock g opening now
+    → IsTrue (g.honest now.core.disk) → now.core.closed ≡ false → IsRepresented g opening now
+    × AllImages (g.held now.core.disk) (λ image. IsLeft opening (all_of now) (all_of now) (λ step. ⊥) image)
+
 -- Where the archive is open after some calls, each image represents it: no more than all steps, and no less.
 abbrev pub StaysRepresented : {D S X : Type 0} → Ghosts D S X → Type 0
 StaysRepresented {D} g = (opening : Shelf) (first now : LockState D) (calls : List Call)
@@ -76,7 +83,7 @@ CallsJoin {D} g = (opening : Shelf) (first early late : LockState D) (before bet
 
 -- What a thread that called says of its call (WasCalled) is one such call.
 abbrev pub CallIsOne : {D S X : Type 0} → Ghosts D S X → Type 0
-CallIsOne {D} g = (opening : Shelf) (call : Call) → WasCalled opening (Makes g call)
+CallIsOne {D} g = (opening : Shelf) (call : Call) → WasCalled g opening (Makes g call)
     → (old : LockState D) × (new : LockState D) × AreCalls g opening old (call ∷ []) new
 
 -- What a caller that has a list of steps is told of its append is one such call, and its list is what was made then.
@@ -93,11 +100,11 @@ OpeningFinds {D} g = (opening : Shelf) (first : List Change) (late : LockState D
     → StandsFor image found → found ≡ is.left
 
 -- A batch that was reported to a caller as made (IsAppendBy, HasAdded) is in whatever an opening finds after any later
--- stop.
+-- stop, whatever calls came before it.
 abbrev pub ReportedIsFound : {D S X : Type 0} → Ghosts D S X → Type 0
-ReportedIsFound {D} g = (opening : Shelf) (first now late : LockState D) (before between : List Call)
+ReportedIsFound {D} g = (opening : Shelf) (now late : LockState D) (between : List Call)
     (knew knows : List Change) (messages : List (List ℕ)) (position : ℕ) (image : ℕ → List ℕ) (found : State)
-    → IsRepresented g opening first → AreCalls g opening first before now → AreCalls g opening now between late
+    → IsTrue (g.honest now.core.disk) → AreCalls g opening now between late
     → IsAppendBy g opening knew knows messages (Ok position) now → HasAdded opening knew knows messages position
     → g.left_since late.core.disk (g.moment now.core.disk) image → StandsFor image found
     → HasBatch opening found messages position

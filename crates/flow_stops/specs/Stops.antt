@@ -2,7 +2,6 @@
 use Rattle.std.specs.Prelude.{◌≡◌, ◌⊎◌, ℕ, Bool, true, false, IsTrue, List, [], ◌∷◌, ◌++◌, Some, Result, Err}
 use mathlib.Core.List.{IsPrefix}
 use Rattle.flow_disk.specs.declared.disk.Disk.{Ghosts}
-use Rattle.flow_disk.specs.Disk.{AllImages}
 use Rattle.flow_gate.specs.Gate.{octet_sum}
 use Rattle.flow_manifest.specs.declared.following.JobKind.{JobKind}
 use Rattle.flow_manifest.specs.Following.{active_of, messages_of, sources_of}
@@ -24,7 +23,7 @@ use Rattle.flow_archive.specs.Marks.{made_change}
 use Rattle.flow_turns.specs.declared.turn.Turn.{Turn}
 use Rattle.flow_turns.specs.Turns.{due}
 use Rattle.flow_shared.specs.Known.{Adds, GoesOn, Refreshes, Seals, Turns}
-use Rattle.flow_shared.specs.Meaning.{history_behind, HasView, Means}
+use Rattle.flow_shared.specs.Meaning.{history_behind, HasView}
 use Rattle.flow_shared.specs.Told.{after}
 use Rattle.flow_shared.specs.UnderLock.{all_of, IsUnderLock, LockState}
 
@@ -49,7 +48,7 @@ Makes g (refresh shown) old new steps = Refreshes shown old new steps
 abbrev pub AreCalls : {D S X : Type 0} → Ghosts D S X → Shelf → LockState D → List Call → LockState D → Type 0
 AreCalls g opening old [] new = new ≡ old
 AreCalls {D} g opening old (call ∷ calls) new =
-    (mid : LockState D) × (steps : List Change) × GoesOn opening old mid steps × Makes g call old mid steps
+    (mid : LockState D) × (steps : List Change) × GoesOn g opening old mid steps × Makes g call old mid steps
     × AreCalls g opening mid calls new
 
 -- ---- the step under which the device failed
@@ -105,14 +104,13 @@ pub record IsLeft (opening : Shelf) (first last : List Change) (MayBe : Change �
   pub begins : IsPrefix first steps
   pub ends : IsPrefix steps last ⊎ ((step : Change) × MayBe step × (steps ≡ last ++ step ∷ []))
 
--- The archive under the lock is open, on an honest disk. Each image represents it, and its files are the opening ones
--- after all steps, with each of their histories. So it is at a start, where there are no steps yet.
+-- The archive under the lock is open, on an honest disk. So each image represents it, and its files are the opening
+-- ones after all steps, with each of their histories (IsUnderLock): at a start, where there are no steps yet, and at
+-- each later moment.
 pub record IsRepresented {D S X : Type 0} (g : Ghosts D S X) (opening : Shelf) (now : LockState D) : Type 0 where
   pub honest : IsTrue (g.honest now.core.disk)
   pub still_open : now.core.closed ≡ false
-  pub images : AllImages (g.held now.core.disk) (λ image. StandsFor image (reopened now.core.state))
-  pub under_lock : IsUnderLock opening now
-  pub means : Means opening (all_of now)
+  pub under_lock : IsUnderLock g opening now
 
 -- ---- a batch that was reported
 

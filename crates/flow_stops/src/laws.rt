@@ -1,7 +1,8 @@
 //! Laws of calls under the lock, and of stops.
 
 ghost use Rattle.flow_stops.specs.Laws.{Acknowledged, AnyCalls, AppendIsCall, CallIsOne, CallsJoin, FedStays, OneCall};
-ghost use Rattle.flow_stops.specs.Laws.{OpeningFinds, ReportedIsFound, StartIsRepresented, StaysRepresented};
+ghost use Rattle.flow_stops.specs.Laws.{OpeningFinds, ReportedIsFound, SeenIsRepresented, StartIsRepresented};
+ghost use Rattle.flow_stops.specs.Laws.{StaysRepresented};
 
 use flow_disk::Disk;
 
@@ -18,10 +19,12 @@ pub fn stops_while_threads_run<D: Disk>(_disk: &D)
     ensures reported { ReportedIsFound D.Disk }
 {}
 
-/// From which values on this holds, and of which calls: each image represents the archive at a start, and after any
-/// calls that leave it open; what a thread says of its call is one call; and calls after calls are calls.
+/// From which values on this holds, and of which calls: each image represents the archive at a start, at each value
+/// that a thread saw under the lock while it was open, and after any calls that leave it open; what a thread says of
+/// its call is one call; and calls after calls are calls.
 pub fn calls_under_the_lock<D: Disk>(_disk: &D)
     ensures started { StartIsRepresented D.Disk }
+    ensures seen { SeenIsRepresented D.Disk }
     ensures represented { StaysRepresented D.Disk }
     ensures joined { CallsJoin D.Disk }
     ensures one { CallIsOne D.Disk }

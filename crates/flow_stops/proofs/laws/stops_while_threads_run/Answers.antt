@@ -14,7 +14,7 @@ returns-clause-call g c =
       met.counts_now d (D.moment d) (reads_of (D.held d)) honest (omega arith) (λ n. met.reads_image d n honest),
     ))
     (λ d t image honest le left. met.counts_now d t image honest le (met.only_now d image honest left))
-    met.counts_now met.only_now
+    met.only_now
 
 pub returns-clause-calls : goal.returns-clause-calls
 returns-clause-calls g c =
@@ -26,7 +26,7 @@ returns-clause-calls g c =
       met.counts_now d (D.moment d) (reads_of (D.held d)) honest (omega arith) (λ n. met.reads_image d n honest),
     ))
     (λ d t image honest le left. met.counts_now d t image honest le (met.only_now d image honest left))
-    met.counts_now met.only_now
+    met.only_now
 
 pub returns-clause-acknowledged : goal.returns-clause-acknowledged
 returns-clause-acknowledged g c =
@@ -38,7 +38,7 @@ returns-clause-acknowledged g c =
       met.counts_now d (D.moment d) (reads_of (D.held d)) honest (omega arith) (λ n. met.reads_image d n honest),
     ))
     (λ d t image honest le left. met.counts_now d t image honest le (met.only_now d image honest left))
-    met.counts_now met.only_now
+    met.only_now
 
 pub returns-clause-fed : goal.returns-clause-fed
 returns-clause-fed g c =
@@ -50,7 +50,7 @@ returns-clause-fed g c =
       met.counts_now d (D.moment d) (reads_of (D.held d)) honest (omega arith) (λ n. met.reads_image d n honest),
     ))
     (λ d t image honest le left. met.counts_now d t image honest le (met.only_now d image honest left))
-    met.counts_now met.only_now
+    met.only_now
 
 pub returns-clause-opening : goal.returns-clause-opening
 returns-clause-opening g c = opening_finds g.D.Disk
@@ -65,4 +65,4 @@ returns-clause-reported g c =
       met.counts_now d (D.moment d) (reads_of (D.held d)) honest (omega arith) (λ n. met.reads_image d n honest),
     ))
     (λ d t image honest le left. met.counts_now d t image honest le (met.only_now d image honest left))
-    met.counts_now met.only_now
+    met.only_now

@@ -18,8 +18,8 @@ returns-clause-calls g c =
       new = new;
       steps = given.calls.0;
       goes_on = record {
-        before = sound_of opening c.deref.result.now old (c.deref.ensures ∙ taken) c.facts.ensures.files c.facts.ensures.all;
-        now = sound_of opening c.deref-2.result.now new c.deref-2.ensures c.facts-2.ensures.files c.facts-2.ensures.all;
+        before = sound_of g.D.Disk opening c.deref.result.now old (c.deref.ensures ∙ taken) c.facts.ensures.under_lock;
+        now = sound_of g.D.Disk opening c.deref-2.result.now new c.deref-2.ensures c.facts-2.ensures.under_lock;
         steps_are = given.calls.2;
         later = given.later;
       };

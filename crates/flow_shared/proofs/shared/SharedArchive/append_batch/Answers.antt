@@ -37,8 +37,8 @@ returns-clause-calls g c =
               given.room,
         );
         goes_on = record {
-          before = sound_of opening c.deref.result.now old (c.deref.ensures ∙ taken) c.facts.ensures.files c.facts.ensures.all;
-          now = sound_of opening c.deref-3.result.now new c.deref-3.ensures c.facts-2.ensures.files c.facts-2.ensures.all;
+          before = sound_of g.D.Disk opening c.deref.result.now old (c.deref.ensures ∙ taken) c.facts.ensures.under_lock;
+          now = sound_of g.D.Disk opening c.deref-3.result.now new c.deref-3.ensures c.facts-2.ensures.under_lock;
           steps_are = given.calls.2;
           later = given.later;
         };

@@ -7,7 +7,7 @@ returns g c =
     let last : LockState g.row.D.Denot = c.into_inner-locked.result in record {
       calls = (
         last,
-        record { all_are = c.facts.ensures.all; files = c.facts.ensures.files },
+        c.facts.ensures.under_lock,
         (
           ap (λ (h : LockState g.row.D.Denot). h.core) c.locked.view_is,
           ap (λ (h : LockState g.row.D.Denot). h.made) c.locked.view_is,

@@ -8,8 +8,8 @@ returns g c =
     let now : LockState g.row.D.Denot = c.deref-2.result.now in record {
       calls = (
         now,
-        sound_of g.J.Naming.opening c.deref.result.now now (c.deref.ensures ∙ sym c.deref-2.ensures)
-            c.facts.ensures.files c.facts.ensures.all,
+        sound_of g.D.Disk g.J.Naming.opening c.deref.result.now now (c.deref.ensures ∙ sym c.deref-2.ensures)
+            c.facts.ensures.under_lock,
         c.again.ensures ∙ c.made.ensures,
       );
     }
