@@ -9,11 +9,12 @@ use Rattle.flow_model.specs.Shelf.{Shelf}
 use Rattle.flow_commands.specs.Feeding.{answer_by, IsRollEnd}
 
 -- the reads that failed in another thread, added
-pub end_added : {D S X : Type 0} (g : Ghosts D S X) (opening : Shelf) (own before now : ℕ)
+pub end_added : {D S X : Type 0} (g : Ghosts D S X) (opening : Shelf) (asked : ℕ → Type 0) (own before now : ℕ)
     (refused : Option ArchiveError) → (own ≡ 0 → now ≡ before) → (HasRisen 0 own → HasRisen before now)
-    → before ≤ now → IsRollEnd g opening 0 own refused → IsRollEnd g opening before now refused
-end_added g opening own before now refused none risen later end = record {
-  turn = end.turn;
+    → before ≤ now → IsRollEnd g opening asked 0 own refused → IsRollEnd g opening asked before now refused
+end_added g opening asked own before now refused none risen later end = record {
+  rounds = end.rounds;
+  rolled = end.rolled;
   unread = record {
     later = later;
     done = on_ok_by (answer_by refused) (own ≡ 0) (now ≡ before) none end.unread.done;

@@ -1,15 +1,20 @@
 -- What is answered of a span starts in it, and so nothing of that is left out.
-use Rattle.std.proofs.Common.{◌≡◌, ℕ, zero, suc, Bool, true, false, List, [], ◌∷◌, ◌++◌, refl, ap, map}
-use Rattle.std.specs.Prelude.{filter, if◌then◌else◌, ◌==◌, nat_le, nat_lt, ◌&&◌}
+use Rattle.std.proofs.Common.{◌≡◌, ◌∙◌, ℕ, zero, suc, Bool, true, false, List, [], ◌∷◌, ◌++◌, refl, ap, map, inl, inr}
+use Rattle.std.specs.Prelude.{filter, if◌then◌else◌, ◌==◌, nat_le, nat_lt, ◌&&◌, IfOk, Result, Ok, Err}
 use Rattle.std.specs.List.{All}
 use Rattle.std.specs.FinMap.{entries}
 use Rattle.std.specs.Ordering.{is_le}
 use Rattle.std.proofs.lemmas.List.Elements.{All-append, All-cons, All-head, All-map, All-nil, All-tail, filter_passes}
 use Rattle.flow_measure.specs.declared.flow.Flow.{Flow}
 use Rattle.flow_measure.specs.declared.rows.Row.{Row}
-use Rattle.flow_measure.specs.Query.{interleaved, rows_of_both}
+use Rattle.flow_measure.specs.Query.{interleaved, narrow_table_in, rows_of_both, totals_in_view}
 use Rattle.flow_measure.specs.Sums.{is_within, key_cmp, merged, table_row, rows_between, Table}
-use Rattle.flow_commands.specs.Asking.{AreFlows, AreFlowsIn, AreRows, AreRowsIn, RowsStartIn, Writes, WritesOrNot, WritesUpTo}
+use Rattle.flow_snapshot.specs.Shares.{summed}
+use Rattle.flow_measure.specs.View.{View}
+use Rattle.flow_model.specs.Shelf.{Shelf}
+use Rattle.flow_model.specs.Views.{IsReadIn}
+use Rattle.flow_commands.specs.Asking.{AreFlows, AreFlowsIn, AreReadRows, AreRows, AreRowsIn, RowsStartIn}
+use Rattle.flow_commands.specs.Asking.{Writes, WritesOrNot, WritesUpTo}
 use Rattle.flow_commands.specs.declared.archive_refusal.ArchiveRefusal.{ArchiveRefusal}
 use Rattle.flow_commands.specs.declared.archive_refusal.ArchiveRefusal.TheVariants as refusal
 use Rattle.flow_commands.specs.Plans.{is_in, Span}
@@ -54,6 +59,40 @@ both_in span narrow wide =
     (between_in span (merged narrow wide))
     (interleaved_all (λ (r : Row). is_in span r.key.start ≡ true) _ (rows_between span.from span.to narrow)
     (rows_between span.from span.to wide) (between_in span narrow) (between_in span wide))
+
+-- what one thread read
+pub read_by_one : {V E : Type 0} (items : V → List Row) (s : Shelf) (span : Span) (from to : ℕ) → from ≡ span.from
+    → to ≡ span.to → (result : Result V E)
+    → IfOk result (λ rows. (v : View) × IsReadIn s v × (items rows ≡ totals_in_view from to v))
+    → IfOk result (λ rows. AreReadRows s span (items rows))
+read_by_one items s span from to from_is to_is (Err e) found = tt
+read_by_one items s span from to from_is to_is (Ok rows) (v, read, same) = inl (
+  v,
+  read,
+  same ∙ ap (λ (n : ℕ). totals_in_view n to v) from_is ∙ ap (λ (n : ℕ). totals_in_view span.from n v) to_is,
+)
+
+-- what was read is kept, row by row
+pub read_rows_in : (s : Shelf) (span : Span) (rows kept : List Row)
+    → kept ≡ filter (λ row. is_in span row.key.start) rows → AreReadRows s span rows → AreReadRows s span kept
+read_rows_in s span rows kept is (inl (v, read, same)) =
+    let test = λ (r : Row). is_in span r.key.start in
+    inl (
+      v,
+      read,
+      is ∙ ap (filter test) same
+          ∙ filter_all test _ (both_in span (narrow_table_in v) (record { width = v.wide; sums = v.merged })),
+    )
+read_rows_in s span rows kept is (inr (wide, narrow, are_wide, are_narrow, same)) =
+    let test = λ (r : Row). is_in span r.key.start in
+    inr (
+      wide,
+      narrow,
+      are_wide,
+      are_narrow,
+      is ∙ ap (filter test) same
+          ∙ filter_all test _ (both_in span (summed s.width narrow) (summed s.wide wide)),
+    )
 
 pub no_rows_in : (span : Span) → RowsStartIn span []
 no_rows_in span = All-nil (λ (r : Row). is_in span r.key.start ≡ true)

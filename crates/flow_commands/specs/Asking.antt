@@ -1,16 +1,21 @@
 -- What `totals` and `flows` answer of a disk, and what they write.
 use Rattle.std.specs.Prelude.{◌≡◌, ◌⊎◌, ⊤, ℕ, true, List, Option}
 use Rattle.std.specs.Io.KnownBytes.{Appends, Keeps}
+use Rattle.std.specs.FinMap.{FinMap}
 use Rattle.std.specs.List.{flat_map, AllPass}
 use Rattle.flow_measure.specs.declared.flow.Flow.{Flow}
 use Rattle.flow_measure.specs.declared.rows.Row.{Row}
-use Rattle.flow_measure.specs.Query.{flows_in_view, totals_in_view}
+use Rattle.flow_measure.specs.declared.rows.Sums.{Sums}
+use Rattle.flow_measure.specs.Query.{flows_in_view, rows_of_both, totals_in_view}
+use Rattle.flow_measure.specs.Sums.{key_cmp}
 use Rattle.flow_measure.specs.View.{View}
 use Rattle.flow_refusals.specs.declared.read_refusal.ReadRefusal.{ReadRefusal}
 use Rattle.flow_refusals.specs.declared.read_refusal.ReadRefusal.TheVariants as query
 use Rattle.flow_snapshot.specs.ShelfSeen.{ShelfSeen}
 use Rattle.flow_snapshot.specs.Answered.{IsNoDamage}
-use Rattle.flow_model.specs.Views.{IsViewOf}
+use Rattle.flow_snapshot.specs.Shares.{summed, AreNarrow, AreWide}
+use Rattle.flow_model.specs.Shelf.{Shelf}
+use Rattle.flow_model.specs.Views.{IsReadIn, IsViewOf}
 use Rattle.flow_manifest.specs.declared.error.OpenError.{OpenError}
 use Rattle.flow_recover.specs.Opening.{IsDeviceOrMemory, StandsForNone}
 use Rattle.flow_model.specs.Shelved.{shelf_of}
@@ -35,6 +40,16 @@ totals_lines format span v = rows_text format v.width (totals_in_view span.from 
 -- the lines of the flows that are kept and start in a span
 abbrev pub flows_lines : Format → Span → View → List ℕ
 flows_lines format span v = flows_text format (flows_in_view span.from span.to v)
+
+-- ---- of files, damaged or not
+
+-- These are the sums of all files, each of which was read whole: by one thread, which reads of the segments' prefixes
+-- the first alone; or by workers, which read each segment after its own prefix.
+abbrev pub AreReadRows : Shelf → Span → List Row → Type 0
+AreReadRows s span rows =
+    ((v : View) × IsReadIn s v × (rows ≡ totals_in_view span.from span.to v))
+    ⊎ ((wide : List (FinMap key_cmp Sums)) × (narrow : List (FinMap key_cmp Sums)) × AreWide s wide × AreNarrow s narrow
+    × (rows ≡ rows_of_both span.from span.to (summed s.width narrow) (summed s.wide wide)))
 
 -- ---- on an honest disk
 

@@ -1,6 +1,6 @@
 -- What `feed` does to an archive, what it writes, and its status.
 use Rattle.std.specs.Prelude.{◌≡◌, ◌⊎◌, ⊤, ℕ, suc, true, List, [], ◌∷◌, ◌++◌, length, Option, Some, None}
-use Rattle.std.specs.Prelude.{Result, Ok, Err, codes, IfSome}
+use Rattle.std.specs.Prelude.{Result, Ok, Err, codes}
 use Rattle.std.specs.Fmt.{decimal}
 use Rattle.std.specs.Option.{option_or}
 use Rattle.std.specs.Io.KnownBytes.{Appends, Keeps}
@@ -14,7 +14,7 @@ use Rattle.flow_feed.specs.Shared.{IsGivenShared, IsInSteps, Known}
 use Rattle.flow_feed.specs.declared.batch.Fed.{Fed}
 use Rattle.flow_feed.specs.Stopped.{stop_code}
 use Rattle.flow_feed.specs.declared.batch.FeedStop.{FeedStop}
-use Rattle.flow_roller.specs.Rolling.{IsRolled}
+use Rattle.flow_roller.specs.Rolling.{RollsBeside, Round}
 use Rattle.flow_refusals.specs.Table.{code_text, row_of}
 use Rattle.flow_report.specs.Writing.{AppendsFront}
 use Rattle.flow_commands.specs.declared.archive_refusal.ArchiveRefusal.{ArchiveRefusal}
@@ -85,11 +85,12 @@ abbrev pub answer_by : Option ArchiveError → Result (Unit {0}) ArchiveError
 answer_by None = Ok tt
 answer_by (Some error) = Err error
 
--- How rolling beside Files ended: a refusal is that of a turn, and is that of a source exactly where a read of one
--- failed.
-pub record IsRollEnd {D S X : Type 0} (g : Ghosts D S X) (opening : Shelf) (before now : ℕ)
+-- How rolling beside Files ended: after rounds of turns by one who keeps as many as was asked for; and a refusal is that
+-- of a source exactly where a read of one failed.
+pub record IsRollEnd {D S X : Type 0} (g : Ghosts D S X) (opening : Shelf) (asked : ℕ → Type 0) (before now : ℕ)
     (refused : Option ArchiveError) : Type 0 where
-  pub turn : IfSome refused (λ e. (keep : ℕ) × IsRolled g opening keep (Err e))
+  pub rounds : List Round
+  pub rolled : RollsBeside g opening asked rounds (answer_by refused)
   pub unread : HasCause archive.SourceFault before now (answer_by refused)
 
 -- ---- what is written

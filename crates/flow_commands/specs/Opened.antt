@@ -1,12 +1,16 @@
 -- An archive that a command opens on a disk, asks, and hands on.
-use Rattle.std.specs.Prelude.{◌≡◌, true, false, IsTrue}
+use Rattle.std.specs.Prelude.{◌≡◌, ℕ, true, false, IsTrue}
 use Rattle.flow_disk.specs.declared.disk.Disk.{Ghosts}
 use Rattle.flow_disk.specs.Disk.{AllImages}
 use Rattle.flow_disk.specs.Calls.{LeavesOnly}
+use Rattle.flow_manifest.specs.declared.error.OpenError.{OpenError}
 use Rattle.flow_manifest.specs.Slots.{reads_of}
 use Rattle.flow_model.specs.Standing.{StandsFor, StandsForEither}
 use Rattle.flow_model.specs.State.{State, reopened}
+use Rattle.flow_recover.specs.Opening.{IsDeviceOrMemory}
 use Rattle.flow_archive.specs.Seen.{Seen}
+use Rattle.flow_commands.specs.declared.archive_refusal.ArchiveRefusal.{ArchiveRefusal}
+use Rattle.flow_commands.specs.declared.archive_refusal.ArchiveRefusal.TheVariants.{Opening}
 
 -- On an honest disk a stop at any moment leaves what represents the archive that was there: where a stop had left one
 -- of two states, one of these.
@@ -14,6 +18,12 @@ abbrev pub KeepsArchive : {D S X : Type 0} → Ghosts D S X → D → D → Type
 KeepsArchive g old new =
     IsTrue (g.honest old) → (a b : State) → AllImages (g.held old) (StandsForEither a b)
     → LeavesOnly g old new (StandsForEither a b)
+
+-- On an honest disk each file reads as before, where the refusal is that of an opening by 20 to 24.
+abbrev pub KeepsFiles : {D S X : Type 0} → Ghosts D S X → D → D → ArchiveRefusal → Type 0
+KeepsFiles g old new refusal =
+    IsTrue (g.honest old) → (e : OpenError) → refusal ≡ Opening e → (IsDeviceOrMemory e → ⊥)
+    → (n : ℕ) → (g.held new n).reads ≡ (g.held old n).reads
 
 -- It is as it was, but shared.
 pub record IsAsked {D : Type 0} (old new : Seen D) : Type 0 where

@@ -25,7 +25,7 @@ use Rattle.flow_commands.specs.declared.archive_refusal.ArchiveRefusal.TheVarian
 use Rattle.flow_commands.specs.Archives.{of_archive, of_opening}
 use Rattle.flow_commands.specs.Asking.{IsUnopened}
 use Rattle.flow_commands.specs.Made.{IsAway}
-use Rattle.flow_commands.specs.Opened.{KeepsArchive}
+use Rattle.flow_commands.specs.Opened.{KeepsArchive, KeepsFiles}
 
 abbrev pub job_name : JobKind → List ℕ
 job_name Roll = codes "rolled"
@@ -92,6 +92,7 @@ pub record IsNotRolled {D S X : Type 0} (g : Ghosts D S X) (disk : D) (old new :
   pub cause : HasCause {T = Unit {0}} opening.Fault (g.faults disk) (g.faults refused.disk) (Err reason)
   pub honest : g.honest refused.disk ≡ g.honest disk
   pub any_moment : KeepsArchive g disk refused.disk
+  pub unchanged : KeepsFiles g disk refused.disk refused.error
   pub kept : Keeps old new
 
 -- either of both

@@ -18,7 +18,7 @@ ghost use Rattle.flow_commands.specs.ArchiveFiles.{file_line, kind_word, line_of
 ghost use Rattle.flow_commands.specs.ArchiveFiles.{starts_of_file, starts_words};
 ghost use Rattle.flow_commands.specs.Asking.{IsBeforeWriting, IsNotFound, Writes, WritesOrNot};
 ghost use Rattle.flow_commands.specs.Archives.{of_query};
-ghost use Rattle.flow_commands.specs.Opened.{IsAsked, IsHandedOn, KeepsArchive};
+ghost use Rattle.flow_commands.specs.Opened.{IsAsked, IsHandedOn, KeepsArchive, KeepsFiles};
 ghost use Rattle.flow_commands.specs.Check.{standing_of};
 
 use crate::archive_refusal::ArchiveRefusal;
@@ -26,7 +26,8 @@ use crate::checking::Standing;
 use crate::ending::ended;
 use flow_archive::{Archive, Refused};
 use flow_disk::{Disk, Faults, SealedFile};
-use flow_folder::{FirstFault, FolderDisk, Lockable};
+use flow_folder::{FirstFault, Lockable};
+use flow_folder_view::FolderView;
 use flow_manifest::{Entry, Kind, OpenError};
 use flow_measure::{Row, Rows};
 use flow_model::one_view_of_a_state;
@@ -281,6 +282,8 @@ pub fn check_files<D: Disk, W: Write>(
     // A stop at any moment leaves what opens as the archive that was there, and that is the one that is handed on.
     ensures any_moment { KeepsArchive D.Disk disk (disk_of result) }
     ensures handed { IfOk result (IsHandedOn D.Disk disk) }
+    // After an opening that is refused by 20 to 24 each file reads as before.
+    ensures unchanged { IfErr result (λ r. KeepsFiles D.Disk disk r.disk r.error) }
     // It is a fault of opening exactly where a call of the disk failed, and one of asking exactly where a read failed.
     ensures opening { HasCause (refusal.Opening OpenError.Fault) (D.faults disk) (D.faults (disk_of result))
         (answer_of result) }
@@ -304,7 +307,7 @@ pub fn check_files<D: Disk, W: Write>(
     }
 }
 
-/// The same of the archive of a folder, which is left to others again.
+/// The same of the archive of a folder, of which nothing is changed, and which others may ask meanwhile.
 pub fn check_files_in<H: Files + AllocGlobal + Clone + Drop, W: Write>(
     rt: &H,
     folder: &str,
@@ -316,6 +319,6 @@ where
     ensures written { OnOk result (Writes AreListings (W.contents output.old) (W.contents output.new)) }
     ensures kept { IfErr result (λ e. WritesOrNot AreListings e (W.contents output.old) (W.contents output.new)) }
 {
-    let disk = FolderDisk::noting(rt, folder, first_fault)?;
-    ended(check_files(rt.alloc(), disk, output, &mut Faults::new()))
+    let view = FolderView::noting(rt, folder, first_fault)?;
+    ended(check_files(rt.alloc(), view, output, &mut Faults::new()))
 }

@@ -11,10 +11,12 @@ ghost use Rattle.flow_model.specs.State.{State};
 ghost use Rattle.flow_commands.specs.declared.archive_refusal.ArchiveRefusal.TheVariants as refusal;
 ghost use Rattle.flow_commands.specs.Check.{IsChecked, IsCheckRefused, KeepsOrChecks, TellsState, standing_line};
 ghost use Rattle.flow_commands.specs.Check.{standing_by, standing_of, summed_count};
+ghost use Rattle.flow_commands.specs.Opened.{KeepsFiles};
 
 use crate::archive_refusal::ArchiveRefusal;
 use flow_disk::Disk;
-use flow_folder::{FirstFault, FolderDisk, Lockable};
+use flow_folder::{FirstFault, Lockable};
+use flow_folder_view::FolderView;
 use flow_manifest::{Entry, Kind, Manifest, OpenError, count_of};
 use flow_recover::recover;
 use flow_report::{Patience, push_count, write_patiently};
@@ -91,6 +93,8 @@ fn find_standing<D: Disk>(alloc: Global, disk: &mut D) -> Result<Standing, OpenE
         → IfErr result (λ e. IsDeviceOrMemory e ⊎ StandsForNone (reads_of (D.held disk.old))) }
     ensures any_moment { IsTrue (D.honest disk.old) → (a b : State) → AllImages (D.held disk.old) (StandsForEither a b)
         → LeavesOnly D.Disk disk.old disk.new (StandsForEither a b) }
+    ensures unchanged { IsTrue (D.honest disk.old) → IfErr result (λ e. (IsDeviceOrMemory e → ⊥)
+        → (n : ℕ) → (D.held disk.new n).reads ≡ (D.held disk.old n).reads) }
     ensures cause { HasCause OpenError.Fault (D.faults disk.old) (D.faults disk.new) result }
 {
     let found = recover(alloc, disk)?;
@@ -112,6 +116,7 @@ pub fn check<D: Disk, W: Write>(
         (IsCheckRefused (reads_of (D.held disk.old)) (W.contents output.old) (W.contents output.new)) }
     ensures any_moment { IsTrue (D.honest disk.old) → (a b : State) → AllImages (D.held disk.old) (StandsForEither a b)
         → LeavesOnly D.Disk disk.old disk.new (StandsForEither a b) }
+    ensures unchanged { IfErr result (λ e. KeepsFiles D.Disk disk.old disk.new e) }
     // And whatever the disk:
     ensures written { OnOk result (IsChecked (W.contents output.old) (W.contents output.new)) }
     ensures kept { IfErr result (λ e. KeepsOrChecks e (W.contents output.old) (W.contents output.new)) }
@@ -123,7 +128,7 @@ pub fn check<D: Disk, W: Write>(
     Ok(())
 }
 
-/// Checks the archive of a folder.
+/// Checks the archive of a folder, of which nothing is changed, and which others may ask meanwhile.
 pub fn check_in<H: Files + AllocGlobal + Clone + Drop, W: Write>(
     rt: &H,
     folder: &str,
@@ -135,6 +140,6 @@ where
     ensures written { OnOk result (IsChecked (W.contents output.old) (W.contents output.new)) }
     ensures kept { IfErr result (λ e. KeepsOrChecks e (W.contents output.old) (W.contents output.new)) }
 {
-    let mut disk = FolderDisk::noting(rt, folder, first_fault)?;
-    check(rt.alloc(), &mut disk, output)
+    let mut view = FolderView::noting(rt, folder, first_fault)?;
+    check(rt.alloc(), &mut view, output)
 }

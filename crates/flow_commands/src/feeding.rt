@@ -26,7 +26,7 @@ use flow_disk::{Disk, Faults};
 use flow_feed::{Fed, FeedStop, SharedAppender, feed_shared};
 use flow_folder::{FolderDisk, Lockable};
 use flow_report::{Patience, write_patiently};
-use flow_roller::{Bell, roll_beside};
+use flow_roller::{Bell, Keeping, roll_beside};
 use flow_shared::{Naming, Opened, SharedArchive, start};
 use std::alloc::{AllocGlobal, Global};
 use std::convert::AsStr;
@@ -62,10 +62,10 @@ struct Streamed {
 
 /// Takes the File that `input` reads into an archive that threads share, after its first `passed` messages, shows its
 /// progress, and rings the bell for each `span` octets that are read.
-fn stream<H: AllocGlobal + Wait, D: Disk, J: Naming, R: Read, P: Write + Drop>(
+fn stream<H: AllocGlobal + Wait, D: Disk, J: Naming, K: Keeping, R: Read, P: Write + Drop>(
     rt: &H,
     shared: &SharedArchive<D, J, H>,
-    bell: &Bell,
+    bell: &Bell<K>,
     span: u32,
     input: &mut R,
     progress: &Progress<P>,
@@ -82,10 +82,10 @@ fn stream<H: AllocGlobal + Wait, D: Disk, J: Naming, R: Read, P: Write + Drop>(
 
 /// Takes the File that `input` reads into an archive that threads share, after its first `passed` messages, shows its
 /// progress, and rings the bell for each `span` octets that are read.
-pub fn feed_stream<H: AllocGlobal + Wait, D: Disk, J: Naming, R: Read, P: Write + Drop>(
+pub fn feed_stream<H: AllocGlobal + Wait, D: Disk, J: Naming, K: Keeping, R: Read, P: Write + Drop>(
     rt: &H,
     shared: &SharedArchive<D, J, H>,
-    bell: &Bell,
+    bell: &Bell<K>,
     span: u32,
     input: &mut R,
     progress: &Progress<P>,
@@ -97,10 +97,10 @@ pub fn feed_stream<H: AllocGlobal + Wait, D: Disk, J: Naming, R: Read, P: Write 
 }
 
 /// The same of the File of this number and path, and warns of records that its messages show not to be read.
-fn feed_named<H: AllocGlobal + Wait, D: Disk, J: Naming, R: Read, P: Write + Drop>(
+fn feed_named<H: AllocGlobal + Wait, D: Disk, J: Naming, K: Keeping, R: Read, P: Write + Drop>(
     rt: &H,
     shared: &SharedArchive<D, J, H>,
-    bell: &Bell,
+    bell: &Bell<K>,
     span: u32,
     number: u64,
     path: &str,
@@ -154,10 +154,16 @@ fn warn_of_unopened<H: Wait, P: Write + Drop>(
 }
 
 /// The same of the File of this number at a path.
-fn feed_path<H: Files + AllocGlobal + Clone + Drop + Wait, D: Disk, J: Naming, P: Write + Drop>(
+fn feed_path<
+    H: Files + AllocGlobal + Clone + Drop + Wait,
+    D: Disk,
+    J: Naming,
+    K: Keeping,
+    P: Write + Drop,
+>(
     rt: &H,
     shared: &SharedArchive<D, J, H>,
-    bell: &Bell,
+    bell: &Bell<K>,
     span: u32,
     number: u64,
     path: &str,
@@ -181,13 +187,13 @@ fn feed_path<H: Files + AllocGlobal + Clone + Drop + Wait, D: Disk, J: Naming, P
 }
 
 /// Rolls beside Files that are fed, and answers the first refusal of that, if any, and which reads of sources failed.
-fn roll_files<D: Disk, J: Naming, H: Wait>(
+fn roll_files<D: Disk, J: Naming, K: Keeping, H: Wait>(
     rt: &H,
     alloc: Global,
     shared: &SharedArchive<D, J, H>,
-    bell: &Bell,
+    bell: &Bell<K>,
 ) -> (Option<ArchiveError>, Faults<D::Sealed>)
-    ensures { IsRollEnd D.Disk J.opening 0 result.1 result.0 }
+    ensures { IsRollEnd D.Disk J.opening K.asked 0 result.1 result.0 }
 {
     let mut faults = Faults::new();
     match roll_beside(shared, rt, alloc, bell, &mut faults) {
@@ -202,12 +208,13 @@ fn feed_each<
     H: Files + AllocGlobal + Clone + Drop + Threads + Wait + Send + Sync,
     D: Disk + Send,
     J: Naming + Send + Sync,
+    K: Keeping + Send + Sync,
     S: AsStr + Sync,
     P: Write + Drop + Send,
 >(
     rt: &H,
     shared: &SharedArchive<D, J, H>,
-    bell: &Bell,
+    bell: &Bell<K>,
     span: u32,
     paths: &[S],
     progress: &Progress<P>,
@@ -254,13 +261,14 @@ fn feed_all<
     H: Files + AllocGlobal + Clone + Drop + Threads + Wait + Send + Sync,
     D: Disk + Send,
     J: Naming + Send + Sync,
+    K: Keeping + Send + Sync,
     S: AsStr + Sync,
     R: Read,
     P: Write + Drop + Send,
 >(
     rt: &H,
     shared: &SharedArchive<D, J, H>,
-    bell: &Bell,
+    bell: &Bell<K>,
     span: u32,
     paths: &[S],
     input: Option<&mut R>,
@@ -310,6 +318,7 @@ fn feed_beside<
     H: Files + AllocGlobal + Clone + Drop + Threads + Wait + Send + Sync,
     D: Disk + Send,
     J: Naming + Send + Sync,
+    K: Keeping + Send + Sync,
     S: AsStr + Sync,
     R: Read,
     P: Write + Drop + Send,
@@ -328,17 +337,19 @@ where
     H::File: Send + Sync,
     H::Dir: Send + Sync,
     D::Sealed: Send + Sync,
-    requires { length feds.items ≡ length paths.now }
+    requires room { length feds.items ≡ length paths.now }
+    // The bell keeps what was asked for.
+    requires asked { ∥ K.asked plan.keep ∥₁ }
     ensures count { length result.0.items ≡ length paths.now }
-    ensures rolled { IsRollEnd D.Disk J.opening faults.old faults.new result.1 }
+    ensures rolled { IsRollEnd D.Disk J.opening K.asked faults.old faults.new result.1 }
 {
-    let bell = Bell::new(plan.keep);
+    let bell: Bell<K> = Bell::new(plan.keep);
     let rung = &bell;
     let alloc = rt.alloc();
     let ((refused, unread), feds) = thread::join(
         rt,
         move || -> (Option<ArchiveError>, Faults<D::Sealed>)
-            ensures { IsRollEnd D.Disk J.opening 0 result.1 result.0 }
+            ensures { IsRollEnd D.Disk J.opening K.asked 0 result.1 result.0 }
         { roll_files(rt, alloc, shared, rung) },
         move || -> Vec<Fed>
             requires { length feds.items ≡ length paths.now }
@@ -497,7 +508,7 @@ where
     };
     drop(places);
     let faults = &mut Faults::new();
-    let (feds, refused) = feed_beside(
+    let (feds, refused) = feed_beside::<H, D, J, Brand, S, R, P>(
         rt, &shared, span, plan, paths, input, progress, feds, faults,
     );
     progress.clear(rt);

@@ -3,9 +3,9 @@
 //! What the layers above may count on: on an honest disk `create` makes the archive that was asked for; `check` writes
 //! the line of the state of what is read, and reports damage only where there is none. Whatever the disk,
 //! and so over a folder, `check` writes one line of numbers, or nothing, or a prefix of one where writing failed. A
-//! refusal is printed with its number and its name, and has its exit status. `feed` takes Files one after the other,
-//! writes exactly a line for each, and ends with the status of the first that stopped, or with the refusal of the
-//! rolling; `roll` and `merge` are whole jobs, and write exactly how many files they summed.
+//! refusal is printed with its number and its name, and has its exit status. `feed` takes Files side by side, writes
+//! exactly a line for each, in their order, and ends with the status of the first that stopped, or with the refusal of
+//! the rolling; `roll` and `merge` are whole jobs, and write exactly how many files they summed.
 #![tactic(auto)]
 
 mod archive_files;

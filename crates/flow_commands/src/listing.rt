@@ -9,7 +9,7 @@ ghost use Rattle.flow_manifest.specs.Slots.{reads_of};
 ghost use Rattle.flow_archive.specs.Beginning.{answer_of, disk_of};
 ghost use Rattle.flow_model.specs.Standing.{StandsFor};
 ghost use Rattle.flow_commands.specs.declared.archive_refusal.ArchiveRefusal.TheVariants as refusal;
-ghost use Rattle.flow_commands.specs.Opened.{IsAsked, IsHandedOn, KeepsArchive};
+ghost use Rattle.flow_commands.specs.Opened.{IsAsked, IsHandedOn, KeepsArchive, KeepsFiles};
 ghost use Rattle.flow_commands.specs.Asking.{flows_lines, Always, AreFlows, AreFlowsIn, FlowsStartIn, IsBlameless};
 ghost use Rattle.flow_commands.specs.Asking.{HasFront, HasSome, IsWhileAsking, TellsLines, TellsUpTo, Writes};
 ghost use Rattle.flow_commands.specs.Asking.{WritesUpTo};
@@ -32,7 +32,8 @@ use crate::plan::StartSpan;
 use flow_archive::{Archive, Refused};
 use flow_codec::Templates;
 use flow_disk::{Disk, Faults, SealedFile};
-use flow_folder::{FirstFault, FolderDisk, Lockable};
+use flow_folder::{FirstFault, Lockable};
+use flow_folder_view::FolderView;
 use flow_manifest::OpenError;
 use flow_measure::Flow;
 use flow_refusals::ReadRefusal;
@@ -186,6 +187,8 @@ pub fn flows<D: Disk, W: Write>(
     // A stop at any moment leaves what opens as the archive that was there, and that is the one that is handed on.
     ensures any_moment { KeepsArchive D.Disk disk (disk_of result) }
     ensures handed { IfOk result (IsHandedOn D.Disk disk) }
+    // After an opening that is refused by 20 to 24 each file reads as before.
+    ensures unchanged { IfErr result (λ r. KeepsFiles D.Disk disk r.disk r.error) }
     // It is a fault of opening exactly where a call of the disk failed, and one of asking exactly where a read failed.
     ensures opening { HasCause (refusal.Opening OpenError.Fault) (D.faults disk) (D.faults (disk_of result))
         (answer_of result) }
@@ -209,7 +212,7 @@ pub fn flows<D: Disk, W: Write>(
     }
 }
 
-/// Asks the archive of a folder for its flows, and leaves the folder to others again.
+/// Asks the archive of a folder for its flows. Nothing of the folder is changed, and others may ask it meanwhile.
 pub fn flows_in<H: Files + AllocGlobal + Clone + Drop, W: Write>(
     rt: &H,
     folder: &str,
@@ -227,7 +230,7 @@ where
     ensures written { OnOk result (Writes (AreFlows format) (W.contents output.old) (W.contents output.new)) }
     ensures kept { IfErr result (λ e. WritesUpTo (AreFlows format) e (W.contents output.old) (W.contents output.new)) }
 {
-    let disk = FolderDisk::noting(rt, folder, first_fault)?;
+    let view = FolderView::noting(rt, folder, first_fault)?;
     let faults = &mut Faults::new();
-    ended(flows(rt.alloc(), disk, span, format, output, faults))
+    ended(flows(rt.alloc(), view, span, format, output, faults))
 }

@@ -3,7 +3,7 @@
 ghost use Rattle.std.specs.Prelude.{◌≡◌};
 
 use flow_folder::FirstFault;
-use flow_roller::Bell;
+use flow_roller::{Bell, Keeping};
 use std::fmt::Display;
 use std::io;
 use std::io::{Read, Write};
@@ -127,23 +127,23 @@ impl<W: Write + Drop> Progress<W> {
 
 /// A File, which shows each mebibyte that is read of it, and rings a bell for each `span` octets.
 #[derive(Drop)]
-pub(crate) struct Watched<'a, H: Wait, R: Read, W: Write + Drop> {
+pub(crate) struct Watched<'a, H: Wait, K: Keeping, R: Read, W: Write + Drop> {
     rt: &'a H,
     input: &'a mut R,
     progress: &'a Progress<W>,
-    bell: &'a Bell,
+    bell: &'a Bell<K>,
     span: u32,
     /// How many were read.
     octets: u64,
 }
 
-impl<'a, H: Wait, R: Read, W: Write + Drop> Watched<'a, H, R, W> {
+impl<'a, H: Wait, K: Keeping, R: Read, W: Write + Drop> Watched<'a, H, K, R, W> {
     /// A File of which nothing is read.
     pub(crate) fn new(
         rt: &'a H,
         input: &'a mut R,
         progress: &'a Progress<W>,
-        bell: &'a Bell,
+        bell: &'a Bell<K>,
         span: u32,
     ) -> Self
         ensures { result.input.now ≡ input.old }
@@ -159,7 +159,7 @@ impl<'a, H: Wait, R: Read, W: Write + Drop> Watched<'a, H, R, W> {
     }
 }
 
-impl<H: Wait, R: Read, W: Write + Drop> Read for Watched<'_, H, R, W> {
+impl<H: Wait, K: Keeping, R: Read, W: Write + Drop> Read for Watched<'_, H, K, R, W> {
     ghost remaining = { λ watched. R.remaining watched.input.now };
 
     fn read(&mut self, buf: &mut [u8]) -> io::Result<usize> {

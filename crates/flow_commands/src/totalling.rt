@@ -12,8 +12,9 @@ ghost use Rattle.flow_snapshot.specs.Answered.{IsAnswered};
 ghost use Rattle.flow_snapshot.specs.Totals.{first_file, IsMade, IsWithinHistoryLimits, SumsFit};
 ghost use Rattle.flow_model.specs.Views.{IsViewOf};
 ghost use Rattle.flow_commands.specs.declared.archive_refusal.ArchiveRefusal.TheVariants as refusal;
-ghost use Rattle.flow_commands.specs.Opened.{IsAsked, IsHandedOn, KeepsArchive};
-ghost use Rattle.flow_commands.specs.Asking.{AreLinesOf, AreRows, AreRowsIn, IsBeforeWriting, IsNotFound};
+ghost use Rattle.flow_commands.specs.Opened.{IsAsked, IsHandedOn, KeepsArchive, KeepsFiles};
+ghost use Rattle.flow_commands.specs.Asking.{AreLinesOf, AreReadRows, AreRows, AreRowsIn, IsBeforeWriting};
+ghost use Rattle.flow_commands.specs.Asking.{IsNotFound};
 ghost use Rattle.flow_commands.specs.Asking.{RowsStartIn, TellsLines, TellsNoLines};
 ghost use Rattle.flow_commands.specs.Asking.{Writes, WritesOrNot, totals_lines};
 ghost use Rattle.flow_commands.specs.Plans.{is_in};
@@ -26,7 +27,8 @@ use crate::ending::ended;
 use crate::plan::{StartSpan, Workers};
 use flow_archive::{Archive, Refused};
 use flow_disk::{Disk, Faults, SealedFile};
-use flow_folder::{FirstFault, FolderDisk, Lockable};
+use flow_folder::{FirstFault, Lockable};
+use flow_folder_view::FolderView;
 use flow_manifest::OpenError;
 use flow_measure::Row;
 use flow_refusals::ReadRefusal;
@@ -67,7 +69,10 @@ fn scan_rows<S: SealedFile + Send + Sync, H: Threads + Sync>(
     faults: &mut Faults<S>,
 ) -> Result<Vec<Row>, ReadRefusal>
     ensures cause { HasCause ReadRefusal.Fault faults.old faults.new result }
-    // On honest disks: what is answered by each view of the files; where its sums fit their types none is damaged.
+    // On honest disks, also where files are damaged: the totals of all files, each of which was read whole.
+    ensures found { IsTrue snapshot.now.honest
+        → IfOk result (λ rows. AreReadRows snapshot.now.shelf span.now rows.items) }
+    // What is answered by each view of the files; where its sums fit their types none is damaged.
     ensures given { IsTrue snapshot.now.honest → (v : View) → IsViewOf snapshot.now.shelf v
         → IsMade (first_file snapshot.now.shelf) (SumsFit v)
         (λ rows. rows.items ≡ totals_in_view span.now.from span.now.to v) result }
@@ -96,7 +101,10 @@ pub fn ask_rows<S: SealedFile + Send + Sync, H: Threads + Sync>(
 ) -> Result<Vec<Row>, ReadRefusal>
     ensures cause { HasCause ReadRefusal.Fault faults.old faults.new result }
     ensures within { IfOk result (λ rows. RowsStartIn span.now rows.items) }
-    // On honest disks: what is answered by each view of the files; where its sums fit their types none is damaged.
+    // On honest disks, also where files are damaged: the totals of all files, each of which was read whole.
+    ensures found { IsTrue snapshot.now.honest
+        → IfOk result (λ rows. AreReadRows snapshot.now.shelf span.now rows.items) }
+    // What is answered by each view of the files; where its sums fit their types none is damaged.
     ensures given { IsTrue snapshot.now.honest → (v : View) → IsViewOf snapshot.now.shelf v
         → IsMade (first_file snapshot.now.shelf) (SumsFit v)
         (λ rows. rows.items ≡ totals_in_view span.now.from span.now.to v) result }
@@ -203,6 +211,8 @@ where
     // A stop at any moment leaves what opens as the archive that was there, and that is the one that is handed on.
     ensures any_moment { KeepsArchive D.Disk disk (disk_of result) }
     ensures handed { IfOk result (IsHandedOn D.Disk disk) }
+    // After an opening that is refused by 20 to 24 each file reads as before.
+    ensures unchanged { IfErr result (λ r. KeepsFiles D.Disk disk r.disk r.error) }
     // It is a fault of opening exactly where a call of the disk failed, and one of asking exactly where a read failed.
     ensures opening { HasCause (refusal.Opening OpenError.Fault) (D.faults disk) (D.faults (disk_of result))
         (answer_of result) }
@@ -235,8 +245,8 @@ where
     }
 }
 
-/// Asks the archive of a folder for its sums, by so many workers, or as many as there are processors, and leaves the
-/// folder to others again.
+/// Asks the archive of a folder for its sums, by so many workers, or as many as there are processors. Nothing of the
+/// folder is changed, and others may ask it meanwhile.
 pub fn totals_in<H: Files + AllocGlobal + Clone + Drop + Threads + Send + Sync, W: Write>(
     rt: &H,
     folder: &str,
@@ -260,11 +270,11 @@ where
         Some(workers) => workers,
         None => Workers::of_processors(rt),
     };
-    let disk = FolderDisk::noting(rt, folder, first_fault)?;
+    let view = FolderView::noting(rt, folder, first_fault)?;
     ended(totals(
         rt,
         rt.alloc(),
-        disk,
+        view,
         span,
         &workers,
         format,

@@ -299,11 +299,7 @@ where
 
     fn files(&mut self, alloc: Global) -> Result<Vec<u64>, DiskError> {
         match self.folder.files(alloc) {
-            Ok(mut files) => {
-                files.sort_unstable();
-                files.dedup();
-                Ok(files)
-            }
+            Ok(files) => Ok(files),
             Err(e) if e.kind() == ErrorKind::OutOfMemory => Err(DiskError::OutOfMemory),
             Err(error) => Err(self.fault_of(&error)),
         }

@@ -2,6 +2,7 @@
 ghost use Rattle.std.specs.Prelude.{◌≡◌, ◌≢◌, ℕ, ◌+◌, ◌<◌, ◌^◌, true, false, None};
 ghost use Rattle.std.specs.Prelude.{is_some, IsSome, IfSome, length, IfOk, OnOk, OnErr};
 ghost use Rattle.std.specs.Ordering.{nat_cmp};
+ghost use Rattle.std.specs.List.Sorted.{IsStrictlyIncreasing};
 ghost use Rattle.std.specs.BTreeMap.{get};
 ghost use Rattle.flow_folder.specs.Names.{KeepsLost};
 
@@ -45,6 +46,15 @@ pub(crate) struct Folder<'a, R: Files> {
     pub(crate) pending: BTreeMap<u64, Pending<R::File>>,
 }
 
+/// Who may have a folder meanwhile.
+#[derive(Clone, Copy, PartialEq, Eq)]
+pub(crate) enum Hold {
+    /// Nobody else.
+    Alone,
+    /// Others that only read it too.
+    Shared,
+}
+
 /// A folder's handle, and a path by which this process reaches that folder, whatever its name is now.
 #[derive(Drop)]
 pub(crate) struct Place<F> {
@@ -66,7 +76,7 @@ where
         ensures lost { IfOk result (λ folder. folder.names_lost ≡ false) }
         ensures files { IfOk result (λ folder. (n : ℕ) → get nat_cmp folder.pending n ≡ None) }
     {
-        let place = Place::lock(rt, path)?;
+        let place = Place::lock(rt, path, Hold::Alone)?;
         look_at_names(rt, place.path.as_str())?;
         Ok(Folder {
             rt,
@@ -90,10 +100,7 @@ where
         if let Some(pending) = self.pending.get(&file) {
             return pending.length();
         }
-        match look_up(self.rt, self.path_of(file)?.as_str())? {
-            Some(named) => Ok(named.len()),
-            None => Ok(0),
-        }
+        file_length(self.rt, self.place.path.as_str(), file)
     }
 
     /// Reads octets of a file from a place on.
@@ -284,21 +291,11 @@ where
         self.names_pending = true;
     }
 
-    /// The files, in the system's order.
-    pub(crate) fn files(&self, alloc: Global) -> io::Result<Vec<u64>> {
-        let mut files = Vec::new(alloc);
-        for entry in fs::read_dir(self.rt, self.place.path.as_str())? {
-            match entry {
-                Ok(entry) => {
-                    if let Some(file) = file_named(entry.file_name()) {
-                        files.push(file)?;
-                    }
-                }
-                Err(e) if e.kind() == ErrorKind::InvalidFilename => {}
-                Err(e) => return Err(e),
-            }
-        }
-        Ok(files)
+    /// The files' numbers, ascending.
+    pub(crate) fn files(&self, alloc: Global) -> io::Result<Vec<u64>>
+        ensures { IfOk result (λ files. IsStrictlyIncreasing files.items) }
+    {
+        list_files(self.rt, alloc, self.place.path.as_str())
     }
 
     /// A value that reads a file of so many octets, which nobody may write from now on. Where the system doesn't take
@@ -390,13 +387,20 @@ where
 
 impl<F: OpenFile + Lockable + Drop> Place<F> {
     /// Opens and locks a folder that exists.
-    fn lock<R: Files<File = F> + AllocGlobal>(rt: &R, path: &str) -> Result<Self, FolderError> {
+    pub(crate) fn lock<R: Files<File = F> + AllocGlobal>(
+        rt: &R,
+        path: &str,
+        hold: Hold,
+    ) -> Result<Self, FolderError> {
         let handle = File::open(rt, path)?;
         let opened = handle.metadata()?;
         if !opened.is_dir() {
             return Err(FolderError::NotAFolder);
         }
-        handle.try_lock()?;
+        match hold {
+            Hold::Alone => handle.try_lock()?,
+            Hold::Shared => handle.try_lock_shared()?,
+        }
         let path = format!(in rt.alloc(); "/proc/self/fd/{}", handle.descriptor())?;
         match fs::metadata(rt, path.as_str()) {
             Ok(again) if again.dev() == opened.dev() && again.ino() == opened.ino() => {
@@ -408,7 +412,7 @@ impl<F: OpenFile + Lockable + Drop> Place<F> {
 }
 
 /// An error where an entry with the name of a file isn't a regular file.
-fn look_at_names<R: Files + AllocGlobal + Clone + Drop>(
+pub(crate) fn look_at_names<R: Files + AllocGlobal + Clone + Drop>(
     rt: &R,
     folder: &str,
 ) -> Result<(), FolderError> {
@@ -461,6 +465,43 @@ fn unlink<R: Files>(rt: &R, path: &str) -> io::Result<bool> {
         Err(e) if e.kind() == ErrorKind::NotFound => Ok(false),
         Err(e) => Err(e),
     }
+}
+
+/// How many octets a file of a folder has.
+pub(crate) fn file_length<R: Files + AllocGlobal>(
+    rt: &R,
+    folder: &str,
+    file: u64,
+) -> io::Result<u64> {
+    match look_up(rt, path_of(rt.alloc(), folder, file)?.as_str())? {
+        Some(named) => Ok(named.len()),
+        None => Ok(0),
+    }
+}
+
+/// The numbers of the files of a folder, ascending.
+pub(crate) fn list_files<R: Files + AllocGlobal + Clone + Drop>(
+    rt: &R,
+    alloc: Global,
+    folder: &str,
+) -> io::Result<Vec<u64>>
+    ensures ascending { IfOk result (λ files. IsStrictlyIncreasing files.items) }
+{
+    let mut files = Vec::new(alloc);
+    for entry in fs::read_dir(rt, folder)? {
+        match entry {
+            Ok(entry) => {
+                if let Some(file) = file_named(entry.file_name()) {
+                    files.push(file)?;
+                }
+            }
+            Err(e) if e.kind() == ErrorKind::InvalidFilename => {}
+            Err(e) => return Err(e),
+        }
+    }
+    files.sort_unstable();
+    files.dedup();
+    Ok(files)
 }
 
 /// Reads octets of a file from a place on. No octets are read of an absent file too.

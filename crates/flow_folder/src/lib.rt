@@ -21,6 +21,7 @@
 #![tactic(auto)]
 
 mod disk;
+mod files;
 mod first_fault;
 mod folder;
 mod found;
@@ -32,6 +33,8 @@ mod sealed;
 mod system;
 
 pub use disk::FolderDisk;
+pub use files::FolderFiles;
 pub use first_fault::FirstFault;
+pub use reported::{NoRoom, Reported, Table};
 pub use sealed::{FolderSealed, ReadFailed};
 pub use system::{FolderError, Lockable};

@@ -10,6 +10,9 @@ pub trait Lockable {
     /// Locks it, where nobody else has. The lock ends with the last handle of this opening.
     fn try_lock(&self) -> Result<(), TryLockError>;
 
+    /// Locks it together with others that do so, where nobody has it alone. The lock ends in the same way.
+    fn try_lock_shared(&self) -> Result<(), TryLockError>;
+
     /// Its number among the open files of this process.
     fn descriptor(&self) -> i32;
 }
@@ -17,6 +20,10 @@ pub trait Lockable {
 impl Lockable for File {
     fn try_lock(&self) -> Result<(), TryLockError> {
         self.try_lock()
+    }
+
+    fn try_lock_shared(&self) -> Result<(), TryLockError> {
+        self.try_lock_shared()
     }
 
     fn descriptor(&self) -> i32 {

@@ -1,20 +1,52 @@
 //! What a roller waits for.
 
-ghost use Rattle.std.specs.Prelude.{◌≡◌, ◌≢◌, ◌⊎◌, ◌↔◌, ◌≤◌, IsTrue};
+ghost use Rattle.std.specs.Prelude.{◌≡◌, ◌≢◌, ◌⊎◌, ◌↔◌, ◌≤◌, false, IsTrue};
 
+use std::marker::{Brand, PhantomData};
 use std::sync::{Condvar, Mutex, Wait};
 
+/// How many of the newest sealed segments may be left as they are. Each use of a bell picks it.
+pub trait Keeping {
+    ghost use Rattle.std.specs.Prelude.{ℕ};
+
+    /// It was asked for that so many are left.
+    ghost asked: { ℕ → Type 0 };
+}
+
+impl Keeping for Brand {
+    ghost use Rattle.std.specs.Prelude.{⊤};
+
+    ghost asked = { λ keep. ⊤ };
+}
+
 /// What a roller knows of the work beside it.
-#[derive(Clone, Copy)]
-struct Work {
+#[derive(Drop)]
+struct Work<K: Keeping> {
     /// How often there was something new, up to 2^64 - 1.
     rings: u64,
     has_ended: bool,
     /// How many of the newest sealed segments are left as they are.
     keep: u32,
+    of: PhantomData<K>,
+    ghost is_asked: { ∥ K.asked keep ∥₁ },
 }
 
-impl Work {
+impl<K: Keeping> Work<K> {
+    /// Nothing is new yet, and so many of the newest segments are left as they are.
+    fn new(keep: u32) -> Work<K>
+        requires { ∥ K.asked keep ∥₁ }
+        ensures keep { result.keep ≡ keep }
+        ensures none { result.rings ≡ 0 }
+        ensures goes_on { result.has_ended ≡ false }
+    {
+        Work {
+            rings: 0,
+            has_ended: false,
+            keep,
+            of: PhantomData,
+        }
+    }
+
     /// There may be something to roll.
     fn ring(&mut self)
         ensures later { self.old.rings ≤ self.new.rings }
@@ -25,6 +57,7 @@ impl Work {
 
     /// From now on so many of the newest segments are left as they are.
     fn set_keep(&mut self, keep: u32)
+        requires { ∥ K.asked keep ∥₁ }
         ensures keep { self.new.keep ≡ keep }
         ensures same { (self.new.rings ≡ self.old.rings) × (self.new.has_ended ≡ self.old.has_ended) }
     {
@@ -33,9 +66,18 @@ impl Work {
 
     /// How many of the newest segments are left as they are.
     fn kept(&self) -> u32
-        ensures { result ≡ self.now.keep }
+        ensures value { result ≡ self.now.keep }
+        ensures asked { ∥ K.asked result ∥₁ }
     {
         self.keep
+    }
+
+    /// Nothing more is appended.
+    fn end(&mut self)
+        ensures ended { IsTrue self.new.has_ended }
+        ensures same { (self.new.keep ≡ self.old.keep) × (self.new.rings ≡ self.old.rings) }
+    {
+        self.has_ended = true;
     }
 
     /// Whether it has rung more often than this, or nothing more is appended.
@@ -55,23 +97,21 @@ impl Work {
     }
 }
 
-/// By which those who append wake a roller: there may be something to roll, or nothing more is appended.
+/// By which those who append wake a roller: there may be something to roll, or nothing more is appended. What it says
+/// to keep was asked for, whichever thread set it.
 #[derive(Drop)]
-pub struct Bell {
-    work: Mutex<Work>,
+pub struct Bell<K: Keeping> {
+    work: Mutex<Work<K>>,
     changed: Condvar,
 }
 
-impl Bell {
+impl<K: Keeping> Bell<K> {
     /// One that hasn't rung yet. The newest `keep` sealed segments are left as they are.
-    pub fn new(keep: u32) -> Bell {
-        let work = Work {
-            rings: 0,
-            has_ended: false,
-            keep,
-        };
+    pub fn new(keep: u32) -> Bell<K>
+        requires { ∥ K.asked keep ∥₁ }
+    {
         Bell {
-            work: Mutex::new(work),
+            work: Mutex::new(Work::new(keep)),
             changed: Condvar::new(),
         }
     }
@@ -85,12 +125,16 @@ impl Bell {
     }
 
     /// How many of the newest sealed segments are left as they are.
-    pub(crate) fn keep<W: Wait>(&self, rt: &W) -> u32 {
+    pub(crate) fn keep<W: Wait>(&self, rt: &W) -> u32
+        ensures { ∥ K.asked result ∥₁ }
+    {
         self.work.lock(rt).kept()
     }
 
     /// From now on the newest `keep` sealed segments are left as they are.
-    pub fn set_keep<W: Wait>(&self, rt: &W, keep: u32) {
+    pub fn set_keep<W: Wait>(&self, rt: &W, keep: u32)
+        requires { ∥ K.asked keep ∥₁ }
+    {
         let mut work = self.work.lock(rt);
         work.set_keep(keep);
         work.ring();
@@ -101,7 +145,7 @@ impl Bell {
     /// Says that nothing more is appended.
     pub fn end<W: Wait>(&self, rt: &W) {
         let mut work = self.work.lock(rt);
-        work.has_ended = true;
+        work.end();
         drop(work);
         self.changed.notify_all();
     }

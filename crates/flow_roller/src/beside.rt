@@ -1,12 +1,13 @@
 //! A roller beside those who append.
 
-ghost use Rattle.std.specs.Prelude.{◌≡◌, ◌⊎◌, ℕ, List, Ok, Err, IfOk, IfErr, OnOk, length};
+ghost use Rattle.std.specs.Prelude.{◌≡◌, ◌⊎◌, ℕ, List, Ok, Err, IfOk, IfErr, IsTrue, OnOk, length};
 ghost use Rattle.std.specs.List.{AllByRecursion};
 ghost use Rattle.flow_disk.specs.Cause.{HasCause};
 ghost use Rattle.flow_turns.specs.declared.turn.Turn.{Turn};
-ghost use Rattle.flow_roller.specs.Rolling.{IsDone, IsRolled, RollsOn};
+ghost use Rattle.flow_turns.specs.declared.turn.Turn.TheVariants as answer;
+ghost use Rattle.flow_roller.specs.Rolling.{IsDone, IsRolled, RollsBeside, RollsOn, Round};
 
-use crate::bell::Bell;
+use crate::bell::{Bell, Keeping};
 use crate::gate::Open;
 use crate::rolling::roll_worker;
 use flow_archive::ArchiveError;
@@ -68,30 +69,51 @@ fn round<D: Disk, J: Naming, W: Wait>(
     shared.roll_turn(rt, alloc, keep, faults)
 }
 
+/// Whether a roller is done after such a turn: nothing more is appended, and there was nothing to do.
+fn is_done(last: Turn, has_ended: bool) -> bool
+    ensures { IsTrue result → last ≡ answer.Idle }
+{
+    has_ended && last == Turn::Idle
+}
+
+/// Waits for the bell where the last turn had nothing to do, and answers whether nothing more is appended.
+fn wait_where_idle<K: Keeping, W: Wait>(
+    bell: &Bell<K>,
+    rt: &W,
+    last: Turn,
+    has_ended: bool,
+    heard: &mut u64,
+) -> bool {
+    if has_ended || last != Turn::Idle {
+        return has_ended;
+    }
+    bell.wait(rt, heard)
+}
+
 /// Makes turns of rolling while others append, until they have ended and there is nothing left to do: all sealed
 /// segments but the newest ones that the bell says to keep are rolled then, and files that were replaced are removed.
 /// It waits for the bell where it is idle, and makes its turns 1,000,000 times at most. It stops at the first refusal,
 /// and answers that. Reads of a job's sources that fail raise `faults`.
-pub fn roll_beside<D: Disk, J: Naming, W: Wait>(
+pub fn roll_beside<D: Disk, J: Naming, K: Keeping, W: Wait>(
     shared: &SharedArchive<D, J, W>,
     rt: &W,
     alloc: Global,
-    bell: &Bell,
+    bell: &Bell<K>,
     faults: &mut Faults<D::Sealed>,
 ) -> Result<(), ArchiveError>
     ensures unread { HasCause ArchiveError.SourceFault faults.old faults.new result }
-    ensures refused { IfErr result (λ e. (keep : ℕ) × IsRolled D.Disk J.opening keep (Err e)) }
+    // Each round is by one who keeps as many as was asked for.
+    ensures rounds { (rounds : List Round) × RollsBeside D.Disk J.opening K.asked rounds result }
 {
     let mut heard = 0;
     let mut has_ended = false;
     for _ in 0..MOST_CALLS {
         let keep = bell.keep(rt);
-        if round(shared, rt, alloc, keep, faults)? == Turn::Idle {
-            if has_ended {
-                return Ok(());
-            }
-            has_ended = bell.wait(rt, &mut heard);
+        let last = round(shared, rt, alloc, keep, faults)?;
+        if is_done(last, has_ended) {
+            return Ok(());
         }
+        has_ended = wait_where_idle(bell, rt, last, has_ended, &mut heard);
     }
     Ok(())
 }

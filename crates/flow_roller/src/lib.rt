@@ -11,7 +11,7 @@ mod gate;
 mod rolling;
 mod scan;
 
-pub use bell::Bell;
+pub use bell::{Bell, Keeping};
 pub use beside::roll_beside;
 pub use gate::{Gate, Open, Point};
 pub use rolling::roll_worker;

@@ -3,13 +3,14 @@
 ghost use Rattle.std.specs.Prelude.{◌≡◌, ◌++◌, ℕ, IsTrue, IfErr, IfOk, List, OnOk, string_bytes};
 ghost use Rattle.std.specs.Io.KnownBytes.{Appends};
 ghost use mathlib.Core.List.{IsPrefix};
+ghost use Rattle.flow_measure.specs.declared.rows.Row.{Row};
 ghost use Rattle.flow_measure.specs.History.{History};
 ghost use Rattle.flow_measure.specs.Query.{flows_in_view, message_in_view, totals_in_view};
 ghost use Rattle.flow_report.specs.ArchiveLines.{flows_text, rows_text};
 ghost use Rattle.flow_shared.specs.Meaning.{HasView};
 ghost use Rattle.flow_shared.specs.Told.{after};
 ghost use Rattle.flow_snapshot.specs.Answered.{octets_in};
-ghost use Rattle.flow_commands.specs.Asking.{AreFlows, AreRows, Writes};
+ghost use Rattle.flow_commands.specs.Asking.{AreFlows, AreReadRows, AreRows, Writes};
 ghost use Rattle.flow_shell.specs.Answers.{checked_line, message_line, standing_in, view_after, AreDigits, IsCheckLine};
 ghost use Rattle.flow_shell.specs.Answers.{IsBeforeWriting, WritesOrRefuses};
 
@@ -36,6 +37,9 @@ fn find_rows<S: SealedFile + Send + Sync, J: Naming, H: Threads + Sync>(
     ensures rows { IsTrue J.honest → (h : History) → HasView J.opening h
         → IfOk result
         (λ rows. rows.items ≡ totals_in_view span.now.from span.now.to (view_after J.opening h reader.new)) }
+    // Also where files are damaged: the totals of files that were each read whole.
+    ensures found { IsTrue J.honest
+        → IfOk result (λ rows. AreReadRows (after J.opening reader.new) span.now rows.items) }
     ensures unwritten { IfErr result (λ e. IsBeforeWriting e) }
 {
     let snapshot = reader.snapshot()?;
@@ -59,6 +63,9 @@ pub fn answer_totals<S: SealedFile + Send + Sync, J: Naming, H: Threads + Sync, 
     ensures lines { IsTrue J.honest → (h : History) → HasView J.opening h
         → OnOk result (Appends (W.contents output.old) (W.contents output.new)
         (rows_text Format.PLAIN width (totals_in_view span.now.from span.now.to (view_after J.opening h reader.new)))) }
+    // Also where files are damaged: the totals of files that were each read whole.
+    ensures found { IsTrue J.honest → OnOk result ((rows : List Row) × AreReadRows (after J.opening reader.new) span.now
+        rows × Appends (W.contents output.old) (W.contents output.new) (rows_text Format.PLAIN width rows)) }
     ensures written { OnOk result (Writes (AreRows Format.PLAIN) (W.contents output.old) (W.contents output.new)) }
     ensures kept { IfErr result
         (λ e. WritesOrRefuses (AreRows Format.PLAIN) e (W.contents output.old) (W.contents output.new)) }

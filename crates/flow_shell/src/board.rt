@@ -270,7 +270,7 @@ impl<B: Ends> Board<B> {
 pub(crate) struct Stoppable<'a, B: Ends, H: Wait, R: Read> {
     pub(crate) rt: &'a H,
     pub(crate) board: &'a Board<B>,
-    pub(crate) bell: &'a Bell,
+    pub(crate) bell: &'a Bell<Brand>,
     pub(crate) span: u32,
     pub(crate) input: &'a mut R,
     /// How many were read.

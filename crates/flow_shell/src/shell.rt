@@ -72,7 +72,7 @@ const NO_PLACE: &str = "refused 8 Files are fed\n";
 fn feed_file<H: AllocGlobal + Wait, D: Disk, J: Naming, B: Ends, R: Read>(
     rt: &H,
     shared: &SharedArchive<D, J, H>,
-    bell: &Bell,
+    bell: &Bell<Brand>,
     board: &Board<B>,
     limit: u32,
     input: &mut R,
@@ -95,7 +95,7 @@ fn feed_file<H: AllocGlobal + Wait, D: Disk, J: Naming, B: Ends, R: Read>(
 fn feed_path<H: Files + AllocGlobal + Clone + Drop + Wait, D: Disk, J: Naming, B: Ends>(
     rt: &H,
     shared: &SharedArchive<D, J, H>,
-    bell: &Bell,
+    bell: &Bell<Brand>,
     board: &Board<B>,
     limit: u32,
     path: &str,
@@ -115,7 +115,7 @@ fn feed_path<H: Files + AllocGlobal + Clone + Drop + Wait, D: Disk, J: Naming, B
 fn feed_one<H: Files + AllocGlobal + Clone + Drop + Wait, D: Disk, J: Naming, B: Ends>(
     rt: &H,
     shared: &SharedArchive<D, J, H>,
-    bell: &Bell,
+    bell: &Bell<Brand>,
     board: &Board<B>,
     limit: u32,
     number: u64,
@@ -134,7 +134,7 @@ fn roll_files<D: Disk, J: Naming, H: Wait>(
     rt: &H,
     alloc: Global,
     shared: &SharedArchive<D, J, H>,
-    bell: &Bell,
+    bell: &Bell<Brand>,
     faults: &mut Faults<D::Sealed>,
 ) -> Option<ArchiveError>
     ensures { HasCause event.SourceFault faults.old faults.new (answer_by result) }
@@ -252,7 +252,7 @@ fn begin_feed<
     rt: &'s H,
     alloc: Global,
     shared: &'s SharedArchive<D, J, H>,
-    bell: &'s Bell,
+    bell: &'s Bell<Brand>,
     board: &'s Board<B>,
     limit: u32,
     path: &str,
@@ -376,7 +376,7 @@ fn serve<
     rt: &'s H,
     alloc: Global,
     shared: &'s SharedArchive<D, J, H>,
-    bell: &'s Bell,
+    bell: &'s Bell<Brand>,
     board: &'s Board<B>,
     limit: u32,
     asking: &mut Asking<D::Sealed, J>,
@@ -478,7 +478,7 @@ where
     D::Sealed: Send + Sync,
     ensures { IfOk result.0 (λ status. (status ≤ 5) × (status ≢ 2)) }
 {
-    let bell = Bell::new(keep);
+    let bell: Bell<Brand> = Bell::new(keep);
     let board: Board<Brand> = Board::new();
     let (rung, places) = (&bell, &board);
     let alloc = rt.alloc();

@@ -22,8 +22,8 @@ returns-clause-kept g c =
     if_refused c.check_files.result c.ended.result (λ e. WritesOrNot AreListings e old new) c.ended.ensures
     c.check_files.ensures.kept
 
-pub returns-in_err-disk-clause-kept : goal.returns-in_err-disk-clause-kept
-returns-in_err-disk-clause-kept g c =
+pub returns-in_err-view-clause-kept : goal.returns-in_err-view-clause-kept
+returns-in_err-view-clause-kept g c =
     let output = g.W.Write.contents c.args.output.now in
     let none : Standing = record { position = 0; cut = 0; rolled = 0; sealed = 0 } in
     let kept : IfErr c.from_residual.result (λ e. WritesOrNot AreListings e output output) =

@@ -4,6 +4,9 @@ use Rattle.flow_commands.specs.declared.archive_refusal.ArchiveRefusal.{ArchiveR
 use Rattle.flow_commands.specs.Asking.{flows_lines, Always, TellsUpTo}
 use Rattle.flow_commands.proofs.HandedOn.{handed_on, keeps}
 use Rattle.flow_commands.proofs.KeptLines.{none_up_to, unopened_up_to}
+use Rattle.std.specs.Prelude.{IsTrue}
+use Rattle.flow_commands.specs.Opened.{KeepsFiles}
+use Rattle.flow_commands.proofs.Unchanged.{asked_keeps, opening_keeps}
 use Rattle.flow_commands.proofs.listing.flows.Goals as goal
 
 pub returns-in-Ok-list-clause-any_moment : goal.returns-in-Ok-list-clause-any_moment
@@ -31,3 +34,21 @@ returns-in-Err-clause-refused g c = λ honest.
 
 pub returns-in-Err-clause-kept : goal.returns-in-Err-clause-kept
 returns-in-Err-clause-kept g c = none_up_to c.args.format c.args.span.now (g.W.Write.contents c.args.output.now) c.from.result
+
+pub returns-in-Err-list-clause-unchanged : goal.returns-in-Err-list-clause-unchanged
+returns-in-Err-list-clause-unchanged g c =
+    let D = g.D.Disk in
+    let reads = reads_of (D.held c.args.disk) in
+    let old = g.W.Write.contents c.args.output.now in
+    let new = g.W.Write.contents c.list.new.output in
+    asked_keeps D c.args.disk c.into_disk.result c.in-Ok.archive.state
+    (TellsUpTo (flows_lines c.args.format c.args.span.now) Always reads old new) (λ e told. told.0)
+    c.in-Ok.ensures.read c.in-Err-list.error
+    (λ honest. c.in-Err-list.ensures.refused (subst IsTrue (sym c.in-Ok.ensures.honest) honest) reads
+    (c.in-Ok.ensures.read honest))
+
+pub returns-in-Err-clause-unchanged : goal.returns-in-Err-clause-unchanged
+returns-in-Err-clause-unchanged g c =
+    let D = g.D.Disk in
+    subst (λ (e : ArchiveRefusal). KeepsFiles D c.args.disk c.in-Err.refused.disk e) (sym c.from.ensures)
+    (opening_keeps D c.args.disk c.in-Err.refused.disk c.in-Err.refused.error c.in-Err.ensures.unchanged)

@@ -38,16 +38,16 @@ returns-clause-kept g c =
     (up_to_weaker within (AreFlows c.args.format) (flows_weaker c.args.format c.args.span.now) old new)
     (if_refused c.flows.result c.ended.result (λ e. WritesUpTo within e old new) c.ended.ensures c.flows.ensures.kept)
 
-pub returns-in_err-disk-clause-kept_within : goal.returns-in_err-disk-clause-kept_within
-returns-in_err-disk-clause-kept_within g c =
+pub returns-in_err-view-clause-kept_within : goal.returns-in_err-view-clause-kept_within
+returns-in_err-view-clause-kept_within g c =
     let output = g.W.Write.contents c.args.output.now in
     let kept : IfErr c.from_residual.result
     (λ e. WritesUpTo (AreFlowsIn c.args.format c.args.span.now) e output output) =
     away_up_to c.args.format c.args.span.now c.from_residual.result output in
     kept
 
-pub returns-in_err-disk-clause-kept : goal.returns-in_err-disk-clause-kept
-returns-in_err-disk-clause-kept g c =
+pub returns-in_err-view-clause-kept : goal.returns-in_err-view-clause-kept
+returns-in_err-view-clause-kept g c =
     let output = g.W.Write.contents c.args.output.now in
     let within = AreFlowsIn c.args.format c.args.span.now in
     if_err_by c.from_residual.result (λ e. WritesUpTo within e output output)

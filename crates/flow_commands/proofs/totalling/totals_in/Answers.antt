@@ -41,8 +41,8 @@ returns-clause-kept g c =
     (if_refused c.totals.result c.ended.result (λ e. WritesOrNot within e old new) c.ended.ensures
     c.totals.ensures.kept)
 
-pub returns-in_err-disk-clause-kept_within : goal.returns-in_err-disk-clause-kept_within
-returns-in_err-disk-clause-kept_within g c =
+pub returns-in_err-view-clause-kept_within : goal.returns-in_err-view-clause-kept_within
+returns-in_err-view-clause-kept_within g c =
     let output = g.W.Write.contents c.args.output.now in
     let within = AreRowsIn c.args.format c.args.span.now in
     let kept : IfErr c.from_residual.result (λ e. WritesOrNot within e output output) =
@@ -50,8 +50,8 @@ returns-in_err-disk-clause-kept_within g c =
     (0, [], no_rows_in c.args.span.now, refl) in
     kept
 
-pub returns-in_err-disk-clause-kept : goal.returns-in_err-disk-clause-kept
-returns-in_err-disk-clause-kept g c =
+pub returns-in_err-view-clause-kept : goal.returns-in_err-view-clause-kept
+returns-in_err-view-clause-kept g c =
     let output = g.W.Write.contents c.args.output.now in
     let kept : IfErr c.from_residual.result (λ e. WritesOrNot (AreRows c.args.format) e output output) =
     away_kept c.from_residual.result (AreRows c.args.format) output (rows_text c.args.format 0 []) (0, [], refl) in
