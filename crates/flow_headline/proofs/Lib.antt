@@ -10,3 +10,4 @@ mod TwoStates
 mod Opened
 mod Living
 mod Listening
+mod IpfixFiles

@@ -23,7 +23,7 @@ mod totals;
 
 pub use error::{NotOpened, TotalsRefusal};
 pub use hearing::{Listener, run_heard};
-pub use laws::{answers_lead_to_one_state, lives_have_histories};
+pub use laws::{answers_lead_to_one_state, files_are_ipfix, lives_have_histories};
 pub use memory::left_in_memory;
 pub use openings::{create_archive, open_what_is_left};
 pub use reopening::{Reopened, run_and_open};
