@@ -1,5 +1,5 @@
 -- What one run of the program answers.
-use Rattle.std.specs.Prelude.{◌≡◌, ◌≢◌, ◌⊎◌, ℕ, ◌++◌, false, List, Option, Some, IfSome, length, ⊤}
+use Rattle.std.specs.Prelude.{◌≡◌, ◌≢◌, ◌⊎◌, ℕ, ◌++◌, false, List, Option, Some, Ok, Err, IfSome, length, ⊤}
 use Rattle.std.specs.Io.KnownBytes.{Appends, Keeps}
 use Rattle.clap.specs.declared.error.kind.ErrorKind.{ErrorKind}
 use Rattle.clap.specs.declared.error.kind.ErrorKind.TheVariants.{DisplayHelp, DisplayVersion}
@@ -19,12 +19,18 @@ use Rattle.flow_program.specs.declared.request.Request.TheVariants.{Explain}
 use Rattle.flow_commands.specs.declared.archive_refusal.ArchiveRefusal.{ArchiveRefusal}
 use Rattle.flow_commands.specs.Archives.{archive_printed, archive_status}
 use Rattle.flow_commands.specs.Check.{IsChecked, KeepsOrChecks}
+use Rattle.flow_disk.specs.declared.disk.Disk.{Ghosts}
+use Rattle.flow_manifest.specs.declared.following.JobKind.{JobKind}
 use Rattle.flow_manifest.specs.declared.following.JobKind.TheVariants.{Roll, Merge}
 use Rattle.flow_commands.specs.Feeding.{FeedsLines, KeepsOrFeeds}
-use Rattle.flow_commands.specs.Rolling.{IsJobLine}
+use Rattle.flow_commands.specs.Made.{CreatesIn}
+use Rattle.flow_commands.specs.Plans.{Plan as NewPlan}
+use Rattle.flow_commands.specs.Rolling.{IsJobLine, RollsIn}
 use Rattle.flow_commands.specs.ArchiveFiles.{AreListings}
-use Rattle.flow_commands.specs.Asking.{AreFlows, AreRows, Writes, WritesOrNot, WritesUpTo}
-use Rattle.flow_program.specs.Arguments.{has_input}
+use Rattle.flow_commands.specs.Asking.{AreFlowsIn, AreRowsIn, Writes, WritesOrNot, WritesUpTo}
+use Rattle.flow_report.specs.declared.format.Format.{Format}
+use Rattle.flow_program.specs.Arguments.{has_input, span_at}
+use Rattle.flow_program.specs.declared.arguments.MomentSpan.{MomentSpan}
 use Rattle.flow_program.specs.CommandLine.{asked}
 use Rattle.flow_program.specs.Inspecting.{InspectEnds}
 use Rattle.flow_program.specs.Requested.{IsLineError}
@@ -50,9 +56,13 @@ IsEndedBy also before after status =
     (e : ArchiveRefusal) × (status ≡ archive_status e) × IsArchiveTold e before after × also e
 
 -- Commands over an archive in a folder. No contract knows what a folder holds: clauses on any disk say what each does,
--- and here how it ends.
-abbrev pub CreateEnds : Option (List ℕ) → Option (List ℕ) → ℕ → Type 0
-CreateEnds before after status = ((status ≡ 0) × Keeps before after) ⊎ IsEndedBy (λ e. ⊤) before after status
+-- and here that it did what was asked for on some disk, `g` of its kind, and how it ends.
+
+-- The archive that was asked for was made, or none was.
+abbrev pub CreateEnds : {D S X : Type 0} → Ghosts D S X → NewPlan → Option (List ℕ) → Option (List ℕ) → ℕ → Type 0
+CreateEnds g plan before after status =
+    ((status ≡ 0) × Keeps before after × CreatesIn g plan (Ok tt))
+    ⊎ IsEndedBy (λ e. CreatesIn g plan (Err e)) before after status
 
 abbrev pub CheckEnds : Option (List ℕ) → Option (List ℕ) → Option (List ℕ) → Option (List ℕ) → ℕ → Type 0
 CheckEnds old new before after status =
@@ -73,6 +83,21 @@ ListEnds are old new before after status =
     ((status ≡ 0) × Keeps before after × Writes are old new)
     ⊎ IsEndedBy (λ e. WritesUpTo are e old new) before after status
 
+-- `roll` or `merge`, of all files but so many
+abbrev pub JobEnds : {D S X : Type 0} → Ghosts D S X → JobKind → ℕ → Option (List ℕ) → Option (List ℕ)
+    → Option (List ℕ) → Option (List ℕ) → ℕ → Type 0
+JobEnds g kind keep old new before after status =
+    ((status ≡ 0) × Keeps before after × Writes (IsJobLine kind) old new × RollsIn g kind keep old new (Ok tt))
+    ⊎ IsEndedBy (λ e. WritesOrNot (IsJobLine kind) e old new × RollsIn g kind keep old new (Err e)) before after status
+
+-- Lines of rows, and of flows, that start in a span. Its seconds are those of some second that it is now, of which no
+-- contract knows more; of a span that doesn't depend on it they are its own.
+abbrev pub AreRowsAsked : Format → MomentSpan → List ℕ → Type 0
+AreRowsAsked format span text = (now : ℕ) × AreRowsIn format (span_at now span) text
+
+abbrev pub AreFlowsAsked : Format → MomentSpan → List ℕ → Type 0
+AreFlowsAsked format span text = (now : ℕ) × AreFlowsIn format (span_at now span) text
+
 -- `feed` of so many Files: a line for each, with the status of the first that stopped, and nothing on standard error
 abbrev pub FeedEnds : ℕ → Option (List ℕ) → Option (List ℕ) → Option (List ℕ) → Option (List ℕ) → ℕ → Type 0
 FeedEnds count old new before after status =
@@ -89,49 +114,64 @@ abbrev pub IsShown : Option (List ℕ) → Option (List ℕ) → ℕ → Type 0
 IsShown before after status =
     ((status ≡ 0) × Keeps before after) ⊎ ((e : Refusal) × (status ≡ status_of e) × IsRefusalTold e before after)
 
--- A run of a command, by what standard input had and has left, and by what standard output (old, new) and standard
--- error (before, after) hold: status 0 where the
--- lines of the whole File were written, and nothing on standard error; else that of the refusal, which is reported.
-abbrev pub Runs : Request → Option (List ℕ) → Option (List ℕ) → Option (List ℕ) → Option (List ℕ) → Option (List ℕ)
-    → Option (List ℕ) → ℕ → Type 0
-Runs (Measure width format warn) input left old new before after status =
+-- Of the File on standard input (what it had, and has left), by what standard output (old, new) and standard error
+-- (before, after) hold: status 0 where the lines of the whole File were written, and nothing on standard error; else
+-- that of the refusal, which is reported.
+abbrev pub MeasureEnds : Format → ℕ → Option (List ℕ) → Option (List ℕ) → Option (List ℕ) → Option (List ℕ)
+    → Option (List ℕ) → Option (List ℕ) → ℕ → Type 0
+MeasureEnds format width input left old new before after status =
     ((status ≡ 0) × Keeps before after
     × IfSome input (λ octets. (lines : List ℕ) × HasTotals format width octets lines × Appends old new lines))
     ⊎ ((e : Refusal) × (status ≡ status_of e) × IsRefusalTold e before after
     × IfSome input (λ octets. IsRefusedBy octets left e)
     × KeepsOrFront format width input old new e)
-Runs Dump input left old new before after status =
+
+abbrev pub DumpEnds : Option (List ℕ) → Option (List ℕ) → Option (List ℕ) → Option (List ℕ) → Option (List ℕ)
+    → Option (List ℕ) → ℕ → Type 0
+DumpEnds input left old new before after status =
     ((status ≡ 0) × Keeps before after × IfSome input (λ octets. IsDumped octets old new))
     ⊎ ((e : Refusal) × (status ≡ status_of e) × IsRefusalTold e before after
     × IfSome input (λ octets. IsDumpedUntil octets left old new e))
-Runs (Inspect format) input left old new before after status =
+
+abbrev pub InspectInputEnds : Format → Option (List ℕ) → Option (List ℕ) → Option (List ℕ) → Option (List ℕ)
+    → Option (List ℕ) → Option (List ℕ) → ℕ → Type 0
+InspectInputEnds format input left old new before after status =
     ((status ≡ 0) × Keeps before after
     × IfSome input (λ octets. (lines : List ℕ) × HasLines format octets lines × Appends old new lines))
     ⊎ ((e : Refusal) × (status ≡ status_of e) × IsRefusalTold e before after
     × IfSome input (λ octets. IsRefusedBy octets left e)
     × InspectKeepsOrFront format input old new e)
+
+-- A run of a command; the disks of its folders are of the kind `g`.
+abbrev pub Runs : {D S X : Type 0} → Ghosts D S X → Request → Option (List ℕ) → Option (List ℕ) → Option (List ℕ)
+    → Option (List ℕ) → Option (List ℕ) → Option (List ℕ) → ℕ → Type 0
+Runs g (Measure width format warn) input left old new before after status =
+    MeasureEnds format width input left old new before after status
+Runs g Dump input left old new before after status = DumpEnds input left old new before after status
+Runs g (Inspect format) input left old new before after status =
+    InspectInputEnds format input left old new before after status
 -- None of these reads standard input, but `inspect` and `feed` where it is one of the Files, and `shell`; and `create`
 -- writes nothing.
-Runs (InspectFiles format files) input left old new before after status =
+Runs g (InspectFiles format files) input left old new before after status =
     (has_input files ≡ false → Keeps input left) × InspectEnds format files input left old new before after status
-Runs (Create folder plan) input left old new before after status =
-    Keeps input left × Keeps old new × CreateEnds before after status
-Runs (Check folder) input left old new before after status =
+Runs g (Create folder plan) input left old new before after status =
+    Keeps input left × Keeps old new × CreateEnds g plan before after status
+Runs g (Check folder) input left old new before after status =
     Keeps input left × CheckEnds old new before after status
-Runs (CheckFiles folder) input left old new before after status =
+Runs g (CheckFiles folder) input left old new before after status =
     Keeps input left × AskEnds AreListings old new before after status
-Runs (Totals folder span workers format) input left old new before after status =
-    Keeps input left × AskEnds (AreRows format) old new before after status
-Runs (Flows folder span format) input left old new before after status =
-    Keeps input left × ListEnds (AreFlows format) old new before after status
-Runs (Feed folder plan files) input left old new before after status =
+Runs g (Totals folder span workers format) input left old new before after status =
+    Keeps input left × AskEnds (AreRowsAsked format span) old new before after status
+Runs g (Flows folder span format) input left old new before after status =
+    Keeps input left × ListEnds (AreFlowsAsked format span) old new before after status
+Runs g (Feed folder plan files) input left old new before after status =
     (has_input files ≡ false → Keeps input left) × FeedEnds (length files) old new before after status
-Runs (Shell folder keep) input left old new before after status = ShellEnds before after status
-Runs (RollAsked folder keep) input left old new before after status =
-    Keeps input left × AskEnds (IsJobLine Roll) old new before after status
-Runs (MergeAsked folder keep) input left old new before after status =
-    Keeps input left × AskEnds (IsJobLine Merge) old new before after status
-Runs (Explain number) input left old new before after status = Keeps input left × IsShown before after status
+Runs g (Shell folder keep) input left old new before after status = ShellEnds before after status
+Runs g (RollAsked folder keep) input left old new before after status =
+    Keeps input left × JobEnds g Roll keep old new before after status
+Runs g (MergeAsked folder keep) input left old new before after status =
+    Keeps input left × JobEnds g Merge keep old new before after status
+Runs g (Explain number) input left old new before after status = Keeps input left × IsShown before after status
 
 -- what was asked for is help, or the version
 abbrev pub IsHelp : ErrorKind → Type 0
@@ -177,8 +217,8 @@ IsTold OutOfMemory old new before after status =
     (status ≡ 4) × Keeps old new × IsRefusalTold refusal.OutOfMemory before after
 
 -- What is answered of any words: the run of the request that they ask for, or why there is none.
-abbrev pub IsAnswered : List (List ℕ) → Option (List ℕ) → Option (List ℕ) → Option (List ℕ) → Option (List ℕ)
-    → Option (List ℕ) → Option (List ℕ) → ℕ → Type 0
-IsAnswered words input left old new before after status =
-    ((request : Request) × (asked words ≡ Some request) × Runs request input left old new before after status)
+abbrev pub IsAnswered : {D S X : Type 0} → Ghosts D S X → List (List ℕ) → Option (List ℕ) → Option (List ℕ)
+    → Option (List ℕ) → Option (List ℕ) → Option (List ℕ) → Option (List ℕ) → ℕ → Type 0
+IsAnswered g words input left old new before after status =
+    ((request : Request) × (asked words ≡ Some request) × Runs g request input left old new before after status)
     ⊎ ((e : LineError) × IsLineError words e × IsTold e old new before after status)

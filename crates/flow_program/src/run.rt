@@ -10,15 +10,15 @@ ghost use Rattle.flow_program.specs.Printed.{first_word, told_lines};
 ghost use Rattle.flow_report.specs.Writing.{AppendsFront};
 ghost use Rattle.flow_commands.specs.Archives.{archive_printed, archive_status};
 ghost use Rattle.flow_commands.specs.ArchiveFiles.{AreListings};
-ghost use Rattle.flow_commands.specs.Asking.{AreFlows, AreRows, Writes, WritesOrNot, WritesUpTo};
+ghost use Rattle.flow_commands.specs.Asking.{Writes, WritesOrNot, WritesUpTo};
 ghost use Rattle.flow_commands.specs.declared.archive_refusal.ArchiveRefusal.TheVariants as refusal;
 ghost use Rattle.flow_commands.specs.declared.folder_fault.FolderFault.TheVariants as fault;
 ghost use Rattle.flow_commands.specs.Feeding.{FeedsLines, KeepsOrFeeds};
-ghost use Rattle.flow_commands.specs.Rolling.{IsJobLine};
 ghost use Rattle.flow_program.specs.Arguments.{has_input, span_at};
-ghost use Rattle.flow_program.specs.Run.{AskEnds, CheckEnds, CreateEnds, FeedEnds, ListEnds, Runs, ShellEnds};
+ghost use Rattle.flow_program.specs.Run.{AreFlowsAsked, AreRowsAsked};
+ghost use Rattle.flow_program.specs.Run.{AskEnds, CheckEnds, CreateEnds, DumpEnds, FeedEnds, InspectInputEnds, JobEnds};
+ghost use Rattle.flow_program.specs.Run.{ListEnds, MeasureEnds, Runs, ShellEnds};
 ghost use Rattle.flow_program.specs.Run.{IsArchiveTold, IsRefusalTold, IsAnswered, IsShown};
-ghost use Rattle.flow_program.specs.declared.request.Request.TheVariants as asked;
 
 use crate::arguments::{FileNames, FolderName, MomentSpan};
 use crate::explaining::Explanation;
@@ -30,7 +30,8 @@ use flow_commands::{
     check_files_in, check_in, create_in, feed_in, flows_in, roll_in, tell_fault, totals_in,
     warn_of_input, warn_of_wide,
 };
-use flow_folder::{FirstFault, Lockable};
+use flow_disk::Disk;
+use flow_folder::{FirstFault, FolderDisk, Lockable};
 use flow_inspect::inspect;
 use flow_manifest::JobKind;
 use flow_report::{Format, Patience, Refusal, Width, dump, measure, write_patiently};
@@ -166,8 +167,8 @@ fn run_measure<H: AllocGlobal + Wait, R: Read, W: Write, E: Write, P: Write + Dr
     errors: &mut E,
     progress: &Progress<P>,
 ) -> u8
-    ensures runs { Runs (asked.Measure width format warn) (R.remaining input.old) (R.remaining input.new)
-        (W.contents output.old) (W.contents output.new) (E.contents errors.old) (E.contents errors.new) result }
+    ensures runs { MeasureEnds format width (R.remaining input.old) (R.remaining input.new) (W.contents output.old)
+        (W.contents output.new) (E.contents errors.old) (E.contents errors.new) result }
     ensures quiet { result ≡ 0 → Keeps (E.contents errors.old) (E.contents errors.new) }
     ensures status { result ≤ 5 }
     ensures other { result ≢ 2 }
@@ -188,7 +189,7 @@ fn run_dump<R: Read, W: Write, E: Write>(
     output: &mut W,
     errors: &mut E,
 ) -> u8
-    ensures runs { Runs asked.Dump (R.remaining input.old) (R.remaining input.new) (W.contents output.old)
+    ensures runs { DumpEnds (R.remaining input.old) (R.remaining input.new) (W.contents output.old)
         (W.contents output.new) (E.contents errors.old) (E.contents errors.new) result }
     ensures quiet { result ≡ 0 → Keeps (E.contents errors.old) (E.contents errors.new) }
     ensures status { result ≤ 5 }
@@ -208,7 +209,7 @@ fn run_inspect<R: Read, W: Write, E: Write>(
     output: &mut W,
     errors: &mut E,
 ) -> u8
-    ensures runs { Runs (asked.Inspect format) (R.remaining input.old) (R.remaining input.new) (W.contents output.old)
+    ensures runs { InspectInputEnds format (R.remaining input.old) (R.remaining input.new) (W.contents output.old)
         (W.contents output.new) (E.contents errors.old) (E.contents errors.new) result }
     ensures quiet { result ≡ 0 → Keeps (E.contents errors.old) (E.contents errors.new) }
     ensures status { result ≤ 5 }
@@ -221,16 +222,17 @@ fn run_inspect<R: Read, W: Write, E: Write>(
 }
 
 /// Runs `create`.
-fn run_create<H: Files + AllocGlobal + Clone + Drop + Wait, E: Write, P: Write + Drop>(
-    rt: &H,
-    folder: &FolderName<'_>,
+fn run_create<'a, H: Files + AllocGlobal + Clone + Drop + Wait, E: Write, P: Write + Drop>(
+    rt: &'a H,
+    folder: &FolderName<'a>,
     plan: &NewArchive,
     errors: &mut E,
-    progress: &Progress<P>,
+    progress: &'a Progress<P>,
 ) -> u8
 where
     H::File: FileExt + Lockable,
-    ensures runs { CreateEnds (E.contents errors.old) (E.contents errors.new) result }
+    ensures runs { CreateEnds ⟦<FolderDisk<'a, H> as Disk>⟧ plan.now (E.contents errors.old) (E.contents errors.new)
+        result }
     ensures quiet { result ≡ 0 → Keeps (E.contents errors.old) (E.contents errors.new) }
     ensures status { result ≤ 5 }
     ensures other { result ≢ 2 }
@@ -328,8 +330,10 @@ fn write_totals<H: Files + AllocGlobal + Clock + Clone + Drop + Threads + Send +
 where
     H::File: FileExt + Lockable + Send + Sync,
     H::Dir: Send + Sync,
-    ensures written { OnOk result (Writes (AreRows format) (W.contents output.old) (W.contents output.new)) }
-    ensures kept { IfErr result (λ e. WritesOrNot (AreRows format) e (W.contents output.old) (W.contents output.new)) }
+    ensures written { OnOk result (Writes (AreRowsAsked format span) (W.contents output.old)
+        (W.contents output.new)) }
+    ensures kept { IfErr result
+        (λ e. WritesOrNot (AreRowsAsked format span) e (W.contents output.old) (W.contents output.new)) }
 {
     let span = seconds_of(rt, span)?;
     totals_in(rt, folder.path, first_fault, &span, workers, format, output)
@@ -353,8 +357,8 @@ fn run_totals<
 where
     H::File: FileExt + Lockable + Send + Sync,
     H::Dir: Send + Sync,
-    ensures runs { AskEnds (AreRows format) (W.contents output.old) (W.contents output.new) (E.contents errors.old)
-        (E.contents errors.new) result }
+    ensures runs { AskEnds (AreRowsAsked format span) (W.contents output.old) (W.contents output.new)
+        (E.contents errors.old) (E.contents errors.new) result }
     ensures quiet { result ≡ 0 → Keeps (E.contents errors.old) (E.contents errors.new) }
     ensures status { result ≤ 5 }
     ensures other { result ≢ 2 }
@@ -376,8 +380,10 @@ fn write_flows<H: Files + AllocGlobal + Clock + Clone + Drop, W: Write>(
 ) -> Result<(), ArchiveRefusal>
 where
     H::File: FileExt + Lockable,
-    ensures written { OnOk result (Writes (AreFlows format) (W.contents output.old) (W.contents output.new)) }
-    ensures kept { IfErr result (λ e. WritesUpTo (AreFlows format) e (W.contents output.old) (W.contents output.new)) }
+    ensures written { OnOk result (Writes (AreFlowsAsked format span) (W.contents output.old)
+        (W.contents output.new)) }
+    ensures kept { IfErr result
+        (λ e. WritesUpTo (AreFlowsAsked format span) e (W.contents output.old) (W.contents output.new)) }
 {
     let span = seconds_of(rt, span)?;
     flows_in(rt, folder.path, first_fault, &span, format, output)
@@ -395,8 +401,8 @@ fn run_flows<H: Files + AllocGlobal + Clock + Clone + Drop, W: Write, E: Write>(
 ) -> u8
 where
     H::File: FileExt + Lockable,
-    ensures runs { ListEnds (AreFlows format) (W.contents output.old) (W.contents output.new) (E.contents errors.old)
-        (E.contents errors.new) result }
+    ensures runs { ListEnds (AreFlowsAsked format span) (W.contents output.old) (W.contents output.new)
+        (E.contents errors.old) (E.contents errors.new) result }
     ensures quiet { result ≡ 0 → Keeps (E.contents errors.old) (E.contents errors.new) }
     ensures status { result ≤ 5 }
     ensures other { result ≢ 2 }
@@ -504,19 +510,19 @@ where
 }
 
 /// Runs `roll` or `merge`.
-fn run_job<H: Files + AllocGlobal + Clone + Drop + Wait, W: Write, E: Write, P: Write + Drop>(
-    rt: &H,
-    folder: &FolderName<'_>,
+fn run_job<'a, H: Files + AllocGlobal + Clone + Drop + Wait, W: Write, E: Write, P: Write + Drop>(
+    rt: &'a H,
+    folder: &FolderName<'a>,
     kind: JobKind,
     keep: u32,
     output: &mut W,
     errors: &mut E,
-    progress: &Progress<P>,
+    progress: &'a Progress<P>,
 ) -> u8
 where
     H::File: FileExt + Lockable,
-    ensures runs { AskEnds (IsJobLine kind) (W.contents output.old) (W.contents output.new) (E.contents errors.old)
-        (E.contents errors.new) result }
+    ensures runs { JobEnds ⟦<FolderDisk<'a, H> as Disk>⟧ kind keep (W.contents output.old) (W.contents output.new)
+        (E.contents errors.old) (E.contents errors.new) result }
     ensures quiet { result ≡ 0 → Keeps (E.contents errors.old) (E.contents errors.new) }
     ensures status { result ≤ 5 }
     ensures other { result ≢ 2 }
@@ -552,24 +558,25 @@ fn run_explain<W: Write, E: Write>(
 
 /// Runs a command, and reports a refusal on `errors` as `flowvault: NUMBER NAME ..`. It answers the exit status.
 fn run<
+    'a,
     H: Files + AllocGlobal + Clock + Clone + Drop + Threads + Wait + Send + Sync,
     R: Read,
     W: Write,
     E: Write,
     P: Write + Drop + Send,
 >(
-    rt: &H,
-    request: Request<'_>,
+    rt: &'a H,
+    request: Request<'a>,
     input: &mut R,
     output: &mut W,
     errors: &mut E,
-    progress: &Progress<P>,
+    progress: &'a Progress<P>,
 ) -> u8
 where
     H::File: FileExt + Lockable + Send + Sync,
     H::Dir: Send + Sync,
-    ensures runs { Runs request.entry (R.remaining input.old) (R.remaining input.new) (W.contents output.old)
-        (W.contents output.new) (E.contents errors.old) (E.contents errors.new) result }
+    ensures runs { Runs ⟦<FolderDisk<'a, H> as Disk>⟧ request.entry (R.remaining input.old) (R.remaining input.new)
+        (W.contents output.old) (W.contents output.new) (E.contents errors.old) (E.contents errors.new) result }
     ensures quiet { result ≡ 0 → Keeps (E.contents errors.old) (E.contents errors.new) }
     ensures status { result ≤ 5 }
     ensures other { result ≢ 2 }
@@ -634,9 +641,10 @@ where
 }
 
 /// Runs one command line, whose first word is the program's name, and answers the exit status; `version` is what
-/// `--version` shows. Feeding shows its `progress`, and what the system said of a call on a folder that failed is written
-/// there, of which no clause speaks.
+/// `--version` shows. Feeding shows its `progress`, and what the system said of a call on a folder that failed is
+/// written there, of which no clause speaks.
 pub fn run_line<
+    'a,
     H: Files + AllocGlobal + Clock + Clone + Drop + Threads + Wait + Send + Sync,
     S: AsStr,
     R: Read,
@@ -644,20 +652,21 @@ pub fn run_line<
     E: Write,
     P: Write + Drop + Send,
 >(
-    rt: &H,
+    rt: &'a H,
     version: &str,
-    words: &[S],
+    words: &'a [S],
     input: &mut R,
     output: &mut W,
     errors: &mut E,
-    progress: &Progress<P>,
+    progress: &'a Progress<P>,
 ) -> u8
 where
     H::File: FileExt + Lockable + Send + Sync,
     H::Dir: Send + Sync,
     // The words decide which command runs, on what width, or why none does.
-    ensures answered { IsAnswered (map S.text words.now) (R.remaining input.old) (R.remaining input.new)
-        (W.contents output.old) (W.contents output.new) (E.contents errors.old) (E.contents errors.new) result }
+    ensures answered { IsAnswered ⟦<FolderDisk<'a, H> as Disk>⟧ (map S.text words.now) (R.remaining input.old)
+        (R.remaining input.new) (W.contents output.old) (W.contents output.new) (E.contents errors.old)
+        (E.contents errors.new) result }
     ensures quiet { result ≡ 0 → Keeps (E.contents errors.old) (E.contents errors.new) }
     ensures status { result ≤ 5 }
     // Of words that ask for nothing nothing is written but why.
