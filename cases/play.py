@@ -212,11 +212,15 @@ def cut(held, name):
     return make_file(held, name, octets[:-1])
 
 
-def hold(held, name):
+def hold(held, name, how=fcntl.LOCK_EX):
     handle = os.open(name, os.O_RDONLY)
-    fcntl.flock(handle, fcntl.LOCK_EX | fcntl.LOCK_NB)
+    fcntl.flock(handle, how | fcntl.LOCK_NB)
     held.append(handle)
     return []
+
+
+def share(held, name):
+    return hold(held, name, fcntl.LOCK_SH)
 
 
 def let_go(held):
@@ -334,6 +338,7 @@ STEPS = {
     "remove": remove,
     "cut": cut,
     "hold": hold,
+    "share": share,
     "deny": deny,
     "names": remember_names,
     "kept": look_at_kept_names,

@@ -18,18 +18,21 @@ restart shows. In the model
   content that it had since the last sync, of each length likewise, of the names that wait the first ones.
 
 What is run: `create`, `feed`, `feed` with rolling, `roll` and `merge` are process 1, in which one sync fails, once or
-from there on for good; each of its syncs in turn, those of the folder among them. Process 2 is a new one: it checks the
-archive, goes on with the same (the job again, a new `create` where none was made), and feeds five messages more, which
-it acknowledges. In the runs with two faults a sync of process 2 fails too, those of its opening first, once or for
-good, and process 3 goes on and acknowledges. The machine stops at the end of each process, after changes of the
-folder of process 1 from the fault on, and after those of process 2 while it opens, writes anew and goes on: after each
-Nth change, from another one on in each run, where N is FULL_EVERY, or SHORT_EVERY.
+from there on for good; each of its syncs in turn, those of the folder among them. Process 2 is a new one: it opens the
+archive by a roll that rolls nothing, which settles it, checks it, goes on with the same (the job again, a new `create`
+where none was made), and feeds five messages more, which it acknowledges. (Each of these is a process of its own.) In
+the runs with two faults a sync of process 2 fails too, those of its opening first, once or for good, and process 3 goes
+on and acknowledges. The machine stops at the end of each process, after changes of the folder of process 1 from the
+fault on, and after those of process 2 while it opens, writes anew and goes on: after each Nth change, from another one
+on in each run, where N is FULL_EVERY, or SHORT_EVERY.
 
-At each stop a folder is made of what is left, and the archive in it must open; hold all messages that were
-acknowledged, each once, none changed; besides them at most the first of those that were handed in; and take five more.
-Acknowledged are those of `fed N MESSAGES` and `stopped N MESSAGES ..`, and all that `check` told. An archive needs to
-be there from the time on when `create` ended well or `check` told of it. Each message has one flow, with a protocol,
-a start time and a count of octets of its own, so that the lines of totals and flows tell which of them are there.
+At each stop a folder is made of what is left, and the archive in it must open; answer the same totals before and after
+it was opened to be changed; hold all messages that were acknowledged, each once, none changed; besides them at most the
+first of those that were handed in; and take five more. Acknowledged are those of `fed N MESSAGES` and `stopped N
+MESSAGES ..`, and all that a `check` after an opening told; by itself `check` only reads, and may make no change and no
+sync. An archive needs to be there from the time on when `create` ended well or such a `check` told of it. Each message
+has one flow, with a protocol, a start time and a count of octets of its own, so that the lines of totals and flows tell
+which of them are there.
 
 The File of `feed` and its rolling are two threads. A fault is one of the Nth sync of each thread, of which the first
 closes the archive to the other; so the syncs of both are failed in turn, and no run is exactly another.
@@ -63,6 +66,9 @@ NAMES = ("openat open creat close dup dup2 dup3 fcntl write writev pwrite64 pwri
          "fallocate fsync fdatasync sync_file_range syncfs sync unlink unlinkat rename renameat renameat2 link linkat "
          "symlink symlinkat mkdir mkdirat fchmod chmod fchmodat copy_file_range sendfile")
 MORE = range(200, 205)
+
+# What a roll keeps that rolls nothing: it opens the archive, and settles it.
+NOTHING = ("4294967295",)
 
 
 class Seen(Exception):
@@ -403,6 +409,11 @@ class Judge:
         histories = expected.of(position)
         if cut < expected.cut:
             return "wrong: %d messages are in sums alone; acknowledged were %d" % (cut, expected.cut)
+        read = self.ask("totals", folder, "0", "4294967296")
+        if self.ask("roll", folder, *NOTHING)[:2] != (0, "rolled 0\n"):
+            return "refused: a roll of nothing"
+        if read[0] or read != self.ask("totals", folder, "0", "4294967296"):
+            return "wrong: other totals than before the archive was opened to be changed"
         status, printed, told = self.ask("feed", folder, self.more)
         if printed != "fed 1 %d\n" % len(MORE):
             return "refused: five messages more: %s" % (told or printed.strip())
@@ -521,6 +532,8 @@ class Run:
                 changed = True
             else:
                 changed = state.model.play(name, words, answer)
+                if asked[0] == "check" and (changed or "sync" in name):
+                    raise Seen("wrong: check makes a change or a sync (%s)" % name)
             if name in ("fsync", "fdatasync"):
                 syncs, failed = syncs + 1, failed or answer < 0
             if changed and (watch == "all" or watch == "fault" and failed):
@@ -532,12 +545,14 @@ class Run:
         return syncs
 
     def go_on(self, state, watch="all"):
-        """A new process: check, what the case goes on with, and five messages more."""
-        status, told, _ = self.process(state, "check", watch=watch)
+        """A new process: an opening, check, what the case goes on with, and five messages more."""
+        status, told, _ = self.process(state, "roll", NOTHING, watch=watch)
         if status == 5 and not state.expected.made:
             self.create_anew(state, watch)
         elif status:
-            raise Seen("refused: process %d, check: %s" % (self.number, told))
+            raise Seen("refused: process %d, a roll of nothing: %s" % (self.number, told))
+        else:
+            self.check(state, watch)
         if self.case.kind in ("roll", "merge"):
             status, told, _ = self.process(state, self.case.kind, self.case.options, watch=watch)
             if status:
@@ -546,6 +561,12 @@ class Run:
         if status:
             raise Seen("refused: process %d, five messages more: %s" % (self.number, told))
         self.stop(state, "at the end")
+
+    def check(self, state, watch="none"):
+        """What a check tells of an archive that was just opened."""
+        status, told, _ = self.process(state, "check", watch=watch)
+        if status:
+            raise Seen("refused: process %d, check: %s" % (self.number, told))
 
     def create_anew(self, state, watch="none", fault=None):
         """What a user does after a create that failed: the files are removed, and it is run again."""
@@ -634,7 +655,7 @@ def with_two_faults(judge, case, base, number, of, each):
             case.first(Run(judge, case, label), after, fault_words(number, way))
         except Seen:
             continue  # the run with one fault tells it
-        for kind in ["check", "feed"] + [case.kind] * (case.kind != "feed"):
+        for kind in ["opening", "feed"] + [case.kind] * (case.kind != "feed"):
             runs.append(Run(judge, case, "%s, then %s" % (label, kind)))
             syncs = second(runs[-1], after, kind, None)
             for fault in range(1 + number % each, syncs + 1, each):
@@ -654,8 +675,12 @@ def second(run, after, kind, fault):
             syncs = run.create_anew(state, fault=fault)[2]
         elif kind == "feed":
             syncs = run.process(state, **run.case.more(run), fault=fault)[2]
+        elif kind == "opening":
+            status, _, syncs = run.process(state, "roll", NOTHING, fault=fault)
+            if not status:
+                run.check(state)
         else:
-            syncs = run.process(state, kind, () if kind == "check" else run.case.options, fault=fault)[2]
+            syncs = run.process(state, kind, run.case.options, fault=fault)[2]
         run.stop(state, "at the end of process 2")
         if fault:
             run.go_on(state, "none")

@@ -19,7 +19,7 @@ import tempfile
 import threading
 import time
 
-from sizes import ALL, DOMAINS, LONGEST, TIME, WITH, Given, a_message, a_set, in_memory
+from trials import ALL, DOMAINS, LONGEST, TIME, WITH, Given, a_message, a_set, in_memory
 
 SECONDS = 60
 

@@ -5,230 +5,24 @@ docs/FORMATS.md has, and where few runs do, each number. What it must answer is 
 are made here and by that page: counts, sums, flows, how many octets a file has, and which size is refused by what. So
 an answer that is wrong for some size differs, and a refusal for want of memory does.
 
-The sweeps are those of SWEEPS. --long plays more sizes of each, up to the 4,096 files of a manifest; --only plays one
-sweep. After a run that doesn't end in SECONDS nothing more is played. It prints each difference, and ends with 'N cases
-of sizes: M differ', where a case is a size of a sweep; its status is 0 where M is 0, else 1."""
+The sweeps are those of SWEEPS. --long plays more sizes of each, up to files of sums of 100 MB and Files of more than
+4 GiB; --only plays one sweep. After a run that doesn't end in SECONDS nothing more is played. It prints each
+difference, and ends with 'N cases of sizes: M differ', where a case is a size of a sweep; its status is 0 where M is 0,
+else 1."""
 import argparse
 import contextlib
 import os
 import shutil
 import struct
-import subprocess
 import sys
 import tempfile
+import threading
 
-SECONDS = 120
-
-MEMORY = "/dev/shm"
-
-# A time, and all of time.
-TIME = 1_700_000_000
-END = 1 << 32
-ALL = ("0", str(END))
-KEEP_ALL = ("--keep", "4294967295")
-
-# The limits: of a segment's messages in octets, of a wide interval in seconds, of domains with templates, of octets of
-# template records in a domain, of files that a manifest names, and how many rows a message of a file of sums has.
-LEAST, GREATEST = 65_535, 16_777_216
-DAY = 86_400
-DOMAINS, TEMPLATES, ENTRIES, ROWS = 64, 60_000, 4_096, 1_000
-
-# A Template of elements 150, 4, 1 and 2, with counters of 8 octets, and one without a protocol; how many octets the
-# message has that restates them both, or the first alone.
-WITH = struct.pack(">10H", 256, 4, 150, 4, 4, 1, 1, 8, 2, 8)
-WITHOUT = struct.pack(">8H", 257, 3, 150, 4, 1, 8, 2, 8)
-PREFIX = 16 + 4 + len(WITH)
-
-
-def around(most, *others):
-    """One less, as many and one more than each power of two up to a number, and others."""
-    powers = [1 << k for k in range(most.bit_length() + 1)]
-    return sorted({n for power in powers for n in (power - 1, power, power + 1) if 1 <= n <= most} | set(others))
-
-
-# ---- Messages ----
-
-def a_set(number, octets):
-    return struct.pack(">HH", number, 4 + len(octets)) + octets
-
-
-def a_message(domain, sets, sequence=0):
-    return struct.pack(">HHIII", 10, 16 + len(sets), TIME, sequence, domain) + sets
-
-
-def padded(octets, domain=7):
-    """A message of so many octets, of one Set of ID 4, which is passed over; of 16 octets there is none."""
-    return a_message(domain, a_set(4, bytes(octets - 20)) if octets > 16 else b"")
-
-
-LONGEST = padded(65_535)
-
-
-class Given:
-    """Messages, and the flows in them: each a start, a domain, a protocol or none, octets and packets."""
-
-    def __init__(self):
-        self.messages, self.flows, self.known, self.due, self.summed = [], [], set(), {}, {}
-
-    def add(self, domain, flows, before=b"", after=b""):
-        """Adds a message of a domain with these flows, each a start and a protocol, and other Sets beside them; the
-        templates that they need are in it, where none of the domain had them."""
-        octets = {256: b"", 257: b""}
-        for start, protocol in flows:
-            number = len(self.flows)
-            flow = (start, domain, protocol, 1000 + number % 997, 1 + number % 7)
-            self.flows.append(flow)
-            if protocol is None:
-                octets[257] += struct.pack(">IQQ", start, *flow[3:])
-            else:
-                octets[256] += struct.pack(">IBQQ", start, protocol, *flow[3:])
-        wanted = [(number, record) for number, record in ((256, WITH), (257, WITHOUT))
-                  if octets[number] and (domain, number) not in self.known]
-        self.known.update((domain, number) for number, _ in wanted)
-        templates = a_set(2, b"".join(record for _, record in wanted)) if wanted else b""
-        data = b"".join(a_set(number, octets[number]) for number in octets if octets[number])
-        due = self.due.get(domain, 0)
-        self.messages.append(a_message(domain, before + templates + data + after, due))
-        self.due[domain] = (due + len(flows)) % END
-
-    def file(self):
-        return b"".join(self.messages)
-
-    def octets(self):
-        return sum(map(len, self.messages))
-
-    def rows(self, width):
-        """The sums by intervals of this width, by start, domain and protocol; -1 is none."""
-        count, rows = self.summed.get(width, (-1, {}))
-        if count == len(self.flows):
-            return rows
-        rows = {}
-        for start, domain, protocol, octets, packets in self.flows:
-            row = rows.setdefault((start - start % width, domain, -1 if protocol is None else protocol), [0, 0, 0])
-            row[0], row[1], row[2] = row[0] + 1, row[1] + octets, row[2] + packets
-        self.summed[width] = len(self.flows), rows
-        return rows
-
-    def sums(self, width, wide="", span=(0, END)):
-        """The lines of these sums, each with another word at its end."""
-        rows = sorted(row for row in self.rows(width).items() if span[0] <= row[0][0] < span[1])
-        return "".join("%d %d %s %d %d %d%s\n" % (start, domain, "-" if protocol < 0 else protocol, *row, wide)
-                       for (start, domain, protocol), row in rows)
-
-    def lines(self, span=(0, END)):
-        """The lines of the flows."""
-        return "".join("%d %d %s %d %d\n" % (flow[0], flow[1], "-" if flow[2] is None else flow[2], *flow[3:])
-                       for flow in self.flows if span[0] <= flow[0] < span[1])
-
-
-def times_of(rows):
-    """The first and the last start of rows, as `check --files` has them."""
-    return "%d %d" % (min(rows)[0], max(rows)[0]) if rows else "- -"
-
-
-def octets_of(rows):
-    """How many octets the file of these rows has."""
-    domains = {}
-    for _, domain, protocol in rows:
-        domains.setdefault(domain, []).append(protocol < 0)
-    octets = 0
-    for kinds in domains.values():
-        kinds.sort()
-        octets += 100
-        for at in range(0, len(kinds), ROWS):
-            bare = sum(kinds[at : at + ROWS])
-            full = len(kinds[at : at + ROWS]) - bare
-            octets += 16 + (4 + 41 * full if full else 0) + (4 + 40 * bare if bare else 0)
-    return octets
-
-
-# ---- Runs ----
-
-class Hung(Exception):
-    """A run doesn't end."""
-
-
-class Trial:
-    """Runs of the program in a folder, and what differs in them."""
-
-    def __init__(self, program, place):
-        self.program, self.place, self.case, self.cases, self.differ, self.differs = program, place, "", 0, 0, False
-
-    def begin(self, sweep, size):
-        """A new case, in an empty folder."""
-        self.end()
-        shutil.rmtree(self.place)
-        os.mkdir(self.place)
-        self.case, self.differs = "%s: %s" % (sweep, size), False
-        self.cases += 1
-
-    def end(self):
-        self.differ += self.differs
-        self.differs = False
-
-    def at(self, name):
-        return os.path.join(self.place, name)
-
-    def compare(self, what, wanted, came):
-        """Says where two texts first differ."""
-        if wanted == came:
-            return
-        self.differs = True
-        lines = zip(wanted.split("\n") + [None] * came.count("\n"), came.split("\n") + [None] * wanted.count("\n"))
-        number, (one, other) = next((n, pair) for n, pair in enumerate(lines, 1) if pair[0] != pair[1])
-        print("%s: %s: line %d: wanted %.200r, came %.200r" % (self.case, what, number, one, other), flush=True)
-
-    def runs(self, words, out="", refusal="", status=0, given=b""):
-        """Runs the program, and compares what it answers. A refusal is all that is on standard error."""
-        words = [str(word) for word in words]
-        try:
-            ran = subprocess.run([self.program, *words], input=given, capture_output=True, cwd=self.place,
-                                 timeout=SECONDS)
-        except subprocess.TimeoutExpired:
-            self.compare(" ".join(words), "an end", "none in %d seconds" % SECONDS)
-            raise Hung from None
-        err = "".join("flowvault: %s\n" % line for line in (refusal, "see: flowvault explain " + refusal.split()[0])
-                      ) if refusal else ""
-        came = "status %d\n%s%s" % (ran.returncode, ran.stderr.decode(errors="replace"), ran.stdout.decode())
-        self.compare(" ".join(words), "status %d\n%s%s" % (status, err, out), came)
-
-    def feeds(self, octets, count):
-        """Feeds a File of so many messages to the archive `a`, and rolls nothing."""
-        with open(self.at("file"), "wb") as file:
-            file.write(octets)
-        self.runs(["feed", "a", "file", *KEEP_ALL], "fed 1 %d\n" % count)
-
-    def makes(self, width, limit, *words):
-        os.mkdir(self.at("a"))
-        self.runs(["create", "a", width, "--limit", limit, *words])
-
-    def seals(self, given, width, *words):
-        """Makes an archive of one sealed segment with all these messages, and a longest one after it."""
-        self.makes(width, max(LEAST, given.octets()), *words)
-        self.feeds(given.file(), len(given.messages))
-        self.feeds(LONGEST, 1)
-
-    def rolls(self, given, width, wide):
-        """Rolls and merges all sealed segments of an archive of one, and compares what is left."""
-        count, rows = len(given.messages), given.rows(width)
-        self.runs(["roll", "a", 0], "rolled 1\n")
-        self.runs(["check", "a", "--files"], "ok %d %d 1 0\nrolled 5 %d %d %s\nactive 4 %d 1 - -\n" % (
-            count + 1, count, octets_of(rows), count, times_of(rows), self.prefix(given) + len(LONGEST)))
-        self.runs(["totals", "a", *ALL], given.sums(width))
-        self.runs(["merge", "a", 0], "merged 1\n")
-        self.runs(["totals", "a", *ALL], given.sums(wide, "" if wide == width else " %d" % wide))
-
-    def prefix(self, given):
-        """How many octets the prefix has after these messages."""
-        sizes = {256: len(WITH), 257: len(WITHOUT)}
-        return 20 * len({domain for domain, _ in given.known}) + sum(sizes[number] for _, number in given.known)
-
-
-def by_shell(trial, asked, answers):
-    """Asks requests of a shell on the archive `a`, and compares its answers."""
-    wanted = "".join(answers)
-    trial.runs(["shell", "a"], wanted, given="".join(line + "\n" for line in asked).encode())
-
+from trials import (
+    ALL, DAY, DOMAINS, END, ENTRIES, FIELD, GREATEST, Given, Hung, KEEP_ALL, LEAST, LONGEST, MOST_KEPT, PREFIX, ROWS,
+    TEMPLATES, TIME, Trial, WITH, a_message, a_set, around, by_shell, grown, in_memory,
+    interleaved, padded, times_of,
+)
 
 # ---- Sweeps ----
 
@@ -410,16 +204,6 @@ def stored(trial, size):
         shutil.rmtree(trial.at("a"))
 
 
-def grown(given, first, to):
-    """Adds messages with these numbers, one of a flow and one of the longest in turn: in the least segments no two of
-    them fit together."""
-    for number in range(first, to):
-        if number % 2 == 0:
-            given.add(7, [(TIME + 300 * (number % 50), 6)])
-        else:
-            given.messages.append(LONGEST)
-
-
 def workers(trial, size):
     """1 to so many workers over 70 sealed segments and a file of the sums of 10 others."""
     given = Given()
@@ -469,6 +253,93 @@ def entries(trial, size):
         file.write(LONGEST + LONGEST)
     trial.runs(["feed", "a", "file", *KEEP_ALL], "stopped 1 0 41 ManifestFull\n", "", 1)
     trial.runs(["roll", "a", 1], "rolled %d\n" % (size - 2))
+    trial.runs(["totals", "a", *ALL], given.sums(300))
+
+
+def rolled_one_by_one(trial, most):
+    """Files of sums, up to so many: segment after segment is rolled into a file of its own. At each size around a power
+    of two half of these files are merged in a copy, and then all."""
+    trial.makes(300, LEAST)
+    given = Given()
+    grown(given, 0, most + 1)
+    trial.feeds(given.file(), most + 1)
+    for size in range(1, most + 1):
+        trial.runs(["roll", "a", most - size], "rolled 1\n")
+        if size in around(most):
+            trial.runs(["check", "a"], "ok %d %d %d %d\n" % (most + 1, size, size, most - size))
+            trial.runs(["totals", "a", *ALL], given.sums(300))
+            merged_copy(trial, given, size)
+
+
+def merged_copy(trial, given, size):
+    """Merges half of so many rolled files of a copy, and then all of them. Every second of them has a flow."""
+    shutil.copytree(trial.at("a"), trial.at("b"))
+    count = len(given.messages)
+    wide_files = 0
+    for keep, merged in ((size // 2, size - size // 2), (0, size // 2)):
+        wide_files += merged > 0
+        trial.runs(["merge", "b", keep], "merged %d\n" % merged)
+        trial.runs(["check", "b"], "ok %d %d %d %d\n" % (count, size, wide_files + keep, count - 1 - size))
+        wide, narrow = Given(), Given()
+        at = (size - keep + 1) // 2
+        wide.flows, narrow.flows = given.flows[:at], given.flows[at:]
+        trial.runs(["totals", "b", *ALL], interleaved(narrow.sums(300), wide.sums(DAY, " %d" % DAY)))
+    shutil.rmtree(trial.at("b"))
+
+
+@contextlib.contextmanager
+def copied(trial, folder):
+    """A copy `b` of an archive."""
+    shutil.copytree(trial.at(folder), trial.at("b"))
+    yield
+    shutil.rmtree(trial.at("b"))
+
+
+def keeps(trial, count):
+    """Of so many sealed segments, and of as many rolled files, as many are left as KEEP says."""
+    given = Given()
+    grown(given, 0, count + 1)
+    trial.makes(300, LEAST)
+    shutil.copytree(trial.at("a"), trial.at("empty"))
+    trial.feeds(given.file(), count + 1)
+    shutil.copytree(trial.at("a"), trial.at("rolled"))
+    for keep in reversed(range(count)):
+        trial.runs(["roll", "rolled", keep], "rolled 1\n")
+    around_count = sorted({*range(10), *around(count), count - 1, count, count + 1})
+    for keep in (*around_count, 65_535, 65_536, 1 << 31, MOST_KEPT):
+        kept(trial, given, count, keep)
+
+
+def kept(trial, given, count, keep):
+    """Of so many files as many are left as KEEP says: by `roll`, `merge`, `shell` and `feed`, which says nothing of how
+    many files it has made."""
+    gone, left = max(0, count - keep), min(keep, count)
+    checked = "ok %d %d %d %d\n" % (count + 1, gone, gone > 0, left)
+    with copied(trial, "a"):
+        trial.runs(["roll", "b", keep], "rolled %d\n" % gone)
+        trial.runs(["check", "b"], checked)
+    with copied(trial, "a"):
+        trial.runs(["shell", "b", "--keep", keep], "done 0\n", given=b"quit\n")
+        trial.runs(["check", "b"], checked)
+    with copied(trial, "rolled"):
+        trial.runs(["merge", "b", keep], "merged %d\n" % gone)
+        trial.runs(["check", "b"], "ok %d %d %d 0\n" % (count + 1, count, (gone > 0) + left))
+    with copied(trial, "empty"):
+        trial.runs(["feed", "b", "-", "--keep", keep], "fed 1 %d\n" % (count + 1), given=given.file())
+        trial.runs(["roll", "b", left], "rolled 0\n")
+        trial.runs(["roll", "b", max(0, left - 1)], "rolled %d\n" % (left > 0))
+        trial.runs(["totals", "b", *ALL], given.sums(300))
+
+
+def stream(trial, size):
+    """A stream of so many segments, which are rolled meanwhile but for the newest 8."""
+    given = Given()
+    grown(given, 0, size + 1)
+    trial.makes(300, LEAST)
+    trial.runs(["feed", "a", "-"], "fed 1 %d\n" % (size + 1), given=given.file())
+    trial.runs(["totals", "a", *ALL], given.sums(300))
+    trial.runs(["roll", "a", 8], "rolled 0\n")
+    trial.runs(["roll", "a", 0], "rolled %d\n" % min(size, 8))
     trial.runs(["totals", "a", *ALL], given.sums(300))
 
 
@@ -531,6 +402,142 @@ def places(trial, size):
     trial.rolls(given, 300, DAY)
 
 
+def records(trial, size):
+    """A message of so many records, of one octet each."""
+    octets = a_message(7, a_set(2, struct.pack(">4H", 256, 1, 4, 1)))
+    octets += a_message(7, a_set(256, b"\x06" * size))
+    sums = "%d 7 6 %d 0 0\n" % (TIME - TIME % 300, size)
+    trial.runs(["measure", 300], sums, given=octets)
+    trial.makes(300, 2 * LEAST)
+    trial.feeds(octets, 2)
+    trial.runs(["flows", "a", *ALL], "%d 7 6 0 0\n" % TIME * size)
+    trial.feeds(LONGEST + LONGEST, 2)
+    trial.runs(["totals", "a", *ALL], sums)
+    trial.runs(["roll", "a", 0], "rolled 1\n")
+    trial.runs(["totals", "a", *ALL], sums)
+
+
+def octets_of_messages(trial, most):
+    """Messages of so many octets each, in the active segment and in a sealed one."""
+    sizes = [size for size in around(most) if size == 16 or size >= 20]
+    given = [padded(size) for size in sizes]
+    lines = "".join("message %d %d 0 7\n" % (size, TIME) for size in sizes)
+    trial.runs(["dump"], lines, given=b"".join(given))
+    trial.makes(300, 1 << 20)
+    trial.feeds(b"".join(given), len(given))
+    numbers = range(1, len(given) + 1)
+    asked = ["message %d" % number for number in numbers]
+    answers = [given[number - 1].hex() + "\ndone 0\n" for number in numbers]
+    by_shell(trial, asked, answers)
+    trial.feeds(LONGEST * 16, 16)
+    trial.runs(["check", "a"], "ok %d 0 0 1\n" % (len(given) + 16))
+    by_shell(trial, asked, answers)
+
+
+def great_sums(trial, size):
+    """So many flows of one sum, each with as many octets as a field holds: the file of sums has a row for each field
+    that they fill."""
+    given = Given()
+    for at in range(0, size, 1500):
+        given.add(7, [(TIME, 6, FIELD, number) for number in range(at, min(at + 1500, size))])
+    given.add(8, [(TIME, None, 1, FIELD)])
+    trial.runs(["measure", 300], given.sums(300), given=given.file())
+    trial.seals(given, 300)
+    trial.rolls(given, 300, DAY)
+
+
+def octets_of_bare(count):
+    """How many octets a file has of so many sums of one domain without a protocol."""
+    whole, left = divmod(count, ROWS)
+    return 100 + whole * (20 + 40 * ROWS) + (20 + 40 * left if left else 0)
+
+
+def many_sums(trial, size):
+    """So many sums in one file, one of each second: rolled, and merged over intervals of a second too."""
+    template = a_set(2, struct.pack(">4H", 256, 1, 150, 4))
+    given = []
+    for at in range(0, size, 16_000):
+        seconds = range(at, min(at + 16_000, size))
+        given.append(a_message(7, template + a_set(256, struct.pack(">%dI" % len(seconds), *seconds))))
+    octets, count = b"".join(given), len(given)
+    sums = "".join("%d 7 - 1 0 0\n" % second for second in range(size))
+    trial.makes(1, max(LEAST, len(octets)), "--wide", 1)
+    trial.feeds(octets, count)
+    trial.feeds(LONGEST, 1)
+    for word, done, line in (("roll", "rolled 1\n", "rolled 5"), ("merge", "merged 1\n", "wide 6")):
+        trial.runs([word, "a", 0], done)
+        trial.runs(["check", "a", "--files"], "ok %d %d 1 0\n%s %d %d 0 %d\nactive 4 %d 1 - -\n" % (
+            count + 1, count, line, octets_of_bare(size), count, size - 1, 28 + len(LONGEST)))
+        trial.runs(["totals", "a", *ALL], sums)
+
+
+def first_messages(trial, count):
+    """A File of so many messages, of which `--from` passes over the first ones."""
+    given, taken = Given(), Given()
+    for number in range(count):
+        given.add(7, [(TIME + 300 * number, 6)])
+    trial.makes(300, GREATEST)
+    trial.feeds(given.file(), count)
+    taken.flows += given.flows
+    for passed in (0, *around(count, count - 1, count)):
+        trial.runs(["feed", "a", "file", "--from", passed], "fed 1 %d\n" % count)
+        trial.runs(["feed", "a", "-", "--from", passed], "fed 1 %d\n" % count, given=given.file())
+        taken.flows += 2 * given.flows[passed:]
+        trial.runs(["check", "a"], "ok %d 0 0 0\n" % len(taken.flows))
+    trial.runs(["totals", "a", *ALL], taken.sums(300))
+
+
+@contextlib.contextmanager
+def by_pipe(count, last):
+    """A pipe by which a longest message comes so often, and these octets after it."""
+    begin, end = os.pipe()
+
+    def pour():
+        with contextlib.suppress(BrokenPipeError), open(end, "wb") as pipe:
+            for _ in range(count):
+                pipe.write(LONGEST)
+            pipe.write(last)
+
+    pouring = threading.Thread(target=pour)
+    pouring.start()
+    with open(begin, "rb") as pipe:
+        yield pipe
+    pouring.join()
+
+
+def long_files(trial, size):
+    """A File of more octets than so many, which comes by a pipe, and whose last message is cut."""
+    count, cut = size // len(LONGEST) + 1, LONGEST[:-1]
+    refused = "15 Cut %d" % (count * len(LONGEST))
+    lines = "message 65535 %d 0 7\n" % TIME * count
+    for words, out in ((["measure", 300], ""), (["inspect"], ""), (["dump"], lines)):
+        with by_pipe(count, cut) as pipe:
+            trial.runs(words, out, refused, 1, given=pipe)
+    trial.makes(300, GREATEST)
+    with by_pipe(count, cut) as pipe:
+        trial.runs(["feed", "a", "-"], "stopped 1 %d 15 Cut\n" % count, "", 1, given=pipe)
+    trial.runs(["feed", "a", "-", "--from", 0], "fed 1 1\n", given=LONGEST)
+
+
+def files_at_once(trial, most):
+    """1 to so many Files side by side."""
+    for count in range(1, most + 1):
+        whole = Given()
+        trial.makes(300, LEAST)
+        for number in range(count):
+            given = Given()
+            for _ in range(100 * (number + 1)):
+                given.add(number + 1, [(TIME, 6)])
+            whole.flows += given.flows
+            with open(trial.at("file%d" % number), "wb") as file:
+                file.write(given.file())
+        names = ["file%d" % number for number in range(count)]
+        trial.runs(["feed", "a", *names], "".join("fed %d %d\n" % (number, 100 * number)
+                                                  for number in range(1, count + 1)))
+        trial.runs(["totals", "a", *ALL], whole.sums(300))
+        shutil.rmtree(trial.at("a"))
+
+
 def steps(trial, size):
     """A shell that takes in so many Files of one message, and answers after each."""
     given = Given()
@@ -556,18 +563,27 @@ def length_octets(size, long):
     return bytes([size]) if size < 255 and not long else struct.pack(">BH", 255, size)
 
 
+def fields_of(elements, size):
+    """Octets of fields of this size, and what a dump has of them."""
+    values = [bytes((7 * n + size + element) % 256 for n in range(size)) for element, _, _ in elements]
+    words = ["%s=%s" % (name, int.from_bytes(octets, "big") if element == 1 and 1 <= size <= 8 else octets.hex())
+             for (element, _, name), octets in zip(elements, values)]
+    return values, " ".join(words)
+
+
+def a_template(number, elements, length):
+    """A template of these elements, each of this length."""
+    specifiers = b"".join(struct.pack(">HH", element | (0x8000 if enterprise else 0), length) + (
+        struct.pack(">I", enterprise) if enterprise else b"") for element, enterprise, _ in elements)
+    return a_set(2, struct.pack(">HH", number, len(elements)) + specifiers)
+
+
 def lengths(trial, size):
     """Fields of so many octets: of a variable length, in the short form where there is one, in the long one, and of a
     fixed length."""
     elements = ELEMENTS if 4 * size < 60_000 else ELEMENTS[:1]
-    values = [bytes((7 * n + size + element) % 256 for n in range(size)) for element, _, _ in elements]
-    words = ["%s=%s" % (name, int.from_bytes(octets, "big") if element == 1 and 1 <= size <= 8 else octets.hex())
-             for (element, _, name), octets in zip(elements, values)]
-    sets, lines = [], []
-    for number, length in ((300, 65_535), (301, size)):
-        specifiers = b"".join(struct.pack(">HH", element | (0x8000 if enterprise else 0), length) + (
-            struct.pack(">I", enterprise) if enterprise else b"") for element, enterprise, _ in elements)
-        sets.append((a_set(2, struct.pack(">HH", number, len(elements)) + specifiers), None))
+    values, words = fields_of(elements, size)
+    sets, lines = [(a_template(number, elements, length), None) for number, length in ((300, 65_535), (301, size))], []
     for number, before in ((300, length_octets(size, False)), (300, length_octets(size, True)), (301, b"")):
         if number == 300 or size:
             sets.append((a_set(number, b"".join(before + octets for octets in values)), number))
@@ -576,7 +592,7 @@ def lengths(trial, size):
         octets += a_message(7, each, records)
         lines.append("message %d %d %d 7\n" % (16 + len(each), TIME, records))
         if number:
-            lines.append("record %d %s\n" % (number, " ".join(words)))
+            lines.append("record %d %s\n" % (number, words))
             records += 1
     trial.runs(["dump"], "".join(lines), given=octets)
     counted = ("messages %d records %d options 0 unread 0 0 replaced 0 gaps 0 missing 0 backwards 0 from %d to %d "
@@ -584,6 +600,40 @@ def lengths(trial, size):
     trial.runs(["inspect"], "domain 7 %sall domains 1 %s" % (counted, counted), given=octets)
     summed = records * int.from_bytes(values[1], "big") if 1 <= size <= 8 else 0
     trial.runs(["measure", 300], "%d 7 - %d %d 0\n" % (TIME - TIME % 300, records, summed), given=octets)
+
+
+def each_length(trial, most):
+    """A File with fields of each length up to so many octets, as text."""
+    messages = [a_message(7, a_template(300, ELEMENTS, 65_535))]
+    lines = ["message %d %d 0 7\n" % (len(messages[0]), TIME)]
+    for size in range(most + 1):
+        values, words = fields_of(ELEMENTS, size)
+        fields = b"".join(length_octets(size, False) + octets for octets in values)
+        messages.append(a_message(7, a_set(300, fields), size))
+        lines.append("message %d %d %d 7\nrecord 300 %s\n" % (len(messages[-1]), TIME, size, words))
+    trial.runs(["dump"], "".join(lines), given=b"".join(messages))
+
+
+def fields(trial, size):
+    """A template of so many fields, of an octet each, and a record of it: refused above 60,000 octets."""
+    given = [a_message(7, a_template(256, ELEMENTS[:1] * size, 1))]
+    if 4 + 4 * size > TEMPLATES:
+        trial.runs(["measure", 300], "", "9 TemplatesFull 7 message 1", 1, given[0])
+        return
+    values = bytes(number % 256 for number in range(size))
+    given.append(a_message(7, a_set(256, values)))
+    octets, sums = b"".join(given), "%d 7 - 1 0 0\n" % (TIME - TIME % 300)
+    words = " ".join("paddingOctets=%02x" % octet for octet in values)
+    trial.runs(["dump"], "message %d %d 0 7\nmessage %d %d 0 7\nrecord 256 %s\n" % (
+        len(given[0]), TIME, len(given[1]), TIME, words), given=octets)
+    trial.runs(["measure", 300], sums, given=octets)
+    trial.makes(300, max(LEAST, len(octets)))
+    trial.feeds(octets, 2)
+    trial.feeds(LONGEST, 1)
+    trial.runs(["check", "a"], "ok 3 0 0 1\n")
+    trial.runs(["totals", "a", *ALL], sums)
+    trial.runs(["roll", "a", 0], "rolled 1\n")
+    trial.runs(["totals", "a", *ALL], sums)
 
 
 # The octets of template records in force that are around their limit.
@@ -604,18 +654,24 @@ SWEEPS = (
     ("stored past a limit", stored, (1, 2), (1, 2)),
     ("workers", workers, (64,), (64,)),
     ("segments", segments, (1_025,), (2_049,)),
-    ("files of a manifest", entries, (), (ENTRIES,)),
+    ("files of a manifest", entries, (ENTRIES,), (ENTRIES,)),
+    ("files of sums", rolled_one_by_one, (131,), (1_031,)),
+    ("keeps", keeps, (70,), (300,)),
+    ("streams", stream, (*around(16), 255, 256, 257, 5_000), around(8_193)),
     ("full segments", full, (LEAST, 65_536, 65_537, 262_144, 1_048_576, GREATEST), around(GREATEST)[-26:]),
     ("places", places, around(1 << 21)[-14:], around(GREATEST)[-22:-2]),
+    ("records", records, around(65_515, 65_515), around(65_515, *range(1, 300))),
+    ("octets of messages", octets_of_messages, (LEAST,), (LEAST,)),
+    ("great sums", great_sums, around(2_049, 999, 1_000, 1_001), around(16_385, *range(990, 1_010))),
+    ("many sums", many_sums, (419_218,), (419_217, 419_218, 2_500_000)),
+    ("first messages", first_messages, (300,), (3_000,)),
+    ("Files at once", files_at_once, (8,), (8,)),
+    ("long Files", long_files, (GREATEST,), (GREATEST, END)),
     ("steps", steps, (300,), (3_000,)),
+    ("fields", fields, around(15_001, 14_998, 14_999, 15_000), around(15_001, *range(1, 300))),
+    ("each length", each_length, (300,), (2_048,)),
     ("lengths", lengths, around(16_385, *range(0, 18), 32_768, 65_000, 65_512), range(0, 65_513, 61)),
 )
-
-
-def in_memory():
-    """A folder of a file system in memory with room for all, where there is one: syncs take most of the time else."""
-    is_one = os.access(MEMORY, os.W_OK) and shutil.disk_usage(MEMORY).free > 1 << 30
-    return MEMORY if is_one else None
 
 
 def play(trial, only, is_long):

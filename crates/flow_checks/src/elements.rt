@@ -1,7 +1,7 @@
 //! Values of the listed elements, worked out by hand. What `dump` writes of them is in cases/messages.txt.
 
 use crate::holds::{holds, is_text};
-use flow_elements::{ElementId, Items, read_value};
+use flow_elements::{ElementId, Items, Value, read_value};
 use std::alloc::{AllocError, Global};
 use std::test::Fail;
 
@@ -29,6 +29,28 @@ fn value_text(alloc: Global, number: u16, octets: &[u8]) -> Result<String, Alloc
     format!(in alloc; "{value:?}")
 }
 
+/// Whether octets of an element that isn't listed are its value, as they are.
+fn are_kept(alloc: Global, octets: &[u8]) -> Result<bool, AllocError> {
+    let id = ElementId {
+        enterprise: None,
+        number: 9999,
+    };
+    match read_value(alloc, id, octets)? {
+        Value::Octets(items) => Ok(items.as_slice() == octets),
+        _ => Ok(false),
+    }
+}
+
+/// Octets of each length up to 300.
+fn lengths(alloc: Global) -> Result<(), Fail> {
+    let mut octets = Vec::new(alloc);
+    for number in 0..301u32 {
+        holds(are_kept(alloc, octets.as_slice())?, "octets as they are")?;
+        octets.push((number % 256) as u8)?;
+    }
+    Ok(())
+}
+
 /// A list of three items.
 fn items(alloc: Global) -> Result<(), Fail> {
     let items = Items::from_vec(vec![in alloc; 1u8, 2, 3]?);
@@ -41,5 +63,6 @@ fn values(rt: HostRuntime) -> Result<(), Fail> {
     for (number, octets, wanted) in &VALUES {
         is_text(value_text(rt.alloc(), *number, octets)?.as_str(), wanted)?;
     }
+    lengths(rt.alloc())?;
     items(rt.alloc())
 }

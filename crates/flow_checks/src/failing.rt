@@ -144,6 +144,10 @@ impl Lockable for FailingFile<'_> {
         self.file.try_lock()
     }
 
+    fn try_lock_shared(&self) -> Result<(), TryLockError> {
+        self.file.try_lock_shared()
+    }
+
     fn descriptor(&self) -> i32 {
         self.file.as_raw_fd()
     }

@@ -104,21 +104,39 @@ fn are_spans(alloc: Global, rows: &Rows) -> Result<bool, AllocError> {
     )
 }
 
-/// The rows over intervals of 3,600 seconds.
-fn widened(alloc: Global, rows: &Rows) -> Result<Rows, Fail> {
-    if 3600 % rows.width() != 0 {
-        return Err(Fail::new("a width that 3,600 is a multiple of"));
+/// The rows over intervals of so many seconds.
+fn widened(alloc: Global, rows: &Rows, wide: u32) -> Result<Rows, Fail> {
+    if wide == 0 || wide % rows.width() != 0 {
+        return Err(Fail::new("a multiple of the rows' width"));
     }
-    Ok(rows.widen(alloc, 3600)?)
+    Ok(rows.widen(alloc, wide)?)
 }
 
-/// Whether the rows of 3,600 seconds are these.
-fn are_wide(alloc: Global, wide: &Rows) -> Result<bool, AllocError> {
-    let wanted = [
-        row(1699999200, 3600, None, 1),
-        row(1699999200, 3600, Some(6), 3),
-    ];
-    are_rows(alloc, wide, ALL, &wanted)
+/// Wide intervals, and where the one begins that has all flows.
+const WIDE: [(u32, u32); 7] = [
+    (600, 1699999800),
+    (1800, 1699999200),
+    (3600, 1699999200),
+    (7200, 1699999200),
+    (21600, 1699984800),
+    (43200, 1699963200),
+    (86400, 1699920000),
+];
+
+/// Whether the rows over these wide intervals are two of the one that begins there.
+fn are_wide(alloc: Global, rows: &Rows, (wide, start): (u32, u32)) -> Result<bool, Fail> {
+    let wanted = [row(start, wide, None, 1), row(start, wide, Some(6), 3)];
+    Ok(are_rows(alloc, &widened(alloc, rows, wide)?, ALL, &wanted)?)
+}
+
+/// Whether they are, by each width.
+fn are_all_wide(alloc: Global, rows: &Rows) -> Result<bool, Fail> {
+    for each in &WIDE {
+        if !are_wide(alloc, rows, *each)? {
+            return Ok(false);
+        }
+    }
+    Ok(true)
 }
 
 /// When flows start, and their protocols.
@@ -129,11 +147,11 @@ const STARTS: [(u32, Option<u8>); 4] = [
     (1700000100, Some(6)),
 ];
 
-/// Whether flows have their rows, and their rows of 3,600 seconds.
+/// Whether flows have their rows, and their rows over wide intervals.
 fn are_summed(alloc: Global) -> Result<(bool, bool), Fail> {
     let rows = rows_of(alloc, &STARTS)?;
     let are_spans = are_spans(alloc, &rows)?;
-    Ok((are_spans, are_wide(alloc, &widened(alloc, &rows)?)?))
+    Ok((are_spans, are_all_wide(alloc, &rows)?))
 }
 
 #[test]
