@@ -152,9 +152,10 @@ don't allow it; another flowvault uses it, or the name of one of its files is th
 of a link or a folder; the disk is full, read-only or failing. A second line says\n\
 which, where the system said so.\n\
 What to do: look at the folder with 'ls -ld DIR' and 'df DIR', and at the system's\n\
-log, and mend that. Then 'flowvault check DIR' says how many messages the archive\n\
-has: each that was acknowledged, and perhaps the message or batch under way. While\n\
-it answers 30 the disk still fails; no restart is needed. Feed the others alone.\n";
+log, and mend that. Then 'flowvault roll DIR 4294967295' settles the archive, and\n\
+rolls nothing: while it answers 30 the disk still fails; no restart is needed. Then\n\
+'flowvault check DIR' says how many messages there are: each that was acknowledged,\n\
+and perhaps the message or batch under way. Feed the others alone.\n";
 
 pub(crate) const READ: &str = "31 Read: the input couldn't be read.\n\
 Usual cause: by what the system said: no such file; no right to read it; it is a\n\
