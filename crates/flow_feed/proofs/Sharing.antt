@@ -1,6 +1,7 @@
 -- The steps of the messages that a thread was acknowledged.
-use Rattle.std.proofs.Common.{◌≡◌, ◌⊎◌, ⊎_elim, ◌∙◌, ℕ, Bool, true, false, List, [], ◌∷◌, ◌++◌, Option, Some, None}
+use Rattle.std.proofs.Common.{◌≡◌, ◌⊎◌, ⊎_elim, ◌∙◌, ℕ, Bool, true, false, List, [], ◌∷◌, ◌++◌, Option}
 use Rattle.std.proofs.Common.{Result, Ok, Err, ◌↔◌, IsTrue, inl, inr, refl, sym, ap, subst, append-nil, append_assoc}
+use Rattle.std.specs.Prelude.{⊤}
 use mathlib.Core.Bool.{not}
 use mathlib.Core.List.{IsPrefix}
 use Rattle.flow_disk.specs.declared.disk.Disk.{Ghosts}
@@ -8,13 +9,14 @@ use Rattle.flow_model.specs.Changes.{Change}
 use Rattle.flow_model.specs.Changes.Change.{added}
 use Rattle.flow_model.specs.Shelf.{Shelf}
 use Rattle.flow_archive.specs.declared.refusal.ArchiveError.{ArchiveError}
+use Rattle.flow_archive.specs.declared.refusal.ArchiveError.TheVariants.{OutOfMemory}
 use Rattle.flow_shared.specs.Known.{IsAppendBy, Says}
 use Rattle.flow_shared.specs.Told.{HasAdded}
 use Rattle.flow_shared.specs.UnderLock.{LockState}
 use Rattle.flow_feed.specs.declared.batch.Fed.{Fed}
-use Rattle.flow_feed.specs.Feed.{in_order, IsFed}
+use Rattle.flow_feed.specs.Feed.{IsFed}
 use Rattle.flow_feed.specs.Given.{acknowledged, acknowledged_in, AreGiven, Given}
-use Rattle.flow_feed.specs.Shared.{AreAdded, HasSteps, IsGivenShared, IsInSteps, IsLate, Known}
+use Rattle.flow_feed.specs.Shared.{AreAdded, HasSteps, IsGivenShared, IsInSteps, IsLate, IsRefusedShared, Known}
 
 -- ---- an append
 
@@ -46,6 +48,17 @@ late_then g opening knew knows messages position error made shown told (inl x) o
     absurd (let never : Ok position ≡ Err error = x.1 in cc never)
 late_then g opening knew knows messages position error made shown told (inr x) other =
     late_of g opening knew knows messages position made x.0 x.1 (x.2).0 other
+
+-- messages that aren't accepted
+pub refused_then : {D S X : Type 0} (g : Ghosts D S X) (opening : Shelf) (knew knows : List Change)
+    (messages : List (List ℕ)) (answer : Result ℕ ArchiveError) (error : ArchiveError) → answer ≡ Err error
+    → ((knows ≡ knew) × (answer ≡ Err OutOfMemory)) ⊎ ((under : LockState D)
+    × IsAppendBy g opening knew knows messages answer under × ⊤)
+    → IsRefusedShared g opening knew knows messages error
+refused_then g opening knew knows messages answer error is (inl x) =
+    inr (let same : error ≡ OutOfMemory = cc (is, x.1) in same, x.0)
+refused_then g opening knew knows messages answer error is (inr x) =
+    inl (x.0, subst (λ (a : Result ℕ ArchiveError). IsAppendBy g opening knew knows messages a x.0) is x.1)
 
 -- ---- a File
 

@@ -1,5 +1,5 @@
 -- What a thread knows of the steps of an archive that threads share, and what feeding makes of that.
-use Rattle.std.specs.Prelude.{◌≡◌, ◌≢◌, ◌⊎◌, ◌≤◌, ℕ, ◌+◌, Bool, true, false, List, [], ◌∷◌, ◌++◌, length, Option}
+use Rattle.std.specs.Prelude.{◌≡◌, ◌≢◌, ◌⊎◌, ◌≤◌, ℕ, ◌+◌, Bool, false, List, [], ◌∷◌, ◌++◌, length, Option}
 use Rattle.std.specs.Prelude.{Result, Ok, Err, ⊤}
 use mathlib.Core.List.{IsPrefix}
 use Rattle.std.specs.Io.KnownBytes.{Consumes}
@@ -9,6 +9,7 @@ use Rattle.flow_model.specs.Changes.{Change}
 use Rattle.flow_model.specs.Changes.Change.{added}
 use Rattle.flow_model.specs.Shelf.{Shelf}
 use Rattle.flow_archive.specs.declared.refusal.ArchiveError.{ArchiveError}
+use Rattle.flow_archive.specs.declared.refusal.ArchiveError.TheVariants.{OutOfMemory}
 use Rattle.flow_shared.specs.Known.{IsAppendBy}
 use Rattle.flow_shared.specs.Told.{HasAdded}
 use Rattle.flow_shared.specs.UnderLock.{LockState}
@@ -32,14 +33,24 @@ pub record IsLate {D S X : Type 0} (g : Ghosts D S X) (opening : Shelf) (knew kn
   pub append : IsAppendBy g opening knew knows messages (Ok position) under
   pub late : under.backlog ≢ []
 
+-- These messages were refused: by an append under the lock, which answered this; or by want of memory without one, and
+-- then no step was learnt.
+abbrev pub IsRefusedShared : {D S X : Type 0} → Ghosts D S X → Shelf → List Change → List Change → List (List ℕ)
+    → ArchiveError → Type 0
+IsRefusedShared {D} g opening knew knows messages error =
+    ((under : LockState D) × IsAppendBy g opening knew knows messages (Err error) under)
+    ⊎ ((error ≡ OutOfMemory) × (knows ≡ knew))
+
 -- An append under the lock: steps of others and then the one that adds just these messages, unless for want of memory
--- that isn't made yet; where it is refused, steps of others alone.
+-- that isn't made yet; where it is refused, steps of others alone, and the refusal is that of the append.
 abbrev pub IsGivenShared : {D S X : Type 0} → Ghosts D S X → Shelf → Known → Known → List (List ℕ)
     → Result ℕ ArchiveError → Type 0
 IsGivenShared g opening old new messages (Ok position) =
     ((new.whole ≡ old.whole) × HasAdded opening old.steps new.steps messages position)
     ⊎ ((new.whole ≡ false) × IsLate g opening old.steps new.steps messages position)
-IsGivenShared g opening old new messages (Err error) = (new.whole ≡ old.whole) × IsPrefix old.steps new.steps
+IsGivenShared g opening old new messages (Err error) =
+    (new.whole ≡ old.whole) × IsPrefix old.steps new.steps
+    × IsRefusedShared g opening old.steps new.steps messages error
 
 -- ---- a File
 
