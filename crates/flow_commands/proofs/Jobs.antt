@@ -49,6 +49,7 @@ folder_unwritten are output folder.NotThere = Keeps-refl output
 folder_unwritten are output folder.NotAFolder = Keeps-refl output
 folder_unwritten are output folder.InUse = Keeps-refl output
 folder_unwritten are output (folder.NotAFile file) = Keeps-refl output
+folder_unwritten are output (folder.NoLock error) = Keeps-refl output
 folder_unwritten are output folder.NoHandles = Keeps-refl output
 folder_unwritten are output folder.OutOfMemory = Keeps-refl output
 folder_unwritten are output (folder.Refused error) = Keeps-refl output

@@ -3,6 +3,7 @@ pub mod FirstState
 pub mod Unwritten
 pub mod Asked
 pub mod Causes
+mod AllFed
 mod Unchanged
 mod Ended
 mod Lines

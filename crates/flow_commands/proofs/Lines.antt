@@ -1,7 +1,7 @@
 -- Files, one after the other, and their lines.
 use Rattle.std.proofs.Common.{◌≡◌, ◌≤◌, ◌∙◌, inl, inr, ℕ, zero, suc, ◌+◌, List, [], ◌∷◌, ◌++◌, Option, Some, None}
 use Rattle.std.proofs.Common.{refl, sym, ap, subst, append-nil, append_assoc, arith, length, length-append, take}
-use Rattle.std.specs.Prelude.{Result, Ok, Err, IfOk, IfErr, IsErrAnd}
+use Rattle.std.specs.Prelude.{Result, Ok, Err, IfOk, IfErr, IsErr, IsErrAnd}
 use Rattle.std.specs.Io.KnownBytes.{Appends, Keeps}
 use Rattle.std.specs.Option.{option_or}
 use Rattle.std.proofs.KnownBytes.{Appends-nil, Appends-trans, Keeps-refl}
@@ -164,6 +164,11 @@ all_told before after feds all count first refused result whole so_far is =
     subst (λ (l : List Fed). TellsFiles l refused before after result) whole
     (inl (so_far.lines, is ∙ ap (λ (s : Option FeedStop). feed_ended s refused) so_far.first_is))
 
+-- a refusal that is passed on is one
+pub passed_err : {T E : Type 0} (r : Result T E) (error : E) → IsErrAnd r (λ e. e ≡ error) → IsErr r
+passed_err (Ok x) error is = absurd is
+passed_err (Err e) error is = refl
+
 -- a start that finds no memory
 pub start_refused : (output : Option (List ℕ)) (feds : List Fed) (count : ℕ) → length feds ≡ count
     → TellsFed count output output (Err refusal.OutOfMemory)
@@ -317,6 +322,7 @@ folder_kept count output folder.NotThere = Keeps-refl output
 folder_kept count output folder.NotAFolder = Keeps-refl output
 folder_kept count output folder.InUse = Keeps-refl output
 folder_kept count output (folder.NotAFile file) = Keeps-refl output
+folder_kept count output (folder.NoLock error) = Keeps-refl output
 folder_kept count output folder.NoHandles = Keeps-refl output
 folder_kept count output folder.OutOfMemory = ([], (0, omega arith, Appends-nil output))
 folder_kept count output (folder.Refused error) = Keeps-refl output

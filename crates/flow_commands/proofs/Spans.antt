@@ -1,11 +1,10 @@
 -- What is answered of a span starts in it, and so nothing of that is left out.
-use Rattle.std.proofs.Common.{◌≡◌, ◌∙◌, ℕ, zero, suc, Bool, true, false, List, [], ◌∷◌, ◌++◌, refl, ap, map, inl, inr}
-use Rattle.std.specs.Prelude.{filter, if◌then◌else◌, ◌==◌, nat_le, nat_lt, ◌&&◌, IfOk, Result, Ok, Err}
+use Rattle.std.proofs.Common.{◌≡◌, ◌∙◌, ℕ, zero, suc, Bool, true, false, List, [], ◌∷◌, refl, ap, inl, inr}
+use Rattle.std.specs.Prelude.{filter, if◌then◌else◌, ◌==◌, IfOk, Result, Ok, Err}
 use Rattle.std.specs.List.{All}
 use Rattle.std.specs.FinMap.{entries}
 use Rattle.std.specs.Ordering.{is_le}
 use Rattle.std.proofs.lemmas.List.Elements.{All-append, All-cons, All-head, All-map, All-nil, All-tail, filter_passes}
-use Rattle.flow_measure.specs.declared.flow.Flow.{Flow}
 use Rattle.flow_measure.specs.declared.rows.Row.{Row}
 use Rattle.flow_measure.specs.Query.{interleaved, narrow_table_in, rows_of_both, totals_in_view}
 use Rattle.flow_measure.specs.Sums.{is_within, key_cmp, merged, table_row, rows_between, Table}

@@ -21,11 +21,12 @@ use Rattle.flow_commands.specs.declared.archive_refusal.ArchiveRefusal.{ArchiveR
 use Rattle.flow_commands.specs.declared.archive_refusal.ArchiveRefusal.TheVariants.{Folder, Opening, Archive}
 use Rattle.flow_commands.specs.declared.folder_fault.FolderFault.{FolderFault}
 use Rattle.flow_commands.specs.declared.folder_fault.FolderFault.TheVariants.{NotThere, NotAFolder, Refused, InUse, NotAFile}
-use Rattle.flow_commands.specs.declared.folder_fault.FolderFault.TheVariants.{NoHandles, NoClock}
+use Rattle.flow_commands.specs.declared.folder_fault.FolderFault.TheVariants.{NoLock, NoHandles, NoClock}
 use Rattle.flow_commands.specs.declared.archive_refusal.ArchiveRefusal.TheVariants.{Query}
 use Rattle.flow_commands.specs.declared.archive_refusal.ArchiveRefusal.TheVariants.{OutOfMemory, Write}
 
--- A second line says that the folder isn't there, is none or is in use, which name in it isn't a file's, or what the system lacks.
+-- A second line says that the folder isn't there, is none, is in use or can't be locked, which name in it isn't a
+-- file's, or what the system lacks.
 abbrev pub fault_printed : FolderFault → List ℕ
 fault_printed NotThere = code_text code.Fault ++ codes "\nflowvault: there is no such folder"
 fault_printed NotAFolder =
@@ -37,6 +38,8 @@ fault_printed (NotAFile file) =
     code_text code.Fault
     ++ (codes "\nflowvault: "
     ++ (name_of file ++ codes " in the folder is a link, a folder, a pipe or a device, and not a file"))
+fault_printed NoLock =
+    code_text code.Fault ++ codes "\nflowvault: the system can't lock the folder: has its file system locks?"
 fault_printed NoHandles =
     code_text code.Fault ++ codes "\nflowvault: the system's list of open files, /proc/self/fd, isn't there"
 fault_printed NoClock = code_text code.Fault ++ codes "\nflowvault: the system's clock can't be read"
@@ -86,6 +89,7 @@ of_folder folder.NotThere = Folder NotThere
 of_folder folder.NotAFolder = Folder NotAFolder
 of_folder folder.InUse = Folder InUse
 of_folder (folder.NotAFile file) = Folder (NotAFile file)
+of_folder (folder.NoLock error) = Folder NoLock
 of_folder folder.NoHandles = Folder NoHandles
 of_folder folder.OutOfMemory = OutOfMemory
 of_folder (folder.Refused error) = Folder Refused

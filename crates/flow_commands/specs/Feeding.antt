@@ -1,6 +1,7 @@
 -- What `feed` does to an archive, what it writes, and its status.
-use Rattle.std.specs.Prelude.{◌≡◌, ◌⊎◌, ⊤, ℕ, suc, true, List, [], ◌∷◌, ◌++◌, length, Option, Some, None}
-use Rattle.std.specs.Prelude.{Result, Ok, Err, codes}
+use Rattle.std.specs.Prelude.{◌≡◌, ◌≢◌, ◌<◌, ◌⊎◌, ⊤, ℕ, suc, true, is_some, IsTrue, List, [], ◌∷◌, ◌++◌, length}
+use Rattle.std.specs.Prelude.{Option, Some, None, Result, Ok, Err, codes, option_map, slice_get, IfSome, IsErr}
+use denote.Ref.{MutBor}
 use Rattle.std.specs.Fmt.{decimal}
 use Rattle.std.specs.Option.{option_or}
 use Rattle.std.specs.Io.KnownBytes.{Appends, Keeps}
@@ -8,7 +9,11 @@ use Rattle.flow_archive.specs.declared.refusal.ArchiveError.{ArchiveError}
 use Rattle.flow_archive.specs.declared.refusal.ArchiveError.TheVariants as archive
 use Rattle.flow_disk.specs.declared.disk.Disk.{Ghosts}
 use Rattle.flow_disk.specs.Cause.{HasCause}
+use Rattle.flow_manifest.specs.Slots.{reads_of}
 use Rattle.flow_model.specs.Shelf.{Shelf}
+use Rattle.flow_model.specs.Shelved.{shelf_of}
+use Rattle.flow_model.specs.Standing.{StandsFor}
+use Rattle.flow_model.specs.State.{State}
 use Rattle.flow_feed.specs.Feed.{IsFed}
 use Rattle.flow_feed.specs.Shared.{IsGivenShared, IsInSteps, Known}
 use Rattle.flow_feed.specs.declared.batch.Fed.{Fed}
@@ -21,6 +26,7 @@ use Rattle.flow_commands.specs.declared.archive_refusal.ArchiveRefusal.{ArchiveR
 use Rattle.flow_commands.specs.declared.archive_refusal.ArchiveRefusal.TheVariants.{Folder, Opening, Archive}
 use Rattle.flow_commands.specs.declared.archive_refusal.ArchiveRefusal.TheVariants.{Query}
 use Rattle.flow_commands.specs.declared.archive_refusal.ArchiveRefusal.TheVariants.{OutOfMemory, Write}
+use Rattle.flow_commands.specs.declared.plan.FeedPlan.{FeedPlan}
 use Rattle.flow_commands.specs.Archives.{of_archive}
 use Rattle.flow_commands.specs.Asking.{IsUnopened as IsNotOpened}
 
@@ -85,13 +91,62 @@ abbrev pub answer_by : Option ArchiveError → Result (Unit {0}) ArchiveError
 answer_by None = Ok tt
 answer_by (Some error) = Err error
 
--- How rolling beside Files ended: after rounds of turns by one who keeps as many as was asked for; and a refusal is that
--- of a source exactly where a read of one failed.
+-- How rolling beside Files ended: after rounds of turns by one who keeps as many as was asked for; and a refusal is
+-- that of a source exactly where a read of one failed.
 pub record IsRollEnd {D S X : Type 0} (g : Ghosts D S X) (opening : Shelf) (asked : ℕ → Type 0) (before now : ℕ)
     (refused : Option ArchiveError) : Type 0 where
   pub rounds : List Round
   pub rolled : RollsBeside g opening asked rounds (answer_by refused)
   pub unread : HasCause archive.SourceFault before now (answer_by refused)
+
+-- ---- what was asked for
+
+-- of a File of which nothing was taken in
+abbrev pub unfed : Fed
+unfed = record { messages = 0; stop = None }
+
+-- the octets of standard input, where it is given
+abbrev pub octets_given : {R : Type 0} → (R → Option (List ℕ)) → Option (MutBor R) → Option (Option (List ℕ))
+octets_given octets input = option_map (λ read. octets read.now) input
+
+-- Standard input is the first of the Files at the path `-`.
+pub record IsInputAt (paths : List (List ℕ)) (k : ℕ) : Type 0 where
+  pub here : slice_get paths k ≡ Some (codes "-")
+  pub first : (j : ℕ) → j < k → slice_get paths j ≢ Some (codes "-")
+
+-- What came of the File at this path, where that was there before: of one at the path `-` that, and of others what
+-- feeding it gives.
+pub record IsFedAt {D S X F : Type 0} (g : Ghosts D S X) (octets : F → Option (List ℕ)) (opening : Shelf) (passed : ℕ)
+    (path : List ℕ) (old new : Fed) : Type 0 where
+  pub input : path ≡ codes "-" → new ≡ old
+  pub file : path ≢ codes "-" → IsPathFed g octets opening passed new
+
+-- What came of the Files at these paths, of each at its place, before standard input was read.
+pub record AreFilesFed {D S X F : Type 0} (g : Ghosts D S X) (octets : F → Option (List ℕ)) (opening : Shelf)
+    (passed : ℕ) (paths : List (List ℕ)) (feds : List Fed) : Type 0 where
+  pub count : length feds ≡ length paths
+  pub each : (k : ℕ) (path : List ℕ) (fed : Fed) → slice_get paths k ≡ Some path → slice_get feds k ≡ Some fed
+      → IsFedAt g octets opening passed path unfed fed
+
+-- What came of the Files at these paths, of each at its place. Where standard input is given, which has these octets,
+-- the first one at `-` is that; nothing is taken in of others at `-`.
+pub record AreFed {D S X F : Type 0} (g : Ghosts D S X) (octets : F → Option (List ℕ)) (opening : Shelf)
+    (passed : ℕ) (input : Option (Option (List ℕ))) (paths : List (List ℕ)) (feds : List Fed) : Type 0 where
+  pub count : length feds ≡ length paths
+  pub files : (k : ℕ) (path : List ℕ) (fed : Fed) → slice_get paths k ≡ Some path → slice_get feds k ≡ Some fed
+      → path ≢ codes "-" → IsPathFed g octets opening passed fed
+  pub input_fed : IfSome input (λ known. (k : ℕ) (fed : Fed) → IsInputAt paths k → slice_get feds k ≡ Some fed
+      → IsStreamed g opening passed known fed)
+  pub others : (k : ℕ) (fed : Fed) → slice_get paths k ≡ Some (codes "-") → slice_get feds k ≡ Some fed
+      → (IsTrue (is_some input) → IsInputAt paths k → ⊥) → fed ≡ unfed
+
+-- The Files were fed so, while one rolled who keeps exactly as many as the plan says.
+pub record IsAskedFeeding {D S X F : Type 0} (g : Ghosts D S X) (octets : F → Option (List ℕ)) (opening : Shelf)
+    (plan : FeedPlan) (input : Option (Option (List ℕ))) (paths : List (List ℕ)) (feds : List Fed)
+    (refused : Option ArchiveError) : Type 0 where
+  pub fed : AreFed g octets opening plan.passed input paths feds
+  pub rounds : List Round
+  pub rolled : RollsBeside g opening (λ keep. keep ≡ plan.keep) rounds (answer_by refused)
 
 -- ---- what is written
 
@@ -129,7 +184,26 @@ TellsFed count old new result =
     (feds : List Fed) × (refused : Option ArchiveError) × (length feds ≡ count)
     × TellsFiles feds refused old new result
 
+-- The Files at these paths were fed as the plan says, and this was written of them.
+abbrev pub FeedsAsked : {D S X F : Type 0} → Ghosts D S X → (F → Option (List ℕ)) → Shelf → FeedPlan
+    → Option (Option (List ℕ)) → List (List ℕ) → Option (List ℕ) → Option (List ℕ) → Result ℕ ArchiveRefusal → Type 0
+FeedsAsked g octets opening plan input paths old new result =
+    (feds : List Fed) × (refused : Option ArchiveError)
+    × IsAskedFeeding g octets opening plan input paths feds refused × TellsFiles feds refused old new result
+
+-- no File was fed, and nothing was written
+abbrev pub IsUnstarted : Option (List ℕ) → Option (List ℕ) → Result ℕ ArchiveRefusal → Type 0
+IsUnstarted old new result = IsErr result × Keeps old new
+
 -- ---- of an archive on a disk
+
+-- The archive that was read was opened, and the Files were fed into it; or none was fed.
+abbrev pub FeedsOn : {D S X F : Type 0} → Ghosts D S X → (F → Option (List ℕ)) → D → FeedPlan
+    → Option (Option (List ℕ)) → List (List ℕ) → Option (List ℕ) → Option (List ℕ) → Result ℕ ArchiveRefusal → Type 0
+FeedsOn g octets disk plan input paths old new result =
+    ((state : State) × (IsTrue (g.honest disk) → StandsFor (reads_of (g.held disk)) state)
+    × FeedsAsked g octets (shelf_of state) plan input paths old new result)
+    ⊎ IsUnstarted old new result
 
 -- Why feeding is refused: the archive isn't opened, it refused an event, or a line couldn't be made or written.
 abbrev pub IsNotFed : (ℕ → List ℕ) → ArchiveRefusal → Type 0
@@ -141,6 +215,12 @@ IsNotFed reads (Query e) = ⊥
 IsNotFed reads (Folder why) = ⊥
 
 -- ---- of an archive in a folder
+
+-- The Files at these paths were fed, as the plan says, on some disk of the folder's kind; or none was fed.
+abbrev pub FeedsIn : {D S X F : Type 0} → Ghosts D S X → (F → Option (List ℕ)) → FeedPlan → Option (Option (List ℕ))
+    → List (List ℕ) → Option (List ℕ) → Option (List ℕ) → Result ℕ ArchiveRefusal → Type 0
+FeedsIn {D} g octets plan input paths old new result =
+    ((disk : D) × FeedsOn g octets disk plan input paths old new result) ⊎ IsUnstarted old new result
 
 -- the status of the first File that stopped, 0 where none did
 abbrev pub first_status : Option FeedStop → ℕ

@@ -117,6 +117,7 @@ impl From<FolderError> for ArchiveRefusal {
             FolderError::Refused(_) => ArchiveRefusal::Folder(FolderFault::Refused),
             FolderError::InUse => ArchiveRefusal::Folder(FolderFault::InUse),
             FolderError::NotAFile(file) => ArchiveRefusal::Folder(FolderFault::NotAFile(file)),
+            FolderError::NoLock(_) => ArchiveRefusal::Folder(FolderFault::NoLock),
             FolderError::NoHandles => ArchiveRefusal::Folder(FolderFault::NoHandles),
             FolderError::OutOfMemory => ArchiveRefusal::OutOfMemory,
         }

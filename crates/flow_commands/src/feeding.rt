@@ -1,15 +1,16 @@
 //! The command `feed`.
 
 ghost use Rattle.std.specs.Prelude.{◌≡◌, ◌≢◌, ◌≤◌, ◌<◌, ◌⊎◌, ℕ, Err, List, Option, Some, None, false, length, IsTrue};
-ghost use Rattle.std.specs.Prelude.{codes, slice_index_or, IfOk, IfErr, IfSome};
+ghost use Rattle.std.specs.Prelude.{codes, map, replicate, slice_get, IfOk, IfErr, IfNone, IfSome};
 ghost use Rattle.std.specs.Io.KnownBytes.{Keeps};
 ghost use Rattle.flow_manifest.specs.Slots.{reads_of};
 ghost use Rattle.flow_model.specs.Shelved.{shelf_of};
 ghost use Rattle.flow_archive.specs.declared.refusal.ArchiveError.{ArchiveError as Refusal};
 ghost use Rattle.flow_feed.specs.declared.batch.Fed.{Fed as FedFile};
-ghost use Rattle.flow_commands.specs.Feeding.{FeedsLines, IsNotFed, IsPathFed};
+ghost use Rattle.flow_commands.specs.Feeding.{AreFed, AreFilesFed, FeedsAsked, FeedsIn, FeedsLines, FeedsOn};
+ghost use Rattle.flow_commands.specs.Feeding.{IsFedAt, IsInputAt, IsNotFed, IsPathFed, IsUnstarted};
 ghost use Rattle.flow_commands.specs.Feeding.{IsRollEnd, IsStreamed, KeepsOrFeeds, TellsFed, TellsFile, TellsFiles};
-ghost use Rattle.flow_commands.specs.Feeding.{feed_ended, unopened};
+ghost use Rattle.flow_commands.specs.Feeding.{feed_ended, octets_given, unfed, unopened};
 ghost use Rattle.flow_feed.specs.declared.batch.FeedStop.{FeedStop as WhyStopped};
 ghost use Rattle.flow_feed.specs.declared.batch.FeedStop.TheVariants as stop;
 ghost use Rattle.std.specs.IoError.{error_kind};
@@ -202,6 +203,38 @@ fn roll_files<D: Disk, J: Naming, K: Keeping, H: Wait>(
     }
 }
 
+/// Takes the File at this place of some paths into an archive that threads share, and answers what came of it: of
+/// standard input what was there before.
+fn feed_at<
+    H: Files + AllocGlobal + Clone + Drop + Wait,
+    D: Disk,
+    J: Naming,
+    K: Keeping,
+    S: AsStr,
+    P: Write + Drop,
+>(
+    rt: &H,
+    shared: &SharedArchive<D, J, H>,
+    bell: &Bell<K>,
+    span: u32,
+    paths: &[S],
+    i: usize,
+    progress: &Progress<P>,
+    passed: u64,
+    before: Fed,
+) -> Fed
+    requires { i < length paths.now }
+    ensures { (path : S) → slice_get paths.now i ≡ Some path
+        → IsFedAt D.Disk H.File.remaining J.opening passed (S.text path) before result }
+{
+    let path = paths[i].as_str();
+    if path == STANDARD_INPUT {
+        return before;
+    }
+    let number = (i as u64).saturating_add(1);
+    feed_path(rt, shared, bell, span, number, path, progress, passed)
+}
+
 /// Takes the Files at these paths but standard input into an archive that threads share, each by a thread of its own
 /// where one can be made, and puts what came of each in its place.
 fn feed_each<
@@ -225,18 +258,18 @@ where
     H::File: Send + Sync,
     H::Dir: Send + Sync,
     D::Sealed: Send + Sync,
-    requires { length feds.items ≡ length paths.now }
-    ensures { length result.items ≡ length paths.now }
+    requires room { length feds.items ≡ length paths.now }
+    requires none { feds.items ≡ replicate (length paths.now) unfed }
+    ensures count { length result.items ≡ length paths.now }
+    ensures fed { AreFilesFed D.Disk H.File.remaining J.opening passed (map S.text paths.now) result.items }
 {
     let mut feds = feds;
     let one = |i: usize, fed: &mut Fed|
         requires { i < length paths.now }
+        ensures { (path : S) → slice_get paths.entry.now i ≡ Some path
+            → IsFedAt D.Disk H.File.remaining J.opening passed (S.text path) fed.old fed.new }
     {
-        let path = paths[i].as_str();
-        if path != STANDARD_INPUT {
-            let number = (i as u64).saturating_add(1);
-            *fed = feed_path(rt, shared, bell, span, number, path, progress, passed);
-        }
+        *fed = feed_at(rt, shared, bell, span, paths, i, progress, passed, *fed);
     };
     thread::for_each_mut(rt, feds.as_mut_slice(), MOST_FILES, &one);
     feds
@@ -245,7 +278,8 @@ where
 /// The first of these paths that is standard input.
 fn place_of_input<S: AsStr>(paths: &[S]) -> Option<usize>
     ensures within { IfSome result (λ i. i < length paths.now) }
-    ensures input { IfSome result (λ i. (path : S) → S.text (slice_index_or paths.now i path) ≡ codes "-") }
+    ensures input { IfSome result (IsInputAt (map S.text paths.now)) }
+    ensures none { IfNone result ((k : ℕ) → slice_get (map S.text paths.now) k ≢ Some (codes "-")) }
 {
     for (i, path) in paths.iter().enumerate() {
         if path.as_str() == STANDARD_INPUT {
@@ -255,8 +289,73 @@ fn place_of_input<S: AsStr>(paths: &[S]) -> Option<usize>
     None
 }
 
-/// Takes the Files at these paths into an archive that threads share; standard input, where it is among them, by this
-/// thread, and where it is again, that has ended.
+/// Takes the Files at these paths into an archive that threads share; standard input, which is the first at `-`, by
+/// this thread, and where it is there again, that has ended.
+fn feed_with_input<
+    H: Files + AllocGlobal + Clone + Drop + Threads + Wait + Send + Sync,
+    D: Disk + Send,
+    J: Naming + Send + Sync,
+    K: Keeping + Send + Sync,
+    S: AsStr + Sync,
+    R: Read,
+    P: Write + Drop + Send,
+>(
+    rt: &H,
+    shared: &SharedArchive<D, J, H>,
+    bell: &Bell<K>,
+    span: u32,
+    paths: &[S],
+    place: usize,
+    input: &mut R,
+    progress: &Progress<P>,
+    passed: u64,
+    feds: Vec<Fed>,
+) -> Vec<Fed>
+where
+    H::File: Send + Sync,
+    H::Dir: Send + Sync,
+    D::Sealed: Send + Sync,
+    requires within { place < length paths.now }
+    requires input { IsInputAt (map S.text paths.now) place }
+    requires room { length feds.items ≡ length paths.now }
+    requires none { feds.items ≡ replicate (length paths.now) unfed }
+    ensures count { length result.items ≡ length paths.now }
+    ensures fed { AreFed D.Disk H.File.remaining J.opening passed (Some (R.remaining input.old))
+        (map S.text paths.now) result.items }
+{
+    let number = (place as u64).saturating_add(1);
+    let (feds, own) = thread::join(
+        rt,
+        move || -> Vec<Fed>
+            requires room { length feds.items ≡ length paths.now }
+            requires none { feds.items ≡ replicate (length paths.now) unfed }
+            ensures count { length result.items ≡ length paths.entry.now }
+            ensures fed { AreFilesFed D.Disk H.File.remaining J.opening passed (map S.text paths.entry.now)
+                result.items }
+        { feed_each(rt, shared, bell, span, paths, progress, passed, feds) },
+        move || -> Fed
+            ensures { IsStreamed D.Disk J.opening passed (R.remaining input.entry.now) result }
+        {
+            feed_named(
+                rt,
+                shared,
+                bell,
+                span,
+                number,
+                STANDARD_INPUT,
+                input,
+                progress,
+                passed,
+            )
+        },
+    );
+    let mut feds = feds;
+    feds[place] = own;
+    feds
+}
+
+/// Takes the Files at these paths into an archive that threads share; standard input, where it is given and among
+/// them, too.
 fn feed_all<
     H: Files + AllocGlobal + Clone + Drop + Threads + Wait + Send + Sync,
     D: Disk + Send,
@@ -280,36 +379,21 @@ where
     H::File: Send + Sync,
     H::Dir: Send + Sync,
     D::Sealed: Send + Sync,
-    requires { length feds.items ≡ length paths.now }
-    ensures { length result.items ≡ length paths.now }
+    requires room { length feds.items ≡ length paths.now }
+    requires none { feds.items ≡ replicate (length paths.now) unfed }
+    ensures count { length result.items ≡ length paths.now }
+    ensures fed { AreFed D.Disk H.File.remaining J.opening passed (octets_given R.remaining input.entry)
+        (map S.text paths.now) result.items }
 {
-    let (Some(place), Some(input)) = (place_of_input(paths), input) else {
-        return feed_each(rt, shared, bell, span, paths, progress, passed, feds);
-    };
-    let number = (place as u64).saturating_add(1);
-    let (feds, own) = thread::join(
-        rt,
-        move || -> Vec<Fed>
-            requires { length feds.items ≡ length paths.now }
-            ensures { length result.items ≡ length paths.entry.now }
-        { feed_each(rt, shared, bell, span, paths, progress, passed, feds) },
-        move || {
-            feed_named(
-                rt,
-                shared,
-                bell,
-                span,
-                number,
-                STANDARD_INPUT,
-                input,
-                progress,
-                passed,
-            )
+    match input {
+        None => feed_each(rt, shared, bell, span, paths, progress, passed, feds),
+        Some(input) => match place_of_input(paths) {
+            None => feed_each(rt, shared, bell, span, paths, progress, passed, feds),
+            Some(place) => feed_with_input(
+                rt, shared, bell, span, paths, place, input, progress, passed, feds,
+            ),
         },
-    );
-    let mut feds = feds;
-    feds[place] = own;
-    feds
+    }
 }
 
 /// The same, while another thread rolls; where none can be made, this one rolls once they are fed. It answers the first
@@ -338,9 +422,12 @@ where
     H::Dir: Send + Sync,
     D::Sealed: Send + Sync,
     requires room { length feds.items ≡ length paths.now }
+    requires none { feds.items ≡ replicate (length paths.now) unfed }
     // The bell keeps what was asked for.
     requires asked { ∥ K.asked plan.keep ∥₁ }
     ensures count { length result.0.items ≡ length paths.now }
+    ensures fed { AreFed D.Disk H.File.remaining J.opening plan.passed (octets_given R.remaining input.entry)
+        (map S.text paths.now) result.0.items }
     ensures rolled { IsRollEnd D.Disk J.opening K.asked faults.old faults.new result.1 }
 {
     let bell: Bell<K> = Bell::new(plan.keep);
@@ -352,8 +439,11 @@ where
             ensures { IsRollEnd D.Disk J.opening K.asked 0 result.1 result.0 }
         { roll_files(rt, alloc, shared, rung) },
         move || -> Vec<Fed>
-            requires { length feds.items ≡ length paths.now }
-            ensures { length result.items ≡ length paths.entry.now }
+            requires room { length feds.items ≡ length paths.now }
+            requires none { feds.items ≡ replicate (length paths.now) unfed }
+            ensures count { length result.items ≡ length paths.entry.now }
+            ensures fed { AreFed D.Disk H.File.remaining J.opening plan.passed
+                (octets_given R.remaining input.entry) (map S.text paths.entry.now) result.items }
         {
             let feds = feed_all(
                 rt,
@@ -493,9 +583,13 @@ where
     H::Dir: Send + Sync,
     D::Sealed: Send + Sync,
     requires room { length feds.items ≡ length paths.now }
+    requires none { feds.items ≡ replicate (length paths.now) unfed }
     requires book { opened.seen.book ≡ J.book }
     requires opening { shelf_of archive.state ≡ J.opening }
     requires honest { D.honest archive.disk ≡ J.honest }
+    ensures asked { FeedsAsked D.Disk H.File.remaining J.opening plan (octets_given R.remaining input.entry)
+        (map S.text paths.now) (W.contents output.old) (W.contents output.new) result
+        ⊎ IsUnstarted (W.contents output.old) (W.contents output.new) result }
     ensures fed { TellsFed (length paths.now) (W.contents output.old) (W.contents output.new) result }
     ensures most { IfOk result (λ status. status ≤ 5) }
     ensures other { IfOk result (λ status. status ≢ 2) }
@@ -539,6 +633,8 @@ where
     H::Dir: Send + Sync,
     D::Sealed: Send + Sync,
     requires { (n : ℕ) → (D.marks disk n).frozen ≡ false }
+    ensures asked { FeedsOn D.Disk H.File.remaining disk plan (octets_given R.remaining input.entry)
+        (map S.text paths.now) (W.contents output.old) (W.contents output.new) result }
     ensures refused { IsTrue (D.honest disk) → IfErr result (λ e. IsNotFed (reads_of (D.held disk)) e) }
     ensures written { IfOk result (λ status. FeedsLines (length paths.now) status (W.contents output.old)
         (W.contents output.new)) }
@@ -571,23 +667,26 @@ where
 /// segments are kept as the plan says; older ones are rolled meanwhile. It answers the exit status: that of the first
 /// File that stopped.
 pub fn feed_in<
+    'a,
     H: Files + AllocGlobal + Clone + Drop + Threads + Wait + Send + Sync,
     S: AsStr + Sync,
     R: Read,
     W: Write,
     P: Write + Drop + Send,
 >(
-    rt: &H,
-    folder: &str,
+    rt: &'a H,
+    folder: &'a str,
     plan: FeedPlan,
     paths: &[S],
     input: Option<&mut R>,
     output: &mut W,
-    progress: &Progress<P>,
+    progress: &'a Progress<P>,
 ) -> Result<u8, ArchiveRefusal>
 where
     H::File: FileExt + Lockable + Send + Sync,
     H::Dir: Send + Sync,
+    ensures asked { FeedsIn ⟦<FolderDisk<'a, H> as Disk>⟧ H.File.remaining plan (octets_given R.remaining input.entry)
+        (map S.text paths.now) (W.contents output.old) (W.contents output.new) result }
     ensures written { IfOk result (λ status. FeedsLines (length paths.now) status (W.contents output.old)
         (W.contents output.new)) }
     ensures kept { IfErr result (λ e. KeepsOrFeeds (length paths.now) e (W.contents output.old)

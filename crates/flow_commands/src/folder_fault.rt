@@ -36,6 +36,8 @@ pub enum FolderFault {
     InUse,
     /// The name of this file is that of something else.
     NotAFile(u64),
+    /// The system can't lock it.
+    NoLock,
     /// The system's list of open files isn't there.
     NoHandles,
     /// The system's clock can't be read, or is set before 1970.
@@ -72,6 +74,11 @@ impl fmt::Display for FolderFault {
                 "{}\nflowvault: {} in the folder is a link, a folder, a pipe or a device, and not a file",
                 RefusalCode::Fault,
                 FileName(*file)
+            ),
+            FolderFault::NoLock => write!(
+                f,
+                "{}\nflowvault: the system can't lock the folder: has its file system locks?",
+                RefusalCode::Fault
             ),
             FolderFault::NoHandles => write!(
                 f,

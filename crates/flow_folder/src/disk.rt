@@ -50,8 +50,10 @@ where
         ensures { IfOk result (λ disk. (n : ℕ) → (marks_in disk.table n).frozen ≡ false) }
     {
         let opened = Self::opened(rt, folder, Some(first_fault));
-        if let Err(FolderError::Refused(error)) = &opened {
-            first_fault.note(error);
+        if let Err(refused) = &opened {
+            if let Some(error) = refused.said() {
+                first_fault.note(error);
+            }
         }
         opened
     }

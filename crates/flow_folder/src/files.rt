@@ -38,11 +38,12 @@ where
                 first_fault,
                 place: Arc::new(rt.alloc(), place)?,
             }),
-            Err(FolderError::Refused(error)) => {
-                first_fault.note(&error);
-                Err(FolderError::Refused(error))
+            Err(refused) => {
+                if let Some(error) = refused.said() {
+                    first_fault.note(error);
+                }
+                Err(refused)
             }
-            Err(other) => Err(other),
         }
     }
 

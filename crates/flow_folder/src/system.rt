@@ -42,12 +42,24 @@ pub enum FolderError {
     InUse,
     /// The name of this file is that of a symbolic link, a folder, a pipe or a device.
     NotAFile(u64),
+    /// The system can't lock it, as where its file system has no locks.
+    NoLock(io::Error),
     /// The system's list of open files, `/proc/self/fd`, isn't there.
     NoHandles,
     /// Memory was refused.
     OutOfMemory,
     /// The system refused it otherwise.
     Refused(io::Error),
+}
+
+impl FolderError {
+    /// What the system said of the call that failed, where it isn't said otherwise.
+    pub(crate) fn said(&self) -> Option<&io::Error> {
+        match self {
+            FolderError::NoLock(error) | FolderError::Refused(error) => Some(error),
+            _ => None,
+        }
+    }
 }
 
 impl From<io::Error> for FolderError {
@@ -64,7 +76,7 @@ impl From<TryLockError> for FolderError {
     fn from(error: TryLockError) -> Self {
         match error {
             TryLockError::WouldBlock => FolderError::InUse,
-            TryLockError::Error(error) => FolderError::from(error),
+            TryLockError::Error(error) => FolderError::NoLock(error),
         }
     }
 }

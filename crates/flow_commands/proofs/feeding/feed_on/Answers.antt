@@ -1,4 +1,5 @@
-use Rattle.std.proofs.Common.{subst}
+use Rattle.std.proofs.Common.{inl, inr, refl, subst}
+use Rattle.std.proofs.KnownBytes.{Keeps-refl}
 use Rattle.std.specs.Prelude.{length, IfErr}
 use Rattle.flow_disk.proofs.Results.{passed_on}
 use Rattle.flow_folder.specs.declared.system.FolderError.TheVariants as folder
@@ -6,7 +7,8 @@ use Rattle.flow_manifest.specs.Slots.{reads_of}
 use Rattle.flow_commands.specs.declared.archive_refusal.ArchiveRefusal.TheVariants as refusal
 use Rattle.flow_commands.specs.Asking.{IsUnopened}
 use Rattle.flow_commands.specs.Feeding.{IsNotFed, KeepsOrFeeds}
-use Rattle.flow_commands.proofs.Lines.{folder_kept, opening_kept, opening_not_fed, result_err, result_not_fed, result_ok}
+use Rattle.flow_commands.proofs.Lines.{folder_kept, opening_kept, opening_not_fed, passed_err, result_err, result_not_fed}
+use Rattle.flow_commands.proofs.Lines.{result_ok}
 use Rattle.flow_commands.proofs.feeding.feed_on.Goals as goal
 
 pub returns-in_ok-feds-in-Ok-clause-written : goal.returns-in_ok-feds-in-Ok-clause-written
@@ -49,3 +51,19 @@ pub returns-in_err-feds-in-Ok-clause-refused : goal.returns-in_err-feds-in-Ok-cl
 returns-in_err-feds-in-Ok-clause-refused g c h =
     passed_on c.from_residual.result refusal.OutOfMemory (λ e. IsNotFed (reads_of (g.D.Disk.held c.args.disk)) e)
     c.from_residual.ensures.1 tt
+
+pub returns-in_ok-feds-in-Ok-clause-asked : goal.returns-in_ok-feds-in-Ok-clause-asked
+returns-in_ok-feds-in-Ok-clause-asked g c = elim c.feed_files.ensures.asked [
+  | inl fed ↦ inl (c.in-Ok.archive.state, c.in-Ok.ensures.read, fed)
+  | inr unstarted ↦ inr unstarted
+]
+
+pub returns-in-Err-clause-asked : goal.returns-in-Err-clause-asked
+returns-in-Err-clause-asked g c = inr (refl, Keeps-refl (g.W.Write.contents c.args.output.now))
+
+pub returns-in_err-feds-in-Ok-clause-asked : goal.returns-in_err-feds-in-Ok-clause-asked
+returns-in_err-feds-in-Ok-clause-asked g c =
+    inr (
+      passed_err c.from_residual.result refusal.OutOfMemory c.from_residual.ensures.1,
+      Keeps-refl (g.W.Write.contents c.args.output.now),
+    )

@@ -1,6 +1,3 @@
-use Rattle.std.proofs.Common.{◌≡◌, List, Option, ℕ, subst}
-use Rattle.flow_feed.specs.Feed.{IsFed}
-use Rattle.flow_feed.specs.Shared.{IsGivenShared, IsInSteps}
 use Rattle.flow_commands.proofs.feeding.stream.Goals as goal
 
 pub returns : goal.returns

@@ -1,0 +1,9 @@
+use Rattle.std.proofs.Common.{map}
+use Rattle.flow_commands.proofs.AllFed.{with_input}
+use Rattle.flow_commands.proofs.feeding.feed_with_input.Goals as goal
+
+pub returns-clause-fed : goal.returns-clause-fed
+returns-clause-fed g c =
+    with_input g.D.Disk g.H.File.Read.remaining g.J.Naming.opening c.args.passed (g.R.Read.remaining c.args.input.now)
+    (map g.S.AsStr.text c.args.paths.now) c.args.place c.join-feds.result.0.items c.join-feds.result.1
+    c.join-feds.ensures.first.1 c.requires.input c.join-feds.ensures.second
