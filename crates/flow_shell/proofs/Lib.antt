@@ -1,6 +1,9 @@
 pub mod EndedLines
+pub mod KeepsAsked
 pub mod Names
 pub mod Said
 pub mod Shown
 pub mod Table
+pub mod Unanswered
+pub mod Unserved
 pub mod Writing

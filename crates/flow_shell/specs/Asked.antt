@@ -1,6 +1,7 @@
 -- What a line asks of the shell.
-use Rattle.std.specs.Prelude.{ℕ, ◌-◌, ◌==◌, List, [], ◌∷◌, Option, Some, None, codes, option_map, option_and_then}
-use Rattle.std.specs.Prelude.{if◌then◌else◌}
+use Rattle.std.specs.Prelude.{◌≡◌, ◌≢◌, ◌⊎◌, ⊤, ℕ, zero, suc, ◌-◌, ◌==◌, List, [], ◌∷◌, Option, Some, None, IfSome}
+use Rattle.std.specs.Prelude.{codes, option_map, option_and_then, if◌then◌else◌}
+use Rattle.std.specs.Io.BufRead.{drop_through, first_piece}
 use Rattle.std.specs.List.{before_first, after_first}
 use Rattle.std.specs.Str.{bytes_eq}
 use Rattle.flow_report.specs.Numbers.{number_between}
@@ -58,3 +59,25 @@ request_in line =
     else if bytes_eq (codes "wait") line then Some Wait
     else if bytes_eq (codes "quit") line then Some Quit
     else by_name (name_of line) (rest_of line)
+
+-- ---- what an input asks for
+
+-- what is left of an input after so many lines
+abbrev pub after_lines : ℕ → List ℕ → List ℕ
+after_lines zero octets = octets
+after_lines (suc n) octets = after_lines n (drop_through 10 octets)
+
+-- The next line of an input whose octets are known, without its line feed, and what is left after it.
+abbrev pub IsNextLine : Option (List ℕ) → Option (List ℕ) → List ℕ → Type 0
+IsNextLine old left line =
+    IfSome old (λ octets. (octets ≢ []) × (line ≡ first_piece 10 octets) × (left ≡ Some (drop_through 10 octets)))
+
+-- A line of the input asks that so many segments are kept. Of an input of which it isn't known what it has nothing is
+-- said.
+abbrev pub AsksToKeep : Option (List ℕ) → ℕ → Type 0
+AsksToKeep None keep = ⊤
+AsksToKeep (Some octets) keep = (n : ℕ) × (request_in (first_piece 10 (after_lines n octets)) ≡ Some (Keep keep))
+
+-- So many may be kept: as many as at first, or as a line of the input asks for.
+abbrev pub MayKeep : ℕ → Option (List ℕ) → ℕ → Type 0
+MayKeep first input keep = (keep ≡ first) ⊎ AsksToKeep input keep

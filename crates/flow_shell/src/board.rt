@@ -5,7 +5,7 @@ ghost use Rattle.std.specs.Sync.Mutex.{mutex_guard_value};
 ghost use Rattle.flow_shell.specs.Places.{AreSaid, Begins, Frees, HasFed, IsFirst, Replaces};
 
 use flow_feed::Fed;
-use flow_roller::Bell;
+use flow_roller::{Bell, Keeping};
 use std::io;
 use std::io::{ErrorKind, Read};
 use std::marker::{Brand, PhantomData};
@@ -267,17 +267,17 @@ impl<B: Ends> Board<B> {
 
 /// A File that is read until the shell ends. It rings a bell for each `span` octets that are read.
 #[derive(Drop)]
-pub(crate) struct Stoppable<'a, B: Ends, H: Wait, R: Read> {
+pub(crate) struct Stoppable<'a, B: Ends, K: Keeping, H: Wait, R: Read> {
     pub(crate) rt: &'a H,
     pub(crate) board: &'a Board<B>,
-    pub(crate) bell: &'a Bell<Brand>,
+    pub(crate) bell: &'a Bell<K>,
     pub(crate) span: u32,
     pub(crate) input: &'a mut R,
     /// How many were read.
     pub(crate) octets: u64,
 }
 
-impl<B: Ends, H: Wait, R: Read> Read for Stoppable<'_, B, H, R> {
+impl<B: Ends, K: Keeping, H: Wait, R: Read> Read for Stoppable<'_, B, K, H, R> {
     ghost remaining = { λ file. R.remaining file.input.now };
 
     fn read(&mut self, buf: &mut [u8]) -> io::Result<usize> {

@@ -9,7 +9,9 @@
 mod answering;
 mod asked;
 mod board;
+mod lines;
 mod refusal;
+mod rolling;
 mod shell;
 mod telling;
 

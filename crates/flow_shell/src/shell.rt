@@ -1,7 +1,7 @@
 //! Requests, answered one after the other while Files are fed.
 
-ghost use Rattle.std.specs.Prelude.{◌≡◌, ◌≢◌, ◌≤◌, ◌++◌, ⊤, ℕ, false, IfErr, IfOk, IsTrue, List, OnOk, Option};
-ghost use Rattle.std.specs.Prelude.{string_bytes};
+ghost use Rattle.std.specs.Prelude.{◌≡◌, ◌≢◌, ◌≤◌, ◌⊎◌, ◌++◌, ⊤, ℕ, false, IfErr, IfOk, IsTrue, List, OnOk, Option};
+ghost use Rattle.std.specs.Prelude.{Some, string_bytes};
 ghost use Rattle.std.specs.Io.KnownBytes.{Appends};
 ghost use mathlib.Core.List.{IsPrefix};
 ghost use Rattle.flow_measure.specs.History.{History};
@@ -12,15 +12,18 @@ ghost use Rattle.flow_shell.specs.Written.{IsAnswer};
 ghost use Rattle.flow_shell.specs.Written.{began_line, done_line, refused_line, IsEndedBy};
 ghost use Rattle.flow_shell.specs.Written.{HasTold, IsFinished, IsRefusalWritten, IsWritten};
 ghost use Rattle.flow_shell.specs.Fed.{EndsSo, WasFed};
-ghost use Rattle.flow_shell.specs.Endings.{answer_by, end_status, end_text, shell_ended};
-ghost use Rattle.flow_disk.specs.Cause.{HasCause};
-ghost use Rattle.flow_archive.specs.declared.refusal.ArchiveError.TheVariants as event;
+ghost use Rattle.flow_shell.specs.Asked.{MayKeep};
+ghost use Rattle.flow_shell.specs.declared.asked.ShellRequest.TheVariants as asked;
+ghost use Rattle.flow_shell.specs.Endings.{end_status, end_text, shell_ended};
+ghost use Rattle.flow_shell.specs.Endings.{IsServed, IsUnanswered, IsUnserved, RollsAsked, ShellsIn, ShellsOn};
 ghost use Rattle.flow_feed.specs.declared.batch.Fed.{Fed as FedFile};
 
 use crate::answering::{answer_check, answer_flows, answer_message, answer_totals};
-use crate::asked::{Query, ShellRequest, request_of};
+use crate::asked::{Query, ShellRequest};
 use crate::board::{Board, Ends, Stoppable};
+use crate::lines::Lines;
 use crate::refusal::ShellRefusal;
+use crate::rolling::roll_files;
 use crate::telling::tell_ended;
 use flow_archive::{Archive, ArchiveError};
 use flow_commands::{ArchiveRefusal, Workers, unopened};
@@ -28,7 +31,7 @@ use flow_disk::{Disk, Faults, SealedFile};
 use flow_feed::{Fed, SharedAppender, feed_shared};
 use flow_folder::{FirstFault, FolderDisk, Lockable};
 use flow_report::{Patience, write_patiently};
-use flow_roller::{Bell, roll_beside};
+use flow_roller::{Bell, Keeping};
 use flow_shared::{ArchiveReader, Naming, Opened, SharedArchive, start};
 use std::alloc::{AllocError, AllocGlobal, Global};
 use std::fs::{File, Files};
@@ -36,8 +39,8 @@ use std::io::{BufRead, BufReader, Read, Write};
 use std::marker::Brand;
 use std::os::unix::fs::FileExt;
 use std::sync::Wait;
+use std::thread;
 use std::thread::{Scope, Threads};
-use std::{io, thread};
 
 /// The status of an answer.
 const DONE: u8 = 0;
@@ -69,10 +72,10 @@ const UNREADABLE: &str = "refused 31 Read\n";
 const NO_PLACE: &str = "refused 8 Files are fed\n";
 
 /// Takes the File that `input` reads into the archive, until the shell ends, and says how it ended.
-fn feed_file<H: AllocGlobal + Wait, D: Disk, J: Naming, B: Ends, R: Read>(
+fn feed_file<H: AllocGlobal + Wait, D: Disk, J: Naming, K: Keeping, B: Ends, R: Read>(
     rt: &H,
     shared: &SharedArchive<D, J, H>,
-    bell: &Bell<Brand>,
+    bell: &Bell<K>,
     board: &Board<B>,
     limit: u32,
     input: &mut R,
@@ -92,10 +95,10 @@ fn feed_file<H: AllocGlobal + Wait, D: Disk, J: Naming, B: Ends, R: Read>(
 }
 
 /// The same of the File at a path.
-fn feed_path<H: Files + AllocGlobal + Clone + Drop + Wait, D: Disk, J: Naming, B: Ends>(
+fn feed_path<H: Files + AllocGlobal + Clone + Drop + Wait, D: Disk, J: Naming, K: Keeping, B: Ends>(
     rt: &H,
     shared: &SharedArchive<D, J, H>,
-    bell: &Bell<Brand>,
+    bell: &Bell<K>,
     board: &Board<B>,
     limit: u32,
     path: &str,
@@ -112,10 +115,10 @@ fn feed_path<H: Files + AllocGlobal + Clone + Drop + Wait, D: Disk, J: Naming, B
 }
 
 /// Takes the File of this number, at a path, into the archive, and says how it ended.
-fn feed_one<H: Files + AllocGlobal + Clone + Drop + Wait, D: Disk, J: Naming, B: Ends>(
+fn feed_one<H: Files + AllocGlobal + Clone + Drop + Wait, D: Disk, J: Naming, K: Keeping, B: Ends>(
     rt: &H,
     shared: &SharedArchive<D, J, H>,
-    bell: &Bell<Brand>,
+    bell: &Bell<K>,
     board: &Board<B>,
     limit: u32,
     number: u64,
@@ -126,23 +129,6 @@ fn feed_one<H: Files + AllocGlobal + Clone + Drop + Wait, D: Disk, J: Naming, B:
 {
     let fed = feed_path(rt, shared, bell, board, limit, path.as_str());
     board.end(rt, number, fed);
-}
-
-/// Rolls beside the shell, and answers the first refusal of that, if any. Reads of a job's sources that fail raise
-/// `faults`.
-fn roll_files<D: Disk, J: Naming, H: Wait>(
-    rt: &H,
-    alloc: Global,
-    shared: &SharedArchive<D, J, H>,
-    bell: &Bell<Brand>,
-    faults: &mut Faults<D::Sealed>,
-) -> Option<ArchiveError>
-    ensures { HasCause event.SourceFault faults.old faults.new (answer_by result) }
-{
-    match roll_beside(shared, rt, alloc, bell, faults) {
-        Ok(()) => None,
-        Err(error) => Some(error),
-    }
 }
 
 /// The end of an answer: `done STATUS`.
@@ -239,12 +225,14 @@ fn began_line(alloc: Global, number: u64) -> Result<String, AllocError>
 
 /// Begins to feed the File at a path, by a thread of its own; where none can be made it is fed before the answer. The
 /// answer is `began N`.
+#[tactic(auto, using(crate::proofs::Unanswered::written))]
 fn begin_feed<
     's,
     E: 's,
     H: Files + AllocGlobal + Clone + Drop + Threads + Wait + Send + Sync,
     D: Disk + Send,
     J: Naming + Send + Sync,
+    K: Keeping + Send + Sync,
     B: Ends + Send + Sync,
     W: Write,
 >(
@@ -252,7 +240,7 @@ fn begin_feed<
     rt: &'s H,
     alloc: Global,
     shared: &'s SharedArchive<D, J, H>,
-    bell: &'s Bell<Brand>,
+    bell: &'s Bell<K>,
     board: &'s Board<B>,
     limit: u32,
     path: &str,
@@ -263,6 +251,7 @@ where
     H::Dir: Send + Sync,
     D::Sealed: Send + Sync,
     requires { (number : ℕ) (fed : FedFile) → EndsSo D.Disk J.opening fed → ∥ B.said number fed ∥₁ }
+    ensures { IfErr result IsUnanswered }
 {
     let Ok(path) = String::from_str(alloc, path) else {
         return answer_text(NO_MEMORY, WITHOUT_MEMORY, output);
@@ -278,7 +267,9 @@ where
         Ok(_) => {}
         Err(refused) => (refused.value)(),
     }
-    let line = began_line(alloc, number)?;
+    let Ok(line) = began_line(alloc, number) else {
+        return Err(ArchiveRefusal::OutOfMemory);
+    };
     answer_text(line.as_str(), DONE, output)
 }
 
@@ -333,6 +324,7 @@ fn answer_query<S: SealedFile + Send + Sync, J: Naming, H: Threads + Sync, W: Wr
     ensures answered { IsTrue J.honest → (h : History) → HasView J.opening h
         → OnOk result (IsAnswer (query_lines query.now asking.old.width J.opening h asking.new.reader)
         (W.contents output.old) (W.contents output.new)) }
+    ensures unanswered { IfErr result IsUnanswered }
 {
     let outcome = answer_lines(rt, alloc, asking, query, output);
     finish(alloc, outcome, output)
@@ -349,38 +341,91 @@ enum End {
     Unread,
 }
 
-/// Reads the next line, without its line feed. It is none at the end.
-fn next_line<B: BufRead>(input: &mut B, line: &mut Vec<u8>) -> Result<bool, io::Error> {
-    line.clear();
-    if input.read_until(b'\n', line)? == 0 {
-        return Ok(false);
+/// Waits until no File is fed, and writes the lines of those that have ended.
+#[tactic(auto, using(crate::proofs::Unanswered::written, crate::proofs::Unanswered::told))]
+fn answer_wait<B: Ends, H: Wait, W: Write>(
+    rt: &H,
+    alloc: Global,
+    board: &Board<B>,
+    output: &mut W,
+) -> Result<(), ArchiveRefusal>
+    ensures { IfErr result IsUnanswered }
+{
+    board.wait(rt);
+    match tell_ended(rt, alloc, board, output) {
+        Ok(()) => end_answer(DONE, output),
+        Err(refusal) => Err(refusal),
     }
-    if line.last() == Some(&b'\n') {
-        line.pop();
-    }
-    Ok(true)
 }
 
-/// Answers requests, up to the end of the input, or to `quit`.
-fn serve<
+/// Answers a request, or a line that is none. To `quit` there is no answer before all Files have ended.
+#[tactic(auto, using(crate::proofs::Unanswered::written))]
+fn answer_request<
     's,
     E: 's,
     H: Files + AllocGlobal + Clone + Drop + Threads + Wait + Send + Sync,
     D: Disk + Send,
     J: Naming + Send + Sync,
+    K: Keeping + Send + Sync,
     B: Ends + Send + Sync,
-    R: Read,
     W: Write,
 >(
     scope: &Scope<'s, E>,
     rt: &'s H,
     alloc: Global,
     shared: &'s SharedArchive<D, J, H>,
-    bell: &'s Bell<Brand>,
+    bell: &'s Bell<K>,
     board: &'s Board<B>,
     limit: u32,
     asking: &mut Asking<D::Sealed, J>,
-    input: &mut R,
+    request: Option<ShellRequest<'_>>,
+    output: &mut W,
+) -> Result<(), ArchiveRefusal>
+where
+    H::File: Send + Sync,
+    H::Dir: Send + Sync,
+    D::Sealed: Send + Sync,
+    requires said { (number : ℕ) (fed : FedFile) → EndsSo D.Disk J.opening fed → ∥ B.said number fed ∥₁ }
+    requires asked { (keep : ℕ) → request ≡ Some (asked.Keep keep) → ∥ K.asked keep ∥₁ }
+    ensures { IfErr result IsUnanswered }
+{
+    match request {
+        None => answer_text(WRONG_REQUEST, WRONG_LINE, output),
+        Some(ShellRequest::Quit) => Ok(()),
+        Some(ShellRequest::Ask(query)) => answer_query(rt, alloc, asking, &query, output),
+        Some(ShellRequest::Keep(keep)) => {
+            bell.set_keep(rt, keep);
+            end_answer(DONE, output)
+        }
+        Some(ShellRequest::Wait) => answer_wait(rt, alloc, board, output),
+        Some(ShellRequest::Feed(file)) => begin_feed(
+            scope, rt, alloc, shared, bell, board, limit, file.path, output,
+        ),
+    }
+}
+
+/// Answers requests, up to the end of the input, or to `quit`.
+#[tactic(auto, using(crate::proofs::Unanswered::told))]
+fn serve<
+    's,
+    E: 's,
+    H: Files + AllocGlobal + Clone + Drop + Threads + Wait + Send + Sync,
+    D: Disk + Send,
+    J: Naming + Send + Sync,
+    K: Keeping + Send + Sync,
+    B: Ends + Send + Sync,
+    I: BufRead + Drop,
+    W: Write,
+>(
+    scope: &Scope<'s, E>,
+    rt: &'s H,
+    alloc: Global,
+    shared: &'s SharedArchive<D, J, H>,
+    bell: &'s Bell<K>,
+    board: &'s Board<B>,
+    limit: u32,
+    asking: &mut Asking<D::Sealed, J>,
+    lines: &mut Lines<K, I>,
     output: &mut W,
 ) -> Result<End, ArchiveRefusal>
 where
@@ -388,40 +433,22 @@ where
     H::Dir: Send + Sync,
     D::Sealed: Send + Sync,
     requires { (number : ℕ) (fed : FedFile) → EndsSo D.Disk J.opening fed → ∥ B.said number fed ∥₁ }
+    ensures { IfErr result IsUnanswered }
 {
-    let Ok(input) = BufReader::new(alloc, input) else {
-        return Err(ArchiveRefusal::OutOfMemory);
-    };
-    let mut input = input;
-    let mut line = Vec::new(alloc);
     for _ in 0..u64::MAX {
-        match next_line(&mut input, &mut line) {
+        match lines.read() {
             Ok(true) => {}
             Ok(false) => return Ok(End::OfInput),
             Err(_) => return Ok(End::Unread),
         }
         tell_ended(rt, alloc, board, output)?;
-        let Ok(text) = str::from_utf8(line.as_slice()) else {
-            answer_text(WRONG_REQUEST, WRONG_LINE, output)?;
-            continue;
-        };
-        match request_of(text) {
-            None => answer_text(WRONG_REQUEST, WRONG_LINE, output)?,
-            Some(ShellRequest::Quit) => return Ok(End::Quit),
-            Some(ShellRequest::Ask(query)) => answer_query(rt, alloc, asking, &query, output)?,
-            Some(ShellRequest::Keep(keep)) => {
-                bell.set_keep(rt, keep);
-                end_answer(DONE, output)?;
-            }
-            Some(ShellRequest::Wait) => {
-                board.wait(rt);
-                tell_ended(rt, alloc, board, output)?;
-                end_answer(DONE, output)?;
-            }
-            Some(ShellRequest::Feed(file)) => begin_feed(
-                scope, rt, alloc, shared, bell, board, limit, file.path, output,
-            )?,
+        let request = lines.request();
+        if let Some(ShellRequest::Quit) = request {
+            return Ok(End::Quit);
         }
+        answer_request(
+            scope, rt, alloc, shared, bell, board, limit, asking, request, output,
+        )?;
     }
     Ok(End::OfInput)
 }
@@ -438,6 +465,7 @@ fn leave<B: Ends, H: Wait, W: Write>(
     // The lines of Files that ended so, and what is written at the end.
     ensures written { OnOk result ((mid : Option (List ℕ)) × HasTold B.said (W.contents output.old) mid
         × Appends mid (W.contents output.new) (end_text end)) }
+    ensures unanswered { IfErr result IsUnanswered }
     ensures most { IfOk result (λ status. status ≤ 5) }
     ensures other { IfOk result (λ status. status ≢ 2) }
 {
@@ -455,49 +483,54 @@ fn leave<B: Ends, H: Wait, W: Write>(
     }
 }
 
-/// Answers requests while a thread rolls, where one can be made; then all Files that are fed end, and the rolling. It
-/// answers the status, and the first refusal of the rolling.
+/// Answers requests while a thread rolls, and then ends all Files that are fed; where no thread can be made, this one
+/// rolls after that. It answers the status, and the first refusal of the rolling.
 fn serve_beside<
     H: Files + AllocGlobal + Clone + Drop + Threads + Wait + Send + Sync,
     D: Disk + Send,
     J: Naming + Send + Sync,
-    R: Read,
+    K: Keeping + Send + Sync,
+    I: BufRead + Drop,
     W: Write,
 >(
     rt: &H,
     shared: &SharedArchive<D, J, H>,
+    bell: &Bell<K>,
     limit: u32,
-    keep: u32,
     asking: &mut Asking<D::Sealed, J>,
-    input: &mut R,
+    lines: Lines<K, I>,
     output: &mut W,
 ) -> (Result<u8, ArchiveRefusal>, Option<ArchiveError>)
 where
     H::File: Send + Sync,
     H::Dir: Send + Sync,
     D::Sealed: Send + Sync,
-    ensures { IfOk result.0 (λ status. (status ≤ 5) × (status ≢ 2)) }
+    ensures status { IfOk result.0 (λ status. (status ≤ 5) × (status ≢ 2)) }
+    ensures unanswered { IfErr result.0 IsUnanswered }
+    ensures rolled { ∥ RollsAsked D.Disk J.opening K.asked result.1 ∥₁ }
 {
-    let bell: Bell<Brand> = Bell::new(keep);
     let board: Board<Brand> = Board::new();
-    let (rung, places) = (&bell, &board);
+    let places = &board;
     let alloc = rt.alloc();
     thread::scope(
         thread::scope_env(),
         rt,
         move |scope| -> (Result<u8, ArchiveRefusal>, Option<ArchiveError>)
             requires { ⊤ }
-            ensures { IfOk result.0 (λ status. (status ≤ 5) × (status ≢ 2)) }
+            ensures status { IfOk result.0 (λ status. (status ≤ 5) × (status ≢ 2)) }
+            ensures unanswered { IfErr result.0 IsUnanswered }
+            ensures rolled { ∥ RollsAsked D.Disk J.opening K.asked result.1 ∥₁ }
         {
             let roller = scope.spawn(move || roll_files(
                 rt,
                 alloc,
                 shared,
-                rung,
+                bell,
                 &mut Faults::new(),
             ));
+            let mut lines = lines;
             let served = serve(
-                scope, rt, alloc, shared, rung, places, limit, asking, input, output,
+                scope, rt, alloc, shared, bell, places, limit, asking, &mut lines, output,
             );
             places.quit(rt);
             places.wait(rt);
@@ -505,11 +538,12 @@ where
                 Ok(end) => leave(rt, alloc, places, end, output),
                 Err(refusal) => Err(refusal),
             };
-            rung.end(rt);
-            match roller {
-                Ok(roller) => (status, roller.join(rt)),
-                Err(_) => (status, None),
-            }
+            bell.end(rt);
+            let rolled = match roller {
+                Ok(roller) => roller.join(rt),
+                Err(refused) => (refused.value)(),
+            };
+            (status, rolled.refused)
         },
     )
 }
@@ -531,11 +565,12 @@ fn ended(
     }
 }
 
-/// Answers requests about a shared archive, by the last of these readers of it.
+/// Answers the requests that an input has, a line each, about a shared archive, by the last of these readers of it.
 fn serve_reader<
     H: Files + AllocGlobal + Clone + Drop + Threads + Wait + Send + Sync,
     D: Disk + Send,
     J: Naming + Send + Sync,
+    K: Keeping + Send + Sync,
     R: Read,
     W: Write,
 >(
@@ -552,10 +587,18 @@ where
     H::File: Send + Sync,
     H::Dir: Send + Sync,
     D::Sealed: Send + Sync,
+    // As many as at first, or as a line of the input says, may be kept.
+    requires { (kept : ℕ) → MayKeep keep (R.remaining input.old) kept → ∥ K.asked kept ∥₁ }
+    ensures served { IsServed D.Disk J.opening K.asked result
+        ⊎ IsUnserved (W.contents output.old) (W.contents output.new) result }
     ensures most { IfOk result (λ status. status ≤ 5) }
     ensures other { IfOk result (λ status. status ≢ 2) }
 {
     let Some(reader) = readers.pop() else {
+        return Err(ArchiveRefusal::OutOfMemory);
+    };
+    let alloc = rt.alloc();
+    let Ok(input) = BufReader::new(alloc, input) else {
         return Err(ArchiveRefusal::OutOfMemory);
     };
     let mut asking = Asking {
@@ -563,7 +606,9 @@ where
         width,
         workers: Workers::of_processors(rt),
     };
-    let (status, refused) = serve_beside(rt, shared, limit, keep, &mut asking, input, output);
+    let lines: Lines<K, BufReader<&mut R>> = Lines::new(input, Vec::new(alloc));
+    let bell: Bell<K> = Bell::new(keep);
+    let (status, refused) = serve_beside(rt, shared, &bell, limit, &mut asking, lines, output);
     ended(status, refused)
 }
 
@@ -589,6 +634,8 @@ where
     requires book { opened.seen.book ≡ J.book }
     requires opening { shelf_of archive.state ≡ J.opening }
     requires honest { D.honest archive.disk ≡ J.honest }
+    ensures asked { IsServed D.Disk J.opening (MayKeep keep (R.remaining input.old)) result
+        ⊎ IsUnserved (W.contents output.old) (W.contents output.new) result }
     ensures most { IfOk result (λ status. status ≤ 5) }
     ensures other { IfOk result (λ status. status ≢ 2) }
 {
@@ -598,7 +645,16 @@ where
         return Err(ArchiveRefusal::OutOfMemory);
     };
     let mut readers = readers;
-    let served = serve_reader(rt, &shared, limit, keep, &mut readers, width, input, output);
+    let served = serve_reader::<H, D, J, Brand, R, W>(
+        rt,
+        &shared,
+        limit,
+        keep,
+        &mut readers,
+        width,
+        input,
+        output,
+    );
     let _archive = shared.end(rt);
     served
 }
@@ -615,6 +671,8 @@ where
     H::Dir: Send + Sync,
     D::Sealed: Send + Sync,
     requires { (n : ℕ) → (D.marks disk n).frozen ≡ false }
+    ensures asked { ShellsOn D.Disk disk (MayKeep keep (R.remaining input.old)) (W.contents output.old)
+        (W.contents output.new) result }
     ensures most { IfOk result (λ status. status ≤ 5) }
     ensures other { IfOk result (λ status. status ≢ 2) }
 {
@@ -633,16 +691,18 @@ where
 
 /// Opens the archive of a folder, and answers the requests that `input` has, a line each, in their order: with their
 /// lines, and `done STATUS`. Files that are asked for are fed meanwhile, at most 8 at once, and the line of one that
-/// has ended is written before the next answer. The newest `keep` sealed segments are left as they are; older ones are
-/// rolled meanwhile. After `quit`, and at the end of the input, Files end with what was read of them.
+/// has ended is written before the next answer. The newest `keep` sealed segments are left as they are, or as many as a
+/// request says from then on; older ones are rolled meanwhile. After `quit`, and at the end of the input, Files end
+/// with what was read of them.
 pub fn shell_in<
+    'a,
     H: Files + AllocGlobal + Clone + Drop + Threads + Wait + Send + Sync,
     R: Read,
     W: Write,
 >(
-    rt: &H,
-    folder: &str,
-    first_fault: &FirstFault,
+    rt: &'a H,
+    folder: &'a str,
+    first_fault: &'a FirstFault,
     keep: u32,
     input: &mut R,
     output: &mut W,
@@ -650,6 +710,8 @@ pub fn shell_in<
 where
     H::File: FileExt + Lockable + Send + Sync,
     H::Dir: Send + Sync,
+    ensures asked { ShellsIn ⟦<FolderDisk<'a, H> as Disk>⟧ (MayKeep keep (R.remaining input.old))
+        (W.contents output.old) (W.contents output.new) result }
     ensures most { IfOk result (λ status. status ≤ 5) }
     ensures other { IfOk result (λ status. status ≢ 2) }
 {

@@ -1,0 +1,89 @@
+//! The lines of the requests.
+
+ghost use Rattle.std.specs.Prelude.{◌≡◌, ℕ, [], Some, true, false, IfOk, IfSome, IsTrue};
+ghost use Rattle.std.specs.Io.BufRead.{strip_last};
+ghost use Rattle.std.specs.Io.KnownBytes.{IsAtEnd};
+ghost use Rattle.std.specs.Str.{IsUtf8};
+ghost use Rattle.flow_shell.specs.Asked.{request_in, AsksToKeep, IsNextLine};
+ghost use Rattle.flow_shell.specs.declared.asked.ShellRequest.TheVariants as asked;
+
+use crate::asked::{ShellRequest, request_of};
+use flow_roller::Keeping;
+use std::io;
+use std::io::BufRead;
+use std::marker::PhantomData;
+
+/// Takes the line feed off the end of a line.
+fn strip_feed(line: &mut Vec<u8>)
+    ensures { line.new.items ≡ strip_last 10 line.old.items }
+{
+    if let Some(b'\n') = line.last() {
+        line.pop();
+    }
+}
+
+/// The lines of an input, of which the one that was read last is at hand. That as many segments are kept as one of them
+/// says was asked for.
+#[derive(Drop)]
+pub(crate) struct Lines<K: Keeping, I: BufRead + Drop> {
+    input: I,
+    line: Vec<u8>,
+    /// Whether each line so far was read.
+    is_read: bool,
+    of: PhantomData<K>,
+    ghost left: { is_read ≡ true → (keep : ℕ) → AsksToKeep (I.remaining input) keep → ∥ K.asked keep ∥₁ },
+    ghost here: { (keep : ℕ) → request_in line.items ≡ Some (asked.Keep keep) → ∥ K.asked keep ∥₁ },
+}
+
+impl<K: Keeping, I: BufRead + Drop> Lines<K, I> {
+    /// Those of an input, of which none was read.
+    #[tactic(auto, using(crate::proofs::KeepsAsked::no_line))]
+    pub(crate) fn new(input: I, line: Vec<u8>) -> Lines<K, I>
+        requires none { line.items ≡ [] }
+        requires asked { (keep : ℕ) → AsksToKeep (I.remaining input) keep → ∥ K.asked keep ∥₁ }
+        ensures { result.is_read ≡ true }
+    {
+        Lines {
+            input,
+            line,
+            is_read: true,
+            of: PhantomData,
+        }
+    }
+
+    /// Reads the next line, without its line feed, and answers whether there is one. After a failed read there is none.
+    #[tactic(auto, using(crate::proofs::KeepsAsked::no_line))]
+    pub(crate) fn read(&mut self) -> Result<bool, io::Error>
+        ensures next { IfOk result (λ more. IsTrue more
+            → IsNextLine (I.remaining self.old.input) (I.remaining self.new.input) self.new.line.items) }
+        ensures end { IfOk result (λ more. more ≡ false → IsTrue self.old.is_read → IsAtEnd (I.remaining self.old.input)) }
+    {
+        self.line.clear();
+        if !self.is_read {
+            return Ok(false);
+        }
+        match self.input.read_until(b'\n', &mut self.line) {
+            Ok(count) => {
+                strip_feed(&mut self.line);
+                Ok(count != 0)
+            }
+            Err(error) => {
+                self.line.clear();
+                self.is_read = false;
+                Err(error)
+            }
+        }
+    }
+
+    /// What the line at hand asks for.
+    pub(crate) fn request(&self) -> Option<ShellRequest<'_>>
+        ensures value { IsUtf8 self.now.line.items → result ≡ request_in self.now.line.items }
+        ensures text { IfSome result (λ _. IsUtf8 self.now.line.items) }
+        ensures asked { (keep : ℕ) → result ≡ Some (asked.Keep keep) → ∥ K.asked keep ∥₁ }
+    {
+        match str::from_utf8(self.line.as_slice()) {
+            Ok(text) => request_of(text),
+            Err(_) => None,
+        }
+    }
+}
