@@ -1,7 +1,8 @@
-pub mod Told
-pub mod Walking
-pub mod Verdicts
-pub mod Answered
-pub mod Reading
 mod Adding
+pub mod Answered
+pub mod FeedGiven
 mod OneByOne
+pub mod Reading
+pub mod Told
+pub mod Verdicts
+pub mod Walking

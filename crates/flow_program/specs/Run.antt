@@ -1,5 +1,6 @@
 -- What one run of the program answers.
-use Rattle.std.specs.Prelude.{◌≡◌, ◌≢◌, ◌⊎◌, ℕ, ◌++◌, false, List, Option, Some, Ok, Err, IfSome, length, ⊤}
+use Rattle.std.specs.Prelude.{◌≡◌, ◌≢◌, ◌⊎◌, ℕ, ◌++◌, false, List, Option, Some, None, Ok, Err, IfSome, length}
+use Rattle.std.specs.Prelude.{if◌then◌else◌}
 use Rattle.std.specs.Io.KnownBytes.{Appends, Keeps}
 use Rattle.clap.specs.declared.error.kind.ErrorKind.{ErrorKind}
 use Rattle.clap.specs.declared.error.kind.ErrorKind.TheVariants.{DisplayHelp, DisplayVersion}
@@ -22,12 +23,15 @@ use Rattle.flow_commands.specs.Check.{IsChecked, KeepsOrChecks}
 use Rattle.flow_disk.specs.declared.disk.Disk.{Ghosts}
 use Rattle.flow_manifest.specs.declared.following.JobKind.{JobKind}
 use Rattle.flow_manifest.specs.declared.following.JobKind.TheVariants.{Roll, Merge}
-use Rattle.flow_commands.specs.Feeding.{FeedsLines, KeepsOrFeeds}
+use Rattle.flow_commands.specs.declared.plan.FeedPlan.{FeedPlan}
+use Rattle.flow_commands.specs.Feeding.{FeedsIn, FeedsLines, KeepsOrFeeds}
 use Rattle.flow_commands.specs.Made.{CreatesIn}
 use Rattle.flow_commands.specs.Plans.{Plan as NewPlan}
 use Rattle.flow_commands.specs.Rolling.{IsJobLine, RollsIn}
 use Rattle.flow_commands.specs.ArchiveFiles.{AreListings}
 use Rattle.flow_commands.specs.Asking.{AreFlowsIn, AreRowsIn, Writes, WritesOrNot, WritesUpTo}
+use Rattle.flow_shell.specs.Asked.{MayKeep}
+use Rattle.flow_shell.specs.Endings.{ShellsIn}
 use Rattle.flow_report.specs.declared.format.Format.{Format}
 use Rattle.flow_program.specs.Arguments.{has_input, span_at}
 use Rattle.flow_program.specs.declared.arguments.MomentSpan.{MomentSpan}
@@ -98,15 +102,27 @@ AreRowsAsked format span text = (now : ℕ) × AreRowsIn format (span_at now spa
 abbrev pub AreFlowsAsked : Format → MomentSpan → List ℕ → Type 0
 AreFlowsAsked format span text = (now : ℕ) × AreFlowsIn format (span_at now span) text
 
--- `feed` of so many Files: a line for each, with the status of the first that stopped, and nothing on standard error
-abbrev pub FeedEnds : ℕ → Option (List ℕ) → Option (List ℕ) → Option (List ℕ) → Option (List ℕ) → ℕ → Type 0
-FeedEnds count old new before after status =
-    (Keeps before after × FeedsLines count status old new)
-    ⊎ IsEndedBy (λ e. KeepsOrFeeds count e old new) before after status
+-- standard input is given to `feed` where it is one of the Files
+abbrev pub input_given : List (List ℕ) → Option (List ℕ) → Option (Option (List ℕ))
+input_given files input = if has_input files then Some input else None
 
--- `shell`: what it answers is written on standard output, and nothing on standard error; or it was refused.
-abbrev pub ShellEnds : Option (List ℕ) → Option (List ℕ) → ℕ → Type 0
-ShellEnds before after status = Keeps before after ⊎ IsEndedBy (λ e. ⊤) before after status
+-- `feed` of these Files: a line for each, with the status of the first that stopped, and nothing on standard error; or
+-- a refusal. They were fed as the plan says, each File that was opened with the octets that it had.
+abbrev pub FeedEnds : {D S X F : Type 0} → Ghosts D S X → (F → Option (List ℕ)) → FeedPlan → List (List ℕ)
+    → Option (List ℕ) → Option (List ℕ) → Option (List ℕ) → Option (List ℕ) → Option (List ℕ) → ℕ → Type 0
+FeedEnds g octets plan files input old new before after status =
+    (Keeps before after × FeedsLines (length files) status old new
+    × FeedsIn g octets plan (input_given files input) files old new (Ok status))
+    ⊎ IsEndedBy (λ e. KeepsOrFeeds (length files) e old new
+    × FeedsIn g octets plan (input_given files input) files old new (Err e)) before after status
+
+-- `shell`: what it answers is written on standard output, and nothing on standard error; or it was refused. Meanwhile
+-- one rolled who keeps as many segments as was asked for, at first or by a line of the input.
+abbrev pub ShellEnds : {D S X : Type 0} → Ghosts D S X → ℕ → Option (List ℕ) → Option (List ℕ) → Option (List ℕ)
+    → Option (List ℕ) → Option (List ℕ) → ℕ → Type 0
+ShellEnds g keep input old new before after status =
+    (Keeps before after × ShellsIn g (MayKeep keep input) old new (Ok status))
+    ⊎ IsEndedBy (λ e. ShellsIn g (MayKeep keep input) old new (Err e)) before after status
 
 -- Text is shown on standard output, with status 0 and nothing on standard error; or it couldn't be, and that is
 -- reported.
@@ -142,36 +158,37 @@ InspectInputEnds format input left old new before after status =
     × IfSome input (λ octets. IsRefusedBy octets left e)
     × InspectKeepsOrFront format input old new e)
 
--- A run of a command; the disks of its folders are of the kind `g`.
-abbrev pub Runs : {D S X : Type 0} → Ghosts D S X → Request → Option (List ℕ) → Option (List ℕ) → Option (List ℕ)
-    → Option (List ℕ) → Option (List ℕ) → Option (List ℕ) → ℕ → Type 0
-Runs g (Measure width format warn) input left old new before after status =
+-- A run of a command; the disks of its folders are of the kind `g`, and Files that are opened have these octets.
+abbrev pub Runs : {D S X F : Type 0} → Ghosts D S X → (F → Option (List ℕ)) → Request → Option (List ℕ)
+    → Option (List ℕ) → Option (List ℕ) → Option (List ℕ) → Option (List ℕ) → Option (List ℕ) → ℕ → Type 0
+Runs g octets (Measure width format warn) input left old new before after status =
     MeasureEnds format width input left old new before after status
-Runs g Dump input left old new before after status = DumpEnds input left old new before after status
-Runs g (Inspect format) input left old new before after status =
+Runs g octets Dump input left old new before after status = DumpEnds input left old new before after status
+Runs g octets (Inspect format) input left old new before after status =
     InspectInputEnds format input left old new before after status
 -- None of these reads standard input, but `inspect` and `feed` where it is one of the Files, and `shell`; and `create`
 -- writes nothing.
-Runs g (InspectFiles format files) input left old new before after status =
+Runs g octets (InspectFiles format files) input left old new before after status =
     (has_input files ≡ false → Keeps input left) × InspectEnds format files input left old new before after status
-Runs g (Create folder plan) input left old new before after status =
+Runs g octets (Create folder plan) input left old new before after status =
     Keeps input left × Keeps old new × CreateEnds g plan before after status
-Runs g (Check folder) input left old new before after status =
+Runs g octets (Check folder) input left old new before after status =
     Keeps input left × CheckEnds old new before after status
-Runs g (CheckFiles folder) input left old new before after status =
+Runs g octets (CheckFiles folder) input left old new before after status =
     Keeps input left × AskEnds AreListings old new before after status
-Runs g (Totals folder span workers format) input left old new before after status =
+Runs g octets (Totals folder span workers format) input left old new before after status =
     Keeps input left × AskEnds (AreRowsAsked format span) old new before after status
-Runs g (Flows folder span format) input left old new before after status =
+Runs g octets (Flows folder span format) input left old new before after status =
     Keeps input left × ListEnds (AreFlowsAsked format span) old new before after status
-Runs g (Feed folder plan files) input left old new before after status =
-    (has_input files ≡ false → Keeps input left) × FeedEnds (length files) old new before after status
-Runs g (Shell folder keep) input left old new before after status = ShellEnds before after status
-Runs g (RollAsked folder keep) input left old new before after status =
+Runs g octets (Feed folder plan files) input left old new before after status =
+    (has_input files ≡ false → Keeps input left) × FeedEnds g octets plan files input old new before after status
+Runs g octets (Shell folder keep) input left old new before after status =
+    ShellEnds g keep input old new before after status
+Runs g octets (RollAsked folder keep) input left old new before after status =
     Keeps input left × JobEnds g Roll keep old new before after status
-Runs g (MergeAsked folder keep) input left old new before after status =
+Runs g octets (MergeAsked folder keep) input left old new before after status =
     Keeps input left × JobEnds g Merge keep old new before after status
-Runs g (Explain number) input left old new before after status = Keeps input left × IsShown before after status
+Runs g octets (Explain number) input left old new before after status = Keeps input left × IsShown before after status
 
 -- what was asked for is help, or the version
 abbrev pub IsHelp : ErrorKind → Type 0
@@ -217,8 +234,8 @@ IsTold OutOfMemory old new before after status =
     (status ≡ 4) × Keeps old new × IsRefusalTold refusal.OutOfMemory before after
 
 -- What is answered of any words: the run of the request that they ask for, or why there is none.
-abbrev pub IsAnswered : {D S X : Type 0} → Ghosts D S X → List (List ℕ) → Option (List ℕ) → Option (List ℕ)
-    → Option (List ℕ) → Option (List ℕ) → Option (List ℕ) → Option (List ℕ) → ℕ → Type 0
-IsAnswered g words input left old new before after status =
-    ((request : Request) × (asked words ≡ Some request) × Runs g request input left old new before after status)
+abbrev pub IsAnswered : {D S X F : Type 0} → Ghosts D S X → (F → Option (List ℕ)) → List (List ℕ) → Option (List ℕ)
+    → Option (List ℕ) → Option (List ℕ) → Option (List ℕ) → Option (List ℕ) → Option (List ℕ) → ℕ → Type 0
+IsAnswered g octets words input left old new before after status =
+    ((request : Request) × (asked words ≡ Some request) × Runs g octets request input left old new before after status)
     ⊎ ((e : LineError) × IsLineError words e × IsTold e old new before after status)

@@ -13,11 +13,11 @@ ghost use Rattle.flow_commands.specs.ArchiveFiles.{AreListings};
 ghost use Rattle.flow_commands.specs.Asking.{Writes, WritesOrNot, WritesUpTo};
 ghost use Rattle.flow_commands.specs.declared.archive_refusal.ArchiveRefusal.TheVariants as refusal;
 ghost use Rattle.flow_commands.specs.declared.folder_fault.FolderFault.TheVariants as fault;
-ghost use Rattle.flow_commands.specs.Feeding.{FeedsLines, KeepsOrFeeds};
+ghost use Rattle.flow_commands.specs.Feeding.{FeedsIn, FeedsLines, KeepsOrFeeds};
 ghost use Rattle.flow_program.specs.Arguments.{has_input, span_at};
 ghost use Rattle.flow_program.specs.Run.{AreFlowsAsked, AreRowsAsked};
 ghost use Rattle.flow_program.specs.Run.{AskEnds, CheckEnds, CreateEnds, DumpEnds, FeedEnds, InspectInputEnds, JobEnds};
-ghost use Rattle.flow_program.specs.Run.{ListEnds, MeasureEnds, Runs, ShellEnds};
+ghost use Rattle.flow_program.specs.Run.{input_given, ListEnds, MeasureEnds, Runs, ShellEnds};
 ghost use Rattle.flow_program.specs.Run.{IsArchiveTold, IsRefusalTold, IsAnswered, IsShown};
 
 use crate::arguments::{FileNames, FolderName, MomentSpan};
@@ -415,23 +415,27 @@ where
 
 /// Feeds Files; standard input is one of them, or it isn't read.
 fn feed_files<
+    'a,
     H: Files + AllocGlobal + Clone + Drop + Threads + Wait + Send + Sync,
     R: Read,
     W: Write,
     P: Write + Drop + Send,
 >(
-    rt: &H,
-    folder: &FolderName<'_>,
+    rt: &'a H,
+    folder: &FolderName<'a>,
     plan: FeedPlan,
     files: &FileNames<'_>,
     input: &mut R,
     output: &mut W,
-    progress: &Progress<P>,
+    progress: &'a Progress<P>,
 ) -> Result<u8, ArchiveRefusal>
 where
     H::File: FileExt + Lockable + Send + Sync,
     H::Dir: Send + Sync,
     ensures input { has_input files.now ≡ false → Keeps (R.remaining input.old) (R.remaining input.new) }
+    ensures asked { FeedsIn ⟦<FolderDisk<'a, H> as Disk>⟧ H.File.remaining plan
+        (input_given files.now (R.remaining input.old)) files.now (W.contents output.old) (W.contents output.new)
+        result }
     ensures written { IfOk result (λ status. FeedsLines (length files.now) status (W.contents output.old)
         (W.contents output.new)) }
     ensures kept { IfErr result (λ e. KeepsOrFeeds (length files.now) e (W.contents output.old)
@@ -449,27 +453,28 @@ where
 
 /// Runs `feed`.
 fn run_feed<
+    'a,
     H: Files + AllocGlobal + Clone + Drop + Threads + Wait + Send + Sync,
     R: Read,
     W: Write,
     E: Write,
     P: Write + Drop + Send,
 >(
-    rt: &H,
-    folder: &FolderName<'_>,
+    rt: &'a H,
+    folder: &FolderName<'a>,
     plan: FeedPlan,
     files: &FileNames<'_>,
     input: &mut R,
     output: &mut W,
     errors: &mut E,
-    progress: &Progress<P>,
+    progress: &'a Progress<P>,
 ) -> u8
 where
     H::File: FileExt + Lockable + Send + Sync,
     H::Dir: Send + Sync,
     ensures input { has_input files.now ≡ false → Keeps (R.remaining input.old) (R.remaining input.new) }
-    ensures runs { FeedEnds (length files.now) (W.contents output.old) (W.contents output.new) (E.contents errors.old)
-        (E.contents errors.new) result }
+    ensures runs { FeedEnds ⟦<FolderDisk<'a, H> as Disk>⟧ H.File.remaining plan files.now (R.remaining input.old)
+        (W.contents output.old) (W.contents output.new) (E.contents errors.old) (E.contents errors.new) result }
     ensures quiet { result ≡ 0 → Keeps (E.contents errors.old) (E.contents errors.new) }
     ensures status { result ≤ 5 }
     ensures other { result ≢ 2 }
@@ -482,14 +487,15 @@ where
 
 /// Runs `shell`.
 fn run_shell<
+    'a,
     H: Files + AllocGlobal + Clone + Drop + Threads + Wait + Send + Sync,
     R: Read,
     W: Write,
     E: Write,
 >(
-    rt: &H,
-    folder: &FolderName<'_>,
-    first_fault: &FirstFault,
+    rt: &'a H,
+    folder: &FolderName<'a>,
+    first_fault: &'a FirstFault,
     keep: u32,
     input: &mut R,
     output: &mut W,
@@ -498,7 +504,8 @@ fn run_shell<
 where
     H::File: FileExt + Lockable + Send + Sync,
     H::Dir: Send + Sync,
-    ensures runs { ShellEnds (E.contents errors.old) (E.contents errors.new) result }
+    ensures runs { ShellEnds ⟦<FolderDisk<'a, H> as Disk>⟧ keep (R.remaining input.old) (W.contents output.old)
+        (W.contents output.new) (E.contents errors.old) (E.contents errors.new) result }
     ensures quiet { result ≡ 0 → Keeps (E.contents errors.old) (E.contents errors.new) }
     ensures status { result ≤ 5 }
     ensures other { result ≢ 2 }
@@ -575,8 +582,9 @@ fn run<
 where
     H::File: FileExt + Lockable + Send + Sync,
     H::Dir: Send + Sync,
-    ensures runs { Runs ⟦<FolderDisk<'a, H> as Disk>⟧ request.entry (R.remaining input.old) (R.remaining input.new)
-        (W.contents output.old) (W.contents output.new) (E.contents errors.old) (E.contents errors.new) result }
+    ensures runs { Runs ⟦<FolderDisk<'a, H> as Disk>⟧ H.File.remaining request.entry (R.remaining input.old)
+        (R.remaining input.new) (W.contents output.old) (W.contents output.new) (E.contents errors.old)
+        (E.contents errors.new) result }
     ensures quiet { result ≡ 0 → Keeps (E.contents errors.old) (E.contents errors.new) }
     ensures status { result ≤ 5 }
     ensures other { result ≢ 2 }
@@ -664,9 +672,9 @@ where
     H::File: FileExt + Lockable + Send + Sync,
     H::Dir: Send + Sync,
     // The words decide which command runs, on what width, or why none does.
-    ensures answered { IsAnswered ⟦<FolderDisk<'a, H> as Disk>⟧ (map S.text words.now) (R.remaining input.old)
-        (R.remaining input.new) (W.contents output.old) (W.contents output.new) (E.contents errors.old)
-        (E.contents errors.new) result }
+    ensures answered { IsAnswered ⟦<FolderDisk<'a, H> as Disk>⟧ H.File.remaining (map S.text words.now)
+        (R.remaining input.old) (R.remaining input.new) (W.contents output.old) (W.contents output.new)
+        (E.contents errors.old) (E.contents errors.new) result }
     ensures quiet { result ≡ 0 → Keeps (E.contents errors.old) (E.contents errors.new) }
     ensures status { result ≤ 5 }
     // Of words that ask for nothing nothing is written but why.
