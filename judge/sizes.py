@@ -14,14 +14,15 @@ import contextlib
 import os
 import shutil
 import struct
+import subprocess
 import sys
 import tempfile
 import threading
 
 from trials import (
     ALL, DAY, DOMAINS, END, ENTRIES, FIELD, GREATEST, Given, Hung, KEEP_ALL, LEAST, LONGEST, MOST_KEPT, PREFIX, ROWS,
-    TEMPLATES, TIME, Trial, WITH, a_message, a_set, around, by_shell, grown, in_memory,
-    interleaved, padded, times_of,
+    SECONDS, TEMPLATES, TIME, Trial, WITH, a_message, a_set, around, by_shell, grown, in_memory, interleaved, padded,
+    times_of,
 )
 
 # ---- Sweeps ----
@@ -555,6 +556,103 @@ def steps(trial, size):
     trial.runs(["check", "a"], "ok %d 0 0 0\n" % size)
 
 
+def damaged_place(place):
+    """Where a file of the sums of two domains, of one row each, is refused with the octet at this place raised by one;
+    nothing where it is another file's: where the octet counts in a row, or is its protocol. A head has 100 octets, and
+    the message of its row 61."""
+    if 4 <= place < 8 or 12 <= place < 16:
+        return 100
+    if 173 <= place < 177:
+        return 261
+    if 136 <= place < 161 or 297 <= place < 322:
+        return None
+    return next(at for at in (261, 161, 100, 0) if at <= place)
+
+
+def sums_raised(trial, size):
+    """A file of the sums of two domains with each of its octets, so many, raised by one in turn."""
+    given = Given()
+    for domain in (7, 8):
+        given.add(domain, [(TIME, 6)])
+    trial.seals(given, 300)
+    trial.runs(["roll", "a", 0], "rolled 1\n")
+    path = trial.at("a/5.ipfix")
+    os.chmod(path, 0o600)
+    with open(path, "rb") as file:
+        whole = file.read()
+    trial.compare("octets", size, len(whole))
+    for place in range(size):
+        with open(path, "wb") as file:
+            file.write(whole[:place] + bytes([(whole[place] + 1) % 256]) + whole[place + 1 :])
+        at = damaged_place(place)
+        if at is None:
+            trial.runs(["check", "a"], "ok 3 2 1 0\n")
+        else:
+            trial.runs(["check", "a"], "", "20 Damaged 5 %d" % at, 5)
+
+
+def poured(path, messages, turn, other):
+    """Writes messages to a named pipe, each after one was written to the other."""
+    with open(path, "wb", buffering=0) as pipe:
+        for message in messages:
+            other.wait()
+            other.clear()
+            pipe.write(message)
+            turn.set()
+
+
+def beside(trial, size):
+    """Two threads of a shell take in so many messages each, from pipes that are written by turns, while a third
+    answers: each answer counts each message once, and none has fewer than one before it."""
+    trial.makes(300, GREATEST)
+    given = {}
+    for name in "pq":
+        given[name] = Given()
+        for _ in range(size):
+            given[name].add(ord(name), [(TIME, 6)])
+        os.mkfifo(trial.at(name))
+    turns = {"p": threading.Event(), "q": threading.Event()}
+    turns["q"].set()
+    pouring = [threading.Thread(target=poured, args=(trial.at(name), given[name].messages, turns[name], turns[other]),
+                                daemon=True) for name, other in ("pq", "qp")]
+    shell = subprocess.Popen([trial.program, "shell", "a"], cwd=trial.place, stdin=subprocess.PIPE,
+                             stdout=subprocess.PIPE, text=True, bufsize=1)
+    ending = threading.Timer(SECONDS, shell.kill)
+    ending.start()
+
+    def answered(request):
+        """What a request is answered by, without the lines of Files that have ended meanwhile."""
+        shell.stdin.write(request + "\n")
+        lines = []
+        for line in shell.stdout:
+            if line.startswith("done "):
+                return lines, line
+            if not line.startswith("fed "):
+                lines.append(line)
+        return lines, "no end"
+
+    trial.compare("feed p", (["began 1\n"], "done 0\n"), answered("feed p"))
+    trial.compare("feed q", (["began 2\n"], "done 0\n"), answered("feed q"))
+    for it in pouring:
+        it.start()
+    last, end = 0, 2 * size
+    while last < end:
+        before = int(answered("check")[0][0].split()[1])
+        rows, done = answered("totals %s %s" % ALL)
+        after = int(answered("check")[0][0].split()[1])
+        counted = sum(int(row.split()[3]) for row in rows)
+        if done != "done 0\n" or not last <= before <= counted <= after <= end:
+            trial.compare("totals", "between %d and %d" % (before, after), "%s, after %d" % (rows, last))
+            break
+        last = after
+    for it in pouring:
+        it.join(SECONDS)
+    out, _ = shell.communicate("wait\nquit\n")
+    ending.cancel()
+    trial.compare("status", 0, shell.returncode)
+    trial.runs(["totals", "a", *ALL], given["p"].sums(300) + given["q"].sums(300))
+
+
 # The elements of a record of `lengths`, with their enterprise and their name in a dump.
 ELEMENTS = ((210, None, "paddingOctets"), (1, None, "octetDeltaCount"), (95, None, "e95"), (77, 9, "e9.77"))
 
@@ -668,6 +766,8 @@ SWEEPS = (
     ("Files at once", files_at_once, (8,), (8,)),
     ("long Files", long_files, (GREATEST,), (GREATEST, END)),
     ("steps", steps, (300,), (3_000,)),
+    ("side by side", beside, (8, 200), (5_000,)),
+    ("octets of sums", sums_raised, (322,), (322,)),
     ("fields", fields, around(15_001, 14_998, 14_999, 15_000), around(15_001, *range(1, 300))),
     ("each length", each_length, (300,), (2_048,)),
     ("lengths", lengths, around(16_385, *range(0, 18), 32_768, 65_000, 65_512), range(0, 65_513, 61)),
