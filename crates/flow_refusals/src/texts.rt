@@ -142,8 +142,11 @@ What to do: hand over a rolled file of an archive with the same width.\n";
 
 pub(crate) const NOT_EMPTY: &str =
     "27 NotEmpty: 'create' found a file n.ipfix, 1.slot or 2.slot in the folder.\n\
-Usual cause: the folder has an archive already.\n\
-What to do: 'flowvault check DIR' says what it holds; else make a new folder.\n";
+Usual cause: the folder has an archive already, or a 'create' that was stopped left\n\
+its first files.\n\
+What to do: 'flowvault check DIR' says what it holds. Where that answers 23 or 24 and\n\
+nothing was ever fed, remove 1.slot, 2.slot and 3.ipfix, and make it again; else make\n\
+a new folder.\n";
 
 pub(crate) const FAULT: &str =
     "30 Fault: the system refused or failed a call on the archive's folder.\n\
