@@ -1,23 +1,17 @@
-//! Tests on public calls of what archives are made of: the messages, sums and flows of sealed segments, and rolled
-//! files; of the plain archive; and of the headline, archives in memory that are stopped and opened again. Archives
-//! themselves are tested by the scripts of flow_replay.
+//! Tests on public calls that no program makes: the plain archive; a rolled file, and a sealed segment read message by
+//! message, all at once and by its flows; and the headline, archives in memory that are stopped and opened again; and
+//! of how often a disk in memory lies. Archives themselves are tested by the scripts of flow_replay.
 #![tactic(auto)]
 
 #[cfg(test)]
-mod asked;
+mod lies;
 #[cfg(test)]
-mod chosen_file;
+mod messages;
 #[cfg(test)]
 mod plain;
 #[cfg(test)]
 mod rolled;
 #[cfg(test)]
-mod segment_sums;
-#[cfg(test)]
 mod segments;
 #[cfg(test)]
 mod stops;
-#[cfg(test)]
-mod thawed;
-#[cfg(test)]
-mod words;

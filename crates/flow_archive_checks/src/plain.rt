@@ -1,95 +1,44 @@
-//! The plain archive, on messages worked out by hand.
+//! The plain archive.
 
-use crate::asked::{rows_text, span_of};
-use crate::words::{Line, lines_of, octets_of};
+use crate::messages::{PLAIN, RECORD};
 use flow_archive::PlainArchive;
-use std::alloc::{AllocError, Global};
-use std::test::Fail;
+use flow_measure::{Key, Row, Sums};
+use std::alloc::Global;
+use std::test::*;
 
-/// A plain archive, by intervals of 300 seconds, whose calls answer and promise nothing else.
-#[derive(Drop)]
-struct Plain {
-    archive: PlainArchive,
+/// The row of two flows.
+const TWO: Row = Row {
+    key: Key {
+        start: 1_699_999_800,
+        domain: 7,
+        protocol: Some(6),
+    },
+    sums: Sums {
+        flows: 2,
+        octets: 3_000,
+        packets: 20,
+    },
+    width: 300,
+};
+
+/// Whether a message is taken in, one that is cut short is refused, and another taken in after it.
+fn is_taken(archive: &mut PlainArchive) -> bool {
+    matches!(archive.append(&PLAIN), Ok(1))
+        && archive.append(&PLAIN[..56]).is_err()
+        && matches!(archive.append(&RECORD), Ok(2))
 }
 
-impl Plain {
-    /// Gives a message.
-    fn append(&mut self, alloc: Global, message: &[u8]) -> Result<String, AllocError> {
-        match self.archive.append(message) {
-            Ok(position) => format!(in alloc; "{position}"),
-            Err(refused) => format!(in alloc; "{refused}"),
-        }
-    }
-
-    /// Its totals.
-    fn totals(&self, alloc: Global, span: &[&str]) -> Result<String, Fail> {
-        let (from, to) = span_of(span)?;
-        let rows = self.archive.totals(alloc, from, to)?;
-        Ok(rows_text(alloc, &rows)?)
-    }
-
-    /// What is answered to a line's words.
-    fn answer(&mut self, alloc: Global, words: &[&str]) -> Result<String, Fail> {
-        match words {
-            ["append", message @ ..] => Ok(self.append(alloc, &octets_of(alloc, message)?)?),
-            ["totals", span @ ..] => self.totals(alloc, span),
-            _ => Err(Fail::new("no question")),
-        }
-    }
-
-    /// Answers lines.
-    fn answer_all(&mut self, alloc: Global, lines: &[Line<'_>]) -> Result<(), Fail> {
-        for line in lines {
-            line.agrees(self.answer(alloc, &line.words)?.as_str())?;
-        }
-        Ok(())
+/// Whether its totals are those of two flows.
+fn has_two(alloc: Global, archive: &PlainArchive) -> bool {
+    match archive.totals(alloc, 0, 1 << 32) {
+        Ok(rows) => rows.as_slice() == [TWO].as_slice(),
+        Err(_) => false,
     }
 }
-
-/// A script on a plain archive without messages.
-fn plays(alloc: Global, script: &str) -> Result<(), Fail> {
-    let lines = lines_of(alloc, script)?;
-    let archive = PlainArchive::new(alloc, 300);
-    Plain { archive }.answer_all(alloc, &lines)
-}
-
-/// Scripts, each on a plain archive without messages.
-const SCRIPTS: [&str; 6] = [
-    // one message
-    "append plain -> 1
-    totals -> 1699999800 7 6 1 1500 10
-    totals 1699999800 1699999801 -> 1699999800 7 6 1 1500 10
-    totals 1699999801 4294967296 -> none
-    totals 0 1699999800 -> none",
-    // no Set
-    "append bare -> 1
-    totals -> none",
-    // a cut message changes nothing
-    "append cut -> 3 Length
-    totals -> none
-    append plain -> 1
-    append cut -> 3 Length
-    totals -> 1699999800 7 6 1 1500 10
-    append record -> 2
-    totals -> 1699999800 7 6 2 3000 20",
-    // a template after its records
-    "append record -> 1
-    append template -> 2
-    totals -> none",
-    // a refused template is not in force
-    "append faulty -> 4 SetLength 40
-    append record -> 1
-    totals -> none",
-    // a redefinition
-    "append plain -> 1
-    append redefined -> 2
-    totals -> 1699999800 7 6 2 3000 20",
-];
 
 #[test]
-fn plain_archives(rt: HostRuntime) -> Result<(), Fail> {
-    for script in SCRIPTS {
-        plays(rt.alloc(), script)?;
-    }
-    Ok(())
+fn plain_archive(rt: HostRuntime) {
+    let mut archive = PlainArchive::new(rt.alloc(), 300);
+    assert!(rt; is_taken(&mut archive));
+    assert!(rt; has_two(rt.alloc(), &archive));
 }

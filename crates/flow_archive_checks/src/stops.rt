@@ -3,8 +3,9 @@
 ghost use Rattle.std.specs.Prelude.{◌≡◌, false, All, IfOk};
 ghost use Rattle.flow_archive.specs.Runs.{IsEvent};
 
+use crate::messages::{NO_SET, PLAIN, RECORD};
 use flow_archive::{Answer, Archive, ArchiveError, Event};
-use flow_disk::Faults;
+use flow_disk::{Disk, Faults};
 use flow_headline::{NotOpened, Reopened, run_and_open, run_on_disk, totals_after_a_stop};
 use flow_measure::Row;
 use flow_memory_disk::{Choice, FusedDisk, MemoryDisk, Room};
@@ -24,25 +25,6 @@ const CREATING: u64 = 13;
 
 /// More than the events make with their archive.
 const ALL_CALLS: u64 = 64;
-
-/// A template of elements 150, 4, 1 and 2, and a flow.
-const PLAIN: [u8; 57] = [
-    0x00, 0x0A, 0x00, 0x39, 0x65, 0x53, 0xF1, 0x00, 0, 0, 0, 0, 0, 0, 0, 7, 0x00, 0x02, 0x00, 0x18,
-    0x01, 0x00, 0x00, 0x04, 0x00, 0x96, 0x00, 0x04, 0x00, 0x04, 0x00, 0x01, 0x00, 0x01, 0x00, 0x04,
-    0x00, 0x02, 0x00, 0x04, 0x01, 0x00, 0x00, 0x11, 0x65, 0x53, 0xF1, 0x00, 0x06, 0x00, 0x00, 0x05,
-    0xDC, 0x00, 0x00, 0x00, 0x0A,
-];
-
-/// The flow alone.
-const RECORD: [u8; 33] = [
-    0x00, 0x0A, 0x00, 0x21, 0x65, 0x53, 0xF1, 0x00, 0, 0, 0, 0, 0, 0, 0, 7, 0x01, 0x00, 0x00, 0x11,
-    0x65, 0x53, 0xF1, 0x00, 0x06, 0x00, 0x00, 0x05, 0xDC, 0x00, 0x00, 0x00, 0x0A,
-];
-
-/// A message without Sets.
-const NO_SET: [u8; 16] = [
-    0x00, 0x0A, 0x00, 0x10, 0x65, 0x53, 0xF1, 0x00, 0, 0, 0, 0, 0, 0, 0, 7,
-];
 
 /// An archive without messages, over a disk that passes so many calls.
 fn created(alloc: Global, calls: u64) -> Result<Archive<FusedDisk<MemoryDisk>>, ArchiveError>
@@ -84,17 +66,6 @@ fn acknowledged(answers: &[Result<Answer, ArchiveError>]) -> u64 {
     last
 }
 
-/// The answers of the events, stopped at this call, and the archive that is opened after the stop.
-fn stopped(alloc: Global, call: u64, choice: Choice<'_>) -> Option<Reopened> {
-    let Ok(archive) = created(alloc, call) else {
-        return None;
-    };
-    let Ok(events) = events(alloc) else {
-        return None;
-    };
-    run_and_open(alloc, archive, events.as_slice(), choice).ok()
-}
-
 /// How many messages were acknowledged before a stop, and how many the archive has that was opened after it.
 fn counted(alloc: Global, reopened: &mut Reopened) -> Option<(u64, u64)> {
     let next = reopened.archive.append(alloc, NO_SET.as_slice()).ok()?;
@@ -106,98 +77,112 @@ fn counted(alloc: Global, reopened: &mut Reopened) -> Option<(u64, u64)> {
 
 /// How many messages were acknowledged before a stop at this call, and how many the archive has that is opened
 /// after it.
-fn counts(alloc: Global, call: u64, choice: Choice<'_>) -> Option<(u64, u64)> {
-    counted(alloc, &mut stopped(alloc, call, choice)?)
+fn counts(alloc: Global, events: &[Event], call: u64, choice: Choice<'_>) -> Option<(u64, u64)>
+    requires { All IsEvent events.now }
+{
+    let Ok(archive) = created(alloc, call) else {
+        return None;
+    };
+    match run_and_open(alloc, archive, events, choice) {
+        Ok(reopened) => {
+            let mut reopened = reopened;
+            counted(alloc, &mut reopened)
+        }
+        Err(_) => None,
+    }
 }
 
 /// Whether an archive is opened with all that was acknowledged, and at most the message besides that was under way.
-fn opens(alloc: Global, call: u64, choice: Choice<'_>) -> bool {
-    match counts(alloc, call, choice) {
+fn opens(alloc: Global, events: &[Event], call: u64, choice: Choice<'_>) -> bool
+    requires { All IsEvent events.now }
+{
+    match counts(alloc, events, call, choice) {
         Some((acknowledged, left)) => matches!(left.checked_sub(acknowledged), Some(0 | 1)),
         None => false,
     }
 }
 
-#[test]
-fn opened_after_each_stop(rt: HostRuntime) {
-    for call in CREATING..ALL_CALLS {
-        for choice in [Choice::Kept, Choice::Settled, Choice::Filled(&[0x0A])] {
-            assert!(rt; opens(rt.alloc(), call, choice), "at {call}");
-        }
+/// Whether a stop is refused that no machine makes.
+fn is_no_stop(alloc: Global, events: &[Event]) -> bool
+    requires { All IsEvent events.now }
+{
+    let Ok(archive) = created(alloc, ALL_CALLS) else {
+        return false;
+    };
+    matches!(
+        run_and_open(alloc, archive, events, Choice::Filled(&[])),
+        Err(NotOpened::NoSuchStop)
+    )
+}
+
+/// The number of the last message that is acknowledged where an archive takes events.
+fn last_of<D: Disk>(alloc: Global, archive: &mut Archive<D>, events: &[Event]) -> Option<u64>
+    requires { All IsEvent events.now }
+{
+    match run_on_disk(alloc, archive, events, &mut Faults::new()) {
+        Ok(answers) => Some(acknowledged(answers.as_slice())),
+        Err(_) => None,
     }
 }
 
-#[test]
-fn answers_without_a_stop(rt: HostRuntime) {
-    let alloc = rt.alloc();
-    assert_eq!(rt; counts(alloc, ALL_CALLS, Choice::Settled), Some((2, 2)));
-    assert_eq!(rt; counts(alloc, CREATING, Choice::Settled), Some((0, 0)));
+/// The same of one in memory.
+fn last_of_all(alloc: Global, events: &[Event]) -> Option<u64>
+    requires { All IsEvent events.now }
+{
+    match created(alloc, ALL_CALLS) {
+        Ok(archive) => {
+            let mut archive = archive;
+            last_of(alloc, &mut archive, events)
+        }
+        Err(_) => None,
+    }
 }
 
-#[test]
-fn no_such_stop(rt: HostRuntime) -> Result<(), Fail> {
-    let alloc = rt.alloc();
-    let archive = created(alloc, ALL_CALLS)?;
-    let refused = run_and_open(alloc, archive, &[], Choice::Filled(&[])).err();
-    assert_eq!(rt; refused, Some(NotOpened::NoSuchStop));
-    Ok(())
-}
-
-/// The number of the last message that is acknowledged where an archive takes the events.
-fn last_of_events(alloc: Global, archive: &mut Archive<FusedDisk<MemoryDisk>>) -> Option<u64> {
-    let events = events(alloc).ok()?;
-    let answers = run_on_disk(alloc, archive, events.as_slice(), &mut Faults::new()).ok()?;
-    Some(acknowledged(answers.as_slice()))
-}
-
-#[test]
-fn events_on_a_disk(rt: HostRuntime) -> Result<(), Fail> {
-    let mut archive = created(rt.alloc(), ALL_CALLS)?;
-    assert_eq!(rt; last_of_events(rt.alloc(), &mut archive), Some(2));
-    Ok(())
-}
-
-/// The rows that start within a span, after a stop.
-fn rows_after_a_stop(alloc: Global, call: u64, from: u64, to: u64) -> Option<Vec<Row>> {
-    let Ok(archive) = created(alloc, call) else {
-        return None;
-    };
-    let Ok(events) = events(alloc) else {
-        return None;
-    };
-    let told = totals_after_a_stop(
-        alloc,
-        archive,
-        events.as_slice(),
-        Choice::Settled,
-        from,
-        to,
-    ).ok()?;
-    Some(told.rows)
-}
-
-/// The flows, octets and packets of all rows that start within a span, after a stop.
-fn sums_after_a_stop(alloc: Global, call: u64, from: u64, to: u64) -> Option<(u64, u128, u128)> {
+/// The flows, octets and packets of rows.
+fn sums_of(rows: &[Row]) -> (u64, u128, u128) {
     let mut sums = (0, 0, 0);
-    for row in rows_after_a_stop(alloc, call, from, to)? {
+    for row in rows {
         sums.0 = row.sums.flows.wrapping_add(sums.0);
         sums.1 = row.sums.octets.wrapping_add(sums.1);
         sums.2 = row.sums.packets.wrapping_add(sums.2);
     }
-    Some(sums)
+    sums
+}
+
+/// Those of all rows that start before a time, after a stop at this call.
+fn sums(alloc: Global, events: &[Event], call: u64, to: u64) -> Option<(u64, u128, u128)>
+    requires { All IsEvent events.now }
+{
+    let Ok(archive) = created(alloc, call) else {
+        return None;
+    };
+    match totals_after_a_stop(alloc, archive, events, Choice::Settled, 0, to) {
+        Ok(told) => Some(sums_of(told.rows.as_slice())),
+        Err(_) => None,
+    }
 }
 
 #[test]
-fn totals_after_stops(rt: HostRuntime) {
+fn stops(rt: HostRuntime) -> Result<(), Fail> {
     let alloc = rt.alloc();
-    let end = u64::from(u32::MAX) + 1;
-    assert_eq!(rt;
-        sums_after_a_stop(alloc, ALL_CALLS, 0, end),
-        Some((2, 3_000, 20))
-    );
-    assert_eq!(rt; sums_after_a_stop(alloc, CREATING, 0, end), Some((0, 0, 0)));
-    assert_eq!(rt;
-        sums_after_a_stop(alloc, ALL_CALLS, 0, 1_699_999_800),
-        Some((0, 0, 0))
-    );
+    let events = events(alloc)?;
+    let events = events.as_slice();
+    for call in CREATING..ALL_CALLS {
+        for choice in [Choice::Kept, Choice::Settled, Choice::Filled(&[0x0A])] {
+            assert!(rt; opens(alloc, events, call, choice), "at {call}");
+        }
+    }
+    for (call, found) in [(ALL_CALLS, (2, 2)), (CREATING, (0, 0))] {
+        assert_eq!(rt; counts(alloc, events, call, Choice::Settled), Some(found));
+    }
+    assert!(rt; is_no_stop(alloc, events));
+    assert_eq!(rt; last_of_all(alloc, events), Some(2));
+    for (call, to, found) in [
+        (ALL_CALLS, 1 << 32, (2, 3_000, 20)),
+        (CREATING, 1 << 32, (0, 0, 0)),
+        (ALL_CALLS, 1_699_999_800, (0, 0, 0)),
+    ] {
+        assert_eq!(rt; sums(alloc, events, call, to), Some(found));
+    }
+    Ok(())
 }

@@ -1,12 +1,9 @@
 //! Calls of a disk, as rows of tables.
 
-ghost use Rattle.std.specs.Prelude.{◌≡◌, ℕ, true, false, IfOk};
-ghost use Rattle.flow_memory_disk.specs.Memory.{story_of};
+ghost use Rattle.std.specs.Prelude.{◌≡◌, ℕ, false};
 
 use flow_disk::{Disk, DiskError, Faults, SealedFile};
-use flow_memory_disk::{MemoryDisk, Room};
-use std::alloc::{AllocError, Global};
-use std::test::Fail;
+use std::alloc::Global;
 
 /// A call, and what it gives.
 #[derive(Clone, Copy)]
@@ -76,7 +73,7 @@ impl<D: Disk> Thawed<D> {
     }
 
     /// Makes a call: whether it gives what it says.
-    pub(crate) fn gives(&mut self, alloc: Global, call: Call<'_>) -> Result<bool, DiskError> {
+    fn gives(&mut self, alloc: Global, call: Call<'_>) -> Result<bool, DiskError> {
         match call {
             Call::Write(file, at, octets) => self.write(file, at, octets),
             Call::Cut(file, count) => self.cut(file, count),
@@ -88,85 +85,49 @@ impl<D: Disk> Thawed<D> {
         }
     }
 
-    /// Makes calls: how many meet no fault, and whether each of these gives what it says.
-    pub(crate) fn make(
-        &mut self,
-        alloc: Global,
-        calls: &[Call<'_>],
-    ) -> Result<(u64, bool), DiskError> {
-        let mut passed = 0u64;
-        let mut is_so = true;
-        for call in calls {
-            match self.gives(alloc, *call) {
-                Ok(gives) => {
-                    passed = passed.saturating_add(1);
-                    is_so = is_so && gives;
-                }
-                Err(DiskError::Fault) => {}
-                Err(error) => return Err(error),
-            }
+    /// Makes a call: whether it gives what it says, or is refused as a fault, where that is wanted.
+    pub(crate) fn answers(&mut self, alloc: Global, call: Call<'_>, is_fault: bool) -> bool {
+        match self.gives(alloc, call) {
+            Ok(gives) => gives && !is_fault,
+            Err(DiskError::Fault) => is_fault,
+            Err(_) => false,
         }
-        Ok((passed, is_so))
     }
 
-    /// Makes calls, each of which gives what it says.
-    pub(crate) fn give(&mut self, alloc: Global, calls: &[Call<'_>]) -> Result<(), Fail> {
-        for (index, call) in calls.iter().enumerate() {
-            if !self.gives(alloc, *call)? {
-                return Err(Fail::new(format_args!("call {index} gives something else")));
-            }
-        }
-        Ok(())
-    }
-
-    /// Makes calls, each of which is refused as a fault.
-    pub(crate) fn refuse(&mut self, alloc: Global, calls: &[Call<'_>]) -> Result<(), Fail> {
-        for (index, call) in calls.iter().enumerate() {
-            if self.gives(alloc, *call) != Err(DiskError::Fault) {
-                return Err(Fail::new(format_args!("call {index} isn't a fault")));
-            }
-        }
-        Ok(())
-    }
-
-    /// Settles a file and freezes it. Then the disk is given up.
-    pub(crate) fn freeze(self, file: u64) -> Result<D::Sealed, Fail> {
+    /// Settles file 3 and freezes it. Then the disk is given up.
+    pub(crate) fn freeze(self) -> Result<D::Sealed, DiskError> {
         let mut disk = self.disk;
-        disk.length(file)?;
-        disk.sync(file)?;
-        Ok(disk.freeze(file)?)
+        disk.sync(3)?;
+        disk.freeze(3)
     }
 
-    /// Freezes a file that has just these octets, and removes it: whether it is so before, while and after it is
+    /// Freezes file 3, which has just these octets, and removes it: whether it is so before, while and after it is
     /// frozen.
-    pub(crate) fn retire(self, alloc: Global, file: u64, octets: &[u8]) -> Result<bool, DiskError> {
-        let Thawed { mut disk } = self;
-        disk.sync(file)?;
-        let sealed = disk.freeze(file)?;
-        let is_so = is_frozen(alloc, &sealed, file, octets)?;
-        let length = disk.length(file)?;
+    pub(crate) fn retire(self, alloc: Global, octets: &[u8]) -> Result<bool, DiskError> {
+        let mut disk = self.disk;
+        disk.sync(3)?;
+        let sealed = disk.freeze(3)?;
+        let is_so = is_frozen(alloc, &sealed, octets)?;
+        let length = disk.length(3)?;
         disk.retire(sealed)?;
-        Ok(is_so && length == octets.len() as u64 && disk.length(file)? == 0)
+        Ok(is_so && length == octets.len() as u64 && disk.length(3)? == 0)
     }
 }
 
-/// Whether a frozen file has this number and just these octets.
-fn is_frozen<S: SealedFile>(
-    alloc: Global,
-    sealed: &S,
-    file: u64,
-    octets: &[u8],
-) -> Result<bool, DiskError> {
-    if sealed.file() != file || sealed.length() != octets.len() as u64 {
+/// Whether a frozen file is file 3, and has just these octets.
+fn is_frozen<S: SealedFile>(alloc: Global, sealed: &S, octets: &[u8]) -> Result<bool, DiskError> {
+    if sealed.file() != 3 || sealed.length() != octets.len() as u64 {
         return Ok(false);
     }
     let read = sealed.read(alloc, &mut Faults::new(), 0, octets.len())?;
     Ok(read.as_slice() == octets)
 }
 
-/// A disk in memory with this room, on which nothing is frozen.
-pub(crate) fn memory(alloc: Global, room: Room) -> Result<MemoryDisk, AllocError>
-    ensures { IfOk result (λ disk. (n : ℕ) → ((story_of disk).marks n).frozen ≡ false) }
-{
-    MemoryDisk::new(alloc, room)
+/// Whether reading so many octets of a frozen file from a place on meets a fault, where its value says it has them.
+pub(crate) fn is_short<S: SealedFile>(alloc: Global, sealed: &S, at: u64, count: usize) -> bool {
+    let length = sealed.length();
+    if length < at || length - at < count as u64 {
+        return false;
+    }
+    sealed.read(alloc, &mut Faults::new(), at, count) == Err(DiskError::Fault)
 }

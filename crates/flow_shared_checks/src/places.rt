@@ -1,107 +1,66 @@
 //! Places of readers.
 
-use crate::archives::in_memory;
-use crate::calls::{append, ends_open, has_flow, is_away, last_of, learn, shown};
-use crate::started::{Trial, tried};
+use crate::archives::FLOW;
 use flow_disk::{Disk, SealedFile};
-use flow_shared::{ArchiveReader, Naming, SharedArchive};
+use flow_shared::{ArchiveReader, Naming, ReaderError, SharedArchive};
+use flow_snapshot::Snapshot;
 use std::alloc::Global;
-use std::process::Abort;
 use std::sync::Wait;
-use std::test::*;
-use std::thread::Threads;
-
-/// A reader is shown a message that it learnt the receipt of.
-struct OwnWrite;
-
-impl Trial for OwnWrite {
-    fn run<D: Disk + Send, J: Naming + Send + Sync, W: Wait + Threads + Abort + Send + Sync>(
-        rt: &W,
-        alloc: Global,
-        shared: SharedArchive<D, J, W>,
-        readers: Vec<ArchiveReader<D::Sealed, J>>,
-    ) -> Result<(), Fail>
-    where
-        D::Sealed: Send + Sync,
-    {
-        let mut readers = readers;
-        let mut reader = readers.pop().ok_or("a place")?;
-        assert!(rt; readers.is_empty());
-        written(rt, alloc, shared, &mut reader)
-    }
-}
-
-/// A message is appended, and is what a reader finds that learnt its receipt.
-fn written<D: Disk, J: Naming, W: Wait + Abort>(
-    rt: &W,
-    alloc: Global,
-    shared: SharedArchive<D, J, W>,
-    reader: &mut ArchiveReader<D::Sealed, J>,
-) -> Result<(), Fail> {
-    let receipt = append(rt, alloc, &shared).ok_or("an append")?;
-    let position = learn(reader, receipt);
-    let snapshot = shown(reader).ok_or("a snapshot")?;
-    assert!(rt; has_flow(alloc, &snapshot, position));
-    assert!(rt; ends_open(rt, shared));
-    // Nobody shows anything now: a place that enters is away, and what was taken before is still answered.
-    assert!(rt; is_away(reader));
-    assert_eq!(rt; last_of(&snapshot), position);
-    Ok(())
-}
-
-#[test]
-fn own_write(rt: HostRuntime) -> Result<(), Fail> {
-    tried::<OwnWrite, _>(&rt, rt.alloc(), in_memory(rt.alloc())?, 1)
-}
-
-/// Each of 16 places takes 100 snapshots while messages are added, and none is refused.
-struct Places;
-
-impl Trial for Places {
-    fn run<D: Disk + Send, J: Naming + Send + Sync, W: Wait + Threads + Abort + Send + Sync>(
-        rt: &W,
-        alloc: Global,
-        shared: SharedArchive<D, J, W>,
-        readers: Vec<ArchiveReader<D::Sealed, J>>,
-    ) -> Result<(), Fail>
-    where
-        D::Sealed: Send + Sync,
-    {
-        let mut readers = readers;
-        assert_eq!(rt; readers.len(), 16);
-        for reader in readers.iter_mut() {
-            assert!(rt; enters(rt, alloc, &shared, reader));
-        }
-        assert!(rt; ends_open(rt, shared));
-        Ok(())
-    }
-}
-
-/// Whether a message is appended, and is the last one of each of 100 snapshots.
-fn enters<D: Disk, J: Naming, W: Wait>(
-    rt: &W,
-    alloc: Global,
-    shared: &SharedArchive<D, J, W>,
-    reader: &mut ArchiveReader<D::Sealed, J>,
-) -> bool {
-    match append(rt, alloc, shared) {
-        Some(receipt) => is_shown_to(reader, receipt.position),
-        None => false,
-    }
-}
 
 /// Whether the message of this number is the last one of each of 100 snapshots.
-fn is_shown_to<S: SealedFile, J: Naming>(reader: &mut ArchiveReader<S, J>, position: u64) -> bool {
+fn is_shown<S: SealedFile, J: Naming>(reader: &mut ArchiveReader<S, J>, position: u64) -> bool {
     for _ in 0..100 {
-        match shown(reader) {
-            Some(snapshot) if last_of(&snapshot) == position => {}
+        match reader.snapshot() {
+            Ok(snapshot) if snapshot.position() == position => {}
             _ => return false,
         }
     }
     true
 }
 
-#[test]
-fn places_enter(rt: HostRuntime) -> Result<(), Fail> {
-    tried::<Places, _>(&rt, rt.alloc(), in_memory(rt.alloc())?, 16)
+/// Whether a message is appended that a reader is shown at once, in each of 100 snapshots.
+fn enters<D: Disk, J: Naming, W: Wait>(
+    rt: &W,
+    alloc: Global,
+    shared: &SharedArchive<D, J, W>,
+    reader: &mut ArchiveReader<D::Sealed, J>,
+) -> bool {
+    match shared.append(rt, alloc, &FLOW) {
+        Ok(receipt) => receipt.shown && is_shown(reader, receipt.position),
+        Err(_) => false,
+    }
+}
+
+/// How many of these places each have such a message.
+pub(crate) fn entering<D: Disk, J: Naming, W: Wait>(
+    rt: &W,
+    alloc: Global,
+    shared: &SharedArchive<D, J, W>,
+    readers: &mut [ArchiveReader<D::Sealed, J>],
+) -> usize {
+    let mut count = 0usize;
+    for reader in readers {
+        if enters(rt, alloc, shared, reader) {
+            count = count.saturating_add(1);
+        }
+    }
+    count
+}
+
+/// A snapshot of the first place.
+pub(crate) fn first<S: SealedFile, J: Naming>(
+    readers: &mut [ArchiveReader<S, J>],
+) -> Option<Snapshot<S>> {
+    readers.first_mut()?.snapshot().ok()
+}
+
+/// How many of these places can't be entered, since nobody shows anything now.
+pub(crate) fn away<S: SealedFile, J: Naming>(readers: &mut [ArchiveReader<S, J>]) -> usize {
+    let mut count = 0usize;
+    for reader in readers {
+        if matches!(reader.snapshot(), Err(ReaderError::Away)) {
+            count = count.saturating_add(1);
+        }
+    }
+    count
 }
