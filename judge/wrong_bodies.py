@@ -2,7 +2,8 @@
 """wrong_bodies.py [CRATE..]: tries the wrong bodies of crates/CRATE/edits/, of all crates where none is named, in
 copies: the prover must refuse each. `./verify --edits` calls it.
 
-wrong_bodies.py --gate CRATE: the same of those in crates/CRATE/edits/gate/; the gate calls it.
+wrong_bodies.py --gate CRATE [SHARE OF]: the same of those in crates/CRATE/edits/gate/, or one share of so many, counted
+from 0, so that shares can be tried side by side; the gate calls it.
 
 Many are tried in one check of their crate, at most one of each function: what is proved of a function rests on the
 contracts of those that it calls, and not on their bodies, so each is judged by its own function's verdict. One whose
@@ -347,8 +348,9 @@ def tried_in_copy(crate):
         return crate_tried(crate, folder, edits_in(crate, os.path.join(folder, "edits")), check_kept)
 
 
-def tried_over_proved(crates, crate, edits):
-    """Tries the wrong bodies of a crate that are in this folder of it, over the libraries that `rt ci` left."""
+def tried_over_proved(crates, crate, edits, share=0, of=1):
+    """Tries the wrong bodies of a crate that are in this folder of it, one share of so many, over the libraries that
+    `rt ci` left."""
     source = os.path.join("crates", crate)
     with tempfile.TemporaryDirectory() as place:
         folder, work = os.path.join(place, crate), os.path.join(place, "work")
@@ -356,16 +358,17 @@ def tried_over_proved(crates, crate, edits):
         for part in ("src", "specs", "proofs"):
             if os.path.isdir(os.path.join(source, part)):
                 shutil.copytree(os.path.join(source, part), os.path.join(folder, part))
-        return crate_tried(crate, folder, edits_in(crate, os.path.join(source, edits)), OverProved(crates, crate, work))
+        edits = edits_in(crate, os.path.join(source, edits))[share::of]
+        return crate_tried(crate, folder, edits, OverProved(crates, crate, work))
 
 
-def tried_in_gate(crate):
-    """Tries the wrong bodies of a crate that the gate has: the status."""
+def tried_in_gate(crate, share=0, of=1):
+    """Tries the wrong bodies of a crate that the gate has, or a share of them: the status."""
     crates = Crates()
     if not crates.are_proved_below(crate):
         print("%s: `rt ci` hasn't left the libraries below, as they are now: ./verify in a clean clone does" % crate)
         return 1
-    counts = tried_over_proved(crates, crate, os.path.join("edits", "gate"))
+    counts = tried_over_proved(crates, crate, os.path.join("edits", "gate"), share, of)
     say_counts(*counts)
     return int(sum(counts[1:]) > 0)
 
@@ -375,8 +378,8 @@ def say_counts(refused, by_name, others):
 
 
 def main(names, lanes=1):
-    if names[:1] == ["--gate"] and len(names) == 2:
-        return tried_in_gate(names[1])
+    if names[:1] == ["--gate"] and len(names) in (2, 4):
+        return tried_in_gate(names[1], *map(int, names[2:]))
     all_names = sorted(it for it in os.listdir("crates") if os.path.isdir(os.path.join("crates", it, "edits")))
     for name in names:
         if name not in all_names:
