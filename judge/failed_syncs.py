@@ -14,8 +14,9 @@ restart shows. In the model
   that waited; a file's sync settles no name;
 - after a good sync of a file the device must have just the octets that are read of it, and octets must be written only
   to a file that has a name on the device;
-- a stop of the machine leaves what the device has, and of what is dirty nothing, all, or some of it: of each page any
-  content that it had since the last sync, of each length likewise, of the names that wait the first ones.
+- a stop of the machine leaves what the device has, and of what is dirty nothing, all, or some of it: of each sector of
+  512 octets any content that it had since the last sync, so that pages are torn, of each length likewise, of the names
+  that wait the first ones.
 
 What is run: `create`, `feed`, `feed` with rolling, `roll` and `merge` are process 1, in which one sync fails, once or
 from there on for good; each of its syncs in turn, those of the folder among them. Process 2 is a new one: it opens the
@@ -39,9 +40,10 @@ closes the archive to the other; so the syncs of both are failed in turn, and no
 
 What it doesn't show: that a name which a failed sync of the folder lost isn't taken for durable, or for gone, later in
 the same process, for the program changes nothing more in an archive that met a fault (crate flow_checks has tests of a
-folder alone); pages are written whole or not at all; a failed sync writes none of its pages; nothing is dropped
-from the page cache, and the device fails in syncs alone, not in reads and writes; the order of names is kept; and the
-folder is in memory (tmpfs), so no file system is tried. The device's octets that were never written are zeros.
+folder alone); sectors are written whole or not at all; a failed sync writes none of its pages; nothing is dropped from
+the page cache, and the device fails in syncs alone, not in reads and writes; the order of names is kept; and the folder
+is in memory (tmpfs), so no file system is tried (judge/failing_drive.py tries one). The device's octets that were never
+written are zeros.
 
 --short runs a sample. A line is printed for each group, one for each failure, and last `N runs, M stops: F failed`;
 the status is 0 where F is 0, else 1; 2 for wrong words; 77 where strace isn't there or may not trace."""
@@ -59,7 +61,7 @@ import subprocess
 import sys
 import tempfile
 
-PAGE = 4096
+PAGE, SECTOR = 4096, 512
 FOLDER = "the folder"
 SECONDS = 120
 NAMES = ("openat open creat close dup dup2 dup3 fcntl write writev pwrite64 pwritev pwritev2 ftruncate truncate "
@@ -164,7 +166,8 @@ class Inode:
             length, mode = (self.lengths or [length])[-1], self.mode
         if choice == "some":
             for page, kept in self.dirty.items():
-                pages[page] = chance.choice([pages.get(page, bytes(PAGE)), *kept])
+                contents = [pages.get(page, bytes(PAGE)), *kept]
+                pages[page] = b"".join(chance.choice(contents)[at:at + SECTOR] for at in range(0, PAGE, SECTOR))
             length, mode = chance.choice([length, *self.lengths]), chance.choice([mode, self.mode])
         octets = b"".join(pages.get(page, bytes(PAGE)) for page in range(-(-length // PAGE)))
         return octets[:length], mode
