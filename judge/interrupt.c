@@ -2,13 +2,14 @@
  * are as many that fail with EINTR as READS says, and before each later one as many as READS_LATER says; so of writes
  * to standard output by WRITES and WRITES_LATER. PIECE is how many octets a call moves at most, GIVEN after how many
  * octets each read fails, with the number of an error that ERROR says or EIO, ROOM after how many each write fails with
- * ENOSPC. Where LOCKS is given, each lock fails, with that error's number. What isn't given is 0 for the counts of
- * interrupts, and no limit for the others.
+ * ENOSPC. Where LOCKS is given, each lock fails, with that error's number. After as many threads as THREADS says none is
+ * made (EAGAIN). What isn't given is 0 for the counts of interrupts, and no limit for the others.
  * Built with `cc -shared -fPIC -o interrupt.so interrupt.c -ldl`, loaded by LD_PRELOAD. */
 #define _GNU_SOURCE
 #include <dlfcn.h>
 #include <errno.h>
 #include <limits.h>
+#include <pthread.h>
 #include <stdlib.h>
 #include <sys/file.h>
 #include <unistd.h>
@@ -20,6 +21,7 @@ struct calls {
 
 static struct calls reads, writes;
 static long piece, locks;
+static _Atomic long threads;
 
 static long number(const char *name, long other) {
     const char *digits = getenv(name);
@@ -32,6 +34,7 @@ __attribute__((constructor)) static void begin(void) {
     writes = (struct calls){number("WRITES", 0), number("WRITES_LATER", 0), number("ROOM", LONG_MAX), ENOSPC};
     piece = number("PIECE", LONG_MAX);
     locks = number("LOCKS", 0);
+    threads = number("THREADS", LONG_MAX);
 }
 
 static int fails(int error) {
@@ -77,4 +80,11 @@ int flock(int file, int how) {
     static int (*next)(int, int);
     if (!next) next = dlsym(RTLD_NEXT, "flock");
     return locks ? fails(locks) : next(file, how);
+}
+
+int pthread_create(pthread_t *thread, const pthread_attr_t *attributes, void *(*run)(void *), void *given) {
+    static int (*next)(pthread_t *, const pthread_attr_t *, void *(*)(void *), void *);
+    if (!next) next = dlsym(RTLD_NEXT, "pthread_create");
+    if (threads != LONG_MAX && threads-- <= 0) return EAGAIN;
+    return next(thread, attributes, run, given);
 }

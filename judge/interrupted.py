@@ -6,8 +6,9 @@ interrupted, move few octets, or fail (judge/interrupt.c):
 - a read that fails after each number of octets of a File: what was read before it counts, and it is told from a cut;
 - lines for which there is room up to each of some octets.
 
-Then runs some where no lock is to be had, by each error that the system has for that. Prints how many runs there were,
-or what one of them answered else, and then ends with status 1."""
+Then runs some where no lock is to be had, by each error that the system has for that, and some where the system makes
+no threads, or few: Files are taken in one after the other then, and what is rolled beside them is rolled at the end.
+Prints how many runs there were, or what one of them answered else, and then ends with status 1."""
 import errno
 import os
 import struct
@@ -178,6 +179,26 @@ def unlocked(runs):
             runs.answers(words, {"LOCKS": error}, 3, "", NOT_LOCKED % (os.strerror(error), error))
 
 
+def without_threads(runs):
+    """Runs that few threads are made for: two Files, of a segment each or more, and questions between."""
+    with open("longer", "wb") as file:
+        file.write(LONGEST * 5 + PLAIN)
+    for number, threads in enumerate((0, 1, 2, 3, 4, 9)):
+        folder, calls = "threads%d" % number, {"THREADS": threads}
+        os.mkdir(folder)
+        runs.answers("create %s 300 --limit 65535" % folder, {}, 0, "", "")
+        runs.answers("feed %s plain longer --keep 1" % folder, calls, 0, "fed 1 1\nfed 2 6\n", "")
+        runs.answers("totals %s 0 4294967296 --workers 3" % folder, calls, 0, "1699999800 7 6 2 3000 20\n", "")
+        words, given = "shell %s --keep 0" % folder, b"feed longer\nfeed plain\nwait\n"
+        status, out, err = runs.answered(words, calls, given)
+        wanted = ["began 1", "began 2", "done 0", "done 0", "done 0", "fed 1 6", "fed 2 1"]
+        runs.judge((status, sorted(out.split("\n")[:-1]), err) == (0, wanted, ""), words, calls, (status, out, err))
+        came = runs.answered("check " + folder, {})
+        # (all that is sealed is rolled by then)
+        is_rolled = came[1].startswith("ok 14 ") and came[1].endswith(" 0\n")
+        runs.judge(came[0] == 0 and is_rolled, "check", calls, came)
+
+
 def play(runs):
     """Plays all of them, in a folder with a File."""
     with open("plain", "wb") as file:
@@ -187,7 +208,7 @@ def play(runs):
         runs.answers(words, calls, *wanted)
     for name in "bcd":
         os.mkdir(name)
-    for part in (long_runs, pieces, failed_reads, unlocked):
+    for part in (long_runs, pieces, failed_reads, unlocked, without_threads):
         part(runs)
 
 
@@ -199,5 +220,5 @@ if __name__ == "__main__":
         os.chdir("/")
     if runs.found:
         sys.exit("\n".join(runs.found))
-    print("%d runs whose calls are interrupted, move few octets or fail, or that get no lock: each answers as it must"
-          % runs.count)
+    print("%d runs whose calls are interrupted, move few octets or fail, or that get no lock or no threads: each answers "
+          "as it must" % runs.count)
