@@ -1,0 +1,12 @@
+pub mod Ended
+pub mod Inserting
+pub mod Kept
+pub mod Knowing
+pub mod Leaving
+pub mod Lent
+pub mod Listed
+pub mod Marks
+pub mod Removing
+pub mod Reports
+pub mod Synced
+pub mod Writing

@@ -1,0 +1,24 @@
+use Rattle.std.proofs.Common.{◌≡◌, ℕ, IsTrue, sym, ◌∙◌, refl, ap, subst}
+use Rattle.std.specs.Ordering.{nat_cmp}
+use Rattle.std.specs.BTreeMap.{get}
+use Rattle.flow_folder_disk.specs.Table.{marks_in}
+use Rattle.flow_folder_disk.proofs.Kept.{unchanged_kept, settled_kept, frozen_kept}
+use Rattle.flow_folder_disk.proofs.disk.FolderDisk.cut_doubted.Goals as goal
+
+pub invariant_of-self : goal.invariant_of-self
+invariant_of-self g c =
+    record {
+      unchanged = unchanged_kept (marks_in c.args.self.now.table) (λ n. get nat_cmp c.args.self.now.folder.pending n)
+          (λ n. get nat_cmp c.cut.new.self.pending n) c.args.file c.args.self.now.unchanged c.requires.doubted
+          c.cut.ensures.pending;
+      settled = λ h.
+          let k : IsTrue (g.S.Directory.honest c.args.self.now.folder.system) = sym c.cut.ensures.honest ∙ h in
+          settled_kept (marks_in c.args.self.now.table) (g.S.Directory.files c.args.self.now.folder.system)
+          (g.S.Directory.files c.cut.new.self.system) c.args.file (c.args.self.now.settled k) c.requires.doubted
+          (c.cut.ensures.leaves k).others;
+      frozen = λ h.
+          let k : IsTrue (g.S.Directory.honest c.args.self.now.folder.system) = sym c.cut.ensures.honest ∙ h in
+          frozen_kept (marks_in c.args.self.now.table) (g.S.Directory.files c.args.self.now.folder.system)
+          (g.S.Directory.files c.cut.new.self.system) c.args.file (c.args.self.now.frozen k) (c.cut.ensures.free k)
+          (c.cut.ensures.leaves k).others;
+    }

@@ -1,0 +1,14 @@
+use Rattle.std.proofs.Common.{IsTrue, sym, ◌∙◌}
+use Rattle.std.specs.Ordering.{nat_cmp}
+use Rattle.std.specs.BTreeMap.{get}
+use Rattle.flow_folder_disk.proofs.Knowing.{known_settled}
+use Rattle.flow_folder_disk.proofs.folder.Folder.settle.Goals as goal
+
+pub invariant_of-self : goal.invariant_of-self
+invariant_of-self g c = record {
+  known = λ h.
+      let k : IsTrue (g.S.Directory.honest c.args.self.now.system) = sym c.settle.ensures.honest ∙ h in
+      known_settled (g.S.Directory.files c.args.self.now.system) (g.S.Directory.files c.settle.new.self)
+      (λ n. get nat_cmp c.args.self.now.pending n) c.args.self.now.names_pending c.args.self.now.names_lost c.args.file
+      c.settle.result (c.args.self.now.known k) c.requires (c.settle.ensures.settled k) (c.settle.ensures.others k);
+}

@@ -1,0 +1,26 @@
+use Rattle.std.proofs.Common.{◌≡◌, IsTrue, IsSome, Some, refl, sym, ◌∙◌, subst}
+use Rattle.std.specs.Ordering.{nat_cmp}
+use Rattle.std.specs.BTreeMap.{get}
+use Rattle.flow_folder_disk.proofs.Inserting.{known_written}
+use Rattle.flow_folder_disk.proofs.Writing.{leaves_written}
+use Rattle.flow_folder_disk.proofs.folder.Folder.write_pending.Goals as goal
+
+pub invariant_of-self : goal.invariant_of-self
+invariant_of-self g c = record {
+  known = λ h.
+      let k : IsTrue (g.S.Directory.honest c.args.self.now.system) = sym c.write.ensures.honest ∙ h in
+      let some : get nat_cmp c.args.self.now.pending c.args.file ≡ Some c.in-Some.pending.now = sym
+      c.in-Some.ensures.value in
+      known_written (g.S.Directory.files c.args.self.now.system) (g.S.Directory.files c.write.new.dir)
+      c.args.self.now.pending (c.get_mut.follows.lender c.write.new.self) c.args.self.now.names_pending
+      c.args.self.now.names_lost c.args.file c.in-Some.pending.now c.write.new.self (c.args.self.now.known k) some
+      ((c.get_mut.follows.holds c.write.new.self).3 (subst (λ o. IsSome o) (sym some) refl))
+      (c.write.ensures.others k) c.write.ensures.file (c.write.ensures.changeable k) (c.write.ensures.tracked k);
+}
+
+pub returns-in-Some-clause-leaves : goal.returns-in-Some-clause-leaves
+returns-in-Some-clause-leaves g c h =
+    leaves_written g.S.Directory.files g.S.Directory.moment g.S.Directory.left_since c.args.self.now.system
+    c.write.new.dir c.in-Some.pending.now.file c.args.file
+    ((c.args.self.now.known h).each c.args.file c.in-Some.pending.now (sym c.in-Some.ensures.value)).number_is
+    (c.write.ensures.others h) c.args.at c.args.octets.now (c.write.ensures.time h)

@@ -1,0 +1,4 @@
+pub mod Agreeing
+pub mod Known
+pub mod Marking
+pub mod Table

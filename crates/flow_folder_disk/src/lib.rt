@@ -1,0 +1,17 @@
+//! A folder of files as a disk, over any system that keeps the rules of `Directory`.
+#![tactic(auto)]
+
+mod changing;
+mod disk;
+mod ending;
+mod folder;
+mod listing;
+mod names;
+mod reported;
+mod reporting;
+mod sealed;
+mod sealing;
+mod syncing;
+
+pub use disk::FolderDisk;
+pub use sealed::{FolderSealed, ReadFailed};

@@ -1,0 +1,64 @@
+// A frozen file of a folder.
+ghost use Rattle.std.specs.Prelude.{◌≡◌, IsTrue, length};
+
+use flow_directory::{CallError, FileReader};
+use flow_disk::{DiskError, Faults, MayFail, SealedFile};
+use std::alloc::Global;
+
+/// Evidence that a read of a `FolderSealed` failed.
+#[derive(Drop)]
+pub struct ReadFailed {
+    _made_here: (),
+}
+
+/// A frozen file of a folder.
+#[derive(Drop)]
+pub struct FolderSealed<R: FileReader> {
+    pub(crate) reader: R,
+    pub(crate) size: u64,
+    ghost whole: { IsTrue (R.honest reader) → length (R.reads reader) ≡ size },
+}
+
+impl<R: FileReader> MayFail for FolderSealed<R> {
+    type Failure = ReadFailed;
+}
+
+impl<R: FileReader> SealedFile for FolderSealed<R> {
+    ghost octets = { λ f. R.reads f.reader };
+
+    ghost number = { λ f. R.number f.reader };
+
+    ghost size = { λ f. f.size };
+
+    ghost honest = { λ f. R.honest f.reader };
+
+    ghost can_fail = { λ _ at count. Unit {0} };
+
+    ghost whole = { λ f h. f.whole h };
+
+    fn file(&self) -> u64 {
+        self.reader.file()
+    }
+
+    fn length(&self) -> u64 {
+        self.size
+    }
+
+    fn read(
+        &self,
+        alloc: Global,
+        faults: &mut Faults<Self>,
+        at: u64,
+        count: usize,
+    ) -> Result<Vec<u8>, DiskError> {
+        let mut octets = vec![in alloc; 0u8; count]?;
+        match self.reader.read(at, &mut octets) {
+            Ok(()) => Ok(octets),
+            Err(error) if error.is_out_of_memory() => Err(DiskError::OutOfMemory),
+            Err(_) => {
+                faults.raise(&ReadFailed { _made_here: () });
+                Err(DiskError::Fault)
+            }
+        }
+    }
+}

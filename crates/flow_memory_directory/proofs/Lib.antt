@@ -1,0 +1,14 @@
+pub mod AllFiles
+pub mod At
+pub mod Changing
+pub mod Devices
+pub mod Falling
+pub mod Images
+pub mod Marking
+pub mod Names
+pub mod Restoring
+pub mod Results
+pub mod Rules
+pub mod Settling
+pub mod Steps
+pub mod Time

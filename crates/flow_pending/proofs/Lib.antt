@@ -1,0 +1,4 @@
+pub mod Copying
+pub mod Going
+pub mod Joined
+pub mod Tracking

@@ -1,0 +1,1 @@
+use Rattle.flow_pending.proofs.pending.Pending.copy_over.Goals as goal
