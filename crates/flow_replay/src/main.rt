@@ -3,6 +3,7 @@
 #![tactic(auto)]
 
 mod asked;
+mod foldered;
 mod playing;
 mod report;
 mod sharing;

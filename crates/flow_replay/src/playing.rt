@@ -154,7 +154,7 @@ fn refuse_part(
 }
 
 /// A part with an archive, on a disk that has this damage: the disk, and whether the part is played.
-fn with_archive<D: Disk>(
+pub(crate) fn with_archive<D: Disk>(
     alloc: Global,
     disk: Thawed<D>,
     wear: &Wear,

@@ -5,8 +5,12 @@
 
 use crate::playing::{Beginning, begin};
 use crate::stage::Stage;
-use crate::thawed::{Thawed, empty, fused, lying, with_a_fault};
+use crate::thawed::{
+    Failure, Thawed, after_power_cut, empty, empty_folder, fused, lying, with_a_fault,
+};
 use flow_disk::{Disk, DiskError};
+use flow_folder_disk::FolderDisk;
+use flow_memory_directory::MemoryDirectory;
 use flow_memory_disk::{FusedDisk, MemoryDisk, OneFaultDisk, Room};
 use flow_scripts::{Command, Event, Line};
 use std::alloc::{AllocError, Global};
@@ -53,6 +57,27 @@ impl Image {
         disk.write_all(&self.files)?;
         let Thawed { disk } = disk;
         Ok(disk.restart())
+    }
+
+    /// A folder in memory that holds it, all of it on the device, of which this fails.
+    pub(crate) fn folder(
+        &self,
+        alloc: Global,
+        failure: Failure,
+    ) -> Result<Thawed<FolderDisk<MemoryDirectory>>, DiskError> {
+        let mut disk = empty_folder(alloc, self.numbers())?;
+        disk.write_all(&self.files)?;
+        let Thawed { disk } = disk;
+        after_power_cut(alloc, disk.into_system(), failure)
+    }
+
+    /// How many numbers there are for files: those that it has, and as many as a part may use besides.
+    fn numbers(&self) -> usize {
+        let mut most = 0u64;
+        for (file, _) in &self.files {
+            most = most.max(*file);
+        }
+        (most as usize).saturating_add(self.room.files)
     }
 }
 
@@ -163,7 +188,7 @@ fn given_until<D: Disk>(
 }
 
 /// Makes or opens an archive, and gives lines to it until one meets a fault.
-fn run<D: Disk>(
+pub(crate) fn run<D: Disk>(
     alloc: Global,
     disk: Thawed<D>,
     given: Given<'_, '_>,
@@ -266,7 +291,7 @@ fn calls_of(alloc: Global, image: &Image, given: Given<'_, '_>) -> Result<u64, D
 #[derive(Drop)]
 pub(crate) struct Trial<'a, 'b> {
     image: &'b Image,
-    given: Given<'a, 'b>,
+    pub(crate) given: Given<'a, 'b>,
     states: Vec<String>,
     pub(crate) calls: u64,
     /// How many of these make an archive. Nothing is promised of what a stop among them leaves.
@@ -326,6 +351,11 @@ impl<'a, 'b> Trial<'a, 'b> {
     pub(crate) fn lied(&self, alloc: Global, seed: u64) -> Result<bool, DiskError> {
         let disk = lying(self.image.disk(alloc)?, seed);
         Ok(run(alloc, disk, self.given)?.is_closed)
+    }
+
+    /// Whether it makes its archive.
+    pub(crate) fn makes(&self) -> bool {
+        matches!(self.given.begin, Command::Create(_))
     }
 
     /// The state after so many events; nothing where there are fewer.

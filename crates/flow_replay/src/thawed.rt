@@ -5,6 +5,8 @@ ghost use Rattle.std.specs.Prelude.{◌≡◌, ℕ, false};
 use crate::asked::difference;
 use crate::worn::{Wear, WornDisk};
 use flow_disk::{Disk, DiskError};
+use flow_folder_disk::FolderDisk;
+use flow_memory_directory::{MemoryDirectory, MemoryError};
 use flow_memory_disk::{FusedDisk, LyingDisk, MemoryDisk, OneFaultDisk, Room};
 use flow_scripts::OfDisk;
 use std::alloc::{AllocError, Global};
@@ -172,5 +174,58 @@ pub(crate) fn worn<D: Disk>(disk: Thawed<D>, wear: Wear) -> Thawed<WornDisk<D>> 
     let Thawed { disk } = disk;
     Thawed {
         disk: WornDisk::new(disk, wear),
+    }
+}
+
+/// Which syncs and openings of a folder fail: the one after so many others, and each later one too where it lasts; and
+/// whether the pages of a failed sync are dropped.
+#[derive(Clone, Copy)]
+pub(crate) struct Failure {
+    pub(crate) after: u64,
+    pub(crate) drops: bool,
+    pub(crate) lasts: bool,
+}
+
+impl Failure {
+    /// None fails.
+    pub(crate) const NEVER: Failure = Failure {
+        after: u64::MAX,
+        drops: false,
+        lasts: false,
+    };
+}
+
+/// Why a folder in memory can't be had.
+fn refusal_of(error: MemoryError) -> DiskError {
+    match error {
+        MemoryError::Refused => DiskError::Fault,
+        MemoryError::OutOfMemory => DiskError::OutOfMemory,
+    }
+}
+
+/// A folder in memory after the power was cut.
+pub(crate) fn after_power_cut(
+    alloc: Global,
+    system: MemoryDirectory,
+    failure: Failure,
+) -> Result<Thawed<FolderDisk<MemoryDirectory>>, DiskError> {
+    let mut system = match system.power_cut() {
+        Ok(system) => system,
+        Err(refused) => return Err(refusal_of(refused)),
+    };
+    system.fail_after(failure.after, failure.drops, failure.lasts);
+    Ok(Thawed {
+        disk: FolderDisk::new(alloc, system),
+    })
+}
+
+/// A folder in memory without files, which has room for so many.
+pub(crate) fn empty_folder(
+    alloc: Global,
+    files: usize,
+) -> Result<Thawed<FolderDisk<MemoryDirectory>>, DiskError> {
+    match MemoryDirectory::new(alloc, files) {
+        Ok(system) => after_power_cut(alloc, system, Failure::NEVER),
+        Err(refused) => Err(refusal_of(refused)),
     }
 }

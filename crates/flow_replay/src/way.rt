@@ -13,6 +13,9 @@ pub(crate) enum Way {
     Faults,
     /// And its disk lies, in each of so many ways.
     Lies,
+    /// And over a folder whose system is in memory: each of its syncs fails, once or with all later ones, and then the
+    /// power is cut.
+    Folder,
     /// As they are; what is refused because of memory, where that isn't wanted, is given once more.
     Memory,
 }
@@ -47,6 +50,7 @@ pub(crate) fn plan_of(words: &[String]) -> Option<Plan> {
         "twice" => Way::StoppedTwice,
         "faults" => Way::Faults,
         "lies" => Way::Lies,
+        "folder" => Way::Folder,
         "memory" => Way::Memory,
         _ => return None,
     };
@@ -56,4 +60,4 @@ pub(crate) fn plan_of(words: &[String]) -> Option<Plan> {
 
 /// How the words of a command line are written.
 pub(crate) const USAGE: &str =
-    "flow_replay [plainly | stopped [N] | twice [N] | faults [N] | lies [N] | memory] < SCRIPTS";
+    "flow_replay [plainly | stopped [N] | twice [N] | faults [N] | lies [N] | folder [N] | memory] < SCRIPTS";

@@ -3,6 +3,7 @@
 //! A part of an archive is stopped before each call of its disk, and each such stop leaves each choice of what isn't
 //! settled. Then the archive is opened, and that opening is stopped before each of its calls too.
 
+use crate::foldered::play_folder;
 use crate::playing::{play_part, room_of};
 use crate::report::{Report, place_of};
 use crate::stopping::{Ended, Given, Image, Trial, found};
@@ -50,9 +51,9 @@ struct Left {
 
 /// A part that is played in a way: its script, its first line, and the way.
 #[derive(Clone, Copy)]
-struct Scene<'a, 'b> {
-    script: &'b str,
-    first: &'b Line<'a>,
+pub(crate) struct Scene<'a, 'b> {
+    pub(crate) script: &'b str,
+    pub(crate) first: &'b Line<'a>,
     way: Way,
 }
 
@@ -66,7 +67,7 @@ fn crashed(disk: FusedDisk<MemoryDisk>, left: Left) -> MemoryDisk {
 }
 
 /// Compares what is found after a stop or a fault with what may be.
-fn compare(
+pub(crate) fn compare(
     alloc: Global,
     scene: Scene<'_, '_>,
     trial: &Trial<'_, '_>,
@@ -90,7 +91,7 @@ fn compare(
 }
 
 /// Reports that an event was taken by an archive that a fault should have closed.
-fn tell_open(
+pub(crate) fn tell_open(
     alloc: Global,
     scene: Scene<'_, '_>,
     event: &str,
@@ -276,6 +277,7 @@ fn try_part(
         Way::Plainly | Way::Memory => Ok(()),
         Way::Faults => fault_each(alloc, scene, &trial, plan.every, report),
         Way::Lies => lie_each(alloc, scene, &trial, plan.every, report),
+        Way::Folder => play_folder(alloc, scene, image, &trial, plan.every, report),
         Way::Stopped | Way::StoppedTwice => stop_each(alloc, scene, &trial, plan.every, report),
     }
 }
