@@ -1,7 +1,7 @@
 use Rattle.std.proofs.Common.{◌≡◌, map, refl, subst, sym, MutBor, Option, Some, None}
 use Rattle.flow_commands.specs.Feeding.{octets_given, AreFed}
 use Rattle.flow_commands.proofs.RollEnds.{end_added}
-use Rattle.flow_commands.proofs.feeding.feed_beside.Goals as goal
+use Rattle.flow_commands.proofs.side_by_side.feed_beside.Goals as goal
 
 pub returns-clause-rolled : goal.returns-clause-rolled
 returns-clause-rolled g c =

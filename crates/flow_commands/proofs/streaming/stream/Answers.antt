@@ -1,4 +1,4 @@
-use Rattle.flow_commands.proofs.feeding.stream.Goals as goal
+use Rattle.flow_commands.proofs.streaming.stream.Goals as goal
 
 pub returns : goal.returns
 returns g c =

@@ -1,6 +1,6 @@
 use Rattle.std.proofs.Common.{rules, ◌≡◌, ◌≢◌, codes}
 use Rattle.flow_commands.proofs.AllFed.{input_here, none_at_all, none_more}
-use Rattle.flow_commands.proofs.feeding.place_of_input.Goals as goal
+use Rattle.flow_commands.proofs.side_by_side.place_of_input.Goals as goal
 
 pub returns-then-eq-clause-input : goal.returns-then-eq-clause-input
 returns-then-eq-clause-input g c =

@@ -1,8 +1,8 @@
 use Rattle.std.proofs.Common.{◌≡◌, map, subst, sym, Some, None}
 use Rattle.flow_commands.specs.Feeding.{octets_given, AreFed}
 use Rattle.flow_commands.proofs.AllFed.{without_given, without_input}
-use Rattle.flow_commands.proofs.feeding.feed_all.Goals as goal
-use Rattle.flow_commands.proofs.feeding.feed_all.Goals.{in-None-place_of_input, in-Some-place_of_input}
+use Rattle.flow_commands.proofs.side_by_side.feed_all.Goals as goal
+use Rattle.flow_commands.proofs.side_by_side.feed_all.Goals.{in-None-place_of_input, in-Some-place_of_input}
 
 pub returns-in-None-clause-fed : goal.returns-in-None-clause-fed
 returns-in-None-clause-fed g c =

@@ -1,4 +1,4 @@
-use Rattle.flow_commands.proofs.feeding.roll_files.Goals as goal
+use Rattle.flow_commands.proofs.side_by_side.roll_files.Goals as goal
 
 pub returns-in-Ok : goal.returns-in-Ok
 returns-in-Ok g c =

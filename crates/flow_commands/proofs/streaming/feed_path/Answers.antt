@@ -1,5 +1,5 @@
 use Rattle.std.proofs.Common.{inl, inr}
-use Rattle.flow_commands.proofs.feeding.feed_path.Goals as goal
+use Rattle.flow_commands.proofs.streaming.feed_path.Goals as goal
 
 pub returns-in-Ok : goal.returns-in-Ok
 returns-in-Ok g c = inl (c.in-Ok.file, c.feed_named.ensures)

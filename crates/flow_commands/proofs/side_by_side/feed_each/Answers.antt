@@ -2,7 +2,7 @@ use Rattle.std.proofs.Common.{rules, ◌≡◌, ◌∙◌, ap, arith, length, ma
 use Rattle.std.proofs.lemmas.Option.{slice_get_within}
 use Rattle.flow_commands.specs.Feeding.{unfed, AreFilesFed, IsFedAt}
 use Rattle.flow_commands.proofs.AllFed.{each_fed, moved, written_back}
-use Rattle.flow_commands.proofs.feeding.feed_each.Goals as goal
+use Rattle.flow_commands.proofs.side_by_side.feed_each.Goals as goal
 
 pub returns-clause-fed : goal.returns-clause-fed
 returns-clause-fed g c =

@@ -1,6 +1,6 @@
 use Rattle.std.proofs.Common.{map}
 use Rattle.flow_commands.proofs.AllFed.{with_input}
-use Rattle.flow_commands.proofs.feeding.feed_with_input.Goals as goal
+use Rattle.flow_commands.proofs.side_by_side.feed_with_input.Goals as goal
 
 pub returns-clause-fed : goal.returns-clause-fed
 returns-clause-fed g c =
