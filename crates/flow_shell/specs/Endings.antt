@@ -13,8 +13,8 @@ use Rattle.flow_commands.specs.Archives.{of_archive}
 use Rattle.flow_commands.specs.declared.archive_refusal.ArchiveRefusal.{ArchiveRefusal}
 use Rattle.flow_commands.specs.declared.archive_refusal.ArchiveRefusal.TheVariants.{Folder, Opening, Archive}
 use Rattle.flow_commands.specs.declared.archive_refusal.ArchiveRefusal.TheVariants.{OutOfMemory, Query, Write}
-use Rattle.flow_shell.specs.declared.shell.End.{End}
-use Rattle.flow_shell.specs.declared.shell.End.TheVariants.{OfInput, Quit, Unread}
+use Rattle.flow_shell.specs.declared.serving.End.{End}
+use Rattle.flow_shell.specs.declared.serving.End.TheVariants.{OfInput, Quit, Unread}
 use Rattle.flow_shell.specs.Written.{done_line}
 
 -- what is written last

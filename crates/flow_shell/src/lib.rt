@@ -9,9 +9,13 @@
 mod answering;
 mod asked;
 mod board;
+mod feeding;
+mod finishing;
 mod lines;
+mod querying;
 mod refusal;
 mod rolling;
+mod serving;
 mod shell;
 mod telling;
 

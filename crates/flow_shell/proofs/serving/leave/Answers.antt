@@ -1,4 +1,4 @@
-use Rattle.flow_shell.proofs.shell.leave.Goals as goal
+use Rattle.flow_shell.proofs.serving.leave.Goals as goal
 
 pub returns-in_ok-write_patiently-in-Unread-clause-written :
     goal.returns-in_ok-write_patiently-in-Unread-clause-written

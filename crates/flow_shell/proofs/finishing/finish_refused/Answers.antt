@@ -1,5 +1,5 @@
 use Rattle.flow_shell.proofs.Writing.{ended}
-use Rattle.flow_shell.proofs.shell.finish_refused.Goals as goal
+use Rattle.flow_shell.proofs.finishing.finish_refused.Goals as goal
 
 pub returns-in_default : goal.returns-in_default
 returns-in_default g c =

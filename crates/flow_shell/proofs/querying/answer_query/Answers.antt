@@ -1,7 +1,7 @@
 use Rattle.flow_shell.specs.Answers.{query_lines}
 use Rattle.flow_shell.proofs.Unanswered.{finished}
 use Rattle.flow_shell.proofs.Writing.{answered}
-use Rattle.flow_shell.proofs.shell.answer_query.Goals as goal
+use Rattle.flow_shell.proofs.querying.answer_query.Goals as goal
 
 pub returns-clause-answered : goal.returns-clause-answered
 returns-clause-answered g c honest h has =

@@ -1,6 +1,6 @@
 use Rattle.flow_shell.specs.Written.{done_line}
 use Rattle.flow_shell.proofs.Writing.{both_written}
-use Rattle.flow_shell.proofs.shell.answer_text.Goals as goal
+use Rattle.flow_shell.proofs.finishing.answer_text.Goals as goal
 
 pub returns : goal.returns
 returns g c =

@@ -1,0 +1,81 @@
+//! A File that was asked for is fed.
+
+ghost use Rattle.flow_shell.specs.Fed.{EndsSo, WasFed};
+ghost use Rattle.flow_feed.specs.declared.batch.Fed.{Fed as FedFile};
+
+use crate::board::{Board, Ends, Stoppable};
+use flow_commands::unopened;
+use flow_disk::Disk;
+use flow_feed::{Fed, SharedAppender, feed_shared};
+use flow_roller::{Bell, Keeping};
+use flow_shared::{Naming, SharedArchive};
+use std::alloc::AllocGlobal;
+use std::fs::{File, Files};
+use std::io::Read;
+use std::sync::Wait;
+
+/// Takes the File that `input` reads into the archive, until the shell ends, and says how it ended.
+fn feed_file<H: AllocGlobal + Wait, D: Disk, J: Naming, K: Keeping, B: Ends, R: Read>(
+    rt: &H,
+    shared: &SharedArchive<D, J, H>,
+    bell: &Bell<K>,
+    board: &Board<B>,
+    limit: u32,
+    input: &mut R,
+) -> Fed
+    ensures { WasFed D.Disk J.opening (R.remaining input.old) result }
+{
+    let mut input = Stoppable {
+        rt,
+        board,
+        bell,
+        span: limit,
+        input,
+        octets: 0,
+    };
+    let mut appender = SharedAppender::new(rt, shared);
+    feed_shared(&mut appender, rt.alloc(), &mut input, 0)
+}
+
+/// The same of the File at a path.
+fn feed_path<H: Files + AllocGlobal + Clone + Drop + Wait, D: Disk, J: Naming, K: Keeping, B: Ends>(
+    rt: &H,
+    shared: &SharedArchive<D, J, H>,
+    bell: &Bell<K>,
+    board: &Board<B>,
+    limit: u32,
+    path: &str,
+) -> Fed
+    ensures { EndsSo D.Disk J.opening result }
+{
+    match File::open(rt, path) {
+        Ok(file) => {
+            let mut file = file;
+            feed_file(rt, shared, bell, board, limit, &mut file)
+        }
+        Err(error) => unopened(&error),
+    }
+}
+
+/// Takes the File of this number, at a path, into the archive, and says how it ended.
+pub(crate) fn feed_one<
+    H: Files + AllocGlobal + Clone + Drop + Wait,
+    D: Disk,
+    J: Naming,
+    K: Keeping,
+    B: Ends,
+>(
+    rt: &H,
+    shared: &SharedArchive<D, J, H>,
+    bell: &Bell<K>,
+    board: &Board<B>,
+    limit: u32,
+    number: u64,
+    path: String,
+)
+    // What is said of its end is what feeding it gives.
+    requires { (fed : FedFile) → EndsSo D.Disk J.opening fed → ∥ B.said number fed ∥₁ }
+{
+    let fed = feed_path(rt, shared, bell, board, limit, path.as_str());
+    board.end(rt, number, fed);
+}
