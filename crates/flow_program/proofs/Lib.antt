@@ -4,5 +4,6 @@ pub mod FeedGiven
 mod OneByOne
 pub mod Reading
 pub mod Told
+pub mod CommandWords
 pub mod Verdicts
 pub mod Walking

@@ -15,7 +15,7 @@ ghost use Rattle.flow_program.specs.Printed.{told_lines};
 ghost use Rattle.flow_report.specs.declared.refusal.Refusal.TheVariants as refusal;
 
 use crate::arguments::{FileNames, is_input};
-use crate::run::{DONE, tell_line, told_lines, write_octets};
+use crate::telling::{DONE, tell_line, told_lines, write_octets};
 use flow_inspect::inspect_file;
 use flow_report::{Format, Refusal};
 use itoa::Buffer;

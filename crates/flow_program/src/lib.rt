@@ -5,6 +5,7 @@
 //! status 0 leaves standard error as it was.
 #![tactic(auto)]
 
+mod archives;
 mod arguments;
 mod explaining;
 mod grammar;
@@ -12,5 +13,6 @@ mod inspecting;
 mod refusing;
 mod request;
 mod run;
+mod telling;
 
 pub use run::run_line;

@@ -9,7 +9,7 @@ ghost use Rattle.flow_program.specs.Printed.{kind_text, words_text};
 ghost use Rattle.flow_program.specs.Run.{AreWordsLines, AreWordsTold, IsHelp, IsShown, IsTold};
 
 use crate::request::LineError;
-use crate::run::{DONE, tell, tell_line, write_octets};
+use crate::telling::{DONE, tell, tell_line, write_octets};
 use clap::Error;
 use clap::error::ErrorKind;
 use flow_report::Refusal;

@@ -1,6 +1,6 @@
 use Rattle.std.specs.Fmt.{digits}
 use Rattle.flow_refusals.specs.Table.{code_text}
-use Rattle.flow_program.proofs.run.tell_archive_refusal.Goals as goal
+use Rattle.flow_program.proofs.telling.tell_archive_refusal.Goals as goal
 
 pub returns-in-OutOfMemory : goal.returns-in-OutOfMemory
 unfolding code_text digits

@@ -2,7 +2,7 @@ use Rattle.std.proofs.Common.{◌≡◌, ◌∙◌, ℕ, List, Some, None, ap, s
 use Rattle.std.specs.Borrow.{Bor}
 use Rattle.std.specs.Prelude.{map}
 use Rattle.flow_program.proofs.FeedGiven.{feeds, given, not_given}
-use Rattle.flow_program.proofs.run.feed_files.Goals as goal
+use Rattle.flow_program.proofs.archives.feed_files.Goals as goal
 
 pub returns-then-has_input-clause-asked : goal.returns-then-has_input-clause-asked
 returns-then-has_input-clause-asked g c =

@@ -1,6 +1,6 @@
 use Rattle.std.proofs.Common.{inl, refl}
 use Rattle.std.proofs.KnownBytes.{Keeps-refl}
-use Rattle.flow_program.proofs.run.run_job.Goals as goal
+use Rattle.flow_program.proofs.archives.run_job.Goals as goal
 
 pub returns-in-Merge-clause-runs : goal.returns-in-Merge-clause-runs
 returns-in-Merge-clause-runs g c =

@@ -1,7 +1,7 @@
 use Rattle.std.specs.Prelude.{string_bytes}
 use Rattle.std.proofs.lemmas.Result.{IfOk-weaker}
 use Rattle.flow_program.proofs.Told.{two_lines}
-use Rattle.flow_program.proofs.run.told_lines.Goals as goal
+use Rattle.flow_program.proofs.telling.told_lines.Goals as goal
 
 pub returns : goal.returns
 returns c =
