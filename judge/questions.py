@@ -5,7 +5,8 @@ as they are, without any permission to write, by another user, on a read-only mo
 time the folder must be the same afterwards (names, octets, modes, times), and the answers those that come after the
 archive was opened to be changed (by a `roll` that rolls nothing). Where strace may trace, no call that changes a file
 may be made, none that syncs, and no file opened for more than reading. A damaged archive is refused as that roll
-refuses it. And while a `feed` runs, questions are refused; while a question runs, `feed` is.
+refuses it. While a `feed` runs, questions are refused; while a question runs, `feed` is. And what a command has left
+that ended is opened to be changed without a write.
 
 A line is printed for each difference, and one for each case that can't be played here, which begins with `skipped`;
 the last line is `N cases of questions: D differ`, and the status is 0 where D is 0, else 1."""
@@ -35,6 +36,9 @@ CHANGING = ("write pwrite64 writev pwritev pwritev2 ftruncate truncate fallocate
             "mkdirat mknod mknodat rmdir chmod fchmod fchmodat fchmodat2 chown fchown fchownat lchown utime utimes "
             "utimensat futimesat setxattr fsetxattr lsetxattr copy_file_range sendfile splice")
 OPENING = "open openat openat2"
+
+# Those of them that write or cut a file.
+WRITING = "write pwrite64 writev pwritev pwritev2 ftruncate truncate fallocate copy_file_range sendfile splice"
 
 
 class Lacking(Exception):
@@ -277,6 +281,30 @@ def traced(trial, folder):
         yield "%s: calls were recorded" % " ".join(words), True, any("asked" in call for call in calls)
 
 
+def reopened(trial, folder):
+    """An archive that was left by a command that ended is opened to be changed without a write: by a roll of nothing,
+    and by another one after it, of which the first writes where the archive was killed. After each of them nobody may
+    write a file of it, but where others than its owner might before."""
+    trace, copy = trial.path("trace"), trial.copied(folder, "asked")
+    if not shutil.which("strace") or ran("strace", "-o", trace, "-e", "trace=fsync", "true")[0]:
+        raise Lacking("there is no strace that may trace")
+    shared = os.path.join(copy, "2.slot")
+    for way in ("first", "second", "shared"):
+        if way == "shared":
+            os.chmod(shared, 0o660)
+        names = ",".join("?" + name for name in WRITING.split())
+        status = ran("strace", "-f", "-qq", "-o", trace, "-e", "trace=" + names, "-e", "signal=none", trial.program,
+                     "roll", copy, NOTHING)[0]
+        with open(trace, errors="replace") as file:
+            calls = [re.sub(r"^\d+ +", "", line.rstrip()) for line in file]
+        writes = [call for call in calls if not re.match(r"writev?\([12],", call)]
+        is_killed = way == "first" and os.path.basename(folder) == "killed"
+        if way != "shared":
+            yield "%s: writes" % way, (0, is_killed), (status, bool(writes))
+        writable = [name for name in sorted(os.listdir(copy)) if os.stat(os.path.join(copy, name)).st_mode & 0o222]
+        yield "%s: writable files" % way, ["2.slot"] if way == "shared" else [], writable
+
+
 def is_changing(call):
     """Whether a call changes a file, syncs one, or opens one for more than reading."""
     name = call.split("(", 1)[0]
@@ -301,6 +329,10 @@ def damaged(trial, folder):
         ("the folder is empty", lambda copy: [os.remove(os.path.join(copy, name)) for name in os.listdir(copy)]),
     ):
         copy = trial.copied(folder, "damaged")
+        for at in numbers[:1] + numbers[-1:]:
+            os.chmod(os.path.join(copy, "%d.ipfix" % at), 0o640)
+        for at in (1, 2):
+            os.chmod(os.path.join(copy, "%d.slot" % at), 0o640)
         damage(copy)
         wanted = trial.wanted(copy)
         yield "%s: it is refused" % what, 5, wanted[QUESTIONS[0]][0]
@@ -398,6 +430,8 @@ def cases(trial):
         for way_name, way in WAYS:
             yield "%s, %s" % (name, way_name), asked, (made[name], way)
         yield "%s, traced" % name, traced, (made[name],)
+        if name != "lengthened":
+            yield "%s, opened to be changed" % name, reopened, (made[name],)
     yield "damaged", damaged, (made["settled"],)
     yield "unreadable", unreadable, (made["settled"],)
     yield "ten at once", ten_at_once, (made["merged"],)

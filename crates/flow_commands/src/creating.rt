@@ -8,7 +8,7 @@ ghost use Rattle.flow_archive.specs.Beginning.{HasFiles, IsNotMade, answer_of, d
 ghost use Rattle.flow_commands.specs.Made.{first_state, CreatesIn};
 
 use crate::archive_refusal::ArchiveRefusal;
-use crate::ending::ended;
+use crate::ending::left;
 use crate::plan::NewArchive;
 use flow_archive::{Archive, ArchiveError, Refused};
 use flow_disk::Disk;
@@ -51,6 +51,6 @@ where
     ensures told { CreatesIn ⟦<FolderDisk<'a, H> as Disk>⟧ plan.now result }
 {
     let disk = FolderDisk::noting(rt, folder, first_fault)?;
-    ended(create(rt.alloc(), disk, plan))?;
+    left(rt.alloc(), create(rt.alloc(), disk, plan))?;
     Ok(())
 }

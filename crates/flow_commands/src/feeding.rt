@@ -8,6 +8,7 @@ ghost use Rattle.flow_commands.specs.Feeding.{KeepsOrFeeds, TellsFed, TellsFile,
 ghost use Rattle.flow_commands.specs.Feeding.{unfed};
 
 use crate::archive_refusal::ArchiveRefusal;
+use crate::ending::Leave;
 use crate::feed_line::{fed_line, stop_status};
 use crate::plan::FeedPlan;
 use crate::progress::Progress;
@@ -60,10 +61,11 @@ fn warn_of_stops<H: Wait, S: AsStr, P: Write + Drop>(
     }
 }
 
-/// Warns of messages that are in sums alone, where more of them are than were before; then drops the archive, which
-/// leaves a folder to others again.
-fn warn_of_rolled<H: Wait, D: Disk, P: Write + Drop>(
+/// Warns of messages that are in sums alone, where more of them are than were before; then leaves the archive's disk to
+/// others again.
+fn leave_archive<H: Wait, D: Disk + Leave, P: Write + Drop>(
     rt: &H,
+    alloc: Global,
     before: u64,
     archive: Archive<D>,
     progress: &Progress<P>,
@@ -73,6 +75,7 @@ fn warn_of_rolled<H: Wait, D: Disk, P: Write + Drop>(
     if rolled > before {
         progress.say(rt, &RolledMessages { rolled, messages });
     }
+    archive.into_disk().leave(alloc);
 }
 
 /// Writes the lines of Files, and answers the status of the first that stopped.
@@ -134,7 +137,7 @@ fn ended(first: Option<FeedStop>, refused: Option<ArchiveError>) -> Result<u8, A
 /// threads is refused; 11 and 32 where a line couldn't be made or written.
 fn feed_files<
     H: Files + AllocGlobal + Clone + Drop + Threads + Wait + Send + Sync,
-    D: Disk + Send,
+    D: Disk + Leave + Send,
     J: Naming + Send + Sync,
     S: AsStr + Sync,
     R: Read,
@@ -180,14 +183,14 @@ where
     );
     progress.clear(rt);
     warn_of_stops(rt, paths, feds.as_slice(), progress);
-    warn_of_rolled(rt, rolled, shared.end(rt), progress);
+    leave_archive(rt, alloc, rolled, shared.end(rt), progress);
     tell_files(alloc, feds.as_slice(), refused, output)
 }
 
 /// Opens the archive on a disk, of which nothing is frozen, and takes Files into it.
 fn feed_on<
     H: Files + AllocGlobal + Clone + Drop + Threads + Wait + Send + Sync,
-    D: Disk + Send,
+    D: Disk + Leave + Send,
     S: AsStr + Sync,
     R: Read,
     W: Write,

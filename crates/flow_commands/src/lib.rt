@@ -31,6 +31,7 @@ pub use archive_files::{check_files, check_files_in};
 pub use archive_refusal::ArchiveRefusal;
 pub use checking::{Standing, check, check_in};
 pub use creating::{create, create_in};
+pub use ending::Leave;
 pub use feed_line::fed_line;
 pub use feeding::feed_in;
 pub use folder_fault::FolderFault;

@@ -6,7 +6,7 @@ ghost use Rattle.flow_commands.specs.Rolling.{IsJobLine, IsRolled, RollsIn, Roll
 ghost use Rattle.flow_commands.specs.Rolling.{job_line, job_name};
 
 use crate::archive_refusal::ArchiveRefusal;
-use crate::ending::ended;
+use crate::ending::left;
 use flow_archive::{Archive, Refused};
 use flow_disk::{Disk, Faults};
 use flow_folder::{FirstFault, FolderDisk, Lockable};
@@ -124,5 +124,5 @@ where
     ensures kept { IfErr result (λ e. WritesOrNot (IsJobLine kind) e (W.contents output.old) (W.contents output.new)) }
 {
     let disk = FolderDisk::noting(rt, folder, first_fault)?;
-    ended(roll_on(rt.alloc(), disk, kind, keep, output))
+    left(rt.alloc(), roll_on(rt.alloc(), disk, kind, keep, output))
 }

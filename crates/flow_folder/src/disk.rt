@@ -72,6 +72,32 @@ where
         })
     }
 
+    /// Marks what is settled, by taking the permission to write it from its owner where nobody else has it: whoever opens
+    /// the folder next takes it for settled too, and writes nothing of it again. It is for a disk that is given up; a
+    /// file that can't be marked is written again then, and nothing else differs.
+    pub fn end(&mut self, alloc: Global)
+        ensures table { self.new.table ≡ self.old.table }
+        ensures folder { self.new.folder ≡ self.old.folder }
+    {
+        let Ok(files) = self.table.files(alloc) else {
+            return;
+        };
+        'marked: for file in files {
+            self.mark(file);
+        }
+    }
+
+    /// Marks a file, where it is settled.
+    fn mark(&mut self, file: u64)
+        ensures table { self.new.table ≡ self.old.table }
+        ensures folder { self.new.folder ≡ self.old.folder }
+    {
+        let reported = self.table.of(file);
+        if reported.settled && !reported.frozen {
+            let _ = self.folder.mark(file);
+        }
+    }
+
     /// Counts a fault.
     fn fault(&mut self) -> DiskError
         ensures fault { result ≡ DiskError.Fault }

@@ -179,6 +179,16 @@ where
         }
     }
 
+    /// Marks a file that no change waits of as settled, for whoever opens the folder next.
+    pub(crate) fn mark(&self, file: u64) -> io::Result<()>
+        requires { is_some (get nat_cmp self.now.pending file) ≡ false }
+    {
+        match self.find(file, Access::Read)? {
+            Some(found) => found.mark_settled(),
+            None => Ok(()),
+        }
+    }
+
     /// Syncs a file, and the folder where a name may not be durable. Then it lets go of the file's handle. A file with
     /// octets has a durable name; one without is made anew, since the device may have another under its name.
     pub(crate) fn sync(&mut self, file: u64, settled: bool) -> io::Result<()>

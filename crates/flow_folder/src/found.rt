@@ -11,6 +11,9 @@ use std::os::unix::fs::{FileExt, MetadataExt, PermissionsExt};
 /// The permissions to write.
 const WRITE: u32 = 0o222;
 
+/// Those of others than the file's owner.
+const OTHERS_WRITE: u32 = 0o022;
+
 /// The permissions among the octal digits of a mode.
 const PERMISSIONS: u32 = 0o7777;
 
@@ -26,7 +29,7 @@ pub(crate) enum Access {
 }
 
 /// A file that was found by its name. It is read-only where its permissions allowed nobody to write it: then it was
-/// frozen once, after a good sync, and hasn't been changed since.
+/// settled, after a good sync, and hasn't been changed since.
 #[derive(Drop)]
 pub(crate) struct Found<F> {
     file: F,
@@ -71,6 +74,15 @@ impl<F: FileExt + OpenFile + Drop> Found<F> {
             return Ok(());
         }
         self.set_permissions(self.mode & !WRITE)
+    }
+
+    /// The same of one that is to be changed again, where nobody but its owner may write it: another user who may couldn't
+    /// take the permission back.
+    pub(crate) fn mark_settled(&self) -> io::Result<()> {
+        if self.mode & OTHERS_WRITE != 0 {
+            return Ok(());
+        }
+        self.make_read_only()
     }
 
     /// Syncs a read-only file. Where that fails it is no longer read-only, so that nobody takes it for settled.

@@ -1,7 +1,7 @@
 // What a disk has reported of its files.
 ghost use Rattle.std.specs.Prelude.{◌≡◌, ◌≤◌, ◌^◌, ℕ};
 
-use std::alloc::Global;
+use std::alloc::{AllocError, Global};
 use std::collections::BTreeMap;
 
 /// What was reported of a file: how many octets it has, and whether it is settled, frozen and listed.
@@ -59,6 +59,11 @@ impl Table {
             Ok(_) => Ok(()),
             Err(_) => Err(NoRoom),
         }
+    }
+
+    /// The files of which something was reported.
+    pub fn files(&self, alloc: Global) -> Result<Vec<u64>, AllocError> {
+        Ok(self.reported.keys().copied().collect(alloc)?)
     }
 }
 

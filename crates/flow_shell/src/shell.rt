@@ -9,7 +9,7 @@ use crate::lines::Lines;
 use crate::querying::Asking;
 use crate::serving::serve_beside;
 use flow_archive::{Archive, ArchiveError};
-use flow_commands::{ArchiveRefusal, Workers};
+use flow_commands::{ArchiveRefusal, Leave, Workers};
 use flow_disk::Disk;
 use flow_folder::{FirstFault, FolderDisk, Lockable};
 use flow_roller::{Bell, Keeping};
@@ -89,7 +89,7 @@ where
 /// Shares an archive, and answers requests about it.
 fn serve_archive<
     H: Files + AllocGlobal + Clone + Drop + Threads + Wait + Send + Sync,
-    D: Disk + Send,
+    D: Disk + Leave + Send,
     J: Naming + Send + Sync,
     R: Read,
     W: Write,
@@ -129,14 +129,14 @@ where
         input,
         output,
     );
-    let _archive = shared.end(rt);
+    shared.end(rt).into_disk().leave(rt.alloc());
     served
 }
 
 /// Opens the archive on a disk, of which nothing is frozen, and answers requests about it.
 fn serve_disk<
     H: Files + AllocGlobal + Clone + Drop + Threads + Wait + Send + Sync,
-    D: Disk + Send,
+    D: Disk + Leave + Send,
     R: Read,
     W: Write,
 >(rt: &H, disk: D, keep: u32, input: &mut R, output: &mut W) -> Result<u8, ArchiveRefusal>

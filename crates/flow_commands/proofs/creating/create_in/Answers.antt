@@ -16,12 +16,12 @@ returns g c =
           refused = c.create.ensures.refused;
           cause = c.create.ensures.cause;
         },
-        done_created c.create.result c.in_ok-ended.ensures,
+        done_created c.create.result c.in_ok-left.ensures,
       );
     }
 
-pub returns-in_err-ended : goal.returns-in_err-ended
-returns-in_err-ended g c =
+pub returns-in_err-left : goal.returns-in_err-left
+returns-in_err-left g c =
     record {
       told = inl (
         c.in_ok-disk.disk,
@@ -33,8 +33,8 @@ returns-in_err-ended g c =
           refused = c.create.ensures.refused;
           cause = c.create.ensures.cause;
         },
-        refused_created c.create.result (c.in_err-ended.field-0).0 c.from_residual-in_err-ended.result
-            c.in_err-ended.ensures c.from_residual-in_err-ended.ensures.1,
+        refused_created c.create.result (c.in_err-left.field-0).0 c.from_residual-in_err-left.result
+            c.in_err-left.ensures c.from_residual-in_err-left.ensures.1,
       );
     }
 

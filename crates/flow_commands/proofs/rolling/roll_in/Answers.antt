@@ -12,14 +12,14 @@ pub returns-clause-written : goal.returns-clause-written
 returns-clause-written g c =
     let old = g.W.Write.contents c.args.output.now in
     let new = g.W.Write.contents c.roll_on.new.output in
-    on_ended c.roll_on.result c.ended.result (Writes (IsJobLine c.args.kind) old new) c.ended.ensures
+    on_ended c.roll_on.result c.left.result (Writes (IsJobLine c.args.kind) old new) c.left.ensures
     c.roll_on.ensures.written
 
 pub returns-clause-kept : goal.returns-clause-kept
 returns-clause-kept g c =
     let old = g.W.Write.contents c.args.output.now in
     let new = g.W.Write.contents c.roll_on.new.output in
-    if_refused c.roll_on.result c.ended.result (λ e. WritesOrNot (IsJobLine c.args.kind) e old new) c.ended.ensures
+    if_refused c.roll_on.result c.left.result (λ e. WritesOrNot (IsJobLine c.args.kind) e old new) c.left.ensures
     c.roll_on.ensures.kept
 
 pub returns-in_err-disk-clause-kept : goal.returns-in_err-disk-clause-kept
@@ -30,7 +30,7 @@ returns-in_err-disk-clause-kept g c =
     (folder_unwritten (IsJobLine c.args.kind) output (c.in_err-disk.field-0).0)
 
 pub returns-clause-told : goal.returns-clause-told
-returns-clause-told g c = inl (c.in_ok-disk.disk, c.roll_on.result, c.roll_on.ensures.told, c.ended.ensures)
+returns-clause-told g c = inl (c.in_ok-disk.disk, c.roll_on.result, c.roll_on.ensures.told, c.left.ensures)
 
 pub returns-in_err-disk-clause-told : goal.returns-in_err-disk-clause-told
 returns-in_err-disk-clause-told g c =
