@@ -121,9 +121,9 @@ def verdict(edit, places, said):
         return (REFUSED, "alone") if "logic=not-proved" in ends else (PROVED, "")
     found = []
     for module, owner, name in places:
-        # (a method is named by its type's module, which needn't be that of the `impl`)
+        # (a method is named by its type's module, which needn't be that of the `impl`; a function's closures are its own)
         before = r"(?:\w+::)*%s" % owner if owner else module
-        of_it = r"fn %s::%s::%s: (.*)" % (edit.crate, before, name)
+        of_it = r"fn %s::(?:%s::%s|%s::fn::(?:\w+::)*%s::\S+): (.*)" % (edit.crate, before, name, module, name)
         own = [it[1] for it in map(re.compile(of_it).match, lines) if it]
         bad = [it for it in own if not re.match(r"proved(, |$)", it)]
         if [it for it in bad if not BLOCKED.match(it)]:
