@@ -44,6 +44,8 @@ INSIDE = "FAILING_DRIVE_INSIDE"
 
 def called(*words):
     """Runs a command of the system: what it printed, nothing where it failed."""
+    if not shutil.which(words[0]):
+        return None
     ran = subprocess.run(words, stdout=subprocess.PIPE, stderr=subprocess.DEVNULL, text=True)
     return None if ran.returncode else ran.stdout
 
@@ -88,8 +90,10 @@ class Drive:
         # (it writes what is dirty only where it is asked to, for as long as a run takes)
         must("mount", "-o", "loop,errors=continue,noatime,commit=300", self.image, self.at)
         with open("/proc/self/mounts") as lines:
-            device = next(line.split()[0] for line in lines if line.split()[1] == self.at)
-        with open("/sys/block/%s/queue/max_sectors_kb" % os.path.basename(device), "w") as file:
+            devices = [line.split()[0] for line in lines if line.split()[1] == self.at]
+        if not devices:
+            raise OSError("what was mounted isn't found")
+        with open("/sys/block/%s/queue/max_sectors_kb" % os.path.basename(devices[-1]), "w") as file:
             file.write(str(BLOCK // 1024))
 
     def unmount(self):
@@ -112,6 +116,12 @@ class Drive:
     def end(self):
         called("umount", self.at)
         must("umount", self.back)
+
+
+def drop_pages():
+    """Drops from the page cache what is clean."""
+    with open("/proc/sys/vm/drop_caches", "w") as file:
+        file.write("1")
 
 
 def copied(source, target):
@@ -209,8 +219,7 @@ class Run:
             self.stop()
             self.drive.limit()
             if drops:
-                with open("/proc/sys/vm/drop_caches", "w") as file:
-                    file.write("1")
+                drop_pages()
             self.goes_on()
             self.stop()
         except Seen as it:
@@ -269,10 +278,11 @@ def lacking():
             return "there is no " + name
     with tempfile.TemporaryDirectory() as place:
         try:
-            drive = Drive(place)
+            drive = Drive(os.path.realpath(place))
             try:
                 drive.format()
                 drive.mount()
+                drop_pages()
             finally:
                 drive.end()
         except OSError as it:
@@ -287,10 +297,10 @@ def main():
     asked = parser.parse_args()
     if not os.access(asked.program, os.X_OK) or asked.every < 1:
         parser.error("PROGRAM is a program, N is 1 or more")
-    if not os.geteuid() and shutil.which("unshare") and INSIDE not in os.environ:
+    if not os.geteuid() and INSIDE not in os.environ and called("unshare", "--mount", "true") is not None:
         # (its mounts are its own, and end with it)
         os.execvpe("unshare", ["unshare", "--mount", sys.executable, *sys.argv], {**os.environ, INSIDE: "1"})
-    why = lacking()
+    why = lacking() if INSIDE in os.environ else "root may mount nothing here, or this isn't root"
     if why:
         print(why)
         return 77
