@@ -32,6 +32,9 @@ ONLY_GONE = "only where its proof names what is gone"
 # What a function's line says where it wasn't judged, since one that it calls is refused.
 BLOCKED = re.compile(r"(no proof: |not proved; )?(it calls |it waits |it passes )")
 
+# How a function's line begins where it is proved; of a closure, where what it asks is given.
+HOLDS = re.compile(r"proved(, | where its callers give what it asks|$)")
+
 # How antt says that a proof names what an edit took away: that refuses the body too, but says little of its contract.
 GONE = re.compile(r"has no field|is not in scope|has no `|was not admitted")
 
@@ -125,7 +128,7 @@ def verdict(edit, places, said):
         before = r"(?:\w+::)*%s" % owner if owner else module
         of_it = r"fn %s::(?:%s::%s|%s::fn::(?:\w+::)*%s::\S+): (.*)" % (edit.crate, before, name, module, name)
         own = [it[1] for it in map(re.compile(of_it).match, lines) if it]
-        bad = [it for it in own if not re.match(r"proved(, |$)", it)]
+        bad = [it for it in own if not HOLDS.match(it)]
         if [it for it in bad if not BLOCKED.match(it)]:
             in_proof = re.compile(r"(\./)?proofs/(\S*/)?%s/.*: error" % name)
             errors = [it for it in lines if in_proof.match(it)]
