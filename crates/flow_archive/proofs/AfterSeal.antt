@@ -9,7 +9,8 @@ use Rattle.flow_manifest.specs.Manifest.{IsValidManifest}
 use Rattle.flow_manifest.specs.Following.{active_of, active_entry, front_of, sealed_entry}
 use Rattle.flow_manifest.specs.Slots.{file_of, other}
 use Rattle.flow_manifest.proofs.EntryLists.{all_join}
-use Rattle.flow_manifest.proofs.Followers.{are_entries, next_front}
+use Rattle.flow_manifest.proofs.ValidEntries.{are_entries}
+use Rattle.flow_manifest.proofs.ManifestAfterSeal.{next_front}
 use Rattle.flow_segment.specs.Carry.{Carry, prefix_of, IsCarry}
 use Rattle.flow_model.specs.State.{Part, State, end_of, after_seal}
 use Rattle.flow_model.specs.Chain.{HandsOn}

@@ -13,7 +13,7 @@ use Rattle.flow_manifest.specs.Following.{front_of, messages_of}
 use Rattle.flow_codec.specs.Cutting.{length_of}
 use Rattle.flow_manifest.specs.Manifest.{IsValidManifest, rank}
 use Rattle.flow_manifest.proofs.EntryLists.{all_by}
-use Rattle.flow_manifest.proofs.Followers.{all_sum, are_entries, IsOther}
+use Rattle.flow_manifest.proofs.ValidEntries.{all_sum, are_entries, IsOther}
 use Rattle.flow_segment.specs.Segment.{part_octets}
 use Rattle.flow_snapshot.specs.declared.step.Mark.{Mark}
 use Rattle.flow_model.specs.Changes.{applied, Change}

@@ -22,7 +22,7 @@ use Rattle.flow_model.specs.Jobs.{cut_before, source_parts, width_made, IsJobSum
 use Rattle.flow_model.specs.Shelved.{HasHistory}
 use Rattle.flow_model.specs.Standing.{PartsStand}
 use Rattle.flow_model.specs.State.{Job, Part, StagedFile, State}
-use Rattle.flow_model.proofs.Replacing.{sources_hold}
+use Rattle.flow_model.proofs.ReplacedHistory.{sources_hold}
 use Rattle.flow_archive.specs.JobAnswers.{AnswersStep, IsSpent}
 use Rattle.flow_archive.specs.declared.refusal.ArchiveError.{ArchiveError}
 use Rattle.flow_archive.specs.declared.refusal.ArchiveError.TheVariants.{Damaged}

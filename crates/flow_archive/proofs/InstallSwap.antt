@@ -8,7 +8,7 @@ use Rattle.flow_manifest.specs.declared.manifest.Manifest.{Manifest}
 use Rattle.flow_manifest.specs.declared.slots.Slots.{Slots}
 use Rattle.flow_manifest.specs.Manifest.{IsValidManifest}
 use Rattle.flow_manifest.specs.Slots.{file_of, other, swapped, IsInForce, IsNextBody, IsSwapped, MayClose, MaySwap}
-use Rattle.flow_manifest.proofs.Followers.{are_entries}
+use Rattle.flow_manifest.proofs.ValidEntries.{are_entries}
 use Rattle.flow_manifest.proofs.Swaps.{still_in_force, swapped_slots}
 use Rattle.flow_model.specs.State.{StagedFile, State, reopened}
 use Rattle.flow_model.specs.Jobs.{IsStagedAt, replaced}

@@ -1,10 +1,10 @@
 -- An archive after an install: a file of sums in place of its sources.
-use Rattle.std.proofs.Common.{◌≡◌, ◌≢◌, inr, inl, ⊎_elim, ℕ, zero, suc, ◌+◌, ◌<◌, ◌≤◌, Bool, true, false, IsTrue, List, []}
-use Rattle.std.proofs.Common.{◌∷◌, ◌++◌, length, map, take, drop, refl, sym, ◌∙◌, ap, subst, arith, length-append}
-use Rattle.std.proofs.Common.{Err, Option, None, Some}
+use Rattle.std.proofs.Common.{◌≡◌, ◌≢◌, inr, inl, ⊎_elim, ℕ, ◌+◌, ◌<◌, ◌≤◌, Bool, true, false, IsTrue, List, [], ◌∷◌}
+use Rattle.std.proofs.Common.{◌++◌, length, map, take, drop, refl, sym, ◌∙◌, ap, subst, arith, length-append, Err}
+use Rattle.std.proofs.Common.{Option, None, Some}
 use Rattle.std.specs.Prelude.{replicate, IfSome}
 use Rattle.std.specs.List.{AllByRecursion}
-use Rattle.std.proofs.lemmas.List.{drop-drop, length-replicate, length-take-le, map-append, take_all, take-append-drop}
+use Rattle.std.proofs.lemmas.List.{length-replicate, length-take-le, map-append, take_all}
 use Rattle.flow_disk.specs.Disk.{Held, Marks, AllImages}
 use Rattle.flow_manifest.specs.declared.following.JobKind.{JobKind}
 use Rattle.flow_manifest.specs.declared.following.JobKind.TheVariants.{Merge, Roll}
@@ -14,11 +14,11 @@ use Rattle.flow_manifest.specs.declared.slots.Slot.{Slot}
 use Rattle.flow_manifest.specs.declared.slots.Slot.TheVariants.{First, Second}
 use Rattle.flow_manifest.specs.declared.slots.Slots.{Slots}
 use Rattle.flow_manifest.specs.Manifest.{HaveOwnFiles, IsEntry, IsValidManifest}
-use Rattle.flow_manifest.specs.Following.{count_before, count_of, front_of, made_entry, made_of}
-use Rattle.flow_manifest.specs.Following.{source_of, sources_of}
+use Rattle.flow_manifest.specs.Following.{count_before, count_of, front_of, made_entry, made_of, source_of, sources_of}
 use Rattle.flow_manifest.specs.Slots.{file_of, other}
-use Rattle.flow_manifest.proofs.EntryLists.{all_both, all_drop, all_join, all_left, all_take, own_apart, own_left, own_right, AreApart}
-use Rattle.flow_manifest.proofs.Followers.{are_entries}
+use Rattle.flow_manifest.proofs.EntryLists.{all_both, all_drop, all_join, all_left, all_take, own_apart, own_right}
+use Rattle.flow_manifest.proofs.EntryLists.{AreApart}
+use Rattle.flow_manifest.proofs.ValidEntries.{are_entries}
 use Rattle.flow_segment.specs.Carry.{Carry}
 use Rattle.flow_model.specs.State.{Part, StagedFile, State}
 use Rattle.flow_model.specs.Chain.{HandsOn}
@@ -26,133 +26,27 @@ use Rattle.flow_model.specs.Jobs.{replaced, replaced_parts, staged_of}
 use Rattle.flow_recover.specs.Kept.{IsCounted, IsReadyFor}
 use Rattle.flow_recover.specs.Opening.{FrozenStand}
 use Rattle.flow_model.specs.Standing.{IsKnown, IsRolledAt, StandsAs}
-use Rattle.flow_model.proofs.Replacing.{active_installed, front_installed, messages_installed, sources_are}
-use Rattle.flow_archive.specs.Frozen.{counted_of, octets_in, AreHeldAs, Frozen, IsAlone, IsHeldAs}
+use Rattle.flow_model.proofs.SourcePlaces.{active_installed, front_installed, messages_installed, sources_are}
+use Rattle.flow_archive.specs.Frozen.{counted_of, octets_in, AreHeldAs, Frozen, IsHeldAs}
 use Rattle.flow_archive.specs.Parts.{part_at, parts_at}
 use Rattle.flow_archive.specs.Seen.{AreFrozen, IsArchive, state_in}
 use Rattle.flow_archive.specs.declared.refusal.ArchiveError.{ArchiveError}
 use Rattle.flow_archive.specs.declared.refusal.ArchiveError.TheVariants.{Message, OutOfMemory, NumbersSpent, NotEmpty}
 use Rattle.flow_archive.specs.declared.refusal.ArchiveError.TheVariants.{Fault, NoRoom, ManifestFull, NothingToSeal}
-use Rattle.flow_archive.specs.declared.refusal.ArchiveError.TheVariants.{Closed}
-use Rattle.flow_archive.specs.declared.refusal.ArchiveError.TheVariants.{Damaged, SourceFault, RollBusy, NoRoll}
-use Rattle.flow_archive.specs.declared.refusal.ArchiveError.TheVariants.{RollCount, RollNotDone, Pinned, NothingToRetire}
+use Rattle.flow_archive.specs.declared.refusal.ArchiveError.TheVariants.{Closed, Damaged, SourceFault, RollBusy, NoRoll}
+use Rattle.flow_archive.specs.declared.refusal.ArchiveError.TheVariants.{RollCount, RollNotDone, Pinned}
+use Rattle.flow_archive.specs.declared.refusal.ArchiveError.TheVariants.{NothingToRetire}
 use Rattle.flow_archive.specs.Installing.{cut_in, IsNotInstalled, MayInstall}
 use Rattle.flow_archive.specs.JobAnswers.{cut_moved, AnswersInstall, IsInstalled, IsJobFile}
-use Rattle.flow_archive.specs.UnderWay.{job_in, number_in, AllDiffer, HasOwnFiles}
-use Rattle.flow_archive.specs.UnderWay.{numbers_of, staged_file, staged_in, under_way_in, IsRunningJob, IsStaged}
-use Rattle.flow_archive.specs.UnderWay.{IsUnderWay, IsUnnamed, IsWaiting, FrozenStaged, RunningJob, UnderWay}
-use Rattle.flow_archive.specs.UnderWay as files
+use Rattle.flow_archive.specs.UnderWay.{job_in, numbers_of, staged_file, staged_in, under_way_in, IsRunningJob}
+use Rattle.flow_archive.specs.UnderWay.{IsStaged, IsUnderWay, IsUnnamed, IsWaiting, FrozenStaged, RunningJob, UnderWay}
 use Rattle.flow_archive.proofs.Owning.{as_many}
 use Rattle.flow_archive.proofs.Ready.{which_slot}
 use Rattle.flow_archive.proofs.Stand.{frozen_too, slot_below}
 use Rattle.flow_archive.proofs.Written.{told}
-
--- ---- files in pieces
-
-module _ {S : Type 0} (octets : S → List ℕ) where
-  parts_join : (es fs : List Entry) (xs ys : List S) → length xs ≡ length es
-      → parts_at octets (es ++ fs) (xs ++ ys) ≡ parts_at octets es xs ++ parts_at octets fs ys
-  parts_join [] fs [] ys long = refl
-  parts_join [] fs (x ∷ xs) ys long = absurd (omega (arith, long))
-  parts_join (e ∷ es) fs [] ys long = absurd (omega (arith, long))
-  parts_join (e ∷ es) fs (x ∷ xs) ys long =
-      ap (λ (l : List Part). part_at e.kind e (octets x) ∷ l) (parts_join es fs xs ys (omega (arith, long)))
-
-  no_parts : (es : List Entry) → parts_at octets es [] ≡ []
-  no_parts [] = refl
-  no_parts (e ∷ es) = refl
-
-  parts_take : (n : ℕ) (es : List Entry) (xs : List S)
-      → parts_at octets (take n es) (take n xs) ≡ take n (parts_at octets es xs)
-  parts_take zero es xs = refl
-  parts_take (suc n) [] xs = refl
-  parts_take (suc n) (e ∷ es) [] = refl
-  parts_take (suc n) (e ∷ es) (x ∷ xs) =
-      ap (λ (l : List Part). part_at e.kind e (octets x) ∷ l) (parts_take n es xs)
-
-  parts_drop : (n : ℕ) (es : List Entry) (xs : List S)
-      → parts_at octets (drop n es) (drop n xs) ≡ drop n (parts_at octets es xs)
-  parts_drop zero es xs = refl
-  parts_drop (suc n) [] xs = refl
-  parts_drop (suc n) (e ∷ es) [] = no_parts (drop n es)
-  parts_drop (suc n) (e ∷ es) (x ∷ xs) = parts_drop n es xs
-
-  frozen_join : (es fs : List Entry) (ps qs : List Part) (xs ys : List S) → FrozenStand octets es ps xs
-      → FrozenStand octets fs qs ys → FrozenStand octets (es ++ fs) (ps ++ qs) (xs ++ ys)
-  frozen_join [] fs [] qs [] ys here there = there
-  frozen_join [] fs [] qs (x ∷ xs) ys here there = absurd here
-  frozen_join [] fs (p ∷ ps) qs xs ys here there = absurd here
-  frozen_join (e ∷ es) fs [] qs xs ys here there = absurd here
-  frozen_join (e ∷ es) fs (p ∷ ps) qs [] ys here there = absurd here
-  frozen_join (e ∷ es) fs (p ∷ ps) qs (x ∷ xs) ys here there =
-      (here.0, frozen_join es fs ps qs xs ys here.1 there)
-
-  frozen_take : (n : ℕ) (es : List Entry) (ps : List Part) (xs : List S) → FrozenStand octets es ps xs
-      → FrozenStand octets (take n es) (take n ps) (take n xs)
-  frozen_take zero es ps xs is = tt
-  frozen_take (suc n) [] [] [] is = tt
-  frozen_take (suc n) [] [] (x ∷ xs) is = absurd is
-  frozen_take (suc n) [] (p ∷ ps) xs is = absurd is
-  frozen_take (suc n) (e ∷ es) [] xs is = absurd is
-  frozen_take (suc n) (e ∷ es) (p ∷ ps) [] is = absurd is
-  frozen_take (suc n) (e ∷ es) (p ∷ ps) (x ∷ xs) is = (is.0, frozen_take n es ps xs is.1)
-
-  frozen_drop : (n : ℕ) (es : List Entry) (ps : List Part) (xs : List S) → FrozenStand octets es ps xs
-      → FrozenStand octets (drop n es) (drop n ps) (drop n xs)
-  frozen_drop zero es ps xs is = is
-  frozen_drop (suc n) [] [] [] is = tt
-  frozen_drop (suc n) [] [] (x ∷ xs) is = absurd is
-  frozen_drop (suc n) [] (p ∷ ps) xs is = absurd is
-  frozen_drop (suc n) (e ∷ es) [] xs is = absurd is
-  frozen_drop (suc n) (e ∷ es) (p ∷ ps) [] is = absurd is
-  frozen_drop (suc n) (e ∷ es) (p ∷ ps) (x ∷ xs) is = frozen_drop n es ps xs is.1
-
-held_join : (h : Bool) (es fs : List Entry) (xs ys : List Frozen) → AreHeldAs h es xs → AreHeldAs h fs ys
-    → AreHeldAs h (es ++ fs) (xs ++ ys)
-held_join h [] fs [] ys here there = there
-held_join h [] fs (x ∷ xs) ys here there = absurd here
-held_join h (e ∷ es) fs [] ys here there = absurd here
-held_join h (e ∷ es) fs (x ∷ xs) ys here there = (here.0, held_join h es fs xs ys here.1 there)
-
-held_take : (h : Bool) (n : ℕ) (es : List Entry) (xs : List Frozen) → AreHeldAs h es xs
-    → AreHeldAs h (take n es) (take n xs)
-held_take h zero es xs is = tt
-held_take h (suc n) [] [] is = tt
-held_take h (suc n) [] (x ∷ xs) is = absurd is
-held_take h (suc n) (e ∷ es) [] is = absurd is
-held_take h (suc n) (e ∷ es) (x ∷ xs) is = (is.0, held_take h n es xs is.1)
-
-held_drop : (h : Bool) (n : ℕ) (es : List Entry) (xs : List Frozen) → AreHeldAs h es xs
-    → AreHeldAs h (drop n es) (drop n xs)
-held_drop h zero es xs is = is
-held_drop h (suc n) [] [] is = tt
-held_drop h (suc n) [] (x ∷ xs) is = absurd is
-held_drop h (suc n) (e ∷ es) [] is = absurd is
-held_drop h (suc n) (e ∷ es) (x ∷ xs) is = held_drop h n es xs is.1
-
-held_numbers : (h : Bool) (es : List Entry) (xs : List Frozen) → AreHeldAs h es xs
-    → numbers_of xs ≡ map (λ e. e.file) es
-held_numbers h [] [] is = refl
-held_numbers h [] (x ∷ xs) is = absurd is
-held_numbers h (e ∷ es) [] is = absurd is
-held_numbers h (e ∷ es) (x ∷ xs) is =
-    ap (λ (y : Entry). y.file ∷ numbers_of xs) is.0.entry_is
-    ∙ ap (λ (l : List ℕ). e.file ∷ l) (held_numbers h es xs is.1)
-
--- what holds of entries holds of the files that they name
-held_all : (h : Bool) (P : ℕ → Type 0) (es : List Entry) (xs : List Frozen) → AreHeldAs h es xs
-    → AllByRecursion (λ e. P e.file) es → AllByRecursion (λ f. P f.entry.file) xs
-held_all h P [] [] is all = tt
-held_all h P [] (x ∷ xs) is all = absurd is
-held_all h P (e ∷ es) [] is all = absurd is
-held_all h P (e ∷ es) (x ∷ xs) is all =
-    (subst (λ (y : Entry). P y.file) (sym is.0.entry_is) all.0, held_all h P es xs is.1 all.1)
-
--- what holds of the numbers of files
-pub numbered : (P : ℕ → Type 0) (xs : List Frozen) → AllByRecursion P (numbers_of xs)
-    → AllByRecursion (λ x. P x.entry.file) xs
-numbered P [] all = tt
-numbered P (x ∷ xs) all = (all.0, numbered P xs all.1)
+use Rattle.flow_archive.specs.UnderWay as files
+use Rattle.flow_archive.proofs.FilePieces.{parts_join, parts_take, parts_drop, frozen_join, frozen_take, frozen_drop}
+use Rattle.flow_archive.proofs.FilePieces.{held_join, held_take, held_drop, held_numbers, held_all, in_three}
 
 -- ---- the file of a job
 
@@ -252,12 +146,6 @@ module _ (xs sources ys : List Entry) (made : Entry) (own : HaveOwnFiles (xs ++ 
       apart_left [] apart = tt
       apart_left (x ∷ xs) apart =
           (all_left (λ o. o.file ≢ x.file) sources ys apart.0, apart_left xs apart.1)
-
-in_three : (n k : ℕ) (xs : List Entry) → xs ≡ take n xs ++ (take k (drop n xs) ++ drop (n + k) xs)
-in_three n k xs =
-    sym (take-append-drop n xs)
-    ∙ ap (λ (l : List Entry). take n xs ++ l) (sym (take-append-drop k (drop n xs))
-    ∙ ap (λ (l : List Entry). take k (drop n xs) ++ l) (drop-drop k n xs))
 
 -- ---- the archive
 
@@ -506,116 +394,6 @@ module _ {D : Type 0} (honest : D → Bool) (marks : D → ℕ → Marks) (held 
               (held_drop (honest d) place all files are_held))
               (sources_freed archive.counted.next unnamed.apart all_frozen)));
         }
-
--- ---- whose files it has alone
-
-alone_take : (n : ℕ) (xs : List Frozen) → AllByRecursion IsAlone xs → AllByRecursion IsAlone (take n xs)
-alone_take zero xs each = tt
-alone_take (suc n) [] each = tt
-alone_take (suc n) (x ∷ xs) each = (each.0, alone_take n xs each.1)
-
-alone_drop : (n : ℕ) (xs : List Frozen) → AllByRecursion IsAlone xs → AllByRecursion IsAlone (drop n xs)
-alone_drop zero xs each = each
-alone_drop (suc n) [] each = tt
-alone_drop (suc n) (x ∷ xs) each = alone_drop n xs each.1
-
-alone_join : (xs ys : List Frozen) → AllByRecursion IsAlone xs → AllByRecursion IsAlone ys
-    → AllByRecursion IsAlone (xs ++ ys)
-alone_join [] ys here there = there
-alone_join (x ∷ xs) ys here there = (here.0, alone_join xs ys here.1 there)
-
-numbers_all : (P : ℕ → Type 0) (xs : List Frozen) → AllByRecursion (λ x. P x.entry.file) xs
-    → AllByRecursion P (numbers_of xs)
-numbers_all P [] each = tt
-numbers_all P (x ∷ xs) each = (each.0, numbers_all P xs each.1)
-
-all_numbers_join : (P : ℕ → Type 0) (xs ys : List ℕ) → AllByRecursion P xs → AllByRecursion P ys
-    → AllByRecursion P (xs ++ ys)
-all_numbers_join P [] ys here there = there
-all_numbers_join P (x ∷ xs) ys here there = (here.0, all_numbers_join P xs ys here.1 there)
-
-differ_join : (xs ys : List ℕ) → AllDiffer xs → AllDiffer ys
-    → AllByRecursion (λ x. AllByRecursion (λ o. o ≢ x) ys) xs → AllDiffer (xs ++ ys)
-differ_join [] ys here there apart = there
-differ_join (x ∷ xs) ys here there apart =
-    (all_numbers_join (λ o. o ≢ x) xs ys here.0 apart.0, differ_join xs ys here.1 there apart.1)
-
--- files of entries that have files of their own
-files_differ : (h : Bool) (es : List Entry) (xs : List Frozen) → AreHeldAs h es xs → HaveOwnFiles es
-    → AllDiffer (numbers_of xs)
-files_differ h [] [] is own = tt
-files_differ h [] (x ∷ xs) is own = absurd is
-files_differ h (e ∷ es) [] is own = absurd is
-files_differ h (e ∷ es) (x ∷ xs) is own = (
-  subst (λ (y : Entry). AllByRecursion (λ (o : ℕ). o ≢ y.file) (numbers_of xs)) (sym is.0.entry_is)
-      (numbers_all (λ o. o ≢ e.file) xs (held_all h (λ o. o ≢ e.file) es xs is.1 own.0)),
-  files_differ h es xs is.1 own.1,
-)
-
--- and that none which waits is one of
-waits_apart : (h : Bool) (marks : ℕ → Marks) (s : State) (closed : Bool) (es : List Entry) (xs waiting : List Frozen)
-    → AreHeldAs h es xs
-    → ((n : ℕ) → AllByRecursion (λ e. e.file ≢ n) s.manifest.entries → AllByRecursion (λ e. e.file ≢ n) es)
-    → AllByRecursion (IsWaiting marks s closed) waiting
-    → AllByRecursion (λ x. AllByRecursion (λ o. o ≢ x) (numbers_of xs)) (numbers_of waiting)
-waits_apart h marks s closed es xs [] is among each = tt
-waits_apart h marks s closed es xs (w ∷ waiting) is among each = (
-  numbers_all (λ o. o ≢ w.entry.file) xs
-      (held_all h (λ o. o ≢ w.entry.file) es xs is (among w.entry.file (each.0.unnamed).apart)),
-  waits_apart h marks s closed es xs waiting is among each.1,
-)
-
-module _ (m : Manifest) (valid : IsValidManifest m) (kind : JobKind) (count : ℕ)
-    (few : count ≤ count_of (source_of kind) m.entries) (h : Bool) (files : List Frozen)
-    (are_held : AreHeldAs h (front_of m) files) where
-  abbrev from : ℕ
-  from = count_before (source_of kind) m.entries
-
-  abbrev taken : List Frozen
-  taken = take count (drop from files)
-
-  taken_held : AreHeldAs h (take count (drop from (front_of m))) taken
-  taken_held = held_take h count (drop from (front_of m)) (drop from files) (held_drop h from (front_of m) files are_held)
-
-  sources_own : HaveOwnFiles (take count (drop from (front_of m)))
-  sources_own = subst HaveOwnFiles (sources_are m valid kind count few)
-      (own_left (sources_of kind count m.entries) (drop (from + count) m.entries)
-      (own_right (take from m.entries) (sources_of kind count m.entries ++ drop (from + count) m.entries)
-      (subst HaveOwnFiles (in_three from count m.entries) valid.files)))
-
-  among : (n : ℕ) → AllByRecursion (λ e. e.file ≢ n) m.entries
-      → AllByRecursion (λ e. e.file ≢ n) (take count (drop from (front_of m)))
-  among n all = subst (AllByRecursion (λ e. e.file ≢ n)) (sources_are m valid kind count few)
-      (all_take (λ e. e.file ≢ n) count (drop from m.entries) (all_drop (λ e. e.file ≢ n) from m.entries all))
-
-  pub own_installed : (marks : ℕ → Marks) (s : State) (closed shared : Bool) (r : RunningJob) (f : FrozenStaged) (part : Frozen)
-      (next : ℕ) (waiting : List Frozen) → s.manifest ≡ m → r.staged ≡ Some f → IsAlone part
-      → AllByRecursion (IsWaiting marks s closed) waiting → HasOwnFiles shared files (under_way_in next (Some r) waiting)
-      → HasOwnFiles shared (take from files ++ part ∷ drop (from + count) files) (under_way_in next None (waiting ++ taken))
-  own_installed marks s closed shared r f part next waiting same staged alone waits own =
-      let differ : AllDiffer (f.file ∷ numbers_of waiting) =
-      subst (λ (x : Option FrozenStaged). AllDiffer (number_in (staged_in x) ++ numbers_of waiting)) staged own.differ in
-      record {
-        alone = λ not. alone_join (take from files) (part ∷ drop (from + count) files)
-            (alone_take from files (own.alone not)) (alone, alone_drop (from + count) files (own.alone not));
-        waiting = λ not. alone_join waiting taken (own.waiting not)
-            (alone_take count (drop from files) (alone_drop from files (own.alone not)));
-        differ = subst AllDiffer (sym (map-append (λ (x : Frozen). x.entry.file) waiting taken))
-            (differ_join (numbers_of waiting) (numbers_of taken) differ.1
-            (files_differ h (take count (drop from (front_of m))) taken taken_held sources_own)
-            (waits_apart h marks s closed (take count (drop from (front_of m))) taken waiting taken_held
-            (λ n all. among n (subst (λ (x : Manifest). AllByRecursion (λ (e : Entry). e.file ≢ n) x.entries) same all))
-            waits));
-      }
-
-  -- and the file that was made isn't one of those that wait
-  pub made_apart : (shared : Bool) (r : RunningJob) (f : FrozenStaged) (next : ℕ) (waiting : List Frozen) → r.staged ≡ Some f
-      → HasOwnFiles shared files (under_way_in next (Some r) waiting)
-      → AllByRecursion (λ x. x.entry.file ≢ f.file) waiting
-  made_apart shared r f next waiting staged own =
-      let differ : AllDiffer (f.file ∷ numbers_of waiting) =
-      subst (λ (x : Option FrozenStaged). AllDiffer (number_in (staged_in x) ++ numbers_of waiting)) staged own.differ in
-      numbered (λ n. n ≢ f.file) waiting differ.0
 
 -- ---- what is answered
 

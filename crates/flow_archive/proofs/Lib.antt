@@ -18,7 +18,9 @@ pub mod InstallSwap
 pub mod SourceSums
 pub mod Working
 pub mod Written
+pub mod FilePieces
 pub mod Installed
+pub mod FilesAlone
 pub mod Leaving
 pub mod Undertaking
 pub mod Advance

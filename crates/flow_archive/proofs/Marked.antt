@@ -12,12 +12,12 @@ use Rattle.flow_manifest.specs.declared.manifest.Manifest.{Manifest}
 use Rattle.flow_manifest.specs.Following.{active_entry, active_of, count_before, count_of, front_of, made_entry}
 use Rattle.flow_manifest.specs.Following.{sealed_entry, source_of, sources_of}
 use Rattle.flow_manifest.specs.Manifest.{rank, IsValidManifest}
-use Rattle.flow_manifest.proofs.Followers.{are_entries}
+use Rattle.flow_manifest.proofs.ValidEntries.{are_entries}
 use Rattle.flow_segment.specs.Carry.{prefix_of}
 use Rattle.flow_snapshot.specs.declared.step.Mark.TheVariants.{Added, Sealed}
 use Rattle.flow_model.specs.Jobs.{replaced, staged_of}
 use Rattle.flow_model.specs.State.{end_of, Job, Part, StagedFile, State}
-use Rattle.flow_model.proofs.Replacing.{are_behind, behind_is}
+use Rattle.flow_model.proofs.SourcePlaces.{are_behind, behind_is}
 use Rattle.flow_archive.specs.Answers.{AnswersAppend, AnswersSeal}
 use Rattle.flow_archive.specs.JobAnswers.{AnswersInstall}
 use Rattle.flow_archive.specs.Marks.{made_mark, HasMark, IsNewest}

@@ -13,7 +13,7 @@ use Rattle.flow_manifest.specs.declared.manifest.Kind.TheVariants as kinds
 use Rattle.flow_manifest.specs.declared.manifest.Manifest.{Manifest}
 use Rattle.flow_manifest.specs.Following.{active_of, front_of, messages_of, no_entry}
 use Rattle.flow_manifest.specs.Manifest.{IsValidManifest}
-use Rattle.flow_manifest.proofs.Followers.{are_entries, front_long}
+use Rattle.flow_manifest.proofs.ValidEntries.{are_entries, front_long}
 use Rattle.flow_snapshot.specs.declared.step.Mark.{Mark}
 use Rattle.flow_snapshot.specs.declared.step.Mark.TheVariants.{Added, Sealed, Installed, Merged}
 use Rattle.flow_model.specs.Changes.{Change}

@@ -13,7 +13,8 @@ use Rattle.flow_manifest.specs.declared.slots.Slot.TheVariants.{First, Second}
 use Rattle.flow_manifest.specs.Manifest.{IsValidManifest}
 use Rattle.flow_manifest.specs.Following.{active_of, front_of, sealed_entry, active_entry, messages_of}
 use Rattle.flow_manifest.specs.Slots.{file_of, other}
-use Rattle.flow_manifest.proofs.Followers.{all_sum, next_active}
+use Rattle.flow_manifest.proofs.ValidEntries.{all_sum}
+use Rattle.flow_manifest.proofs.ManifestAfterSeal.{next_active}
 use Rattle.flow_model.specs.State.{State, appended, end_of, after_seal}
 use Rattle.flow_recover.specs.Kept.{IsCounted, IsReadyFor}
 use Rattle.flow_model.specs.Standing.{IsWithinLimits}

@@ -14,7 +14,7 @@ use Rattle.flow_manifest.specs.declared.slots.Slots.{Slots}
 use Rattle.flow_manifest.specs.Following.{active_of, front_of}
 use Rattle.flow_manifest.specs.Slots.{file_of}
 use Rattle.flow_manifest.proofs.EntryLists.{all_both, all_by, all_left}
-use Rattle.flow_manifest.proofs.Followers.{split}
+use Rattle.flow_manifest.proofs.ValidEntries.{split}
 use Rattle.flow_segment.specs.Carry.{Carry}
 use Rattle.flow_segment.specs.Steps.{IsAnything}
 use Rattle.flow_model.specs.State.{State}

@@ -12,7 +12,7 @@ use Rattle.flow_manifest.specs.declared.manifest.Manifest.{Manifest}
 use Rattle.flow_manifest.specs.Following.{front_of}
 use Rattle.flow_manifest.specs.Manifest.{HasShape, IsValidManifest, rank}
 use Rattle.flow_manifest.proofs.EntryLists.{all_by}
-use Rattle.flow_manifest.proofs.Followers.{are_entries, IsOther}
+use Rattle.flow_manifest.proofs.ValidEntries.{are_entries, IsOther}
 use Rattle.flow_segment.specs.Carry.{Carry}
 use Rattle.flow_model.specs.State.{Part, State, at_rest}
 use Rattle.flow_model.specs.Chain.{HandsOn}

@@ -13,7 +13,8 @@ use Rattle.flow_manifest.specs.Manifest.{IsValidManifest}
 use Rattle.flow_manifest.specs.Following.{active_of, front_of, sealed_entry, active_entry}
 use Rattle.flow_manifest.specs.Slots.{file_of, other, swapped, IsInForce, IsNextBody, IsSwapped, MayClose, MaySwap}
 use Rattle.flow_manifest.proofs.EntryLists.{all_by, all_join}
-use Rattle.flow_manifest.proofs.Followers.{IsOther, AreEntries, are_entries, all_sum, next_active, next_front}
+use Rattle.flow_manifest.proofs.ValidEntries.{IsOther, AreEntries, are_entries, all_sum}
+use Rattle.flow_manifest.proofs.ManifestAfterSeal.{next_active, next_front}
 use Rattle.flow_manifest.proofs.Swaps.{still_in_force, swapped_slots}
 use Rattle.flow_segment.specs.Steps.{trailer, IsAnything, Becomes, KeepsFront}
 use Rattle.flow_model.specs.State.{State, end_of, after_seal, reopened}

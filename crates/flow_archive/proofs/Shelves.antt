@@ -13,7 +13,7 @@ use Rattle.flow_manifest.specs.declared.manifest.Manifest.{Manifest}
 use Rattle.flow_manifest.specs.Following.{active_of, count_before, count_of, front_of, made_entry, sealed_entry}
 use Rattle.flow_manifest.specs.Following.{messages_of, source_of, sources_of}
 use Rattle.flow_manifest.specs.Manifest.{IsValidManifest, rank}
-use Rattle.flow_manifest.proofs.Followers.{next_front}
+use Rattle.flow_manifest.proofs.ManifestAfterSeal.{next_front}
 use Rattle.flow_model.specs.Changes.{added, applied, sealed, installed, merged}
 use Rattle.flow_model.specs.Shelf.{Rollup, Segment, Shelf}
 use Rattle.flow_model.specs.Jobs.{replaced, replaced_parts, staged_of}
@@ -21,7 +21,8 @@ use Rattle.flow_model.specs.Shelved.{active_shelf, rollup_of, segment_of, shelf_
 use Rattle.flow_model.specs.State.{Job, Part, StagedFile, State, end_of, after_seal}
 use Rattle.flow_model.proofs.History.{appended_shelf, sealed_last}
 use Rattle.flow_model.proofs.Installing.{merge_front, no_merged, no_rolled, roll_front, rollups, shelved_join}
-use Rattle.flow_model.proofs.Replacing.{are_behind, are_sources, first_same, front_installed, low, number, sources_same}
+use Rattle.flow_model.proofs.SourcePlaces.{are_behind, are_sources, first_same, front_installed, low, number}
+use Rattle.flow_model.proofs.SourcePlaces.{sources_same}
 use Rattle.flow_segment.specs.Carry.{prefix_of}
 use Rattle.flow_archive.specs.declared.event.Answer.{Answer}
 use Rattle.flow_archive.specs.Answers.{AnswersAppend, AnswersSeal}

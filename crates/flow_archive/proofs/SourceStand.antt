@@ -17,14 +17,15 @@ use Rattle.flow_manifest.specs.declared.slots.Slots.{Slots}
 use Rattle.flow_manifest.specs.Following.{count_before, count_of, front_of, messages_of, no_entry, source_of}
 use Rattle.flow_manifest.specs.Following.{sources_of}
 use Rattle.flow_manifest.specs.Manifest.{rank, IsValidManifest}
-use Rattle.flow_manifest.proofs.Followers.{all_sum, behind_short, front_long}
+use Rattle.flow_manifest.proofs.ValidEntries.{all_sum, front_long}
+use Rattle.flow_manifest.proofs.ManifestAfterInstall.{behind_short}
 use Rattle.flow_segment.specs.Carry.{Carry}
 use Rattle.flow_model.specs.State.{Part, State}
 use Rattle.flow_model.specs.Chain.{ArePartsBehind, HandsOn, IsPartBehind}
 use Rattle.flow_model.specs.Jobs.{source_parts, width_made, IsJobSum}
 use Rattle.flow_recover.specs.Opening.{FrozenStand}
 use Rattle.flow_model.specs.Standing.{IsSealedAt, StandsAs}
-use Rattle.flow_model.proofs.Replacing.{are_sources}
+use Rattle.flow_model.proofs.SourcePlaces.{are_sources}
 use Rattle.flow_archive.specs.Frozen.{counted_of, octets_in, AreHeldAs, Frozen, IsHeldAs}
 use Rattle.flow_archive.specs.declared.refusal.ArchiveError.TheVariants as refusal
 use Rattle.flow_refusals.specs.declared.sum_refusal.SumRefusal.{SumRefusal}

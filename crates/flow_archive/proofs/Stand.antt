@@ -18,7 +18,7 @@ use Rattle.flow_manifest.specs.Manifest.{IsValidManifest}
 use Rattle.flow_manifest.specs.Following.{active_of, front_of}
 use Rattle.flow_manifest.specs.Slots.{file_of, other, AreSlots}
 use Rattle.flow_manifest.proofs.EntryLists.{all_both, all_by}
-use Rattle.flow_manifest.proofs.Followers.{IsOther, AreEntries, are_entries}
+use Rattle.flow_manifest.proofs.ValidEntries.{IsOther, AreEntries, are_entries}
 use Rattle.flow_manifest.proofs.Swaps.{same_slots}
 use Rattle.flow_segment.specs.Steps.{KeepsFront}
 use Rattle.flow_model.specs.State.{Part, State, appended, end_of, reopened}

@@ -16,7 +16,8 @@ use Rattle.flow_manifest.specs.Manifest.{rank, IsValidManifest}
 use Rattle.flow_manifest.specs.Following.{active_entry, active_of, count_before, count_of, front_of, next_manifest}
 use Rattle.flow_manifest.specs.Following.{sealed_entry, source_of}
 use Rattle.flow_manifest.proofs.EntryLists.{all_join, all_left, all_right}
-use Rattle.flow_manifest.proofs.Followers.{are_entries, behind_short, front_long, split}
+use Rattle.flow_manifest.proofs.ValidEntries.{are_entries, front_long, split}
+use Rattle.flow_manifest.proofs.ManifestAfterInstall.{behind_short}
 use Rattle.flow_measure.specs.Sums.{Table}
 use Rattle.flow_rolled.specs.Rollup.{IsRollup}
 use Rattle.flow_model.specs.State.{end_of, after_seal, Part, State}

@@ -15,7 +15,7 @@ use Rattle.flow_snapshot.specs.Shares.{AllPartsFit, AreNarrow, AreWide}
 use Rattle.flow_model.specs.Shelf.{Shelf}
 use Rattle.flow_snapshot.specs.Totals.{IsTotalsRefusal, SumsFit}
 use Rattle.flow_model.specs.Views.{IsViewOf}
-use Rattle.flow_snapshot.proofs.Dealing.{parts_fit, parts_of}
+use Rattle.flow_snapshot.proofs.ViewParts.{parts_fit, parts_of}
 use Rattle.flow_model.specs.Chain.{IsChained}
 use Rattle.flow_model.specs.Shelved.{shelf_of}
 use Rattle.flow_model.specs.Standing.{StandsFor}

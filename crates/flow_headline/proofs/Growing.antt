@@ -27,7 +27,7 @@ use Rattle.flow_model.specs.Chain.{HandsOn, IsSegment}
 use Rattle.flow_model.specs.Shelved.{HasHistory, shelf_of}
 use Rattle.flow_model.specs.Standing.{PartsStand, StandsFor}
 use Rattle.flow_model.proofs.History.{append_follows, seal_follows}
-use Rattle.flow_model.proofs.Replacing.{history_replaced, sources_hold}
+use Rattle.flow_model.proofs.ReplacedHistory.{history_replaced, sources_hold}
 use Rattle.flow_model.proofs.Viewing.{handed_on, one_view_of}
 use Rattle.flow_archive.specs.declared.event.Answer.{Answer}
 use Rattle.flow_archive.specs.declared.event.Answer.TheVariants.{Position, Sealed}

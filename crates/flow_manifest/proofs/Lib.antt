@@ -6,7 +6,9 @@ pub mod Faults
 pub mod Decoded
 pub mod Gates
 pub mod EntryLists
-pub mod Followers
+pub mod ValidEntries
+pub mod ManifestAfterSeal
+pub mod ManifestAfterInstall
 pub mod Swaps
 pub mod Openings
 pub mod OneInForce

@@ -7,4 +7,6 @@ pub mod History
 pub mod Stand
 pub mod Installing
 pub mod Sourcing
+pub mod SourcePlaces
 pub mod Replacing
+pub mod ReplacedHistory

@@ -30,7 +30,7 @@ use Rattle.flow_manifest.specs.declared.error.OpenError.TheVariants.{OutOfMemory
 use Rattle.flow_recover.specs.Kept.{AreFilesOf, IsFileOf}
 use Rattle.flow_recover.specs.Opening.{FilesStand, FrozenStand, IsDeviceOrMemory, IsRead, StandsForNone}
 use Rattle.flow_segment.specs.Carry.{Carry}
-use Rattle.flow_manifest.proofs.Followers.{split, IsOther, AreEntries, are_entries}
+use Rattle.flow_manifest.proofs.ValidEntries.{split, IsOther, AreEntries, are_entries}
 use Rattle.flow_manifest.proofs.EntryLists.{all_by}
 use Rattle.flow_model.proofs.Stand.{all_first, all_last, own_first, slot_below, parts_along, files_same, valid_of}
 use Rattle.flow_model.proofs.Stand.{cutting, keeps_shorter}

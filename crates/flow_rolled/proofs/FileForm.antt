@@ -1,31 +1,25 @@
 -- A rolled file is an IPFIX File.
-use Rattle.std.proofs.Common.{◌≡◌, ℕ, ◌+◌, ◌*◌, ◌^◌, ◌<◌, ◌≤◌, ◌-◌, Bool, true, false, inl, inr, List, [], ◌∷◌, ◌++◌}
-use Rattle.std.proofs.Common.{length}
-use Rattle.std.proofs.Common.{map, Option, Some, None, refl, sym, ap, subst, ◌∙◌, arith}
-use Rattle.std.specs.Prelude.{filter, is_some, nat_eq, unwrap_or}
+use Rattle.std.proofs.Common.{◌≡◌, ℕ, ◌+◌, ◌^◌, ◌<◌, Bool, true, false, inl, inr, List, [], ◌∷◌, ◌++◌, length, map}
+use Rattle.std.proofs.Common.{Option, Some, None, refl, sym, ap, subst, ◌∙◌, arith}
+use Rattle.std.specs.Prelude.{filter, nat_eq, unwrap_or}
 use Rattle.std.specs.List.{flat_map, AllByRecursion}
-use Rattle.std.specs.Int.{w16, w64, to_be_bytes}
 use Rattle.std.proofs.lemmas.List.{append-nil}
-use Rattle.flow_codec.specs.declared.message.Field.{Field}
 use Rattle.flow_codec.specs.declared.kind.TemplateKind.{TemplateKind}
 use Rattle.flow_codec.specs.declared.kind.TemplateKind.TheVariants.{Plain, Options}
 use Rattle.flow_codec.specs.declared.templates.DomainTemplates.{DomainTemplates}
 use Rattle.flow_codec.specs.declared.templates.TemplateRecord.TheVariants.{Define}
-use Rattle.flow_codec.specs.Layout.{Layout, IsSpecifier, set_id, smallest}
-use Rattle.flow_codec.specs.Fields.{IsField, AreFields}
+use Rattle.flow_codec.specs.Layout.{IsSpecifier, set_id, smallest}
 use Rattle.flow_codec.specs.Raw.{IsWholeRecord}
 use Rattle.flow_codec.specs.Templates.{AllTemplates, IsOnce, no_definitions, definition_of, definitions_of, applied}
 use Rattle.flow_codec.specs.Templates.{template, IsTemplateRecord}
 use Rattle.flow_codec.specs.Working.{put_back}
-use Rattle.flow_codec.specs.Message.{AreRecords, AreTemplates, Division, IsData, IsSet, AreSets, IsMessage, joined}
-use Rattle.flow_codec.specs.Message.{content, header_octets, set_octets}
+use Rattle.flow_codec.specs.Message.{AreTemplates, Division, IsData, IsSet, AreSets, IsMessage, joined, header_octets}
+use Rattle.flow_codec.specs.Message.{set_octets}
 use Rattle.flow_codec.proofs.Entries.{found, with_entry, remove-absent, lookup-insert, once_insert, found-insert-other}
 use Rattle.flow_codec.proofs.PuttingBack.{applied_put_back, put_found}
 use Rattle.flow_rolled.specs.declared.row.RolledRow.{RolledRow}
-use Rattle.flow_rolled.specs.Octets.{row_octets, rows_octets, row_set_octets, sets_of, head_sets, protocol_octets}
-use Rattle.flow_rolled.specs.Octets.{message_octets}
-use Rattle.flow_rolled.specs.Octets.{messages_octets}
-use Rattle.flow_rolled.specs.Octets.{has_protocol, has_none, IsOf, AreOf, IsRolledMessage}
+use Rattle.flow_rolled.specs.Octets.{sets_of, head_sets, message_octets, messages_octets, has_protocol, has_none, AreOf}
+use Rattle.flow_rolled.specs.Octets.{IsRolledMessage}
 use Rattle.flow_rolled.specs.Messages.{RolledMessage, RowsFollow, Follows, AllFollow}
 use Rattle.flow_rolled.specs.Rows.{IsTable}
 use Rattle.flow_rolled.specs.Rollup.{table_messages, rollup_octets}
@@ -35,230 +29,13 @@ use Rattle.flow_codec.proofs.Steps.{by_bool}
 use Rattle.std.proofs.lemmas.Bool.{eqb-true}
 use Rattle.flow_rolled.proofs.SoFar.{count_parted}
 use Rattle.flow_rolled.proofs.Breaking.{Known, follows_part, file_parts}
-use Rattle.flow_rolled.specs.AsFile.{field, with_protocol, without_protocol, distribution, in_domain, rows_under}
-use Rattle.flow_rolled.specs.AsFile.{records_of}
+use Rattle.flow_rolled.specs.AsFile.{field, with_protocol, without_protocol, distribution, in_domain, records_of}
 use Rattle.flow_rolled.specs.AsFile.{message_of, messages_of}
-use Rattle.flow_rolled.proofs.PartOctets.{rows_long}
 use Rattle.flow_rolled.proofs.SameParts.{sets_long}
 use Rattle.std.proofs.lemmas.Nat.{from_be_bytes-to_be_bytes_2}
 use Rattle.flow_codec.specs.Cutting.{IsCutOff}
-use Rattle.std.proofs.lemmas.Nat.{from_be_bytes-to_be_bytes_8}
-use Rattle.std.proofs.lemmas.Bool.{leb-false}
-use Rattle.std.proofs.lemmas.List.{map-append}
-use Rattle.std.proofs.lemmas.List.Elements.{filter_map-append}
-use Rattle.std.specs.Prelude.{nat_le, ◌/◌}
-use Rattle.std.specs.List.{filter_map}
-use Rattle.flow_elements.specs.Values.{number_of}
-use Rattle.flow_codec.specs.declared.message.Header.{Header}
-use Rattle.flow_codec.specs.Fields.{fields_in}
-use Rattle.flow_codec.specs.Message.{interpreted, in_fields}
-use Rattle.flow_codec.specs.Plan.{values_of}
-use Rattle.flow_codec.proofs.FieldLaws.{fields_are}
-use Rattle.flow_measure.specs.Flows.{start_of, flow_from, flow_of_record, flows_of}
-use Rattle.flow_rolled.specs.Messages.{rows_within}
-use Rattle.flow_rolled.specs.Rows.{most, IsRow, rows_in}
-use Rattle.flow_rolled.specs.AsFile.{flow_of_row, flows_within}
-use Rattle.flow_rolled.proofs.Breaking.{all_parts}
-
--- ---- a row is a whole record of its template
-
-eight : (n : ℕ) → IsField 8 (to_be_bytes w64 n) (to_be_bytes w64 n)
-eight n = inl ((λ e. absurd (omega (arith, e))), refl, refl)
-
-one_octet : (n : ℕ) → IsField 1 (n ∷ []) (n ∷ [])
-one_octet n = inl ((λ e. absurd (omega (arith, e))), refl, refl)
-
-abbrev value : ℕ → List ℕ → Field
-value number octets = record { id = record { enterprise = None; number = number }; octets = octets }
-
-abbrev counts : RolledRow → List ℕ
-counts r = to_be_bytes w64 r.flows ++ (to_be_bytes w64 r.octets ++ to_be_bytes w64 r.packets)
-
-abbrev row_by : ℕ → Option ℕ → RolledRow → List ℕ
-row_by w protocol r = to_be_bytes w64 (r.key.start * 1000) ++ to_be_bytes w64 ((r.key.start + w) * 1000 - 1)
-    ++ protocol_octets protocol ++ to_be_bytes w64 r.flows ++ to_be_bytes w64 r.octets ++ to_be_bytes w64 r.packets
-
-counted : (r : RolledRow) → AreFields (field 376 8 ∷ field 1 8 ∷ field 2 8 ∷ []) (counts r)
-    (value 376 (to_be_bytes w64 r.flows) ∷ value 1 (to_be_bytes w64 r.octets) ∷ value 2 (to_be_bytes w64 r.packets) ∷
-    [])
-counted r = (
-  to_be_bytes w64 r.flows,
-  to_be_bytes w64 r.octets ++ to_be_bytes w64 r.packets,
-  refl,
-  refl,
-  eight r.flows,
-  (
-    to_be_bytes w64 r.octets,
-    to_be_bytes w64 r.packets,
-    refl,
-    refl,
-    eight r.octets,
-    (to_be_bytes w64 r.packets, [], refl, refl, eight r.packets, refl),
-  ),
-)
-
-whole_with : (w : ℕ) (r : RolledRow) (p : ℕ) → IsWholeRecord with_protocol (row_by w (Some p) r)
-whole_with w r p =
-    let first = to_be_bytes w64 (r.key.start * 1000) in
-    let second = to_be_bytes w64 ((r.key.start + w) * 1000 - 1) in (
-      value 152 first ∷ value 153 second ∷ value 4 (p ∷ []) ∷ value 376 (to_be_bytes w64 r.flows)
-          ∷ value 1 (to_be_bytes w64 r.octets) ∷ value 2 (to_be_bytes w64 r.packets) ∷ [],
-      (
-        first,
-        second ++ ((p ∷ []) ++ counts r),
-        refl,
-        refl,
-        eight (r.key.start * 1000),
-        (
-          second,
-          (p ∷ []) ++ counts r,
-          refl,
-          refl,
-          eight ((r.key.start + w) * 1000 - 1),
-          (p ∷ [], counts r, refl, refl, one_octet p, counted r),
-        ),
-      ),
-    )
-
-whole_none : (w : ℕ) (r : RolledRow) → IsWholeRecord without_protocol (row_by w None r)
-whole_none w r =
-    let first = to_be_bytes w64 (r.key.start * 1000) in
-    let second = to_be_bytes w64 ((r.key.start + w) * 1000 - 1) in (
-      value 152 first ∷ value 153 second ∷ value 376 (to_be_bytes w64 r.flows)
-          ∷ value 1 (to_be_bytes w64 r.octets) ∷ value 2 (to_be_bytes w64 r.packets) ∷ [],
-      (
-        first,
-        second ++ counts r,
-        refl,
-        refl,
-        eight (r.key.start * 1000),
-        (second, counts r, refl, refl, eight ((r.key.start + w) * 1000 - 1), counted r),
-      ),
-    )
-
--- by the kind of rows that a Set holds
-abbrev id_of : Bool → ℕ
-id_of true = 256
-id_of false = 257
-
-abbrev layout_of : Bool → Layout
-layout_of true = with_protocol
-layout_of false = without_protocol
-
-whole_row : (w d : ℕ) (b : Bool) (r : RolledRow) → IsOf w d b r → IsWholeRecord (layout_of b) (row_octets w r)
-whole_row w d b r h = by b r.key.protocol h.kind
-  where
-    by : (b : Bool) (o : Option ℕ) → is_some o ≡ b → IsWholeRecord (layout_of b) (row_by w o r)
-    by true None e = absurd cc
-    by true (Some p) e = whole_with w r p
-    by false None e = whole_none w r
-    by false (Some p) e = absurd cc
-
-some_octets : (b : Bool) → 0 < smallest (layout_of b)
-some_octets true = let e : smallest with_protocol ≡ 41 = refl in omega (arith, e)
-some_octets false = let e : smallest without_protocol ≡ 40 = refl in omega (arith, e)
-
-are_records : (w d : ℕ) (b : Bool) (rows : List RolledRow) → AllByRecursion (IsOf w d b) rows
-    → AreRecords (id_of b) (layout_of b) (map (row_octets w) rows) (rows_under w (id_of b) (layout_of b) rows)
-are_records w d b [] h = tt
-are_records w d b (r ∷ rs) h = (some_octets b, refl, whole_row w d b r h.0, are_records w d b rs h.1)
-
--- ---- a Set of rows
-
-abbrev division : ℕ → ℕ → List RolledRow → Division
-division w id rows = record { id = id; records = map (row_octets w) rows; rest = [] }
-
-joined_rows : (w : ℕ) (rows : List RolledRow) → joined (map (row_octets w) rows) ≡ rows_octets w rows
-joined_rows w [] = refl
-joined_rows w (r ∷ rs) = ap (λ (l : List ℕ). row_octets w r ++ l) (joined_rows w rs)
-
-content_is : (w id : ℕ) (rows : List RolledRow) → content (division w id rows) ≡ rows_octets w rows
-content_is w id rows = append-nil (joined (map (row_octets w) rows)) ∙ joined_rows w rows
-
-set_is : (w id : ℕ) (r : RolledRow) (rs : List RolledRow)
-    → set_octets (division w id (r ∷ rs)) ≡ row_set_octets w id (r ∷ rs)
-set_is w id r rs = ap (λ (c : List ℕ). to_be_bytes w16 id ++ to_be_bytes w16 (4 + length c) ++ c)
-    (content_is w id (r ∷ rs))
-
-id_small : (b : Bool) → (256 ≤ id_of b) × (id_of b < 300)
-id_small true = (omega arith, omega arith)
-id_small false = (omega arith, omega arith)
-
-no_template : (kind : TemplateKind) (n : ℕ) → 256 ≤ n → n ≡ set_id kind → ⊥
-no_template Plain n large e = omega (arith, large, e)
-no_template Options n large e = omega (arith, large, e)
-
-row_set : (w d : ℕ) (b : Bool) (all : AllTemplates) (rows : List RolledRow) → length rows ≤ 1000
-    → AllByRecursion (IsOf w d b) rows → definition_of (id_of b) (definitions_of d all) ≡ Some (layout_of b)
-    → IsSet d all (division w (id_of b) rows) (rows_under w (id_of b) (layout_of b) rows) all
-row_set w d b all rows few h there = record {
-  id = let s = (id_small b).1 in omega (arith, s);
-  fits = let c = ap (λ (l : List ℕ). length l) (content_is w (id_of b) rows) in let l = rows_long w rows in
-      omega (arith, c, l, few);
-  templates = λ kind e. absurd (no_template kind (id_of b) (id_small b).0 e);
-  other = λ two three small. absurd (let s = (id_small b).0 in omega (arith, s, small));
-  «data» = λ large. (
-    subst (λ o. IsData (id_of b) o (division w (id_of b) rows) (rows_under w (id_of b) (layout_of b) rows)) (sym there)
-        (are_records w d b rows h, inr (some_octets b)),
-    refl,
-  );
-}
-
--- ---- the Sets of a message with rows
-
-divisions : ℕ → ℕ → List RolledRow → List Division
-divisions w id [] = []
-divisions w id (r ∷ rs) = division w id (r ∷ rs) ∷ []
-
-module _ (w d : ℕ) (all : AllTemplates)
-    (there : (b : Bool) → definition_of (id_of b) (definitions_of d all) ≡ Some (layout_of b)) where
-  row_sets : (xs ys : List RolledRow) → length xs ≤ 1000 → length ys ≤ 1000 → AllByRecursion (IsOf w d true) xs
-      → AllByRecursion (IsOf w d false) ys
-      → AreSets d all (divisions w 256 xs ++ divisions w 257 ys)
-      (rows_under w 256 with_protocol xs ++ rows_under w 257 without_protocol ys) all
-  unfolding divisions
-  row_sets [] [] fx fy hx hy = (refl, refl)
-  row_sets [] (y ∷ ys) fx fy hx hy = (
-    rows_under w 257 without_protocol (y ∷ ys),
-    [],
-    all,
-    row_set w d false all (y ∷ ys) fy hy (there false),
-    (refl, refl),
-    sym (append-nil (rows_under w 257 without_protocol (y ∷ ys))),
-  )
-  row_sets (x ∷ xs) [] fx fy hx hy = (
-    rows_under w 256 with_protocol (x ∷ xs),
-    [],
-    all,
-    row_set w d true all (x ∷ xs) fx hx (there true),
-    (refl, refl),
-    refl,
-  )
-  row_sets (x ∷ xs) (y ∷ ys) fx fy hx hy = (
-    rows_under w 256 with_protocol (x ∷ xs),
-    rows_under w 257 without_protocol (y ∷ ys),
-    all,
-    row_set w d true all (x ∷ xs) fx hx (there true),
-    (
-      rows_under w 257 without_protocol (y ∷ ys),
-      [],
-      all,
-      row_set w d false all (y ∷ ys) fy hy (there false),
-      (refl, refl),
-      sym (append-nil (rows_under w 257 without_protocol (y ∷ ys))),
-    ),
-    refl,
-  )
-
-row_octets_of : (w : ℕ) (xs ys : List RolledRow)
-    → flat_map set_octets (divisions w 256 xs ++ divisions w 257 ys)
-    ≡ row_set_octets w 256 xs ++ row_set_octets w 257 ys
-unfolding divisions
-row_octets_of w [] [] = refl
-row_octets_of w [] (y ∷ ys) = append-nil (set_octets (division w 257 (y ∷ ys))) ∙ set_is w 257 y ys
-row_octets_of w (x ∷ xs) [] = ap (λ (l : List ℕ). l ++ []) (set_is w 256 x xs)
-row_octets_of w (x ∷ xs) (y ∷ ys) =
-    (λ i. set_is w 256 x xs i ++ (append-nil (set_octets (division w 257 (y ∷ ys))) ∙ set_is w 257 y ys) i)
+use Rattle.flow_rolled.proofs.RowRecords.{one_octet, value, id_of, layout_of, no_template, divisions, row_sets}
+use Rattle.flow_rolled.proofs.RowRecords.{row_octets_of}
 
 -- ---- the Sets of a head
 
@@ -616,131 +393,3 @@ rolled_file t time valid small =
         each = all.1;
       },
     )
-
--- ---- each row is one flow
-
-eight_again : (n : ℕ) → n ≤ most → number_of (to_be_bytes w64 n) ≡ n
-eight_again n small = from_be_bytes-to_be_bytes_8 n (omega (arith, small))
-
-one_again : (n : ℕ) → number_of (n ∷ []) ≡ n
-one_again n = omega arith
-
-start_again : (time n s : ℕ) (seconds : Option ℕ) → n ≡ s * 1000 → s < 2 ^ 32 → start_of time (Some n) seconds ≡ s
-start_again time n s seconds is small =
-    let e : n / 1000 ≡ s = omega (arith, is) in
-    elim (by_bool (nat_le (n / 1000) 4294967295)) [
-      | inl yes_le ↦ rw yes_le e
-      | inr past ↦ let gt = leb-false (n / 1000) 4294967295 past in absurd (omega (arith, gt, e, small))
-    ]
-
-flow_with : (header : Header) (w : ℕ) (r : RolledRow) (p : ℕ) → IsRow w r
-    → flow_from header (values_of (fields_in with_protocol.fields (row_by w (Some p) r))) ≡ record {
-      domain = header.domain;
-      start = r.key.start;
-      protocol = Some p;
-      octets = r.octets;
-      packets = r.packets;
-    }
-unfolding whole_with
-flow_with header w r p h =
-    let whole = whole_with w r p in
-    let start = h.start in
-    let first = from_be_bytes-to_be_bytes_8 (r.key.start * 1000) (omega (arith, start)) in
-    ap (λ (fs : List Field). flow_from header (values_of fs))
-    (sym (fields_are with_protocol.fields (row_by w (Some p) r) whole.0 whole.1))
-    ∙ (λ i. record {
-      domain = header.domain;
-      start = start_again header.time (number_of (to_be_bytes w64 (r.key.start * 1000))) r.key.start None first
-          h.start i;
-      protocol = Some (one_again p i);
-      octets = eight_again r.octets h.octets i;
-      packets = eight_again r.packets h.packets i;
-    })
-
-flow_none : (header : Header) (w : ℕ) (r : RolledRow) → IsRow w r
-    → flow_from header (values_of (fields_in without_protocol.fields (row_by w None r))) ≡ record {
-      domain = header.domain;
-      start = r.key.start;
-      protocol = None;
-      octets = r.octets;
-      packets = r.packets;
-    }
-unfolding whole_none
-flow_none header w r h =
-    let whole = whole_none w r in
-    let start = h.start in
-    let first = from_be_bytes-to_be_bytes_8 (r.key.start * 1000) (omega (arith, start)) in
-    ap (λ (fs : List Field). flow_from header (values_of fs))
-    (sym (fields_are without_protocol.fields (row_by w None r) whole.0 whole.1))
-    ∙ (λ i. record {
-      domain = header.domain;
-      start = start_again header.time (number_of (to_be_bytes w64 (r.key.start * 1000))) r.key.start None first
-          h.start i;
-      protocol = None;
-      octets = eight_again r.octets h.octets i;
-      packets = eight_again r.packets h.packets i;
-    })
-
--- a row's flow
-row_flow : (header : Header) (w d : ℕ) (b : Bool) (r : RolledRow) → header.domain ≡ d → IsOf w d b r
-    → flow_from header (values_of (fields_in (layout_of b).fields (row_octets w r))) ≡ flow_of_row r
-row_flow header w d b r here h = by b r.key.protocol h.kind ∙ (λ i. record {
-  domain = (here ∙ sym h.own) i;
-  start = r.key.start;
-  protocol = r.key.protocol;
-  octets = r.octets;
-  packets = r.packets;
-})
-  where
-    by : (b : Bool) (o : Option ℕ) → is_some o ≡ b
-        → flow_from header (values_of (fields_in (layout_of b).fields (row_by w o r))) ≡ record {
-          domain = header.domain;
-          start = r.key.start;
-          protocol = o;
-          octets = r.octets;
-          packets = r.packets;
-        }
-    by true None e = absurd cc
-    by true (Some p) e = flow_with header w r p h.row
-    by false None e = flow_none header w r h.row
-    by false (Some p) e = absurd cc
-
-flows_under : (header : Header) (w d : ℕ) (b : Bool) (rows : List RolledRow) → header.domain ≡ d
-    → AllByRecursion (IsOf w d b) rows
-    → filter_map (flow_of_record header) (map interpreted (rows_under w (id_of b) (layout_of b) rows))
-    ≡ map flow_of_row rows
-flows_under header w d true [] here h = refl
-flows_under header w d true (r ∷ rs) here h =
-    (λ i. row_flow header w d true r here h.0 i ∷ flows_under header w d true rs here h.1 i)
-flows_under header w d false [] here h = refl
-flows_under header w d false (r ∷ rs) here h =
-    (λ i. row_flow header w d false r here h.0 i ∷ flows_under header w d false rs here h.1 i)
-
--- the flows of a message
-message_flows : (w : ℕ) (header : Header) (rows : List RolledRow) → AreOf w header.domain rows
-    → flows_of (in_fields (record { header = header; records = records_of w rows })) ≡ map flow_of_row rows
-message_flows w header [] h = refl
-message_flows w header (r ∷ rs) h =
-    let xs = filter has_protocol (r ∷ rs) in
-    let ys = filter has_none (r ∷ rs) in
-    let a = rows_under w 256 with_protocol xs in
-    let b = rows_under w 257 without_protocol ys in
-    ap (filter_map (flow_of_record header)) (map-append interpreted a b)
-    ∙ filter_map-append (flow_of_record header) (map interpreted a) (map interpreted b)
-    ∙ (λ i. flows_under header w header.domain true xs refl h.with i
-    ++ flows_under header w header.domain false ys refl h.without i)
-    ∙ sym (map-append flow_of_row xs ys) ∙ ap (map flow_of_row) h.parted
-
-parts_flows : (w : ℕ) (ps : List RolledMessage) → AllByRecursion (IsRolledMessage w) ps
-    → flows_within (messages_of w ps) ≡ map flow_of_row (rows_within ps)
-parts_flows w [] h = refl
-parts_flows w (p ∷ ps) h =
-    (λ i. message_flows w (message_of w p).header p.rows h.0.rows i ++ parts_flows w ps h.1 i)
-    ∙ sym (map-append flow_of_row p.rows (rows_within ps))
-
-pub rolled_flows : (t : Table) (time : ℕ) → IsTable t → time < 2 ^ 32
-    → flows_within (messages_of t.width (table_messages t time)) ≡ map flow_of_row (rows_in t.sums)
-rolled_flows t time valid small =
-    let file = file_parts t time small valid in
-    parts_flows t.width (table_messages t time) (all_parts t.width None (table_messages t time) tt file.follow)
-    ∙ ap (map flow_of_row) file.same

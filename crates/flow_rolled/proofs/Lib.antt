@@ -20,6 +20,8 @@ pub mod Sorting
 pub mod Pieces
 pub mod Widened
 pub mod Counted
+pub mod RowRecords
 pub mod FileForm
+pub mod FileFlows
 pub mod RowFlows
 pub mod PartsLaws

@@ -16,7 +16,7 @@ use Rattle.flow_rolled.specs.Rollup.{table_messages}
 use Rattle.flow_rolled.specs.AsFile.{flow_of_row, flows_within, messages_of, SameCounts}
 use Rattle.flow_rolled.proofs.RowSums.{same_table}
 use Rattle.flow_rolled.proofs.TableRows.{table_rows}
-use Rattle.flow_rolled.proofs.FileForm.{rolled_flows}
+use Rattle.flow_rolled.proofs.FileFlows.{rolled_flows}
 
 same_joined : (a b c d : Option Sums) → SameCounts a b → SameCounts c d → SameCounts (joined a c) (joined b d)
 same_joined None None c d h k = k

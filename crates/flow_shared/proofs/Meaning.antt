@@ -14,7 +14,7 @@ use Rattle.flow_model.specs.Chain.{HandsOn, IsSegment}
 use Rattle.flow_model.specs.Shelved.{HasHistory}
 use Rattle.flow_model.specs.Standing.{PartsStand, StandsFor}
 use Rattle.flow_model.proofs.History.{append_follows, seal_follows}
-use Rattle.flow_model.proofs.Replacing.{history_replaced, sources_hold}
+use Rattle.flow_model.proofs.ReplacedHistory.{history_replaced, sources_hold}
 use Rattle.flow_archive.specs.Answers.{AreAccepted, IsSealed, MaySeal}
 use Rattle.flow_archive.specs.JobAnswers.{IsJobFile}
 use Rattle.flow_archive.proofs.Shelves.{made_rollup, with_octets}

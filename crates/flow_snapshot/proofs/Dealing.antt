@@ -1,27 +1,21 @@
--- Parts, dealt out to workers in turn.
-use Rattle.std.proofs.Common.{◌≡◌, ℕ, zero, suc, Bool, true, false, cond, ◌+◌, ◌<◌, ◌≤◌, List, [], ◌∷◌, ◌++◌}
-use Rattle.std.proofs.Common.{length, map, take, drop, Option, Some, None, refl, sym, ap, subst, ◌∙◌, append-nil}
-use Rattle.std.proofs.Common.{append_assoc, arith, get_or}
-use Rattle.std.specs.Prelude.{◌==◌, nat_lt, IsTrue, Result, Ok, Err, IsErrAnd}
+-- What a worker adds: its share of a snapshot's parts.
+use Rattle.std.proofs.Common.{◌≡◌, ℕ, suc, Bool, true, false, cond, ◌+◌, ◌<◌, List, [], ◌∷◌, ◌++◌, length, map, drop}
+use Rattle.std.proofs.Common.{refl, sym, ap, subst, ◌∙◌, append_assoc, get_or}
+use Rattle.std.specs.Prelude.{◌==◌, IsTrue, Result, Ok, Err, IsErrAnd}
 use Rattle.std.specs.List.{flat_map, list_all, AllZip}
 use Rattle.std.specs.FinMap.{FinMap, entries}
 use Rattle.std.specs.Arc.{arc_value}
 use Rattle.std.specs.declared.sync.Arc.{Arc}
-use Rattle.std.proofs.lemmas.Bool.{ltb-true, ltb-false, eqb-true, eqb-false, lt-ltb, le-ltb, ne_eqb}
-use Rattle.std.proofs.lemmas.List.{drop-map, take-append-drop}
+use Rattle.std.proofs.lemmas.List.{drop-map}
 use Rattle.std.proofs.lemmas.List.Concat.{flat_map-append}
 use Rattle.flow_codec.specs.Templates.{AllTemplates}
-use Rattle.flow_measure.specs.declared.rows.Key.{Key}
 use Rattle.flow_measure.specs.declared.rows.Sums.{Sums}
-use Rattle.flow_measure.specs.History.{Accepted, AreAcceptedFrom, flows_in, templates_from}
+use Rattle.flow_measure.specs.History.{Accepted, AreAcceptedFrom, flows_in}
 use Rattle.flow_measure.specs.Query.{narrow_table_in}
 use Rattle.flow_measure.specs.Sums.{key_cmp, empty_table, gathered, merged, sums_by, AllFit, Table}
-use Rattle.flow_measure.specs.View.{gathered_all, View}
+use Rattle.flow_measure.specs.View.{View}
 use Rattle.flow_measure.proofs.Fitting.{front_fits}
-use Rattle.flow_measure.proofs.Gathering.{entries_of_none, gathered-again, gathered-both, gathered-entries}
-use Rattle.flow_measure.proofs.Gathering.{gathered-same, joined, sum_at, sum_at-append}
-use Rattle.flow_measure.proofs.ViewLaws.{both_sums, flows-append}
-use Rattle.flow_measure.proofs.Widening.{joined-comm}
+use Rattle.flow_measure.proofs.Gathering.{gathered-again, gathered-entries}
 use Rattle.flow_segment.specs.Carry.{octets_of}
 use Rattle.flow_disk.specs.declared.sealed.SealedFile.{Ghosts}
 use Rattle.flow_segment.specs.declared.sealed.SealedPart.{SealedPart}
@@ -29,269 +23,15 @@ use Rattle.flow_segment.specs.Segment.{part_octets}
 use Rattle.flow_segment.specs.PartFlows.{with_flows, ArePartMessages}
 use Rattle.flow_refusals.specs.declared.read_refusal.ReadRefusal.{ReadRefusal}
 use Rattle.flow_snapshot.specs.Files.{cut_into, segment_of, shared}
-use Rattle.flow_snapshot.specs.Shares.{added_if, chosen, next_turn, own, summed, turn_after, AllPartsFit, AreNarrow}
-use Rattle.flow_snapshot.specs.Shares.{AreWide, IsFileSum, IsOwnSum, IsSegmentSum}
-use Rattle.flow_model.specs.Shelf.{Rollup, Segment, Shelf, messages_in}
+use Rattle.flow_snapshot.specs.Shares.{added_if, next_turn, own, summed, turn_after, AllPartsFit, AreNarrow, IsFileSum}
+use Rattle.flow_snapshot.specs.Shares.{IsOwnSum, IsSegmentSum}
+use Rattle.flow_model.specs.Shelf.{Shelf}
 use Rattle.flow_snapshot.specs.Totals.{wide_table_in, with_maps, IsMade, IsTotalsRefusal, SumsFit}
-use Rattle.flow_model.specs.Views.{AreRestated, AreRolled, IsViewOf}
-use Rattle.flow_model.proofs.Accepting.{accepted_first, accepted_rest, behind_own, own_first}
-use Rattle.flow_snapshot.proofs.Adding.{gathered-behind, made_err, no_maps, only_maps, with_nothing}
+use Rattle.flow_snapshot.proofs.Adding.{made_err, no_maps, only_maps, with_nothing}
 use Rattle.flow_snapshot.proofs.KeptFlows.{next_item, of_part}
 use Rattle.flow_snapshot.proofs.Sharing.{all_rest, first_of_two}
-
-add_join : (a b c : ℕ) → a + (b + c) ≡ (a + b) + c
-add_join a b c = omega arith
-
-joined-assoc : (a b c : Option Sums) → joined a (joined b c) ≡ joined (joined a b) c
-joined-assoc None b c = refl
-joined-assoc (Some a) None c = refl
-joined-assoc (Some a) (Some b) None = refl
-joined-assoc (Some a) (Some b) (Some c) =
-    rw (
-      add_join a.flows b.flows c.flows,
-      add_join a.octets b.octets c.octets,
-      add_join a.packets b.packets c.packets,
-    ) refl
-
--- ---- turns
-
-pub turn_then : (workers n turn : ℕ)
-    → turn_after workers n (next_turn workers turn) ≡ next_turn workers (turn_after workers n turn)
-turn_then workers zero turn = refl
-turn_then workers (suc n) turn = turn_then workers n (next_turn workers turn)
-
--- ---- what several maps have at a key
-
-abbrev pub maps_at : Key → List (FinMap key_cmp Sums) → Option Sums
-maps_at q maps = sum_at q (flat_map entries maps)
-
-maps_more : (q : Key) (m : FinMap key_cmp Sums) (ms : List (FinMap key_cmp Sums))
-    → maps_at q (m ∷ ms) ≡ joined (sum_at q (entries m)) (maps_at q ms)
-maps_more q m ms = sum_at-append q (entries m) (flat_map entries ms)
-
--- ---- choosing
-
--- a test passes where exactly one of two others does
-abbrev pub Splits : Bool → Bool → Bool → Type 0
-Splits true true false = Unit {0}
-Splits true false true = Unit {0}
-Splits false false false = Unit {0}
-Splits true true true = ⊥
-Splits true false false = ⊥
-Splits false true false = ⊥
-Splits false false true = ⊥
-Splits false true true = ⊥
-
-module _ (q : Key) (m : FinMap key_cmp Sums) (xs ys zs : List (FinMap key_cmp Sums))
-    (rest : maps_at q xs ≡ joined (maps_at q ys) (maps_at q zs)) where
-  abbrev here : Option Sums
-  here = sum_at q (entries m)
-
-  split_one : (x y z : Bool) → Splits x y z
-      → maps_at q (cond x (m ∷ xs) xs) ≡ joined (maps_at q (cond y (m ∷ ys) ys)) (maps_at q (cond z (m ∷ zs) zs))
-  split_one true true false s =
-      maps_more q m xs ∙ ap (joined here) rest ∙ joined-assoc here (maps_at q ys) (maps_at q zs)
-      ∙ ap (λ a. joined a (maps_at q zs)) (sym (maps_more q m ys))
-  split_one true false true s =
-      maps_more q m xs ∙ ap (joined here) rest ∙ joined-assoc here (maps_at q ys) (maps_at q zs)
-      ∙ ap (λ a. joined a (maps_at q zs)) (joined-comm here (maps_at q ys))
-      ∙ sym (joined-assoc (maps_at q ys) here (maps_at q zs))
-      ∙ ap (joined (maps_at q ys)) (sym (maps_more q m zs))
-  split_one false false false s = rest
-  split_one true true true s = absurd s
-  split_one true false false s = absurd s
-  split_one false true false s = absurd s
-  split_one false false true s = absurd s
-  split_one false true true s = absurd s
-
-pub split : (all a b : ℕ → Bool) → ((t : ℕ) → Splits (all t) (a t) (b t)) → (workers turn : ℕ)
-    (maps : List (FinMap key_cmp Sums)) (q : Key)
-    → maps_at q (chosen all workers turn maps)
-    ≡ joined (maps_at q (chosen a workers turn maps)) (maps_at q (chosen b workers turn maps))
-split all a b s workers turn [] q = refl
-split all a b s workers turn (m ∷ ms) q =
-    let next = next_turn workers turn in
-    split_one q m (chosen all workers next ms) (chosen a workers next ms) (chosen b workers next ms)
-    (split all a b s workers next ms q) (all turn) (a turn) (b turn) (s turn)
-
-pub all_chosen : {A : Type 0} (workers turn : ℕ) (xs : List A) → chosen (λ _. true) workers turn xs ≡ xs
-all_chosen workers turn [] = refl
-all_chosen {A} workers turn (x ∷ xs) = ap (λ (ys : List A). x ∷ ys) (all_chosen workers (next_turn workers turn) xs)
-
-none_chosen : {A : Type 0} (workers turn : ℕ) (xs : List A) → chosen (λ t. nat_lt t 0) workers turn xs ≡ []
-none_chosen workers turn [] = refl
-none_chosen {A} workers turn (x ∷ xs) =
-    let rest = chosen (λ t. nat_lt t 0) workers (next_turn workers turn) xs in
-    ap (λ (b : Bool). cond b (x ∷ rest) rest) (le-ltb turn 0 (omega arith))
-    ∙ none_chosen workers (next_turn workers turn) xs
-
-next_within : (workers turn : ℕ) → 0 < workers → next_turn workers turn < workers
-next_within workers turn some = omega (arith, some)
-
--- all turns are below the number of workers
-below_all : {A : Type 0} (workers n turn : ℕ) (xs : List A) → turn < workers → workers ≤ n
-    → chosen (λ t. nat_lt t n) workers turn xs ≡ xs
-below_all workers n turn [] within more = refl
-below_all {A} workers n turn (x ∷ xs) within more =
-    let next = next_turn workers turn in
-    let rest = chosen (λ t. nat_lt t n) workers next xs in
-    ap (λ (b : Bool). cond b (x ∷ rest) rest) (lt-ltb turn n (omega (arith, within, more)))
-    ∙ ap (λ (ys : List A). x ∷ ys)
-    (below_all workers n next xs (next_within workers turn (omega (arith, within))) more)
-
-splits_not : (b : Bool) → Splits true b (cond b false true)
-splits_not true = tt
-splits_not false = tt
-
--- up to one worker more
-splits_more : (n t : ℕ) → Splits (nat_lt t (suc n)) (nat_lt t n) (t == n)
-splits_more n t = elim (nat_lt t n) as (λ b. nat_lt t n ≡ b → Splits (nat_lt t (suc n)) b (t == n)) [
-  | true ↦ λ w.
-      let less = ltb-true t n w in
-      rw (lt-ltb t (suc n) (omega (arith, less)), ne_eqb t n (λ same. absurd (omega (arith, less, same)))) tt
-  | false ↦ λ w.
-      let more = ltb-false t n w in
-      elim (t == n) as (λ c. (t == n) ≡ c → Splits (nat_lt t (suc n)) false c) [
-        | true ↦ λ v. let same = eqb-true t n v in rw (lt-ltb t (suc n) (omega (arith, same))) tt
-        | false ↦ λ v. let other = eqb-false t n v in
-            rw (le-ltb t (suc n) (grind (arith, more, other))) tt
-      ] refl
-] refl
-
--- ---- tables
-
-pub chosen_fit : (test : ℕ → Bool) (workers turn width : ℕ) (maps : List (FinMap key_cmp Sums))
-    → AllFit (summed width maps) → AllFit (summed width (chosen test workers turn maps))
-chosen_fit test workers turn width maps fit =
-    let these = chosen test workers turn maps in
-    let others = chosen (λ t. cond (test t) false true) workers turn maps in
-    let same : gathered_all maps ≡ gathered (flat_map entries these ++ flat_map entries others) =
-    gathered-same (flat_map entries maps) (flat_map entries these ++ flat_map entries others) (λ q.
-    ap (maps_at q) (sym (all_chosen workers turn maps))
-    ∙ split (λ _. true) test (λ t. cond (test t) false true) (λ t. splits_not (test t)) workers turn maps q
-    ∙ sym (sum_at-append q (flat_map entries these) (flat_map entries others))) in
-    front_fits width width (flat_map entries these) (flat_map entries others)
-    (subst (λ (m : FinMap key_cmp Sums). AllFit (record { width = width; sums = m })) same fit)
-
--- the share of one worker more
-pub shares_merged : (workers n turn width : ℕ) (maps : List (FinMap key_cmp Sums))
-    → merged (summed width (chosen (λ t. nat_lt t n) workers turn maps)) (summed width (own workers n turn maps))
-    ≡ summed width (chosen (λ t. nat_lt t (suc n)) workers turn maps)
-shares_merged workers n turn width maps =
-    let before = chosen (λ t. nat_lt t n) workers turn maps in
-    let mine = own workers n turn maps in
-    let after = chosen (λ t. nat_lt t (suc n)) workers turn maps in
-    λ i. record {
-      width = width;
-      sums = (gathered-both (flat_map entries before) (flat_map entries mine)
-          ∙ gathered-same (flat_map entries before ++ flat_map entries mine) (flat_map entries after) (λ q.
-          sum_at-append q (flat_map entries before) (flat_map entries mine)
-          ∙ sym (split (λ t. nat_lt t (suc n)) (λ t. nat_lt t n) (λ t. t == n) (splits_more n) workers turn maps q))) i;
-    }
-
-pub none_summed_yet : (workers turn width : ℕ) (maps : List (FinMap key_cmp Sums)) (t : Table) → t ≡ empty_table width
-    → t ≡ summed width (chosen (λ t. nat_lt t 0) workers turn maps)
-none_summed_yet workers turn width maps t is =
-    is
-    ∙ (λ i. record {
-      width = width;
-      sums = (sym (gathered-entries (empty_table width).sums) ∙ ap gathered entries_of_none) i;
-    })
-    ∙ ap (summed width) (sym (none_chosen workers turn maps))
-
-pub all_shares : (workers n turn width : ℕ) (maps : List (FinMap key_cmp Sums)) → turn < workers → workers ≤ n
-    → summed width (chosen (λ t. nat_lt t n) workers turn maps) ≡ summed width maps
-all_shares workers n turn width maps within more = ap (summed width) (below_all workers n turn maps within more)
-
--- ---- the parts of a view
-
-file_sums : (width : ℕ) (rs : List Rollup) (ms : List (FinMap key_cmp Sums)) → AreRolled width rs ms
-    → AllZip (IsFileSum width) rs ms
-file_sums width [] [] h = tt
-file_sums width [] (m ∷ ms) h = absurd h
-file_sums width (r ∷ rs) [] h = absurd h
-file_sums width (r ∷ rs) (m ∷ ms) h = (h.0, file_sums width rs ms h.1)
-
--- the sums of segments, each read with its own prefix alone
-pub record OwnSums (width : ℕ) (gs : List Segment) (prefix : List ℕ) (active : List (List ℕ))
-    (kept : List Accepted) : Type 0 where
-  pub sealed : List (FinMap key_cmp Sums)
-  pub last : FinMap key_cmp Sums
-  pub of_sealed : AllZip (IsSegmentSum width) gs sealed
-  pub of_last : IsOwnSum width prefix active last
-  pub all : gathered_all (sealed ++ last ∷ []) ≡ sums_by width (flows_in kept)
-
-pub own_sums : (width : ℕ) (before : AllTemplates) (gs : List Segment) (prefix : List ℕ) (active : List (List ℕ))
-    (kept : List Accepted) → AreAcceptedFrom before kept → octets_of kept ≡ messages_in gs ++ active
-    → AreRestated before gs prefix → OwnSums width gs prefix active kept
-own_sums width before [] prefix active kept accepted octets restated = record {
-  sealed = [];
-  last = sums_by width (flows_in kept);
-  of_sealed = tt;
-  of_last = (before, kept, restated, accepted, octets, refl);
-  all = ap gathered (append-nil (entries (sums_by width (flows_in kept))))
-      ∙ gathered-entries (sums_by width (flows_in kept));
-}
-own_sums width before (g ∷ gs) prefix active kept accepted octets restated =
-    let n = length g.messages in
-    let list = take n kept in
-    let more = drop n kept in
-    let parted = own_first g gs active kept octets in
-    let here = behind_own before g gs active kept accepted octets in
-    let rest = own_sums width (templates_from before list) gs prefix active more (accepted_rest before n kept accepted)
-    parted.1 (subst (λ (t : AllTemplates). AreRestated t gs prefix) here restated.1) in
-    record {
-      sealed = sums_by width (flows_in list) ∷ rest.sealed;
-      last = rest.last;
-      of_sealed = (
-        (before, list, restated.0, accepted_first before n kept accepted, parted.0, refl),
-        rest.of_sealed,
-      );
-      of_last = rest.of_last;
-      all = gathered-behind (sums_by width (flows_in list)) (flat_map entries (rest.sealed ++ rest.last ∷ []))
-          ∙ ap (λ (m : FinMap key_cmp Sums). gathered (entries (sums_by width (flows_in list)) ++ entries m)) rest.all
-          ∙ both_sums width (flows_in list) (flows_in more)
-          ∙ ap (sums_by width) (sym (flows-append list more) ∙ ap flows_in (take-append-drop n kept));
-    }
-
-pub record PartsOf (s : Shelf) (v : View) : Type 0 where
-  pub wide : List (FinMap key_cmp Sums)
-  pub narrow : List (FinMap key_cmp Sums)
-  pub are_wide : AreWide s wide
-  pub are_narrow : AreNarrow s narrow
-  pub wide_is : summed s.wide wide ≡ wide_table_in v
-  pub narrow_is : summed s.width narrow ≡ narrow_table_in v
-
-pub parts_of : (s : Shelf) (v : View) → IsViewOf s v → PartsOf s v
-parts_of s v is =
-    let kept = own_sums s.width v.templates s.sealed s.prefix s.active v.kept is.accepted is.kept is.prefixes in
-    let others = kept.sealed ++ kept.last ∷ [] in
-    record {
-      wide = is.merged.0;
-      narrow = v.rolled ++ others;
-      are_wide = file_sums s.wide s.merged is.merged.0 is.merged.1;
-      are_narrow = record {
-        rolled = v.rolled;
-        sealed = kept.sealed;
-        active = kept.last;
-        of_rolled = file_sums s.width s.rolled v.rolled is.rolled;
-        of_sealed = kept.of_sealed;
-        of_active = kept.of_last;
-        all = refl;
-      };
-      wide_is = λ i. record { width = sym is.wide i; sums = sym is.merged.2 i };
-      narrow_is = λ i. record {
-        width = sym is.width i;
-        sums = (ap gathered (flat_map-append entries v.rolled others)
-            ∙ sym (gathered-both (flat_map entries v.rolled) (flat_map entries others))
-            ∙ ap (λ (m : FinMap key_cmp Sums). gathered (entries (gathered_all v.rolled) ++ entries m)) kept.all
-            ∙ ap (λ (w : ℕ). gathered (entries (gathered_all v.rolled) ++ entries (sums_by w (flows_in v.kept))))
-            (sym is.width)) i;
-      };
-    }
-
-pub parts_fit : (s : Shelf) (v : View) (p : PartsOf s v) → SumsFit v → AllPartsFit s p.wide p.narrow
-parts_fit s v p fit = (subst AllFit (sym p.wide_is) fit.wide, subst AllFit (sym p.narrow_is) fit.narrow)
+use Rattle.flow_snapshot.proofs.Choosing.{chosen_fit, chosen_then}
+use Rattle.flow_snapshot.proofs.ViewParts.{PartsOf, parts_fit}
 
 -- ---- a worker's loop
 
@@ -410,19 +150,6 @@ next_shared {P} {Z} {V} f test parts i item part within is same honest =
 
 -- ---- one list after another
 
-pub chosen_then : {A : Type 0} (test : ℕ → Bool) (workers turn : ℕ) (xs ys : List A)
-    → chosen test workers turn (xs ++ ys)
-    ≡ chosen test workers turn xs ++ chosen test workers (turn_after workers (length xs) turn) ys
-chosen_then test workers turn [] ys = refl
-chosen_then {A} test workers turn (x ∷ xs) ys =
-    let next = next_turn workers turn in
-    elim (test turn) as (λ b. cond b (x ∷ chosen test workers next (xs ++ ys)) (chosen test workers next (xs ++ ys))
-    ≡ cond b (x ∷ chosen test workers next xs) (chosen test workers next xs)
-    ++ chosen test workers (turn_after workers (length xs) next) ys) [
-      | true ↦ ap (λ (zs : List A). x ∷ zs) (chosen_then test workers next xs ys)
-      | false ↦ chosen_then test workers next xs ys
-    ]
-
 with_both : (xs ys : List (FinMap key_cmp Sums)) (t : Table) → with_maps ys (with_maps xs t) ≡ with_maps (xs ++ ys) t
 with_both xs ys t = λ i. record {
   width = t.width;
@@ -440,11 +167,6 @@ zip_length P [] [] h = refl
 zip_length P [] (y ∷ ys) h = absurd h
 zip_length P (x ∷ xs) [] h = absurd h
 zip_length P (x ∷ xs) (y ∷ ys) h = ap (λ (n : ℕ). suc n) (zip_length P xs ys h.1)
-
-pub turn_within : (workers n turn : ℕ) → turn < workers → turn_after workers n turn < workers
-turn_within workers zero turn within = within
-turn_within workers (suc n) turn within =
-    turn_within workers n (next_turn workers turn) (next_within workers turn (omega (arith, within)))
 
 -- the wide parts of a worker
 module _ (s : Shelf) (workers worker : ℕ) (wide : List (FinMap key_cmp Sums)) (start : Table)

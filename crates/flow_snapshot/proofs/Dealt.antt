@@ -27,7 +27,7 @@ use Rattle.flow_snapshot.specs.Shares.{narrow_turn, next_turn, own, turn_after, 
 use Rattle.flow_snapshot.specs.Shares.{summed, IsFileSum, IsJoined, IsNarrowRead, IsOwnRead, IsOwnSum, IsSegmentSum}
 use Rattle.flow_model.specs.Shelf.{Shelf}
 use Rattle.flow_snapshot.specs.Totals.{IsMade}
-use Rattle.flow_snapshot.proofs.Dealing.{chosen_then, turn_then, turn_within}
+use Rattle.flow_snapshot.proofs.Choosing.{chosen_then, turn_then, turn_within}
 use Rattle.flow_snapshot.proofs.Finding.{honest_one, own_cut, shared_more}
 
 zip_then : {A : Type 0} (P : A → FinMap key_cmp Sums → Type 0) (xs ys : List A) (ms ns : List (FinMap key_cmp Sums))

@@ -16,7 +16,8 @@ use Rattle.flow_snapshot.specs.Shares.{IsJoined, IsRefusedAt, IsShare}
 use Rattle.flow_model.specs.Shelf.{Shelf}
 use Rattle.flow_snapshot.specs.ShelfSeen.{ShelfSeen}
 use Rattle.flow_snapshot.specs.Totals.{first_file, IsMade}
-use Rattle.flow_snapshot.proofs.Dealing.{all_shares, chosen_fit, made_as, none_summed_yet, shares_merged, turn_within}
+use Rattle.flow_snapshot.proofs.Choosing.{all_shares, chosen_fit, none_summed_yet, shares_merged, turn_within}
+use Rattle.flow_snapshot.proofs.Dealing.{made_as}
 
 -- ---- shares, joined
 

@@ -6,6 +6,8 @@ pub mod Places
 pub mod Adding
 pub mod BothRows
 pub mod Totalling
+pub mod Choosing
+pub mod ViewParts
 pub mod Dealing
 pub mod Joining
 pub mod Finding

@@ -15,10 +15,10 @@ use Rattle.flow_manifest.specs.Following.{count_before, count_of, made_entry, ma
 use Rattle.flow_manifest.specs.Following.{source_of, sources_of}
 use Rattle.flow_manifest.specs.Manifest.{IsValidManifest, rank}
 use Rattle.flow_manifest.proofs.EntryLists.{all_by, counted}
-use Rattle.flow_manifest.proofs.Followers.{behind_short}
+use Rattle.flow_manifest.proofs.ManifestAfterInstall.{behind_short}
 use Rattle.flow_model.specs.State.{Part, State}
 use Rattle.flow_model.specs.Jobs.{staged_of}
-use Rattle.flow_model.proofs.Replacing.{are_sources, before_is, low, messages_installed, number, sources_are}
+use Rattle.flow_model.proofs.SourcePlaces.{are_sources, before_is, low, messages_installed, number, sources_are}
 use Rattle.flow_archive.specs.JobAnswers.{IsJobFile}
 use Rattle.flow_turns.specs.Turns.{files_over}
 use Rattle.flow_turns.specs.Laws.{all_read, IsReplacement}

@@ -6,7 +6,7 @@ use Rattle.flow_manifest.specs.declared.following.JobKind.{JobKind}
 use Rattle.flow_manifest.specs.declared.manifest.Entry.{Entry}
 use Rattle.flow_manifest.specs.declared.manifest.Manifest.{Manifest}
 use Rattle.flow_manifest.specs.Following.{count_before, installed_manifest, made_entry, no_entry, source_of, sources_of}
-use Rattle.flow_manifest.proofs.Followers.{behind_short}
+use Rattle.flow_manifest.proofs.ManifestAfterInstall.{behind_short}
 use Rattle.flow_model.specs.Jobs.{staged_of}
 use Rattle.flow_archive.specs.Installing.{cut_in, IsNotInstalled, MayInstall}
 use Rattle.flow_archive.specs.UnderWay.{frozen_staged_in, frozen_staged, staged_file, FrozenStaged, RunningJob}

@@ -4,8 +4,9 @@ use Rattle.flow_manifest.specs.declared.manifest.Entry.{Entry}
 use Rattle.flow_manifest.specs.Manifest.{IsValidManifest}
 use Rattle.flow_manifest.specs.Following.{messages_of, source_of, count_before, cut_by}
 use Rattle.flow_manifest.specs.Following.{second_cut_by}
-use Rattle.flow_manifest.proofs.Followers.{installed_valid, same_installed, behind_short, sources_most, cuts_fit}
-use Rattle.flow_manifest.proofs.Followers.{rest_read, front_read, joined_read, cut_most, second_cut_most}
+use Rattle.flow_manifest.proofs.ManifestAfterInstall.{installed_valid, same_installed, behind_short, sources_most}
+use Rattle.flow_manifest.proofs.ManifestAfterInstall.{cuts_fit}
+use Rattle.flow_manifest.proofs.ManifestAfterInstall.{rest_read, front_read, joined_read, cut_most, second_cut_most}
 use Rattle.flow_manifest.proofs.following.installed_manifest.Goals as goal
 
 pub split_at-requires-2 : goal.split_at-requires-2

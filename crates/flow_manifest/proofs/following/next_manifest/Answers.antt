@@ -1,6 +1,6 @@
 use Rattle.std.proofs.Common.{subst, sym, rules, arith}
 use Rattle.flow_manifest.specs.Manifest.{IsValidManifest}
-use Rattle.flow_manifest.proofs.Followers.{next_valid}
+use Rattle.flow_manifest.proofs.ManifestAfterSeal.{next_valid}
 use Rattle.flow_manifest.proofs.following.next_manifest.Goals as goal
 
 pub returns-clause-valid : goal.returns-clause-valid

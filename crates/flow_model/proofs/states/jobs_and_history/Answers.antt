@@ -1,4 +1,5 @@
-use Rattle.flow_model.proofs.Replacing.{hands_after, history_replaced, holds_replaced, sources_hold}
+use Rattle.flow_model.proofs.Replacing.{hands_after, holds_replaced}
+use Rattle.flow_model.proofs.ReplacedHistory.{history_replaced, sources_hold}
 use Rattle.flow_model.proofs.Sourcing.{job_more, job_none}
 use Rattle.flow_model.proofs.states.jobs_and_history.Goals as goal
 

@@ -18,7 +18,7 @@ use Rattle.flow_manifest.specs.Following.{active_of, front_of}
 use Rattle.flow_recover.specs.Opening.{IsDeviceOrMemory, shut_at}
 use Rattle.flow_manifest.proofs.EntryLists.{all_by, all_both, all_take}
 use Rattle.flow_model.proofs.Stand.{all_last, slot_below}
-use Rattle.flow_manifest.proofs.Followers.{split, are_entries, IsOther}
+use Rattle.flow_manifest.proofs.ValidEntries.{split, are_entries, IsOther}
 use Rattle.flow_recover.proofs.Recovering.{removing, trimming, own_front, slot_named, parts_long, bool_cases, not_named}
 use Rattle.flow_recover.proofs.Recovering.{active_named, entries_named}
 use Rattle.flow_recover.proofs.tidying.tidy.Given.{Over}

@@ -1,4 +1,5 @@
-use Rattle.flow_rolled.proofs.FileForm.{rolled_file, rolled_flows}
+use Rattle.flow_rolled.proofs.FileForm.{rolled_file}
+use Rattle.flow_rolled.proofs.FileFlows.{rolled_flows}
 use Rattle.flow_rolled.proofs.RowFlows.{rolled_sums}
 use Rattle.flow_rolled.proofs.laws.rolled_file.Goals as goal
 

@@ -8,7 +8,7 @@ use Rattle.flow_gate.specs.Gate.{octet_sum}
 use Rattle.flow_gate.specs.Steps.{slices}
 use Rattle.flow_manifest.specs.declared.manifest.Entry.{Entry}
 use Rattle.flow_manifest.specs.Following.{active_of}
-use Rattle.flow_manifest.proofs.Followers.{are_entries}
+use Rattle.flow_manifest.proofs.ValidEntries.{are_entries}
 use Rattle.flow_model.specs.State.{State, appended}
 use Rattle.flow_model.specs.Chain.{HandsOn}
 use Rattle.flow_recover.specs.Kept.{IsCounted}

@@ -6,7 +6,8 @@ use Rattle.flow_disk.proofs.Moments.{by}
 use Rattle.flow_manifest.specs.Manifest.{manifest_octets}
 use Rattle.flow_manifest.specs.Following.{front_of, made_entry, sources_of}
 use Rattle.flow_manifest.specs.Slots.{other}
-use Rattle.flow_manifest.proofs.Followers.{behind_short, front_long}
+use Rattle.flow_manifest.proofs.ValidEntries.{front_long}
+use Rattle.flow_manifest.proofs.ManifestAfterInstall.{behind_short}
 use Rattle.flow_model.specs.Jobs.{replaced, replaced_parts, staged_of}
 use Rattle.flow_model.specs.State.{State, reopened}
 use Rattle.flow_model.specs.Standing.{StandsForEither}
@@ -20,7 +21,8 @@ use Rattle.flow_archive.specs.declared.refusal.ArchiveError.TheVariants as refus
 use Rattle.flow_archive.proofs.Answering.{err_is}
 use Rattle.flow_archive.proofs.Directing.{failed_archive}
 use Rattle.flow_archive.proofs.Installed.{archive_installed, cut_is, is_installed, not_installed, then_is}
-use Rattle.flow_archive.proofs.Installed.{made_apart, own_installed, some_made, then_state, work_installed}
+use Rattle.flow_archive.proofs.Installed.{some_made, then_state, work_installed}
+use Rattle.flow_archive.proofs.FilesAlone.{made_apart, own_installed}
 use Rattle.flow_archive.proofs.Owning.{as_many}
 use Rattle.flow_archive.proofs.Stand.{slot_below, stands_for}
 use Rattle.flow_archive.proofs.Stepping.{acknowledged, failed, refused, refused_by}

@@ -5,7 +5,7 @@ use Rattle.flow_disk.specs.Disk.{ComesOf, InFile}
 use Rattle.flow_disk.specs.Calls.{LeavesOnly}
 use Rattle.flow_disk.proofs.Moments.{by}
 use Rattle.flow_manifest.specs.declared.manifest.Entry.{Entry}
-use Rattle.flow_manifest.proofs.Followers.{are_entries}
+use Rattle.flow_manifest.proofs.ValidEntries.{are_entries}
 use Rattle.flow_rolled.specs.Rollup.{IsRollup}
 use Rattle.flow_segment.specs.Steps.{Becomes, IsAnything}
 use Rattle.flow_model.specs.State.{State}

@@ -8,7 +8,7 @@ use Rattle.flow_manifest.specs.declared.manifest.Manifest.{Manifest}
 use Rattle.flow_manifest.specs.Manifest.{IsValidManifest}
 use Rattle.flow_manifest.specs.Following.{active_of, sealed_entry}
 use Rattle.flow_manifest.specs.Slots.{file_of, other}
-use Rattle.flow_manifest.proofs.Followers.{are_entries}
+use Rattle.flow_manifest.proofs.ValidEntries.{are_entries}
 use Rattle.flow_segment.specs.Carry.{prefix_of}
 use Rattle.flow_model.specs.State.{State, end_of, after_seal, reopened}
 use Rattle.flow_model.specs.Standing.{StandsFor, StandsForEither}

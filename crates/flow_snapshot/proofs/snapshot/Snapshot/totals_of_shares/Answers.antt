@@ -5,7 +5,7 @@ use Rattle.flow_snapshot.specs.Shares.{AllPartsFit}
 use Rattle.flow_snapshot.specs.Totals.{SumsFit}
 use Rattle.flow_snapshot.proofs.Adding.{made_err}
 use Rattle.flow_snapshot.proofs.Dealt.{shares_read}
-use Rattle.flow_snapshot.proofs.Dealing.{parts_fit, parts_of}
+use Rattle.flow_snapshot.proofs.ViewParts.{parts_fit, parts_of}
 use Rattle.flow_snapshot.proofs.Totalling.{answered_within, both_made}
 use Rattle.flow_snapshot.proofs.snapshot.Snapshot.totals_of_shares.Goals as goal
 

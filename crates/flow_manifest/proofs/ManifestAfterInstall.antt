@@ -1,10 +1,10 @@
--- The manifests that follow a valid one are valid.
+-- The manifest after an install is valid.
 use Rattle.std.proofs.Common.{◌≡◌, ◌≢◌, ℕ, ◌+◌, ◌-◌, ◌<◌, ◌≤◌, ◌^◌, List, [], ◌∷◌, ◌++◌, length, take, drop, get_or}
 use Rattle.std.proofs.Common.{refl, sym, ◌∙◌, ap, subst, arith, append_assoc, length-append, length-drop}
 use Rattle.std.specs.List.{AllByRecursion, sum_by}
-use Rattle.std.proofs.lemmas.List.{take_more, take_all, take_at, get_or_push, take-append-drop, take-append-le}
-use Rattle.std.proofs.lemmas.List.{drop-append-le, drop-drop, drop-take, length-take-le}
-use Rattle.std.proofs.lemmas.List.Sums.{sum_by-cons, sum_by-append, sum_by-le-sum_by}
+use Rattle.std.proofs.lemmas.List.{take-append-drop, take-append-le, drop-append-le, drop-drop, drop-take}
+use Rattle.std.proofs.lemmas.List.{length-take-le}
+use Rattle.std.proofs.lemmas.List.Sums.{sum_by-cons, sum_by-append}
 use Rattle.flow_manifest.specs.declared.manifest.Kind.{Kind}
 use Rattle.flow_manifest.specs.declared.manifest.Kind.TheVariants.{Wide, Rolled, Sealed, Active}
 use Rattle.flow_manifest.specs.declared.manifest.Entry.{Entry}
@@ -14,70 +14,14 @@ use Rattle.flow_manifest.specs.declared.following.JobKind.TheVariants.{Roll, Mer
 use Rattle.flow_manifest.specs.declared.following.Staged.{Staged}
 use Rattle.flow_manifest.specs.Manifest.{IsValidManifest, IsInOrder, HaveOwnFiles, IsEntry, HasShape, rank}
 use Rattle.flow_manifest.specs.Manifest.{wide_messages, rolled_messages}
-use Rattle.flow_manifest.specs.Following.{messages_of, no_entry, active_of, front_of, sealed_entry, active_entry}
-use Rattle.flow_manifest.specs.Following.{next_manifest, source_of, made_of, count_of, count_before, sources_of}
-use Rattle.flow_manifest.specs.Following.{made_entry, cut_by, second_cut_by, installed_manifest}
-use Rattle.flow_manifest.proofs.EntryLists.{all_left, all_right, all_join, all_by, all_both, all_take, all_drop}
-use Rattle.flow_manifest.proofs.EntryLists.{AreApart, own_left, own_right, own_apart, own_join, sorted, order_last}
-use Rattle.flow_manifest.proofs.EntryLists.{order_front, order_right, order_cons, order_join, below, front_low}
-use Rattle.flow_manifest.proofs.EntryLists.{rest_high, below_short, below_next, sum_same, sum_none, sum_some}
-
--- ---- the entries of a valid manifest
-
--- the active entry comes after the others
-pub split : (m : Manifest) → IsValidManifest m → m.entries ≡ front_of m ++ active_of m ∷ []
-split m valid =
-    let some : 1 ≤ length m.entries = valid.ranges.count_from in
-    sym (take_all (length m.entries - 1 + 1) m.entries (omega (arith, some)))
-    ∙ take_more m.entries (length m.entries - 1) no_entry (omega (arith, some))
-
--- an entry that is appended to others is the last one
-first_push : (xs : List Entry) (x : Entry) → take (length (xs ++ x ∷ []) - 1) (xs ++ x ∷ []) ≡ xs
-first_push xs x = ap (λ (n : ℕ). take n (xs ++ x ∷ [])) (omega (arith, length-append xs (x ∷ [])))
-    ∙ take_at xs (x ∷ []) (length xs) refl
-
-last_push : (xs : List Entry) (x : Entry) → get_or (xs ++ x ∷ []) (length (xs ++ x ∷ []) - 1) no_entry ≡ x
-last_push xs x = get_or_push xs x no_entry (length (xs ++ x ∷ []) - 1) (omega (arith, length-append xs (x ∷ [])))
-
-active_kind : (kind : Kind) → rank kind ≡ 3 → kind ≡ Active
-active_kind Wide is = absurd (omega (arith, is))
-active_kind Rolled is = absurd (omega (arith, is))
-active_kind Sealed is = absurd (omega (arith, is))
-active_kind Active is = refl
-
--- a file that isn't the active one
-pub record IsOther (m : Manifest) (e : Entry) : Type 0 where
-  pub entry : IsEntry m.limit m.next e
-  pub apart : e.file ≢ (active_of m).file
-  pub kind : rank e.kind < 3
-
--- what the entries of a valid manifest are
-pub record AreEntries (m : Manifest) : Type 0 where
-  pub kind : (active_of m).kind ≡ Active
-  pub active : IsEntry m.limit m.next (active_of m)
-  pub none : (active_of m).messages ≡ 0
-  pub front : AllByRecursion (IsOther m) (front_of m)
-
--- no more messages are rolled than there are
-rolled_most : (kind : Kind) (messages : ℕ) → rolled_messages kind messages ≤ messages
-rolled_most Wide messages = omega arith
-rolled_most Rolled messages = omega arith
-rolled_most Sealed messages = omega arith
-rolled_most Active messages = omega arith
-
-wide_most : (kind : Kind) (messages : ℕ) → wide_messages kind messages ≤ messages
-wide_most Wide messages = omega arith
-wide_most Rolled messages = omega arith
-wide_most Sealed messages = omega arith
-wide_most Active messages = omega arith
-
-pub rolled_within : (xs : List Entry) → sum_by (λ e. rolled_messages e.kind e.messages) xs ≤ messages_of xs
-rolled_within xs = sum_by-le-sum_by (λ (e : Entry). rolled_messages e.kind e.messages) (λ (e : Entry). e.messages) xs
-    (λ e. rolled_most e.kind e.messages)
-
-pub wide_within : (xs : List Entry) → sum_by (λ e. wide_messages e.kind e.messages) xs ≤ messages_of xs
-wide_within xs = sum_by-le-sum_by (λ (e : Entry). wide_messages e.kind e.messages) (λ (e : Entry). e.messages) xs
-    (λ e. wide_most e.kind e.messages)
+use Rattle.flow_manifest.specs.Following.{messages_of, no_entry, active_of, front_of, source_of, made_of, count_of}
+use Rattle.flow_manifest.specs.Following.{count_before, sources_of, made_entry, cut_by, second_cut_by}
+use Rattle.flow_manifest.specs.Following.{installed_manifest}
+use Rattle.flow_manifest.proofs.EntryLists.{all_by, all_both, all_take, all_drop, own_right, own_apart, sorted}
+use Rattle.flow_manifest.proofs.EntryLists.{order_right, order_cons, below, front_low, rest_high, below_short}
+use Rattle.flow_manifest.proofs.EntryLists.{below_next, sum_same, sum_none, sum_some}
+use Rattle.flow_manifest.proofs.ValidEntries.{split, first_push, last_push, rolled_within, wide_within, changed_valid}
+use Rattle.flow_manifest.proofs.ValidEntries.{later, front_long}
 
 -- ---- the kinds of a job
 
@@ -188,201 +132,7 @@ pub second_cut_most : (job : JobKind) (messages : ℕ) → second_cut_by job mes
 second_cut_most Roll messages = omega arith
 second_cut_most Merge messages = omega arith
 
--- ---- a valid manifest
-
 module _ (m : Manifest) (valid : IsValidManifest m) where
-  later : (next : ℕ) → m.next ≤ next → (xs : List Entry) → AllByRecursion (IsEntry m.limit m.next) xs
-      → AllByRecursion (IsEntry m.limit next) xs
-  later next le xs all = all_by (IsEntry m.limit m.next) (IsEntry m.limit next)
-      (λ e one. record {
-        fits = one.fits;
-        file_from = one.file_from;
-        file_below =
-            omega (arith, one.file_below, le);
-        shape = one.shape;
-      }) xs all
-
-  -- other entries after its own first ones
-  module _ (xs zs : List Entry) (is : m.entries ≡ xs ++ zs) where
-    pub changed_valid : (generation next rolled second : ℕ) (n : Entry) (ys : List Entry) → generation < 2 ^ 64
-        → next < 2 ^ 64 → m.next ≤ next → length (xs ++ n ∷ ys) ≤ 4096
-        → rank n.kind < 3 → AllByRecursion (λ e. rank e.kind ≤ rank n.kind) xs → IsInOrder (n ∷ ys)
-        → HaveOwnFiles (n ∷ ys) → AreApart xs (n ∷ ys) → AllByRecursion (IsEntry m.limit next) (n ∷ ys)
-        → sum_by (λ e. wide_messages e.kind e.messages) (xs ++ n ∷ ys) ≡ second
-        → sum_by (λ e. rolled_messages e.kind e.messages) (xs ++ n ∷ ys) ≡ rolled
-        → messages_of (xs ++ n ∷ ys) < 2 ^ 48
-        → IsValidManifest (record m {
-          generation = generation;
-          next = next;
-          rolled = rolled;
-          second = second;
-          entries =
-              xs ++ n ∷ ys;
-        })
-    changed_valid generation next rolled second n ys generation_fits next_fits le few before low order own apart each
-        wide cut all = record {
-          fits = record {
-            generation = generation_fits;
-            width = valid.fits.width;
-            wide = valid.fits.wide;
-            limit = valid.fits.limit;
-            next = next_fits;
-            rolled = omega (arith, cut, rolled_within (xs ++ n ∷ ys), all);
-            second = omega (arith, wide, wide_within (xs ++ n ∷ ys), all);
-            count = omega (arith, few);
-          };
-          ranges = record {
-            width_from = valid.ranges.width_from;
-            wide_from = valid.ranges.wide_from;
-            wide_to = valid.ranges.wide_to;
-            wide_multiple = valid.ranges.wide_multiple;
-            limit_from = valid.ranges.limit_from;
-            limit_to = valid.ranges.limit_to;
-            count_from = omega (arith, length-append xs (n ∷ ys));
-            count_to = few;
-          };
-          order = order_join xs zs n ys before (subst IsInOrder is valid.order) low order;
-          files = own_join xs (n ∷ ys) (own_left xs zs (subst HaveOwnFiles is valid.files)) own apart;
-          each = all_join_entries;
-          wide = wide;
-          cut = cut;
-          all = all;
-        }
-      where
-        all_join_entries : AllByRecursion (IsEntry m.limit next) (xs ++ n ∷ ys)
-        all_join_entries = all_join (IsEntry m.limit next) xs (n ∷ ys)
-            (later next le xs (all_left (IsEntry m.limit m.next) xs zs
-            (subst (AllByRecursion (IsEntry m.limit m.next)) is valid.each))) each
-
-  order_too : IsInOrder (front_of m ++ active_of m ∷ [])
-  order_too = subst IsInOrder (split m valid) valid.order
-
-  own_too : HaveOwnFiles (front_of m ++ active_of m ∷ [])
-  own_too = subst HaveOwnFiles (split m valid) valid.files
-
-  each_too : AllByRecursion (IsEntry m.limit m.next) (front_of m ++ active_of m ∷ [])
-  each_too = subst (AllByRecursion (IsEntry m.limit m.next)) (split m valid) valid.each
-
-  is_kind : (active_of m).kind ≡ Active
-  is_kind = active_kind (active_of m).kind (order_last (front_of m) (active_of m) order_too)
-
-  is_entry : IsEntry m.limit m.next (active_of m)
-  is_entry = (all_right (IsEntry m.limit m.next) (front_of m) (active_of m ∷ []) each_too).0
-
-  has_none : (active_of m).messages ≡ 0
-  has_none = let shape = subst (λ (k : Kind). HasShape m.limit k (active_of m)) is_kind is_entry.shape in shape.1
-
-  front_apart : AllByRecursion (λ e. e.file ≢ (active_of m).file) (front_of m)
-  front_apart = all_by (λ e. AllByRecursion (λ o. o.file ≢ e.file) (active_of m ∷ []))
-      (λ e. e.file ≢ (active_of m).file)
-      (λ e apart same. apart.0 (sym same)) (front_of m) (own_apart (front_of m) (active_of m ∷ []) own_too)
-
-  pub are_entries : AreEntries m
-  are_entries = record {
-    kind = is_kind;
-    active = is_entry;
-    none = has_none;
-    front = all_both (λ e. IsEntry m.limit m.next e × (e.file ≢ (active_of m).file)) (λ e. rank e.kind < 3) (IsOther m)
-        (λ e one kind. record { entry = one.0; apart = one.1; kind = kind }) (front_of m)
-        (all_both (IsEntry m.limit m.next) (λ e. e.file ≢ (active_of m).file) (λ e. IsEntry m.limit m.next e
-        × (e.file ≢ (active_of m).file)) (λ e one apart. (one, apart)) (front_of m)
-        (all_left (IsEntry m.limit m.next) (front_of m) (active_of m ∷ []) each_too) front_apart)
-        (order_front (front_of m) (active_of m) order_too);
-  }
-
-  pub front_long : length (front_of m) + 1 ≡ length m.entries
-  front_long = sym (length-append (front_of m) (active_of m ∷ []))
-      ∙ ap (λ (l : List Entry). length l) (sym (split m valid))
-
-  -- what the active entry doesn't count, the others count
-  front_sum : (f : Entry → ℕ) → f (active_of m) ≡ 0 → sum_by f (front_of m) ≡ sum_by f m.entries
-  front_sum f zero = omega (
-    arith,
-    sum_by-append f (front_of m) (active_of m ∷ []),
-    sum_by-cons f (active_of m) [],
-    ap (λ (l : List Entry). sum_by f l) (split m valid),
-    zero,
-  )
-
-  pub all_sum : messages_of (front_of m) ≡ messages_of m.entries
-  all_sum = front_sum (λ e. e.messages) has_none
-
-  -- ---- after a seal
-
-  module _ (end count file prefix : ℕ) where
-    abbrev s : Entry
-    s = sealed_entry (active_of m) end count
-
-    abbrev a : Entry
-    a = active_entry file prefix
-
-    sum_two : (f : Entry → ℕ) → f (active_of m) ≡ 0 → f a ≡ 0
-        → sum_by f (front_of m ++ s ∷ a ∷ []) ≡ sum_by f m.entries + f s
-    sum_two f zero none =
-        omega (
-          arith,
-          sum_by-append f (front_of m) (s ∷ a ∷ []),
-          sum_by-cons f s (a ∷ []),
-          sum_by-cons f a [],
-          front_sum f zero,
-          none,
-        )
-
-    pub next_active : active_of (next_manifest m end count file prefix) ≡ a
-    next_active = ap (λ (l : List Entry). get_or l (length l - 1) no_entry)
-        (sym (append_assoc (front_of m) (s ∷ []) (a ∷ []))) ∙ last_push (front_of m ++ s ∷ []) a
-
-    pub next_front : front_of (next_manifest m end count file prefix) ≡ front_of m ++ s ∷ []
-    next_front = ap (λ (l : List Entry). take (length l - 1) l) (sym (append_assoc (front_of m) (s ∷ []) (a ∷ [])))
-        ∙ first_push (front_of m ++ s ∷ []) a
-
-    pub next_valid : m.generation + 1 < 2 ^ 64 → length m.entries < 4096 → m.next ≤ file → file + 1 < 2 ^ 64
-        → prefix < 2 ^ 32 → 1 ≤ count → (active_of m).prefix + 16 ≤ end → end ≤ (active_of m).prefix + m.limit
-        → messages_of m.entries + count < 2 ^ 48 → IsValidManifest (next_manifest m end count file prefix)
-    next_valid generation few file_from next short some long within all =
-        changed_valid (front_of m) (active_of m ∷ []) (split m valid) (m.generation + 1) (file + 1) m.rolled m.second s
-        (a ∷ []) generation next (omega (arith, file_from))
-        (omega (arith, length-append (front_of m) (s ∷ a ∷ []), front_long, few)) (omega arith)
-        (all_by (λ e. rank e.kind < 3) (λ e. rank e.kind ≤ 2) (λ e lt. omega (arith, lt)) (front_of m)
-        (order_front (front_of m) (active_of m) order_too))
-        (omega arith, omega arith, refl)
-        (((λ same. omega (arith, same, is_entry.file_below, file_from)), tt), (tt, tt))
-        (all_by (IsOther m) (λ e. AllByRecursion (λ o. o.file ≢ e.file) (s ∷ a ∷ []))
-        (λ e other. (
-          (λ same. other.apart (sym same)),
-          ((λ same. omega (arith, same, other.entry.file_below, file_from)), tt),
-        )) (front_of m) are_entries.front)
-        (sealed_is, (active_is, tt))
-        (sum_two (λ e. wide_messages e.kind e.messages)
-        (ap (λ (k : Kind). wide_messages k (active_of m).messages) is_kind) refl ∙ omega (arith, valid.wide))
-        (sum_two (λ e. rolled_messages e.kind e.messages)
-        (ap (λ (k : Kind). rolled_messages k (active_of m).messages) is_kind) refl ∙ omega (arith, valid.cut))
-        (omega (arith, sum_two (λ e. e.messages) has_none refl, all))
-      where
-        sealed_is : IsEntry m.limit (file + 1) s
-        sealed_is = record {
-          fits = record {
-            prefix = is_entry.fits.prefix;
-            file = is_entry.fits.file;
-            octets =
-                omega (arith, within, is_entry.fits.prefix, valid.ranges.limit_to);
-            messages = omega (arith, all);
-          };
-          file_from = is_entry.file_from;
-          file_below = omega (arith, is_entry.file_below, file_from);
-          shape = (some, long, within);
-        }
-
-        active_is : IsEntry m.limit (file + 1) a
-        active_is = record {
-          fits = record { prefix = short; file = omega (arith, next); octets = omega arith; messages = omega arith };
-          file_from = omega (arith, is_entry.file_from, is_entry.file_below, file_from);
-          file_below = omega arith;
-          shape = (refl, refl);
-        }
-
-  -- ---- after an install
-
   module _ (job : JobKind) (count : ℕ) (few : count ≤ count_of (source_of job) m.entries) where
     abbrev place : ℕ
     place = count_before (source_of job) m.entries
@@ -470,7 +220,7 @@ module _ (m : Manifest) (valid : IsValidManifest m) where
           → staged.length < 2 ^ 64
           → IsValidManifest (installed_manifest m job count staged next)
       installed_valid generation some file unnamed file_below le fits short =
-          changed_valid front rest parted (m.generation + 1) next (m.rolled + cut_by job (messages_of sources))
+          changed_valid m valid front rest parted (m.generation + 1) next (m.rolled + cut_by job (messages_of sources))
           (m.second + second_cut_by job (messages_of sources)) n behind generation fits le
           (omega (
             arith,
@@ -505,7 +255,7 @@ module _ (m : Manifest) (valid : IsValidManifest m) where
           )) front
           (all_take (λ e. e.file ≢ staged.file) place m.entries unnamed)
           (own_apart front rest (subst HaveOwnFiles parted valid.files)))
-          (made_is, later next le behind (all_drop (IsEntry m.limit m.next) (place + count) m.entries valid.each))
+          (made_is, later m valid next le behind (all_drop (IsEntry m.limit m.next) (place + count) m.entries valid.each))
           (omega (
             arith,
             sum_new (λ e. wide_messages e.kind e.messages),
@@ -566,11 +316,11 @@ module _ (m : Manifest) (valid : IsValidManifest m) where
         where
           first : front ≡ take place (front_of m)
           first = ap (λ (l : List Entry). take place l) (split m valid)
-              ∙ take-append-le place (front_of m) (active_of m ∷ []) (omega (arith, behind_short, front_long))
+              ∙ take-append-le place (front_of m) (active_of m ∷ []) (omega (arith, behind_short, front_long m valid))
 
           others : behind ≡ drop (place + count) (front_of m) ++ active_of m ∷ []
           others = ap (λ (l : List Entry). drop (place + count) l) (split m valid)
-              ∙ drop-append-le (place + count) (front_of m) (active_of m ∷ []) (omega (arith, behind_short, front_long))
+              ∙ drop-append-le (place + count) (front_of m) (active_of m ∷ []) (omega (arith, behind_short, front_long m valid))
 
       pub installed_active : active_of (installed_manifest m job count staged next) ≡ active_of m
       installed_active = ap (λ (l : List Entry). get_or l (length l - 1) no_entry) front_now
