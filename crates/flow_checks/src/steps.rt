@@ -1,9 +1,14 @@
 //! What is done in a folder, as rows of tables: by a disk over it, and beside it.
 
+ghost use Rattle.std.specs.Prelude.{◌≡◌, ℕ, false, IsTrue};
+ghost use Rattle.flow_directory.specs.File.{entry};
+
 use crate::calls::{Call, Thawed, is_short};
 use crate::plan::{Failing, Plan};
+use flow_directory::Directory;
 use flow_disk::{Disk, DiskError, SealedFile};
-use flow_folder::{FolderDisk, FolderError};
+use flow_folder::{FolderError, SystemDirectory};
+use flow_folder_disk::FolderDisk;
 use std::fs::{self, File};
 use std::os::unix::fs::{MetadataExt, symlink};
 
@@ -234,11 +239,27 @@ fn played<D: Disk>(
     made
 }
 
+/// Makes steps with a folder over a system of calls, and gives it up: how many are as they say, one more where its end
+/// is so, too.
+fn played_over<S: Directory>(
+    rt: &HostRuntime,
+    plan: &Plan,
+    system: S,
+    steps: &[Step<'_>],
+    end: End<'_>,
+) -> usize
+    requires found { IsTrue (S.honest system) → (n : ℕ) → (S.files system n).lost entry ≡ false }
+    requires free { IsTrue (S.honest system) → (n : ℕ) → (S.files system n).lent ≡ false }
+{
+    let disk = FolderDisk::new(rt.alloc(), system);
+    played(rt, plan, Thawed { disk }, steps, end)
+}
+
 /// Opens the folder, makes steps with its disk, and gives it up: how many are as they say, one more where its end is
 /// so, too.
 pub(crate) fn opened(failing: &Failing<'_>, steps: &[Step<'_>], end: End<'_>) -> usize {
-    match FolderDisk::new(failing, FOLDER) {
-        Ok(disk) => played(failing.rt, failing.plan, Thawed { disk }, steps, end),
+    match SystemDirectory::open(failing, FOLDER, None) {
+        Ok(system) => played_over(failing.rt, failing.plan, system, steps, end),
         Err(error) => match end {
             End::Refused(why) => usize::from(why.is(&error)),
             _ => 0,

@@ -1,6 +1,7 @@
 //! The command `create`.
 
 ghost use Rattle.std.specs.Prelude.{◌≡◌, ℕ, false, IsTrue, OnOk, IfOk, IfErr};
+ghost use Rattle.flow_directory.specs.File.{entry};
 ghost use Rattle.flow_disk.specs.Disk.{AllImages};
 ghost use Rattle.flow_disk.specs.Cause.{HasCause};
 ghost use Rattle.flow_model.specs.Standing.{StandsFor};
@@ -11,8 +12,9 @@ use crate::archive_refusal::ArchiveRefusal;
 use crate::ending::left;
 use crate::plan::NewArchive;
 use flow_archive::{Archive, ArchiveError, Refused};
+use flow_directory::Directory;
 use flow_disk::Disk;
-use flow_folder::{FirstFault, FolderDisk, Lockable};
+use flow_folder::{FirstFault, FolderDisk, Lockable, SystemDirectory};
 use std::alloc::{AllocGlobal, Global};
 use std::fs::Files;
 use std::os::unix::fs::FileExt;
@@ -39,6 +41,21 @@ pub fn create<D: Disk>(
     }
 }
 
+/// Makes an archive in a folder over any system of calls, and leaves the folder to others again.
+fn create_over<S: Directory>(
+    alloc: Global,
+    system: S,
+    plan: &NewArchive,
+) -> Result<(), ArchiveRefusal>
+    requires found { IsTrue (S.honest system) → (n : ℕ) → (S.files system n).lost entry ≡ false }
+    requires free { IsTrue (S.honest system) → (n : ℕ) → (S.files system n).lent ≡ false }
+    ensures told { CreatesIn ⟦<flow_folder_disk::FolderDisk<S> as Disk>⟧ plan.now result }
+{
+    let disk = flow_folder_disk::FolderDisk::new(alloc, system);
+    left(alloc, create(alloc, disk, plan))?;
+    Ok(())
+}
+
 /// Makes an archive in a folder, and leaves the folder to others again.
 pub fn create_in<'a, H: Files + AllocGlobal + Clone + Drop>(
     rt: &'a H,
@@ -50,7 +67,6 @@ where
     H::File: FileExt + Lockable,
     ensures told { CreatesIn ⟦<FolderDisk<'a, H> as Disk>⟧ plan.now result }
 {
-    let disk = FolderDisk::noting(rt, folder, first_fault)?;
-    left(rt.alloc(), create(rt.alloc(), disk, plan))?;
-    Ok(())
+    let system = SystemDirectory::open(rt, folder, Some(first_fault))?;
+    create_over(rt.alloc(), system, plan)
 }

@@ -4,11 +4,10 @@ ghost use Rattle.std.specs.Prelude.{◌≡◌};
 ghost use Rattle.flow_commands.specs.Rolling.{done_of};
 
 use flow_archive::{Archive, Refused};
+use flow_directory::Directory;
 use flow_disk::Disk;
-use flow_folder::{FolderDisk, Lockable};
-use std::alloc::{AllocGlobal, Global};
-use std::fs::Files;
-use std::os::unix::fs::FileExt;
+use flow_folder_disk::FolderDisk;
+use std::alloc::Global;
 
 /// A disk that a command had for itself.
 pub trait Leave: Drop {
@@ -17,13 +16,10 @@ pub trait Leave: Drop {
     fn leave(self, alloc: Global);
 }
 
-impl<'a, R: Files + AllocGlobal + Clone + Drop> Leave for FolderDisk<'a, R>
-where
-    R::File: FileExt + Lockable,
-{
+impl<S: Directory> Leave for FolderDisk<S> {
     fn leave(self, alloc: Global) {
         let mut disk = self;
-        disk.end(alloc);
+        let _ = disk.end(alloc);
     }
 }
 

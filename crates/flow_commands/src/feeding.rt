@@ -1,6 +1,7 @@
 //! The command `feed`.
 
 ghost use Rattle.std.specs.Prelude.{◌≡◌, ◌≢◌, ◌≤◌, ◌⊎◌, ℕ, false, length, IsTrue, map, replicate, IfOk, IfErr};
+ghost use Rattle.flow_directory.specs.File.{entry};
 ghost use Rattle.flow_manifest.specs.Slots.{reads_of};
 ghost use Rattle.flow_model.specs.Shelved.{shelf_of};
 ghost use Rattle.flow_commands.specs.Feeding.{FeedsAsked, FeedsIn, FeedsLines, FeedsOn, IsNotFed, IsUnstarted};
@@ -15,9 +16,10 @@ use crate::progress::Progress;
 use crate::side_by_side::feed_beside;
 use crate::warning::{RolledMessages, StoppedFile};
 use flow_archive::{Archive, ArchiveError};
+use flow_directory::Directory;
 use flow_disk::{Disk, Faults};
 use flow_feed::{Fed, FeedStop};
-use flow_folder::{FolderDisk, Lockable};
+use flow_folder::{FolderDisk, Lockable, SystemDirectory};
 use flow_report::{Patience, write_patiently};
 use flow_shared::{Naming, Opened, start};
 use std::alloc::{AllocGlobal, Global};
@@ -238,6 +240,44 @@ where
     }
 }
 
+/// Opens the archive of a folder over any system of calls, and takes Files into it.
+fn feed_over<
+    H: Files + AllocGlobal + Clone + Drop + Threads + Wait + Send + Sync,
+    D: Directory + Send,
+    S: AsStr + Sync,
+    R: Read,
+    W: Write,
+    P: Write + Drop + Send,
+>(
+    rt: &H,
+    system: D,
+    plan: FeedPlan,
+    paths: &[S],
+    input: Option<&mut R>,
+    output: &mut W,
+    progress: &Progress<P>,
+) -> Result<u8, ArchiveRefusal>
+where
+    H::File: Send + Sync,
+    H::Dir: Send + Sync,
+    D::Error: Send,
+    D::Reader: Send + Sync,
+    requires found { IsTrue (D.honest system) → (n : ℕ) → (D.files system n).lost entry ≡ false }
+    requires free { IsTrue (D.honest system) → (n : ℕ) → (D.files system n).lent ≡ false }
+    ensures asked { FeedsIn ⟦<flow_folder_disk::FolderDisk<D> as Disk>⟧ H.File.remaining plan
+        (octets_given R.remaining input.entry) (map S.text paths.now) (W.contents output.old) (W.contents output.new)
+        result }
+    ensures written { IfOk result (λ status. FeedsLines (length paths.now) status (W.contents output.old)
+        (W.contents output.new)) }
+    ensures kept { IfErr result (λ e. KeepsOrFeeds (length paths.now) e (W.contents output.old)
+        (W.contents output.new)) }
+    ensures most { IfOk result (λ status. status ≤ 5) }
+    ensures other { IfOk result (λ status. status ≢ 2) }
+{
+    let disk = flow_folder_disk::FolderDisk::new(rt.alloc(), system);
+    feed_on(rt, disk, plan, paths, input, output, progress)
+}
+
 /// Takes Files into the archive of a folder, at most 8, side by side, and writes a line for each. The path `-` is
 /// standard input's, where `input` is given. The archive is opened before a File is read. As many of the newest sealed
 /// segments are kept as the plan says; older ones are rolled meanwhile. It answers the exit status: that of the first
@@ -273,6 +313,6 @@ where
     if plan.warn {
         progress.warn(rt);
     }
-    let disk = FolderDisk::noting(rt, folder, progress.first_fault())?;
-    feed_on(rt, disk, plan, paths, input, output, progress)
+    let system = SystemDirectory::open(rt, folder, Some(progress.first_fault()))?;
+    feed_over(rt, system, plan, paths, input, output, progress)
 }

@@ -1,6 +1,7 @@
 //! The commands `roll` and `merge`.
 
-ghost use Rattle.std.specs.Prelude.{◌≡◌, ℕ, false, Ok, OnOk, IfOk, IfErr};
+ghost use Rattle.std.specs.Prelude.{◌≡◌, ℕ, false, IsTrue, Ok, OnOk, IfOk, IfErr};
+ghost use Rattle.flow_directory.specs.File.{entry};
 ghost use Rattle.flow_commands.specs.Asking.{Writes, WritesOrNot};
 ghost use Rattle.flow_commands.specs.Rolling.{IsJobLine, IsRolled, RollsIn, RollsOn, TellsJob};
 ghost use Rattle.flow_commands.specs.Rolling.{job_line, job_name};
@@ -8,8 +9,9 @@ ghost use Rattle.flow_commands.specs.Rolling.{job_line, job_name};
 use crate::archive_refusal::ArchiveRefusal;
 use crate::ending::left;
 use flow_archive::{Archive, Refused};
+use flow_directory::Directory;
 use flow_disk::{Disk, Faults};
-use flow_folder::{FirstFault, FolderDisk, Lockable};
+use flow_folder::{FirstFault, FolderDisk, Lockable, SystemDirectory};
 use flow_manifest::JobKind;
 use flow_report::{Patience, push_count, write_patiently};
 use flow_turns::run_job;
@@ -107,6 +109,26 @@ pub fn roll_on<D: Disk, W: Write>(
     }
 }
 
+/// Rolls or merges the files of the archive in a folder over any system of calls, writes how many they were, and leaves
+/// the folder to others again.
+fn roll_over<S: Directory, W: Write>(
+    alloc: Global,
+    system: S,
+    kind: JobKind,
+    keep: u32,
+    output: &mut W,
+) -> Result<(), ArchiveRefusal>
+    requires found { IsTrue (S.honest system) → (n : ℕ) → (S.files system n).lost entry ≡ false }
+    requires free { IsTrue (S.honest system) → (n : ℕ) → (S.files system n).lent ≡ false }
+    ensures told { RollsIn ⟦<flow_folder_disk::FolderDisk<S> as Disk>⟧ kind keep (W.contents output.old)
+        (W.contents output.new) result }
+    ensures written { OnOk result (Writes (IsJobLine kind) (W.contents output.old) (W.contents output.new)) }
+    ensures kept { IfErr result (λ e. WritesOrNot (IsJobLine kind) e (W.contents output.old) (W.contents output.new)) }
+{
+    let disk = flow_folder_disk::FolderDisk::new(alloc, system);
+    left(alloc, roll_on(alloc, disk, kind, keep, output))
+}
+
 /// Rolls or merges the files of the archive in a folder, and writes how many they were.
 pub fn roll_in<'a, H: Files + AllocGlobal + Clone + Drop, W: Write>(
     rt: &'a H,
@@ -123,6 +145,6 @@ where
     ensures written { OnOk result (Writes (IsJobLine kind) (W.contents output.old) (W.contents output.new)) }
     ensures kept { IfErr result (λ e. WritesOrNot (IsJobLine kind) e (W.contents output.old) (W.contents output.new)) }
 {
-    let disk = FolderDisk::noting(rt, folder, first_fault)?;
-    left(rt.alloc(), roll_on(rt.alloc(), disk, kind, keep, output))
+    let system = SystemDirectory::open(rt, folder, Some(first_fault))?;
+    roll_over(rt.alloc(), system, kind, keep, output)
 }

@@ -1,5 +1,2 @@
-pub mod Naming
-pub mod Table
 pub mod Honesty
-pub mod Written
-pub mod Names
+pub mod Naming

@@ -3,12 +3,12 @@ ghost use Rattle.std.specs.Prelude.{◌≡◌, IfOk};
 ghost use Rattle.std.specs.List.Sorted.{IsStrictlyIncreasing};
 
 use crate::first_fault::FirstFault;
-use crate::folder::{Hold, Place, file_length, list_files, look_at_names, read_file};
-use crate::found::{Access, Found};
+use crate::found::{Opened, look_up};
 use crate::naming::path_of;
-use crate::sealed::FolderSealed;
+use crate::place::{Hold, Place, list_files, read_file};
+use crate::reader::SystemReader;
 use crate::system::{FolderError, Lockable};
-use std::alloc::{AllocGlobal, Global};
+use std::alloc::{AllocError, AllocGlobal, Global};
 use std::fs::Files;
 use std::io::{self, ErrorKind};
 use std::os::unix::fs::FileExt;
@@ -32,25 +32,12 @@ where
     /// it exists. Each entry with the name of a file has to be a regular file. What the system says of the first call
     /// that fails is noted.
     pub fn open(rt: &'a R, folder: &str, first_fault: &'a FirstFault) -> Result<Self, FolderError> {
-        match Self::locked(rt, folder) {
-            Ok(place) => Ok(FolderFiles {
-                rt,
-                first_fault,
-                place: Arc::new(rt.alloc(), place)?,
-            }),
-            Err(refused) => {
-                if let Some(error) = refused.said() {
-                    first_fault.note(error);
-                }
-                Err(refused)
-            }
-        }
-    }
-
-    fn locked(rt: &R, folder: &str) -> Result<Place<R::File>, FolderError> {
-        let place = Place::lock(rt, folder, Hold::Shared)?;
-        look_at_names(rt, place.path.as_str())?;
-        Ok(place)
+        let place = Place::open(rt, folder, Hold::Shared, Some(first_fault))?;
+        Ok(FolderFiles {
+            rt,
+            first_fault,
+            place: Arc::new(rt.alloc(), place)?,
+        })
     }
 
     /// Notes what the system said of a call that failed.
@@ -60,7 +47,10 @@ where
 
     /// How many octets a file has.
     pub fn length(&self, file: u64) -> io::Result<u64> {
-        file_length(self.rt, self.place.path.as_str(), file)
+        match look_up(self.rt, self.path_of(file)?.as_str())? {
+            Some(found) => Ok(found.length),
+            None => Ok(0),
+        }
     }
 
     /// Reads octets of a file from a place on.
@@ -72,28 +62,33 @@ where
     pub fn list(&self, alloc: Global) -> io::Result<Vec<u64>>
         ensures ascending { IfOk result (λ files. IsStrictlyIncreasing files.items) }
     {
-        list_files(self.rt, alloc, self.place.path.as_str())
+        let mut files = list_files(self.rt, alloc, self.place.path.as_str())?;
+        files.sort_unstable();
+        files.dedup();
+        Ok(files)
     }
 
-    /// A value that reads the first `size` octets of a file, which has that many.
-    pub fn seal(&self, file: u64, size: u64) -> io::Result<FolderSealed<'a, R>>
-        ensures file { IfOk result (λ sealed. sealed.file ≡ file) }
-        ensures size { IfOk result (λ sealed. sealed.size ≡ size) }
+    /// A value that reads a file, which has at least `size` octets.
+    pub fn reader(&self, file: u64, size: u64) -> io::Result<SystemReader<'a, R>>
+        ensures { IfOk result (λ reader. reader.file ≡ file) }
     {
-        let path = path_of(self.rt.alloc(), self.place.path.as_str(), file)?;
-        let length = match Found::open(self.rt, path.as_str(), Access::Read)? {
-            Some(found) => found.length,
+        let length = match Opened::look_into(self.rt, self.path_of(file)?.as_str())? {
+            Some(opened) => opened.found.length,
             None => 0,
         };
         if length < size {
             return Err(ErrorKind::UnexpectedEof.into());
         }
-        Ok(FolderSealed {
+        Ok(SystemReader {
             rt: self.rt,
             first_fault: Some(self.first_fault),
             place: Arc::try_clone(&self.place)?,
             file,
-            size,
         })
+    }
+
+    /// The path of a file by the folder's handle.
+    fn path_of(&self, file: u64) -> Result<String, AllocError> {
+        path_of(self.rt.alloc(), self.place.path.as_str(), file)
     }
 }

@@ -14,6 +14,10 @@ pub settled_of : (honest : Bool) (m : Marks) (f : File) → (marks_by honest m f
 settled_of true m f is = is
 settled_of false m f is = is
 
+pub frozen_of : (honest : Bool) (m : Marks) (f : File) → (marks_by honest m f).frozen ≡ m.frozen
+frozen_of true m f = refl
+frozen_of false m f = refl
+
 pub size_of : (honest : Bool) (m : Marks) (f : File) → IsTrue honest → (marks_by honest m f).size ≡ length f.held.reads
 size_of true m f is = refl
 size_of false m f is = absurd (false≢true is)

@@ -30,7 +30,7 @@ pub struct FolderDisk<S: Directory> {
 
 impl<S: Directory> FolderDisk<S> {
     ghost use Rattle.flow_disk.specs.Disk.{Changes, Stays};
-    ghost use Rattle.flow_folder_disk.specs.Table.{marks_of};
+    ghost use Rattle.flow_folder_disk.specs.Table.{marks_of, marks_by};
 
     /// The disk over a system of which no file is lent, and no name was lost by a failed sync of the folder.
     pub fn new(alloc: Global, system: S) -> Self
@@ -38,10 +38,14 @@ impl<S: Directory> FolderDisk<S> {
         requires free { IsTrue (S.honest system) → (n : ℕ) → (S.files system n).lent ≡ false }
         ensures system { result.folder.system ≡ system }
         ensures frozen { (n : ℕ) → (marks_in result.table n).frozen ≡ false }
+        ensures thawed { (n : ℕ) → (marks_by (S.honest result.folder.system) (marks_in result.table n)
+            (S.files result.folder.system n)).frozen ≡ false }
     {
+        let folder = Folder::new(alloc, system);
+        let table = Table::new(alloc);
         FolderDisk {
-            folder: Folder::new(alloc, system),
-            table: Table::new(alloc),
+            folder,
+            table,
             failed: 0,
         }
     }

@@ -52,7 +52,7 @@ impl<S: Directory> Folder<S> {
         }
     }
 
-    /// The same, of a file that exists, and isn't read-only.
+    /// The same, of a file that exists, and isn't read-only. It is opened to be written, as one that may be changed again.
     fn mark_named(&mut self, file: u64) -> Result<(), S::Error>
         requires absent { is_some (get nat_cmp self.old.pending file) ≡ false }
         requires clean { IsTrue (S.honest self.old.system) → IsClean (S.files self.old.system file) }
@@ -64,7 +64,7 @@ impl<S: Directory> Folder<S> {
         ensures leaves { IsTrue (S.honest self.old.system) → Leaves S.files S.moment S.left_since self.old.system
             self.new.system file (held_of (S.files self.old.system)) }
     {
-        let _ = self.system.open(file, Access::Read)?;
+        let _ = self.system.open(file, Access::Write)?;
         self.close_marked(file)
     }
 
@@ -143,7 +143,7 @@ impl<S: Directory> FolderDisk<S> {
         Ok(())
     }
 
-    /// The same of one that is settled.
+    /// The same of one that is settled. What the system said isn't noted: nothing is refused for it.
     fn mark_settled(&mut self, file: u64) -> Result<(), DiskError>
         requires { (marks_in self.old.table file).settled ≡ true }
         ensures honest { S.honest self.new.folder.system ≡ S.honest self.old.folder.system }
@@ -158,7 +158,7 @@ impl<S: Directory> FolderDisk<S> {
     {
         match self.folder.mark(file) {
             Ok(()) => Ok(()),
-            Err(error) => Err(self.fault_of(&error)),
+            Err(_) => Err(self.fault()),
         }
     }
 }

@@ -14,4 +14,5 @@ mod sealing;
 mod syncing;
 
 pub use disk::FolderDisk;
+pub use reported::{NoRoom, Reported, Table};
 pub use sealed::{FolderSealed, ReadFailed};

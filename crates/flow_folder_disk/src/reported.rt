@@ -6,17 +6,17 @@ use std::collections::{BTreeMap, BTreeSet};
 
 /// What was reported of a file: how many octets it has, and whether it is settled, frozen and listed.
 #[derive(Clone, Copy)]
-pub(crate) struct Reported {
-    pub(crate) size: u64,
-    pub(crate) settled: bool,
-    pub(crate) frozen: bool,
-    pub(crate) listed: bool,
+pub struct Reported {
+    pub size: u64,
+    pub settled: bool,
+    pub frozen: bool,
+    pub listed: bool,
     ghost within: { size ≤ 2 ^ 62 },
 }
 
 /// What was reported of each file. Of a file that no call has named, only that it isn't frozen.
 #[derive(Drop)]
-pub(crate) struct Table {
+pub struct Table {
     reported: BTreeMap<u64, Reported>,
 }
 
@@ -29,7 +29,7 @@ impl Table {
     ghost use Rattle.flow_folder_disk.specs.Table.{marks_of, marks_in};
 
     /// No call has named a file.
-    pub(crate) fn new(alloc: Global) -> Self
+    pub fn new(alloc: Global) -> Self
         ensures frozen { (n : ℕ) → (marks_in result n).frozen ≡ false }
         ensures settled { (n : ℕ) → (marks_in result n).settled ≡ false }
     {
@@ -39,7 +39,7 @@ impl Table {
     }
 
     /// What was reported of a file.
-    pub(crate) fn of(&self, file: u64) -> Reported
+    pub fn of(&self, file: u64) -> Reported
         ensures { marks_of result ≡ marks_in self.now file }
     {
         match self.reported.get(&file) {
@@ -54,7 +54,7 @@ impl Table {
     }
 
     /// Reports this of a file from now on. Answers whether there was memory.
-    pub(crate) fn report(&mut self, file: u64, reported: Reported) -> Result<(), NoRoom>
+    pub fn report(&mut self, file: u64, reported: Reported) -> Result<(), NoRoom>
         ensures done { OnOk result (Changes (marks_in self.old) (marks_in self.new) file (marks_of reported)) }
         ensures failed { OnErr result (Stays (marks_in self.old) (marks_in self.new)) }
     {
@@ -108,4 +108,4 @@ impl Table {
 
 /// Memory was refused.
 #[derive(Drop)]
-pub(crate) struct NoRoom;
+pub struct NoRoom;

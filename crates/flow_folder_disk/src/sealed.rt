@@ -19,6 +19,17 @@ pub struct FolderSealed<R: FileReader> {
     ghost whole: { IsTrue (R.honest reader) → length (R.reads reader) ≡ size },
 }
 
+impl<R: FileReader> FolderSealed<R> {
+    /// What this reads, as a frozen file of so many octets.
+    pub fn new(reader: R, size: u64) -> Self
+        requires { IsTrue (R.honest reader) → length (R.reads reader) ≡ size }
+        ensures reader { result.reader ≡ reader }
+        ensures size { result.size ≡ size }
+    {
+        FolderSealed { reader, size }
+    }
+}
+
 impl<R: FileReader> MayFail for FolderSealed<R> {
     type Failure = ReadFailed;
 }

@@ -3,7 +3,7 @@ ghost use Rattle.std.specs.Prelude.{◌≡◌, ◌≢◌, ℕ, Some, is_some, On
 ghost use Rattle.std.specs.Ordering.{nat_cmp};
 ghost use Rattle.std.specs.BTreeMap.{get};
 
-use flow_folder::NoRoom;
+use flow_folder_disk::NoRoom;
 use std::alloc::Global;
 use std::collections::BTreeMap;
 

@@ -3,11 +3,12 @@ ghost use Rattle.std.specs.Prelude.{◌≡◌, ◌≢◌, ◌≤◌, ℕ, true, 
 ghost use Rattle.std.specs.Ordering.{nat_cmp};
 ghost use Rattle.std.specs.BTreeMap.{get};
 ghost use Rattle.flow_disk.specs.Cause.{HasRisen, FailsOnlyByFault};
-ghost use Rattle.flow_folder.specs.Table.{marks_in};
+ghost use Rattle.flow_folder_disk.specs.Table.{marks_in};
 
 use crate::changed::{Change, ChangedFiles};
 use flow_disk::{Disk, DiskError, LIMIT, SealedFile};
-use flow_folder::{FirstFault, FolderError, FolderFiles, FolderSealed, Lockable, Reported, Table};
+use flow_folder::{FirstFault, FolderError, FolderFiles, Lockable, SystemReader};
+use flow_folder_disk::{FolderSealed, Reported, Table};
 use std::alloc::{AllocGlobal, Global};
 use std::fs::Files;
 use std::io::{self, ErrorKind};
@@ -31,7 +32,7 @@ where
     ghost use Rattle.std.specs.Prelude.{IsTrue, Ok};
     ghost use Rattle.flow_disk.specs.Disk.{Changes, Stays};
     ghost use Rattle.flow_disk.specs.Files.{MarkedByRemoval};
-    ghost use Rattle.flow_folder.specs.Table.{marks_of};
+    ghost use Rattle.flow_folder_disk.specs.Table.{marks_of};
 
     /// Opens a folder that exists, and locks it against disks that change it as long as the view or a frozen file of it
     /// exists. What the system says of the first call that fails is noted.
@@ -139,12 +140,12 @@ impl<'a, R: Files + AllocGlobal + Clone + Drop> Disk for FolderView<'a, R>
 where
     R::File: FileExt + Lockable,
 {
-    type Sealed = FolderSealed<'a, R>;
+    type Sealed = FolderSealed<SystemReader<'a, R>>;
 
     ghost use Rattle.std.specs.Prelude.{◌+◌, []};
     ghost use Rattle.flow_disk.specs.Disk.{settled_at};
     ghost use Rattle.flow_folder.specs.Honesty.{never};
-    ghost use Rattle.flow_folder.specs.Table.{limited};
+    ghost use Rattle.flow_folder_disk.specs.Table.{limited};
 
     ghost honest = { λ _. false };
 
@@ -252,10 +253,10 @@ where
         }
     }
 
-    fn freeze(&mut self, file: u64) -> Result<FolderSealed<'a, R>, DiskError> {
+    fn freeze(&mut self, file: u64) -> Result<FolderSealed<SystemReader<'a, R>>, DiskError> {
         let reported = self.table.of(file);
-        let sealed = match self.files.seal(file, reported.size) {
-            Ok(sealed) => sealed,
+        let reader = match self.files.reader(file, reported.size) {
+            Ok(reader) => reader,
             Err(error) => return Err(self.fault_of(&error)),
         };
         self.report(
@@ -267,10 +268,10 @@ where
                 listed: reported.listed,
             },
         )?;
-        Ok(sealed)
+        Ok(FolderSealed::new(reader, reported.size))
     }
 
-    fn retire(&mut self, sealed: FolderSealed<'a, R>) -> Result<(), DiskError> {
+    fn retire(&mut self, sealed: FolderSealed<SystemReader<'a, R>>) -> Result<(), DiskError> {
         self.take_away(sealed.file())
     }
 }

@@ -1,6 +1,7 @@
 //! The requests about the archive of a folder.
 
-ghost use Rattle.std.specs.Prelude.{◌≡◌, ◌≢◌, ◌≤◌, ◌⊎◌, ℕ, false, IfOk};
+ghost use Rattle.std.specs.Prelude.{◌≡◌, ◌≢◌, ◌≤◌, ◌⊎◌, ℕ, false, IsTrue, IfOk};
+ghost use Rattle.flow_directory.specs.File.{entry};
 ghost use Rattle.flow_model.specs.Shelved.{shelf_of};
 ghost use Rattle.flow_shell.specs.Asked.{MayKeep};
 ghost use Rattle.flow_shell.specs.Endings.{shell_ended, IsServed, IsUnserved, ShellsIn, ShellsOn};
@@ -10,8 +11,9 @@ use crate::querying::Asking;
 use crate::serving::serve_beside;
 use flow_archive::{Archive, ArchiveError};
 use flow_commands::{ArchiveRefusal, Leave, Workers};
+use flow_directory::Directory;
 use flow_disk::Disk;
-use flow_folder::{FirstFault, FolderDisk, Lockable};
+use flow_folder::{FirstFault, FolderDisk, Lockable, SystemDirectory};
 use flow_roller::{Bell, Keeping};
 use flow_shared::{ArchiveReader, Naming, Opened, SharedArchive, start};
 use std::alloc::AllocGlobal;
@@ -163,6 +165,35 @@ where
     }
 }
 
+/// Opens the archive of a folder over any system of calls, and answers requests about it.
+fn serve_over<
+    H: Files + AllocGlobal + Clone + Drop + Threads + Wait + Send + Sync,
+    S: Directory + Send,
+    R: Read,
+    W: Write,
+>(
+    rt: &H,
+    system: S,
+    keep: u32,
+    input: &mut R,
+    output: &mut W,
+) -> Result<u8, ArchiveRefusal>
+where
+    H::File: Send + Sync,
+    H::Dir: Send + Sync,
+    S::Error: Send,
+    S::Reader: Send + Sync,
+    requires found { IsTrue (S.honest system) → (n : ℕ) → (S.files system n).lost entry ≡ false }
+    requires free { IsTrue (S.honest system) → (n : ℕ) → (S.files system n).lent ≡ false }
+    ensures asked { ShellsIn ⟦<flow_folder_disk::FolderDisk<S> as Disk>⟧ (MayKeep keep (R.remaining input.old))
+        (W.contents output.old) (W.contents output.new) result }
+    ensures most { IfOk result (λ status. status ≤ 5) }
+    ensures other { IfOk result (λ status. status ≢ 2) }
+{
+    let disk = flow_folder_disk::FolderDisk::new(rt.alloc(), system);
+    serve_disk(rt, disk, keep, input, output)
+}
+
 /// Opens the archive of a folder, and answers the requests that `input` has, a line each, in their order: with their
 /// lines, and `done STATUS`. Files that are asked for are fed meanwhile, at most 8 at once, and the line of one that
 /// has ended is written before the next answer. The newest `keep` sealed segments are left as they are, or as many as a
@@ -189,6 +220,6 @@ where
     ensures most { IfOk result (λ status. status ≤ 5) }
     ensures other { IfOk result (λ status. status ≢ 2) }
 {
-    let disk = FolderDisk::noting(rt, folder, first_fault)?;
-    serve_disk(rt, disk, keep, input, output)
+    let system = SystemDirectory::open(rt, folder, Some(first_fault))?;
+    serve_over(rt, system, keep, input, output)
 }

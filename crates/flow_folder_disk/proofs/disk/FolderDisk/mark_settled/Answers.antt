@@ -45,7 +45,7 @@ returns-in-Ok-clause-still g c h = marked_still (g.S.Directory.files c.args.self
 
 pub returns-in-Err-clause-all : goal.returns-in-Err-clause-all
 returns-in-Err-clause-all g c h =
-    let same : c.fault_of.new.self.folder.system ≡ c.mark.new.self.system = c.fault_of.ensures.system in
+    let same : c.fault.new.self.folder.system ≡ c.mark.new.self.system = c.fault.ensures.system in
     rw same (keeps_one g.S.Directory.files g.S.Directory.moment g.S.Directory.left_since
     c.args.self.now.folder.system c.mark.new.self.system c.args.file (c.mark.ensures.reached h)
     (c.mark.ensures.leaves h))

@@ -1,0 +1,38 @@
+use Rattle.std.proofs.Common.{inl}
+use Rattle.flow_commands.proofs.Ended.{done_created, refused_created}
+use Rattle.flow_commands.proofs.creating.create_over.Goals as goal
+
+pub returns : goal.returns
+returns g c =
+    record {
+      told = inl (
+        c.new.result,
+        c.create.result,
+        record {
+          made = c.create.ensures.made;
+          stands = c.create.ensures.stands;
+          was_empty = c.create.ensures.was_empty;
+          refused = c.create.ensures.refused;
+          cause = c.create.ensures.cause;
+        },
+        done_created c.create.result c.in_ok.ensures,
+      );
+    }
+
+pub returns-in_err : goal.returns-in_err
+returns-in_err g c =
+    record {
+      told = inl (
+        c.new.result,
+        c.create.result,
+        record {
+          made = c.create.ensures.made;
+          stands = c.create.ensures.stands;
+          was_empty = c.create.ensures.was_empty;
+          refused = c.create.ensures.refused;
+          cause = c.create.ensures.cause;
+        },
+        refused_created c.create.result (c.in_err.field-0).0 c.from_residual.result c.in_err.ensures
+            c.from_residual.ensures.1,
+      );
+    }

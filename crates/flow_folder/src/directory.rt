@@ -1,0 +1,249 @@
+// A folder of the system.
+use crate::error::SystemError;
+use crate::first_fault::FirstFault;
+use crate::found::{Found, Opened, look_up};
+use crate::naming::path_of;
+use crate::place::{Hold, Place, list_files};
+use crate::reader::SystemReader;
+use crate::system::{FolderError, Lockable};
+use flow_directory::{Access, Directory, Status};
+use std::alloc::{AllocError, AllocGlobal, Global};
+use std::collections::BTreeMap;
+use std::fs::{self, Files, OpenFile};
+use std::io::ErrorKind;
+use std::os::unix::fs::FileExt;
+use std::sync::Arc;
+
+/// A folder of the system, locked as long as a handle of it is open, and its files that are open. What the last look at
+/// a name found is kept, so that a file that is opened then is known to be that one.
+#[derive(Drop)]
+pub struct SystemDirectory<'a, R: Files> {
+    rt: &'a R,
+    first_fault: Option<&'a FirstFault>,
+    place: Arc<Place<R::File>>,
+    open: BTreeMap<u64, Opened<R::File>>,
+    looked: Option<(u64, Found)>,
+}
+
+impl<'a, R: Files + AllocGlobal + Clone + Drop> SystemDirectory<'a, R>
+where
+    R::File: FileExt + Lockable,
+{
+    /// Opens a folder that exists, and locks it as long as the directory or a reader of it exists. Each entry with the
+    /// name of a file has to be a regular file. What the system says of the first call that fails is noted, where that
+    /// is asked for.
+    pub fn open(
+        rt: &'a R,
+        path: &str,
+        first_fault: Option<&'a FirstFault>,
+    ) -> Result<Self, FolderError> {
+        let place = Place::open(rt, path, Hold::Alone, first_fault)?;
+        Ok(SystemDirectory {
+            rt,
+            first_fault,
+            place: Arc::new(rt.alloc(), place)?,
+            open: BTreeMap::new(rt.alloc()),
+            looked: None,
+        })
+    }
+
+    /// The path of a file by the folder's handle.
+    fn path_of(&self, file: u64) -> Result<String, AllocError> {
+        path_of(self.rt.alloc(), self.place.path.as_str(), file)
+    }
+
+    /// What the last look at this name found, or a look now.
+    fn looked_at(&mut self, file: u64, path: &str) -> Result<Found, SystemError> {
+        match self.looked {
+            Some((number, found)) if number == file => Ok(found),
+            _ => match look_up(self.rt, path)? {
+                Some(found) => Ok(found),
+                None => Err(ErrorKind::NotFound.into()),
+            },
+        }
+    }
+
+    /// A file that is open.
+    fn opened(&self, file: u64) -> Result<&Opened<R::File>, SystemError> {
+        match self.open.get(&file) {
+            Some(opened) => Ok(opened),
+            None => Err(ErrorKind::NotFound.into()),
+        }
+    }
+
+    /// Takes a name away. Answers whether it was there.
+    fn take_name(&mut self, file: u64) -> Result<bool, SystemError> {
+        let path = self.path_of(file)?;
+        let _ = self.open.remove(&file);
+        self.looked = None;
+        match fs::remove_file(self.rt, path.as_str()) {
+            Ok(()) => Ok(true),
+            Err(e) if e.kind() == ErrorKind::NotFound => Ok(false),
+            Err(e) => Err(e.into()),
+        }
+    }
+
+    /// Writes octets at a place of an open file.
+    fn put(&self, file: u64, at: u64, octets: &[u8]) -> Result<(), SystemError> {
+        self.opened(file)?.file.write_all_at(octets, at)?;
+        Ok(())
+    }
+
+    /// Cuts an open file.
+    fn set_length(&self, file: u64, count: u64) -> Result<(), SystemError> {
+        self.opened(file)?.file.set_len(count)?;
+        Ok(())
+    }
+}
+
+impl<'a, R: Files + AllocGlobal + Clone + Drop> Directory for SystemDirectory<'a, R>
+where
+    R::File: FileExt + Lockable,
+{
+    type Error = SystemError;
+
+    type Reader = SystemReader<'a, R>;
+
+    ghost use Rattle.std.specs.Prelude.{false};
+    ghost use Rattle.flow_folder.specs.Honesty.{never, nothing};
+
+    ghost honest = { λ _. false };
+
+    ghost files = { λ _ n. nothing };
+
+    ghost moment = { λ _. 0 };
+
+    ghost left_since = { λ _ t image. ⊥ };
+
+    ghost absent = { λ d n h is. never h };
+
+    ghost absent_clean = { λ d n h is. never h };
+
+    ghost named = { λ d n h some. never h };
+
+    ghost read_only_clean = { λ d n h is. never h };
+
+    ghost lent_clean = { λ d n h is. never h };
+
+    ghost within = { λ d n place h is. never h };
+
+    ghost within_limit = { λ d n h. never h };
+
+    ghost reads_image = { λ d n h. never h };
+
+    ghost fast_within = { λ d n h. never h };
+
+    ghost fast_whole = { λ d n h is. never h };
+
+    ghost counts_now = { λ d t image h le is. never h };
+
+    ghost only_now = { λ d image h left. never h };
+
+    fn note(&self, error: &SystemError) {
+        if let Some(first) = self.first_fault {
+            first.note(&error.said);
+        }
+    }
+
+    fn status(&mut self, file: u64) -> Result<Option<Status>, SystemError> {
+        let path = self.path_of(file)?;
+        self.looked = None;
+        let Some(found) = look_up(self.rt, path.as_str())? else {
+            return Ok(None);
+        };
+        self.looked = Some((file, found));
+        Ok(Some(found.status()))
+    }
+
+    fn list(&mut self, alloc: Global) -> Result<Vec<u64>, SystemError> {
+        Ok(list_files(self.rt, alloc, self.place.path.as_str())?)
+    }
+
+    fn open(&mut self, file: u64, access: Access) -> Result<Status, SystemError> {
+        let path = self.path_of(file)?;
+        let named = self.looked_at(file, path.as_str())?;
+        let _ = self.open.remove(&file);
+        let opened = Opened::open(self.rt, path.as_str(), named, access == Access::Write)?;
+        let status = opened.found.status();
+        self.open.insert(file, opened)?;
+        Ok(status)
+    }
+
+    fn close(&mut self, file: u64) {
+        let _ = self.open.remove(&file);
+    }
+
+    fn create(&mut self, file: u64) -> Result<(), SystemError> {
+        let path = self.path_of(file)?;
+        let made = Opened::create(self.rt, path.as_str())?;
+        self.open.insert(file, made)?;
+        Ok(())
+    }
+
+    fn unlink(&mut self, file: u64) -> Result<bool, SystemError> {
+        self.take_name(file)
+    }
+
+    fn unlink_empty(&mut self, file: u64) -> Result<bool, SystemError> {
+        self.take_name(file)
+    }
+
+    fn sync_directory(&mut self) -> Result<(), SystemError> {
+        self.place.handle.sync_all()?;
+        Ok(())
+    }
+
+    fn settle(&mut self, _file: u64) -> Result<(), SystemError> {
+        Ok(())
+    }
+
+    fn loosen(&mut self, _file: u64) -> Result<(), SystemError> {
+        Ok(())
+    }
+
+    fn set_read_only(&mut self, file: u64, read_only: bool) -> Result<(), SystemError> {
+        self.opened(file)?.set_read_only(read_only)?;
+        Ok(())
+    }
+
+    fn length(&mut self, file: u64) -> Result<u64, SystemError> {
+        Ok(self.opened(file)?.file.metadata()?.len())
+    }
+
+    fn read(&mut self, file: u64, at: u64, octets: &mut [u8]) -> Result<(), SystemError> {
+        self.opened(file)?.file.read_exact_at(octets, at)?;
+        Ok(())
+    }
+
+    fn write(&mut self, file: u64, at: u64, octets: &[u8]) -> Result<(), SystemError> {
+        self.put(file, at, octets)
+    }
+
+    fn rewrite(&mut self, file: u64, at: u64, octets: &[u8]) -> Result<(), SystemError> {
+        self.put(file, at, octets)
+    }
+
+    fn truncate(&mut self, file: u64, count: u64) -> Result<(), SystemError> {
+        self.set_length(file, count)
+    }
+
+    fn retruncate(&mut self, file: u64, count: u64) -> Result<(), SystemError> {
+        self.set_length(file, count)
+    }
+
+    fn sync(&mut self, file: u64) -> Result<(), SystemError> {
+        self.opened(file)?.file.sync_all()?;
+        Ok(())
+    }
+
+    fn lend(&mut self, file: u64) -> Result<SystemReader<'a, R>, SystemError> {
+        Ok(SystemReader {
+            rt: self.rt,
+            first_fault: self.first_fault,
+            place: Arc::try_clone(&self.place)?,
+            file,
+        })
+    }
+
+    fn take_back(&mut self, _reader: SystemReader<'a, R>) {}
+}
