@@ -116,8 +116,8 @@ impl<F: FileExt + OpenFile + Drop> Opened<F> {
         })
     }
 
-    /// Takes from everyone the permission to write it, or gives it to its owner. From one that is open to be changed,
-    /// so that may be changed again, it isn't taken where others than its owner may write it: they couldn't take it back.
+    /// Takes from everyone the permission to write it, or gives it to its owner. It isn't taken from a file that is open
+    /// to be changed where others than its owner may write it: they couldn't give it back, and couldn't change it again.
     pub(crate) fn set_read_only(&self, read_only: bool) -> io::Result<()> {
         if read_only && self.write && self.mode & OTHERS_WRITE != 0 {
             return Err(ErrorKind::PermissionDenied.into());

@@ -52,7 +52,7 @@ impl<S: Directory> Folder<S> {
         }
     }
 
-    /// The same, of a file that exists, and isn't read-only. It is opened to be written, as one that may be changed again.
+    /// The same, of a file that exists, and isn't read-only. It is opened to be written, as it may be changed again.
     fn mark_named(&mut self, file: u64) -> Result<(), S::Error>
         requires absent { is_some (get nat_cmp self.old.pending file) ≡ false }
         requires clean { IsTrue (S.honest self.old.system) → IsClean (S.files self.old.system file) }
