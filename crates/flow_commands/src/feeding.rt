@@ -16,7 +16,7 @@ use crate::progress::Progress;
 use crate::side_by_side::feed_beside;
 use crate::warning::{RolledMessages, StoppedFile};
 use flow_archive::{Archive, ArchiveError};
-use flow_directory::Directory;
+use flow_directory::{Directory, FileReader};
 use flow_disk::{Disk, Faults};
 use flow_feed::{Fed, FeedStop};
 use flow_folder::{FolderDisk, Lockable, SystemDirectory};
@@ -262,6 +262,7 @@ where
     H::Dir: Send + Sync,
     D::Error: Send,
     D::Reader: Send + Sync,
+    <D::Reader as FileReader>::Error: Send,
     requires found { IsTrue (D.honest system) → (n : ℕ) → (D.files system n).lost entry ≡ false }
     requires free { IsTrue (D.honest system) → (n : ℕ) → (D.files system n).lent ≡ false }
     ensures asked { FeedsIn ⟦<flow_folder_disk::FolderDisk<D> as Disk>⟧ H.File.remaining plan

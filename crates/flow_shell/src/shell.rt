@@ -11,7 +11,7 @@ use crate::querying::Asking;
 use crate::serving::serve_beside;
 use flow_archive::{Archive, ArchiveError};
 use flow_commands::{ArchiveRefusal, Leave, Workers};
-use flow_directory::Directory;
+use flow_directory::{Directory, FileReader};
 use flow_disk::Disk;
 use flow_folder::{FirstFault, FolderDisk, Lockable, SystemDirectory};
 use flow_roller::{Bell, Keeping};
@@ -183,6 +183,7 @@ where
     H::Dir: Send + Sync,
     S::Error: Send,
     S::Reader: Send + Sync,
+    <S::Reader as FileReader>::Error: Send,
     requires found { IsTrue (S.honest system) → (n : ℕ) → (S.files system n).lost entry ≡ false }
     requires free { IsTrue (S.honest system) → (n : ℕ) → (S.files system n).lent ≡ false }
     ensures asked { ShellsIn ⟦<flow_folder_disk::FolderDisk<S> as Disk>⟧ (MayKeep keep (R.remaining input.old))
