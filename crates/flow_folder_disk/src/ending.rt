@@ -158,7 +158,7 @@ impl<S: Directory> FolderDisk<S> {
     {
         match self.folder.mark(file) {
             Ok(()) => Ok(()),
-            Err(_) => Err(self.fault()),
+            Err(_error) => Err(self.fault()),
         }
     }
 }
