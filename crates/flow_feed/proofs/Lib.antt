@@ -2,3 +2,4 @@ mod Taking
 mod Readings
 mod Batches
 mod Sharing
+mod EachGiven

@@ -14,6 +14,8 @@ use Rattle.flow_shared.specs.Known.{IsAppendBy, Says}
 use Rattle.flow_shared.specs.Told.{HasAdded}
 use Rattle.flow_shared.specs.UnderLock.{LockState}
 use Rattle.flow_feed.specs.declared.batch.Fed.{Fed}
+use Rattle.flow_feed.specs.declared.collecting.Collected.{Collected}
+use Rattle.flow_feed.specs.Datagrams.{AreInSteps, AreReadFrom}
 use Rattle.flow_feed.specs.Feed.{IsFed}
 use Rattle.flow_feed.specs.Given.{acknowledged, acknowledged_in, AreGiven, Given}
 use Rattle.flow_feed.specs.Shared.{AreAdded, HasSteps, IsGivenShared, IsInSteps, IsLate, IsRefusedShared, Known}
@@ -133,4 +135,16 @@ fed_steps g opening first old new octets fed is whole = record {
   read = is.front;
   steps = subst (λ (l : List (List ℕ)). HasSteps old.steps new.steps l) is.taken.messages_are
       (given_steps g opening old new is.taken.given is.taken.run whole).1;
+}
+
+-- ---- datagrams
+
+pub collected_steps : {D S X : Type 0} (g : Ghosts D S X) (opening : Shelf) (is_socket : Bool) (old new : Known)
+    (octets : Option (List ℕ)) (collected : Collected)
+    → AreReadFrom (IsGivenShared g opening) is_socket old new octets collected → new.whole ≡ true
+    → AreInSteps g opening is_socket old new octets collected
+collected_steps g opening is_socket old new octets collected read whole = record {
+  read = read;
+  steps = subst (λ (l : List (List ℕ)). HasSteps old.steps new.steps l) read.1.taken.messages_are
+      (given_steps g opening old new read.1.taken.given read.1.taken.run whole).1;
 }

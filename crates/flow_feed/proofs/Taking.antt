@@ -45,7 +45,7 @@ not_of_messages n error is = rw is (by (nat_lt 1 n))
     by true = refl
     by false = refl
 
-acknowledged_then : (xs ys : List Given) → acknowledged (xs ++ ys) ≡ acknowledged xs ++ acknowledged ys
+pub acknowledged_then : (xs ys : List Given) → acknowledged (xs ++ ys) ≡ acknowledged xs ++ acknowledged ys
 acknowledged_then [] ys = refl
 acknowledged_then (x ∷ xs) ys =
     let own = acknowledged_in x.messages x.answer in
@@ -99,7 +99,7 @@ turn_then (batch ∷ batches) given others more stop (own, rest, ended, are, is,
     by (Some error) is onwards after = let none = after.1 in absurd cc
 
 module _ {S : Type 0} (appends : S → S → List (List ℕ) → Result ℕ ArchiveError → Type 0) where
-  given_then : (old mid new : S) (xs ys : List Given) → AreGiven appends old mid xs → AreGiven appends mid new ys
+  pub given_then : (old mid new : S) (xs ys : List Given) → AreGiven appends old mid xs → AreGiven appends mid new ys
       → AreGiven appends old new (xs ++ ys)
   given_then old mid new [] ys first second = subst (λ (s : S). AreGiven appends s new ys) first second
   given_then old mid new (x ∷ xs) ys first second =

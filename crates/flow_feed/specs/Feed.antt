@@ -10,7 +10,7 @@ use Rattle.flow_codec.specs.Stream.{Progress, IsFaultNext, IsMessageNext}
 use Rattle.flow_archive.specs.declared.refusal.ArchiveError.{ArchiveError}
 use Rattle.flow_feed.specs.declared.batch.Fed.{Fed}
 use Rattle.flow_feed.specs.declared.batch.FeedStop.{FeedStop}
-use Rattle.flow_feed.specs.declared.batch.FeedStop.TheVariants.{File, Archive, OutOfMemory, Unopened}
+use Rattle.flow_feed.specs.declared.batch.FeedStop.TheVariants.{File, Archive, OutOfMemory, Unopened, Unreceived}
 use Rattle.flow_feed.specs.Given.{AreGivenInTurn, HasTaken}
 
 -- What follows the messages that are taken in, up to this place of the File: nothing, where the File is taken in
@@ -23,6 +23,7 @@ IsEnd place (Some (File stream.NumbersSpent)) rest = IsMessageNext rest
 IsEnd place (Some (Archive error)) rest = IsMessageNext rest
 IsEnd place (Some OutOfMemory) rest = ⊤
 IsEnd place (Some Unopened) rest = ⊥
+IsEnd place (Some (Unreceived failed)) rest = ⊥
 
 -- the refusal of the archive that a File stopped by
 abbrev pub refusal_in : Option FeedStop → Option ArchiveError
@@ -31,6 +32,7 @@ refusal_in (Some (File error)) = None
 refusal_in (Some (Archive error)) = Some error
 refusal_in (Some OutOfMemory) = None
 refusal_in (Some Unopened) = None
+refusal_in (Some (Unreceived failed)) = None
 
 -- ---- messages that are read together
 

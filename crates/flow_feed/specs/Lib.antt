@@ -1,3 +1,4 @@
+pub mod Datagrams
 pub mod Feed
 pub mod Given
 pub mod Stopped

@@ -3,6 +3,7 @@
 ghost use Rattle.std.specs.Prelude.{◌≡◌};
 ghost use Rattle.flow_feed.specs.Stopped.{stop_code};
 
+use crate::datagrams::ReceiveFailed;
 use flow_archive::ArchiveError;
 use flow_codec::StreamError;
 use flow_refusals::RefusalCode;
@@ -19,6 +20,8 @@ pub enum FeedStop {
     OutOfMemory,
     /// The File can't be opened (31). `feed`, which is given an open one, never answers this.
     Unopened,
+    /// Receiving a datagram failed (31).
+    Unreceived(ReceiveFailed),
 }
 
 impl FeedStop {
@@ -30,7 +33,7 @@ impl FeedStop {
             FeedStop::File(error) => error.code(),
             FeedStop::Archive(error) => error.code(),
             FeedStop::OutOfMemory => RefusalCode::OutOfMemory,
-            FeedStop::Unopened => RefusalCode::Read,
+            FeedStop::Unopened | FeedStop::Unreceived(_) => RefusalCode::Read,
         }
     }
 }

@@ -9,10 +9,16 @@
 
 mod appender;
 mod batch;
+mod collecting;
+mod datagrams;
 mod feeding;
 mod giving;
 mod reading;
+mod refused;
 
 pub use appender::{Appender, SharedAppender};
 pub use batch::{Fed, FeedStop};
+pub use collecting::{Collected, collect, feed_datagrams};
+pub use datagrams::{DATAGRAM_ROOM, Datagrams, ReceiveFailed, Receiver};
 pub use feeding::{feed, feed_shared};
+pub use refused::RefusedDatagrams;

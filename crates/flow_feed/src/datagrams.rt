@@ -1,0 +1,129 @@
+//! Datagrams, one at a time.
+
+ghost use Rattle.std.specs.Prelude.{◌≡◌, ◌≤◌, ℕ, length, IfOk, IfSome, List};
+ghost use Rattle.std.specs.Io.KnownBytes.{ReadConsumes};
+ghost use Rattle.flow_feed.specs.Datagrams.{most_empty_of, reading, unread, IsOver, IsRead, IsReceived, IsUnread};
+
+use std::io::{ErrorKind, Read};
+
+/// The octets that a datagram is given room for: one more than the longest message has, so that what is longer than
+/// its room isn't taken for a message.
+pub const DATAGRAM_ROOM: usize = 65_536;
+
+/// The count of interrupted calls at which receiving gives up.
+const MAX_INTERRUPTS: u32 = 1_000_000;
+
+/// How many reads of a socket may give nothing, one after the other, before it is taken for closed: a closed one gives
+/// nothing for good, and an empty datagram gives nothing once.
+const MOST_EMPTY: u64 = 1_000_000_000;
+
+/// Receiving failed, or was interrupted 1,000,000 times over the receiver's life. Only this module makes one, where
+/// that has happened.
+#[derive(Clone, Copy, Debug, PartialEq, Eq)]
+pub struct ReceiveFailed {
+    hidden: (),
+}
+
+/// Gives datagrams.
+pub trait Datagrams {
+    /// From one to the other it gave this datagram.
+    ghost gives: { Self → Self → List ℕ → Type 0 };
+
+    /// From one to the other it turned out that no more come.
+    ghost ends: { Self → Self → Type 0 };
+
+    /// From one to the other receiving a datagram failed.
+    ghost fails: { Self → Self → Type 0 };
+
+    /// Receives the next datagram into the first octets of a buffer, and answers how many it has; None where no more
+    /// come.
+    fn receive(&mut self, buffer: &mut [u8]) -> Result<Option<usize>, ReceiveFailed>
+        requires room { 65536 ≤ length buffer.now }
+        ensures most { IfOk result (λ o. IfSome o (λ n. n ≤ length buffer.new)) }
+        ensures received { IsReceived gives ends fails self.old self.new result buffer.new };
+}
+
+/// Receives datagrams from an input of which each read gives one: a socket of datagrams, or a pipe of packets.
+#[derive(Drop)]
+pub struct Receiver<'a, R: Read> {
+    input: &'a mut R,
+    /// How many interrupted calls are left, the one that gives up among them.
+    left: u32,
+    /// How many of the last reads gave nothing.
+    empty: u64,
+    /// How many in a row are taken for empty datagrams.
+    most_empty: u64,
+}
+
+/// How many reads in a row that give nothing are taken for empty datagrams: of a socket, and of another input none.
+fn most_empty_of(is_socket: bool) -> u64
+    ensures { result ≡ most_empty_of is_socket }
+{
+    if is_socket { MOST_EMPTY } else { 0 }
+}
+
+impl<'a, R: Read> Receiver<'a, R> {
+    /// Of a socket a read that gives nothing is an empty datagram, unless it is the last of 1,000,000,001 in a row; of a
+    /// file or a pipe it is the end.
+    pub fn new(input: &'a mut R, is_socket: bool) -> Self
+        ensures { reading (R.remaining result.input.now) result.empty result.most_empty
+            ≡ unread is_socket (R.remaining input.old) }
+    {
+        Receiver {
+            input,
+            left: MAX_INTERRUPTS,
+            empty: 0,
+            most_empty: most_empty_of(is_socket),
+        }
+    }
+
+    /// One read, tried again after an interrupted call while any is left.
+    fn read(&mut self, buffer: &mut [u8]) -> Result<usize, ReceiveFailed>
+        ensures bound { IfOk result (λ n. n ≤ length buffer.new) }
+        ensures bytes { ReadConsumes (R.remaining self.old.input.now) (R.remaining self.new.input.now) result
+            buffer.new }
+        ensures empty { self.new.empty ≡ self.old.empty }
+        ensures most { self.new.most_empty ≡ self.old.most_empty }
+    {
+        for _ in 0..MAX_INTERRUPTS {
+            match self.input.read(buffer) {
+                Ok(count) => return Ok(count),
+                Err(error) => {
+                    if error.kind() != ErrorKind::Interrupted || self.left <= 1 {
+                        break;
+                    }
+                    self.left -= 1;
+                }
+            }
+        }
+        Err(ReceiveFailed { hidden: () })
+    }
+}
+
+impl<R: Read> Datagrams for Receiver<'_, R> {
+    ghost gives = { λ old new datagram. IsRead
+        (reading (R.remaining old.input.now) old.empty old.most_empty)
+        (reading (R.remaining new.input.now) new.empty new.most_empty)
+        datagram };
+
+    ghost ends = { λ old new. IsOver
+        (reading (R.remaining old.input.now) old.empty old.most_empty)
+        (reading (R.remaining new.input.now) new.empty new.most_empty) };
+
+    ghost fails = { λ old new. IsUnread
+        (reading (R.remaining old.input.now) old.empty old.most_empty)
+        (reading (R.remaining new.input.now) new.empty new.most_empty) };
+
+    fn receive(&mut self, buffer: &mut [u8]) -> Result<Option<usize>, ReceiveFailed> {
+        let count = self.read(buffer)?;
+        if count > 0 {
+            self.empty = 0;
+            return Ok(Some(count));
+        }
+        if self.empty >= self.most_empty {
+            return Ok(None);
+        }
+        self.empty += 1;
+        Ok(Some(count))
+    }
+}
