@@ -19,7 +19,7 @@ _flowvault() {
         check) words='--files' paths=-d ;;
         totals) words='--since --until --csv --json --utc --workers' paths=-d ;;
         flows) words='--since --until --csv --json --utc' paths=-d ;;
-        feed) words='--keep --from --warn' paths=-f ;;
+        feed) words='--keep --from --warn --datagrams' paths=-f ;;
         shell) words='--keep' paths=-d ;;
         roll | merge) paths=-d ;;
         explain) ;;

@@ -4,14 +4,23 @@ of a stream, in TCP, which ends well, within a message, by a reset, or comes by 
 of datagrams takes one of them, and what it has no room for is lost: so each read must have room for the longest
 message.
 
+By `--datagrams` other datagrams come between the messages, empty ones too: what one octet is, NetFlow, SNMP, a Length
+that is none, a datagram that is longer than any message. They are passed over, and counted by their refusals. A pipe
+of packets (O_DIRECT) ends where its writer closes it. A socket of datagrams has no end: one that gave nothing for
+a while (SO_RCVTIMEO) ends by 31 here, and one that systemd holds, where systemd-socket-activate is, by a signal.
+
 The messages are made here. What `feed` answers, what `check` says of the archive then, and its totals are compared with
 what was sent, to the line. Nothing is lost on the way: more is sent only once what was sent is read. It prints each
 difference, and ends with 'N cases of sockets: M differ'; its status is 0 where M is 0, else 1."""
 import array
+import collections
 import concurrent.futures
 import contextlib
 import fcntl
+import functools
 import os
+import shutil
+import signal
 import socket
 import struct
 import subprocess
@@ -32,6 +41,19 @@ TEMPLATE = struct.pack(">12H", 2, 24, 256, 4, 150, 4, 4, 1, 1, 8, 2, 8)
 FLOW = struct.Struct(">IBQQ")
 PROTOCOL = 6
 HEADS = 16 + len(TEMPLATE) + 4
+
+# Datagrams that are no messages, each with the refusal that it is counted by.
+SHORT_OF_16 = b"\x00"
+NETFLOW_5 = struct.pack(">HHIIIIBBH", 5, 1, 1, TIME, 0, 1, 0, 0, 0) + bytes(48)
+NETFLOW_9 = struct.pack(">HHIIIIHH", 9, 1, 1, TIME, 1, 7, 0, 12) + struct.pack(">HHHH", 256, 1, 1, 4)
+SNMP = bytes.fromhex("302602010104067075626c6963a019020411223344020100020100300b300906052b060102010500")
+LENGTH_65535 = struct.pack(">HHIII", 10, 65535, TIME, 0, 7) + bytes(20)
+SET_TOO_LONG = struct.pack(">HHIIIHH", 10, 20, TIME, 0, 7, 2, 400)
+BAD = (SHORT_OF_16, NETFLOW_5, NETFLOW_9, SNMP, LENGTH_65535, SET_TOO_LONG)
+BAD_COUNTS = {"1 Short": 1, "2 Version": 3, "3 Length": 1, "4 SetLength": 1}
+
+# Longer than any message: a packet of a Unix socket, whose first 65,535 octets are one.
+TOO_LONG = struct.pack(">HHIIIHH", 10, 65535, TIME, 0, 7, 4, 65519) + bytes(65515) + bytes(10)
 
 # How the answer ends where a File ended well, within a message, or could no longer be read, and the status.
 WELL, CUT, UNREAD = ("", 0), (" 15 Cut", 1), (" 31 Read", 3)
@@ -89,6 +111,32 @@ def by_datagrams(feed, ours, theirs, messages):
         all_read(feed, ours, theirs)
 
 
+def by_other_datagrams(feed, ours, theirs, messages):
+    """An empty one before, and the others between them, twice; nothing more ends it."""
+    for at, message in enumerate(messages):
+        for other in [b"", *BAD] if at in (0, len(messages) // 2) else []:
+            ours.send(other)
+        ours.send(message)
+        all_read(feed, ours, theirs)
+
+
+def by_pipe(feed, ours, theirs, messages):
+    """Each write is a packet, which one read takes."""
+    theirs.close()
+    for at, message in enumerate(messages):
+        for other in BAD if at in (0, len(messages) // 2) else []:
+            ours.write(other)
+        ours.write(message)
+    ours.close()
+
+
+def with_long_ones(feed, ours, theirs, messages):
+    for message in messages:
+        ours.send(TOO_LONG)
+        ours.send(message)
+        all_read(feed, ours, theirs)
+
+
 def by_packets(feed, ours, theirs, messages):
     theirs.close()
     for message in messages:
@@ -129,8 +177,29 @@ def udp():
     return ours, theirs
 
 
+def impatient(ends):
+    """A read of it fails where nothing came for 3 seconds."""
+    def made():
+        ours, theirs = ends()
+        theirs.setsockopt(socket.SOL_SOCKET, socket.SO_RCVTIMEO, struct.pack("ll", 3, 0))
+        return ours, theirs
+    return made
+
+
 def packets():
     return socket.socketpair(socket.AF_UNIX, socket.SOCK_SEQPACKET)
+
+
+def letters():
+    """What socat's EXEC with socktype=2 gives its program."""
+    ours, theirs = socket.socketpair(socket.AF_UNIX, socket.SOCK_DGRAM)
+    ours.setsockopt(socket.SOL_SOCKET, socket.SO_SNDBUF, 1 << 18)
+    return ours, theirs
+
+
+def pipe_of_packets():
+    theirs, ours = os.pipe2(os.O_DIRECT)
+    return os.fdopen(ours, "wb", buffering=0), os.fdopen(theirs, "rb", buffering=0)
 
 
 def tcp():
@@ -147,16 +216,41 @@ BILL = Sent([60] * 400, 1500)
 FEW = of_octets(100, 1370)
 THREE = of_octets(3, 1370)
 
-# Each case: its name, the two ends, how it is sent, what is taken in, what is sent after it, and how the answer ends.
+MANY = of_octets(10_000, 150)
+TEN = of_octets(10, 1370)
+BY_DATAGRAMS = ("--datagrams",)
+
+
+def refused(*counts):
+    """What is said of datagrams that weren't accepted: so many times these."""
+    total = {}
+    for times, of_these in counts:
+        for name, count in of_these.items():
+            total[name] = total.get(name, 0) + times * count
+    by = ", ".join("%d by %s" % (count, name) for name, count in sorted(total.items(), key=lambda it: int(it[0][0])))
+    return "flowvault: warning: file 1 (-): datagrams passed over: %s\n" % by
+
+
+# Each case: its name, the two ends, how it is sent, what is taken in, what is sent after it, how the answer ends, the
+# words of the command besides, and what is said on standard error of what wasn't taken in.
+Case = collections.namedtuple("Case", "name ends send sent more ending words said", defaults=((), ""))
 CASES = (
-    ("600 datagrams of UDP, of some 1,370 octets", udp, by_datagrams, SHORT, b"", WELL),
-    ("20 datagrams of UDP, of 60,000 octets", udp, by_datagrams, LONG, b"", WELL),
-    ("the sums of 400 datagrams of UDP, of 60 flows of 1,500 octets", udp, by_datagrams, BILL, b"", WELL),
-    ("600 packets of SEQPACKET, of some 1,370 octets", packets, by_packets, SHORT, b"", WELL),
-    ("TCP, closed", tcp, by_stream, SHORT, b"", WELL),
-    ("TCP, closed within a message", tcp, by_stream, FEW, FEW.messages[0][:700], CUT),
-    ("TCP, reset by the peer after a pause", tcp, by_reset, FEW, b"", UNREAD),
-    ("TCP, by pieces of 7 octets", tcp, by_sevens, THREE, b"", WELL),
+    Case("600 datagrams of UDP, of some 1,370 octets", udp, by_datagrams, SHORT, b"", WELL),
+    Case("20 datagrams of UDP, of 60,000 octets", udp, by_datagrams, LONG, b"", WELL),
+    Case("the sums of 400 datagrams of UDP, of 60 flows of 1,500 octets", udp, by_datagrams, BILL, b"", WELL),
+    Case("600 packets of SEQPACKET, of some 1,370 octets", packets, by_packets, SHORT, b"", WELL),
+    Case("TCP, closed", tcp, by_stream, SHORT, b"", WELL),
+    Case("TCP, closed within a message", tcp, by_stream, FEW, FEW.messages[0][:700], CUT),
+    Case("TCP, reset by the peer after a pause", tcp, by_reset, FEW, b"", UNREAD),
+    Case("TCP, by pieces of 7 octets", tcp, by_sevens, THREE, b"", WELL),
+    Case("10,000 datagrams of UDP, others between them", impatient(udp), by_other_datagrams, MANY, b"", UNREAD,
+         BY_DATAGRAMS, refused((2, {"1 Short": 1}), (2, BAD_COUNTS))),
+    Case("100 datagrams of a Unix socket, others between them", impatient(letters), by_other_datagrams, FEW, b"",
+         UNREAD, BY_DATAGRAMS, refused((2, {"1 Short": 1}), (2, BAD_COUNTS))),
+    Case("100 packets of a pipe, others between them", pipe_of_packets, by_pipe, FEW, b"", WELL, BY_DATAGRAMS,
+         refused((2, BAD_COUNTS))),
+    Case("10 datagrams of a Unix socket, longer ones between them", impatient(letters), with_long_ones, TEN, b"",
+         UNREAD, BY_DATAGRAMS, refused((10, {"3 Length": 1}))),
 )
 
 
@@ -168,14 +262,14 @@ def ran(words):
 
 def played(case, program, folder):
     """Yields what differs in a case, as (what, wanted, came)."""
-    name, ends, send, sent, more, (ending, status) = case
+    ending, status = case.ending
     yield "create", (0, "", ""), ran([program, "create", folder, str(WIDTH), "--limit", "16777216"])
-    ours, theirs = ends()
+    ours, theirs = case.ends()
     with contextlib.closing(ours), contextlib.closing(theirs):
-        words = [program, "feed", folder, "-", "--warn"]
+        words = [program, "feed", folder, "-", "--warn", *case.words]
         feed = subprocess.Popen(words, stdin=theirs, stdout=subprocess.PIPE, stderr=subprocess.PIPE, text=True)
         try:
-            send(feed, ours, theirs, [*sent.messages, *([more] if more else [])])
+            case.send(feed, ours, theirs, [*case.sent.messages, *([case.more] if case.more else [])])
         except (Gone, OSError):
             pass
     try:
@@ -183,32 +277,80 @@ def played(case, program, folder):
     except subprocess.TimeoutExpired:
         feed.kill()
         out, err = feed.communicate()
-    count = len(sent.messages)
+    count = len(case.sent.messages)
     yield "feed", (status, "%s 1 %d%s\n" % ("stopped" if status else "fed", count, ending)), (feed.returncode, out)
-    if not status:
-        yield "feed's warnings", "", err
-    yield "check", (0, "ok %d 0 0 0\n" % count, ""), ran([program, "check", folder])
+    said = case.said
+    if status:
+        said += "flowvault: warning: file 1 (-): stopped after %d messages:%s\n" % (count, ending)
+    if case.said or not status:
+        yield "feed's warnings", said, err
+    yield from held(case.sent, program, folder)
+
+
+def held(sent, program, folder):
+    """Yields what differs in an archive from what was sent."""
+    yield "check", (0, "ok %d 0 0 0\n" % len(sent.messages), ""), ran([program, "check", folder])
     yield "totals", (0, sent.totals(), ""), ran([program, "totals", folder, "0", "4294967296"])
 
 
-def differs(case, program):
+def queued(port):
+    """How many octets wait in the UDP socket of a port of this machine."""
+    with open("/proc/net/udp") as sockets:
+        for line in list(sockets)[1:]:
+            words = line.split()
+            if int(words[1].split(":")[1], 16) == port:
+                return int(words[4].split(":")[1], 16)
+    raise Gone
+
+
+def played_by_systemd(sent, program, folder):
+    """The same of a socket that systemd holds, to which the first datagram starts the program; a signal ends it."""
+    yield "create", (0, "", ""), ran([program, "create", folder, str(WIDTH), "--limit", "16777216"])
+    ours, theirs = udp()
+    port = theirs.getsockname()[1]
+    theirs.close()
+    words = ["systemd-socket-activate", "-d", "-l", "127.0.0.1:%d" % port, "--inetd", program, "feed", folder, "-",
+             *BY_DATAGRAMS]
+    feed = subprocess.Popen(words, stdout=subprocess.DEVNULL, stderr=subprocess.DEVNULL)
+    until = time.monotonic() + SECONDS
+    with contextlib.closing(ours):
+        for datagram in [*BAD, *(it for message in sent.messages for it in (b"", message))]:
+            while time.monotonic() < until:
+                try:
+                    queued(port)
+                    ours.send(datagram)
+                    break
+                except (Gone, OSError):
+                    time.sleep(0.01)
+            while queued(port) and time.monotonic() < until:
+                time.sleep(0.0002)
+    time.sleep(1)
+    feed.send_signal(signal.SIGTERM)
+    feed.wait(SECONDS)
+    yield from held(sent, program, folder)
+
+
+def differs(name, play, program):
     """Plays a case in a folder of its own: each difference, as a line."""
     with tempfile.TemporaryDirectory() as folder:
         try:
-            found = list(played(case, program, folder))
-        except OSError as error:
-            return ["%s: not played: %s" % (case[0], error)]
-        return ["%s: %s: wanted %s, came %s" % (case[0], *it) for it in found if it[1] != it[2]]
+            found = list(play(program, folder))
+        except (OSError, Gone) as error:
+            return ["%s: not played: %s" % (name, error)]
+        return ["%s: %s: wanted %s, came %s" % (name, *it) for it in found if it[1] != it[2]]
 
 
 def main(program):
-    with concurrent.futures.ThreadPoolExecutor(len(CASES)) as side_by_side:
-        found = list(side_by_side.map(differs, CASES, [os.path.abspath(program)] * len(CASES)))
+    plays = [(case.name, functools.partial(played, case)) for case in CASES]
+    if shutil.which("systemd-socket-activate"):
+        plays.append(("100 datagrams of UDP, held by systemd", functools.partial(played_by_systemd, FEW)))
+    with concurrent.futures.ThreadPoolExecutor(len(plays)) as side_by_side:
+        found = list(side_by_side.map(differs, *zip(*plays), [os.path.abspath(program)] * len(plays)))
     for lines in found:
         for line in lines:
             print(line)
     differ = sum(bool(lines) for lines in found)
-    print("%d cases of sockets: %d differ" % (len(CASES), differ))
+    print("%d cases of sockets: %d differ" % (len(plays), differ))
     return int(differ > 0)
 
 

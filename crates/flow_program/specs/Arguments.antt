@@ -174,11 +174,13 @@ feeding_in rows =
       keep = keep;
       passed = passed;
       warn = is_set (codes "warn") rows;
+      datagrams = is_set (codes "datagrams") rows;
     }) (passed_in rows)) (kept_or 8 rows)
 
--- Messages of one File alone are passed: `--from`, whatever its number, goes with no other File.
+-- Messages of one File alone are passed: `--from`, whatever its number, goes with no other File, and with no datagrams.
 abbrev pub fed_alone : Bool → Text → FeedPlan → List Text → Option Request
-fed_alone passes folder plan files = if passes && nat_lt 1 (length files) then None else Some (Feed folder plan files)
+fed_alone passes folder plan files =
+    if passes && (plan.datagrams || nat_lt 1 (length files)) then None else Some (Feed folder plan files)
 
 -- at most 8 Files
 abbrev pub few_of : List Text → Option (List Text)

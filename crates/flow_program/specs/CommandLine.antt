@@ -106,10 +106,14 @@ kept_shape = record (new_shape (codes "feed")) {
   rules = folder_rule ∷ several (codes "FILE") ∷ option (codes "KEEP") (codes "keep") ∷ [];
 }
 
-abbrev pub feed_shape : Shape
-feed_shape = record kept_shape {
+-- but for its very last one
+abbrev pub passing_shape : Shape
+passing_shape = record kept_shape {
   rules = kept_shape.rules ++ option (codes "COUNT") (codes "from") ∷ flag (codes "warn") ∷ [];
 }
+
+abbrev pub feed_shape : Shape
+feed_shape = record passing_shape { rules = passing_shape.rules ++ flag (codes "datagrams") ∷ [] }
 
 abbrev pub shell_shape : Shape
 shell_shape = record (new_shape (codes "shell")) {

@@ -398,7 +398,13 @@ pub(crate) fn feeding_in(arguments: &ArgMatches<'_>) -> Option<FeedPlan>
     let keep = kept_or(arguments, USUAL_KEEP)?;
     let passed = passed_in(arguments)?;
     let warn = is_set(arguments, "warn");
-    Some(FeedPlan { keep, passed, warn })
+    let datagrams = is_set(arguments, "datagrams");
+    Some(FeedPlan {
+        keep,
+        passed,
+        warn,
+        datagrams,
+    })
 }
 
 /// The Files among a command's arguments, where one is given.

@@ -5,7 +5,7 @@ ghost use Rattle.clap.specs.Walk.{rule_of};
 ghost use Rattle.clap.specs.Simple.{app_of, shape_of};
 ghost use Rattle.clap.specs.declared.builder.command.Command.TheViews.{out-Command as fields_of};
 ghost use Rattle.flow_program.specs.CommandLine.{any_number, check_shape, create_shape, dump_shape, explain_shape};
-ghost use Rattle.flow_program.specs.CommandLine.{feed_shape, flag};
+ghost use Rattle.flow_program.specs.CommandLine.{feed_shape, flag, passing_shape};
 ghost use Rattle.flow_program.specs.CommandLine.{flowvault, folder_rule, keep_shape, measure_shape, needed, option};
 ghost use Rattle.flow_program.specs.CommandLine.{moments_shape, optional, program, several, sized_shape, span_shape};
 ghost use Rattle.flow_program.specs.CommandLine.{totals_shape, width_rule};
@@ -149,6 +149,9 @@ const FEED_HELP: &str =
      which a File stopped, which records it lacks: those without a template in force,\n\
      and those that Sequence Numbers leave out, and how many messages are in sums\n\
      alone in the end; --warn shows these anywhere, but for how much is read.\n\
+     With --datagrams each read gives one message, as of a socket of datagrams. One\n\
+     that isn't accepted, or is empty, is passed over; --warn says how many were, by\n\
+     their refusals.\n\
      The exit status is that of the first File that stopped. An archive that can't be\n\
      opened is reported on standard error before a File is read.\n\
      \n\
@@ -161,7 +164,8 @@ const SHELL_ABOUT: &str =
 /// What help has below the arguments of `shell`.
 const SHELL_HELP: &str =
     "Standard input has the requests, a line each. They are answered in their order:\n\
-     \x20 feed FILE       began N: this File, the Nth, is taken in; 8 at once\n\
+     \x20 feed FILE       began N: this File, the Nth, is taken in; 8 at once; with\n\
+     \x20                 datagrams after FILE each read of it gives one message\n\
      \x20 totals FROM TO  lines as of totals\n\
      \x20 flows FROM TO   lines as of flows\n\
      \x20 message N       the octets of the Nth message in hexadecimal digits, or none\n\
@@ -220,6 +224,9 @@ const MEASURE_WARN: &str = "Says on standard error which records the File lacks"
 
 /// What `--warn` asks for.
 const WARN: &str = "Says on standard error where FILEs stop and what they lack";
+
+/// What `--datagrams` asks for.
+const DATAGRAMS: &str = "Each read gives one message: others are passed over";
 
 /// What `--json` asks for.
 const JSON: &str = "As JSON, an object a line";
@@ -492,9 +499,9 @@ fn kept_command<'a>(alloc: Global) -> Result<Command<'a>, AllocError>
         ))
 }
 
-/// The command `feed`, with its help.
-fn feed_command<'a>(alloc: Global) -> Result<Command<'a>, AllocError>
-    ensures shape { IfOk result (λ command. shape_of command ≡ feed_shape) }
+/// The command `feed` but for its very last argument.
+fn passing_command<'a>(alloc: Global) -> Result<Command<'a>, AllocError>
+    ensures shape { IfOk result (λ command. shape_of command ≡ passing_shape) }
     ensures own { IfOk result (λ command. (fields_of command).has_globals ≡ false) }
 {
     kept_command(alloc)?
@@ -505,6 +512,14 @@ fn feed_command<'a>(alloc: Global) -> Result<Command<'a>, AllocError>
             "First messages of the one FILE that are passed over [0]",
         ))?
         .arg(flag(alloc, "warn", WARN))
+}
+
+/// The command `feed`, with its help.
+fn feed_command<'a>(alloc: Global) -> Result<Command<'a>, AllocError>
+    ensures shape { IfOk result (λ command. shape_of command ≡ feed_shape) }
+    ensures own { IfOk result (λ command. (fields_of command).has_globals ≡ false) }
+{
+    passing_command(alloc)?.arg(flag(alloc, "datagrams", DATAGRAMS))
 }
 
 /// The command `shell`, with its help.

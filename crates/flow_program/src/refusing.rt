@@ -45,8 +45,8 @@ const WRONG_KEEP: &str =
 
 /// The line for too many Files, or of a number of segments that can't be left.
 const WRONG_FILES: &str =
-    "flowvault: FILE is given 1 to 8 times, but once with --from, 0 to 281474976710655; --keep is how many of the \
-     newest segments are left, 0 to 4294967295\n";
+    "flowvault: FILE is given 1 to 8 times, but once with --from, 0 to 281474976710655, and without --datagrams; \
+     --keep is how many of the newest segments are left, 0 to 4294967295\n";
 
 /// The line for a number that no refusal has.
 const WRONG_NUMBER: &str =

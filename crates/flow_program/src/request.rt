@@ -120,7 +120,7 @@ pub enum LineError {
     /// How many files are left isn't digits alone, or is past 2^32 - 1.
     Keep,
     /// There are more than 8 Files, or how many segments are left isn't digits alone, or is past 2^32 - 1; or how many
-    /// messages are passed isn't digits alone, or is past 2^48 - 1, or is said of several Files.
+    /// messages are passed isn't digits alone, or is past 2^48 - 1, or is said of several Files or of datagrams.
     Files,
     /// No refusal has the number.
     Number,
@@ -222,7 +222,7 @@ fn without_files<'a>(name: &str, arguments: &ArgMatches<'a>) -> Option<Request<'
     }
 }
 
-/// What `feed` asks for: messages are passed of one File alone, so `--from` goes with no other.
+/// What `feed` asks for: messages are passed of one File alone, so `--from` goes with no other, and with no datagrams.
 fn fed_alone<'a>(
     passes: bool,
     folder: FolderName<'a>,
@@ -231,7 +231,7 @@ fn fed_alone<'a>(
 ) -> Option<Request<'a>>
     ensures { result ≡ fed_alone passes folder.entry plan files.entry }
 {
-    if passes && files.paths.len() > 1 {
+    if passes && (plan.datagrams || files.paths.len() > 1) {
         return None;
     }
     Some(Request::Feed {
