@@ -1,5 +1,5 @@
 -- What came of the Files of a feed, each at its place.
-use Rattle.std.proofs.Common.{inl, inr, ◌≡◌, ◌≢◌, ◌<◌, ◌≤◌, ◌+◌, ℕ, zero, suc, List, [], ◌∷◌, ◌++◌, Option, Some, None}
+use Rattle.std.proofs.Common.{inl, inr, ◌≡◌, ◌≢◌, ◌<◌, ◌≤◌, ◌+◌, ℕ, zero, suc, Bool, List, [], ◌∷◌, ◌++◌, Option, Some, None}
 use Rattle.std.proofs.Common.{length, map, take, drop, set, get_or, append-nil, refl, ap, sym, subst, ◌∙◌, arith, codes}
 use Rattle.std.specs.Prelude.{is_some, option_map, replicate, IfSome, IsTrue}
 use Rattle.std.specs.List.{slice_get}
@@ -10,7 +10,10 @@ use Rattle.std.proofs.lemmas.Option.{get_or_from_slice_get, slice_get-map, slice
 use Rattle.flow_disk.specs.declared.disk.Disk.{Ghosts}
 use Rattle.flow_model.specs.Shelf.{Shelf}
 use Rattle.flow_feed.specs.declared.batch.Fed.{Fed}
-use Rattle.flow_commands.specs.Feeding.{unfed, AreFed, AreFilesFed, IsFedAt, IsInputAt, IsStreamed}
+use Rattle.flow_commands.specs.declared.plan.FeedPlan.{FeedPlan}
+use Rattle.flow_commands.specs.declared.plan.InputKind.{InputKind}
+use Rattle.flow_commands.specs.Feeding.{unfed, AreFed, AreFilesFed, IsFedAt, IsFedFrom, IsInputAt, IsInputFed}
+use Rattle.flow_commands.specs.Plans.{input_kind_in, kind_in}
 
 -- what a list of equal elements has
 at_replicate : {A : Type 0} (n k : ℕ) (x : A) → get_or (replicate n x) k x ≡ x
@@ -81,28 +84,28 @@ pub moved : {A : Type 0} (P : A → A → Type 0) (a b x y : A) → a ≡ x → 
 moved P a b x y first second is = subst (λ z. P x z) second (subst (λ z. P z b) first is)
 
 -- what each call left at its place, of Files of which nothing was taken in before
-pub each_fed : {D S X F P : Type 0} (g : Ghosts D S X) (octets : F → Option (List ℕ)) (opening : Shelf) (passed : ℕ)
-    (text : P → List ℕ) (paths : List P) (old new : List Fed) → old ≡ replicate (length paths) unfed
+pub each_fed : {D S X F P : Type 0} (g : Ghosts D S X) (octets : F → Option (List ℕ)) (opening : Shelf)
+    (kind : InputKind) (text : P → List ℕ) (paths : List P) (old new : List Fed) → old ≡ replicate (length paths) unfed
     → length new ≡ length old
     → ((k : ℕ) (path : P) → slice_get paths k ≡ Some path
-    → IsFedAt g octets opening passed (text path) (get_or old k unfed) (get_or new k unfed))
-    → AreFilesFed g octets opening passed (map text paths) new
-each_fed g octets opening passed text paths old new was size each = record {
+    → IsFedAt g octets opening kind (text path) (get_or old k unfed) (get_or new k unfed))
+    → AreFilesFed g octets opening kind (map text paths) new
+each_fed g octets opening kind text paths old new was size each = record {
   count = size ∙ ap length was ∙ length-replicate (length paths) unfed ∙ sym (length-map paths text);
   each = λ k path fed at there. by k path fed there (slice_get paths k) refl (sym (slice_get-map text paths k) ∙ at);
 }
   where
     by : (k : ℕ) (path : List ℕ) (fed : Fed) → slice_get new k ≡ Some fed → (o : Option _) → slice_get paths k ≡ o
-        → option_map text o ≡ Some path → IsFedAt g octets opening passed path unfed fed
+        → option_map text o ≡ Some path → IsFedAt g octets opening kind path unfed fed
     by k path fed there None is at = absurd cc
     by k path fed there (Some p) is at =
         let same : text p ≡ path = cc at in
         let before : get_or old k unfed ≡ unfed =
         ap (λ (l : List Fed). get_or l k unfed) was ∙ at_replicate (length paths) k unfed in
         let after : get_or new k unfed ≡ fed = get_or_from_slice_get new k fed unfed there in
-        subst (λ (q : List ℕ). IsFedAt g octets opening passed q unfed fed) same
-        (subst (λ (f : Fed). IsFedAt g octets opening passed (text p) unfed f) after
-        (subst (λ (b : Fed). IsFedAt g octets opening passed (text p) b (get_or new k unfed)) before (each k p is)))
+        subst (λ (q : List ℕ). IsFedAt g octets opening kind q unfed fed) same
+        (subst (λ (f : Fed). IsFedAt g octets opening kind (text p) unfed f) after
+        (subst (λ (b : Fed). IsFedAt g octets opening kind (text p) b (get_or new k unfed)) before (each k p is)))
 
 -- standard input is one File at most
 one_input : (paths : List (List ℕ)) (j k : ℕ) → IsInputAt paths j → IsInputAt paths k → j ≡ k
@@ -115,11 +118,11 @@ one_input paths j k a b = elim (cases_lt j k) [
 ]
 
 -- standard input was read, and is the File at this place
-pub with_input : {D S X F : Type 0} (g : Ghosts D S X) (octets : F → Option (List ℕ)) (opening : Shelf) (passed : ℕ)
-    (known : Option (List ℕ)) (paths : List (List ℕ)) (place : ℕ) (feds : List Fed) (own : Fed)
-    → AreFilesFed g octets opening passed paths feds → IsInputAt paths place → IsStreamed g opening passed known own
-    → AreFed g octets opening passed (Some known) paths (set feds place own)
-with_input g octets opening passed known paths place feds own all here streamed =
+pub with_input : {D S X F : Type 0} (g : Ghosts D S X) (octets : F → Option (List ℕ)) (opening : Shelf)
+    (plan : FeedPlan) (known : Option (List ℕ)) (paths : List (List ℕ)) (place : ℕ) (feds : List Fed) (own : Fed)
+    → AreFilesFed g octets opening (kind_in plan) paths feds → IsInputAt paths place
+    → IsInputFed g opening plan known own → AreFed g octets opening plan (Some known) paths (set feds place own)
+with_input g octets opening plan known paths place feds own all here streamed =
     let within : place < length feds =
     let lt = slice_get_within paths place (codes "-") here.here in omega (arith, lt, all.count) in
     record {
@@ -133,7 +136,7 @@ with_input g octets opening passed known paths place feds own all here streamed 
           let at : slice_get (set feds place own) k ≡ Some own =
           ap (slice_get (set feds place own)) e ∙ get-set_same feds place own within in
           let same : own ≡ fed = cc (at, there) in
-          subst (λ (f : Fed). IsStreamed g opening passed known f) same streamed;
+          subst (λ (f : Fed). IsInputFed g opening plan known f) same streamed;
       others = λ k fed at there apart. elim (cases_eq k place) [
         | inl e ↦ absurd (apart refl (subst (IsInputAt paths) (sym e) here))
         | inr ne ↦ (all.each k (codes "-") fed at (sym (get-set_other feds place k own ne) ∙ there)).input refl
@@ -142,11 +145,11 @@ with_input g octets opening passed known paths place feds own all here streamed 
 
 -- standard input isn't given, or is none of the Files
 pub without_input : {D S X F : Type 0} (g : Ghosts D S X) (octets : F → Option (List ℕ))
-    (opening : Shelf) (passed : ℕ) (given : Option (Option (List ℕ))) (paths : List (List ℕ)) (feds : List Fed)
-    → AreFilesFed g octets opening passed paths feds
+    (opening : Shelf) (plan : FeedPlan) (given : Option (Option (List ℕ))) (paths : List (List ℕ)) (feds : List Fed)
+    → AreFilesFed g octets opening (kind_in plan) paths feds
     → (IsTrue (is_some given) → (k : ℕ) → slice_get paths k ≢ Some (codes "-"))
-    → AreFed g octets opening passed given paths feds
-without_input g octets opening passed given paths feds all none = record {
+    → AreFed g octets opening plan given paths feds
+without_input g octets opening plan given paths feds all none = record {
   count = all.count;
   files = λ k path fed at there not. (all.each k path fed at there).file not;
   input_fed = by given none;
@@ -155,12 +158,19 @@ without_input g octets opening passed given paths feds all none = record {
   where
     by : (o : Option (Option (List ℕ))) → (IsTrue (is_some o) → (k : ℕ) → slice_get paths k ≢ Some (codes "-"))
         → IfSome o (λ known. (k : ℕ) (fed : Fed) → IsInputAt paths k → slice_get feds k ≡ Some fed
-        → IsStreamed g opening passed known fed)
+        → IsInputFed g opening plan known fed)
     by None apart = tt
     by (Some known) apart = λ k fed is there. absurd (apart refl k is.here)
 
 pub without_given : {D S X F : Type 0} (g : Ghosts D S X) (octets : F → Option (List ℕ)) (opening : Shelf)
-    (passed : ℕ) (paths : List (List ℕ)) (feds : List Fed) → AreFilesFed g octets opening passed paths feds
-    → AreFed g octets opening passed None paths feds
-without_given g octets opening passed paths feds all =
-    without_input g octets opening passed None paths feds all (λ given. absurd cc)
+    (plan : FeedPlan) (paths : List (List ℕ)) (feds : List Fed) → AreFilesFed g octets opening (kind_in plan) paths feds
+    → AreFed g octets opening plan None paths feds
+without_given g octets opening plan paths feds all =
+    without_input g octets opening plan None paths feds all (λ given. absurd cc)
+
+-- standard input was read by its kind
+pub by_kind : {D S X : Type 0} (g : Ghosts D S X) (opening : Shelf) (plan : FeedPlan) (known : Option (List ℕ))
+    (kind : InputKind) (own : Fed) → (is_socket : Bool) × (kind ≡ input_kind_in is_socket plan)
+    → IsFedFrom g opening kind known own → IsInputFed g opening plan known own
+by_kind g opening plan known kind own (is_socket, is) fed =
+    (is_socket, subst (λ (k : InputKind). IsFedFrom g opening k known own) is fed)

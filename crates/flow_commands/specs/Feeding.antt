@@ -1,5 +1,6 @@
 -- What `feed` does to an archive, what it writes, and its status.
-use Rattle.std.specs.Prelude.{◌≡◌, ◌≢◌, ◌<◌, ◌⊎◌, ⊤, ℕ, suc, true, is_some, IsTrue, List, [], ◌∷◌, ◌++◌, length}
+use Rattle.std.specs.Prelude.{◌≡◌, ◌≢◌, ◌<◌, ◌⊎◌, ⊤, ℕ, suc, Bool, false, true, is_some, IsTrue, List, [], ◌∷◌, ◌++◌}
+use Rattle.std.specs.Prelude.{length}
 use Rattle.std.specs.Prelude.{Option, Some, None, Result, Ok, Err, codes, option_map, slice_get, IfSome, IsErr}
 use denote.Ref.{MutBor}
 use Rattle.std.specs.Fmt.{decimal}
@@ -14,9 +15,12 @@ use Rattle.flow_model.specs.Shelf.{Shelf}
 use Rattle.flow_model.specs.Shelved.{shelf_of}
 use Rattle.flow_model.specs.Standing.{StandsFor}
 use Rattle.flow_model.specs.State.{State}
+use Rattle.flow_feed.specs.Datagrams.{AreInSteps, AreNone, AreReadFrom}
 use Rattle.flow_feed.specs.Feed.{IsFed}
 use Rattle.flow_feed.specs.Shared.{IsGivenShared, IsInSteps, Known}
 use Rattle.flow_feed.specs.declared.batch.Fed.{Fed}
+use Rattle.flow_feed.specs.declared.collecting.Collected.{Collected}
+use Rattle.flow_feed.specs.declared.refused.RefusedDatagrams.{RefusedDatagrams}
 use Rattle.flow_feed.specs.Stopped.{stop_code}
 use Rattle.flow_feed.specs.declared.batch.FeedStop.{FeedStop}
 use Rattle.flow_roller.specs.Rolling.{RollsBeside, Round}
@@ -27,6 +31,9 @@ use Rattle.flow_commands.specs.declared.archive_refusal.ArchiveRefusal.TheVarian
 use Rattle.flow_commands.specs.declared.archive_refusal.ArchiveRefusal.TheVariants.{Query}
 use Rattle.flow_commands.specs.declared.archive_refusal.ArchiveRefusal.TheVariants.{OutOfMemory, Write}
 use Rattle.flow_commands.specs.declared.plan.FeedPlan.{FeedPlan}
+use Rattle.flow_commands.specs.declared.plan.InputKind.{InputKind}
+use Rattle.flow_commands.specs.declared.plan.InputKind.TheVariants.{File, Datagrams, Socket}
+use Rattle.flow_commands.specs.Plans.{input_kind_in, kind_in}
 use Rattle.flow_commands.specs.Archives.{of_archive}
 use Rattle.flow_commands.specs.Asking.{IsUnopened as IsNotOpened}
 
@@ -70,21 +77,48 @@ feed_ended None None = Ok 0
 
 -- ---- what the threads did
 
--- The messages of the File of these octets were taken in after its first ones, by a thread that knows the steps of its
--- batches from the beginning on; where it knows them to the end, the steps that it learnt add these messages.
-pub record IsStreamed {D S X : Type 0} (g : Ghosts D S X) (opening : Shelf) (passed : ℕ) (octets : Option (List ℕ))
-    (fed : Fed) : Type 0 where
+-- What was taken in of an input by datagrams: each is one message. Where the thread knows the steps of its appends to the
+-- end, those that it learnt add the messages that were taken in.
+abbrev pub AreTaken : {D S X : Type 0} → Ghosts D S X → Shelf → Bool → Known → Known → Option (List ℕ) → Collected
+    → Type 0
+AreTaken g opening is_socket old new octets collected =
+    AreReadFrom (IsGivenShared g opening) is_socket old new octets collected
+    × (new.whole ≡ true → AreInSteps g opening is_socket old new octets collected)
+
+-- What was taken in of an input of these octets, by its kind: the messages of a File after its first ones, and no
+-- datagram was refused; or those of the datagrams that are accepted. Where the thread knows the steps of its batches to
+-- the end, those that it learnt add these messages.
+abbrev pub IsInputTaken : {D S X : Type 0} → Ghosts D S X → Shelf → InputKind → Known → Known → Option (List ℕ)
+    → Collected → Type 0
+IsInputTaken g opening (File passed) old new octets collected =
+    IsFed (IsGivenShared g opening) passed old new octets collected.fed × AreNone collected.refused.counts
+    × (new.whole ≡ true → IsInSteps passed old.steps new.steps octets collected.fed)
+IsInputTaken g opening Datagrams old new octets collected = AreTaken g opening false old new octets collected
+IsInputTaken g opening Socket old new octets collected = AreTaken g opening true old new octets collected
+
+-- The input was taken in by a thread that knows the steps of its batches from the beginning on.
+pub record IsStreamed {D S X : Type 0} (g : Ghosts D S X) (opening : Shelf) (kind : InputKind)
+    (octets : Option (List ℕ)) (collected : Collected) : Type 0 where
   pub old : Known
   pub new : Known
   pub whole : old.whole ≡ true
-  pub taken : IsFed (IsGivenShared g opening) passed old new octets fed
-  pub steps : new.whole ≡ true → IsInSteps passed old.steps new.steps octets fed
+  pub taken : IsInputTaken g opening kind old new octets collected
+
+-- and so much of it is reported in its line: all but how many datagrams were refused
+abbrev pub IsFedFrom : {D S X : Type 0} → Ghosts D S X → Shelf → InputKind → Option (List ℕ) → Fed → Type 0
+IsFedFrom g opening kind octets fed =
+    (refused : RefusedDatagrams) × IsStreamed g opening kind octets (record { fed = fed; refused = refused })
 
 -- A file was opened, and its messages were taken in; or none could be opened.
-abbrev pub IsPathFed : {D S X F : Type 0} → Ghosts D S X → (F → Option (List ℕ)) → Shelf → ℕ → Fed → Type 0
-IsPathFed {F = F} g octets opening passed fed =
-    ((file : F) × IsStreamed g opening passed (octets file) fed)
+abbrev pub IsPathFed : {D S X F : Type 0} → Ghosts D S X → (F → Option (List ℕ)) → Shelf → InputKind → Fed → Type 0
+IsPathFed {F = F} g octets opening kind fed =
+    ((file : F) × IsFedFrom g opening kind (octets file) fed)
     ⊎ ((why : FeedStop) × (fed ≡ unopened why))
+
+-- Standard input, which is a socket or isn't, was taken in as the plan says.
+abbrev pub IsInputFed : {D S X : Type 0} → Ghosts D S X → Shelf → FeedPlan → Option (List ℕ) → Fed → Type 0
+IsInputFed g opening plan octets fed =
+    (is_socket : Bool) × IsFedFrom g opening (input_kind_in is_socket plan) octets fed
 
 -- by a refusal, if any
 abbrev pub answer_by : Option ArchiveError → Result (Unit {0}) ArchiveError
@@ -116,27 +150,27 @@ pub record IsInputAt (paths : List (List ℕ)) (k : ℕ) : Type 0 where
 
 -- What came of the File at this path, where that was there before: of one at the path `-` that, and of others what
 -- feeding it gives.
-pub record IsFedAt {D S X F : Type 0} (g : Ghosts D S X) (octets : F → Option (List ℕ)) (opening : Shelf) (passed : ℕ)
-    (path : List ℕ) (old new : Fed) : Type 0 where
+pub record IsFedAt {D S X F : Type 0} (g : Ghosts D S X) (octets : F → Option (List ℕ)) (opening : Shelf)
+    (kind : InputKind) (path : List ℕ) (old new : Fed) : Type 0 where
   pub input : path ≡ codes "-" → new ≡ old
-  pub file : path ≢ codes "-" → IsPathFed g octets opening passed new
+  pub file : path ≢ codes "-" → IsPathFed g octets opening kind new
 
 -- What came of the Files at these paths, of each at its place, before standard input was read.
 pub record AreFilesFed {D S X F : Type 0} (g : Ghosts D S X) (octets : F → Option (List ℕ)) (opening : Shelf)
-    (passed : ℕ) (paths : List (List ℕ)) (feds : List Fed) : Type 0 where
+    (kind : InputKind) (paths : List (List ℕ)) (feds : List Fed) : Type 0 where
   pub count : length feds ≡ length paths
   pub each : (k : ℕ) (path : List ℕ) (fed : Fed) → slice_get paths k ≡ Some path → slice_get feds k ≡ Some fed
-      → IsFedAt g octets opening passed path unfed fed
+      → IsFedAt g octets opening kind path unfed fed
 
--- What came of the Files at these paths, of each at its place. Where standard input is given, which has these octets,
--- the first one at `-` is that; nothing is taken in of others at `-`.
+-- What came of the Files at these paths, of each at its place, as the plan says. Where standard input is given, which has
+-- these octets, the first one at `-` is that; nothing is taken in of others at `-`.
 pub record AreFed {D S X F : Type 0} (g : Ghosts D S X) (octets : F → Option (List ℕ)) (opening : Shelf)
-    (passed : ℕ) (input : Option (Option (List ℕ))) (paths : List (List ℕ)) (feds : List Fed) : Type 0 where
+    (plan : FeedPlan) (input : Option (Option (List ℕ))) (paths : List (List ℕ)) (feds : List Fed) : Type 0 where
   pub count : length feds ≡ length paths
   pub files : (k : ℕ) (path : List ℕ) (fed : Fed) → slice_get paths k ≡ Some path → slice_get feds k ≡ Some fed
-      → path ≢ codes "-" → IsPathFed g octets opening passed fed
+      → path ≢ codes "-" → IsPathFed g octets opening (kind_in plan) fed
   pub input_fed : IfSome input (λ known. (k : ℕ) (fed : Fed) → IsInputAt paths k → slice_get feds k ≡ Some fed
-      → IsStreamed g opening passed known fed)
+      → IsInputFed g opening plan known fed)
   pub others : (k : ℕ) (fed : Fed) → slice_get paths k ≡ Some (codes "-") → slice_get feds k ≡ Some fed
       → (IsTrue (is_some input) → IsInputAt paths k → ⊥) → fed ≡ unfed
 
@@ -144,7 +178,7 @@ pub record AreFed {D S X F : Type 0} (g : Ghosts D S X) (octets : F → Option (
 pub record IsAskedFeeding {D S X F : Type 0} (g : Ghosts D S X) (octets : F → Option (List ℕ)) (opening : Shelf)
     (plan : FeedPlan) (input : Option (Option (List ℕ))) (paths : List (List ℕ)) (feds : List Fed)
     (refused : Option ArchiveError) : Type 0 where
-  pub fed : AreFed g octets opening plan.passed input paths feds
+  pub fed : AreFed g octets opening plan input paths feds
   pub rounds : List Round
   pub rolled : RollsBeside g opening (λ keep. keep ≡ plan.keep) rounds (answer_by refused)
 

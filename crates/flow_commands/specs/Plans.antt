@@ -1,6 +1,9 @@
--- What some commands are given: the numbers of a new archive, and a span of starts.
-use Rattle.std.specs.Prelude.{◌≡◌, ℕ, ◌≤◌, ◌%◌, ◌&&◌, nat_le, nat_lt, Bool, Option, IfSome}
+-- What some commands are given: the numbers of a new archive, a span of starts, and how Files are read.
+use Rattle.std.specs.Prelude.{◌≡◌, ℕ, ◌≤◌, ◌%◌, ◌&&◌, nat_le, nat_lt, Bool, Option, IfSome, if◌then◌else◌}
 use Rattle.flow_manifest.specs.Limits.{greatest_width, least_limit, greatest_limit}
+use Rattle.flow_commands.specs.declared.plan.FeedPlan.{FeedPlan}
+use Rattle.flow_commands.specs.declared.plan.InputKind.{InputKind}
+use Rattle.flow_commands.specs.declared.plan.InputKind.TheVariants.{File, Datagrams, Socket}
 
 -- A new archive: the width of its intervals in seconds, a wide width where one is asked for, and how many octets of
 -- messages a segment takes.
@@ -30,3 +33,11 @@ pub record Span : Type 0 where
 -- whether a start is one of them
 abbrev pub is_in : Span → ℕ → Bool
 is_in span start = nat_le span.from start && nat_lt start span.to
+
+-- how Files at paths are read
+abbrev pub kind_in : FeedPlan → InputKind
+kind_in plan = if plan.datagrams then Datagrams else File plan.passed
+
+-- how standard input is read, which is a socket or isn't
+abbrev pub input_kind_in : Bool → FeedPlan → InputKind
+input_kind_in is_socket plan = if plan.datagrams && is_socket then Socket else kind_in plan

@@ -2,7 +2,7 @@
 
 ghost use Rattle.std.specs.Prelude.{◌≡◌, ◌≤◌, ◌%◌, IfSome};
 ghost use Rattle.flow_manifest.specs.Limits.{greatest_limit, greatest_width, least_limit};
-ghost use Rattle.flow_commands.specs.Plans.{is_in, IsPlan};
+ghost use Rattle.flow_commands.specs.Plans.{input_kind_in, is_in, kind_in, IsPlan};
 
 use std::marker::Model;
 use std::thread;
@@ -123,6 +123,43 @@ pub struct FeedPlan {
     pub passed: u64,
     /// Whether a warning says where a File stopped, though standard error is no terminal.
     pub warn: bool,
+    /// Whether each read of a File gives one message.
+    pub datagrams: bool,
+}
+
+/// How an input is read.
+#[derive(Clone, Copy, Debug, PartialEq, Eq)]
+pub enum InputKind {
+    /// As one File, of which so many of the first messages are only read.
+    File(u64),
+    /// By datagrams, of which each is one message: those of a file or a pipe.
+    Datagrams,
+    /// The same, of a socket.
+    Socket,
+}
+
+impl FeedPlan {
+    /// How Files at paths are read.
+    pub(crate) fn kind(self) -> InputKind
+        ensures { result ≡ kind_in self }
+    {
+        if self.datagrams {
+            InputKind::Datagrams
+        } else {
+            InputKind::File(self.passed)
+        }
+    }
+
+    /// How standard input is read, which is a socket or isn't.
+    pub(crate) fn input_kind(self, is_socket: bool) -> InputKind
+        ensures { result ≡ input_kind_in is_socket self }
+    {
+        if self.datagrams && is_socket {
+            InputKind::Socket
+        } else {
+            self.kind()
+        }
+    }
 }
 
 /// How many workers scan an archive, from 1 to 64.

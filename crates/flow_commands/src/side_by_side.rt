@@ -1,10 +1,11 @@
 //! Files are taken in side by side, while another thread rolls.
 
-ghost use Rattle.std.specs.Prelude.{◌≡◌, ◌≢◌, ◌<◌, ℕ, Some, length, codes, map, replicate, slice_get, IfNone, IfSome};
-ghost use Rattle.flow_commands.specs.Feeding.{AreFed, AreFilesFed, IsFedAt, IsInputAt, IsRollEnd, IsStreamed};
+ghost use Rattle.std.specs.Prelude.{◌≡◌, ◌≢◌, ◌<◌, ℕ, Bool, Some, length, codes, map, replicate, slice_get, IfNone, IfSome};
+ghost use Rattle.flow_commands.specs.Feeding.{AreFed, AreFilesFed, IsFedAt, IsFedFrom, IsInputAt, IsRollEnd};
 ghost use Rattle.flow_commands.specs.Feeding.{octets_given, unfed};
+ghost use Rattle.flow_commands.specs.Plans.{input_kind_in};
 
-use crate::plan::FeedPlan;
+use crate::plan::{FeedPlan, InputKind};
 use crate::progress::Progress;
 use crate::streaming::{feed_named, feed_path};
 use flow_archive::ArchiveError;
@@ -16,15 +17,19 @@ use std::alloc::{AllocGlobal, Global};
 use std::convert::AsStr;
 use std::fs::Files;
 use std::io::{Read, Write};
+use std::os::unix::fs::FileTypeExt;
 use std::sync::Wait;
-use std::thread;
 use std::thread::Threads;
+use std::{fs, thread};
 
 /// The most Files that are fed at once.
 const MOST_FILES: usize = 8;
 
 /// The path that standard input has among those of Files.
 const STANDARD_INPUT: &str = "-";
+
+/// The path by which the system has standard input among its files.
+const INPUT_FILE: &str = "/dev/stdin";
 
 /// Rolls beside Files that are fed, and answers the first refusal of that, if any, and which reads of sources failed.
 fn roll_files<D: Disk, J: Naming, K: Keeping, H: Wait>(
@@ -59,19 +64,19 @@ fn feed_at<
     paths: &[S],
     i: usize,
     progress: &Progress<P>,
-    passed: u64,
+    kind: InputKind,
     before: Fed,
 ) -> Fed
     requires { i < length paths.now }
     ensures { (path : S) → slice_get paths.now i ≡ Some path
-        → IsFedAt D.Disk H.File.remaining J.opening passed (S.text path) before result }
+        → IsFedAt D.Disk H.File.remaining J.opening kind (S.text path) before result }
 {
     let path = paths[i].as_str();
     if path == STANDARD_INPUT {
         return before;
     }
     let number = (i as u64).saturating_add(1);
-    feed_path(rt, shared, bell, span, number, path, progress, passed)
+    feed_path(rt, shared, bell, span, number, path, progress, kind)
 }
 
 /// Takes the Files at these paths but standard input into an archive that threads share, each by a thread of its own
@@ -90,7 +95,7 @@ fn feed_each<
     span: u32,
     paths: &[S],
     progress: &Progress<P>,
-    passed: u64,
+    kind: InputKind,
     feds: Vec<Fed>,
 ) -> Vec<Fed>
 where
@@ -100,18 +105,33 @@ where
     requires room { length feds.items ≡ length paths.now }
     requires none { feds.items ≡ replicate (length paths.now) unfed }
     ensures count { length result.items ≡ length paths.now }
-    ensures fed { AreFilesFed D.Disk H.File.remaining J.opening passed (map S.text paths.now) result.items }
+    ensures fed { AreFilesFed D.Disk H.File.remaining J.opening kind (map S.text paths.now) result.items }
 {
     let mut feds = feds;
     let one = |i: usize, fed: &mut Fed|
         requires { i < length paths.now }
         ensures { (path : S) → slice_get paths.entry.now i ≡ Some path
-            → IsFedAt D.Disk H.File.remaining J.opening passed (S.text path) fed.old fed.new }
+            → IsFedAt D.Disk H.File.remaining J.opening kind (S.text path) fed.old fed.new }
     {
-        *fed = feed_at(rt, shared, bell, span, paths, i, progress, passed, *fed);
+        *fed = feed_at(rt, shared, bell, span, paths, i, progress, kind, *fed);
     };
     thread::for_each_mut(rt, feds.as_mut_slice(), MOST_FILES, &one);
     feds
+}
+
+/// Whether standard input is a socket. Where that can't be known it may be one.
+fn input_is_socket<H: Files>(rt: &H) -> bool {
+    match fs::metadata(rt, INPUT_FILE) {
+        Ok(metadata) => metadata.file_type().is_socket(),
+        Err(_) => true,
+    }
+}
+
+/// How standard input is read.
+fn input_kind<H: Files>(rt: &H, plan: FeedPlan) -> InputKind
+    ensures { (is_socket : Bool) × (result ≡ input_kind_in is_socket plan) }
+{
+    plan.input_kind(plan.datagrams && input_is_socket(rt))
 }
 
 /// The first of these paths that is standard input.
@@ -147,7 +167,7 @@ fn feed_with_input<
     place: usize,
     input: &mut R,
     progress: &Progress<P>,
-    passed: u64,
+    plan: FeedPlan,
     feds: Vec<Fed>,
 ) -> Vec<Fed>
 where
@@ -159,21 +179,23 @@ where
     requires room { length feds.items ≡ length paths.now }
     requires none { feds.items ≡ replicate (length paths.now) unfed }
     ensures count { length result.items ≡ length paths.now }
-    ensures fed { AreFed D.Disk H.File.remaining J.opening passed (Some (R.remaining input.old))
+    ensures fed { AreFed D.Disk H.File.remaining J.opening plan (Some (R.remaining input.old))
         (map S.text paths.now) result.items }
 {
     let number = (place as u64).saturating_add(1);
+    let files = plan.kind();
+    let kind = input_kind(rt, plan);
     let (feds, own) = thread::join(
         rt,
         move || -> Vec<Fed>
             requires room { length feds.items ≡ length paths.now }
             requires none { feds.items ≡ replicate (length paths.now) unfed }
             ensures count { length result.items ≡ length paths.entry.now }
-            ensures fed { AreFilesFed D.Disk H.File.remaining J.opening passed (map S.text paths.entry.now)
+            ensures fed { AreFilesFed D.Disk H.File.remaining J.opening files (map S.text paths.entry.now)
                 result.items }
-        { feed_each(rt, shared, bell, span, paths, progress, passed, feds) },
+        { feed_each(rt, shared, bell, span, paths, progress, files, feds) },
         move || -> Fed
-            ensures { IsStreamed D.Disk J.opening passed (R.remaining input.entry.now) result }
+            ensures { IsFedFrom D.Disk J.opening kind (R.remaining input.entry.now) result }
         {
             feed_named(
                 rt,
@@ -184,7 +206,7 @@ where
                 STANDARD_INPUT,
                 input,
                 progress,
-                passed,
+                kind,
             )
         },
     );
@@ -211,7 +233,7 @@ fn feed_all<
     paths: &[S],
     input: Option<&mut R>,
     progress: &Progress<P>,
-    passed: u64,
+    plan: FeedPlan,
     feds: Vec<Fed>,
 ) -> Vec<Fed>
 where
@@ -221,15 +243,16 @@ where
     requires room { length feds.items ≡ length paths.now }
     requires none { feds.items ≡ replicate (length paths.now) unfed }
     ensures count { length result.items ≡ length paths.now }
-    ensures fed { AreFed D.Disk H.File.remaining J.opening passed (octets_given R.remaining input.entry)
+    ensures fed { AreFed D.Disk H.File.remaining J.opening plan (octets_given R.remaining input.entry)
         (map S.text paths.now) result.items }
 {
+    let files = plan.kind();
     match input {
-        None => feed_each(rt, shared, bell, span, paths, progress, passed, feds),
+        None => feed_each(rt, shared, bell, span, paths, progress, files, feds),
         Some(input) => match place_of_input(paths) {
-            None => feed_each(rt, shared, bell, span, paths, progress, passed, feds),
+            None => feed_each(rt, shared, bell, span, paths, progress, files, feds),
             Some(place) => feed_with_input(
-                rt, shared, bell, span, paths, place, input, progress, passed, feds,
+                rt, shared, bell, span, paths, place, input, progress, plan, feds,
             ),
         },
     }
@@ -265,7 +288,7 @@ where
     // The bell keeps what was asked for.
     requires asked { ∥ K.asked plan.keep ∥₁ }
     ensures count { length result.0.items ≡ length paths.now }
-    ensures fed { AreFed D.Disk H.File.remaining J.opening plan.passed (octets_given R.remaining input.entry)
+    ensures fed { AreFed D.Disk H.File.remaining J.opening plan (octets_given R.remaining input.entry)
         (map S.text paths.now) result.0.items }
     ensures rolled { IsRollEnd D.Disk J.opening K.asked faults.old faults.new result.1 }
 {
@@ -281,7 +304,7 @@ where
             requires room { length feds.items ≡ length paths.now }
             requires none { feds.items ≡ replicate (length paths.now) unfed }
             ensures count { length result.items ≡ length paths.entry.now }
-            ensures fed { AreFed D.Disk H.File.remaining J.opening plan.passed
+            ensures fed { AreFed D.Disk H.File.remaining J.opening plan
                 (octets_given R.remaining input.entry) (map S.text paths.entry.now) result.items }
         {
             let feds = feed_all(
@@ -292,7 +315,7 @@ where
                 paths,
                 input,
                 progress,
-                plan.passed,
+                plan,
                 feds,
             );
             rung.end(rt);

@@ -1,34 +1,56 @@
 //! One File is taken into an archive that threads share.
 
 ghost use Rattle.std.specs.Prelude.{◌≡◌, ◌≢◌};
-ghost use Rattle.flow_commands.specs.Feeding.{IsPathFed, IsStreamed, unopened};
+ghost use Rattle.flow_commands.specs.Feeding.{unopened, IsFedFrom, IsInputTaken, IsPathFed, IsStreamed};
 ghost use Rattle.flow_feed.specs.declared.batch.FeedStop.{FeedStop as WhyStopped};
 ghost use Rattle.flow_feed.specs.declared.batch.FeedStop.TheVariants as stop;
 ghost use Rattle.std.specs.IoError.{error_kind};
-ghost use Rattle.std.specs.declared.io.ErrorKind.TheVariants as kind;
+ghost use Rattle.std.specs.declared.io.ErrorKind.TheVariants as io_kind;
 
+use crate::plan::InputKind;
 use crate::progress::{Progress, Watched};
-use crate::warning::{LossyFile, PassedFile, UnopenedFile};
+use crate::warning::{LossyFile, PassedFile, RefusedFile, UnopenedFile};
 use flow_codec::Losses;
 use flow_disk::Disk;
-use flow_feed::{Fed, FeedStop, SharedAppender, feed_shared};
+use flow_feed::{
+    Collected, Fed, FeedStop, RefusedDatagrams, SharedAppender, feed_datagrams, feed_shared,
+};
 use flow_roller::{Bell, Keeping};
 use flow_shared::{Naming, SharedArchive};
-use std::alloc::AllocGlobal;
+use std::alloc::{AllocGlobal, Global};
 use std::fs::{File, Files};
 use std::io;
 use std::io::{ErrorKind, Read, Write};
 use std::sync::Wait;
 
-/// How far a File was taken in, and what its messages show of records that aren't read.
+/// How far an input was taken in, and what its messages show of records that aren't read.
 #[derive(Clone, Copy)]
 struct Streamed {
-    fed: Fed,
+    collected: Collected,
     losses: Losses,
 }
 
-/// Takes the File that `input` reads into an archive that threads share, after its first `passed` messages, shows its
-/// progress, and rings the bell for each `span` octets that are read.
+/// Takes what an input gives into an archive that threads share, by its kind.
+pub fn take_input<D: Disk, J: Naming, W: Wait, R: Read>(
+    appender: &mut SharedAppender<'_, D, J, W>,
+    alloc: Global,
+    input: &mut R,
+    kind: InputKind,
+) -> Collected
+    ensures { IsInputTaken D.Disk J.opening kind appender.old appender.new (R.remaining input.old) result }
+{
+    match kind {
+        InputKind::File(passed) => Collected {
+            fed: feed_shared(appender, alloc, input, passed),
+            refused: RefusedDatagrams::none(),
+        },
+        InputKind::Datagrams => feed_datagrams(appender, alloc, input, false),
+        InputKind::Socket => feed_datagrams(appender, alloc, input, true),
+    }
+}
+
+/// Takes what `input` gives into an archive that threads share, by its kind, shows its progress, and rings the bell for
+/// each `span` octets that are read.
 fn stream<H: AllocGlobal + Wait, D: Disk, J: Naming, K: Keeping, R: Read, P: Write + Drop>(
     rt: &H,
     shared: &SharedArchive<D, J, H>,
@@ -36,19 +58,19 @@ fn stream<H: AllocGlobal + Wait, D: Disk, J: Naming, K: Keeping, R: Read, P: Wri
     span: u32,
     input: &mut R,
     progress: &Progress<P>,
-    passed: u64,
+    kind: InputKind,
 ) -> Streamed
-    ensures { IsStreamed D.Disk J.opening passed (R.remaining input.old) result.fed }
+    ensures { IsStreamed D.Disk J.opening kind (R.remaining input.old) result.collected }
 {
     let mut input = Watched::new(rt, input, progress, bell, span);
     let mut appender = SharedAppender::new(rt, shared);
-    let fed = feed_shared(&mut appender, rt.alloc(), &mut input, passed);
+    let collected = take_input(&mut appender, rt.alloc(), &mut input, kind);
     let losses = appender.losses();
-    Streamed { fed, losses }
+    Streamed { collected, losses }
 }
 
-/// Takes the File that `input` reads into an archive that threads share, after its first `passed` messages, shows its
-/// progress, and rings the bell for each `span` octets that are read.
+/// Takes what `input` gives into an archive that threads share, by its kind, shows its progress, and rings the bell for
+/// each `span` octets that are read.
 pub fn feed_stream<H: AllocGlobal + Wait, D: Disk, J: Naming, K: Keeping, R: Read, P: Write + Drop>(
     rt: &H,
     shared: &SharedArchive<D, J, H>,
@@ -56,14 +78,16 @@ pub fn feed_stream<H: AllocGlobal + Wait, D: Disk, J: Naming, K: Keeping, R: Rea
     span: u32,
     input: &mut R,
     progress: &Progress<P>,
-    passed: u64,
+    kind: InputKind,
 ) -> Fed
-    ensures { IsStreamed D.Disk J.opening passed (R.remaining input.old) result }
+    ensures { IsFedFrom D.Disk J.opening kind (R.remaining input.old) result }
 {
-    stream(rt, shared, bell, span, input, progress, passed).fed
+    let streamed = stream(rt, shared, bell, span, input, progress, kind);
+    streamed.collected.fed
 }
 
-/// The same of the File of this number and path, and warns of records that its messages show not to be read.
+/// The same of the File of this number and path, and warns of records that its messages show not to be read, and of
+/// datagrams that aren't accepted.
 pub(crate) fn feed_named<
     H: AllocGlobal + Wait,
     D: Disk,
@@ -80,24 +104,28 @@ pub(crate) fn feed_named<
     path: &str,
     input: &mut R,
     progress: &Progress<P>,
-    passed: u64,
+    kind: InputKind,
 ) -> Fed
-    ensures { IsStreamed D.Disk J.opening passed (R.remaining input.old) result }
+    ensures { IsFedFrom D.Disk J.opening kind (R.remaining input.old) result }
 {
-    let streamed = stream(rt, shared, bell, span, input, progress, passed);
+    let streamed = stream(rt, shared, bell, span, input, progress, kind);
+    let collected = streamed.collected;
+    if let Some(line) = RefusedFile::of(number, path, collected.refused) {
+        progress.say(rt, &line);
+    }
     if let Some(line) = LossyFile::of(number, path, streamed.losses) {
         progress.say(rt, &line);
     }
-    if let Some(line) = PassedFile::of(number, path, streamed.fed, passed) {
+    if let Some(line) = PassedFile::of(number, path, collected.fed, kind) {
         progress.tell(rt, &line);
     }
-    streamed.fed
+    collected.fed
 }
 
 /// What comes of a File that can't be opened: 11 where memory is refused, else 31.
 pub fn unopened(error: &io::Error) -> Fed
-    ensures memory { error_kind error.now ≡ kind.OutOfMemory → result ≡ unopened stop.OutOfMemory }
-    ensures other { error_kind error.now ≢ kind.OutOfMemory → result ≡ unopened stop.Unopened }
+    ensures memory { error_kind error.now ≡ io_kind.OutOfMemory → result ≡ unopened stop.OutOfMemory }
+    ensures other { error_kind error.now ≢ io_kind.OutOfMemory → result ≡ unopened stop.Unopened }
     ensures some { (why : WhyStopped) × (result ≡ unopened why) }
 {
     let stop = if error.kind() == ErrorKind::OutOfMemory {
@@ -142,15 +170,15 @@ pub(crate) fn feed_path<
     number: u64,
     path: &str,
     progress: &Progress<P>,
-    passed: u64,
+    kind: InputKind,
 ) -> Fed
-    ensures { IsPathFed D.Disk H.File.remaining J.opening passed result }
+    ensures { IsPathFed D.Disk H.File.remaining J.opening kind result }
 {
     match File::open(rt, path) {
         Ok(file) => {
             let mut file = file;
             feed_named(
-                rt, shared, bell, span, number, path, &mut file, progress, passed,
+                rt, shared, bell, span, number, path, &mut file, progress, kind,
             )
         }
         Err(error) => {

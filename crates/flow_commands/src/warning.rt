@@ -4,13 +4,18 @@ ghost use Rattle.std.specs.Prelude.{◌≡◌, Some};
 ghost use Rattle.flow_commands.specs.Warnings.{gap_part, gap_text, lacks_of, lacks_text, message_place, place_text};
 ghost use Rattle.flow_commands.specs.Warnings.{stop_place, stream_place, unread_part, unread_text};
 
+use crate::plan::InputKind;
 use crate::progress::Progress;
 use flow_archive::ArchiveError;
 use flow_codec::{FileError, Losses, MessageError, StreamError};
-use flow_feed::{Fed, FeedStop};
+use flow_feed::{Fed, FeedStop, RefusedDatagrams};
+use flow_refusals::RefusalCode;
 use std::io::Write;
 use std::sync::Wait;
 use std::{fmt, io};
+
+/// The greatest number of a refusal that a message may earn.
+const MOST_NUMBER: u64 = 10;
 
 /// The octet at which reading stopped.
 #[derive(Clone, Copy, Debug, PartialEq, Eq)]
@@ -122,8 +127,16 @@ pub(crate) struct PassedFile<'a> {
 }
 
 impl<'a> PassedFile<'a> {
-    /// Nothing where it stopped, or has as many.
-    pub(crate) fn of(number: u64, path: &'a str, fed: Fed, passed: u64) -> Option<PassedFile<'a>> {
+    /// Nothing where it stopped, or has as many, or none were to be passed over.
+    pub(crate) fn of(
+        number: u64,
+        path: &'a str,
+        fed: Fed,
+        kind: InputKind,
+    ) -> Option<PassedFile<'a>> {
+        let InputKind::File(passed) = kind else {
+            return None;
+        };
         if fed.stop.is_some() || fed.messages >= passed {
             return None;
         }
@@ -143,6 +156,53 @@ impl fmt::Display for PassedFile<'_> {
             "warning: file {} ({}): nothing is taken in, since --from {} is past its last message: {}",
             self.number, self.path, self.passed, self.messages
         )
+    }
+}
+
+/// Datagrams of the File of this number and path that were passed over.
+#[derive(Debug, Drop)]
+pub(crate) struct RefusedFile<'a> {
+    number: u64,
+    path: &'a str,
+    refused: RefusedDatagrams,
+}
+
+impl<'a> RefusedFile<'a> {
+    /// Nothing where none were.
+    pub(crate) fn of(
+        number: u64,
+        path: &'a str,
+        refused: RefusedDatagrams,
+    ) -> Option<RefusedFile<'a>> {
+        for of_number in 1..=MOST_NUMBER {
+            if refused.of_number(of_number) > 0 {
+                return Some(RefusedFile {
+                    number,
+                    path,
+                    refused,
+                });
+            }
+        }
+        None
+    }
+}
+
+impl fmt::Display for RefusedFile<'_> {
+    fn fmt<W: fmt::Write>(&self, f: &mut fmt::Formatter<W>) -> fmt::Result {
+        write!(
+            f,
+            "warning: file {} ({}): datagrams passed over",
+            self.number, self.path
+        )?;
+        let mut before = ": ";
+        for number in 1..=MOST_NUMBER {
+            let count = self.refused.of_number(number);
+            if let (true, Some(code)) = (count > 0, RefusalCode::of_number(number)) {
+                write!(f, "{before}{count} by {code}")?;
+                before = ", ";
+            }
+        }
+        Ok(())
     }
 }
 

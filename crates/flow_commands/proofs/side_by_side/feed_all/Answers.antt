@@ -10,8 +10,8 @@ returns-in-None-clause-fed g c =
     let paths = map g.S.AsStr.text c.args.paths.now in
     let feds = c.feed_each.result.items in
     let is : c.args.input ≡ None = c.in-None.is in
-    subst (λ input. AreFed g.D.Disk octets g.J.Naming.opening c.args.passed (octets_given g.R.Read.remaining input) paths feds) (sym is)
-    (without_given g.D.Disk octets g.J.Naming.opening c.args.passed paths feds c.feed_each.ensures.fed)
+    subst (λ input. AreFed g.D.Disk octets g.J.Naming.opening c.args.plan (octets_given g.R.Read.remaining input) paths feds) (sym is)
+    (without_given g.D.Disk octets g.J.Naming.opening c.args.plan paths feds (rw c.kind-files.ensures at c.feed_each.ensures.fed))
 
 pub returns-after-place_of_input-clause-fed : goal.returns-after-place_of_input-clause-fed
 returns-after-place_of_input-clause-fed g c =
@@ -19,14 +19,14 @@ returns-after-place_of_input-clause-fed g c =
     let known = g.R.Read.remaining in
     let paths = map g.S.AsStr.text c.args.paths.now in
     let is : c.args.input ≡ Some c.in-Some.input = c.in-Some.is in
-    subst (λ input. AreFed g.D.Disk octets g.J.Naming.opening c.args.passed (octets_given known input) paths
+    subst (λ input. AreFed g.D.Disk octets g.J.Naming.opening c.args.plan (octets_given known input) paths
     c.match-place_of_input.result.items) (sym is)
     (elim c.match-place_of_input.branch [
-      | in-None-place_of_input w ↦ subst (λ feds. AreFed g.D.Disk octets g.J.Naming.opening c.args.passed
+      | in-None-place_of_input w ↦ subst (λ feds. AreFed g.D.Disk octets g.J.Naming.opening c.args.plan
           (Some (known c.in-Some.input.now)) paths feds.items) (sym w.result-is)
-          (without_input g.D.Disk octets g.J.Naming.opening c.args.passed (Some (known c.in-Some.input.now)) paths
-          w.feed_each-in-None-place_of_input.result.items w.feed_each-in-None-place_of_input.ensures.fed
+          (without_input g.D.Disk octets g.J.Naming.opening c.args.plan (Some (known c.in-Some.input.now)) paths
+          w.feed_each-in-None-place_of_input.result.items (rw c.kind-files.ensures at w.feed_each-in-None-place_of_input.ensures.fed)
           (λ some. w.in-None-place_of_input.ensures.none))
-      | in-Some-place_of_input w ↦ subst (λ feds. AreFed g.D.Disk octets g.J.Naming.opening c.args.passed
+      | in-Some-place_of_input w ↦ subst (λ feds. AreFed g.D.Disk octets g.J.Naming.opening c.args.plan
           (Some (known c.in-Some.input.now)) paths feds.items) (sym w.result-is) w.feed_with_input.ensures.fed
     ])

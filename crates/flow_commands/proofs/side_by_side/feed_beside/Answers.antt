@@ -12,7 +12,7 @@ pub returns-clause-fed : goal.returns-clause-fed
 returns-clause-fed g c = by c.args.input refl
   where
     Fed : Option (MutBor g.row.R.Denot) → Type 0
-    Fed input = AreFed g.D.Disk g.H.File.Read.remaining g.J.Naming.opening c.args.plan.passed
+    Fed input = AreFed g.D.Disk g.H.File.Read.remaining g.J.Naming.opening c.args.plan
         (octets_given g.R.Read.remaining input) (map g.S.AsStr.text c.args.paths.now) c.join-unread.result.1.items
 
     by : (input : Option (MutBor g.row.R.Denot)) → c.args.input ≡ input → Fed c.args.input

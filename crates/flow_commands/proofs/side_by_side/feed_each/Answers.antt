@@ -15,11 +15,11 @@ returns-clause-fed g c =
     let same : length new ≡ length old = search rules in
     let back = written_back c.args.feds.len c.args.feds.items new (sym c.as_mut_slice.ensures.len ∙ ap length value)
     (same ∙ ap length value) in
-    subst (AreFilesFed g.D.Disk octets g.J.Naming.opening c.args.passed (map text paths)) (sym back)
-    (each_fed g.D.Disk octets g.J.Naming.opening c.args.passed text paths old new (value ∙ c.requires.none) same
+    subst (AreFilesFed g.D.Disk octets g.J.Naming.opening c.args.kind (map text paths)) (sym back)
+    (each_fed g.D.Disk octets g.J.Naming.opening c.args.kind text paths old new (value ∙ c.requires.none) same
     (λ k path there.
     let within = slice_get_within paths k path there in
     let room = c.requires.room in
     let long = ap length value in
     let at = (c.for_each_mut.ensures k unfed (omega (arith, within, room, long))).1 in
-    moved (IsFedAt g.D.Disk octets g.J.Naming.opening c.args.passed (text path)) _ _ _ _ at.argument_is at.left (at.call path there)))
+    moved (IsFedAt g.D.Disk octets g.J.Naming.opening c.args.kind (text path)) _ _ _ _ at.argument_is at.left (at.call path there)))
