@@ -1,8 +1,8 @@
 -- What a line asks of the shell.
 use Rattle.std.specs.Prelude.{◌≡◌, ◌≢◌, ◌⊎◌, ⊤, ℕ, zero, suc, ◌-◌, ◌==◌, List, [], ◌∷◌, Option, Some, None, IfSome}
-use Rattle.std.specs.Prelude.{codes, option_map, option_and_then, if◌then◌else◌}
+use Rattle.std.specs.Prelude.{codes, length, option_map, option_and_then, take, if◌then◌else◌}
 use Rattle.std.specs.Io.BufRead.{drop_through, first_piece}
-use Rattle.std.specs.List.{before_first, after_first}
+use Rattle.std.specs.List.{before_first, after_first, ends_with}
 use Rattle.std.specs.Str.{bytes_eq}
 use Rattle.flow_report.specs.Numbers.{number_between}
 use Rattle.flow_manifest.specs.Limits.{too_many_messages}
@@ -10,7 +10,7 @@ use Rattle.flow_commands.specs.Plans.{Span}
 use Rattle.flow_shell.specs.declared.asked.Query.{Query}
 use Rattle.flow_shell.specs.declared.asked.Query.TheVariants.{Totals, Flows, Message, Check}
 use Rattle.flow_shell.specs.declared.asked.ShellRequest.{ShellRequest}
-use Rattle.flow_shell.specs.declared.asked.ShellRequest.TheVariants.{Ask, Feed, Keep, Wait, Quit}
+use Rattle.flow_shell.specs.declared.asked.ShellRequest.TheVariants.{Ask, Feed, Collect, Keep, Wait, Quit}
 
 -- the part of a line before its first space, and what comes after that
 abbrev pub name_of : List ℕ → List ℕ
@@ -32,10 +32,20 @@ message_in word = number_between 0 (too_many_messages - 1) word
 abbrev pub keep_in : List ℕ → Option ℕ
 keep_in word = number_between 0 4294967295 word
 
--- a File at a path
+-- a File at a path, by messages or by datagrams
+abbrev pub fed_in : List ℕ → Option ShellRequest
+fed_in [] = None
+fed_in (octet ∷ octets) = Some (Feed (octet ∷ octets))
+
+abbrev pub collected_in : List ℕ → Option ShellRequest
+collected_in [] = None
+collected_in (octet ∷ octets) = Some (Collect (octet ∷ octets))
+
+-- the File that words name: by datagrams, where that is the last of several
 abbrev pub file_in : List ℕ → Option ShellRequest
-file_in [] = None
-file_in (octet ∷ octets) = Some (Feed (octet ∷ octets))
+file_in words =
+    if ends_with (λ a b. a == b) words (codes " datagrams") then collected_in (take (length words - 10) words)
+    else fed_in words
 
 -- what a question's name, and the words after it, ask for
 abbrev pub query_by_name : List ℕ → List ℕ → Option Query

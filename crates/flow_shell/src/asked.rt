@@ -1,8 +1,8 @@
 //! What a line asks of the shell.
 
 ghost use Rattle.std.specs.Prelude.{◌≡◌, IfSome, ◌≤◌};
-ghost use Rattle.flow_shell.specs.Asked.{by_name, file_in, keep_in, message_in, name_of, query_by_name, request_in};
-ghost use Rattle.flow_shell.specs.Asked.{rest_of, span_in};
+ghost use Rattle.flow_shell.specs.Asked.{by_name, collected_in, fed_in, file_in, keep_in, message_in, name_of};
+ghost use Rattle.flow_shell.specs.Asked.{query_by_name, request_in, rest_of, span_in};
 
 use flow_commands::StartSpan;
 use flow_manifest::MOST_MESSAGES;
@@ -49,6 +49,8 @@ pub enum ShellRequest<'a> {
     Ask(Query),
     /// `feed FILE`: this File is taken in, while other requests are answered.
     Feed(FileName<'a>),
+    /// `feed FILE datagrams`: the same, and each read of it gives one message.
+    Collect(FileName<'a>),
     /// `keep N`: so many of the newest segments are left as they are from now on.
     Keep(u32),
     /// `wait`: answered when all Files that are fed have ended.
@@ -94,13 +96,33 @@ fn keep_of(word: &str) -> Option<u32>
 }
 
 /// The File at a path, which isn't empty.
-fn file_of(path: &str) -> Option<ShellRequest<'_>>
-    ensures { result ≡ file_in path.now }
+fn fed_of(path: &str) -> Option<ShellRequest<'_>>
+    ensures { result ≡ fed_in path.now }
 {
     if path.is_empty() {
         return None;
     }
     Some(ShellRequest::Feed(FileName { path }))
+}
+
+/// The same, by datagrams.
+fn collected_of(path: &str) -> Option<ShellRequest<'_>>
+    ensures { result ≡ collected_in path.now }
+{
+    if path.is_empty() {
+        return None;
+    }
+    Some(ShellRequest::Collect(FileName { path }))
+}
+
+/// The File that words name: by datagrams, where that is the last of several.
+fn file_of(words: &str) -> Option<ShellRequest<'_>>
+    ensures { result ≡ file_in words.now }
+{
+    match words.strip_suffix(" datagrams") {
+        Some(path) => collected_of(path),
+        None => fed_of(words),
+    }
 }
 
 /// What a question's name and the words after it ask for.

@@ -1,12 +1,13 @@
 //! A File that was asked for is fed.
 
-ghost use Rattle.flow_shell.specs.Fed.{EndsSo, WasFed};
+ghost use Rattle.flow_commands.specs.Feeding.{IsFedFrom};
+ghost use Rattle.flow_shell.specs.Fed.{EndsBy};
 ghost use Rattle.flow_feed.specs.declared.batch.Fed.{Fed as FedFile};
 
 use crate::board::{Board, Ends, Stoppable};
-use flow_commands::unopened;
+use flow_commands::{InputKind, take_input, unopened};
 use flow_disk::Disk;
-use flow_feed::{Fed, SharedAppender, feed_shared};
+use flow_feed::{Fed, SharedAppender};
 use flow_roller::{Bell, Keeping};
 use flow_shared::{Naming, SharedArchive};
 use std::alloc::AllocGlobal;
@@ -14,16 +15,17 @@ use std::fs::{File, Files};
 use std::io::Read;
 use std::sync::Wait;
 
-/// Takes the File that `input` reads into the archive, until the shell ends, and says how it ended.
+/// Takes what `input` gives into the archive, by its kind, until the shell ends, and says how it ended.
 fn feed_file<H: AllocGlobal + Wait, D: Disk, J: Naming, K: Keeping, B: Ends, R: Read>(
     rt: &H,
     shared: &SharedArchive<D, J, H>,
     bell: &Bell<K>,
     board: &Board<B>,
     limit: u32,
+    kind: InputKind,
     input: &mut R,
 ) -> Fed
-    ensures { WasFed D.Disk J.opening (R.remaining input.old) result }
+    ensures { IsFedFrom D.Disk J.opening kind (R.remaining input.old) result }
 {
     let mut input = Stoppable {
         rt,
@@ -34,7 +36,8 @@ fn feed_file<H: AllocGlobal + Wait, D: Disk, J: Naming, K: Keeping, B: Ends, R: 
         octets: 0,
     };
     let mut appender = SharedAppender::new(rt, shared);
-    feed_shared(&mut appender, rt.alloc(), &mut input, 0)
+    let collected = take_input(&mut appender, rt.alloc(), &mut input, kind);
+    collected.fed
 }
 
 /// The same of the File at a path.
@@ -44,14 +47,15 @@ fn feed_path<H: Files + AllocGlobal + Clone + Drop + Wait, D: Disk, J: Naming, K
     bell: &Bell<K>,
     board: &Board<B>,
     limit: u32,
+    kind: InputKind,
     path: &str,
 ) -> Fed
-    ensures { EndsSo D.Disk J.opening result }
+    ensures { EndsBy D.Disk J.opening kind result }
 {
     match File::open(rt, path) {
         Ok(file) => {
             let mut file = file;
-            feed_file(rt, shared, bell, board, limit, &mut file)
+            feed_file(rt, shared, bell, board, limit, kind, &mut file)
         }
         Err(error) => unopened(&error),
     }
@@ -70,12 +74,13 @@ pub(crate) fn feed_one<
     bell: &Bell<K>,
     board: &Board<B>,
     limit: u32,
+    kind: InputKind,
     number: u64,
     path: String,
 )
     // What is said of its end is what feeding it gives.
-    requires { (fed : FedFile) → EndsSo D.Disk J.opening fed → ∥ B.said number fed ∥₁ }
+    requires { (fed : FedFile) → EndsBy D.Disk J.opening kind fed → ∥ B.said number fed ∥₁ }
 {
-    let fed = feed_path(rt, shared, bell, board, limit, path.as_str());
+    let fed = feed_path(rt, shared, bell, board, limit, kind, path.as_str());
     board.end(rt, number, fed);
 }

@@ -3,7 +3,7 @@
 ghost use Rattle.std.specs.Prelude.{◌≡◌, ◌≢◌, ◌≤◌, ⊤, ℕ, IfErr, IfOk, List, OnOk, Option, Some, string_bytes};
 ghost use Rattle.std.specs.Io.KnownBytes.{Appends};
 ghost use Rattle.flow_shell.specs.Written.{began_line, HasTold};
-ghost use Rattle.flow_shell.specs.Fed.{EndsSo};
+ghost use Rattle.flow_shell.specs.Fed.{EndsBy, EndsSo};
 ghost use Rattle.flow_shell.specs.declared.asked.ShellRequest.TheVariants as asked;
 ghost use Rattle.flow_shell.specs.Endings.{end_status, end_text, IsUnanswered, RollsAsked};
 ghost use Rattle.flow_feed.specs.declared.batch.Fed.{Fed as FedFile};
@@ -17,7 +17,7 @@ use crate::querying::{Asking, answer_query};
 use crate::rolling::roll_files;
 use crate::telling::tell_ended;
 use flow_archive::ArchiveError;
-use flow_commands::ArchiveRefusal;
+use flow_commands::{ArchiveRefusal, InputKind};
 use flow_disk::{Disk, Faults};
 use flow_report::{Patience, write_patiently};
 use flow_roller::{Bell, Keeping};
@@ -35,8 +35,11 @@ const WRONG_LINE: u8 = 2;
 
 /// What a line that is no request is answered.
 const WRONG_REQUEST: &str =
-    "refused no request: one of feed FILE, totals FROM TO, flows FROM TO, message N, check, \
+    "refused no request: one of feed FILE [datagrams], totals FROM TO, flows FROM TO, message N, check, \
      keep N, wait, quit\n";
+
+/// A File is fed from its first message on.
+const FROM_FIRST: InputKind = InputKind::File(0);
 
 /// The status of an answer that is refused for what it asks.
 const REFUSED: u8 = 1;
@@ -77,6 +80,7 @@ fn begin_feed<
     bell: &'s Bell<K>,
     board: &'s Board<B>,
     limit: u32,
+    kind: InputKind,
     path: &str,
     output: &mut W,
 ) -> Result<(), ArchiveRefusal>
@@ -84,7 +88,7 @@ where
     H::File: Send + Sync,
     H::Dir: Send + Sync,
     D::Sealed: Send + Sync,
-    requires { (number : ℕ) (fed : FedFile) → EndsSo D.Disk J.opening fed → ∥ B.said number fed ∥₁ }
+    requires { (number : ℕ) (fed : FedFile) → EndsBy D.Disk J.opening kind fed → ∥ B.said number fed ∥₁ }
     ensures { IfErr result IsUnanswered }
 {
     let Ok(path) = String::from_str(alloc, path) else {
@@ -95,8 +99,8 @@ where
     };
     match scope.spawn(
         move ||
-            requires { (fed : FedFile) → EndsSo D.Disk J.opening fed → ∥ B.said number fed ∥₁ }
-        { feed_one(rt, shared, bell, board, limit, number, path) },
+            requires { (fed : FedFile) → EndsBy D.Disk J.opening kind fed → ∥ B.said number fed ∥₁ }
+        { feed_one(rt, shared, bell, board, limit, kind, number, path) },
     ) {
         Ok(_) => {}
         Err(refused) => (refused.value)(),
@@ -176,7 +180,19 @@ where
         }
         Some(ShellRequest::Wait) => answer_wait(rt, alloc, board, output),
         Some(ShellRequest::Feed(file)) => begin_feed(
-            scope, rt, alloc, shared, bell, board, limit, file.path, output,
+            scope, rt, alloc, shared, bell, board, limit, FROM_FIRST, file.path, output,
+        ),
+        Some(ShellRequest::Collect(file)) => begin_feed(
+            scope,
+            rt,
+            alloc,
+            shared,
+            bell,
+            board,
+            limit,
+            InputKind::Datagrams,
+            file.path,
+            output,
         ),
     }
 }
