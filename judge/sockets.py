@@ -7,7 +7,8 @@ message.
 By `--datagrams` other datagrams come between the messages, empty ones too: what one octet is, NetFlow, SNMP, a Length
 that is none, a datagram that is longer than any message. They are passed over, and counted by their refusals. A pipe
 of packets (O_DIRECT) ends where its writer closes it. A socket of datagrams has no end: one that gave nothing for
-a while (SO_RCVTIMEO) ends by 31 here, and one that systemd holds, where systemd-socket-activate is, by a signal.
+a while (SO_RCVTIMEO) ends by 31 here, and one that systemd holds, or that socat hands on, where these are there, by a
+signal.
 
 The messages are made here. What `feed` answers, what `check` says of the archive then, and its totals are compared with
 what was sent, to the line. Nothing is lost on the way: more is sent only once what was sent is read. It prints each
@@ -303,15 +304,26 @@ def queued(port):
     raise Gone
 
 
-def played_by_systemd(sent, program, folder):
-    """The same of a socket that systemd holds, to which the first datagram starts the program; a signal ends it."""
+def by_systemd(port, command):
+    """It holds the socket, and the first datagram starts the program."""
+    return ["systemd-socket-activate", "-d", "-l", "127.0.0.1:%d" % port, "--inetd", *command]
+
+
+def by_socat(port, command):
+    """It hands datagrams on, but for empty ones."""
+    return ["socat", "-b", "65536", "-u", "UDP4-RECV:%d,bind=127.0.0.1" % port,
+            "EXEC:%s,socktype=2" % " ".join(command)]
+
+
+def played_beside(words_of, sent, program, folder):
+    """The same where another program has the socket; a signal ends both."""
     yield "create", (0, "", ""), ran([program, "create", folder, str(WIDTH), "--limit", "16777216"])
     ours, theirs = udp()
     port = theirs.getsockname()[1]
     theirs.close()
-    words = ["systemd-socket-activate", "-d", "-l", "127.0.0.1:%d" % port, "--inetd", program, "feed", folder, "-",
-             *BY_DATAGRAMS]
-    feed = subprocess.Popen(words, stdout=subprocess.DEVNULL, stderr=subprocess.DEVNULL)
+    words = words_of(port, [program, "feed", folder, "-", *BY_DATAGRAMS])
+    feed = subprocess.Popen(words, stdin=subprocess.DEVNULL, stdout=subprocess.DEVNULL, stderr=subprocess.DEVNULL,
+                            start_new_session=True)
     until = time.monotonic() + SECONDS
     with contextlib.closing(ours):
         for datagram in [*BAD, *(it for message in sent.messages for it in (b"", message))]:
@@ -325,7 +337,7 @@ def played_by_systemd(sent, program, folder):
             while queued(port) and time.monotonic() < until:
                 time.sleep(0.0002)
     time.sleep(1)
-    feed.send_signal(signal.SIGTERM)
+    os.killpg(feed.pid, signal.SIGTERM)
     feed.wait(SECONDS)
     yield from held(sent, program, folder)
 
@@ -342,8 +354,9 @@ def differs(name, play, program):
 
 def main(program):
     plays = [(case.name, functools.partial(played, case)) for case in CASES]
-    if shutil.which("systemd-socket-activate"):
-        plays.append(("100 datagrams of UDP, held by systemd", functools.partial(played_by_systemd, FEW)))
+    for other, words_of in (("systemd-socket-activate", by_systemd), ("socat", by_socat)):
+        if shutil.which(other):
+            plays.append(("100 datagrams of UDP by %s" % other, functools.partial(played_beside, words_of, FEW)))
     with concurrent.futures.ThreadPoolExecutor(len(plays)) as side_by_side:
         found = list(side_by_side.map(differs, *zip(*plays), [os.path.abspath(program)] * len(plays)))
     for lines in found:

@@ -63,8 +63,8 @@ fn most_empty_of(is_socket: bool) -> u64
 }
 
 impl<'a, R: Read> Receiver<'a, R> {
-    /// Of a socket a read that gives nothing is an empty datagram, unless it is the last of 1,000,000,001 in a row; of a
-    /// file or a pipe it is the end.
+    /// Of a socket a read that gives nothing is an empty datagram, unless it is the last of 1,000,000,001 in a row; of
+    /// a file or a pipe it is the end.
     pub fn new(input: &'a mut R, is_socket: bool) -> Self
         ensures { reading (R.remaining result.input.now) result.empty result.most_empty
             ≡ unread is_socket (R.remaining input.old) }

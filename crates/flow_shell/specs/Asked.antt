@@ -32,14 +32,17 @@ message_in word = number_between 0 (too_many_messages - 1) word
 abbrev pub keep_in : List ℕ → Option ℕ
 keep_in word = number_between 0 4294967295 word
 
+-- the path of a File, which isn't empty
+abbrev pub path_in : List ℕ → Option (List ℕ)
+path_in [] = None
+path_in (octet ∷ octets) = Some (octet ∷ octets)
+
 -- a File at a path, by messages or by datagrams
 abbrev pub fed_in : List ℕ → Option ShellRequest
-fed_in [] = None
-fed_in (octet ∷ octets) = Some (Feed (octet ∷ octets))
+fed_in path = option_map Feed (path_in path)
 
 abbrev pub collected_in : List ℕ → Option ShellRequest
-collected_in [] = None
-collected_in (octet ∷ octets) = Some (Collect (octet ∷ octets))
+collected_in path = option_map Collect (path_in path)
 
 -- the File that words name: by datagrams, where that is the last of several
 abbrev pub file_in : List ℕ → Option ShellRequest

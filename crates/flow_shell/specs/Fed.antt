@@ -9,8 +9,8 @@ use Rattle.flow_commands.specs.declared.plan.InputKind.{InputKind}
 use Rattle.flow_commands.specs.declared.plan.InputKind.TheVariants.{File, Datagrams}
 
 -- A File was fed by its kind, and ended so: its messages that are reported are acknowledged, in their order, each once,
--- and what comes after them is why there aren't more; and where each step is made they are in the archive's steps. Or it
--- couldn't be opened, and nothing of it was taken in.
+-- and what comes after them is why there aren't more; and where each step is made they are in the archive's steps. Or
+-- it couldn't be opened, and nothing of it was taken in.
 abbrev pub EndsBy : {D S X : Type 0} → Ghosts D S X → Shelf → InputKind → Fed → Type 0
 EndsBy g opening kind fed =
     (fed ≡ unopened stop.OutOfMemory) ⊎ (fed ≡ unopened stop.Unopened)

@@ -2,7 +2,7 @@
 
 ghost use Rattle.std.specs.Prelude.{◌≡◌, IfSome, ◌≤◌};
 ghost use Rattle.flow_shell.specs.Asked.{by_name, collected_in, fed_in, file_in, keep_in, message_in, name_of};
-ghost use Rattle.flow_shell.specs.Asked.{query_by_name, request_in, rest_of, span_in};
+ghost use Rattle.flow_shell.specs.Asked.{path_in, query_by_name, request_in, rest_of, span_in};
 
 use flow_commands::StartSpan;
 use flow_manifest::MOST_MESSAGES;
@@ -95,24 +95,28 @@ fn keep_of(word: &str) -> Option<u32>
     Some(keep as u32)
 }
 
-/// The File at a path, which isn't empty.
-fn fed_of(path: &str) -> Option<ShellRequest<'_>>
-    ensures { result ≡ fed_in path.now }
+/// The path of a File, which isn't empty.
+fn name_at(path: &str) -> Option<FileName<'_>>
+    ensures { result ≡ path_in path.now }
 {
     if path.is_empty() {
         return None;
     }
-    Some(ShellRequest::Feed(FileName { path }))
+    Some(FileName { path })
+}
+
+/// The File at a path.
+fn fed_of(path: &str) -> Option<ShellRequest<'_>>
+    ensures { result ≡ fed_in path.now }
+{
+    Some(ShellRequest::Feed(name_at(path)?))
 }
 
 /// The same, by datagrams.
 fn collected_of(path: &str) -> Option<ShellRequest<'_>>
     ensures { result ≡ collected_in path.now }
 {
-    if path.is_empty() {
-        return None;
-    }
-    Some(ShellRequest::Collect(FileName { path }))
+    Some(ShellRequest::Collect(name_at(path)?))
 }
 
 /// The File that words name: by datagrams, where that is the last of several.
