@@ -1,10 +1,8 @@
 -- Datagrams, one after the other.
 use Rattle.std.proofs.Common.{◌≡◌, ◌∙◌, ℕ, ◌+◌, ◌<◌, ◌≤◌, Bool, true, false, List, [], ◌∷◌, ◌++◌, length, Option, Some}
 use Rattle.std.proofs.Common.{None, Result, Ok, Err, refl, sym, ap, ap₂, subst, append-nil, append_assoc, arith}
-use Rattle.std.proofs.Common.{length-append, length-take-le, get_or}
+use Rattle.std.proofs.Common.{length-append, get_or}
 use Rattle.std.specs.Prelude.{cond, filter, nat_eq}
-use Rattle.std.specs.Prelude.{◌≢◌, take}
-use Rattle.std.specs.Io.KnownBytes.{Consumes, IsAtEnd}
 use Rattle.std.proofs.lemmas.List.Elements.{filter-append}
 use Rattle.flow_codec.specs.declared.error.MessageError.{MessageError}
 use Rattle.flow_archive.specs.declared.refusal.ArchiveError.{ArchiveError}
@@ -32,53 +30,6 @@ received_more {T} gives old mid new [] datagram so_far one =
     (new, subst (λ (t : T). gives t new datagram) so_far one, refl)
 received_more gives old mid new (first ∷ datagrams) datagram so_far one =
     (so_far.0, so_far.1, received_more gives so_far.0 mid new datagrams datagram so_far.2 one)
-
--- nothing was read, and nothing is left: so nothing was left before
-at_end_before : (old new : Option (List ℕ)) (read : List ℕ) → read ≡ [] → Consumes old new read → IsAtEnd new
-    → IsAtEnd old
-at_end_before None new read none took end = tt
-at_end_before (Some xs) None read none took end = absurd took
-at_end_before (Some xs) (Some ys) read none took end =
-    took ∙ ap₂ (λ (a : List ℕ) (b : List ℕ). a ++ b) none end
-
-some_octets : (n : ℕ) (buffer : List ℕ) → 0 < n → n ≤ length buffer → take n buffer ≢ []
-some_octets n buffer some within none =
-    let short : length (take n buffer) ≡ 0 = ap (λ (l : List ℕ). length l) none in
-    let long : length (take n buffer) ≡ n = length-take-le n buffer within in
-    omega (arith, short, long, some)
-
--- a read gave octets
-pub some_read : (old new : Reading) (n : ℕ) (buffer : List ℕ) → 0 < n → n ≤ length buffer
-    → Consumes old.rest new.rest (take n buffer) → new.empty ≡ 0 → new.most_empty ≡ old.most_empty
-    → IsRead old new (take n buffer)
-some_read old new n buffer some within octets empty most = record {
-  octets = octets;
-  none = λ (is : take n buffer ≡ []). absurd (some_octets n buffer some within is);
-  some = λ (is : take n buffer ≢ []). empty;
-  most = most;
-}
-
--- a read gave nothing, and that is an empty datagram
-pub none_read : (old new : Reading) (n : ℕ) (buffer : List ℕ) → n ≡ 0
-    → Consumes old.rest new.rest (take n buffer) → old.empty < old.most_empty → new.empty ≡ old.empty + 1
-    → new.most_empty ≡ old.most_empty → IsRead old new (take n buffer)
-none_read old new n buffer zero octets fewer empty most = record {
-  octets = octets;
-  none = λ (is : take n buffer ≡ []). (fewer, empty);
-  some = λ (is : take n buffer ≢ []). absurd (is (ap (λ (k : ℕ). take k buffer) zero));
-  most = most;
-}
-
--- a read gave nothing, and that is the end
-pub none_left : (old new : Reading) (n : ℕ) (buffer : List ℕ) → n ≡ 0 → 0 < length buffer
-    → Consumes old.rest new.rest (take n buffer) → (n ≡ 0 → 0 < length buffer → IsAtEnd new.rest)
-    → old.most_empty ≤ old.empty → IsOver old new
-none_left old new n buffer zero room octets end many = record {
-  empty = many;
-  old_end = at_end_before old.rest new.rest (take n buffer) (ap (λ (k : ℕ). take k buffer) zero) octets
-      (end zero room);
-  new_end = end zero room;
-}
 
 module _ {T : Type 0} (seen : T → Reading) where
   -- what was received of an input, by what is left of it
