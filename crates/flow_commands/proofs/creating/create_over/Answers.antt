@@ -6,7 +6,7 @@ pub returns : goal.returns
 returns g c =
     record {
       told = inl (
-        c.new.result,
+        c.new-disk.result,
         c.create.result,
         record {
           made = c.create.ensures.made;
@@ -15,15 +15,15 @@ returns g c =
           refused = c.create.ensures.refused;
           cause = c.create.ensures.cause;
         },
-        done_created c.create.result c.in_ok.ensures,
+        done_created c.create.result c.in_ok-left.ensures,
       );
     }
 
-pub returns-in_err : goal.returns-in_err
-returns-in_err g c =
+pub returns-in_err-left : goal.returns-in_err-left
+returns-in_err-left g c =
     record {
       told = inl (
-        c.new.result,
+        c.new-disk.result,
         c.create.result,
         record {
           made = c.create.ensures.made;
@@ -32,7 +32,7 @@ returns-in_err g c =
           refused = c.create.ensures.refused;
           cause = c.create.ensures.cause;
         },
-        refused_created c.create.result (c.in_err.field-0).0 c.from_residual.result c.in_err.ensures
+        refused_created c.create.result (c.in_err-left.field-0).0 c.from_residual.result c.in_err-left.ensures
             c.from_residual.ensures.1,
       );
     }

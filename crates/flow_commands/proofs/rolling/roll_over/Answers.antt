@@ -19,4 +19,4 @@ returns-clause-kept g c =
     c.roll_on.ensures.kept
 
 pub returns-clause-told : goal.returns-clause-told
-returns-clause-told g c = inl (c.new.result, c.roll_on.result, c.roll_on.ensures.told, c.left.ensures)
+returns-clause-told g c = inl (c.new-disk.result, c.roll_on.result, c.roll_on.ensures.told, c.left.ensures)
