@@ -307,17 +307,7 @@ where
             ensures fed { AreFed D.Disk H.File.remaining J.opening plan
                 (octets_given R.remaining input.entry) (map S.text paths.entry.now) result.items }
         {
-            let feds = feed_all(
-                rt,
-                shared,
-                rung,
-                span,
-                paths,
-                input,
-                progress,
-                plan,
-                feds,
-            );
+            let feds = feed_all(rt, shared, rung, span, paths, input, progress, plan, feds);
             rung.end(rt);
             feds
         },
