@@ -11,6 +11,7 @@ that ended is opened to be changed without a write.
 A line is printed for each difference, and one for each case that can't be played here, which begins with `skipped`;
 the last line is `N cases of questions: D differ`, and the status is 0 where D is 0, else 1."""
 import fcntl
+import glob
 import os
 import random
 import re
@@ -171,12 +172,21 @@ def merged(trial, folder):
     trial.runs("merge", folder, "1")
 
 
+def changes_of_slots(folder):
+    """When the slots of an archive were changed last."""
+    return [os.stat(path).st_ctime_ns for path in sorted(glob.glob(os.path.join(folder, "*.slot")))]
+
+
 def killed(trial, folder):
     """`feed` was killed while it took Files in and rolled."""
     settled(trial, folder)
     path, wait = trial.kept("long", file_of(5, 4000, 5)), 0.3
     for _ in range(20):
+        before = changes_of_slots(folder)
         feeding = subprocess.Popen([trial.program, "feed", folder, path, "--keep", "1"], stdout=subprocess.DEVNULL)
+        # (on a busy machine it may take long to begin)
+        while changes_of_slots(folder) == before and feeding.poll() is None:
+            time.sleep(0.01)
         time.sleep(wait)
         feeding.kill()
         if feeding.wait() == -signal.SIGKILL:
