@@ -1,5 +1,6 @@
 -- Several archives, one after the other.
-use Rattle.std.proofs.Common.{◌≡◌, ◌∙◌, ℕ, zero, suc, ◌+◌, ◌<◌, List, [], ◌∷◌, ◌++◌, length, map, take, drop, get_or, Option}
+use Rattle.std.proofs.Common.{◌≡◌, ◌∙◌, ℕ, zero, suc, ◌+◌, ◌<◌, List, [], ◌∷◌, ◌++◌, length, map, take, drop, get_or}
+use Rattle.std.proofs.Common.{Option}
 use Rattle.std.proofs.Common.{refl, sym, ap, subst, arith}
 use Rattle.std.specs.Prelude.{true, IsErrAnd, IsTrue, Result, Ok, Err, MatchResult}
 use Rattle.std.specs.List.{All, AllZip}
@@ -16,15 +17,15 @@ use Rattle.flow_snapshot.specs.declared.shares.PartSums.{PartSums}
 use Rattle.flow_snapshot.specs.ShelfSeen.{ShelfSeen}
 use Rattle.flow_snapshot.specs.Totals.{first_file}
 use Rattle.flow_together.specs.declared.error.TogetherError.{TogetherError}
-use Rattle.flow_together.specs.Together.{AreSumsOf, IsNotAdded}
+use Rattle.flow_together.specs.Together.{AreSumsOf, IsAddingRefused}
 use Rattle.flow_several.specs.declared.refusal.SummingRefusal.{SummingRefusal}
 use Rattle.flow_several.specs.declared.refusal.SummingRefusal.TheVariants.{Sums}
-use Rattle.flow_several.specs.Several.{AreSummed, IsFirstNotSummed, IsNotSummed, IsSummedWith, IsViewRead, Reading}
+use Rattle.flow_several.specs.Several.{AreSummed, IsFirstNotSummed, IsNotSummed, IsSummedWith, IsViewRead, DiskReading}
 
 -- ---- one archive more
 
 -- what a snapshot of what was read adds
-module _ (reads : Reading) (s : State) (stands : StandsFor reads s) (v : View) (view : IsViewOf (shelf_of s) v)
+module _ (reads : DiskReading) (s : State) (stands : StandsFor reads s) (v : View) (view : IsViewOf (shelf_of s) v)
     (sight directory : ShelfSeen) (same : sight ≡ directory)
     (shown : (directory.shelf ≡ shelf_of s) × (directory.honest ≡ true)) (old : Option PartSums)
     (vs : List View) where
@@ -45,14 +46,14 @@ module _ (reads : Reading) (s : State) (stands : StandsFor reads s) (v : View) (
 
   pub not_summed : (e : TogetherError)
       → (IsTrue sight.honest → (v : View) → IsViewOf sight.shelf v → (vs : List View) → AreSumsOf old vs
-      → IsNotAdded (first_file sight.shelf) vs v e)
+      → IsAddingRefused (first_file sight.shelf) vs v e)
       → AreSumsOf old vs → IsNotSummed reads vs (Sums e)
   not_summed e added are = (
     s,
     v,
     stands,
     view,
-    subst (λ (shelf : Shelf). IsNotAdded (first_file shelf) vs v e) shelf_is (added honest v seen vs are),
+    subst (λ (shelf : Shelf). IsAddingRefused (first_file shelf) vs v e) shelf_is (added honest v seen vs are),
   )
 
 pub err_matched : {X E : Type 0} (r : Result X E) (e : E) (P : X → Type 0) (Q : E → Type 0) → IsErrAnd r (λ x. x ≡ e)
@@ -88,7 +89,7 @@ zip_then P (w ∷ ws) [] x y h own = absurd h
 zip_then P (w ∷ ws) (z ∷ zs) x y h own = (h.0, zip_then P ws zs x y h.1 own)
 
 -- of these disks, so many are summed
-module _ {D : Type 0} (reading : D → Reading) (disks : List D) where
+module _ {D : Type 0} (reading : D → DiskReading) (disks : List D) where
   pub none_summed : (sums : Option PartSums) → AreSumsOf sums [] → AreSummed (map reading (take 0 disks)) sums
   none_summed sums are = ([], tt, are)
 
@@ -101,7 +102,7 @@ module _ {D : Type 0} (reading : D → Reading) (disks : List D) where
       let longer : take m disks ≡ take n disks ++ d ∷ [] =
       ap (λ (k : ℕ). take k disks) next ∙ take_more disks n d within
       ∙ ap (λ (x : D). take n disks ++ x ∷ []) (sym is) in
-      subst (λ (reads : List Reading). AreSummed reads after)
+      subst (λ (reads : List DiskReading). AreSummed reads after)
       (sym (ap (map reading) longer ∙ map-append reading (take n disks) (d ∷ [])))
       (vs ++ own.0 ∷ [], zip_then IsViewRead (map reading (take n disks)) vs (reading d) own.0 each own.1, own.2)
 
@@ -130,7 +131,7 @@ module _ {D : Type 0} (reading : D → Reading) (disks : List D) where
   module _ (n : ℕ) (d : D) (within : n < length disks) (is : d ≡ get_or disks n d) where
     pub reads_at : map reading disks ≡ take n (map reading disks) ++ reading d ∷ map reading (drop (n + 1) disks)
     reads_at = map_parted reading disks n d within is
-        ∙ ap (λ (rs : List Reading). rs ++ reading d ∷ map reading (drop (n + 1) disks)) (sym (take_map reading n disks))
+        ∙ ap (λ (rs : List DiskReading). rs ++ reading d ∷ map reading (drop (n + 1) disks)) (sym (take_map reading n disks))
 
     pub reads_before : length (take n (map reading disks)) ≡ n
     reads_before = ap length (take_map reading n disks) ∙ map_length reading (take n disks)
@@ -141,7 +142,7 @@ module _ {D : Type 0} (reading : D → Reading) (disks : List D) where
         ap (λ (k : ℕ). take k (map reading disks)) next ∙ take_map reading (n + 1) disks
         ∙ ap (map reading) (take_more disks n d within ∙ ap (λ (x : D). take n disks ++ x ∷ []) (sym is))
         ∙ map-append reading (take n disks) (d ∷ [])
-        ∙ ap (λ (rs : List Reading). rs ++ reading d ∷ []) (sym (take_map reading n disks))
+        ∙ ap (λ (rs : List DiskReading). rs ++ reading d ∷ []) (sym (take_map reading n disks))
 
   pub all_reads : (n : ℕ) → n ≡ length disks → take n (map reading disks) ≡ map reading disks
   all_reads n all = ap (λ (k : ℕ). take k (map reading disks)) (all ∙ sym (map_length reading disks))

@@ -1,5 +1,5 @@
 -- What is written of each of several archives, with its number.
-use Rattle.std.specs.Prelude.{◌≡◌, ◌⊎◌, ⊤, ℕ, ◌+◌, ◌==◌, List, [], ◌∷◌, ◌++◌, length, Option, codes, if◌then◌else◌}
+use Rattle.std.specs.Prelude.{◌≡◌, ◌⊎◌, ℕ, ◌+◌, ◌==◌, List, [], ◌∷◌, ◌++◌, length, Option, codes, if◌then◌else◌}
 use Rattle.std.specs.Io.KnownBytes.{Appends, Keeps}
 use Rattle.std.specs.List.{flat_map, AllZip}
 use Rattle.flow_measure.specs.declared.rows.Row.{Row}
@@ -20,12 +20,12 @@ use Rattle.flow_snapshot.specs.declared.shares.PartSums.{PartSums}
 use Rattle.flow_snapshot.specs.Totals.{first_file, IsTotalsRefusal, SumsFit}
 use Rattle.flow_together.specs.declared.error.TogetherError.{TogetherError}
 use Rattle.flow_together.specs.declared.error.TogetherError.TheVariants as together
-use Rattle.flow_together.specs.Together.{rows_in, width_of, FitTogether}
+use Rattle.flow_together.specs.Together.{rows_of_sums, width_of_sums, FitTogether}
 use Rattle.flow_several.specs.declared.refusal.SeveralRefusal.{SeveralRefusal}
 use Rattle.flow_several.specs.declared.refusal.SeveralRefusal.TheVariants.{Archive, OutOfMemory, SumSpent, Write}
 use Rattle.flow_several.specs.declared.refusal.SummingRefusal.{SummingRefusal}
 use Rattle.flow_several.specs.declared.refusal.SummingRefusal.TheVariants.{Opening, Sums}
-use Rattle.flow_several.specs.Several.{IsViewRead, Reading}
+use Rattle.flow_several.specs.Several.{IsViewRead, DiskReading}
 
 -- ---- lines
 
@@ -64,44 +64,46 @@ each_totals format from to number (v ∷ vs) =
 -- ---- on honest disks
 
 -- just the lines of each archive are written
-abbrev pub WritesEach : Format → ℕ → ℕ → List Reading → Option (List ℕ) → Option (List ℕ) → Type 0
+abbrev pub WritesEach : Format → ℕ → ℕ → List DiskReading → Option (List ℕ) → Option (List ℕ) → Type 0
 WritesEach format from to reads old new =
     (vs : List View) × AllZip IsViewRead reads vs × Appends old new (each_totals format from to 1 vs)
 
 -- Why an archive whose view was read isn't asked alone: a read failed, or memory ran out; or its sums don't fit their
 -- types.
-abbrev pub IsNotAsked : ℕ → View → TogetherError → Type 0
-IsNotAsked first v (together.Query e) = IsTotalsRefusal first (FitTogether (v ∷ [])) e
-IsNotAsked first v together.OtherWidths = ⊥
-IsNotAsked first v together.SumSpent = SumsFit v → ⊥
+abbrev pub IsRefusedAlone : ℕ → View → TogetherError → Type 0
+IsRefusedAlone first v (together.Query e) = IsTotalsRefusal first (FitTogether (v ∷ [])) e
+IsRefusedAlone first v together.OtherWidths = ⊥
+IsRefusedAlone first v together.SumSpent = SumsFit v → ⊥
 
-abbrev pub IsUnanswered : Reading → SummingRefusal → Type 0
-IsUnanswered reads (Opening e) = IsDeviceOrMemory e ⊎ StandsForNone reads
-IsUnanswered reads (Sums e) =
-    (s : State) × (v : View) × StandsFor reads s × IsViewOf (shelf_of s) v × IsNotAsked (first_file (shelf_of s)) v e
+abbrev pub IsArchiveUnanswered : DiskReading → SummingRefusal → Type 0
+IsArchiveUnanswered reads (Opening e) = IsDeviceOrMemory e ⊎ StandsForNone reads
+IsArchiveUnanswered reads (Sums e) =
+    (s : State) × (v : View) × StandsFor reads s × IsViewOf (shelf_of s) v
+    × IsRefusedAlone (first_file (shelf_of s)) v e
 
 -- The archive with this number, from 1 on, is the first without an answer: the lines of all before it are written.
-pub record IsFirstUnanswered (format : Format) (from to : ℕ) (reads : List Reading) (old new : Option (List ℕ))
+pub record IsFirstUnanswered (format : Format) (from to : ℕ) (reads : List DiskReading) (old new : Option (List ℕ))
     (number : ℕ) (e : SummingRefusal) : Type 0 where
-  pub before : List Reading
-  pub own : Reading
-  pub after : List Reading
+  pub before : List DiskReading
+  pub own : DiskReading
+  pub after : List DiskReading
   pub views : List View
   pub all : reads ≡ before ++ own ∷ after
   pub place : number ≡ length before + 1
   pub answered : AllZip IsViewRead before views
-  pub unanswered : IsUnanswered own e
+  pub unanswered : IsArchiveUnanswered own e
   pub written : Appends old new (each_totals format from to 1 views)
 
 -- some of the first archives are answered, and this is the text of their lines
-abbrev pub AreFirstLines : Format → ℕ → ℕ → List Reading → List ℕ → Type 0
+abbrev pub AreFirstLines : Format → ℕ → ℕ → List DiskReading → List ℕ → Type 0
 AreFirstLines format from to reads text =
-    (before : List Reading) × (after : List Reading) × (vs : List View) × (reads ≡ before ++ after)
+    (before : List DiskReading) × (after : List DiskReading) × (vs : List View) × (reads ≡ before ++ after)
     × AllZip IsViewRead before vs × (text ≡ each_totals format from to 1 vs)
 
 -- A refusal names the first archive without an answer, after the lines of those before it; or the lines of an archive
 -- aren't made, or a prefix of them is written, after the same.
-abbrev pub IsEachRefused : Format → ℕ → ℕ → List Reading → Option (List ℕ) → Option (List ℕ) → SeveralRefusal → Type 0
+abbrev pub IsEachRefused : Format → ℕ → ℕ → List DiskReading → Option (List ℕ) → Option (List ℕ) → SeveralRefusal
+    → Type 0
 IsEachRefused format from to reads old new (Archive number e) =
     IsFirstUnanswered format from to reads old new number e
 IsEachRefused format from to reads old new SumSpent = ⊥
@@ -116,7 +118,8 @@ IsEachRefused format from to reads old new (Write failed) =
 abbrev pub each_lines : Format → ℕ → ℕ → ℕ → List (Option PartSums) → List ℕ
 each_lines format from to number [] = []
 each_lines format from to number (sums ∷ more) =
-    archive_lines format number (width_of sums) (rows_in from to sums) ++ each_lines format from to (number + 1) more
+    archive_lines format number (width_of_sums sums) (rows_of_sums from to sums)
+    ++ each_lines format from to (number + 1) more
 
 -- lines of rows of so many archives, numbered from 1 on
 abbrev pub WritesEachRows : Format → ℕ → ℕ → ℕ → Option (List ℕ) → Option (List ℕ) → Type 0

@@ -1,7 +1,6 @@
 -- The refusals of several archives: how they are printed, and their statuses.
 use Rattle.std.specs.Prelude.{ℕ, List, ◌++◌, codes}
 use Rattle.std.specs.Fmt.{decimal}
-use Rattle.flow_manifest.specs.declared.error.OpenError.{OpenError}
 use Rattle.flow_manifest.specs.Printed.{opening_code, opening_text}
 use Rattle.flow_measure.specs.declared.error.SumError.{SumError}
 use Rattle.flow_measure.specs.declared.error.SumError.TheVariants as sum

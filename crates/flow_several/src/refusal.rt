@@ -1,7 +1,8 @@
 //! Why several archives aren't summed, or their sums aren't written.
 
 ghost use Rattle.std.specs.Prelude.{◌≡◌, ◌≢◌, ◌≤◌, Some};
-ghost use Rattle.flow_several.specs.Refusals.{of_sum, of_text, several_status, several_text, summing_status, summing_text};
+ghost use Rattle.flow_several.specs.Refusals.{of_sum, of_text, several_status, several_text, summing_status};
+ghost use Rattle.flow_several.specs.Refusals.{summing_text};
 ghost use Rattle.flow_refusals.specs.declared.read_refusal.ReadRefusal.TheVariants as query;
 ghost use Rattle.flow_together.specs.declared.error.TogetherError.TheVariants as together;
 ghost use Rattle.flow_several.specs.declared.refusal.SeveralRefusal.TheVariants as several;
@@ -75,6 +76,8 @@ impl fmt::Display for SeveralRefusal {
         }
     }
 }
+
+impl Error for SummingRefusal {}
 
 impl Error for SeveralRefusal {}
 

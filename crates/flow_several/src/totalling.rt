@@ -15,10 +15,10 @@ use flow_together::Together;
 use std::alloc::Global;
 use std::io::Write;
 
-/// Sums the archives on these disks, of which nothing is frozen, and writes the totals lines of the intervals that start
-/// from `from` on and before `to`, one for each interval, domain and protocol of all of them: as `totals` writes those
-/// of one archive. Each archive is opened, asked and closed, one after the other. Nothing is written unless all are
-/// summed; the first that isn't is named.
+/// Sums the archives on these disks, of which nothing is frozen, and writes the totals lines of the intervals that
+/// start from `from` on and before `to`, one for each interval, domain and protocol of all of them: as `totals` writes
+/// those of one archive. Each archive is opened, asked and closed, one after the other. Nothing is written unless all
+/// are summed; the first that isn't is named.
 pub fn totals_of<D: Disk, W: Write>(
     alloc: Global,
     disks: Vec<D>,

@@ -2,10 +2,10 @@
 
 ghost use Rattle.std.specs.Prelude.{◌≡◌, ℕ, IfErr, OnOk, List, MatchResult};
 ghost use Rattle.std.specs.Io.KnownBytes.{Appends};
-ghost use Rattle.flow_together.specs.Together.{rows_in, width_of, OneTableFits};
+ghost use Rattle.flow_together.specs.Together.{rows_of_sums, width_of_sums, OneTableFits};
 ghost use Rattle.flow_several.specs.Each.{archive_lines, IsLineRefusal};
 ghost use Rattle.flow_several.specs.Refusals.{of_rows};
-ghost use Rattle.flow_several.specs.Several.{AreSummed, IsOfAnArchive, IsUnwritten, WritesNoRows, WritesRows};
+ghost use Rattle.flow_several.specs.Several.{AreSummed, IsOfAnArchive, AreTotalsUnwritten, WritesNoRows, WritesRows};
 ghost use Rattle.flow_several.specs.Several.{WritesTotals};
 
 use crate::numbered::lines_of;
@@ -27,7 +27,7 @@ pub(crate) fn write_sums<W: Write>(
 ) -> Result<(), SeveralRefusal>
     ensures totals { (reads : List (ℕ → List ℕ)) → AreSummed reads all.sums → MatchResult result
         (λ _. WritesTotals format from to reads (W.contents output.old) (W.contents output.new))
-        (IsUnwritten format from to reads (W.contents output.old) (W.contents output.new)) }
+        (AreTotalsUnwritten format from to reads (W.contents output.old) (W.contents output.new)) }
     ensures written { OnOk result (WritesRows format from to (W.contents output.old) (W.contents output.new)) }
     ensures kept { IfErr result (WritesNoRows format from to (W.contents output.old) (W.contents output.new)) }
     ensures unnamed { IfErr result (λ e. IsOfAnArchive e → ⊥) }
@@ -61,9 +61,9 @@ pub(crate) fn write_archive<W: Write>(
     output: &mut W,
 ) -> Result<(), SeveralRefusal>
     ensures all { OnOk result (Appends (W.contents output.old) (W.contents output.new)
-        (archive_lines format number (width_of one.sums) (rows_in from to one.sums))) }
+        (archive_lines format number (width_of_sums one.sums) (rows_of_sums from to one.sums))) }
     ensures refused { IfErr result (IsLineRefusal number (OneTableFits one.sums)
-        (archive_lines format number (width_of one.sums) (rows_in from to one.sums)) (W.contents output.old)
+        (archive_lines format number (width_of_sums one.sums) (rows_of_sums from to one.sums)) (W.contents output.old)
         (W.contents output.new)) }
 {
     let usual = one.width();

@@ -25,10 +25,10 @@ use Rattle.flow_snapshot.proofs.Dealt.{all_read}
 use Rattle.flow_snapshot.proofs.ViewParts.{parts_of}
 use Rattle.flow_together.specs.declared.error.TogetherError.{TogetherError}
 use Rattle.flow_together.specs.declared.error.TogetherError.TheVariants.{OtherWidths, Query}
-use Rattle.flow_together.specs.Together.{added, first_width, narrow_of, of_sums, rows_in, totals_in_views, wide_of}
-use Rattle.flow_together.specs.Together.{width_of}
+use Rattle.flow_together.specs.Together.{added, first_width, narrow_of, of_sums, rows_of_sums, totals_in_views, wide_of}
+use Rattle.flow_together.specs.Together.{width_of_sums}
 use Rattle.flow_together.specs.Together.{same_widths, AreSumsOf, AreWithParts, BothFit, BothFitTogether}
-use Rattle.flow_together.specs.Together.{HaveWidths, IsJoint, IsJointWith, IsNotAdded, IsUnmade, OneTableFits}
+use Rattle.flow_together.specs.Together.{HaveWidths, IsJoint, IsJointWith, IsAddingRefused, IsUnmade, OneTableFits}
 
 -- ---- tables
 
@@ -94,7 +94,7 @@ module _ (s : Shelf) (v : View) (is : IsViewOf s v) where
   pub unshared : (first : ℕ) (vs : List View) (e : ReadRefusal)
       → ((wide narrow : List (FinMap key_cmp Sums)) → AreWide s wide → AreNarrow s narrow
       → IsTotalsRefusal first (AllPartsFit s wide narrow) e)
-      → IsNotAdded first vs v (Query e)
+      → IsAddingRefused first vs v (Query e)
   unshared first vs (query.Damaged file at) given =
       let p = parts_of s v is in
       let told = given p.wide p.narrow p.are_wide p.are_narrow in (
@@ -197,13 +197,13 @@ joint_views (Some all) more s u (v ∷ vs) (widths, narrow, wide) own is = by (s
 
 pub joint_refused : (first : ℕ) (all : Option PartSums) (more : PartSums) (u : View) (vs : List View)
     (e : TogetherError) → AreSumsOf all vs → (more.narrow ≡ narrow_table_in u) × (more.wide ≡ wide_table_in u)
-    → IsJoint all more (Err e) → IsNotAdded first vs u e
+    → IsJoint all more (Err e) → IsAddingRefused first vs u e
 joint_refused first None more u vs e are own is = absurd cc
 joint_refused first (Some all) more u [] e are own is = absurd are
 joint_refused first (Some all) more u (v ∷ vs) e (widths, narrow, wide) own is = by (same_widths all more) refl is
   where
     unmade : same_widths all more ≡ true → (why : SumError) → IsUnmade (BothFit all more) why
-        → IsNotAdded first (v ∷ vs) u (of_sums why)
+        → IsAddingRefused first (v ∷ vs) u (of_sums why)
     unmade w measure.SumSpent h = (
       same_as_first all more v u vs narrow wide own w,
       λ fit. h (
@@ -213,15 +213,15 @@ joint_refused first (Some all) more u (v ∷ vs) e (widths, narrow, wide) own is
     )
     unmade w measure.OutOfMemory h = tt
 
-    by : (b : Bool) → same_widths all more ≡ b → IsJointWith b all more (Err e) → IsNotAdded first (v ∷ vs) u e
-    by true w (why, h, other) = subst (IsNotAdded first (v ∷ vs) u) (sym other) (unmade w why h)
+    by : (b : Bool) → same_widths all more ≡ b → IsJointWith b all more (Err e) → IsAddingRefused first (v ∷ vs) u e
+    by true w (why, h, other) = subst (IsAddingRefused first (v ∷ vs) u) (sym other) (unmade w why h)
     by false w h =
         let other : e ≡ OtherWidths = cc in
-        subst (IsNotAdded first (v ∷ vs) u) (sym other) (other_than_first all more v u vs narrow wide own w)
+        subst (IsAddingRefused first (v ∷ vs) u) (sym other) (other_than_first all more v u vs narrow wide own w)
 
 -- ---- rows
 
-pub width_first : (sums : Option PartSums) (vs : List View) → AreSumsOf sums vs → width_of sums ≡ first_width vs
+pub width_first : (sums : Option PartSums) (vs : List View) → AreSumsOf sums vs → width_of_sums sums ≡ first_width vs
 width_first None [] are = refl
 width_first None (v ∷ vs) are = absurd are
 width_first (Some s) [] are = absurd are
@@ -230,7 +230,7 @@ width_first (Some s) (v ∷ vs) (widths, narrow, wide) =
 
 pub rows_of_views : {X : Type 0} (items : X → List Row) (sums : Option PartSums) (from to : ℕ)
     (r : Result X SumError)
-    → MatchResult r (λ x. items x ≡ rows_in from to sums) (λ e. IsUnmade (OneTableFits sums) e)
+    → MatchResult r (λ x. items x ≡ rows_of_sums from to sums) (λ e. IsUnmade (OneTableFits sums) e)
     → (vs : List View) → AreSumsOf sums vs
     → MatchResult r (λ x. items x ≡ totals_in_views from to vs) (λ e. IsUnmade (BothFitTogether vs) e)
 rows_of_views items None from to r made [] are = made
@@ -246,7 +246,7 @@ rows_of_views {X} items (Some s) from to r made (v ∷ vs) (widths, narrow, wide
         ∙ same ∙ ap (λ (t : Table). t.width) wide ∙ added-width (wide_table_in v) (map wide_table_in vs)))
 
     by : (r : Result X SumError)
-        → MatchResult r (λ x. items x ≡ rows_in from to (Some s)) (λ e. IsUnmade (OneTableFits (Some s)) e)
+        → MatchResult r (λ x. items x ≡ rows_of_sums from to (Some s)) (λ e. IsUnmade (OneTableFits (Some s)) e)
         → MatchResult r (λ x. items x ≡ totals_in_views from to (v ∷ vs)) (λ e. IsUnmade (BothFitTogether (v ∷ vs)) e)
     by (Ok x) made = made ∙ ap (λ (t : Table). rows_of_both from to t s.wide) narrow
         ∙ ap (rows_of_both from to (narrow_of v vs)) wide

@@ -56,14 +56,14 @@ AreSumsOf (Some s) (v ∷ vs) =
     HaveWidths v.width v.wide vs × (s.narrow ≡ narrow_of v vs) × (s.wide ≡ wide_of v vs)
 
 -- the width of sums; 0 where there are none
-abbrev pub width_of : Option PartSums → ℕ
-width_of None = 0
-width_of (Some s) = s.narrow.width
+abbrev pub width_of_sums : Option PartSums → ℕ
+width_of_sums None = 0
+width_of_sums (Some s) = s.narrow.width
 
 -- the rows of sums by both widths, of the intervals that start in a span
-abbrev pub rows_in : ℕ → ℕ → Option PartSums → List Row
-rows_in from to None = []
-rows_in from to (Some s) = rows_of_both from to s.narrow s.wide
+abbrev pub rows_of_sums : ℕ → ℕ → Option PartSums → List Row
+rows_of_sums from to None = []
+rows_of_sums from to (Some s) = rows_of_both from to s.narrow s.wide
 
 -- the sums of all these views fit their types
 abbrev pub FitTogether : List View → Type 0
@@ -98,10 +98,10 @@ HasSameWidths (v ∷ vs) u = (u.width ≡ v.width) × (u.wide ≡ v.wide)
 
 -- Why an archive isn't added to others: a read failed, or memory ran out; its own sums don't fit their types, and the
 -- first part is reported as damaged; its widths are others; or they are the same, and the sums of all don't fit.
-abbrev pub IsNotAdded : ℕ → List View → View → TogetherError → Type 0
-IsNotAdded first vs u (Query e) = IsTotalsRefusal first (FitTogether (u ∷ [])) e
-IsNotAdded first vs u OtherWidths = HasSameWidths vs u → ⊥
-IsNotAdded first vs u SumSpent = HasSameWidths vs u × (FitTogether (vs ++ u ∷ []) → ⊥)
+abbrev pub IsAddingRefused : ℕ → List View → View → TogetherError → Type 0
+IsAddingRefused first vs u (Query e) = IsTotalsRefusal first (FitTogether (u ∷ [])) e
+IsAddingRefused first vs u OtherWidths = HasSameWidths vs u → ⊥
+IsAddingRefused first vs u SumSpent = HasSameWidths vs u × (FitTogether (vs ++ u ∷ []) → ⊥)
 
 -- ---- sums of two
 

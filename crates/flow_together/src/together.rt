@@ -5,9 +5,9 @@ ghost use Rattle.flow_disk.specs.Cause.{HasCause};
 ghost use Rattle.flow_measure.specs.View.{View};
 ghost use Rattle.flow_model.specs.Views.{IsViewOf};
 ghost use Rattle.flow_snapshot.specs.Totals.{first_file};
-ghost use Rattle.flow_together.specs.Together.{first_width, rows_in, same_widths, totals_in_views, width_of};
+ghost use Rattle.flow_together.specs.Together.{first_width, rows_of_sums, same_widths, totals_in_views, width_of_sums};
 ghost use Rattle.flow_together.specs.Together.{AreBoth, AreSumsOf, AreWithParts, BothFit, BothFitTogether, IsJoint};
-ghost use Rattle.flow_together.specs.Together.{IsNotAdded, IsUnmade, OneTableFits};
+ghost use Rattle.flow_together.specs.Together.{IsAddingRefused, IsUnmade, OneTableFits};
 ghost use Rattle.flow_together.specs.declared.error.TogetherError.TheVariants as together;
 
 use crate::error::TogetherError;
@@ -55,7 +55,8 @@ fn joint(all: Option<PartSums>, more: PartSums) -> Result<PartSums, TogetherErro
 
 /// The rows of sums by both widths that start from `from` on and before `to`; none where there are no sums.
 fn rows_of(alloc: Global, sums: Option<PartSums>, from: u64, to: u64) -> Result<Vec<Row>, SumError>
-    ensures { MatchResult result (λ rows. rows.items ≡ rows_in from to sums) (λ e. IsUnmade (OneTableFits sums) e) }
+    ensures { MatchResult result (λ rows. rows.items ≡ rows_of_sums from to sums)
+        (λ e. IsUnmade (OneTableFits sums) e) }
 {
     match sums {
         None => Ok(Vec::new(alloc)),
@@ -97,7 +98,7 @@ impl Together {
         ensures added { IsTrue snapshot.now.honest → (v : View) → IsViewOf snapshot.now.shelf v → (vs : List View)
             → AreSumsOf self.sums vs
             → MatchResult result (λ all. AreSumsOf all.sums (vs ++ v ∷ []))
-            (λ e. IsNotAdded (first_file snapshot.now.shelf) vs v e) }
+            (λ e. IsAddingRefused (first_file snapshot.now.shelf) vs v e) }
     {
         let more = snapshot.share(alloc, 1, 0, faults)?;
         let sums = joint(self.sums, more)?;
@@ -106,7 +107,7 @@ impl Together {
 
     /// The width of the first archive's intervals, in seconds; 0 before the first.
     pub fn width(&self) -> u32
-        ensures value { result ≡ width_of self.now.sums }
+        ensures value { result ≡ width_of_sums self.now.sums }
         ensures views { (vs : List View) → AreSumsOf self.now.sums vs → result ≡ first_width vs }
     {
         match &self.sums {
@@ -118,7 +119,7 @@ impl Together {
     /// The rows of all archives that start from `from` on and before `to`, in the order of their keys, each the sums of
     /// all of them.
     pub fn rows(self, alloc: Global, from: u64, to: u64) -> Result<Vec<Row>, SumError>
-        ensures made { MatchResult result (λ rows. rows.items ≡ rows_in from to self.sums)
+        ensures made { MatchResult result (λ rows. rows.items ≡ rows_of_sums from to self.sums)
             (λ e. IsUnmade (OneTableFits self.sums) e) }
         ensures views { (vs : List View) → AreSumsOf self.sums vs
             → MatchResult result (λ rows. rows.items ≡ totals_in_views from to vs)

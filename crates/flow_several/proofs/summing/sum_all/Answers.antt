@@ -1,4 +1,4 @@
-use Rattle.std.proofs.Common.{◌≡◌, ◌∙◌, ◌+◌, [], ◌∷◌, ◌++◌, ℕ, length, sym, ap, subst, arith}
+use Rattle.std.proofs.Common.{◌≡◌, ◌∙◌, ◌+◌, [], ◌∷◌, ◌++◌, ℕ, length, sym, ap, subst}
 use Rattle.std.specs.Prelude.{IsTrue, MatchResult}
 use Rattle.std.proofs.lemmas.List.{length_push}
 use Rattle.std.proofs.lemmas.Iterator.Adapters.{YieldsList-from_vec}
@@ -49,5 +49,6 @@ loop-disk-preserved g c =
           subst (λ r. MatchResult r (λ more. IsSummedWith (reads_of (g.D.Disk.held c.in-Some.disk)) vs more.sums)
           (IsNotSummed (reads_of (g.D.Disk.held c.in-Some.disk)) vs)) c.in-Ok.is
           (c.open_and_sum-disk.ensures.summed own vs are));
-      faults = none_failed c.in-Ok.more _ _ (c.open_and_sum-disk.result).1 c.in-Ok.is c.open_and_sum-disk.ensures.cause ∙ c.loop-disk.invariant.faults;
+      faults = none_failed c.in-Ok.more _ _ (c.open_and_sum-disk.result).1 c.in-Ok.is c.open_and_sum-disk.ensures.cause
+          ∙ c.loop-disk.invariant.faults;
     }

@@ -1,8 +1,5 @@
 use Rattle.flow_refusals.specs.declared.read_refusal.ReadRefusal.TheVariants as query
 use Rattle.flow_together.specs.declared.error.TogetherError.TheVariants as together
-use Rattle.flow_snapshot.specs.Totals.{first_file}
-use Rattle.flow_snapshot.specs.ShelfSeen.{ShelfSeen}
-use Rattle.flow_together.specs.Together.{AreSumsOf, IsNotAdded}
 use Rattle.flow_several.specs.declared.refusal.SummingRefusal.TheVariants.{Sums}
 use Rattle.flow_several.specs.Several.{IsNotSummed, IsSummedWith}
 use Rattle.flow_several.proofs.OneByOne.{err_matched, not_summed, summed_with}

@@ -1,4 +1,4 @@
-use Rattle.std.proofs.Common.{◌≡◌, ◌∙◌, ◌+◌, [], ◌∷◌, ◌++◌, ℕ, length, map, drop, refl, sym, ap}
+use Rattle.std.proofs.Common.{◌≡◌, ◌∙◌, ◌+◌, [], ◌∷◌, ◌++◌, ℕ, length, drop, refl, sym, ap}
 use Rattle.std.specs.Prelude.{IsTrue}
 use Rattle.std.specs.List.{All}
 use Rattle.std.proofs.lemmas.List.{length_push}
@@ -29,9 +29,8 @@ returns-in_err-write_archive-in-Ok-clause-refused g c = λ honest.
     let turn = YieldsList-turn (YieldsList-from_vec {s = c.into_iter-disk-iterator.result} disks gives.0
     (gives.1 ∙ c.args.disks.ok.0)) c.loop-disk.yielded c.loop-disk.disk-iterator c.loop-disk.yielded_by
     c.next.result c.next.new.self c.in-Some.disk c.in-Some.is c.next.ensures.steps in
-    let reading = λ d. reads_of (g.D.Disk.held d) in
     let reads = readings g.D.Disk disks in
-    let own = reading c.in-Some.disk in
+    let own = reads_of (g.D.Disk.held c.in-Some.disk) in
     let Honest = All (λ d. IsTrue (g.D.Disk.honest d)) disks in
     let old = g.W.Write.contents c.args.output.now in
     let now = g.W.Write.contents c.loop-disk.output in
@@ -41,8 +40,9 @@ returns-in_err-write_archive-in-Ok-clause-refused g c = λ honest.
     passed_on c.from_residual.result e (IsEachRefused c.args.format c.args.from c.args.to reads old new)
     c.from_residual.ensures.1
     (each_cut c.args.format c.args.from c.args.to reads Honest n (c.loop-disk.place + 1) old now
-    c.loop-disk.invariant.lines number c.in-Ok.one.sums own (map reading (drop (n + 1) disks))
-    (reads_at reading disks n c.in-Some.disk turn.0 turn.1) (reads_before reading disks n c.in-Some.disk turn.0 turn.1)
+    c.loop-disk.invariant.lines number c.in-Ok.one.sums own (readings g.D.Disk (drop (n + 1) disks))
+    (reads_at (λ d. reads_of (g.D.Disk.held d)) disks n c.in-Some.disk turn.0 turn.1)
+    (reads_before (λ d. reads_of (g.D.Disk.held d)) disks n c.in-Some.disk turn.0 turn.1)
     (λ h. when_ok (c.open_and_sum-disk.result).1 c.in-Ok.one (λ more. IsSummedWith own [] more.sums)
     (IsNotSummed own []) c.in-Ok.is (c.open_and_sum-disk.ensures.summed
     (at_turn (λ d. IsTrue (g.D.Disk.honest d)) disks n c.in-Some.disk turn.0 turn.1 h) [] c.new.ensures))
@@ -56,9 +56,8 @@ returns-in_err-write_archive-in-Ok-clause-kept g c =
     let turn = YieldsList-turn (YieldsList-from_vec {s = c.into_iter-disk-iterator.result} disks gives.0
     (gives.1 ∙ c.args.disks.ok.0)) c.loop-disk.yielded c.loop-disk.disk-iterator c.loop-disk.yielded_by
     c.next.result c.next.new.self c.in-Some.disk c.in-Some.is c.next.ensures.steps in
-    let reading = λ d. reads_of (g.D.Disk.held d) in
     let reads = readings g.D.Disk disks in
-    let own = reading c.in-Some.disk in
+    let own = reads_of (g.D.Disk.held c.in-Some.disk) in
     let Honest = All (λ d. IsTrue (g.D.Disk.honest d)) disks in
     let old = g.W.Write.contents c.args.output.now in
     let now = g.W.Write.contents c.loop-disk.output in
@@ -78,16 +77,16 @@ returns-in-Err-clause-refused g c = λ honest.
     let turn = YieldsList-turn (YieldsList-from_vec {s = c.into_iter-disk-iterator.result} disks gives.0
     (gives.1 ∙ c.args.disks.ok.0)) c.loop-disk.yielded c.loop-disk.disk-iterator c.loop-disk.yielded_by
     c.next.result c.next.new.self c.in-Some.disk c.in-Some.is c.next.ensures.steps in
-    let reading = λ d. reads_of (g.D.Disk.held d) in
     let reads = readings g.D.Disk disks in
-    let own = reading c.in-Some.disk in
+    let own = reads_of (g.D.Disk.held c.in-Some.disk) in
     let Honest = All (λ d. IsTrue (g.D.Disk.honest d)) disks in
     let old = g.W.Write.contents c.args.output.now in
     let now = g.W.Write.contents c.loop-disk.output in
     let number : c.loop-disk.place + 1 ≡ n + 1 = ap (λ (k : ℕ). k + 1) c.loop-disk.invariant.place in
     each_refused c.args.format c.args.from c.args.to reads Honest n (c.loop-disk.place + 1) old now
-    c.loop-disk.invariant.lines number c.in-Err.error own (map reading (drop (n + 1) disks))
-    (reads_at reading disks n c.in-Some.disk turn.0 turn.1) (reads_before reading disks n c.in-Some.disk turn.0 turn.1)
+    c.loop-disk.invariant.lines number c.in-Err.error own (readings g.D.Disk (drop (n + 1) disks))
+    (reads_at (λ d. reads_of (g.D.Disk.held d)) disks n c.in-Some.disk turn.0 turn.1)
+    (reads_before (λ d. reads_of (g.D.Disk.held d)) disks n c.in-Some.disk turn.0 turn.1)
     honest (when_err (c.open_and_sum-disk.result).1 c.in-Err.error (λ more. IsSummedWith own [] more.sums)
     (IsNotSummed own []) c.in-Err.is (c.open_and_sum-disk.ensures.summed
     (at_turn (λ d. IsTrue (g.D.Disk.honest d)) disks n c.in-Some.disk turn.0 turn.1 honest) [] c.new.ensures))
@@ -100,9 +99,8 @@ loop-disk-preserved g c =
     let turn = YieldsList-turn (YieldsList-from_vec {s = c.into_iter-disk-iterator.result} disks gives.0
     (gives.1 ∙ c.args.disks.ok.0)) c.loop-disk.yielded c.loop-disk.disk-iterator c.loop-disk.yielded_by
     c.next.result c.next.new.self c.in-Some.disk c.in-Some.is c.next.ensures.steps in
-    let reading = λ d. reads_of (g.D.Disk.held d) in
     let reads = readings g.D.Disk disks in
-    let own = reading c.in-Some.disk in
+    let own = reads_of (g.D.Disk.held c.in-Some.disk) in
     let Honest = All (λ d. IsTrue (g.D.Disk.honest d)) disks in
     let old = g.W.Write.contents c.args.output.now in
     let now = g.W.Write.contents c.loop-disk.output in
@@ -114,10 +112,10 @@ loop-disk-preserved g c =
       place = number ∙ sym longer;
       lines = one_written c.args.format c.args.from c.args.to reads Honest n (c.loop-disk.place + 1) old now
           c.loop-disk.invariant.lines number c.in-Ok.one.sums own (length (c.loop-disk.yielded ++ c.in-Some.disk ∷ []))
-          longer (reads_next reading disks n c.in-Some.disk turn.0 turn.1 _ longer)
+          longer (reads_next (λ d. reads_of (g.D.Disk.held d)) disks n c.in-Some.disk turn.0 turn.1 _ longer)
           (λ h. when_ok (c.open_and_sum-disk.result).1 c.in-Ok.one (λ more. IsSummedWith own [] more.sums)
-    (IsNotSummed own []) c.in-Ok.is (c.open_and_sum-disk.ensures.summed
-    (at_turn (λ d. IsTrue (g.D.Disk.honest d)) disks n c.in-Some.disk turn.0 turn.1 h) [] c.new.ensures))
+          (IsNotSummed own []) c.in-Ok.is (c.open_and_sum-disk.ensures.summed
+          (at_turn (λ d. IsTrue (g.D.Disk.honest d)) disks n c.in-Some.disk turn.0 turn.1 h) [] c.new.ensures))
           new c.in_ok-write_archive-in-Ok.ensures.all;
       faults = none_failed c.in-Ok.one _ _ (c.open_and_sum-disk.result).1 c.in-Ok.is c.open_and_sum-disk.ensures.cause
           ∙ c.loop-disk.invariant.faults;

@@ -1,20 +1,21 @@
 use Rattle.std.proofs.Common.{◌++◌, [], ◌∷◌}
 use Rattle.flow_snapshot.specs.Totals.{first_file}
 use Rattle.flow_together.specs.declared.error.TogetherError.TheVariants.{Query}
-use Rattle.flow_together.specs.Together.{AreSumsOf, IsNotAdded}
+use Rattle.flow_together.specs.Together.{AreSumsOf, IsAddingRefused}
 use Rattle.flow_together.proofs.Adding.{err_matched, joint_refused, joint_views, unshared, whole, with_parts}
 use Rattle.flow_together.proofs.together.Together.add.Goals as goal
 
 pub returns-in_err-more-clause-added : goal.returns-in_err-more-clause-added
 returns-in_err-more-clause-added g c = λ honest v is vs are.
     err_matched c.from_residual.result (Query (c.in_err-more.field-0).0) (λ all. AreSumsOf all.sums (vs ++ v ∷ []))
-    (λ e. IsNotAdded (first_file c.args.snapshot.now.shelf) vs v e) c.from_residual.ensures.1
-    (unshared c.args.snapshot.now.shelf v is (first_file c.args.snapshot.now.shelf) vs (c.in_err-more.field-0).0 (c.in_err-more.ensures.share.given honest))
+    (λ e. IsAddingRefused (first_file c.args.snapshot.now.shelf) vs v e) c.from_residual.ensures.1
+    (unshared c.args.snapshot.now.shelf v is (first_file c.args.snapshot.now.shelf) vs (c.in_err-more.field-0).0
+    (c.in_err-more.ensures.share.given honest))
 
 pub returns-in_err-sums-clause-added : goal.returns-in_err-sums-clause-added
 returns-in_err-sums-clause-added g c = λ honest v is vs are.
     err_matched c.from_residual-in_err-sums.result (c.in_err-sums.field-0).0 (λ all. AreSumsOf all.sums (vs ++ v ∷ []))
-    (λ e. IsNotAdded (first_file c.args.snapshot.now.shelf) vs v e) c.from_residual-in_err-sums.ensures.1
+    (λ e. IsAddingRefused (first_file c.args.snapshot.now.shelf) vs v e) c.from_residual-in_err-sums.ensures.1
     (joint_refused (first_file c.args.snapshot.now.shelf) c.args.self.sums c.in_ok-more.more v vs (c.in_err-sums.field-0).0 are
     (whole c.args.snapshot.now.shelf v is c.in_ok-more.more (c.in_ok-more.ensures.share.given honest))
     c.in_err-sums.ensures)
