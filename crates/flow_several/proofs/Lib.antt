@@ -1,0 +1,4 @@
+pub mod OneByOne
+pub mod Faults
+pub mod LinesWritten
+pub mod EachLines

@@ -1,0 +1,3 @@
+pub mod Refusals
+pub mod Several
+pub mod Each

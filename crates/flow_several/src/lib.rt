@@ -1,0 +1,16 @@
+//! Several archives, asked one after the other.
+//!
+//! Promised to the layer above: on honest disks `totals_of` writes the totals lines of all archives together, the sums
+//! of what is read of each of them, or nothing where one can't be summed, which is then named: the first, by its
+//! number. At most one archive is in memory at a time. Whatever the disks, lines of rows of the span are written, or
+//! nothing, or a prefix where writing failed.
+#![tactic(auto)]
+
+mod numbered;
+mod refusal;
+mod summing;
+mod totalling;
+mod writing;
+
+pub use refusal::{SeveralRefusal, SummingRefusal};
+pub use totalling::{totals_of, totals_of_each};

@@ -1,0 +1,2 @@
+pub mod Together
+pub mod Printed
