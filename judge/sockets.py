@@ -96,10 +96,26 @@ def waiting(end, what):
     return found[0]
 
 
+def has_datagram(end):
+    """Whether one waits there, an empty one too, of which FIONREAD knows nothing."""
+    try:
+        end.recv(1, socket.MSG_PEEK | socket.MSG_DONTWAIT)
+    except BlockingIOError:
+        return False
+    return True
+
+
+def is_unread(ours, theirs):
+    """Whether something that was sent waits in either end."""
+    if theirs.type == socket.SOCK_DGRAM:
+        return has_datagram(theirs)
+    return waiting(theirs, termios.FIONREAD) or (ours.type == socket.SOCK_STREAM and waiting(ours, termios.TIOCOUTQ))
+
+
 def all_read(feed, ours, theirs):
-    """Waits until what was sent is read: nothing waits in either end."""
+    """Waits until what was sent is read."""
     until = time.monotonic() + SECONDS
-    while waiting(theirs, termios.FIONREAD) or (ours.type == socket.SOCK_STREAM and waiting(ours, termios.TIOCOUTQ)):
+    while is_unread(ours, theirs):
         if feed.poll() is not None or time.monotonic() > until:
             raise Gone
         time.sleep(0.0002)
