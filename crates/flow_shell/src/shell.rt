@@ -171,13 +171,7 @@ fn serve_over<
     S: Directory + Send,
     R: Read,
     W: Write,
->(
-    rt: &H,
-    system: S,
-    keep: u32,
-    input: &mut R,
-    output: &mut W,
-) -> Result<u8, ArchiveRefusal>
+>(rt: &H, system: S, keep: u32, input: &mut R, output: &mut W) -> Result<u8, ArchiveRefusal>
 where
     H::File: Send + Sync,
     H::Dir: Send + Sync,
