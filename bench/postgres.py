@@ -1,0 +1,186 @@
+#!/usr/bin/env python3
+"""postgres.py PROGRAM [--archives N] [--octets N]: archives as tables of PostgreSQL (docs/SCALE.md), on Debian's
+PostgreSQL 15, by root: two servers in a folder of its own, on sockets of their own. Each archive is a table of
+file_fdw, whose program is `PROGRAM totals DIR .. --csv`; a view has all of them; a second server has half of them, and
+the first one asks both. It compares the sums of the view with those that `totals` of each archive gives, takes the
+times of both, and tries what may go wrong: a damaged archive, a limit, sessions side by side, parallel plans, a role
+that may only read. It prints a line for each, and ends with 'N lines, M differ'; its status is 0 where M is 0, else
+1."""
+import argparse
+import concurrent.futures
+import csv
+import io
+import os
+import shutil
+import subprocess
+import sys
+import tempfile
+import time
+
+BIN = "/usr/lib/postgresql/15/bin/"
+TABLE = "start bigint, domain bigint, protocol smallint, flows numeric, octets numeric, packets numeric, width int"
+FLOWS = "start bigint, domain bigint, protocol smallint, octets numeric, packets numeric"
+SPAN = ("0", "4294967296")
+
+
+class Servers:
+    """Two servers of PostgreSQL, and archives that they may read."""
+
+    def __init__(self, program, place, archives):
+        self.place, self.archives, self.lines, self.differ = place, archives, 0, 0
+        self.program = os.path.join(place, "flowvault")
+        shutil.copyfile(program, self.program)
+        os.chmod(self.program, 0o755)
+        os.chmod(place, 0o755)
+        for port in (5541, 5542):
+            data = os.path.join(place, "data%d" % port)
+            os.mkdir(data, 0o700)
+            shutil.chown(data, "postgres", "postgres")
+            self.as_postgres(BIN + "initdb", "-D", data, "-A", "trust", "--no-sync", "-N")
+            words = "-k %s -p %d -c listen_addresses= -c fsync=off -c max_parallel_workers_per_gather=0" % (data, port)
+            self.as_postgres(BIN + "pg_ctl", "-D", data, "-w", "-l", data + "/log", "-o", words, "start")
+
+    def as_postgres(self, *words, check=True, given=None):
+        return subprocess.run(["runuser", "-u", "postgres", "--", *words], cwd="/", input=given, check=check,
+                              stdout=subprocess.PIPE, stderr=subprocess.PIPE, text=True)
+
+    def stop(self):
+        for port in (5541, 5542):
+            self.as_postgres(BIN + "pg_ctl", "-D", "%s/data%d" % (self.place, port), "-m", "immediate", "stop",
+                             check=False)
+
+    def sql(self, text, port=5541, role="postgres"):
+        """What a server answers, as tuples of text; where it refuses, the line of its refusal."""
+        ran = self.as_postgres("psql", "-h", "%s/data%d" % (self.place, port), "-p", str(port), "-U", role, "-X", "-q",
+                               "-A", "-t", "-F", ",", "-v", "ON_ERROR_STOP=1", "postgres", check=False, given=text)
+        if ran.returncode:
+            return [line for line in ran.stderr.split("\n") if "ERROR" in line][0]
+        return [tuple(line.split(",")) for line in ran.stdout.split("\n") if line]
+
+    def path(self, number):
+        return "%s/archives/a%02d" % (self.place, number)
+
+    def table(self, number, words="totals", name=None):
+        columns = TABLE if words == "totals" else FLOWS
+        return ("create foreign table %s (%s) server flowvault options (program 'exec %s %s %s %s %s --csv', "
+                "format 'csv', header 'true');"
+                % (name or "a%02d" % number, columns, self.program, words, self.path(number), *SPAN))
+
+    def say(self, what, wanted, came):
+        self.lines += 1
+        same = wanted == came
+        self.differ += int(not same)
+        print("%s: %s" % (what, came if same else "wanted %r, came %r" % (wanted, came)), flush=True)
+
+
+def fed(program, place, archives, octets):
+    """Archives with the same messages, of the generator of this folder."""
+    here = os.path.dirname(os.path.abspath(__file__))
+    path = os.path.join(place, "in.ipfix")
+    with open(path, "wb") as file:
+        subprocess.run([sys.executable, here + "/generate.py", str(octets)], stdout=file, check=True)
+    os.mkdir(place + "/archives")
+    for number in range(1, archives + 1):
+        folder = "%s/archives/a%02d" % (place, number)
+        if number == 1:
+            os.mkdir(folder)
+            subprocess.run([program, "create", folder, "300"], check=True)
+            subprocess.run([program, "feed", folder, path, "--keep", "4294967295"], check=True,
+                           stdout=subprocess.DEVNULL)
+            subprocess.run("chgrp -R postgres %s && chmod -R g+rX %s" % (folder, folder), shell=True, check=True)
+        else:
+            subprocess.run(["cp", "-a", place + "/archives/a01", folder], check=True)
+
+
+def sums(servers):
+    """The sum of octets by domain of all archives, by `totals` of each."""
+    by = {}
+    for number in range(1, servers.archives + 1):
+        out = subprocess.run([servers.program, "totals", servers.path(number), *SPAN, "--csv"], check=True,
+                             stdout=subprocess.PIPE, text=True).stdout
+        for row in csv.DictReader(io.StringIO(out)):
+            by[row["domain"]] = by.get(row["domain"], 0) + int(row["octets"])
+    return sorted((domain, str(octets)) for domain, octets in by.items())
+
+
+def timed(what):
+    since = time.monotonic()
+    came = what()
+    return came, "%.2f s" % (time.monotonic() - since)
+
+
+def setup(servers):
+    half = (servers.archives + 1) // 2
+    common = "create extension file_fdw; create server flowvault foreign data wrapper file_fdw;"
+    every = range(1, servers.archives + 1)
+    view = "create view bill as " + " union all ".join(
+        "select text 'a%02d' as exporter, * from a%02d" % (n, n) for n in every) + ";"
+    for port in (5541, 5542):
+        servers.sql(common + "".join(map(servers.table, every)) + view, port)
+    servers.sql("create view here as select * from bill where exporter <= 'a%02d'" % half)
+    servers.sql("create view here as select * from bill where exporter > 'a%02d'" % half, 5542)
+    machines = "".join(
+        "create server m%d foreign data wrapper postgres_fdw options (host '%s/data%d', port '%d', dbname 'postgres', "
+        "async_capable 'true'); create user mapping for postgres server m%d options (user 'postgres');"
+        % (n, servers.place, port, port, n) for n, port in ((1, 5541), (2, 5542)))
+    tables = "create table bills (machine text not null, exporter text, %s) partition by list (machine);" % TABLE
+    parts = "".join("create foreign table bills_m%d partition of bills for values in ('m%d') server m%d options "
+                    "(table_name 'here_m%d');" % (n, n, n, n) for n in (1, 2))
+    for n, port in ((1, 5541), (2, 5542)):
+        servers.sql("create view here_m%d as select text 'm%d' as machine, * from here" % (n, n), port)
+    servers.sql("create extension postgres_fdw;" + machines + tables + parts)
+
+
+def tried(servers):
+    wanted, took = timed(lambda: sums(servers))
+    print("totals of each archive, one after the other: %s" % took)
+    by = "select domain, sum(octets) from %s group by 1 order by 1"
+    came, took = timed(lambda: servers.sql(by % "bill"))
+    servers.say("sums by domain are those of totals", wanted, sorted(came))
+    print("the same by the view: %s" % took)
+    came, took = timed(lambda: servers.sql("set enable_partitionwise_aggregate = on;" + by % "bills"))
+    servers.say("and those of two machines", wanted, sorted(came))
+    print("the same by two machines (two servers here): %s" % took)
+    print("a parallel plan: %s" % servers.sql(
+        "set max_parallel_workers_per_gather = 2; set parallel_setup_cost = 0; set parallel_tuple_cost = 0; "
+        "set min_parallel_table_scan_size = 0;" + by % "bill"))
+    with concurrent.futures.ThreadPoolExecutor(10) as threads:
+        came = list(threads.map(lambda _: sorted(servers.sql(by % "bill")) == wanted, range(10)))
+    servers.say("ten sessions at once are answered", [True] * 10, came)
+    one = servers.sql("select count(*) > 0, count(distinct exporter) from bill where exporter = 'a01'")
+    servers.say("one exporter", [("t", "1")], one)
+    servers.sql("create role reader login; grant select on bill to reader")
+    servers.say("a role that may only read", wanted, sorted(servers.sql(by % "bill", role="reader")))
+    servers.sql(servers.table(1, "flows", "single"))
+    came = servers.sql("select octets from single order by octets desc limit 1")
+    servers.say("a limit after a sort", 1, len(came))
+    print("a limit alone, which ends the program's output early: %s" % servers.sql("select octets from single limit 1"))
+    with open(servers.path(1) + "/3.ipfix", "r+b") as file:
+        os.chmod(file.name, 0o640)
+        file.seek(2)
+        file.write(b"\xff\xff")
+    came = servers.sql(by % "bill")
+    servers.say("a damaged archive is an error of the query", True, isinstance(came, str) and "flowvault" in came)
+    print(came)
+
+
+def main():
+    parser = argparse.ArgumentParser(description=__doc__, formatter_class=argparse.RawDescriptionHelpFormatter)
+    parser.add_argument("program")
+    parser.add_argument("--archives", type=int, default=20)
+    parser.add_argument("--octets", type=int, default=3_000_000)
+    asked = parser.parse_args()
+    with tempfile.TemporaryDirectory(dir="/var/tmp") as place:
+        fed(os.path.abspath(asked.program), place, asked.archives, asked.octets)
+        servers = Servers(asked.program, place, asked.archives)
+        try:
+            setup(servers)
+            tried(servers)
+        finally:
+            servers.stop()
+    print("%d lines, %d differ" % (servers.lines, servers.differ))
+    return int(servers.differ > 0)
+
+
+if __name__ == "__main__":
+    sys.exit(main())
