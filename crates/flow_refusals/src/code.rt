@@ -83,6 +83,8 @@ pub enum RefusalCode {
     Closed,
     /// What readers are shown can't be read.
     Away,
+    /// Archives that are summed together have intervals of other widths.
+    Widths,
 }
 
 /// What the table has of a refusal.
@@ -156,6 +158,7 @@ impl RefusalCode {
             Self::NothingToRetire => Row::new(48, "NothingToRetire", 1, texts::NOTHING_TO_RETIRE),
             Self::Closed => Row::new(49, "Closed", 3, texts::CLOSED),
             Self::Away => Row::new(50, "Away", 3, texts::AWAY),
+            Self::Widths => Row::new(51, "Widths", 1, texts::WIDTHS),
         }
     }
 
@@ -201,7 +204,7 @@ impl RefusalCode {
             14..=17 => Some(of_files(number)),
             20..=27 => Some(of_openings(number)),
             30..=32 => Some(of_devices(number)),
-            40..=50 => Some(of_archives(number)),
+            40..=51 => Some(of_archives(number)),
             _ => None,
         }
     }
@@ -282,10 +285,11 @@ fn of_devices(number: u64) -> RefusalCode
     }
 }
 
-/// The refusal that an open archive earns, or what readers are shown of it, by its number from 40 to 50.
+/// The refusal that an open archive earns, what readers are shown of it, or several archives, by its number from 40 to
+/// 51.
 fn of_archives(number: u64) -> RefusalCode
     requires least { 40 ≤ number }
-    requires most { number ≤ 50 }
+    requires most { number ≤ 51 }
     ensures { (row_of result).number ≡ number }
 {
     match number {
@@ -299,6 +303,7 @@ fn of_archives(number: u64) -> RefusalCode
         47 => RefusalCode::Pinned,
         48 => RefusalCode::NothingToRetire,
         49 => RefusalCode::Closed,
-        _ => RefusalCode::Away,
+        50 => RefusalCode::Away,
+        _ => RefusalCode::Widths,
     }
 }

@@ -229,3 +229,8 @@ messages the archive has. What was acknowledged is on the disk.\n";
 pub(crate) const AWAY: &str = "50 Away: what readers are shown of the archive can't be read now.\n\
 Usual cause: its writer has ended, as when a shell ends.\n\
 What to do: ask again. What was acknowledged is on the disk.\n";
+
+pub(crate) const WIDTHS: &str =
+    "51 Widths: the archives that are summed together have intervals of other widths.\n\
+Usual cause: one of them was created with another WIDTH, or another --wide.\n\
+What to do: ask archives of the same widths together, the others apart.\n";

@@ -9,10 +9,10 @@ use Rattle.flow_together.specs.declared.error.TogetherError.TheVariants.{OtherWi
 -- the number, the name and what the refusal carries
 abbrev pub together_text : TogetherError → List ℕ
 together_text (Query e) = read_text e
-together_text OtherWidths = codes "51 Widths"
+together_text OtherWidths = code_text code.Widths
 together_text SumSpent = code_text code.SumSpent
 
 abbrev pub together_status : TogetherError → ℕ
 together_status (Query e) = (row_of (read_code e)).status
-together_status OtherWidths = 1
+together_status OtherWidths = (row_of code.Widths).status
 together_status SumSpent = (row_of code.SumSpent).status

@@ -29,7 +29,7 @@ impl fmt::Display for TogetherError {
     fn fmt<W: fmt::Write>(&self, f: &mut fmt::Formatter<W>) -> fmt::Result {
         match self {
             TogetherError::Query(error) => write!(f, "{error}"),
-            TogetherError::OtherWidths => write!(f, "51 Widths"),
+            TogetherError::OtherWidths => write!(f, "{}", RefusalCode::Widths),
             TogetherError::SumSpent => write!(f, "{}", RefusalCode::SumSpent),
         }
     }
@@ -47,7 +47,7 @@ impl TogetherError {
     {
         match self {
             TogetherError::Query(error) => error.code().status(),
-            TogetherError::OtherWidths => 1,
+            TogetherError::OtherWidths => RefusalCode::Widths.status(),
             TogetherError::SumSpent => RefusalCode::SumSpent.status(),
         }
     }
