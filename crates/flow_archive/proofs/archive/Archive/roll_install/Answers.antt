@@ -25,6 +25,7 @@ use Rattle.flow_archive.proofs.Installed.{some_made, then_state, work_installed}
 use Rattle.flow_archive.proofs.FilesAlone.{made_apart, own_installed}
 use Rattle.flow_archive.proofs.Owning.{as_many}
 use Rattle.flow_archive.proofs.Stand.{slot_below, stands_for}
+use Rattle.flow_rolled.specs.Rollup.{IsRollup}
 use Rattle.flow_archive.proofs.Stepping.{acknowledged, failed, refused, refused_by}
 use Rattle.flow_archive.proofs.Working.{goes_on}
 use Rattle.flow_archive.proofs.Written.{is_made_of, told}
@@ -241,8 +242,17 @@ returns-in-Err-clause-cause g c =
       other = λ differs. absurd (differs refl);
     })
 
-pub take_staged-file-requires : goal.take_staged-file-requires
-take_staged-file-requires g c =
+pub take_staged-file-requires-clause-sums : goal.take_staged-file-requires-clause-sums
+take_staged-file-requires-clause-sums g c = λ r f is made honest.
+    let a = c.self.inside in
+    let b = g.D.Disk.honest a.disk in
+    let rolling = the_rolling b (state_of a) a.job r is c.self.invariant.1.job in
+    let staged = the_staged b (state_of a) r f made rolling in
+    subst (λ (w : ℕ). IsRollup w f.octets r.rows) (sym rolling.width)
+    (staged.made (subst IsTrue staged.honest_is honest)).0
+
+pub take_staged-file-requires-clause-staged : goal.take_staged-file-requires-clause-staged
+take_staged-file-requires-clause-staged g c =
     let is = c.in_ok-made.ensures.made in
     rw is.entry_is (is.r, is.f, is.job_is, is.staged_is, refl, refl, refl, refl)
 

@@ -24,6 +24,7 @@ use Rattle.flow_archive.proofs.Chaining.{hands_next, prefix_fits}
 use Rattle.flow_archive.proofs.Directing.{failed_archive}
 use Rattle.flow_archive.proofs.AfterSeal.{is_sealed, sealed_archive, sealed_work, same_state}
 use Rattle.flow_archive.proofs.Sharing.{own_push}
+use Rattle.flow_archive.proofs.Spanned.{sealed_there}
 use Rattle.flow_archive.proofs.Stand.{slot_below, stands_for}
 use Rattle.flow_archive.proofs.Stepping.{refused, refused_by, acknowledged, failed}
 use Rattle.flow_archive.proofs.Working.{goes_on, other_file}
@@ -109,7 +110,7 @@ module _ (g : Over) (c : After-new g) where
 
   new_files : c.push_reserved.new.self.items ≡ c.self.inside.files.items ++ part ∷ []
   new_files = let counted = (c.self.invariant.0).counted in
-      rw (c.push_reserved.ensures.items, c.reserve.ensures.items, c.named.ensures, counted.active_entry_is)
+      rw (c.push_reserved.ensures.items, c.reserve.ensures.items, c.sealed_file.ensures, counted.active_entry_is)
       (rw (counted.end_is, c.len-count.ensures, many c.self.inside))
 
 pub returns-in_err-next-clause-answers : goal.returns-in_err-next-clause-answers
@@ -308,3 +309,19 @@ returns-in-Err-clause-cause g c =
       risen = λ is. why.risen;
       other = λ differs. absurd (differs refl);
     })
+
+-- the span of the messages that were kept
+pub sealed_file-requires-clause-span : goal.sealed_file-requires-clause-span
+sealed_file-requires-clause-span g c =
+    let a = c.self.inside in
+    let moved = (goal.at.sealed_file-requires-clause-span g c).After-seal_segment in
+    let counted = (c.self.invariant.0).counted in
+    let S = g.D.Sealed.SealedFile in
+    let part = c.in-Ok-seal_segment.part in
+    let own = rw (c.as_slice-span.ensures, c.as_slice-span-2.ensures.value) at c.span_in_memory-span.ensures in
+    rw (counted.active_entry_is, counted.end_is, c.len-count.ensures, many a)
+    (sealed_there (S.honest part) (S.octets part)
+    (sealed_entry (active_of a.slots.current) (end_of (state_of a)) (length a.messages.items)) (state_of a).active
+    a.slots.current.width c.span_in_memory-span.result refl
+    (λ h. c.in-Ok-seal_segment.ensures.part (subst IsTrue (c.in-Ok-seal_segment.ensures.sealed).2 h) (state_of a)
+    (move g moved (subst IsTrue (c.in-Ok-seal_segment.ensures.sealed).2 h))) own)
