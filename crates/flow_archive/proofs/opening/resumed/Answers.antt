@@ -14,6 +14,7 @@ use Rattle.flow_archive.proofs.Reopened.{found_archive, found_read, found_spans,
 use Rattle.flow_archive.proofs.Sharing.{own_found}
 use Rattle.flow_archive.proofs.Stand.{stands_for}
 use Rattle.flow_archive.proofs.Working.{nothing_under_way}
+use Rattle.flow_archive.proofs.opening.resumed.Goals.{After-new}
 use Rattle.flow_archive.proofs.opening.resumed.Goals as goal
 
 pub kept_of-requires-clause-entries : goal.kept_of-requires-clause-entries
@@ -105,7 +106,7 @@ returns-clause-stands g c h image is =
     let kept = c.in-Ok.kept in
     let T : List Frozen → State = λ w. state_in (under_way_in found.slots.current.next None w) false found.slots.current
     kept.files.items kept.prefix kept.messages.items in
-    let still = (invariant_of-result g c).0.still_open refl in
+    let still = (invariant_of-result g (goal.at.returns-clause-stands g c).After-new).0.still_open refl in
     subst (λ (w : List Frozen). IsKnown found.slots (T w) image → StandsFor image (T w)) (sym c.new.ensures.items)
     (λ known. stands_for found.slots (T []) image known) (still.kept.known h image is)
 
