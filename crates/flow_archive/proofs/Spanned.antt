@@ -145,7 +145,8 @@ pub made_there : (honest : Bool) (size : ℕ) (octets : List ℕ) (e : Entry) (k
     → (IsTrue honest → IsRollup table.width (sized size octets) table)
     → HasSpan (frozen_as e honest octets) table.width (span_of (starts_in table.sums))
 made_there honest size octets e kind table whole long is made =
-    subst (λ (k : Kind). IsTrue honest → HasSpanAs k e table.width (counted_of k e.length octets) span) (sym is) (by kind)
+    subst (λ (k : Kind). IsTrue honest → HasSpanAs k e table.width (counted_of k e.length octets) span) (sym is)
+    (by kind)
   where
     span : PartSpan
     span = span_of (starts_in table.sums)
@@ -164,7 +165,8 @@ made_there honest size octets e kind table whole long is made =
     by Roll = own
     by Merge = own
 
-twice : (kind : Kind) (n : ℕ) (octets : List ℕ) → counted_of kind n (counted_of kind n octets) ≡ counted_of kind n octets
+twice : (kind : Kind) (n : ℕ) (octets : List ℕ)
+    → counted_of kind n (counted_of kind n octets) ≡ counted_of kind n octets
 twice Wide n octets = take_all n (take n octets) (omega (arith, length-take n octets))
 twice Rolled n octets = take_all n (take n octets) (omega (arith, length-take n octets))
 twice Sealed n octets = refl

@@ -1,5 +1,5 @@
-use Rattle.std.proofs.Common.{◌≡◌, ℕ, ◌+◌, ◌++◌, List, [], ◌∷◌, append_assoc, append-nil, drop, get_or, length, refl, ap}
-use Rattle.std.proofs.Common.{sym, ◌∙◌, arith, subst, rules, vec_len}
+use Rattle.std.proofs.Common.{◌≡◌, ℕ, ◌+◌, ◌++◌, List, [], ◌∷◌, append_assoc, append-nil, drop, get_or, length, refl}
+use Rattle.std.proofs.Common.{ap, sym, ◌∙◌, arith, subst, rules, vec_len}
 use Rattle.flow_measure.specs.declared.span.PartSpan.{PartSpan}
 use Rattle.flow_archive.specs.Frozen.{width_of, Frozen, HasSpan, HaveSpans}
 use Rattle.flow_archive.proofs.Spanned.{later_known, next_known}

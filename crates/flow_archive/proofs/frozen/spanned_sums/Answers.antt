@@ -7,4 +7,5 @@ use Rattle.flow_archive.proofs.frozen.spanned_sums.Goals as goal
 
 pub with_span-requires : goal.with_span-requires
 with_span-requires g c =
-    subst (λ (o : Owned Rollup). IsTrue (value_of o).honest → rows.HasSpan c.args.span (value_of o).octets) c.in-Plain.is c.requires
+    subst (λ (o : Owned Rollup). IsTrue (value_of o).honest → rows.HasSpan c.args.span (value_of o).octets)
+    c.in-Plain.is c.requires

@@ -52,8 +52,8 @@ module _ (g : Over) (c : After-seal_segment g) where
   count : c.len-count.result ≡ length c.self.inside.messages.items
   count = c.len-count.ensures ∙ many c.self.inside
 
-  kept_prefix : c.as_slice.result.now ≡ prefix
-  kept_prefix = c.as_slice.ensures ∙ c.in_ok-next.ensures.prefix
+  kept_prefix : c.as_slice-3.result.now ≡ prefix
+  kept_prefix = c.as_slice-3.ensures ∙ c.in_ok-next.ensures.prefix
 
   made : c.in_ok-next.next.manifest ≡ next_of c.self.inside
   made = rw (c.in_ok-next.ensures.manifest, ((c.self.invariant.0).counted).end_is, count)
@@ -73,7 +73,7 @@ module _ (g : Over) (c : After-seal_segment g) where
 
   move : IsTrue (g.D.Disk.honest c.self.inside.disk)
       → IsSealing (g.D.Disk.held c.self.inside.disk) c.self.inside.slots c.self.inside.active.file c.self.inside.end
-      c.self.inside.next c.as_slice.result.now c.as_slice-2.result.now was
+      c.self.inside.next c.as_slice-3.result.now c.as_slice-4.result.now was
   move h =
       let counted = (c.self.invariant.0).counted in
       let still = (c.self.invariant.0).still_open c.if-self.false in
@@ -86,13 +86,13 @@ module _ (g : Over) (c : After-seal_segment g) where
         valid = rw kept_prefix valid;
         chained = rw kept_prefix
             (carry, hands_next was carry counted.valid c.in_ok-next.ensures.carry (still.hands_on h));
-        body_is = rw (kept_prefix, c.as_slice-2.ensures.value, c.in_ok-next.ensures.body, made);
+        body_is = rw (kept_prefix, c.as_slice-4.ensures.value, c.in_ok-next.ensures.body, made);
         known = still.kept.known h;
       }
 
   leaves : IsTrue (g.D.Disk.honest c.self.inside.disk) → LeavesOnly g.D.Disk c.self.inside.disk c.seal_segment.new.disk
       (StandsBeforeOrAfter was (λ x. IsSealed true was x))
-  leaves h = by g.D.Disk _ _ (StandsForEither (reopened was) (reopened (after_seal was c.as_slice.result.now))) _
+  leaves h = by g.D.Disk _ _ (StandsForEither (reopened was) (reopened (after_seal was c.as_slice-3.result.now))) _
       (c.seal_segment.ensures.any_moment h was (move h))
       (λ image either. ⊎_elim (λ before. inl before)
       (λ later. inr (
@@ -318,7 +318,7 @@ sealed_file-requires-clause-span g c =
     let counted = (c.self.invariant.0).counted in
     let S = g.D.Sealed.SealedFile in
     let part = c.in-Ok-seal_segment.part in
-    let own = rw (c.as_slice-span.ensures, c.as_slice-span-2.ensures.value) at c.span_in_memory-span.ensures in
+    let own = rw (c.as_slice.ensures, c.as_slice-2.ensures.value) at c.span_in_memory-span.ensures in
     rw (counted.active_entry_is, counted.end_is, c.len-count.ensures, many a)
     (sealed_there (S.honest part) (S.octets part)
     (sealed_entry (active_of a.slots.current) (end_of (state_of a)) (length a.messages.items)) (state_of a).active

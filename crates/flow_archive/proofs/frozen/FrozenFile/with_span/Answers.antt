@@ -18,7 +18,8 @@ pub returns : goal.returns
 returns g c =
     elim c.match-self.branch [
       | in-Sealed w ↦ rw w.held-is (w.spanned_segment.ensures
-          ∙ ap (λ o. segment_file (is_shared o) (value_of o)) w.in-Sealed.part-is ∙ ap frozen_of (sym w.in-Sealed.is) ∙ c.self.view_is)
+          ∙ ap (λ o. segment_file (is_shared o) (value_of o)) w.in-Sealed.part-is
+          ∙ ap frozen_of (sym w.in-Sealed.is) ∙ c.self.view_is)
       | in-Rolled w ↦ rw w.held-is (w.spanned_sums.ensures kind.Rolled
           ∙ ap (λ o. sums_file kind.Rolled (is_shared o) (value_of o)) w.in-Rolled.part-is
           ∙ ap frozen_of (sym w.in-Rolled.is) ∙ c.self.view_is)
