@@ -94,8 +94,7 @@ where
 
     /// Takes the mark of a file away, where it is marked by a name.
     fn unmark(&mut self, file: u64) -> Result<(), SystemError> {
-        self.marks
-            .remove(self.rt, self.place.path.as_str(), file)?;
+        self.marks.remove(self.rt, self.place.path.as_str(), file)?;
         Ok(())
     }
 

@@ -113,14 +113,14 @@ pub left_more : {T E : Type 0} (marks : ℕ → Marks) (files now : ℕ → File
     → HasRisenBy (left_of marks now (take (i + 1) list)) before after
 left_more marks files now list i before was after (Ok x) lt same still marked le risen by =
     let none = count_by_more_no (λ n. is_left (marks n) (now n)) list i 0 lt
-        (not_left (marks (get_or list i 0)) (now (get_or list i 0)) marked) in
+    (not_left (marks (get_or list i 0)) (now (get_or list i 0)) marked) in
     let less = left_still marks files now (take i list) same still in
     ⊎_elim (λ a. inl (omega (arith, none, less, a, le))) (λ a. inr (omega (arith, a, le))) by
 left_more marks files now list i before was after (Err e) lt same still marked le risen by =
     let less = left_still marks files now (take i list) same still in
     ⊎_elim
     (λ a. ⊎_elim (λ b. inl (omega (arith, a, b, less, one_more (λ n. is_left (marks n) (now n)) list i lt)))
-        (λ b. inr b) risen)
+    (λ b. inr b) risen)
     (λ a. inr (omega (arith, a, le))) by
 
 on_err : {T E : Type 0} {A B : Type 0} (r : Result T E) → (A → B) → OnErr r A → OnErr r B

@@ -1,6 +1,4 @@
-use Rattle.std.proofs.Common.{◌≡◌, ℕ, true, IsTrue, get_or, take, inl, sym, ◌∙◌, ap, refl, subst, arith, rules, OnOk}
-use Rattle.std.specs.Ordering.{nat_cmp, eq_by_cmp}
-use Rattle.std.specs.List.{list_any}
+use Rattle.std.proofs.Common.{◌≡◌, true, IsTrue, get_or, inl, ◌∙◌, refl, subst, arith, rules, OnOk}
 use Rattle.flow_folder_disk.specs.declared.reported.Table.{Table}
 use Rattle.flow_folder_disk.specs.Known.{IsMarked}
 use Rattle.flow_folder_disk.specs.Table.{marks_in}
@@ -26,12 +24,12 @@ loop-file-preserved g c =
     let old = c.loop-file.self in
     let new = c.mark-one.new.self in
     let settled : IsTrue (g.S.Directory.honest first.folder.system) → OnOk c.mark-one.result
-        ((marks_in first.table (get_or c.args.files.now c.loop-file.file-index 0)).settled ≡ true
-        → IsMarked (files new.folder.system (get_or c.args.files.now c.loop-file.file-index 0)))
-        = λ h. subst (λ (t : Table). OnOk c.mark-one.result
-        ((marks_in t (get_or c.args.files.now c.loop-file.file-index 0)).settled ≡ true
-        → IsMarked (files new.folder.system (get_or c.args.files.now c.loop-file.file-index 0)))) was.table
-        (c.mark-one.ensures.marked (was.honest ∙ h)) in
+    ((marks_in first.table (get_or c.args.files.now c.loop-file.file-index 0)).settled ≡ true
+    → IsMarked (files new.folder.system (get_or c.args.files.now c.loop-file.file-index 0)))
+    = λ h. subst (λ (t : Table). OnOk c.mark-one.result
+    ((marks_in t (get_or c.args.files.now c.loop-file.file-index 0)).settled ≡ true
+    → IsMarked (files new.folder.system (get_or c.args.files.now c.loop-file.file-index 0)))) was.table
+    (c.mark-one.ensures.marked (was.honest ∙ h)) in
     record {
       honest = c.mark-one.ensures.honest ∙ was.honest;
       table = c.mark-one.ensures.table ∙ was.table;
