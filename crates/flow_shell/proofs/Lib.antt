@@ -1,5 +1,5 @@
 pub mod EndedLines
-pub mod KeepsAsked
+pub mod Requested
 pub mod Names
 pub mod Said
 pub mod Shown

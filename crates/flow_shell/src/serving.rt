@@ -1,11 +1,14 @@
 //! Requests, answered one after the other while Files are fed.
 
-ghost use Rattle.std.specs.Prelude.{◌≡◌, ◌≢◌, ◌≤◌, ⊤, ℕ, IfErr, IfOk, List, OnOk, Option, Some, string_bytes};
+ghost use Rattle.std.specs.Prelude.{◌≡◌, ◌≢◌, ◌≤◌, ⊤, ℕ, IfErr, IfOk, List, OnOk, Option, Some, option_and_then};
+ghost use Rattle.std.specs.Prelude.{string_bytes};
 ghost use Rattle.std.specs.Io.KnownBytes.{Appends};
 ghost use Rattle.flow_shell.specs.Written.{began_line, HasTold};
+ghost use Rattle.flow_shell.specs.Asked.{feed_of};
 ghost use Rattle.flow_shell.specs.Fed.{EndsBy, EndsSo};
 ghost use Rattle.flow_shell.specs.declared.asked.ShellRequest.TheVariants as asked;
 ghost use Rattle.flow_shell.specs.Endings.{end_status, end_text, IsUnanswered, RollsAsked};
+ghost use Rattle.flow_commands.specs.declared.plan.InputKind.{InputKind as Kind};
 ghost use Rattle.flow_feed.specs.declared.batch.Fed.{Fed as FedFile};
 
 use crate::asked::ShellRequest;
@@ -88,7 +91,8 @@ where
     H::File: Send + Sync,
     H::Dir: Send + Sync,
     D::Sealed: Send + Sync,
-    requires { (number : ℕ) (fed : FedFile) → EndsBy D.Disk J.opening kind fed → ∥ B.said number fed ∥₁ }
+    requires asked { ∥ B.to_feed path.now kind ∥₁ }
+    requires said { (number : ℕ) (fed : FedFile) → EndsBy D.Disk J.opening kind fed → ∥ B.said number fed ∥₁ }
     ensures { IfErr result IsUnanswered }
 {
     let Ok(path) = String::from_str(alloc, path) else {
@@ -99,7 +103,8 @@ where
     };
     match scope.spawn(
         move ||
-            requires { (fed : FedFile) → EndsBy D.Disk J.opening kind fed → ∥ B.said number fed ∥₁ }
+            requires asked { ∥ B.to_feed (string_bytes path) kind ∥₁ }
+            requires said { (fed : FedFile) → EndsBy D.Disk J.opening kind fed → ∥ B.said number fed ∥₁ }
         { feed_one(rt, shared, bell, board, limit, kind, number, path) },
     ) {
         Ok(_) => {}
@@ -166,8 +171,10 @@ where
     H::File: Send + Sync,
     H::Dir: Send + Sync,
     D::Sealed: Send + Sync,
-    requires said { (number : ℕ) (fed : FedFile) → EndsSo D.Disk J.opening fed → ∥ B.said number fed ∥₁ }
+    requires said { (number : ℕ) (fed : FedFile) → EndsSo D.Disk J.opening B.to_feed fed → ∥ B.said number fed ∥₁ }
     requires asked { (keep : ℕ) → request ≡ Some (asked.Keep keep) → ∥ K.asked keep ∥₁ }
+    requires to_feed { (path : List ℕ) (kind : Kind) → option_and_then feed_of request ≡ Some (path, kind)
+        → ∥ B.to_feed path kind ∥₁ }
     ensures { IfErr result IsUnanswered }
 {
     match request {
@@ -218,14 +225,14 @@ fn serve<
     board: &'s Board<B>,
     limit: u32,
     asking: &mut Asking<D::Sealed, J>,
-    lines: &mut Lines<K, I>,
+    lines: &mut Lines<K, B, I>,
     output: &mut W,
 ) -> Result<End, ArchiveRefusal>
 where
     H::File: Send + Sync,
     H::Dir: Send + Sync,
     D::Sealed: Send + Sync,
-    requires { (number : ℕ) (fed : FedFile) → EndsSo D.Disk J.opening fed → ∥ B.said number fed ∥₁ }
+    requires { (number : ℕ) (fed : FedFile) → EndsSo D.Disk J.opening B.to_feed fed → ∥ B.said number fed ∥₁ }
     ensures { IfErr result IsUnanswered }
 {
     for _ in 0..u64::MAX {
@@ -291,7 +298,7 @@ pub(crate) fn serve_beside<
     bell: &Bell<K>,
     limit: u32,
     asking: &mut Asking<D::Sealed, J>,
-    lines: Lines<K, I>,
+    lines: Lines<K, Brand, I>,
     output: &mut W,
 ) -> (Result<u8, ArchiveRefusal>, Option<ArchiveError>)
 where
