@@ -80,8 +80,14 @@ span_shape name = record (new_shape name) {
 }
 
 -- or by moments
+abbrev pub since_rule : Rule
+since_rule = option (codes "SINCE") (codes "since")
+
+abbrev pub until_rule : Rule
+until_rule = option (codes "UNTIL") (codes "until")
+
 abbrev pub moment_rules : List Rule
-moment_rules = option (codes "SINCE") (codes "since") ∷ option (codes "UNTIL") (codes "until") ∷ []
+moment_rules = since_rule ∷ until_rule ∷ []
 
 abbrev pub moments_shape : Text → Shape
 moments_shape name = record (span_shape name) { rules = (span_shape name).rules ++ moment_rules }

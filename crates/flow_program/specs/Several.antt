@@ -49,13 +49,13 @@ folders_status (Folder number e) = archive_status (of_folder e)
 folders_status (Several e) = several_status e
 
 -- what is reported, by the status: that memory ran out without more
-abbrev pub text_told : ℕ → List ℕ → List ℕ
-text_told status printed = if status == 4 then code_text code.OutOfMemory else printed
+abbrev pub text_reported : ℕ → List ℕ → List ℕ
+text_reported status printed = if status == 4 then code_text code.OutOfMemory else printed
 
 -- its lines came on standard error, or a prefix of them
-abbrev pub AreFoldersTold : FoldersRefusal → Option (List ℕ) → Option (List ℕ) → Type 0
-AreFoldersTold e before after =
-    AppendsFront before after (told_lines (text_told (folders_status e) (folders_printed e)))
+abbrev pub AreFoldersReported : FoldersRefusal → Option (List ℕ) → Option (List ℕ) → Type 0
+AreFoldersReported e before after =
+    AppendsFront before after (told_lines (text_reported (folders_status e) (folders_printed e)))
 
 -- ---- how a run ends
 
@@ -74,7 +74,7 @@ abbrev pub QuestionEnds : (Question → Type 0) → (Question → FoldersRefusal
     → Option (List ℕ) → Option (List ℕ) → Option (List ℕ) → Option (List ℕ) → ℕ → Type 0
 QuestionEnds answered refused span each format old new before after status =
     ((now : ℕ) × (status ≡ 0) × Keeps before after × answered (question_at now span each format))
-    ⊎ (((now : ℕ) × (e : FoldersRefusal) × (status ≡ folders_status e) × AreFoldersTold e before after
+    ⊎ (((now : ℕ) × (e : FoldersRefusal) × (status ≡ folders_status e) × AreFoldersReported e before after
     × refused (question_at now span each format) e)
     ⊎ ((status ≡ archive_status no_clock) × AppendsFront before after (told_lines (archive_printed no_clock))
     × Keeps old new))

@@ -364,7 +364,8 @@ pub(crate) fn folders_of<'a>(
     ensures { IfOk result (λ folders. folders
         ≡ folders_of (rows_of (found_of arguments.now)) (map (λ word. word.now) words.now)) }
 {
-    let count = if is_by_moments(arguments) {
+    let by_moments = is_by_moments(arguments);
+    let count = if by_moments {
         words.len()
     } else {
         words.len().saturating_sub(2)

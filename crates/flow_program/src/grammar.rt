@@ -8,6 +8,7 @@ ghost use Rattle.flow_program.specs.CommandLine.{any_number, check_shape, create
 ghost use Rattle.flow_program.specs.CommandLine.{feed_shape, flag, passing_shape};
 ghost use Rattle.flow_program.specs.CommandLine.{flowvault, folder_rule, keep_shape, measure_shape, needed, option};
 ghost use Rattle.flow_program.specs.CommandLine.{moments_shape, optional, program, several, sized_shape, span_shape};
+ghost use Rattle.flow_program.specs.CommandLine.{since_rule, until_rule};
 ghost use Rattle.flow_program.specs.CommandLine.{folders_shape, summed_shape, totals_shape, width_rule};
 ghost use Rattle.flow_program.specs.CommandLine.{with_archives, with_feeding, with_queries, with_rolling, with_streams};
 ghost use Rattle.flow_program.specs.CommandLine.{format_rules, inspect_shape, kept_shape, query_shape, shell_shape};
@@ -339,6 +340,22 @@ fn folder_argument<'a>(alloc: Global) -> Arg<'a>
     needed(alloc, "DIR", "Folder of the archive")
 }
 
+/// The moment from which a span is asked about.
+fn since_argument<'a>(alloc: Global) -> Arg<'a>
+    ensures rule { rule_of result ≡ since_rule }
+    ensures own { result.global ≡ false }
+{
+    option(alloc, "SINCE", "since", SINCE)
+}
+
+/// The moment before which it is.
+fn until_argument<'a>(alloc: Global) -> Arg<'a>
+    ensures rule { rule_of result ≡ until_rule }
+    ensures own { result.global ≡ false }
+{
+    option(alloc, "UNTIL", "until", UNTIL)
+}
+
 /// A command that takes the words of a format too.
 fn in_formats<'a>(alloc: Global, command: Command<'a>) -> Result<Command<'a>, AllocError>
     ensures shape { IfOk result (λ with. shape_of with
@@ -461,8 +478,8 @@ fn moments_command<'a>(
     ensures own { IfOk result (λ command. (fields_of command).has_globals ≡ false) }
 {
     span_command(alloc, name, about, help)?
-        .arg(option(alloc, "SINCE", "since", SINCE))?
-        .arg(option(alloc, "UNTIL", "until", UNTIL))
+        .arg(since_argument(alloc))?
+        .arg(until_argument(alloc))
 }
 
 /// The same, and takes a format.
@@ -487,8 +504,8 @@ fn folders_command<'a>(alloc: Global) -> Result<Command<'a>, AllocError>
         .about(TOTALS_ABOUT)
         .after_help(TOTALS_HELP)
         .arg(several(alloc, "DIR", FOLDERS))?
-        .arg(option(alloc, "SINCE", "since", SINCE))?
-        .arg(option(alloc, "UNTIL", "until", UNTIL))
+        .arg(since_argument(alloc))?
+        .arg(until_argument(alloc))
 }
 
 /// The same, and takes a format.

@@ -4,8 +4,8 @@ ghost use Rattle.std.specs.Prelude.{◌≡◌, ◌≢◌, ◌≤◌, ℕ, List, 
 ghost use Rattle.std.specs.Io.KnownBytes.{Keeps};
 ghost use Rattle.flow_commands.specs.Archives.{archive_printed};
 ghost use Rattle.flow_program.specs.Printed.{told_lines};
-ghost use Rattle.flow_program.specs.Several.{folders_status, numbered, text_told};
-ghost use Rattle.flow_program.specs.Several.{AreFoldersTold, FoldersEnd, SeveralEnd};
+ghost use Rattle.flow_program.specs.Several.{folders_status, numbered, text_reported};
+ghost use Rattle.flow_program.specs.Several.{AreFoldersReported, FoldersEnd, SeveralEnd};
 ghost use Rattle.flow_report.specs.Writing.{AppendsFront};
 ghost use Rattle.flow_several.specs.Refusals.{several_text};
 
@@ -55,14 +55,14 @@ fn several_text(alloc: Global, refusal: &SeveralRefusal) -> Result<String, Alloc
 
 /// Reports a refusal by its status and its text, and how to ask what its number means. That memory ran out is reported
 /// without any, and without more; where there is none for the text or the lines of another refusal, nothing is.
-fn tell_text<E: Write>(
+fn report_text<E: Write>(
     alloc: Global,
     errors: &mut E,
     status: u8,
     text: Result<String, AllocError>,
 )
     ensures { (printed : List ℕ) → IfOk text (λ t. string_bytes t ≡ printed)
-        → AppendsFront (E.contents errors.old) (E.contents errors.new) (told_lines (text_told status printed)) }
+        → AppendsFront (E.contents errors.old) (E.contents errors.new) (told_lines (text_reported status printed)) }
 {
     if status == WITHOUT_MEMORY {
         tell_line(errors, NO_MEMORY.as_bytes());
@@ -77,24 +77,24 @@ fn tell_text<E: Write>(
     tell_line(errors, lines.as_bytes());
 }
 
-/// Tells why archives in folders aren't asked, or their answer isn't written. It answers the exit status.
-fn tell_of_folders<E: Write>(alloc: Global, errors: &mut E, refusal: FoldersRefusal) -> u8
+/// Reports why archives in folders aren't asked, or their answer isn't written. It answers the exit status.
+fn report_folders<E: Write>(alloc: Global, errors: &mut E, refusal: FoldersRefusal) -> u8
     ensures status { result ≡ folders_status refusal }
     ensures failed { 1 ≤ result }
     ensures other { result ≢ 2 }
     ensures most { result ≤ 5 }
-    ensures told { AreFoldersTold refusal (E.contents errors.old) (E.contents errors.new) }
+    ensures reported { AreFoldersReported refusal (E.contents errors.old) (E.contents errors.new) }
 {
     match refusal {
         FoldersRefusal::Folder(number, error) => {
             let refusal = ArchiveRefusal::from(error);
             let status = refusal.status();
-            tell_text(alloc, errors, status, folder_text(alloc, number, &refusal));
+            report_text(alloc, errors, status, folder_text(alloc, number, &refusal));
             status
         }
         FoldersRefusal::Several(refusal) => {
             let status = refusal.status();
-            tell_text(alloc, errors, status, several_text(alloc, &refusal));
+            report_text(alloc, errors, status, several_text(alloc, &refusal));
             status
         }
     }
@@ -141,6 +141,6 @@ pub(crate) fn run_several<'a, H: AllocGlobal + Clock, D: Disk, O: Opener<'a, D>,
     let faults = &mut Faults::new();
     match totals_of_folders(alloc, opener, paths, &question, output, faults) {
         Ok(()) => DONE,
-        Err(refusal) => tell_of_folders(alloc, errors, refusal),
+        Err(refusal) => report_folders(alloc, errors, refusal),
     }
 }
