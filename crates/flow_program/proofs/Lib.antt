@@ -1,6 +1,7 @@
 mod Adding
 pub mod Answered
 pub mod FeedGiven
+pub mod LastWords
 mod OneByOne
 pub mod Reading
 pub mod Told
