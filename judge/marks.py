@@ -210,18 +210,20 @@ def other_things(trial):
     """What has the name of a mark and isn't an empty file stays, and marks nothing."""
     folder = made(trial, "things")
     shared(folder)
+    active = os.path.join(folder, newest(folder))
+    mark = active.replace(".ipfix", ".settled")
     os.mkdir(os.path.join(folder, "1.settled"))
-    with open(os.path.join(folder, "2.settled"), "wb") as file:
+    os.symlink("2.slot", os.path.join(folder, "2.settled"))
+    with open(mark, "wb") as file:
         file.write(b"kept\n")
-    os.utime(os.path.join(folder, "2.settled"), ns=(os.stat(os.path.join(folder, "2.slot")).st_mtime_ns,) * 2)
-    os.symlink("3.ipfix", os.path.join(folder, newest(folder).replace(".ipfix", ".settled")))
+    os.utime(mark, ns=(os.stat(active).st_mtime_ns,) * 2)
     for way in ("first", "second"):
         answer, calls = traced(trial, "roll", folder, NOTHING)
         yield way + ": answers, and writes", ((0, "rolled 0\n", ""), True), (answer, any(map(is_write, calls)))
     yield "a feed", "fed 1 3\n", trial.runs("feed", folder, trial.more)
-    yield "what was there", (True, 5, True), (
-        os.path.isdir(os.path.join(folder, "1.settled")), os.path.getsize(os.path.join(folder, "2.settled")),
-        any(os.path.islink(os.path.join(folder, name)) for name in marks(folder)))
+    yield "what was there", (True, True, True), (
+        os.path.isdir(os.path.join(folder, "1.settled")), os.path.islink(os.path.join(folder, "2.settled")),
+        os.path.exists(mark) and os.path.getsize(mark) == 5)
 
 
 def not_marked(trial):
