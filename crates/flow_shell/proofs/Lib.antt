@@ -1,3 +1,4 @@
+pub mod AllReplied
 pub mod EndedLines
 pub mod Names
 pub mod Replies

@@ -1,5 +1,8 @@
 -- What a line of the input is answered.
-use Rattle.std.specs.Prelude.{◌≡◌, ◌⊎◌, ◌↔◌, ℕ, List, ◌++◌, Bool, IsTrue, Option, Some, None, IfSome, codes}
+use Rattle.std.specs.Prelude.{◌≡◌, ◌⊎◌, ◌↔◌, ℕ, zero, suc, List, [], ◌++◌, Bool, true, false, IsTrue}
+use Rattle.std.specs.Prelude.{Option, Some, None, IfSome, codes}
+use mathlib.Core.List.{IsPrefix}
+use Rattle.std.specs.Io.BufRead.{first_piece}
 use Rattle.std.specs.Io.KnownBytes.{Appends}
 use Rattle.std.specs.Str.{IsUtf8}
 use Rattle.flow_measure.specs.History.{History}
@@ -11,7 +14,9 @@ use Rattle.flow_shell.specs.declared.asked.Query.{Query}
 use Rattle.flow_shell.specs.declared.asked.ShellRequest.{ShellRequest}
 use Rattle.flow_shell.specs.declared.asked.ShellRequest.TheVariants.{Ask, Feed, Collect, Keep, Wait, Quit}
 use Rattle.flow_shell.specs.Answers.{query_lines}
-use Rattle.flow_shell.specs.Asked.{request_in}
+use Rattle.flow_shell.specs.Asked.{after_lines, request_in}
+use Rattle.flow_shell.specs.declared.serving.End.{End}
+use Rattle.flow_shell.specs.declared.serving.End.TheVariants as end
 use Rattle.flow_shell.specs.Written.{began_line, done_line, HasTold, IsAnswer}
 
 -- what a line that is no request is answered
@@ -60,3 +65,36 @@ pub record IsLineReplied (said : ℕ → Fed → Type 0) (answered : Query → O
   pub told : HasTold said old mid
   pub replied : IsReply said answered request mid new
   pub is_quit : IsTrue quits ↔ (request ≡ Some Quit)
+
+-- ---- all lines of an input
+
+-- So many lines of an input were answered, one after the other: each by the steps that were shown then, which begin with
+-- those that were shown before.
+abbrev pub AreReplied : (ℕ → Fed → Type 0)
+    → (List Change → Query → Option (List ℕ) → Option (List ℕ) → Type 0) → List ℕ → ℕ → List Change → List Change
+    → Option (List ℕ) → Option (List ℕ) → Type 0
+AreReplied said answered octets zero seen shown old new = (shown ≡ seen) × (new ≡ old)
+AreReplied said answered octets (suc n) seen shown old new =
+    (before : List Change) × (mid : Option (List ℕ)) × AreReplied said answered octets n seen before old mid
+    × IsPrefix before shown × IsLineReplied said (answered shown) (first_piece 10 (after_lines n octets)) false mid new
+
+-- How requests end after so many lines: there is none more, or so many were answered as can be; the next one is `quit`;
+-- or reading it failed.
+abbrev pub IsEndOf : End → (ℕ → Fed → Type 0) → (Query → Option (List ℕ) → Option (List ℕ) → Type 0) → List ℕ → ℕ
+    → Option (List ℕ) → Option (List ℕ) → Type 0
+IsEndOf end.OfInput said answered octets n old new =
+    (new ≡ old) × ((after_lines n octets ≡ []) ⊎ (n ≡ 18446744073709551615))
+IsEndOf end.Quit said answered octets n old new =
+    IsLineReplied said answered (first_piece 10 (after_lines n octets)) true old new
+IsEndOf end.Unread said answered octets n old new = new ≡ old
+
+-- The requests of an input of these octets were answered, up to how they ended.
+pub record AreAnswered (said : ℕ → Fed → Type 0)
+    (answered : List Change → Query → Option (List ℕ) → Option (List ℕ) → Type 0) (octets : List ℕ) (end : End)
+    (seen shown : List Change) (old new : Option (List ℕ)) : Type 0 where
+  pub count : ℕ
+  pub before : List Change
+  pub mid : Option (List ℕ)
+  pub replied : AreReplied said answered octets count seen before old mid
+  pub later : IsPrefix before shown
+  pub ended : IsEndOf end said (answered shown) octets count mid new

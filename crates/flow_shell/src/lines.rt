@@ -66,6 +66,7 @@ impl<K: Keeping, B: Ends, I: BufRead + Drop> Lines<K, B, I> {
     pub(crate) fn read(&mut self) -> Result<bool, io::Error>
         ensures next { IfOk result (λ more. IsTrue more
             → IsNextLine (I.remaining self.old.input) (I.remaining self.new.input) self.new.line.items) }
+        ensures going { IfOk result (λ _. self.new.is_read ≡ self.old.is_read) }
         ensures end { IfOk result (λ more. more ≡ false → IsTrue self.old.is_read → IsAtEnd (I.remaining self.old.input)) }
     {
         self.line.clear();

@@ -1,13 +1,14 @@
 //! Requests, answered one after the other while Files are fed.
 
-ghost use Rattle.std.specs.Prelude.{◌≡◌, ◌≢◌, ◌≤◌, ⊤, ℕ, IfErr, IfOk, List, OnOk, Option, Some, option_and_then};
-ghost use Rattle.std.specs.Prelude.{string_bytes};
+ghost use Rattle.std.specs.Prelude.{◌≡◌, ◌≢◌, ◌≤◌, ⊤, ℕ, IfErr, IfOk, IfSome, IsTrue, List, OnOk, Option, Some};
+ghost use Rattle.std.specs.Prelude.{option_and_then, string_bytes};
 ghost use Rattle.std.specs.Io.KnownBytes.{Appends};
 ghost use Rattle.flow_shell.specs.Written.{began_line, HasTold};
 ghost use Rattle.flow_shell.specs.Asked.{feed_of};
 ghost use mathlib.Core.List.{IsPrefix};
 ghost use Rattle.flow_shell.specs.Fed.{EndsBy, EndsSo};
-ghost use Rattle.flow_shell.specs.Replies.{IsAnswered, IsBegun, IsLineReplied, IsReply, IsSettled};
+ghost use Rattle.flow_shell.specs.Replies.{AreAnswered, IsAnswered, IsBegun, IsLineReplied, IsReply};
+ghost use Rattle.flow_shell.specs.Replies.{IsSettled};
 ghost use Rattle.flow_shell.specs.declared.asked.ShellRequest.TheVariants as asked;
 ghost use Rattle.flow_shell.specs.Endings.{end_status, end_text, IsUnanswered, RollsAsked};
 ghost use Rattle.flow_commands.specs.declared.plan.InputKind.{InputKind as Kind};
@@ -286,7 +287,11 @@ where
     H::Dir: Send + Sync,
     D::Sealed: Send + Sync,
     requires { (number : ℕ) (fed : FedFile) → EndsSo D.Disk J.opening B.to_feed fed → ∥ B.said number fed ∥₁ }
-    ensures { IfErr result IsUnanswered }
+    // Of an input whose octets are known: each line was answered in turn, up to its end, to `quit`, or to a failed read.
+    ensures replied { IfSome (I.remaining lines.old.input) (λ octets. IsTrue lines.old.is_read
+        → IfOk result (λ end. AreAnswered B.said (IsAnswered J.honest J.opening asking.old.width) octets end
+        asking.old.reader asking.new.reader (W.contents output.old) (W.contents output.new))) }
+    ensures unanswered { IfErr result IsUnanswered }
 {
     for _ in 0..u64::MAX {
         match lines.read() {
