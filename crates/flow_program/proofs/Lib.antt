@@ -4,6 +4,7 @@ pub mod FeedGiven
 pub mod LastWords
 mod OneByOne
 pub mod Reading
+pub mod Reported
 pub mod Told
 pub mod CommandWords
 pub mod Verdicts

@@ -1,10 +1,9 @@
 -- Folders, opened one after the other.
 use Rattle.std.proofs.Common.{◌≡◌, ◌∙◌, ◌<◌, ◌+◌, ℕ, List, [], ◌∷◌, ◌++◌, length, map, take, drop, get_or}
-use Rattle.std.proofs.Common.{sym, ap, subst, arith}
+use Rattle.std.proofs.Common.{suc, refl, sym, ap, subst, arith}
 use Rattle.std.specs.Borrow.{Bor}
 use Rattle.std.specs.List.{AllZip}
 use Rattle.std.proofs.Math.ListN.{get_or-map}
-use Rattle.std.proofs.Math.Seq.{take-length}
 use Rattle.std.proofs.lemmas.List.{drop_more, length-map, length-take-le, take-append-drop, take_more}
 use Rattle.flow_folder.specs.declared.system.FolderError.{FolderError}
 use Rattle.flow_several.proofs.OneByOne.{zip_then}
@@ -50,9 +49,14 @@ module _ {D : Type 0} (opens : Path → D → Type 0) (words : List (Bor Path)) 
       refused = why;
     }
 
-  pub all_opened : (n : ℕ) (disks : List D) → n ≡ length words → AllZip opens (take n (paths_of words)) disks
-      → AllZip opens (paths_of words) disks
-  all_opened n disks all each =
-      subst (λ (xs : List Path). AllZip opens xs disks)
-      (ap (λ (k : ℕ). take k (paths_of words)) (all ∙ sym (length-map words (λ (w : Bor Path). w.now)))
-      ∙ take-length (paths_of words)) each
+same_length : {A B : Type 0} (P : A → B → Type 0) (xs : List A) (ys : List B) → AllZip P xs ys → length ys ≡ length xs
+same_length P [] [] each = refl
+same_length P [] (y ∷ ys) each = absurd each
+same_length P (x ∷ xs) [] each = absurd each
+same_length P (x ∷ xs) (y ∷ ys) each = ap suc (same_length P xs ys each.1)
+
+-- as many disks as folders
+pub counted : {D : Type 0} (opens : Path → D → Type 0) (words : List (Bor Path)) (disks : List D)
+    → AllZip opens (paths_of words) disks → length disks ≡ length words
+counted opens words disks each =
+    same_length opens (paths_of words) disks each ∙ length-map words (λ (w : Bor Path). w.now)
