@@ -775,7 +775,10 @@ def learn(judge, cases, place):
     for n, case in enumerate(cases):
         base = case.base(judge, os.path.join(place, "base%d" % n))
         BASES.append((case, base))
-        status, told, syncs = case.first(Run(judge, case, case.name), base.fork(os.path.join(judge.place, "one")))
+        try:
+            status, told, syncs = case.first(Run(judge, case, case.name), base.fork(os.path.join(judge.place, "one")))
+        except Seen as it:
+            sys.exit("%s without a fault: %s" % (case.name, it))
         if status:
             sys.exit("%s without a fault: %s" % (case.name, told))
         counts.append(syncs)
