@@ -34,3 +34,4 @@ pub mod Fitting
 pub mod Inside
 pub mod Marked
 pub mod Shelves
+pub mod Spanned

@@ -18,8 +18,10 @@ use Rattle.flow_model.specs.State.{Part, State, at_rest}
 use Rattle.flow_model.specs.Chain.{HandsOn}
 use Rattle.flow_recover.specs.Kept.{AreFilesOf, IsCounted}
 use Rattle.flow_recover.specs.Opening.{FrozenStand, IsRecovered}
+use Rattle.flow_measure.specs.declared.span.PartSpan.{PartSpan}
+use Rattle.flow_archive.proofs.Spanned.{all_spans}
 use Rattle.flow_model.specs.Standing.{IsKnown, IsRolledAt, StandsAs, StandsFor}
-use Rattle.flow_archive.specs.Frozen.{all_frozen, counted_of, octets_in, AreHeldAs, Frozen, MayBeFrozen}
+use Rattle.flow_archive.specs.Frozen.{all_frozen, counted_of, octets_in, AreHeldAs, Frozen, HaveSpans, MayBeFrozen}
 use Rattle.flow_archive.specs.Parts.{part_at, parts_at}
 use Rattle.flow_archive.specs.UnderWay.{none_under_way}
 use Rattle.flow_archive.specs.Seen.{IsArchive, state_in}
@@ -119,9 +121,10 @@ front_is m slice n is count =
 
 module _ {D S : Type 0} (honest : D → Bool) (marks : D → ℕ → Marks) (held : D → ℕ → Held) (octets : S → List ℕ)
     (number size : S → ℕ) (is_honest : S → Bool) (reads : ℕ → List ℕ) (disk : D) (slots : Slots) (last : Entry)
-    (end total : ℕ) (active : Part) (carry : Carry) (frozen : List S) where
+    (end total : ℕ) (active : Part) (carry : Carry) (frozen : List S) (spans : List PartSpan) where
   abbrev pub Found : Type 0
   Found = IsRecovered honest marks held octets number size is_honest reads disk slots last end total active carry frozen
+      spans
 
   -- its files, and what the archive is taken for
   abbrev pub found_files : List Frozen
@@ -175,3 +178,9 @@ module _ {D S : Type 0} (honest : D → Bool) (marks : D → ℕ → Marks) (hel
   -- what was read represents it
   pub found_read : Found → IsTrue (honest disk) → StandsFor reads found_state
   found_read found h = subst (λ (x : State). StandsFor reads x) (sym (state_same found h)) (found.read h)
+
+  -- and the spans of its files are known
+  pub found_spans : Found → HaveSpans slots.current found_files spans
+  found_spans found =
+      all_spans number size is_honest octets (honest disk) reads slots.current (front_of slots.current) found.parts
+      frozen spans found.files (λ h. (found.read h).files.parts) found.frozen_stand found.spanned

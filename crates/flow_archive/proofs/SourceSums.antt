@@ -53,7 +53,7 @@ restated_there octets prefix e p carry same at g =
     subst (λ (l : List ℕ). IsRestated l (templates_from [] g.prefix))
     (sym (ap (λ (n : ℕ). take n octets) (omega (arith, same)) ∙ at.front)) (g.prefix, g.front, g.restated, refl)
 
-cut_whole : (octets : List ℕ) (e : Entry) (p : Part) → IsSealedAt octets e p → IsSealedAt (take e.length octets) e p
+pub cut_whole : (octets : List ℕ) (e : Entry) (p : Part) → IsSealedAt octets e p → IsSealedAt (take e.length octets) e p
 cut_whole octets e p at =
     let keeps : KeepsFront e.length octets (take e.length octets) = record {
       front = take-take e.length e.length octets (omega arith);
@@ -61,7 +61,7 @@ cut_whole octets e p at =
     } in
     part_cut Sealed e.length octets (take e.length octets) e p (omega arith) keeps at
 
-ordered : (octets : List ℕ) (e : Entry) (p : Part) → IsSealedAt octets e p → e.prefix ≤ e.length
+pub ordered : (octets : List ℕ) (e : Entry) (p : Part) → IsSealedAt octets e p → e.prefix ≤ e.length
 ordered octets e p at = omega (arith, at.count)
 
 messages_read : (octets : List ℕ) (e : Entry) (p : Part) (carry : Carry) → IsSealedAt octets e p

@@ -1,5 +1,5 @@
 -- An archive whose job changes, and nothing else.
-use Rattle.std.proofs.Common.{◌≡◌, inl, ℕ, ◌<◌, ◌≤◌, Bool, false, IsTrue, List, [], ◌∷◌, refl, sym, subst}
+use Rattle.std.proofs.Common.{◌≡◌, ◌≢◌, inl, ℕ, ◌<◌, ◌≤◌, Bool, true, false, IsTrue, List, [], ◌∷◌, refl, sym, subst}
 use Rattle.std.proofs.Common.{arith, Option, Some, None, Ok}
 use Rattle.std.specs.Prelude.{IfSome, is_some}
 use Rattle.std.specs.List.{AllByRecursion}
@@ -117,6 +117,10 @@ fresh_rolling honest s kind count some few = record {
 pub no_job : (job : Option RunningJob) → is_some job ≡ false → job_in job ≡ None
 no_job None is = refl
 no_job (Some r) is = absurd (cc)
+
+pub some_job : (job : Option RunningJob) → is_some job ≡ true → job_in job ≢ None
+some_job None is none = absurd (cc)
+some_job (Some r) is none = absurd (cc)
 
 pub width_some : (kind : JobKind) (m : Manifest) → IsInRange (head_of m) → 0 < width_made kind m
 width_some Roll m ranges = omega (arith, ranges.width_from)

@@ -1,14 +1,18 @@
 -- The frozen files of an archive, and what directories have of them.
-use Rattle.std.specs.Prelude.{◌≡◌, ℕ, ◌≤◌, Bool, true, false, List, [], ◌∷◌, take}
+use Rattle.std.specs.Prelude.{◌≡◌, ℕ, ◌≤◌, Bool, true, false, IsTrue, List, [], ◌∷◌, take}
 use Rattle.std.specs.List.{flat_map}
 use Rattle.std.specs.Arc.{arc_value}
 use Rattle.flow_disk.specs.declared.sealed.SealedFile.{Ghosts}
 use Rattle.flow_manifest.specs.declared.manifest.Entry.{Entry}
 use Rattle.flow_manifest.specs.declared.manifest.Kind.{Kind}
 use Rattle.flow_manifest.specs.declared.manifest.Kind.TheVariants as kind
+use Rattle.flow_manifest.specs.declared.manifest.Manifest.{Manifest}
+use Rattle.flow_measure.specs.declared.span.PartSpan.{PartSpan}
+use Rattle.flow_rolled.specs.Spans as rows
 use Rattle.flow_rolled.specs.Stored as stored
 use Rattle.flow_segment.specs.declared.sealed.SealedPart.{SealedPart}
 use Rattle.flow_segment.specs.Segment.{part_octets}
+use Rattle.flow_segment.specs.Spans as segment
 use Rattle.flow_snapshot.specs.Files.{cut_into}
 use Rattle.flow_model.specs.Shelf.{Rollup, Segment, Shelf}
 use Rattle.flow_archive.specs.declared.frozen.FrozenPart.{FrozenPart}
@@ -114,6 +118,34 @@ AreHeldAs honest [] (file ∷ files) = ⊥
 AreHeldAs honest (entry ∷ entries) [] = ⊥
 AreHeldAs honest (entry ∷ entries) (file ∷ files) =
     IsHeldAs honest entry file × AreHeldAs honest entries files
+
+-- ---- when its flows start
+
+-- Of a file with these octets, which an entry names: the span of a segment's flows, or of the intervals by this width
+-- that sums have. Such a file reads whole.
+abbrev pub HasSpanAs : Kind → Entry → ℕ → List ℕ → PartSpan → Type 0
+HasSpanAs kind.Wide entry width octets span = rows.HasSpan (record { width = width; span = span }) octets
+HasSpanAs kind.Rolled entry width octets span = rows.HasSpan (record { width = width; span = span }) octets
+HasSpanAs kind.Sealed entry width octets span =
+    segment.HasSpan span (part_octets 0 entry.prefix octets) (part_octets entry.prefix entry.length octets)
+    entry.messages
+HasSpanAs kind.Active entry width octets span = Unit {0}
+
+abbrev pub HasSpan : Frozen → ℕ → PartSpan → Type 0
+HasSpan f width span = IsTrue f.honest → HasSpanAs f.entry.kind f.entry width f.octets span
+
+-- the width of the intervals of a file of this kind
+abbrev pub width_of : Kind → Manifest → ℕ
+width_of kind.Wide m = m.wide
+width_of kind.Rolled m = m.width
+width_of kind.Sealed m = m.width
+width_of kind.Active m = m.width
+
+-- the spans of these files, in their order
+abbrev pub HaveSpans : Manifest → List Frozen → List PartSpan → Type 0
+HaveSpans m [] spans = Unit {0}
+HaveSpans m (f ∷ files) [] = Unit {0}
+HaveSpans m (f ∷ files) (span ∷ spans) = HasSpan f (width_of f.entry.kind m) span × HaveSpans m files spans
 
 -- ---- what a directory has of them
 

@@ -87,6 +87,11 @@ abbrev pub IsStagedFor : Option RunningJob → Entry → Type 0
 IsStagedFor job entry = (r : RunningJob) × (f : FrozenStaged) × (job ≡ Some r) × (r.staged ≡ Some f)
     × (f.file ≡ entry.file) × (length f.octets ≡ entry.length) × (entry.prefix ≡ 0) × (entry.kind ≡ made_of r.kind)
 
+-- on an honest disk that file is the rolled file of the job's sums
+abbrev pub HasMadeSums : Option RunningJob → Type 0
+HasMadeSums job = (r : RunningJob) (f : FrozenStaged) → job ≡ Some r → r.staged ≡ Some f → IsTrue f.honest
+    → IsRollup r.rows.width f.octets r.rows
+
 -- It is held as that entry says, by the archive alone, and on an honest disk it has the octets that were made.
 abbrev pub IsStagedAs : Option RunningJob → Entry → Frozen → Type 0
 IsStagedAs job entry file = (r : RunningJob) (f : FrozenStaged) → job ≡ Some r → r.staged ≡ Some f

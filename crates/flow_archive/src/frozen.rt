@@ -1,7 +1,7 @@
 //! The frozen files of an archive, and what directories have of them.
 
 ghost use Rattle.std.specs.Prelude.{◌≡◌, ◌++◌, ◌<◌, ◌≤◌, ◌≢◌, ℕ, Bool, true, false, IsTrue, OnErr, OnOk, IfOk, IfErr};
-ghost use Rattle.std.specs.Prelude.{map};
+ghost use Rattle.std.specs.Prelude.{map, None};
 ghost use Rattle.std.specs.Prelude.{take, vec_len, MatchResult};
 ghost use Rattle.std.specs.List.{list_all, AllByRecursion};
 ghost use Rattle.std.specs.Arc.{arc_value};
@@ -10,8 +10,12 @@ ghost use Rattle.flow_manifest.specs.declared.following.JobKind.{JobKind};
 ghost use Rattle.flow_manifest.specs.declared.manifest.Manifest.{Manifest};
 ghost use Rattle.flow_snapshot.specs.Directories.{sight_of};
 ghost use Rattle.flow_snapshot.specs.Files.{is_honest, rollup_of, segment_of, shared};
-ghost use Rattle.flow_archive.specs.Frozen.{all_frozen, frozen_as, is_shared, rolled_in, segment_in, shelf_with};
-ghost use Rattle.flow_archive.specs.Frozen.{unshared, value_of, wide_in, MayBeFrozen};
+ghost use Rattle.flow_archive.specs.Frozen.{all_frozen, frozen_as, is_shared, rolled_in, segment_file, segment_in};
+ghost use Rattle.flow_archive.specs.Frozen.{shelf_with, sums_file, unshared, value_of, wide_in, width_of, HasSpan};
+ghost use Rattle.flow_archive.specs.Frozen.{HaveSpans, MayBeFrozen};
+ghost use Rattle.flow_rolled.specs.Spans as rows;
+ghost use Rattle.flow_segment.specs.Segment.{part_octets};
+ghost use Rattle.flow_segment.specs.Spans as segment;
 ghost use Rattle.flow_archive.specs.Advancing.{IsNotTaken};
 ghost use Rattle.flow_archive.specs.Sources.{IsRead, IsReadWhole, IsSource, IsTakenUp};
 ghost use Rattle.flow_model.specs.Jobs.{width_made};
@@ -22,10 +26,10 @@ ghost use Rattle.flow_archive.specs.Frozen as own;
 use crate::sources::{add_file, add_segment};
 use bytes::Bytes;
 use flow_disk::{Faults, SealedFile};
-use flow_manifest::{Entry, Kind};
-use flow_measure::Rows;
+use flow_manifest::{Entry, Kind, Manifest};
+use flow_measure::{PartSpan, Rows};
 use flow_refusals::SumRefusal;
-use flow_rolled::RolledPart;
+use flow_rolled::{RolledPart, RowSpan};
 use flow_segment::SealedPart;
 use flow_snapshot::Files;
 use std::alloc::{AllocError, Global};
@@ -133,8 +137,24 @@ impl<S: SealedFile> FrozenFile<S> {
                 prefix: u64::from(entry.prefix),
                 length: entry.length,
                 messages: entry.messages,
+                span: None,
             })),
             Kind::Active => unreachable!(),
+        };
+        FrozenFile { held }
+    }
+
+    /// The same file, of which it is known when its flows start, or the intervals of its sums, by `width` in seconds.
+    pub(crate) fn with_span(self, width: u32, span: PartSpan) -> Self
+        requires { HasSpan self width span }
+        ensures { result ≡ self }
+    {
+        let held = match self.held {
+            FrozenPart::Sealed(part) => FrozenPart::Sealed(spanned_segment(part, span)),
+            FrozenPart::Rolled(part) => {
+                FrozenPart::Rolled(spanned_sums(part, RowSpan { width, span }))
+            }
+            FrozenPart::Wide(part) => FrozenPart::Wide(spanned_sums(part, RowSpan { width, span })),
         };
         FrozenFile { held }
     }
@@ -281,10 +301,46 @@ fn sums_of<S: SealedFile>(file: S, entry: Entry) -> Owned<RolledPart<S>>
       length = entry.length;
       honest = S.honest file;
       octets = take entry.length (S.octets file);
+      span = None;
     } }
     ensures alone { is_shared result ≡ false }
 {
     Owned::Plain(RolledPart::new(file, entry.messages, entry.length))
+}
+
+/// The same segment, of which it is known when its flows start, unless it is shared.
+fn spanned_segment<S: SealedFile>(
+    part: Owned<SealedPart<S>>,
+    span: PartSpan,
+) -> Owned<SealedPart<S>>
+    requires { IsTrue (S.honest (value_of part).reader) → segment.HasSpan span
+        (part_octets 0 (value_of part).prefix (S.octets (value_of part).reader))
+        (part_octets (value_of part).prefix (value_of part).length (S.octets (value_of part).reader))
+        (value_of part).messages }
+    ensures { segment_file (is_shared result) (value_of result) ≡ segment_file (is_shared part) (value_of part) }
+{
+    match part {
+        Owned::Plain(part) => Owned::Plain(SealedPart {
+            reader: part.reader,
+            prefix: part.prefix,
+            length: part.length,
+            messages: part.messages,
+            span: Some(span),
+        }),
+        Owned::Shared(arc) => Owned::Shared(arc),
+    }
+}
+
+/// The same file of sums, of which it is known when its intervals start, unless it is shared.
+fn spanned_sums<S: SealedFile>(part: Owned<RolledPart<S>>, span: RowSpan) -> Owned<RolledPart<S>>
+    requires { IsTrue (value_of part).honest → rows.HasSpan span (value_of part).octets }
+    ensures { (of : Kind) → sums_file of (is_shared result) (value_of result)
+        ≡ sums_file of (is_shared part) (value_of part) }
+{
+    match part {
+        Owned::Plain(part) => Owned::Plain(part.with_span(span)),
+        Owned::Shared(arc) => Owned::Shared(arc),
+    }
 }
 
 /// Shares each file where memory is not refused.
@@ -369,4 +425,38 @@ pub(crate) fn frozen_files<S: SealedFile>(
         frozen.push_reserved(FrozenFile::named(file, entry));
     }
     Ok(frozen)
+}
+
+/// The width in seconds of the intervals of a file of a kind.
+fn width_of(kind: Kind, manifest: &Manifest) -> u32
+    ensures { result ≡ width_of kind manifest.now }
+{
+    match kind {
+        Kind::Wide => manifest.wide,
+        _ => manifest.width,
+    }
+}
+
+/// The same files, of which it is known when their flows start.
+pub(crate) fn spanned_files<S: SealedFile>(
+    alloc: Global,
+    files: Vec<FrozenFile<S>>,
+    manifest: &Manifest,
+    spans: &[PartSpan],
+) -> Result<Vec<FrozenFile<S>>, AllocError>
+    requires { HaveSpans manifest.now files.items spans.now }
+    ensures { IfOk result (λ all. all.items ≡ files.items) }
+{
+    let mut all = Vec::with_capacity(alloc, files.len())?;
+    for file in files {
+        let known = all.len();
+        let file = if known < spans.len() {
+            let width = width_of(file.kind(), manifest);
+            file.with_span(width, spans[known])
+        } else {
+            file
+        };
+        all.push_reserved(file);
+    }
+    Ok(all)
 }

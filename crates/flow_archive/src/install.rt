@@ -13,7 +13,7 @@ ghost use Rattle.flow_model.specs.State.{reopened, StagedFile, State};
 ghost use Rattle.flow_model.specs.Jobs.{replaced};
 ghost use Rattle.flow_model.specs.Standing.{IsKnown, StandsForEither};
 ghost use Rattle.flow_archive.specs.Installing.{cut_in, IsInstall, IsNotInstalled, IsReplacement, IsStagedAs};
-ghost use Rattle.flow_archive.specs.Installing.{IsStagedFor, MayInstall};
+ghost use Rattle.flow_archive.specs.Installing.{HasMadeSums, IsStagedFor, MayInstall};
 ghost use Rattle.std.specs.Vec.Iter.{into_iter_items, into_iter_len};
 ghost use Rattle.flow_manifest.specs.Manifest.{IsValidManifest};
 
@@ -176,16 +176,17 @@ fn cut_moved(kind: JobKind, manifest: &Manifest) -> Answer
 
 /// Takes a job's file, and ends the job.
 fn take_staged<S: SealedFile>(job: &mut Option<RunningJob<S>>, entry: Entry) -> FrozenFile<S>
-    requires { IsStagedFor job.old entry }
+    requires staged { IsStagedFor job.old entry }
+    requires sums { HasMadeSums job.old }
     ensures none { job.new ≡ None }
     ensures file { IsStagedAs job.old entry result }
 {
     let Some(job) = replace(job, None) else {
         unreachable!()
     };
-    let RunningJob { staged, .. } = job;
+    let RunningJob { staged, rows, .. } = job;
     let Some(file) = staged else { unreachable!() };
-    FrozenFile::named(file, entry)
+    FrozenFile::named(file, entry).with_span(rows.width(), rows.span())
 }
 
 /// Makes room for so many more waiting files, and answers an empty list with room for all of `files`.

@@ -14,14 +14,15 @@ ghost use Rattle.flow_recover.specs.Reading.{part_of};
 ghost use Rattle.flow_model.specs.Standing.{StandsFor, StandsForEither, is_file_of};
 ghost use Rattle.flow_recover.specs.Opening.{AreCutTo, IsDeviceOrMemory, IsRecovered, StandsForNone};
 ghost use Rattle.flow_archive.specs.Beginning.{answer_of, disk_of};
-ghost use Rattle.flow_archive.specs.Frozen.{all_frozen, MayBeFrozen};
+ghost use Rattle.flow_archive.specs.Frozen.{all_frozen, HaveSpans, MayBeFrozen};
 
 use crate::archive::Archive;
-use crate::frozen::{FrozenFile, frozen_files};
+use crate::frozen::{FrozenFile, frozen_files, spanned_files};
 use crate::refusal::Refused;
 use bytes::Bytes;
 use flow_disk::{Disk, SealedFile};
-use flow_manifest::{Entry, OpenError};
+use flow_manifest::{Entry, Manifest, OpenError};
+use flow_measure::PartSpan;
 use flow_recover::{ActiveSegment, Recovered, recover};
 use std::alloc::{AllocError, Global};
 
@@ -97,21 +98,26 @@ fn shared_messages(alloc: Global, messages: Vec<Vec<u8>>) -> Result<Vec<Bytes>, 
     Ok(shared)
 }
 
-/// The frozen files that these entries name, and an active segment, as an archive keeps them.
+/// The frozen files that these entries name, with the spans of their flows, and an active segment, as an archive keeps
+/// them.
 fn kept_of<S: SealedFile>(
     alloc: Global,
+    manifest: &Manifest,
     entries: &[Entry],
     files: Vec<S>,
+    spans: &[PartSpan],
     active: ActiveSegment,
 ) -> Result<Kept<S>, AllocError>
     requires files { (honest : Bool) × AreFilesOf S.number S.size S.honest honest entries.now files.items }
     requires entries { AllByRecursion (λ e. MayBeFrozen e.kind e) entries.now }
+    requires spans { HaveSpans manifest.now (all_frozen S.honest S.octets entries.now files.items) spans.now }
     ensures files { IfOk result (λ kept. kept.files.items ≡ all_frozen S.honest S.octets entries.now files.items) }
     ensures prefix { IfOk result (λ kept. kept.prefix ≡ active.prefix.items) }
     ensures messages { IfOk result (λ kept. kept.messages.items ≡ texts active.messages.items) }
 {
+    let files = frozen_files(alloc, entries, files)?;
     Ok(Kept {
-        files: frozen_files(alloc, entries, files)?,
+        files: spanned_files(alloc, files, manifest, spans)?,
         prefix: Bytes::from_vec(active.prefix)?,
         messages: shared_messages(alloc, active.messages)?,
     })
@@ -126,7 +132,7 @@ pub(crate) fn resumed<D: Disk>(
     requires { (reads : ℕ → List ℕ) × IsRecovered D.honest D.marks D.held D.Sealed.octets D.Sealed.number D.Sealed.size
         D.Sealed.honest reads disk found.slots found.active_entry found.end found.total (part_of found.active)
         found.carry
-        found.parts.items }
+        found.parts.items found.spans.items }
     ensures disk { disk_of result ≡ disk }
     ensures refused { IfErr result (λ r. r.error ≡ OpenError.OutOfMemory) }
     ensures still_open { IfOk result (λ a. a.closed ≡ false) }
@@ -137,15 +143,17 @@ pub(crate) fn resumed<D: Disk>(
     ensures read { (reads : ℕ → List ℕ) → IsRecovered D.honest D.marks D.held D.Sealed.octets D.Sealed.number
         D.Sealed.size D.Sealed.honest reads disk found.slots found.active_entry found.end found.total (part_of
         found.active)
-        found.carry found.parts.items
+        found.carry found.parts.items found.spans.items
         → IsTrue (D.honest disk) → IfOk result (λ a. StandsFor reads a.state) }
     ensures stands { IsTrue (D.honest disk)
         → IfOk result (λ a. AllImages (D.held a.disk) (λ image. StandsFor image a.state)) }
 {
     let next = found.slots.current.next;
     let (files, active) = (found.parts, found.active);
-    let named = &found.slots.current.entries.as_slice()[..files.len()];
-    let Ok(kept) = kept_of(alloc, named, files, active) else {
+    let manifest = &found.slots.current;
+    let named = &manifest.entries.as_slice()[..files.len()];
+    let spans = found.spans.as_slice();
+    let Ok(kept) = kept_of(alloc, manifest, named, files, spans, active) else {
         return Err(Refused {
             disk,
             error: OpenError::OutOfMemory,

@@ -1,6 +1,8 @@
 //! The seal of the active segment.
 
 ghost use Rattle.std.specs.Prelude.{◌≡◌, ◌≤◌, ◌+◌, ◌<◌, ◌≢◌, true, false, IsTrue, IfOk, length, OnOk, IfErr, ℕ};
+ghost use Rattle.std.specs.Prelude.{IfSome};
+ghost use Rattle.flow_archive.specs.Frozen.{frozen_as, HasSpan};
 ghost use Rattle.flow_disk.specs.Disk.{AllImages};
 ghost use Rattle.flow_disk.specs.Cause.{HasCause, FailsOnlyByFault};
 ghost use Rattle.flow_manifest.specs.Following.{messages_of, active_of, next_manifest, sealed_entry};
@@ -20,11 +22,13 @@ use crate::frozen::FrozenFile;
 use crate::job::generations_kept;
 use crate::refusal::ArchiveError;
 use bytes::Bytes;
-use flow_disk::{Disk, DiskError};
+use flow_disk::{Disk, DiskError, SealedFile};
 use flow_manifest::{
     Entry, Kind, MOST_ENTRIES, Manifest, Slots, encode, next_manifest, swap_slots,
 };
+use flow_measure::PartSpan;
 use flow_segment::{Carry, make_segment, seal_tail};
+use flow_snapshot::span_in_memory;
 use std::alloc::Global;
 
 impl<D: Disk> Archive<D> {
@@ -53,6 +57,7 @@ impl<D: Disk> Archive<D> {
         let Ok(()) = self.files.reserve(1) else {
             return Err(ArchiveError::OutOfMemory);
         };
+        let span = span_in_memory(alloc, self.prefix.as_slice(), self.messages.as_slice());
         let file = self.next;
         let slot = self.slots.current_slot.other();
         match seal_segment(
@@ -71,7 +76,9 @@ impl<D: Disk> Archive<D> {
                     messages: count,
                     ..self.active
                 };
-                self.files.push_reserved(FrozenFile::named(part, sealed));
+                let width = self.slots.current.width;
+                self.files
+                    .push_reserved(sealed_file(part, sealed, width, span));
                 self.active = Entry {
                     kind: Kind::Active,
                     prefix: next.prefix.len() as u32,
@@ -95,6 +102,27 @@ impl<D: Disk> Archive<D> {
                 Err(ArchiveError::Fault)
             }
         }
+    }
+}
+
+/// A sealed segment, which this entry names, and of which it may be known when its flows start.
+fn sealed_file<S: SealedFile>(
+    part: S,
+    entry: Entry,
+    width: u32,
+    span: Option<PartSpan>,
+) -> FrozenFile<S>
+    requires number { S.number part ≡ entry.file }
+    requires long { entry.length ≤ S.size part }
+    requires kind { entry.kind ≡ Kind.Sealed }
+    requires prefix { entry.prefix ≤ entry.length }
+    requires span { IfSome span (HasSpan (frozen_as entry (S.honest part) (S.octets part)) width) }
+    ensures { result ≡ frozen_as entry (S.honest part) (S.octets part) }
+{
+    let file = FrozenFile::named(part, entry);
+    match span {
+        Some(span) => file.with_span(width, span),
+        None => file,
     }
 }
 

@@ -75,6 +75,7 @@ fn is_segment<S: SealedFile>(alloc: Global, file: S) -> bool {
         prefix: 0,
         length: 57,
         messages: 1,
+        span: None,
     };
     one_by_one(alloc, &part) && at_once(alloc, &part) && has_flow(alloc, &part)
 }

@@ -43,8 +43,8 @@ flows_lines format span v = flows_text format (flows_in_view span.from span.to v
 
 -- ---- of files, damaged or not
 
--- These are the sums of all files, each of which was read whole: by one thread, which reads of the segments' prefixes
--- the first alone; or by workers, which read each segment after its own prefix.
+-- These are the sums of all files, each of which reads whole: by one thread, which reads of the segments' prefixes the
+-- first alone; or by workers, which read each segment after its own prefix, and no file that is known to have none.
 abbrev pub AreReadRows : Shelf → Span → List Row → Type 0
 AreReadRows s span rows =
     ((v : View) × IsReadIn s v × (rows ≡ totals_in_view span.from span.to v))

@@ -161,7 +161,8 @@ fn starts_of_file<S: SealedFile>(
         → IsMade (first_file snapshot.now.shelf) (AllPartsFit snapshot.now.shelf wide narrow)
         (λ starts. starts ≡ starts_of_file snapshot.now.shelf count wide narrow number) result }
 {
-    let sums = snapshot.share(alloc, count, number, faults)?;
+    let first = snapshot.first_file();
+    let sums = snapshot.share(alloc, first, count, number, faults)?;
     Ok(starts_in(alloc, &sums)?)
 }
 

@@ -12,6 +12,7 @@ pub mod NumberPlaces
 pub mod Places
 pub mod Putting
 pub mod SinkSteps
+pub mod Spanning
 pub mod SumLaws
 pub mod Undoing
 pub mod ViewLaws

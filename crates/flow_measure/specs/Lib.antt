@@ -7,3 +7,4 @@ pub mod History
 pub mod View
 pub mod Query
 pub mod Printed
+pub mod Span

@@ -1,7 +1,7 @@
 //! Laws of flows and of their sums.
 
 ghost use Rattle.std.specs.Prelude.{◌≡◌, ◌≢◌, ℕ, ◌+◌, ◌<◌, ◌≤◌, ◌^◌, ◌%◌, List, [], ◌∷◌, ◌++◌, length, Option, map};
-ghost use Rattle.std.specs.Prelude.{filter};
+ghost use Rattle.std.specs.Prelude.{filter, nat_le, nat_lt, ◌&&◌, true, IfSome};
 ghost use Rattle.std.specs.FinMap as finite;
 ghost use Rattle.std.specs.List.{AllByRecursion};
 ghost use Rattle.std.specs.List.Sorted.{IsSortedByKey, IsPermutation, IsStableByKey};
@@ -18,6 +18,8 @@ ghost use Rattle.flow_measure.specs.Query.{totals_between, totals_in_view, flows
 ghost use Rattle.flow_measure.specs.Query.{message_in_view, interleaved, rows_of_both};
 ghost use Rattle.flow_measure.specs.Sums.{AllFit, sums_by, table_of, merged, widened, key_of, is_key, counted};
 ghost use Rattle.flow_measure.specs.Sums.{Table, key_cmp, rows_between, some_total};
+ghost use Rattle.flow_measure.specs.Span.{is_outside, span_of, starts_in, starts_of, AreSameWithin, HasNoneWithin};
+ghost use Rattle.flow_measure.specs.declared.rows.Sums.{Sums};
 
 /// The sums of flows have at each key the sum of the flows of that key, and nothing where there are none.
 pub fn sums_at_a_key()
@@ -91,4 +93,21 @@ pub fn rows_in_order()
     ensures stable { (from to : ℕ) (narrow wide : Table) → narrow.width ≢ wide.width
         → IsStableByKey (λ r. r.key) key_cmp (rows_between from to narrow ++ rows_between from to wide)
         (rows_of_both from to narrow wide) }
+{}
+
+/// Flows whose span is outside of another have no sums and no flow in it, and tables that have the same sums in a span
+/// have the same rows in it.
+pub fn passing_over()
+    ensures flows { (width from to : ℕ) (flows : List Flow) → 0 < width
+        → is_outside width from to (span_of (starts_of flows)) ≡ true
+        → HasNoneWithin from to (sums_by width flows) }
+    ensures each { (from to : ℕ) (flows : List Flow) → is_outside 1 from to (span_of (starts_of flows)) ≡ true
+        → filter (λ f. nat_le from f.start && nat_lt f.start to) flows ≡ [] }
+    ensures sums { (width from to : ℕ) (sums : finite.FinMap key_cmp Sums) → 0 < width
+        → is_outside width from to (span_of (starts_in sums)) ≡ true
+        → ((key : Key) → IfSome (finite.get sums key) (λ _. key.start % width ≡ 0)) → HasNoneWithin from to sums }
+    ensures rows { (from to : ℕ) (narrow wide others wide_others : Table) → narrow.width ≡ others.width
+        → wide.width ≡ wide_others.width → AreSameWithin from to narrow.sums others.sums
+        → AreSameWithin from to wide.sums wide_others.sums
+        → rows_of_both from to narrow wide ≡ rows_of_both from to others wide_others }
 {}

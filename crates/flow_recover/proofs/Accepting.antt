@@ -1,7 +1,7 @@
 -- Messages that are read one after the other.
 use Rattle.std.proofs.Common.{◌≡◌, ◌⊎◌, inl, inr, ⊎_elim, ℕ, ◌+◌, ◌<◌, ◌≤◌, Bool, true, false, List}
 use Rattle.std.proofs.Common.{[], ◌∷◌, ◌++◌, length, take, drop, refl, sym, ◌∙◌, ap, subst, arith, append_assoc}
-use Rattle.std.proofs.Common.{Vec, get_or, zero, suc}
+use Rattle.std.proofs.Common.{Vec, get_or, zero, suc, Option}
 use Rattle.std.specs.declared.alloc.Global.{Global}
 use Rattle.std.proofs.lemmas.List.{drop-drop, length-append, length-drop, length-take-le}
 use Rattle.std.proofs.lemmas.List.{take-append-drop}
@@ -12,10 +12,13 @@ use Rattle.flow_codec.specs.Raw.{RawMessage}
 use Rattle.flow_codec.specs.Templates.{AllTemplates}
 use Rattle.flow_codec.proofs.Dividing.{no_message, one_message}
 use Rattle.flow_codec.proofs.FaultLaws as accepted
+use Rattle.flow_measure.specs.declared.span.PartSpan.{PartSpan}
 use Rattle.flow_measure.specs.History.{Accepted, AreAcceptedFrom, templates_from}
 use Rattle.flow_segment.specs.Carry.{Carry, carry_from, carry_with, octets_of}
 use Rattle.flow_segment.specs.Prefix.{AreRead}
 use Rattle.flow_segment.specs.Carry.{IsTakenAs, no_carry}
+use Rattle.flow_segment.specs.Spans.{all_noted, noted}
+use Rattle.flow_segment.proofs.NotingStarts.{all_then}
 use Rattle.flow_segment.proofs.Restating.{one_more, Behind}
 use Rattle.flow_gate.specs.Scan.{texts}
 use Rattle.flow_recover.specs.declared.segments.Section.{Section}
@@ -101,10 +104,12 @@ misplaced_none Messages bare octets old new placed taken a is kind = absurd (cc)
 
 -- ---- messages that are read so far
 
-pub record IsSoFar (section : Section) (old now : Carry) (count : ℕ) (messages : List Accepted) : Type 0 where
+pub record IsSoFar (section : Section) (old now : Carry) (count : ℕ) (start span : Option PartSpan)
+    (messages : List Accepted) : Type 0 where
   pub kind : AreOf section messages
   pub carry : now ≡ carry_from old messages
   pub count_is : length messages ≡ count
+  pub noted : span ≡ all_noted messages start
 
 of_same : (section : Section) (a x : Accepted) → a.message ≡ x.message → IsOf section a → IsOf section x
 of_same Prefix a x is kind = ap (λ (m : RawMessage). m.records) (sym is) ∙ kind
@@ -127,55 +132,61 @@ any_messages (m ∷ ms) = (tt, any_messages ms)
 
 -- ---- octets in memory that are read as far as a place
 
-abbrev pub AreOctetsRead : Section → List ℕ → Carry → Carry → ℕ → ℕ → Type 0
-AreOctetsRead section octets old now count at =
-    Behind (IsSoFar section old now count) octets 0 old.templates now.templates at (drop at octets)
+abbrev pub AreOctetsRead : Section → List ℕ → Carry → Carry → Option PartSpan → Option PartSpan → ℕ → ℕ → Type 0
+AreOctetsRead section octets old now start span count at =
+    Behind (IsSoFar section old now count start span) octets 0 old.templates now.templates at (drop at octets)
 
 -- the message at the place is one more
-pub octets_more : (section : Section) (octets : List ℕ) (old now new : Carry) (count at n : ℕ)
-    → AreOctetsRead section octets old now count at → n ≤ length (drop at octets) → IsCutOff (take n (drop at octets))
+pub octets_more : (section : Section) (octets : List ℕ) (old now new : Carry) (start span noted_span : Option PartSpan)
+    (count at n : ℕ)
+    → AreOctetsRead section octets old now start span count at → n ≤ length (drop at octets)
+    → IsCutOff (take n (drop at octets))
     → (a : Accepted) × (a.octets ≡ take n (drop at octets))
     × IsAccepted (take n (drop at octets)) now.templates a.message a.after × IsOf section a × (new ≡ carry_with now a)
-    → AreOctetsRead section octets old new (count + 1) (at + n)
-octets_more section octets old now new count at n was fits cut taken =
+    × (noted_span ≡ noted a.message span)
+    → AreOctetsRead section octets old new start noted_span (count + 1) (at + n)
+octets_more section octets old now new start span noted_span count at n was fits cut taken =
     let a = taken.0 in
     let one = take n (drop at octets) in
     let x : Accepted = record { octets = one; message = a.message; after = a.after } in
     let carried : new ≡ carry_from old (was.messages ++ x ∷ []) = taken.4 ∙ ap (λ
     (k : Carry). carry_with k a) was.kind.carry ∙ sym (carry_push old was.messages x) in
-    let next_kind : IsSoFar section old new (count + 1) (was.messages ++ x ∷ []) = record {
+    let next_kind : IsSoFar section old new (count + 1) start noted_span (was.messages ++ x ∷ []) = record {
       kind = of_push section was.messages x was.kind.kind (of_same section a x refl taken.3);
       carry = carried;
       count_is = omega (arith, length-append was.messages (x ∷ []), was.kind.count_is);
+      noted = taken.5 ∙ ap (noted x.message) was.kind.noted ∙ all_then was.messages x start;
     } in
     let there : new.templates ≡ a.after = ap (λ (k : Carry). k.templates) taken.4 in
     let long : length one ≡ n = length-take-le n (drop at octets) fits in
     let split : drop at octets ≡ one ++ drop (at + n) octets =
     sym (take-append-drop n (drop at octets)) ∙ ap (λ (l : List ℕ). one ++ l) (drop-drop n at octets) in
-    subst (λ (ts : AllTemplates). Behind (IsSoFar section old new (count + 1))
+    subst (λ (ts : AllTemplates). Behind (IsSoFar section old new (count + 1) start noted_span)
     octets 0 old.templates ts (at + n) (drop (at + n) octets)) (sym there)
-    (one_more (IsSoFar section old now count) (IsSoFar section old new (count + 1)) octets 0 old.templates
-    now.templates a.after at (at + n) (drop at octets) (drop (at + n) octets) one a.message was cut split
+    (one_more (IsSoFar section old now count start span) (IsSoFar section old new (count + 1) start noted_span) octets 0
+    old.templates now.templates a.after at (at + n) (drop at octets) (drop (at + n) octets) one a.message was cut split
     (omega (arith, long)) taken.2 next_kind)
 
 -- where other messages fill the octets, there is no fault at the place
-pub octets_fault : (section : Section) (octets : List ℕ) (old now : Carry) (count at place : ℕ)
-    (others : List Accepted) (fault : FileError) → AreOctetsRead section octets old now count at
+pub octets_fault : (section : Section) (octets : List ℕ) (old now : Carry) (start span : Option PartSpan)
+    (count at place : ℕ)
+    (others : List Accepted) (fault : FileError) → AreOctetsRead section octets old now start span count at
     → at < length octets → AreRead octets old.templates others [] → AreOf section others
     → IsFileFault place (drop at octets) fault → ⊥
-octets_fault section octets old now count at place others fault was below other kind bad =
+octets_fault section octets old now start span count at place others fault was below other kind bad =
     ⊎_elim (λ none. omega (arith, below, length-drop at octets, ap (λ (l : List ℕ). length l) none))
     (λ there. no_message place there.message.octets there.more fault there.cut (subst (λ
     (l : List ℕ). IsFileFault place l fault) there.parts bad))
     (next_of section octets (drop at octets) old.templates was.messages others was.read other kind)
 
 -- and the one that is cut off there is the next of them
-pub octets_refused : (section : Section) (octets : List ℕ) (old now : Carry) (count at n : ℕ)
-    (others : List Accepted) (P : Type 0) → AreOctetsRead section octets old now count at
+pub octets_refused : (section : Section) (octets : List ℕ) (old now : Carry) (start span : Option PartSpan)
+    (count at n : ℕ)
+    (others : List Accepted) (P : Type 0) → AreOctetsRead section octets old now start span count at
     → at < length octets → IsCutOff (take n (drop at octets))
     → AreRead octets old.templates others [] → AreOf section others
     → ((a : Accepted) → IsAccepted (take n (drop at octets)) now.templates a.message a.after → IsOf section a → P) → P
-octets_refused section octets old now count at n others P was below cut other kind refused =
+octets_refused section octets old now start span count at n others P was below cut other kind refused =
     ⊎_elim (λ none. absurd (omega (arith, below, length-drop at octets, ap (λ (l : List ℕ). length l) none)))
     (λ there.
     let one = take n (drop at octets) in

@@ -1,3 +1,4 @@
 pub mod Recovering
 pub mod Accepting
 pub mod Behind
+pub mod Spanning

@@ -1,4 +1,5 @@
 pub mod Kept
 pub mod Reading
+pub mod Spans
 pub mod Opening
 pub mod Laws

@@ -11,7 +11,9 @@ use Rattle.flow_manifest.specs.declared.error.OpenError.TheVariants.{Fault, OutO
 use Rattle.flow_model.specs.State.{Part, State, at_rest}
 use Rattle.flow_model.specs.Standing.{HoldsFiles, IsActiveAt, IsKnown, IsWithinLimits, PartsStand}
 use Rattle.flow_model.specs.Standing.{StandsAs, StandsFor}
+use Rattle.flow_measure.specs.declared.span.PartSpan.{PartSpan}
 use Rattle.flow_recover.specs.Kept.{AreFilesOf, IsCounted, IsReadyFor}
+use Rattle.flow_recover.specs.Spans.{AreSpansOf}
 use Rattle.flow_manifest.specs.Following.{active_of, front_of}
 use Rattle.flow_manifest.specs.Slots.{AreSlots}
 use Rattle.flow_manifest.specs.declared.slots.Slots.{Slots}
@@ -64,10 +66,12 @@ FrozenStand octets (entry ∷ entries) (part ∷ parts) (x ∷ frozen) =
 
 -- What an opening has found: a state whose numbers are counted on every disk, whose active segment is one of accepted
 -- messages, and whose files before the active one are frozen, each a file of this disk. On an honest disk what was read
--- represents it, its files are an archive's, each image is known to hold it, and the frozen files hold its parts.
+-- represents it, its files are an archive's, each image is known to hold it, the frozen files hold its parts, and the
+-- spans are those of what was read.
 pub record IsRecovered {D S : Type 0} (honest : D → Bool) (marks : D → ℕ → Marks) (held : D → ℕ → Held)
     (octets : S → List ℕ) (number size : S → ℕ) (is_honest : S → Bool) (reads : ℕ → List ℕ) (disk : D) (slots : Slots)
-    (active_entry : Entry) (end total : ℕ) (active : Part) (carry : Carry) (frozen : List S) : Type 0 where
+    (active_entry : Entry) (end total : ℕ) (active : Part) (carry : Carry) (frozen : List S) (spans : List PartSpan)
+    : Type 0 where
   pub parts : List Part
   pub counted : IsCounted (at_rest slots.current parts active) active_entry end total
   pub ready : IsReadyFor (marks disk) active_entry.file slots.current.next end
@@ -79,3 +83,4 @@ pub record IsRecovered {D S : Type 0} (honest : D → Bool) (marks : D → ℕ �
   pub read : IsTrue (honest disk) → StandsFor reads (at_rest slots.current parts active)
   pub known : IsTrue (honest disk) → AllImages (held disk) (IsKnown slots (at_rest slots.current parts active))
   pub frozen_stand : IsTrue (honest disk) → FrozenStand octets (front_of slots.current) parts frozen
+  pub spanned : IsTrue (honest disk) → AreSpansOf reads slots.current (front_of slots.current) spans

@@ -4,17 +4,21 @@ ghost use Rattle.std.specs.Prelude.{◌≡◌, ◌≢◌, ◌<◌, List, [], Opt
 ghost use Rattle.flow_measure.specs.History.{Accepted};
 ghost use Rattle.flow_measure.specs.Sums.{Table};
 ghost use Rattle.flow_rolled.specs.Rollup.{IsRollup};
+ghost use Rattle.flow_rolled.specs.Spans.{HasSpan};
 ghost use Rattle.flow_segment.specs.Carry.{no_carry, prefix_of, Carry};
 ghost use Rattle.flow_segment.specs.Prefix.{AreRead};
 ghost use Rattle.flow_model.specs.State.{Part};
 ghost use Rattle.flow_recover.specs.Reading.{part_of};
 ghost use Rattle.flow_model.specs.Chain.{IsPartBehind, IsSegment};
 ghost use Rattle.flow_recover.specs.Reading.{AreOf, IsHeldBehind, IsCalled, IsRestatement};
+ghost use Rattle.flow_segment.specs.Spans.{IsOwnSpan};
+ghost use Rattle.flow_recover.specs.Spans.{IsSpanOf};
 ghost use Rattle.flow_model.specs.Standing.{IsSealedAt, StandsAs};
 
 use crate::active::ActiveSegment;
 use crate::segments::{Section, take_list, take_octets};
 use flow_manifest::{Entry, Kind, Manifest, OpenError};
+use flow_measure::PartSpan;
 use flow_rolled::{RolledError, decode_rows};
 use flow_segment::Carry;
 use std::alloc::Global;
@@ -33,7 +37,7 @@ fn read_prefix(
         → IsCalled called.now octets.now → IfErr result (λ e. e ≡ OpenError.OutOfMemory) }
     ensures device { IfErr result (λ e. e ≢ OpenError.Fault) }
 {
-    take_octets(carry, alloc, octets, Section::Prefix, file, 0)?;
+    take_octets(carry, alloc, octets, Section::Prefix, file, 0, &mut None)?;
     let Some(called) = called else {
         return Ok(());
     };
@@ -94,18 +98,18 @@ pub(crate) fn read_segment(
     Ok(carry)
 }
 
-/// Takes in a sealed segment with these octets.
+/// Takes in a sealed segment with these octets, and answers when its flows start.
 fn take_sealed(
     carry: &mut Carry,
     alloc: Global,
     called: &Option<Vec<u8>>,
     entry: Entry,
     octets: &[u8],
-) -> Result<(), OpenError>
+) -> Result<PartSpan, OpenError>
     requires new { carry.old ≡ no_carry 0 }
     requires whole { length octets.now ≡ entry.length }
-    ensures found { OnOk result ((p : Part) × IsSealedAt octets.now entry p × IsCalled called.now p.front
-        × IsSegment p carry.new) }
+    ensures found { IfOk result (λ span. (p : Part) × IsSealedAt octets.now entry p × IsCalled called.now p.front
+        × IsSegment p carry.new × IsOwnSpan p.front p.messages span) }
     ensures refused { (p : Part) (whole : Carry) → IsSealedAt octets.now entry p → IsCalled called.now p.front
         → IsSegment p whole → IfErr result (λ e. e ≡ OpenError.OutOfMemory) }
     ensures device { IfErr result (λ e. e ≢ OpenError.Fault) }
@@ -118,44 +122,55 @@ fn take_sealed(
     let messages = &octets[prefix..];
     read_prefix(carry, alloc, called, entry.file, front)?;
     let place = u64::from(entry.prefix);
-    let count = take_octets(carry, alloc, messages, Section::Messages, entry.file, place)?;
+    let mut noted = Some(PartSpan::none());
+    let count = take_octets(
+        carry,
+        alloc,
+        messages,
+        Section::Messages,
+        entry.file,
+        place,
+        &mut noted,
+    )?;
     if count != entry.messages {
         return Err(OpenError::Damaged(entry.file, entry.length));
     }
-    Ok(())
+    let Some(span) = noted else { unreachable!() };
+    Ok(span)
 }
 
-/// The prefix that the segment after the sealed one with these octets must have. The sealed one's own prefix must be
-/// `called` if it isn't the first segment.
+/// The prefix that the segment after the sealed one with these octets must have, and when the flows of the sealed one
+/// start. The sealed one's own prefix must be `called` if it isn't the first segment.
 fn read_sealed(
     alloc: Global,
     called: &Option<Vec<u8>>,
     entry: Entry,
     octets: &[u8],
-) -> Result<Vec<u8>, OpenError>
+) -> Result<(Vec<u8>, PartSpan), OpenError>
     requires { length octets.now ≡ entry.length }
-    ensures found { IfOk result (λ next. (p : Part) × (carry : Carry) × IsSealedAt octets.now entry p
-        × IsCalled called.now p.front × IsSegment p carry × (next.items ≡ prefix_of carry)) }
+    ensures found { IfOk result (λ r. (p : Part) × (carry : Carry) × IsSealedAt octets.now entry p
+        × IsCalled called.now p.front × IsSegment p carry × IsOwnSpan p.front p.messages r.1
+        × (r.0.items ≡ prefix_of carry)) }
     ensures refused { (p : Part) (whole : Carry) → IsSealedAt octets.now entry p → IsCalled called.now p.front
         → IsSegment p whole → IfErr result (λ e. e ≡ OpenError.OutOfMemory) }
     ensures device { IfErr result (λ e. e ≢ OpenError.Fault) }
 {
     let mut carry = Carry::new(alloc);
-    take_sealed(&mut carry, alloc, called, entry, octets)?;
+    let span = take_sealed(&mut carry, alloc, called, entry, octets)?;
     let next = carry.prefix(alloc)?;
-    Ok(next)
+    Ok((next, span))
 }
 
-/// Looks whether octets are the rolled file of some sums by a width.
-fn read_rolled(alloc: Global, width: u32, file: u64, octets: &[u8]) -> Result<(), OpenError>
+/// Looks whether octets are the rolled file of some sums by a width, and answers when their intervals start.
+fn read_rolled(alloc: Global, width: u32, file: u64, octets: &[u8]) -> Result<PartSpan, OpenError>
     requires { 0 < width }
-    ensures found { OnOk result ((table : Table) × IsRollup width octets.now table) }
+    ensures found { IfOk result (λ span. HasSpan (record { width = width; span = span }) octets.now) }
     ensures refused { (table : Table) → IsRollup width octets.now table
         → IfErr result (λ e. e ≡ OpenError.OutOfMemory) }
     ensures device { IfErr result (λ e. e ≢ OpenError.Fault) }
 {
     match decode_rows(alloc, octets, width) {
-        Ok(_rows) => Ok(()),
+        Ok(rows) => Ok(rows.span()),
         Err(fault) => Err(told(fault, file)),
     }
 }
@@ -171,21 +186,32 @@ fn told(fault: RolledError, file: u64) -> OpenError
     }
 }
 
+/// What the checking of files before the active one gives.
+#[derive(Drop)]
+pub(crate) struct Checked {
+    /// The prefix that the next segment must have, if a segment is before it.
+    pub(crate) called: Option<Vec<u8>>,
+    /// When the flows of the last file start.
+    pub(crate) span: PartSpan,
+}
+
 /// Checks the octets of an entry's file. `called` is the prefix that the next segment must have, if a segment is before
-/// it; the answer is the same after this file.
+/// it; the answer has the same after this file.
 pub(crate) fn kept_of(
     alloc: Global,
     manifest: &Manifest,
     called: Option<Vec<u8>>,
     entry: Entry,
     octets: &[u8],
-) -> Result<Option<Vec<u8>>, OpenError>
+) -> Result<Checked, OpenError>
     requires width { 0 < manifest.now.width }
     requires wide { 0 < manifest.now.wide }
     requires whole { length octets.now ≡ entry.length }
-    ensures found { (before : Option Carry) → IsHeldBehind before called → IfOk result (λ next. (p : Part)
+    ensures found { (before : Option Carry) → IsHeldBehind before called → IfOk result (λ read. (p : Part)
         × (after : Option Carry) × StandsAs entry.kind octets.now entry p
-        × IsPartBehind manifest.now entry.kind before p after × IsHeldBehind after next) }
+        × IsPartBehind manifest.now entry.kind before p after × IsHeldBehind after read.called) }
+    ensures spanned { IfOk result (λ read. (p : Part) → StandsAs entry.kind octets.now entry p
+        → IsSpanOf manifest.now entry.kind p read.span) }
     ensures refused { (before : Option Carry) → IsHeldBehind before called → (p : Part) (after : Option Carry)
         → StandsAs entry.kind octets.now entry p → IsPartBehind manifest.now entry.kind before p after
         → IfErr result (λ e. e ≡ OpenError.OutOfMemory) }
@@ -193,16 +219,19 @@ pub(crate) fn kept_of(
 {
     match entry.kind {
         Kind::Wide => {
-            read_rolled(alloc, manifest.wide, entry.file, octets)?;
-            Ok(called)
+            let span = read_rolled(alloc, manifest.wide, entry.file, octets)?;
+            Ok(Checked { called, span })
         }
         Kind::Rolled => {
-            read_rolled(alloc, manifest.width, entry.file, octets)?;
-            Ok(called)
+            let span = read_rolled(alloc, manifest.width, entry.file, octets)?;
+            Ok(Checked { called, span })
         }
         Kind::Sealed => {
-            let next = read_sealed(alloc, &called, entry, octets)?;
-            Ok(Some(next))
+            let (next, span) = read_sealed(alloc, &called, entry, octets)?;
+            Ok(Checked {
+                called: Some(next),
+                span,
+            })
         }
         Kind::Active => Err(OpenError::Damaged(entry.file, 0)),
     }

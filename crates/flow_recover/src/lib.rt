@@ -6,7 +6,7 @@
 //! Opening looks at what the files mean: messages are accepted, each prefix is the one that the segment before it
 //! determines, and rolled files are sums. It keeps at every moment what each image represented, and refuses for other
 //! reasons than the device and memory only where what is read represents no state. It finds the state that what is read
-//! represents, and the carry that its active segment passes on.
+//! represents, the carry that its active segment passes on, and when the flows of each other file start.
 //! It cuts each file that the manifest names exactly where it is to end, leaves those before the active one frozen,
 //! removes what the manifest doesn't name, and only settles the slots.
 #![tactic(auto)]

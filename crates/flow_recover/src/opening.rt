@@ -17,6 +17,7 @@ ghost use Rattle.flow_model.specs.Standing.{is_file_of, StandsForEither};
 ghost use Rattle.flow_model.specs.Chain.{IsSegment};
 ghost use Rattle.flow_recover.specs.Kept.{IsCounted};
 ghost use Rattle.flow_recover.specs.Opening.{AreCutTo, IsDeviceOrMemory, IsRead, IsRecovered, StandsForNone};
+ghost use Rattle.flow_recover.specs.Spans.{AreSpansOf};
 
 use crate::active::ActiveSegment;
 use crate::reading::{Files, read_files};
@@ -24,6 +25,7 @@ use crate::settling::settle_all;
 use crate::tidying::tidy;
 use flow_disk::Disk;
 use flow_manifest::{Entry, OpenError, Slots};
+use flow_measure::PartSpan;
 use flow_segment::Carry;
 use std::alloc::Global;
 
@@ -44,6 +46,8 @@ pub struct Recovered<D: Disk> {
     pub carry: Carry,
     /// The files before the active one, in the manifest's order.
     pub parts: Vec<D::Sealed>,
+    /// When the flows of each of them start.
+    pub spans: Vec<PartSpan>,
 }
 
 /// What is found before anything is changed.
@@ -62,7 +66,7 @@ pub fn recover<D: Disk>(alloc: Global, disk: &mut D) -> Result<Recovered<D>, Ope
     ensures recovered { IfOk result
         (λ r. IsRecovered D.honest D.marks D.held D.Sealed.octets D.Sealed.number D.Sealed.size D.Sealed.honest
         (reads_of (D.held disk.old)) disk.new r.slots r.active_entry r.end r.total (part_of r.active) r.carry
-        r.parts.items) }
+        r.parts.items r.spans.items) }
     ensures listed { IfOk result (λ r. (n : ℕ) → is_file_of r.slots.current n ≡ true
         → (D.marks disk.new n).listed ≡ true) }
     ensures removed { IsTrue (D.honest disk.old) → IfOk result (λ r. (n : ℕ)
@@ -106,6 +110,7 @@ pub fn recover<D: Disk>(alloc: Global, disk: &mut D) -> Result<Recovered<D>, Ope
         active: files.active,
         carry: files.carry,
         parts,
+        spans: files.spans,
     })
 }
 
@@ -139,6 +144,8 @@ fn find<D: Disk>(alloc: Global, disk: &mut D) -> Result<Found, OpenError>
     ensures read { IsTrue (D.honest disk.old) → IfOk result (λ f. (parts : List Part)
         × IsRead (D.held disk.new) (reads_of (D.held disk.old)) f.slots
         (at_rest f.slots.current parts (part_of f.files.active)) f.files.carry) }
+    ensures spanned { IsTrue (D.honest disk.old) → IfOk result (λ f. AreSpansOf (reads_of (D.held disk.old))
+        f.slots.current (front_of f.slots.current) f.files.spans.items) }
     ensures told { IsTrue (D.honest disk.old)
         → IfErr result (λ e. IsDeviceOrMemory e ⊎ StandsForNone (reads_of (D.held disk.old))) }
 {

@@ -1,6 +1,6 @@
 //! What the files of an archive hold.
 
-ghost use Rattle.std.specs.Prelude.{◌≡◌, ◌≢◌, ℕ, ◌+◌, ◌^◌, ◌<◌, ◌≤◌, map, true, false, IsTrue, List, length, OnOk};
+ghost use Rattle.std.specs.Prelude.{◌≡◌, ◌≢◌, ℕ, ◌+◌, ◌^◌, ◌<◌, ◌≤◌, map, true, false, IsTrue, List, [], length, OnOk};
 ghost use Rattle.std.specs.Prelude.{IfOk, IfErr, IfSome, IfNone, Option, None};
 ghost use Rattle.std.specs.List.{All, AllByRecursion, sum_by};
 ghost use Rattle.flow_disk.specs.Disk.{IsDiskImage, Stays};
@@ -15,18 +15,20 @@ ghost use Rattle.flow_manifest.specs.Limits.{too_many_messages};
 ghost use Rattle.flow_model.specs.State.{Part, State, at_rest};
 ghost use Rattle.flow_recover.specs.Reading.{part_of};
 ghost use Rattle.flow_model.specs.Standing.{StandsAs, IsActiveAt, IsWithinLimits, HoldsFiles, PartsStand};
-ghost use Rattle.flow_manifest.specs.Following.{active_of, messages_of};
+ghost use Rattle.flow_manifest.specs.Following.{active_of, front_of, messages_of};
 ghost use Rattle.flow_recover.specs.Kept.{IsCounted};
 ghost use Rattle.flow_model.specs.Chain.{ArePartsBehind, HandsOn, IsPartBehind, IsSegment};
 ghost use Rattle.flow_recover.specs.Reading.{IsHeldBehind};
 ghost use Rattle.flow_recover.specs.Opening.{IsDeviceOrMemory};
+ghost use Rattle.flow_recover.specs.Spans.{AreSpansOf, IsSpanOf};
 ghost use Rattle.flow_segment.specs.Carry.{Carry};
 
 use crate::active::ActiveSegment;
-use crate::chaining::{kept_of, read_segment};
+use crate::chaining::{Checked, kept_of, read_segment};
 use flow_disk::Disk;
 use flow_gate::scan;
 use flow_manifest::{Entry, MOST_MESSAGES, Manifest, OpenError};
+use flow_measure::PartSpan;
 use flow_segment::Carry;
 use std::alloc::Global;
 
@@ -44,6 +46,8 @@ pub(crate) struct Files {
     pub(crate) total: u64,
     /// The carry that the active segment passes on.
     pub(crate) carry: Carry,
+    /// When the flows of each file before the active one start.
+    pub(crate) spans: Vec<PartSpan>,
 }
 
 /// Reads each file that a manifest names. It only reads.
@@ -76,9 +80,13 @@ pub(crate) fn read_files<D: Disk>(
         × HandsOn (at_rest manifest.now parts (part_of f.active)) f.carry) }
     ensures refused { IsTrue (D.honest disk.old) → (s : State) → s.manifest ≡ manifest.now
         → HoldsFiles (reads_of (D.held disk.old)) s → IfErr result IsDeviceOrMemory }
+    ensures spanned { IsTrue (D.honest disk.old) → IfOk result (λ f. AreSpansOf (reads_of (D.held disk.old))
+        manifest.now (front_of manifest.now) f.spans.items) }
 {
     let entries = manifest.entries.as_slice();
-    let called = read_entries(alloc, disk, manifest, &entries[..entries.len() - 1])?;
+    let mut spans = Vec::new(alloc);
+    let before = &entries[..entries.len() - 1];
+    let called = read_entries(alloc, disk, manifest, before, &mut spans)?;
     let (active, end) = read_active(alloc, disk, active_entry)?;
     let carry = read_segment(alloc, &called, active_entry, &active)?;
     let limit = u64::from(active_entry.prefix) + u64::from(manifest.limit);
@@ -93,6 +101,7 @@ pub(crate) fn read_files<D: Disk>(
         end,
         total,
         carry,
+        spans,
     })
 }
 
@@ -157,12 +166,13 @@ fn read_active<D: Disk>(
 }
 
 /// Reads and checks the files before the active one. Answers the prefix that the active segment must have, if a segment
-/// is before it.
+/// is before it, and appends to `spans` when the flows of each file start.
 fn read_entries<D: Disk>(
     alloc: Global,
     disk: &mut D,
     manifest: &Manifest,
     entries: &[Entry],
+    spans: &mut Vec<PartSpan>,
 ) -> Result<Option<Vec<u8>>, OpenError>
     requires width { 0 < manifest.now.width }
     requires wide { 0 < manifest.now.wide }
@@ -182,10 +192,14 @@ fn read_entries<D: Disk>(
     ensures refused { IsTrue (D.honest disk.old) → (parts : List Part) (after : Option Carry)
         → PartsStand (reads_of (D.held disk.old)) entries.now parts
         → ArePartsBehind manifest.now None entries.now parts after → IfErr result IsDeviceOrMemory }
+    ensures spanned { IsTrue (D.honest disk.old) → spans.old.items ≡ [] → OnOk result (AreSpansOf
+        (reads_of (D.held disk.old)) manifest.now entries.now spans.new.items) }
 {
     let mut called = None;
     'entries: for entry in entries {
-        called = read_part(alloc, disk, manifest, called, *entry)?;
+        let read = read_part(alloc, disk, manifest, called, *entry)?;
+        called = read.called;
+        spans.push(read.span)?;
     }
     Ok(called)
 }
@@ -198,7 +212,7 @@ fn read_part<D: Disk>(
     manifest: &Manifest,
     called: Option<Vec<u8>>,
     entry: Entry,
-) -> Result<Option<Vec<u8>>, OpenError>
+) -> Result<Checked, OpenError>
     requires width { 0 < manifest.now.width }
     requires wide { 0 < manifest.now.wide }
     requires file { 3 ≤ entry.file }
@@ -212,9 +226,12 @@ fn read_part<D: Disk>(
     ensures any_moment { IsTrue (D.honest disk.old)
         → LeavesOnly D.Disk disk.old disk.new (IsDiskImage (D.held disk.old)) }
     ensures found { IsTrue (D.honest disk.old) → (before : Option Carry) → IsHeldBehind before called
-        → IfOk result (λ next. (p : Part) × (after : Option Carry)
+        → IfOk result (λ read. (p : Part) × (after : Option Carry)
         × StandsAs entry.kind (D.held disk.old entry.file).reads entry p
-        × IsPartBehind manifest.now entry.kind before p after × IsHeldBehind after next) }
+        × IsPartBehind manifest.now entry.kind before p after × IsHeldBehind after read.called) }
+    ensures spanned { IsTrue (D.honest disk.old) → IfOk result (λ read. (p : Part)
+        → StandsAs entry.kind (D.held disk.old entry.file).reads entry p
+        → IsSpanOf manifest.now entry.kind p read.span) }
     ensures refused { IsTrue (D.honest disk.old) → (before : Option Carry) → IsHeldBehind before called
         → (p : Part) (after : Option Carry)
         → StandsAs entry.kind (D.held disk.old entry.file).reads entry p

@@ -6,10 +6,12 @@ ghost use Rattle.flow_gate.specs.Scan.{texts};
 ghost use Rattle.flow_measure.specs.History.{Accepted, AreAcceptedFrom};
 ghost use Rattle.flow_segment.specs.Carry.{carry_from, carry_with, octets_of, Carry};
 ghost use Rattle.flow_segment.specs.Prefix.{AreRead};
+ghost use Rattle.flow_segment.specs.Spans.{all_noted, noted};
 ghost use Rattle.flow_recover.specs.Reading.{is_misplaced, AreOf, IsOf};
 
 use flow_codec::{MessageError, front_of};
 use flow_manifest::OpenError;
+use flow_measure::PartSpan;
 use flow_segment::Carry;
 use std::alloc::Global;
 
@@ -22,7 +24,8 @@ pub(crate) enum Section {
     Messages,
 }
 
-/// Takes in the message at this place of a file, after those before it.
+/// Takes in the message at this place of a file, after those before it, and notes the starts of its flows, where a span
+/// is given.
 pub(crate) fn take_message(
     carry: &mut Carry,
     alloc: Global,
@@ -30,6 +33,7 @@ pub(crate) fn take_message(
     section: Section,
     file: u64,
     at: u64,
+    span: &mut Option<PartSpan>,
 ) -> Result<(), OpenError>
     ensures taken { OnOk result ((a : Accepted) × (a.octets ≡ octets.now)
         × IsAccepted octets.now carry.old.templates a.message a.after × IsOf section a
@@ -37,8 +41,10 @@ pub(crate) fn take_message(
     ensures refused { (a : Accepted) → IsAccepted octets.now carry.old.templates a.message a.after → IsOf section a
         → IfErr result (λ e. e ≡ OpenError.OutOfMemory) }
     ensures device { IfErr result (λ e. e ≢ OpenError.Fault) }
+    ensures noted { OnOk result ((a : Accepted) → a.octets ≡ octets.now
+        → IsAccepted octets.now carry.old.templates a.message a.after → span.new ≡ noted a.message span.old) }
 {
-    match carry.restate(alloc, octets) {
+    match carry.restate(alloc, octets, span) {
         Ok(bare) => {
             if is_misplaced(section, bare) {
                 return Err(OpenError::Damaged(file, at));
@@ -70,7 +76,8 @@ fn told(fault: MessageError, file: u64, at: u64) -> OpenError
     }
 }
 
-/// Takes in the messages of these octets, which start at this place of a file, and counts them.
+/// Takes in the messages of these octets, which start at this place of a file, counts them, and notes the starts of
+/// their flows, where a span is given.
 pub(crate) fn take_octets(
     carry: &mut Carry,
     alloc: Global,
@@ -78,11 +85,13 @@ pub(crate) fn take_octets(
     section: Section,
     file: u64,
     from: u64,
+    span: &mut Option<PartSpan>,
 ) -> Result<u64, OpenError>
     requires { from + length octets.now < 2 ^ 64 }
     ensures found { IfOk result (λ count. (messages : List Accepted)
         × AreRead octets.now carry.old.templates messages [] × AreOf section messages
-        × (carry.new ≡ carry_from carry.old messages) × (length messages ≡ count)) }
+        × (carry.new ≡ carry_from carry.old messages) × (length messages ≡ count)
+        × (span.new ≡ all_noted messages span.old)) }
     ensures refused { (messages : List Accepted) → AreRead octets.now carry.old.templates messages []
         → AreOf section messages → IfErr result (λ e. e ≡ OpenError.OutOfMemory) }
     ensures device { IfErr result (λ e. e ≢ OpenError.Fault) }
@@ -95,7 +104,7 @@ pub(crate) fn take_octets(
         let Ok(length) = front_of(place, rest) else {
             return Err(OpenError::Damaged(file, place));
         };
-        take_message(carry, alloc, &rest[..length], section, file, place)?;
+        take_message(carry, alloc, &rest[..length], section, file, place, span)?;
         at += length;
         count += 1;
     }
@@ -125,6 +134,7 @@ pub(crate) fn take_list(
             Section::Messages,
             file,
             at,
+            &mut None,
         )?;
         at = at.saturating_add(message.len() as u64);
     }

@@ -13,6 +13,7 @@ pub mod SoFar
 pub mod Adding
 pub mod Judgement
 pub mod Headers
+pub mod RowSpans
 pub mod RowSets
 pub mod WrittenRows
 pub mod WrittenParts

@@ -2,6 +2,7 @@ pub mod Rows
 pub mod Messages
 pub mod Octets
 pub mod Rollup
+pub mod Spans
 pub mod Reading
 pub mod Printed
 pub mod Writing

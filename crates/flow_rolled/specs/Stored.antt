@@ -8,6 +8,7 @@ use Rattle.std.specs.FinMap.{entries, get}
 use Rattle.flow_measure.specs.Sums.{Table, AllFit, with_sums, with_entries, widened_key}
 use Rattle.flow_rolled.specs.declared.cursor.Cursor.{Cursor}
 use Rattle.flow_rolled.specs.declared.row.RolledRow.{RolledRow}
+use Rattle.flow_rolled.specs.declared.row_span.RowSpan.{RowSpan}
 use Rattle.flow_rolled.specs.declared.message.State.{State}
 use Rattle.flow_refusals.specs.declared.read_refusal.ReadRefusal.{ReadRefusal}
 use Rattle.flow_refusals.specs.declared.read_refusal.ReadRefusal.TheVariants.{Damaged, Fault, OutOfMemory}
@@ -20,13 +21,14 @@ use Rattle.flow_rolled.specs.Rollup.{IsRollup, IsBroken}
 use Rattle.flow_rolled.specs.Reading.{Stands, IsStuck}
 
 -- a rolled file on a disk: its number, how many messages were rolled into it, how many octets it has, whether the disk
--- is honest, and what it then reads as
+-- is honest, what it then reads as, and when its intervals start, where that is known
 pub record Rollup : Type 0 where
   pub file : ℕ
   pub messages : ℕ
   pub length : ℕ
   pub honest : Bool
   pub octets : List ℕ
+  pub span : Option RowSpan
 
 -- the Export Time of its first message, after Version and Length, in network byte order; 0 where there is none
 abbrev pub export_time : List ℕ → ℕ

@@ -6,10 +6,10 @@
 //! longest sequence of whole messages with which some rolled file begins; a sum of a table that fits a file always fits
 //! its type.
 //!
-//! `RolledPart` is such a file on a disk. `RowReader` reads its rows message by message, a piece of the file at a time:
-//! where it comes to the end its rows are those of the file's table, and where octets break off it reports damage at
-//! that place. `sum_rows` adds them to sums of the same or another width. The laws say that a rolled file is an IPFIX
-//! File, of which each row is read as one flow.
+//! `RolledPart` is such a file on a disk; one of which it is known when its intervals start reads whole. `RowReader`
+//! reads its rows message by message, a piece of the file at a time: where it comes to the end its rows are those of
+//! the file's table, and where octets break off it reports damage at that place. `sum_rows` adds them to sums of the
+//! same or another width. The laws say that a rolled file is an IPFIX File, of which each row is read as one flow.
 #![tactic(auto)]
 
 mod cursor;
@@ -27,6 +27,7 @@ mod part;
 mod reader;
 mod row;
 mod row_reading;
+mod row_span;
 mod row_writing;
 mod set_reading;
 mod summing;
@@ -37,4 +38,5 @@ pub use error::{RolledError, RowError};
 pub use part::RolledPart;
 pub use reader::RowReader;
 pub use row::RolledRow;
+pub use row_span::RowSpan;
 pub use summing::sum_rows;

@@ -1,24 +1,29 @@
 //! A rolled file on a disk.
 
-ghost use Rattle.std.specs.Prelude.{◌≡◌, ◌≤◌, IsTrue, length, take, IfOk};
+ghost use Rattle.std.specs.Prelude.{◌≡◌, ◌≤◌, ◌<◌, true, IsTrue, length, take, IfOk, Some, None};
 ghost use Rattle.flow_disk.specs.Cause.{HasCause};
+ghost use Rattle.flow_rolled.specs.Spans.{is_known_outside, HasSpan, IsPassedOver};
 ghost use Rattle.flow_rolled.specs.Stored.{export_time};
 
+use crate::row_span::RowSpan;
 use flow_disk::{DiskError, Faults, SealedFile};
 use std::alloc::Global;
 use std::marker::Model;
 
 /// A frozen rolled file, with the number of messages that were rolled into it. It is seen as its number, this count,
-/// its length and its octets, which reads give where the disk is honest.
+/// its length and its octets, which reads give where the disk is honest, and as what is known of when its intervals
+/// start: on an honest disk a file of which that is known reads whole.
 #[derive(Drop)]
 pub struct RolledPart<S: SealedFile> {
     pub(crate) reader: S,
     messages: u64,
     length: u64,
+    span: Option<RowSpan>,
 }
 
 impl<S: SealedFile> Model for RolledPart<S> {
-    ghost use Rattle.std.specs.Prelude.{◌≤◌, take};
+    ghost use Rattle.std.specs.Prelude.{◌≤◌, take, IfSome, IsTrue};
+    ghost use Rattle.flow_rolled.specs.Spans.{HasSpan};
     ghost use Rattle.flow_rolled.specs.Stored.{Rollup};
 
     ghost Value = { Rollup };
@@ -29,9 +34,11 @@ impl<S: SealedFile> Model for RolledPart<S> {
       length = p.length;
       honest = S.honest p.reader;
       octets = take p.length (S.octets p.reader);
+      span = p.span;
     } };
 
-    ghost invariant = { λ p. p.length ≤ S.size p.reader };
+    ghost invariant = { λ p. (p.length ≤ S.size p.reader) × (IsTrue (S.honest p.reader)
+        → IfSome p.span (λ s. HasSpan s (take p.length (S.octets p.reader)))) };
 }
 
 impl<S: SealedFile> RolledPart<S> {
@@ -44,12 +51,47 @@ impl<S: SealedFile> RolledPart<S> {
           length = length;
           honest = S.honest reader;
           octets = take length (S.octets reader);
+          span = None;
         } }
     {
         RolledPart {
             reader,
             messages,
             length,
+            span: None,
+        }
+    }
+
+    /// The same file, of which it is known when its intervals start.
+    pub fn with_span(self, span: RowSpan) -> Self
+        requires { IsTrue self.honest → HasSpan span self.octets }
+        ensures { result ≡ record self { span = Some span } }
+    {
+        let RolledPart {
+            reader,
+            messages,
+            length,
+            ..
+        } = self;
+        RolledPart {
+            reader,
+            messages,
+            length,
+            span: Some(span),
+        }
+    }
+
+    /// Whether it is known that no row of this file by `width`, in seconds, starts from `from` on and before `to`, both
+    /// in seconds since 1970-01-01 00:00 UTC. Nothing is read.
+    pub fn is_outside(&self, width: u32, from: u64, to: u64) -> bool
+        requires { 0 < width }
+        ensures known { result ≡ is_known_outside self.now.span width from to }
+        // On an honest disk such a file reads whole.
+        ensures whole { result ≡ true → IsTrue self.now.honest → IsPassedOver width from to self.now.octets }
+    {
+        match self.span {
+            Some(known) => known.width == width && known.span.is_outside(width, from, to),
+            None => false,
         }
     }
 

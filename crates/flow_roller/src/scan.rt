@@ -22,28 +22,30 @@ use std::alloc::Global;
 use std::thread;
 use std::thread::Threads;
 
-/// The share of a worker, whose numbers are from 0 on.
+/// The share of a worker, whose numbers are from 0 on. Sums that don't fit their types are reported of the file
+/// `first`.
 fn share_of<S: SealedFile, G: Gate>(
     snapshot: &Snapshot<S>,
     alloc: Global,
     gate: &G,
+    first: u64,
     workers: u32,
     worker: u32,
 ) -> Share<S>
     requires { worker < workers }
     ensures cause { HasCause ReadRefusal.Fault 0 result.faults result.sums }
-    ensures share { IsShare snapshot.now workers worker result.sums }
+    ensures share { IsShare first snapshot.now workers worker result.sums }
 {
     gate.pass(Point::Worker(worker + 1));
     let mut faults = Faults::new();
-    let sums = snapshot.share(alloc, workers, worker, &mut faults);
+    let sums = snapshot.share(alloc, first, workers, worker, &mut faults);
     Share { sums, faults }
 }
 
-/// What `totals` of the snapshot answers, by so many workers, each a thread of its own where one can be made. The parts
-/// of the archive go to them in turn: its files over wide intervals, its rolled files, its sealed segments and the
-/// active one, in each list the oldest first. Each worker passes the gate before its first part, also where it has
-/// none.
+/// What `totals` of the snapshot answers, by so many workers, each a thread of its own where one can be made. Those
+/// parts of the archive that may have sums in the span go to them in turn: its files over wide intervals, its rolled
+/// files, its sealed segments and the active one, in each list the oldest first. The others aren't read, and no damage
+/// of theirs is found. Each worker passes the gate before its first part, also where it has none.
 ///
 /// It refuses as `totals` does; where several workers are refused, it answers as the first of them.
 pub fn scan_by_parts<S: SealedFile + Send + Sync, R: Threads + Sync, G: Gate + Sync>(
@@ -58,8 +60,8 @@ pub fn scan_by_parts<S: SealedFile + Send + Sync, R: Threads + Sync, G: Gate + S
 ) -> Result<Vec<Row>, ReadRefusal>
     requires workers { (0 < workers) × (workers ≤ 64) }
     ensures cause { HasCause ReadRefusal.Fault faults.old faults.new result }
-    // On honest disks, also where files are damaged: the totals of all parts, each of which was read whole, with its
-    // own prefix.
+    // On honest disks, also where files are damaged: the totals of all parts, each of which reads whole, with its own
+    // prefix: it was read now, or is known to read so, and to have no sums in the span.
     ensures found { IsTrue snapshot.now.honest → IfOk result (λ rows. (wide : List (FinMap key_cmp Sums))
         × (narrow : List (FinMap key_cmp Sums)) × AreWide snapshot.now.shelf wide × AreNarrow snapshot.now.shelf narrow
         × (rows.items ≡ rows_of_both from to (summed snapshot.now.shelf.width narrow)
@@ -72,11 +74,14 @@ pub fn scan_by_parts<S: SealedFile + Send + Sync, R: Threads + Sync, G: Gate + S
         → AreCountsOf h counts → IsWithinHistoryLimits h → IsViewOf snapshot.now.shelf (view_of h counts)
         → IsAnswered (λ rows. rows.items ≡ totals_between from to h) result }
 {
+    let first = snapshot.first_file();
+    let within = snapshot.within(alloc, from, to)?;
+    let parts = &within;
     let work = |i: usize| -> Share<S>
         requires { i < workers }
         ensures { HasCause ReadRefusal.Fault 0 result.faults result.sums
-            × IsShare snapshot.entry.now workers i result.sums }
-    { share_of(snapshot, alloc, gate, workers, i as u32) };
+            × IsShare first parts.entry.now workers i result.sums }
+    { share_of(parts, alloc, gate, first, workers, i as u32) };
     let shares = thread::map_indices(rt, alloc, workers as usize, &work)?;
-    snapshot.totals_of_shares(alloc, from, to, shares, faults)
+    snapshot.totals_of_shares(alloc, parts, from, to, shares, faults)
 }

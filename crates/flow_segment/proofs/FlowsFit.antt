@@ -28,19 +28,19 @@ use Rattle.flow_measure.proofs.SinkSteps.{fit_both}
 
 -- ---- octets
 
-abbrev AreBytes : List ℕ → Type 0
+abbrev pub AreBytes : List ℕ → Type 0
 AreBytes octets = AllByRecursion (λ n. n < 256) octets
 
-of_index : (xs : List ℕ) → IsOctets xs → AreBytes xs
+pub of_index : (xs : List ℕ) → IsOctets xs → AreBytes xs
 of_index [] h = tt
 of_index (x ∷ xs) h = (h 0, of_index xs (λ i. h (suc i)))
 
-by_index : (xs : List ℕ) → AreBytes xs → (i : ℕ) → get_or xs i 0 < 256
+pub by_index : (xs : List ℕ) → AreBytes xs → (i : ℕ) → get_or xs i 0 < 256
 by_index [] h i = omega arith
 by_index (x ∷ xs) h zero = h.0
 by_index (x ∷ xs) h (suc i) = by_index xs h.1 i
 
-parted : (xs ys : List ℕ) → AreBytes (xs ++ ys) → AreBytes xs × AreBytes ys
+pub parted : (xs ys : List ℕ) → AreBytes (xs ++ ys) → AreBytes xs × AreBytes ys
 parted [] ys h = (tt, h)
 parted (x ∷ xs) ys h = let more = parted xs ys h.1 in ((h.0, more.0), more.1)
 

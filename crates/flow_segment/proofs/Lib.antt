@@ -11,3 +11,5 @@ pub mod Summed
 pub mod FewMessages
 pub mod FlowsFit
 pub mod Batches
+pub mod NotingStarts
+pub mod Sure

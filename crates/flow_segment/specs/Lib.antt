@@ -5,3 +5,4 @@ pub mod Segment
 pub mod Prefix
 pub mod PartFlows
 pub mod Batch
+pub mod Spans

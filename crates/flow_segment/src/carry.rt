@@ -8,11 +8,12 @@ ghost use Rattle.flow_measure.specs.History.{Accepted};
 ghost use Rattle.flow_segment.specs.Batch.{restored};
 ghost use Rattle.flow_segment.specs.Carry.{no_carry, prefix_of, AreNext, IsCarry, IsCounted, IsTaken};
 ghost use Rattle.flow_segment.specs.Carry.{IsTakenAs, TakesOnly};
+ghost use Rattle.flow_segment.specs.Spans.{noted};
 
 use crate::batch::Undo;
-use flow_codec::{
-    Count, Losses, MessageError, Templates, WalkError, Walked, walk_sets, write_templates,
-};
+use crate::sinks::Noting;
+use flow_codec::{Losses, MessageError, Templates, WalkError, Walked, walk_sets, write_templates};
+use flow_measure::PartSpan;
 use indexmap::IndexMap;
 use std::alloc::{AllocError, Global};
 use std::marker::Model;
@@ -68,21 +69,30 @@ impl Carry {
             (λ e. (e ≡ MessageError.OutOfMemory) ⊎ IsFault octets.now self.old.templates e) }
         ensures kept { IfErr result (λ _. self.new ≡ self.old) }
     {
-        self.restate(alloc, octets)?;
+        self.restate(alloc, octets, &mut None)?;
         Ok(())
     }
 
-    /// The same, and answers whether the message has no data records: one of a prefix has none.
-    pub fn restate(&mut self, alloc: Global, octets: &[u8]) -> Result<bool, MessageError>
+    /// The same, and answers whether the message has no data records: one of a prefix has none. Where a span is given,
+    /// the starts of the message's flows are noted in it.
+    pub fn restate(
+        &mut self,
+        alloc: Global,
+        octets: &[u8],
+        span: &mut Option<PartSpan>,
+    ) -> Result<bool, MessageError>
         ensures taken { IfOk result (λ bare. IsTakenAs bare octets.now self.old self.new) }
         ensures only { (a : Accepted) → a.octets ≡ octets.now
             → IsAccepted octets.now self.old.templates a.message a.after → TakesOnly a self.old self.new result }
         ensures refused { IfErr result
             (λ e. (e ≡ MessageError.OutOfMemory) ⊎ IsFault octets.now self.old.templates e) }
         ensures kept { IfErr result (λ _. self.new ≡ self.old) }
+        ensures noted { OnOk result ((a : Accepted) → a.octets ≡ octets.now
+            → IsAccepted octets.now self.old.templates a.message a.after → span.new ≡ noted a.message span.old) }
+        ensures unnoted { IfErr result (λ _. span.new ≡ span.old) }
     {
         self.due.reserve(1)?;
-        let (walked, count) = counted(&mut self.templates, alloc, octets)?;
+        let (walked, count) = counted(&mut self.templates, alloc, octets, span)?;
         let header = walked.header;
         let losses = Losses::of(&walked, self.due.get(&header.domain).copied());
         let due = header.sequence.wrapping_add(count);
@@ -158,21 +168,32 @@ impl Carry {
     }
 }
 
-/// Takes a message's templates in, and counts its data records modulo 2^32.
+/// Takes a message's templates in, counts its data records modulo 2^32, and notes when its flows start, where a span is
+/// given.
 fn counted(
     templates: &mut Templates,
     alloc: Global,
     octets: &[u8],
+    span: &mut Option<PartSpan>,
 ) -> Result<(Walked, u32), MessageError>
     ensures found { IfOk result (λ x. IsCounted octets.now templates.old templates.new x.0.header x.1) }
     ensures only { (a : Accepted) → IsAccepted octets.now templates.old a.message a.after
         → IfErr result (λ e. e ≡ MessageError.OutOfMemory) }
     ensures fault { IfErr result (λ e. (e ≡ MessageError.OutOfMemory) ⊎ IsFault octets.now templates.old e) }
     ensures err { OnErr result (templates.new ≡ templates.old) }
+    ensures noted { OnOk result ((a : Accepted) → IsAccepted octets.now templates.old a.message a.after
+        → span.new ≡ noted a.message span.old) }
+    ensures unnoted { OnErr result (span.new ≡ span.old) }
 {
-    let mut count = Count { records: 0 };
-    match walk_sets(templates, alloc, octets, &mut count) {
-        Ok(walked) => Ok((walked, count.records)),
+    let mut noting = Noting {
+        records: 0,
+        span: *span,
+    };
+    match walk_sets(templates, alloc, octets, &mut noting) {
+        Ok(walked) => {
+            *span = noting.span;
+            Ok((walked, noting.records))
+        }
         Err(WalkError::Message(fault)) => Err(fault),
         Err(WalkError::Sink(never)) => match never {},
     }

@@ -11,7 +11,8 @@
 //! messages of a sealed segment at once, `templates_of` the templates that its prefix restates, and `flows_of` the
 //! flows of its messages under these. `add_flows` adds the flows of a sealed segment to sums, and `collect_flows` puts
 //! those of a span of time after others, each under the templates that are given and piece by piece. Of a segment that
-//! is good none of these is refused by damage.
+//! is good none of these is refused by damage. A sealed segment whose span is known reads whole, and has no flow
+//! outside of it.
 #![tactic(auto)]
 
 mod batch;
@@ -24,6 +25,7 @@ mod part;
 mod restated;
 mod sealed;
 mod sinks;
+mod spans;
 mod walking;
 
 pub use carry::Carry;
@@ -33,4 +35,4 @@ pub use laws::{accepted_message_fits, few_messages_fit, handed_on, read_to_the_e
 pub use part::{advance, advance_on};
 pub use restated::{HasRecords, templates_of};
 pub use sealed::{PartReader, SealedPart, messages_of};
-pub use sinks::{Adding, Chosen};
+pub use sinks::{Adding, Chosen, Noting};

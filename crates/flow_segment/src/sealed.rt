@@ -1,12 +1,15 @@
 //! A sealed segment, and a reader of its messages.
 
 ghost use Rattle.std.specs.Prelude.{◌≡◌, ◌≢◌, ◌≤◌, ℕ, IsTrue, List, length, IfOk, IfErr};
+ghost use Rattle.std.specs.Option.{ForSome};
 ghost use Rattle.flow_disk.specs.Cause.{HasCause};
 ghost use Rattle.flow_gate.specs.Scan.{texts};
 ghost use Rattle.flow_segment.specs.Segment.{part_octets, AreGiven, AreMessagesOf, GoesOn, IsNext, IsToldOf};
+ghost use Rattle.flow_segment.specs.Spans.{HasSpan, IsSure};
 
 use crate::part::advance;
 use flow_disk::{Faults, SealedFile, Window};
+use flow_measure::PartSpan;
 use flow_refusals::ReadRefusal;
 use std::alloc::Global;
 use std::marker::Model;
@@ -22,8 +25,13 @@ pub struct SealedPart<S: SealedFile> {
     pub length: u64,
     /// How many messages there are after the prefix.
     pub messages: u64,
+    /// When their flows start, where that is known.
+    pub span: Option<PartSpan>,
     ghost order: { prefix ≤ length },
     ghost room: { length ≤ S.size reader },
+    // On an honest disk a segment whose span is known reads whole.
+    ghost spanned: { IsTrue (S.honest reader) → ForSome span (λ s. IsSure (HasSpan s (part_octets 0 prefix
+        (S.octets reader)) (part_octets prefix length (S.octets reader)) messages)) },
 }
 
 /// Reads the messages of a sealed segment one after the other. It holds one piece of the file.

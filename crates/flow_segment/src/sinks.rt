@@ -3,8 +3,9 @@
 ghost use Rattle.std.specs.Prelude.{◌≡◌, nat_le, nat_lt, ◌&&◌};
 
 use flow_codec::{Definition, Header, RecordSink};
-use flow_measure::{Adder, Flow, SumError, flow_of};
+use flow_measure::{Adder, Flow, PartSpan, SumError, flow_of};
 use std::alloc::AllocError;
+use std::convert::Infallible;
 
 /// Adds flows to rows, up to the first with which a sum would pass its type.
 #[derive(Drop)]
@@ -102,6 +103,48 @@ impl RecordSink for Chosen {
         if self.takes(&flow) {
             self.flows.push(flow)?;
         }
+        Ok(())
+    }
+}
+
+/// Counts data records, and notes when the flows among them start, where it is given a span.
+#[derive(Drop)]
+pub struct Noting {
+    /// How many records were taken, modulo 2^32.
+    pub records: u32,
+    /// When their flows start, with those of before; none where starts aren't noted.
+    pub span: Option<PartSpan>,
+}
+
+impl RecordSink for Noting {
+    ghost use Rattle.flow_segment.specs.Spans.{HasNoted};
+
+    type Error = Infallible;
+
+    type Kept = ();
+
+    ghost holds = { λ start taken now. HasNoted start.records start.span taken now.records now.span };
+
+    ghost refuses = { λ _ _ _ _. ⊥ };
+
+    ghost kept = { λ _. tt };
+
+    fn record(
+        &mut self,
+        header: &Header,
+        _id: u16,
+        definition: &Definition,
+        octets: &[u8],
+    ) -> Result<(), Infallible> {
+        self.records = self.records.wrapping_add(1);
+        let Some(span) = self.span else {
+            return Ok(());
+        };
+        if definition.options() {
+            return Ok(());
+        }
+        let flow = flow_of(header, definition, octets);
+        self.span = Some(span.with(flow.start));
         Ok(())
     }
 }

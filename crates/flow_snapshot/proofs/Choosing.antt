@@ -18,7 +18,7 @@ use Rattle.flow_snapshot.specs.Shares.{chosen, next_turn, own, summed, turn_afte
 add_join : (a b c : ℕ) → a + (b + c) ≡ (a + b) + c
 add_join a b c = omega arith
 
-joined-assoc : (a b c : Option Sums) → joined a (joined b c) ≡ joined (joined a b) c
+pub joined-assoc : (a b c : Option Sums) → joined a (joined b c) ≡ joined (joined a b) c
 joined-assoc None b c = refl
 joined-assoc (Some a) None c = refl
 joined-assoc (Some a) (Some b) None = refl
@@ -41,7 +41,7 @@ turn_then workers (suc n) turn = turn_then workers n (next_turn workers turn)
 abbrev pub maps_at : Key → List (FinMap key_cmp Sums) → Option Sums
 maps_at q maps = sum_at q (flat_map entries maps)
 
-maps_more : (q : Key) (m : FinMap key_cmp Sums) (ms : List (FinMap key_cmp Sums))
+pub maps_more : (q : Key) (m : FinMap key_cmp Sums) (ms : List (FinMap key_cmp Sums))
     → maps_at q (m ∷ ms) ≡ joined (sum_at q (entries m)) (maps_at q ms)
 maps_more q m ms = sum_at-append q (entries m) (flat_map entries ms)
 

@@ -15,7 +15,7 @@ use Rattle.flow_snapshot.specs.Shares.{chosen, narrow_turn, own, summed, AllPart
 use Rattle.flow_snapshot.specs.Shares.{IsJoined, IsRefusedAt, IsShare}
 use Rattle.flow_model.specs.Shelf.{Shelf}
 use Rattle.flow_snapshot.specs.ShelfSeen.{ShelfSeen}
-use Rattle.flow_snapshot.specs.Totals.{first_file, IsMade}
+use Rattle.flow_snapshot.specs.Totals.{IsMade}
 use Rattle.flow_snapshot.proofs.Choosing.{all_shares, chosen_fit, none_summed_yet, shares_merged, turn_within}
 use Rattle.flow_snapshot.proofs.Dealing.{made_as}
 
@@ -47,11 +47,11 @@ all_joined s workers n wide narrow sums some all j =
     )
 
 -- an answer, by its number
-pub share_at : {F X : Type 0} (sight : ShelfSeen) (shares : List (Share F X)) (i : ℕ) (item : Share F X)
-    → i < length shares → item ≡ get_or shares i item → AreShares sight shares
-    → HasCause Fault 0 item.faults item.sums × IsShare sight (length shares) i item.sums
-share_at {F} {X} sight shares i item within is are =
-    subst (λ (x : Share F X). HasCause Fault 0 x.faults x.sums × IsShare sight (length shares) i x.sums) (sym is)
+pub share_at : {F X : Type 0} (first : ℕ) (sight : ShelfSeen) (shares : List (Share F X)) (i : ℕ) (item : Share F X)
+    → i < length shares → item ≡ get_or shares i item → AreShares first sight shares
+    → HasCause Fault 0 item.faults item.sums × IsShare first sight (length shares) i item.sums
+share_at {F} {X} first sight shares i item within is are =
+    subst (λ (x : Share F X). HasCause Fault 0 x.faults x.sums × IsShare first sight (length shares) i x.sums) (sym is)
     (are i item within)
 
 module _ (s : Shelf) (workers n first : ℕ) (wide narrow : List (FinMap key_cmp Sums)) (old new : PartSums)
@@ -160,23 +160,23 @@ refused_answer {F} {X} shares n item result refused is same =
 
 -- so the answer of one is that of all
 pub refused_worker : {F X : Type 0} (sight : ShelfSeen) (shares : List (Share F X)) (n first : ℕ) (item : Share F X)
-    (result : Result PartSums ReadRefusal) → IsRefusedAt shares n → item ≡ get_or shares n item → AreShares sight shares
-    → first ≡ first_file sight.shelf → result ≡ item.sums → IsTrue sight.honest
+    (result : Result PartSums ReadRefusal) → IsRefusedAt shares n → item ≡ get_or shares n item → AreShares first sight shares
+    → result ≡ item.sums → IsTrue sight.honest
     → (wide narrow : List (FinMap key_cmp Sums)) → AreWide sight.shelf wide → AreNarrow sight.shelf narrow
     → IsMade first (AllPartsFit sight.shelf wide narrow)
     (λ sums. (sums.wide ≡ summed sight.shelf.wide wide) × (sums.narrow ≡ summed sight.shelf.width narrow)) result
-refused_worker {F} {X} sight shares n first item result refused is are first_is same honest wide narrow w m =
+refused_worker {F} {X} sight shares n first item result refused is are same honest wide narrow w m =
     let s = sight.shelf in
     let workers = length shares in
     let all = λ (sums : PartSums). (sums.wide ≡ summed s.wide wide) × (sums.narrow ≡ summed s.width narrow) in
     let mine = λ (sums : PartSums). (sums.wide ≡ summed s.wide (own workers n 0 wide))
     × (sums.narrow ≡ summed s.width (own workers n (narrow_turn s workers) narrow)) in
     let fit = AllPartsFit s wide narrow in
-    let answered = share_at sight shares n item refused.0 is are in
+    let answered = share_at first sight shares n item refused.0 is are in
     subst (λ (r : Result PartSums ReadRefusal). IsMade first fit all r) (sym same)
     (refused_made first fit mine all item.sums
     (subst (λ (x : Share F X). IsErr x.sums) (sym is) (refused.1 item))
-    (subst (λ (f : ℕ). IsMade f fit mine item.sums) (sym first_is) (answered.1.given honest wide narrow w m)))
+    (answered.1.given honest wide narrow w m))
 
 -- ---- rows, added to none
 

@@ -15,3 +15,5 @@ pub mod Whole
 pub mod Standing
 pub mod Dealt
 pub mod ByFile
+pub mod LeftOut
+pub mod NotedSpans

@@ -61,7 +61,7 @@ shared_rest {P} {Z} f k xs zs is =
 
 -- ---- honest files
 
-both : (a b : Bool) → IsTrue a → IsTrue b → IsTrue (a && b)
+pub both : (a b : Bool) → IsTrue a → IsTrue b → IsTrue (a && b)
 both true b p q = q
 both false b p q = p
 
@@ -73,7 +73,7 @@ pub second_of_two : (a b : Bool) → IsTrue (a && b) → IsTrue b
 second_of_two true b p = p
 second_of_two false b p = absurd cc
 
-all_then : {P : Type 0} (test : P → Bool) (xs : List P) (x : P) → IsTrue (list_all test xs) → IsTrue (test x)
+pub all_then : {P : Type 0} (test : P → Bool) (xs : List P) (x : P) → IsTrue (list_all test xs) → IsTrue (test x)
     → IsTrue (list_all test (xs ++ x ∷ []))
 all_then test [] x h is = both (test x) true is refl
 all_then test (y ∷ ys) x h is =

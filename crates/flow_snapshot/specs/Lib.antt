@@ -6,3 +6,4 @@ pub mod Directories
 pub mod Answered
 pub mod Totals
 pub mod Shares
+pub mod Spans

@@ -18,7 +18,7 @@ use Rattle.flow_snapshot.specs.declared.shares.PartSums.{PartSums}
 use Rattle.flow_snapshot.specs.declared.shares.Share.{Share}
 use Rattle.flow_model.specs.Shelf.{Rollup, Segment, Shelf}
 use Rattle.flow_snapshot.specs.ShelfSeen.{ShelfSeen}
-use Rattle.flow_snapshot.specs.Totals.{first_file, IsMade}
+use Rattle.flow_snapshot.specs.Totals.{IsMade}
 
 -- ---- turns
 
@@ -112,14 +112,15 @@ pub record IsOwnRead (s : Shelf) (workers worker : ℕ) : Type 0 where
 
 -- What a worker answers on honest disks: where it isn't refused, each part that falls to it was read whole, whatever
 -- damage others have. Where all parts have sums it is those of its own, unless a read fails, memory runs out or the
--- sums of all parts don't fit their types.
-pub record IsShare (sight : ShelfSeen) (workers worker : ℕ) (result : Result PartSums ReadRefusal) : Type 0 where
-  pub found : IsTrue sight.honest → OnOk result (IsOwnRead sight.shelf workers worker)
-  pub given : IsTrue sight.honest → (wide narrow : List (FinMap key_cmp Sums)) → AreWide sight.shelf wide
-      → AreNarrow sight.shelf narrow
-      → IsMade (first_file sight.shelf) (AllPartsFit sight.shelf wide narrow)
-      (λ sums. (sums.wide ≡ summed sight.shelf.wide (own workers worker 0 wide))
-      × (sums.narrow ≡ summed sight.shelf.width (own workers worker (narrow_turn sight.shelf workers) narrow))) result
+-- sums of all parts don't fit their types, which is reported of the file `first`.
+pub record IsShare (first : ℕ) (sight : ShelfSeen) (workers worker : ℕ) (result : Result PartSums ReadRefusal) : Type 0
+  where
+    pub found : IsTrue sight.honest → OnOk result (IsOwnRead sight.shelf workers worker)
+    pub given : IsTrue sight.honest → (wide narrow : List (FinMap key_cmp Sums)) → AreWide sight.shelf wide
+        → AreNarrow sight.shelf narrow
+        → IsMade first (AllPartsFit sight.shelf wide narrow)
+        (λ sums. (sums.wide ≡ summed sight.shelf.wide (own workers worker 0 wide))
+        × (sums.narrow ≡ summed sight.shelf.width (own workers worker (narrow_turn sight.shelf workers) narrow))) result
 
 -- ---- shares, joined
 
@@ -134,10 +135,10 @@ IsJoined first old (Ok mine) new result =
 IsJoined first old (Err e) new result = IsErrOf result e
 
 -- the answers of all workers, by their numbers, with what their reads have raised
-abbrev pub AreShares : {F X : Type 0} → ShelfSeen → List (Share F X) → Type 0
-AreShares {F} {X} sight shares = (n : ℕ) (d : Share F X) → n < length shares
+abbrev pub AreShares : {F X : Type 0} → ℕ → ShelfSeen → List (Share F X) → Type 0
+AreShares {F} {X} first sight shares = (n : ℕ) (d : Share F X) → n < length shares
     → HasCause Fault 0 (slice_index_or shares n d).faults (slice_index_or shares n d).sums
-    × IsShare sight (length shares) n (slice_index_or shares n d).sums
+    × IsShare first sight (length shares) n (slice_index_or shares n d).sums
 
 -- the worker with this number was refused
 abbrev pub IsRefusedAt : {F X : Type 0} → List (Share F X) → ℕ → Type 0

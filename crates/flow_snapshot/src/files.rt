@@ -1,16 +1,18 @@
 //! The files of an archive, in their order.
 
-ghost use Rattle.std.specs.Prelude.{◌≡◌, ℕ, drop, IsTrue, IfOk, OnErr, OnOk};
+ghost use Rattle.std.specs.Prelude.{◌≡◌, ◌<◌, ℕ, drop, IsTrue, IfOk, OnErr, OnOk};
 ghost use Rattle.flow_model.specs.Changes.{applied};
 ghost use Rattle.flow_snapshot.specs.Directories.{sight_of};
+ghost use Rattle.flow_snapshot.specs.Spans.{IsSightWithin};
 ghost use Rattle.flow_snapshot.specs.Steps.{change_of, has_honest};
 
+use crate::passing::{segments_within, sums_within};
 use crate::step::Step;
 use bytes::Bytes;
 use flow_disk::SealedFile;
 use flow_rolled::RolledPart;
 use flow_segment::SealedPart;
-use std::alloc::AllocError;
+use std::alloc::{AllocError, Global};
 use std::sync::Arc;
 
 /// The files of an archive, in each list the oldest first, each perhaps with further owners; and of the active segment
@@ -49,6 +51,31 @@ impl<S: SealedFile> Files<S> {
             sealed: self.sealed.clone()?,
             prefix: self.prefix.clone()?,
             active: self.active.clone()?,
+        })
+    }
+
+    /// Those that may have sums over intervals, of `width` or of `wide` seconds, that start from `from` on and before
+    /// `to`. Nothing is read.
+    pub(crate) fn within(
+        &self,
+        alloc: Global,
+        width: u32,
+        wide: u32,
+        from: u64,
+        to: u64,
+    ) -> Result<Self, AllocError>
+        requires width { 0 < width }
+        requires wide { 0 < wide }
+        ensures { IfOk result (λ kept. IsSightWithin from to (sight_of width wide self.now) (sight_of width wide kept)) }
+    {
+        let prefix = self.prefix.clone()?;
+        let active = self.active.clone()?;
+        Ok(Files {
+            merged: sums_within(alloc, self.merged.as_slice(), wide, from, to)?,
+            rolled: sums_within(alloc, self.rolled.as_slice(), width, from, to)?,
+            sealed: segments_within(alloc, self.sealed.as_slice(), width, from, to)?,
+            prefix,
+            active,
         })
     }
 

@@ -1,7 +1,8 @@
 //! The flows of kept messages.
 
-ghost use Rattle.std.specs.Prelude.{◌≡◌, ◌≢◌, ◌++◌, false, IsTrue, IfErr, IfOk, List, [], OnOk, map};
+ghost use Rattle.std.specs.Prelude.{◌≡◌, ◌≢◌, ◌++◌, true, false, IsTrue, IfErr, IfOk, IfSome, List, [], OnOk, map};
 ghost use Rattle.std.specs.List.{list_all};
+ghost use Rattle.flow_codec.specs.Fault.{IsOctets};
 ghost use Rattle.flow_codec.specs.Message.{IsAccepted};
 ghost use Rattle.flow_codec.specs.Raw.{Took};
 ghost use Rattle.flow_codec.specs.Templates.{AllTemplates};
@@ -10,6 +11,7 @@ ghost use Rattle.flow_measure.specs.History.{Accepted, AreAcceptedFrom, flows_in
 ghost use Rattle.flow_segment.specs.Carry.{octets_of};
 ghost use Rattle.flow_segment.specs.PartFlows.{flows_within, AreCollected};
 ghost use Rattle.flow_segment.specs.Prefix.{IsRestated};
+ghost use Rattle.flow_segment.specs.Spans.{noted, IsOwnSpan};
 ghost use Rattle.flow_snapshot.specs.Files.{is_honest, segment_of, shared};
 ghost use Rattle.flow_snapshot.specs.Found.{AreAccepted, HaveFlows};
 ghost use Rattle.flow_model.specs.Shelf.{messages_in};
@@ -18,9 +20,9 @@ ghost use Rattle.flow_snapshot.specs.Answered.{IsAnswered};
 use bytes::Bytes;
 use flow_codec::{MessageError, RecordSink, Templates, WalkError, front_of, walk_message};
 use flow_disk::{Faults, SealedFile};
-use flow_measure::Flow;
+use flow_measure::{Flow, PartSpan};
 use flow_refusals::ReadRefusal;
-use flow_segment::{Chosen, HasRecords, SealedPart, collect_flows};
+use flow_segment::{Chosen, HasRecords, Noting, SealedPart, collect_flows};
 use std::alloc::{AllocError, Global};
 use std::mem::replace;
 use std::sync::Arc;
@@ -193,4 +195,36 @@ pub(crate) fn flows_of_active(
     let mut flows = Vec::new(alloc);
     collect_active(alloc, messages, templates, from, to, &mut flows)?;
     Ok(flows)
+}
+
+/// When the flows of messages in memory start, the first of which comes after the templates that the prefix restates;
+/// none where memory is refused.
+pub fn span_in_memory(alloc: Global, prefix: &[u8], messages: &[Bytes]) -> Option<PartSpan>
+    ensures { IfSome result (λ span. IsOwnSpan prefix.now messages.now span) }
+{
+    let Ok(mut templates) = restated(alloc, prefix) else {
+        return None;
+    };
+    let mut noting = Noting {
+        records: 0,
+        span: Some(PartSpan::none()),
+    };
+    for message in messages {
+        if !is_noted(alloc, &mut templates, message.as_slice(), &mut noting) {
+            return None;
+        }
+    }
+    noting.span
+}
+
+/// Notes the starts of a message's flows; `false` where memory is refused, or the message isn't accepted.
+fn is_noted(alloc: Global, templates: &mut Templates, octets: &[u8], noting: &mut Noting) -> bool
+    ensures { result ≡ true → IsOctets octets.now × (a : Accepted) × (a.octets ≡ octets.now)
+        × IsAccepted octets.now templates.old a.message a.after × (templates.new ≡ a.after)
+        × (noting.new.span ≡ noted a.message noting.old.span) }
+{
+    match walk_message(templates, alloc, octets, noting) {
+        Ok(_) => true,
+        Err(_) => false,
+    }
 }

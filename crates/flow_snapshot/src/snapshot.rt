@@ -21,6 +21,7 @@ ghost use Rattle.flow_snapshot.specs.Shares.{narrow_turn, own, summed, AllPartsF
 ghost use Rattle.flow_snapshot.specs.Shares.{HaveSums, IsFileSum, IsNarrowRead, IsShare};
 ghost use Rattle.flow_model.specs.Shelf.{cut_of, position_of, second_of};
 ghost use Rattle.flow_snapshot.specs.Answered.{octets_in, IsAnswered};
+ghost use Rattle.flow_snapshot.specs.Spans.{IsSightWithin};
 ghost use Rattle.flow_snapshot.specs.Totals.{first_file, wide_table_in, IsMade, IsWithinHistoryLimits, SumsFit};
 ghost use Rattle.flow_model.specs.Views.{AreRestated, AreRolledInto, IsViewOf};
 
@@ -39,7 +40,7 @@ use flow_disk::{Faults, SealedFile};
 use flow_measure::{Flow, Row, Rows};
 use flow_refusals::ReadRefusal;
 use flow_segment::templates_of;
-use std::alloc::Global;
+use std::alloc::{AllocError, Global};
 use std::marker::Model;
 
 /// Why a query is not answered. Damaged: this file isn't what its archive wrote.
@@ -236,9 +237,21 @@ impl<S: SealedFile> Snapshot<S> {
         }
     }
 
+    /// The files that a query of a span reads: those that may have sums over intervals that start from `from` on and
+    /// before `to`, both in seconds since 1970-01-01 00:00 UTC. They are shared, and nothing is read.
+    pub fn within(&self, alloc: Global, from: u64, to: u64) -> Result<Self, AllocError>
+        ensures { IfOk result (λ kept. IsSightWithin from to self.now kept) }
+    {
+        Ok(Snapshot {
+            width: self.width,
+            wide: self.wide,
+            files: self.files.within(alloc, self.width, self.wide, from, to)?,
+        })
+    }
+
     /// The file of the first part: of a wide one, else of a rolled one, else of a sealed segment; 0 where there is
-    /// none.
-    fn first_file(&self) -> u64
+    /// none. Sums that don't fit their types are reported as damage of this file.
+    pub fn first_file(&self) -> u64
         ensures { result ≡ first_file self.now.shelf }
     {
         if let Some(part) = self.files.merged.first() {
@@ -431,19 +444,19 @@ impl<S: SealedFile> Snapshot<S> {
     /// files, the rolled files, the sealed segments and the active one, each list the oldest first: the first part is
     /// for worker 0, the next one for worker 1, and so on in turn. Each part is read with nothing but its own file.
     ///
-    /// It refuses as `totals` does.
+    /// It refuses as `totals` does, of a sum that would pass its type with `first` and 0.
     pub fn share(
         &self,
         alloc: Global,
+        first: u64,
         workers: u32,
         worker: u32,
         faults: &mut Faults<S>,
     ) -> Result<PartSums, ReadRefusal>
         requires { worker < workers }
         ensures cause { HasCause ReadRefusal.Fault faults.old faults.new result }
-        ensures share { IsShare self.now workers worker result }
+        ensures share { IsShare first self.now workers worker result }
     {
-        let first = self.first_file();
         let (wide, turn) = self.own_wide(alloc, workers, worker, first, faults)?;
         let narrow = self.own_narrow(alloc, workers, worker, turn, first, faults)?;
         Ok(PartSums { narrow, wide })
@@ -458,8 +471,7 @@ impl<S: SealedFile> Snapshot<S> {
         faults: &mut Faults<S>,
     ) -> Result<PartSums, ReadRefusal>
         requires some { 0 < length shares.items }
-        requires shares { AreShares self.now shares.items }
-        requires first { first ≡ first_file self.now.shelf }
+        requires shares { AreShares first self.now shares.items }
         ensures cause { HasCause ReadRefusal.Fault faults.old faults.new result }
         // On honest disks: all parts were read whole.
         ensures found { IsTrue self.now.honest → OnOk result ((wide : List (FinMap key_cmp Sums))
@@ -489,8 +501,7 @@ impl<S: SealedFile> Snapshot<S> {
         faults: &mut Faults<S>,
     ) -> Result<PartSums, ReadRefusal>
         requires some { 0 < length shares.items }
-        requires shares { AreShares self.now shares.items }
-        requires first { first ≡ first_file self.now.shelf }
+        requires shares { AreShares first self.now shares.items }
         ensures cause { HasCause ReadRefusal.Fault faults.old faults.new result }
         // On honest disks: all parts were read whole.
         ensures found { IsTrue self.now.honest → OnOk result ((wide : List (FinMap key_cmp Sums))
@@ -507,23 +518,28 @@ impl<S: SealedFile> Snapshot<S> {
         self.joined(alloc, shares, first, faults)
     }
 
-    /// What `totals` answers, of the shares of all workers, in the order of their numbers. Where some were refused, it
-    /// answers as the first of these, before anything is added: `faults` is raised by what that worker's reads have
-    /// raised, since those before it have raised nothing, and the answers of those after it are dropped with their
-    /// counts. The first share's rows are kept, and those of the others added to them: no table is copied.
+    /// What `totals` answers, of the shares of all workers, in the order of their numbers. These shared `parts`, which
+    /// are the files `within` the span. Where some were refused, it answers as the first of these, before anything is
+    /// added: `faults` is raised by what that worker's reads have raised, since those before it have raised nothing,
+    /// and the answers of those after it are dropped with their counts. The first share's rows are kept, and those of
+    /// the others added to them: no table is copied.
+    ///
+    /// Damage of a file that isn't `within` the span is not looked for.
     pub fn totals_of_shares(
         &self,
         alloc: Global,
+        parts: &Snapshot<S>,
         from: u64,
         to: u64,
         shares: Vec<Share<S>>,
         faults: &mut Faults<S>,
     ) -> Result<Vec<Row>, ReadRefusal>
         requires some { 0 < length shares.items }
-        requires shares { AreShares self.now shares.items }
+        requires parts { IsSightWithin from to self.now parts.now }
+        requires shares { AreShares (first_file self.now.shelf) parts.now shares.items }
         ensures cause { HasCause ReadRefusal.Fault faults.old faults.new result }
-        // On honest disks, also where files are damaged: the totals of all parts, each of which was read whole, with
-        // its own prefix.
+        // On honest disks, also where files are damaged: the totals of all parts, each of which reads whole, with its
+        // own prefix.
         ensures found { IsTrue self.now.honest → IfOk result (λ rows. (wide : List (FinMap key_cmp Sums))
             × (narrow : List (FinMap key_cmp Sums)) × AreWide self.now.shelf wide × AreNarrow self.now.shelf narrow
             × (rows.items ≡ rows_of_both from to (summed self.now.shelf.width narrow)
@@ -535,7 +551,7 @@ impl<S: SealedFile> Snapshot<S> {
             → IsAnswered (λ rows. rows.items ≡ totals_between from to h) result }
     {
         let first = self.first_file();
-        let sums = self.first_or_all(alloc, shares, first, faults)?;
+        let sums = parts.first_or_all(alloc, shares, first, faults)?;
         let PartSums { narrow, wide } = sums;
         rows_of_both(alloc, from, to, narrow, &wide, first)
     }

@@ -100,7 +100,8 @@ impl Together {
             → MatchResult result (λ all. AreSumsOf all.sums (vs ++ v ∷ []))
             (λ e. IsAddingRefused (first_file snapshot.now.shelf) vs v e) }
     {
-        let more = snapshot.share(alloc, 1, 0, faults)?;
+        let first = snapshot.first_file();
+        let more = snapshot.share(alloc, first, 1, 0, faults)?;
         let sums = joint(self.sums, more)?;
         Ok(Together { sums: Some(sums) })
     }

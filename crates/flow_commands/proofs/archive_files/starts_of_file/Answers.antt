@@ -13,4 +13,4 @@ returns-in_err-sums-clause-given g c = λ honest wide narrow are_wide are_narrow
     let fit = AllPartsFit s wide narrow in
     made_err (λ (starts : Option Starts). starts ≡ starts_of_file s c.args.count wide narrow c.args.number)
     (first_file s) fit fit c.from_residual.result c.in_err-sums.field-0.0 (λ f. f) c.from_residual.ensures.1
-    (c.in_err-sums.ensures.share.given honest wide narrow are_wide are_narrow)
+    (rw c.first_file-first.ensures at (c.in_err-sums.ensures.share.given honest wide narrow are_wide are_narrow))

@@ -9,9 +9,10 @@ use Rattle.flow_recover.proofs.chaining.read_prefix.Goals as goal
 
 pub returns-clause-found : goal.returns-clause-found
 returns-clause-found c =
-    let same : c.args.octets.now ≡ c.as_slice.result.now = search rules in (
+    let same : c.args.octets.now ≡ c.as_slice.result.now = search rules in
+    let found = c.in_ok-take_octets.ensures.found in (
       restated_all c.in_ok-take_octets.field-0 c.args.octets.now c.args.carry.now c.take_octets.new.carry
-          c.requires c.in_ok-take_octets.ensures.found,
+          c.requires (found.0, found.1, found.2, found.3, found.4),
       called_some c.args.called.now c.in-Some.called c.args.octets.now c.in-Some.is (same
           ∙ c.as_slice.ensures.value),
     )

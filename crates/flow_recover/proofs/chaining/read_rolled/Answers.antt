@@ -12,3 +12,6 @@ memory_only OutOfMemory table is = refl
 pub returns-in-Err-clause-refused : goal.returns-in-Err-clause-refused
 returns-in-Err-clause-refused c table is =
     c.told.ensures.memory (memory_only c.in-Err.fault table (c.in-Err.ensures.only table is))
+
+pub returns-in-Ok-clause-found : goal.returns-in-Ok-clause-found
+returns-in-Ok-clause-found c = (c.in-Ok.rows, c.in-Ok.ensures.found, c.span.ensures)

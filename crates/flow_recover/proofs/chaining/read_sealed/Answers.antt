@@ -8,18 +8,18 @@ differs same = cc
 
 pub returns-clause-found : goal.returns-clause-found
 returns-clause-found c =
-    let is = c.in_ok-take_sealed.ensures.found in
-    (is.0, c.take_sealed.new.carry, is.1, is.2, is.3, c.in_ok-next.ensures.octets)
+    let is = c.in_ok-span.ensures.found in
+    (is.0, c.take_sealed.new.carry, is.1, is.2, is.3, is.4, c.in_ok-next.ensures.octets)
 
-pub returns-in_err-take_sealed-clause-refused : goal.returns-in_err-take_sealed-clause-refused
-returns-in_err-take_sealed-clause-refused c p whole at called g =
-    passed_on c.from_residual.result (c.in_err-take_sealed.field-0).0 (λ e. e ≡ OutOfMemory) c.from_residual.ensures.1
-    (c.in_err-take_sealed.ensures.refused p whole at called g)
+pub returns-in_err-span-clause-refused : goal.returns-in_err-span-clause-refused
+returns-in_err-span-clause-refused c p whole at called g =
+    passed_on c.from_residual.result (c.in_err-span.field-0).0 (λ e. e ≡ OutOfMemory) c.from_residual.ensures.1
+    (c.in_err-span.ensures.refused p whole at called g)
 
-pub returns-in_err-take_sealed-clause-device : goal.returns-in_err-take_sealed-clause-device
-returns-in_err-take_sealed-clause-device c =
-    passed_on c.from_residual.result (c.in_err-take_sealed.field-0).0 (λ e. e ≢ Fault) c.from_residual.ensures.1
-    c.in_err-take_sealed.ensures.device
+pub returns-in_err-span-clause-device : goal.returns-in_err-span-clause-device
+returns-in_err-span-clause-device c =
+    passed_on c.from_residual.result (c.in_err-span.field-0).0 (λ e. e ≢ Fault) c.from_residual.ensures.1
+    c.in_err-span.ensures.device
 
 pub returns-in_err-next-clause-refused : goal.returns-in_err-next-clause-refused
 returns-in_err-next-clause-refused c p whole at called g =

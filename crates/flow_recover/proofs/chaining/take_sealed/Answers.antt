@@ -1,13 +1,20 @@
-use Rattle.std.proofs.Common.{◌≡◌, ℕ, ◌-◌, ◌≤◌, List, [], length, refl, drop, take, ◌∙◌, subst, sym, arith}
+use Rattle.std.proofs.Common.{◌≡◌, ℕ, ◌-◌, ◌≤◌, List, [], append-nil, length, refl, drop, take, ◌∙◌, ap, subst, sym}
+use Rattle.std.proofs.Common.{arith, Some}
 use Rattle.std.proofs.lemmas.List.{length-drop, take_all}
+use Rattle.flow_codec.specs.Fault.{IsOctets}
+use Rattle.flow_codec.specs.Message.{joined}
 use Rattle.flow_disk.proofs.Results.{passed_on}
+use Rattle.flow_measure.specs.declared.span.PartSpan.{PartSpan}
 use Rattle.flow_segment.specs.Carry.{octets_of}
 use Rattle.flow_segment.specs.Prefix.{AreRead}
+use Rattle.flow_segment.specs.Spans.{all_noted}
+use Rattle.flow_segment.proofs.Sure.{both_octets}
 use Rattle.flow_model.specs.State.{Part}
 use Rattle.flow_recover.specs.Reading.{IsCalled}
 use Rattle.flow_manifest.specs.declared.error.OpenError.TheVariants.{OutOfMemory}
 use Rattle.flow_recover.proofs.Accepting.{any_messages}
 use Rattle.flow_recover.proofs.Behind.{sealed_at, sealed_behind, sealed_count, segment_read}
+use Rattle.flow_recover.proofs.Spanning.{never_none, segment_span}
 use Rattle.flow_recover.proofs.chaining.take_sealed.Goals as goal
 
 -- a slice up to the end
@@ -23,12 +30,24 @@ returns-clause-found c =
     let found = c.in_ok-count.ensures.found in
     let read = subst (λ (l : List ℕ). AreRead l front.templates found.0 []) (to_end octets e.prefix) found.1 in
     let fits : e.prefix ≤ e.length = omega (arith, c.requires.whole, c.if-prefix-octets.false) in
-    let p : Part = record { front = take e.prefix octets; messages = octets_of found.0 } in (
+    let p : Part = record { front = take e.prefix octets; messages = octets_of found.0 } in
+    let halves = both_octets e.prefix octets (λ i. omega (arith, c.type_inv.octets i)) in (
       p,
       sealed_at octets e front.templates found.0 c.requires.whole fits read (found.4 ∙ c.if-count-entry.false),
       own.1,
       segment_read p front c.take_octets.new.carry found.0 own.0 refl read.accepted found.3,
+      segment_span p front found.0 c.in-Some.span c.take_octets.new.span halves.0
+          (subst IsOctets (read.divided.whole ∙ append-nil (joined p.messages)) halves.1)
+          own.0 read.accepted refl c.in-Some.is
+          (found.5 ∙ ap (λ (s : PartSpan). all_noted found.0 (Some s)) c.none.ensures),
     )
+
+-- starts were noted
+pub unreachable-requires : goal.unreachable-requires
+unreachable-requires c =
+    let found = c.in_ok-count.ensures.found in
+    never_none found.0 c.take_octets.new.span
+    (found.5 ∙ ap (λ (s : PartSpan). all_noted found.0 (Some s)) c.none.ensures) c.in_default.is
 
 pub returns-then-prefix-octets-clause-refused : goal.returns-then-prefix-octets-clause-refused
 returns-then-prefix-octets-clause-refused c p whole at called g =

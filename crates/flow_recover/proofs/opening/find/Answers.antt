@@ -5,7 +5,7 @@ use Rattle.flow_disk.proofs.Moments.{one_run, by}
 use Rattle.flow_disk.proofs.Results.{passed_on}
 use Rattle.flow_manifest.specs.declared.manifest.Entry.{Entry}
 use Rattle.flow_manifest.specs.Slots.{file_of, other, reads_of}
-use Rattle.flow_manifest.specs.Following.{no_entry}
+use Rattle.flow_manifest.specs.Following.{front_of, no_entry}
 use Rattle.flow_manifest.proofs.EntryLists.{all_by}
 use Rattle.flow_model.specs.State.{at_rest}
 use Rattle.flow_recover.specs.Reading.{part_of}
@@ -14,6 +14,7 @@ use Rattle.flow_manifest.specs.declared.error.OpenError.TheVariants.{Fault}
 use Rattle.flow_recover.specs.Opening.{IsDeviceOrMemory, StandsForNone}
 use Rattle.flow_model.proofs.Stand.{slot_below}
 use Rattle.flow_recover.proofs.Recovering.{agreed, files_along, told_of_files}
+use Rattle.flow_recover.proofs.Spanning.{spans_along}
 use Rattle.flow_manifest.proofs.Swaps.{same_slots}
 use Rattle.flow_recover.proofs.opening.find.Goals as goal
 
@@ -143,3 +144,12 @@ returns-clause-reads g c h n =
 
 pub returns-clause-listed : goal.returns-clause-listed
 returns-clause-listed g c n named = c.read_files.ensures.listed n ∙ c.in_ok-slots.ensures.listed n named
+
+pub returns-clause-spanned : goal.returns-clause-spanned
+returns-clause-spanned g c h =
+    let D = g.D.Disk in
+    let h1 = subst IsTrue (sym c.settle_all.ensures.honest) h in
+    let m = c.in_ok-slots.slots.current in
+    spans_along (reads_of (D.held c.settle_all.new.disk)) (reads_of (D.held c.args.disk.now)) m
+    (λ n. sym (c.in_ok-slots.ensures.reads h n)) (front_of m) c.in_ok-files.files.spans.items
+    (c.in_ok-files.ensures.spanned h1)

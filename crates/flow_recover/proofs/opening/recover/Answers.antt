@@ -215,6 +215,7 @@ returns-clause-recovered g c =
           now_all D d1 d2 (IsKnown slots s) run (λ image left. g.met.D.Disk.counts_now d2
           (D.moment d1) image h2 run.later left);
       frozen_stand = λ h2. let h1 = back h2 in c.in_ok-parts.ensures.parts h1 slots s refl (is h1).known;
+      spanned = λ h2. c.in_ok-slots.ensures.spanned (subst IsTrue c.find.ensures.honest (back h2));
     }
 
 pub returns-clause-listed : goal.returns-clause-listed

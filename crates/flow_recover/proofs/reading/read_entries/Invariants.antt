@@ -1,9 +1,10 @@
-use Rattle.std.proofs.Common.{◌≡◌, ℕ, ◌<◌, IsTrue, List, take, None, Option}
+use Rattle.std.proofs.Common.{◌≡◌, ℕ, ◌<◌, IsTrue, List, [], take, None, Option}
 use Rattle.flow_disk.specs.Disk.{IsDiskImage, Stays}
 use Rattle.flow_disk.specs.Calls.{LeavesOnly}
 use Rattle.flow_manifest.specs.Slots.{reads_of}
 use Rattle.flow_model.specs.Chain.{ArePartsBehind}
 use Rattle.flow_recover.specs.Reading.{IsHeldBehind}
+use Rattle.flow_recover.specs.Spans.{AreSpansOf}
 use Rattle.flow_segment.specs.Carry.{Carry}
 use Rattle.flow_model.specs.Standing.{PartsStand}
 use Rattle.flow_model.specs.State.{Part}
@@ -23,4 +24,6 @@ invariant-entries g l = let D = g.D.Disk in record {
   found : IsTrue (D.honest l.fn.disk) → (parts : List Part) × (before : Option Carry)
       × PartsStand (reads_of (D.held l.fn.disk)) (take l.entry-index l.entries) parts
       × ArePartsBehind l.manifest None (take l.entry-index l.entries) parts before × IsHeldBehind before l.called;
+  spanned : IsTrue (D.honest l.fn.disk) → l.fn.spans.items ≡ []
+      → AreSpansOf (reads_of (D.held l.fn.disk)) l.manifest (take l.entry-index l.entries) l.spans.items;
 }

@@ -176,3 +176,8 @@ returns-clause-found g c h =
       },
       hands,
     )
+
+pub returns-clause-spanned : goal.returns-clause-spanned
+returns-clause-spanned g c h =
+    (rw (ap (λ (l : List Entry). take (length l - 1) l) c.as_slice-entries.ensures)
+    at c.in_ok-called.ensures.spanned) h c.new-spans.ensures.items

@@ -1,12 +1,13 @@
-use Rattle.std.proofs.Common.{◌≡◌, inr, ℕ, IsTrue, List, take, sym, ◌∙◌, ap, subst, arith, length-take, Option}
-use Rattle.std.proofs.Common.{Vec}
-use Rattle.std.specs.declared.alloc.Global.{Global}
+use Rattle.std.proofs.Common.{◌≡◌, inr, ℕ, IsTrue, List, take, sym, ◌∙◌, ap, subst, arith, length-take}
 use Rattle.std.proofs.lemmas.List.{take-take}
 use Rattle.flow_disk.specs.Disk.{Held}
 use Rattle.flow_disk.proofs.Results.{if_ok_by, if_err_by}
 use Rattle.flow_segment.specs.Steps.{KeepsFront}
 use Rattle.flow_model.specs.Standing.{StandsAs}
+use Rattle.flow_model.specs.State.{Part}
+use Rattle.flow_recover.specs.declared.chaining.Checked.{Checked}
 use Rattle.flow_recover.specs.Opening.{IsDeviceOrMemory}
+use Rattle.flow_recover.specs.Spans.{IsSpanOf}
 use Rattle.flow_recover.proofs.Behind.{IsKeptAs}
 use Rattle.flow_model.proofs.Stand.{part_cut}
 use Rattle.flow_recover.proofs.reading.read_part.Goals as goal
@@ -34,8 +35,8 @@ returns-clause-found g c h before calls =
     let reads = (D.held c.args.disk.now e.file).reads in
     let read : c.deref.result.now ≡ take e.length reads = c.deref.ensures.value ∙ c.in_ok-octets.ensures.octets h1
     ∙ ap (λ (f : Held). take e.length f.reads) (c.length.ensures.held h e.file) in
-    if_ok_by c.kept_of.result (λ (next : Option (Vec ℕ Global)). IsKeptAs m e.kind c.deref.result.now e before next)
-    (λ (next : Option (Vec ℕ Global)). IsKeptAs m e.kind reads e before next)
+    if_ok_by c.kept_of.result (λ (next : Checked). IsKeptAs m e.kind c.deref.result.now e before next.called)
+    (λ (next : Checked). IsKeptAs m e.kind reads e before next.called)
     (λ next is. (
       is.0,
       is.1,
@@ -58,3 +59,19 @@ returns-clause-refused g c h before calls p after stands behind =
     (c.kept_of.ensures.refused before calls p after (subst (λ (l : List ℕ). StandsAs e.kind l e p) (sym read)
     (part_cut e.kind e.length reads (take e.length reads) e p (omega arith) (all_to_front e.length reads) stands))
     behind)
+
+pub returns-clause-spanned : goal.returns-clause-spanned
+returns-clause-spanned g c h =
+    let D = g.D.Disk in
+    let m = c.args.manifest.now in
+    let e = c.args.entry in
+    let h1 = subst IsTrue (sym c.length.ensures.honest) h in
+    let reads = (D.held c.args.disk.now e.file).reads in
+    let read : c.deref.result.now ≡ take e.length reads = c.deref.ensures.value ∙ c.in_ok-octets.ensures.octets h1
+    ∙ ap (λ (f : Held). take e.length f.reads) (c.length.ensures.held h e.file) in
+    if_ok_by c.kept_of.result
+    (λ (r : Checked). (p : Part) → StandsAs e.kind c.deref.result.now e p → IsSpanOf m e.kind p r.span)
+    (λ (r : Checked). (p : Part) → StandsAs e.kind reads e p → IsSpanOf m e.kind p r.span)
+    (λ r is p stands. is p (subst (λ (l : List ℕ). StandsAs e.kind l e p) (sym read)
+    (part_cut e.kind e.length reads (take e.length reads) e p (omega arith) (all_to_front e.length reads) stands)))
+    c.kept_of.ensures.spanned

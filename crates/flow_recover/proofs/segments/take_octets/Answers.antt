@@ -5,6 +5,7 @@ use Rattle.flow_codec.specs.Message.{IsAccepted}
 use Rattle.flow_disk.proofs.Results.{passed_on}
 use Rattle.flow_measure.specs.History.{Accepted}
 use Rattle.flow_segment.specs.Carry.{carry_with}
+use Rattle.flow_segment.specs.Spans.{noted}
 use Rattle.flow_recover.specs.Reading.{IsOf}
 use Rattle.flow_manifest.specs.declared.error.OpenError.TheVariants.{OutOfMemory}
 use Rattle.flow_recover.proofs.Accepting.{octets_fault, octets_more, octets_refused}
@@ -20,7 +21,8 @@ returns-in_default-clause-refused c messages read kind =
     let at = c.messages.at in
     let bad = subst (λ (l : List ℕ). IsFileFault (c.args.from + at) l c.in_default.field-0) (to_end octets at)
     c.in_default.ensures.fault in
-    absurd (octets_fault c.args.section octets c.args.carry.now c.messages.carry c.messages.count at
+    absurd (octets_fault c.args.section octets c.args.carry.now c.messages.carry c.args.span.now c.messages.span
+    c.messages.count at
     (c.args.from + at) messages c.in_default.field-0 c.messages.invariant.so_far c.messages-test.true read kind bad)
 
 pub returns-in_err-take_message-clause-refused : goal.returns-in_err-take_message-clause-refused
@@ -32,7 +34,7 @@ returns-in_err-take_message-clause-refused c messages read kind =
     let now = c.messages.carry in
     let cut = subst (λ (l : List ℕ). IsCutOff (take n l)) (to_end octets at) c.in-Ok.ensures.found.1 in
     passed_on c.from_residual.result e (λ x. x ≡ OutOfMemory) c.from_residual.ensures.1
-    (octets_refused c.args.section octets c.args.carry.now now c.messages.count at n
+    (octets_refused c.args.section octets c.args.carry.now now c.args.span.now c.messages.span c.messages.count at n
     messages (e ≡ OutOfMemory) c.messages.invariant.so_far c.messages-test.true cut read kind
     (λ a is of. c.in_err-take_message.ensures.refused a
     (subst (λ (l : List ℕ). IsAccepted (take n l) now.templates a.message a.after) (sym (to_end octets at)) is) of))
@@ -48,12 +50,16 @@ messages-preserved c =
     let rest = to_end octets at in
     let fits = subst (λ (l : List ℕ). n ≤ length l) rest c.in-Ok.ensures.found.0 in
     let cut = subst (λ (l : List ℕ). IsCutOff (take n l)) rest c.in-Ok.ensures.found.1 in
+    let span = c.messages.span in
+    let noting = c.take_message.new.span in
+    let one = c.in_ok-take_message.ensures.taken in
     let taken = subst (λ (l : List ℕ). (a : Accepted) × (a.octets ≡ take n l)
-    × IsAccepted (take n l) now.templates a.message a.after × IsOf c.args.section a × (new ≡ carry_with now a))
-    rest c.in_ok-take_message.ensures.taken in
+    × IsAccepted (take n l) now.templates a.message a.after × IsOf c.args.section a × (new ≡ carry_with now a)
+    × (noting ≡ noted a.message span))
+    rest (one.0, one.1, one.2, one.3, one.4, c.in_ok-take_message.ensures.noted one.0 one.1 one.2) in
     record {
       within = omega (arith, fits, length-drop at octets, was.within);
       few = omega (arith, cut.long, length-take-le n (drop at octets) fits, was.few);
-      so_far = octets_more c.args.section octets c.args.carry.now now new
+      so_far = octets_more c.args.section octets c.args.carry.now now new c.args.span.now span noting
           c.messages.count at n was.so_far fits cut taken;
     }

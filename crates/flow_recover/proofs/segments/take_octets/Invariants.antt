@@ -6,7 +6,7 @@ abbrev pub invariant-messages : goal.invariant-messages
 invariant-messages l = record {
   within : l.at ≤ length l.octets;
   few : l.count ≤ l.at;
-  so_far : AreOctetsRead l.section l.octets l.initial.carry l.carry l.count l.at;
+  so_far : AreOctetsRead l.section l.octets l.initial.carry l.carry l.initial.span l.span l.count l.at;
 }
 
 abbrev pub decreases-messages : goal.decreases-messages

@@ -1,5 +1,6 @@
-use Rattle.std.proofs.Common.{[], refl}
+use Rattle.std.proofs.Common.{[]}
 use Rattle.flow_segment.proofs.Carrying as lemmas
+use Rattle.flow_segment.proofs.NotingStarts.{message_noted, none_noted}
 use Rattle.flow_segment.proofs.carry.counted.Goals as goal
 
 pub returns-in-Ok-clause-found : goal.returns-in-Ok-clause-found
@@ -8,8 +9,14 @@ returns-in-Ok-clause-found c =
       w.0,
       w.1,
       λ sequence. lemmas.counted sequence c.walk_sets.new.sink.records c.in-Ok.walked.header w.0
-          (w.2 (record { records = 0 }) [] refl),
+          (w.2 (record { records = 0; span = c.args.span.now }) [] (none_noted 0 c.args.span.now)).0,
     )
+
+pub returns-in-Ok-clause-noted : goal.returns-in-Ok-clause-noted
+returns-in-Ok-clause-noted c = λ a is.
+    let w = c.in-Ok.ensures.only a.message a.after is in
+    message_noted a.message c.in-Ok.walked.header 0 c.walk_sets.new.sink.records c.args.span.now c.walk_sets.new.sink.span
+    w.0 (w.2 (record { records = 0; span = c.args.span.now }) [] (none_noted 0 c.args.span.now))
 
 pub returns-in-Err-Message-clause-fault : goal.returns-in-Err-Message-clause-fault
 returns-in-Err-Message-clause-fault c =

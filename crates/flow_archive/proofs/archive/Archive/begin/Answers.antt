@@ -10,12 +10,21 @@ use Rattle.flow_archive.proofs.Sharing.{own_numbers}
 use Rattle.flow_archive.specs.declared.refusal.ArchiveError.TheVariants as refusal
 use Rattle.flow_archive.proofs.Stand.{stands_for}
 use Rattle.flow_archive.proofs.Stepping.{refused}
-use Rattle.flow_archive.proofs.Undertaking.{fresh_rolling, job_archive, job_work, no_job, width_some}
-use Rattle.flow_archive.proofs.Undertaking.{without_device}
+use Rattle.flow_archive.proofs.Undertaking.{fresh_rolling, job_archive, job_work, no_job, some_job}
+use Rattle.flow_archive.proofs.Undertaking.{width_some, without_device}
 use Rattle.flow_archive.proofs.Inside.{state_of, with_rolling, work_of}
 use Rattle.flow_archive.proofs.archive.Archive.begin.Goals as goal
 use Rattle.flow_archive.proofs.archive.Archive.begin.Goals.{then-count-eq0-via-then-count-eq0}
 use Rattle.flow_archive.proofs.archive.Archive.begin.Goals.{then-count-eq0-via-else-count-eq0+then-there-count}
+
+pub returns-then-is_some-clause-answers : goal.returns-then-is_some-clause-answers
+returns-then-is_some-clause-answers g c =
+    let inside = c.self.inside in
+    rw (← c.self.view_is) (
+      c.if-self.false,
+      some_job inside.job (sym c.is_some.ensures ∙ c.if-is_some.true),
+      refl,
+    )
 
 pub returns-then-is_some-clause-step : goal.returns-then-is_some-clause-step
 returns-then-is_some-clause-step g c =

@@ -8,6 +8,7 @@ use Rattle.flow_manifest.specs.Following.{front_of, made_entry, sources_of}
 use Rattle.flow_manifest.specs.Slots.{other}
 use Rattle.flow_manifest.proofs.ValidEntries.{front_long}
 use Rattle.flow_manifest.proofs.ManifestAfterInstall.{behind_short}
+use Rattle.flow_rolled.specs.Rollup.{IsRollup}
 use Rattle.flow_model.specs.Jobs.{replaced, replaced_parts, staged_of}
 use Rattle.flow_model.specs.State.{State, reopened}
 use Rattle.flow_model.specs.Standing.{StandsForEither}
@@ -20,8 +21,8 @@ use Rattle.flow_archive.specs.UnderWay.{job_in, staged_file, IsOnDisk, IsRunning
 use Rattle.flow_archive.specs.declared.refusal.ArchiveError.TheVariants as refusal
 use Rattle.flow_archive.proofs.Answering.{err_is}
 use Rattle.flow_archive.proofs.Directing.{failed_archive}
-use Rattle.flow_archive.proofs.Installed.{archive_installed, cut_is, is_installed, not_installed, then_is}
-use Rattle.flow_archive.proofs.Installed.{some_made, then_state, work_installed}
+use Rattle.flow_archive.proofs.Installed.{archive_installed, cut_is, is_installed, may_install, not_installed}
+use Rattle.flow_archive.proofs.Installed.{some_made, then_is, then_state, work_installed}
 use Rattle.flow_archive.proofs.FilesAlone.{made_apart, own_installed}
 use Rattle.flow_archive.proofs.Owning.{as_many}
 use Rattle.flow_archive.proofs.Stand.{slot_below, stands_for}
@@ -51,6 +52,11 @@ returns-in_err-made-clause-step g c =
     (λ h image left. g.met.D.Disk.only_now inside.disk image h left)
     (λ h still image is. stands_for inside.slots _ image
     (((c.self.invariant.0).still_open still).kept.known h image is)))
+
+pub to_install-requires-clause-staged : goal.to_install-requires-clause-staged
+to_install-requires-clause-staged g c =
+    let a = c.self.inside in
+    may_install (g.D.Disk.honest a.disk) (state_of a) a.job c.self.invariant.1.job c.self.invariant.0.counted.next
 
 pub install-requires-clause-room : goal.install-requires-clause-room
 install-requires-clause-room g c =
@@ -241,8 +247,17 @@ returns-in-Err-clause-cause g c =
       other = λ differs. absurd (differs refl);
     })
 
-pub take_staged-file-requires : goal.take_staged-file-requires
-take_staged-file-requires g c =
+pub take_staged-file-requires-clause-sums : goal.take_staged-file-requires-clause-sums
+take_staged-file-requires-clause-sums g c = λ r f is made honest.
+    let a = c.self.inside in
+    let b = g.D.Disk.honest a.disk in
+    let rolling = the_rolling b (state_of a) a.job r is c.self.invariant.1.job in
+    let staged = the_staged b (state_of a) r f made rolling in
+    subst (λ (w : ℕ). IsRollup w f.octets r.rows) (sym rolling.width)
+    (staged.made (subst IsTrue staged.honest_is honest)).0
+
+pub take_staged-file-requires-clause-staged : goal.take_staged-file-requires-clause-staged
+take_staged-file-requires-clause-staged g c =
     let is = c.in_ok-made.ensures.made in
     rw is.entry_is (is.r, is.f, is.job_is, is.staged_is, refl, refl, refl, refl)
 

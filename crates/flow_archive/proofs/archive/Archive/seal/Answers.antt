@@ -24,6 +24,7 @@ use Rattle.flow_archive.proofs.Chaining.{hands_next, prefix_fits}
 use Rattle.flow_archive.proofs.Directing.{failed_archive}
 use Rattle.flow_archive.proofs.AfterSeal.{is_sealed, sealed_archive, sealed_work, same_state}
 use Rattle.flow_archive.proofs.Sharing.{own_push}
+use Rattle.flow_archive.proofs.Spanned.{sealed_there}
 use Rattle.flow_archive.proofs.Stand.{slot_below, stands_for}
 use Rattle.flow_archive.proofs.Stepping.{refused, refused_by, acknowledged, failed}
 use Rattle.flow_archive.proofs.Working.{goes_on, other_file}
@@ -51,8 +52,8 @@ module _ (g : Over) (c : After-seal_segment g) where
   count : c.len-count.result ≡ length c.self.inside.messages.items
   count = c.len-count.ensures ∙ many c.self.inside
 
-  kept_prefix : c.as_slice.result.now ≡ prefix
-  kept_prefix = c.as_slice.ensures ∙ c.in_ok-next.ensures.prefix
+  kept_prefix : c.as_slice-3.result.now ≡ prefix
+  kept_prefix = c.as_slice-3.ensures ∙ c.in_ok-next.ensures.prefix
 
   made : c.in_ok-next.next.manifest ≡ next_of c.self.inside
   made = rw (c.in_ok-next.ensures.manifest, ((c.self.invariant.0).counted).end_is, count)
@@ -72,7 +73,7 @@ module _ (g : Over) (c : After-seal_segment g) where
 
   move : IsTrue (g.D.Disk.honest c.self.inside.disk)
       → IsSealing (g.D.Disk.held c.self.inside.disk) c.self.inside.slots c.self.inside.active.file c.self.inside.end
-      c.self.inside.next c.as_slice.result.now c.as_slice-2.result.now was
+      c.self.inside.next c.as_slice-3.result.now c.as_slice-4.result.now was
   move h =
       let counted = (c.self.invariant.0).counted in
       let still = (c.self.invariant.0).still_open c.if-self.false in
@@ -85,13 +86,13 @@ module _ (g : Over) (c : After-seal_segment g) where
         valid = rw kept_prefix valid;
         chained = rw kept_prefix
             (carry, hands_next was carry counted.valid c.in_ok-next.ensures.carry (still.hands_on h));
-        body_is = rw (kept_prefix, c.as_slice-2.ensures.value, c.in_ok-next.ensures.body, made);
+        body_is = rw (kept_prefix, c.as_slice-4.ensures.value, c.in_ok-next.ensures.body, made);
         known = still.kept.known h;
       }
 
   leaves : IsTrue (g.D.Disk.honest c.self.inside.disk) → LeavesOnly g.D.Disk c.self.inside.disk c.seal_segment.new.disk
       (StandsBeforeOrAfter was (λ x. IsSealed true was x))
-  leaves h = by g.D.Disk _ _ (StandsForEither (reopened was) (reopened (after_seal was c.as_slice.result.now))) _
+  leaves h = by g.D.Disk _ _ (StandsForEither (reopened was) (reopened (after_seal was c.as_slice-3.result.now))) _
       (c.seal_segment.ensures.any_moment h was (move h))
       (λ image either. ⊎_elim (λ before. inl before)
       (λ later. inr (
@@ -109,7 +110,7 @@ module _ (g : Over) (c : After-new g) where
 
   new_files : c.push_reserved.new.self.items ≡ c.self.inside.files.items ++ part ∷ []
   new_files = let counted = (c.self.invariant.0).counted in
-      rw (c.push_reserved.ensures.items, c.reserve.ensures.items, c.named.ensures, counted.active_entry_is)
+      rw (c.push_reserved.ensures.items, c.reserve.ensures.items, c.sealed_file.ensures, counted.active_entry_is)
       (rw (counted.end_is, c.len-count.ensures, many c.self.inside))
 
 pub returns-in_err-next-clause-answers : goal.returns-in_err-next-clause-answers
@@ -308,3 +309,19 @@ returns-in-Err-clause-cause g c =
       risen = λ is. why.risen;
       other = λ differs. absurd (differs refl);
     })
+
+-- the span of the messages that were kept
+pub sealed_file-requires-clause-span : goal.sealed_file-requires-clause-span
+sealed_file-requires-clause-span g c =
+    let a = c.self.inside in
+    let moved = (goal.at.sealed_file-requires-clause-span g c).After-seal_segment in
+    let counted = (c.self.invariant.0).counted in
+    let S = g.D.Sealed.SealedFile in
+    let part = c.in-Ok-seal_segment.part in
+    let own = rw (c.as_slice.ensures, c.as_slice-2.ensures.value) at c.span_in_memory-span.ensures in
+    rw (counted.active_entry_is, counted.end_is, c.len-count.ensures, many a)
+    (sealed_there (S.honest part) (S.octets part)
+    (sealed_entry (active_of a.slots.current) (end_of (state_of a)) (length a.messages.items)) (state_of a).active
+    a.slots.current.width c.span_in_memory-span.result refl
+    (λ h. c.in-Ok-seal_segment.ensures.part (subst IsTrue (c.in-Ok-seal_segment.ensures.sealed).2 h) (state_of a)
+    (move g moved (subst IsTrue (c.in-Ok-seal_segment.ensures.sealed).2 h))) own)

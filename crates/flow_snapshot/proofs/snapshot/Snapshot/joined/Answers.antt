@@ -30,7 +30,7 @@ loop-share-preserved g c =
     let turn = YieldsList-turn (YieldsList-from_vec {s = c.into_iter-share-iterator.result} shares gives.0
     (gives.1 ∙ c.args.shares.ok.0)) c.loop-share.yielded c.loop-share.share-iterator c.loop-share.yielded_by
     c.next.result c.next.new.self c.in-Some.share c.in-Some.is c.next.ensures.steps in
-    let item = share_at self shares n c.in-Some.share turn.0 turn.1 c.requires.shares in
+    let item = share_at c.args.first self shares n c.in-Some.share turn.0 turn.1 c.requires.shares in
     record {
       faults = c.in_ok-add_share.ensures.cause.done ∙ c.loop-share.invariant.faults;
       read = λ honest. one_more_read self.shelf (length shares) n _
@@ -38,7 +38,7 @@ loop-share-preserved g c =
           (joined_read (IsOwnRead self.shelf (length shares) n) c.args.first c.loop-share.sums c.add_share.new.sums
           c.in-Some.share.sums _ c.in_ok-add_share.ensures.given (item.1.found honest));
       joined = λ honest wide narrow are_wide are_narrow.
-          let made = rw (sym c.requires.first) at (item.1.given honest wide narrow are_wide are_narrow) in
+          let made = item.1.given honest wide narrow are_wide are_narrow in
           subst (λ (k : ℕ). Joined self.shelf (length shares) k wide narrow c.add_share.new.sums)
           (sym (length_push c.loop-share.yielded c.in-Some.share))
           (join_any self.shelf (length shares) n c.args.first wide narrow c.loop-share.sums c.add_share.new.sums
@@ -55,8 +55,8 @@ returns-in_err-add_share-clause-given g c = λ honest wide narrow are_wide are_n
     let turn = YieldsList-turn (YieldsList-from_vec {s = c.into_iter-share-iterator.result} shares gives.0
     (gives.1 ∙ c.args.shares.ok.0)) c.loop-share.yielded c.loop-share.share-iterator c.loop-share.yielded_by
     c.next.result c.next.new.self c.in-Some.share c.in-Some.is c.next.ensures.steps in
-    let item = share_at self shares n c.in-Some.share turn.0 turn.1 c.requires.shares in
-    let made = rw (sym c.requires.first) at (item.1.given honest wide narrow are_wide are_narrow) in
+    let item = share_at c.args.first self shares n c.in-Some.share turn.0 turn.1 c.requires.shares in
+    let made = item.1.given honest wide narrow are_wide are_narrow in
     made_err _ c.args.first (AllPartsFit self.shelf wide narrow) (AllPartsFit self.shelf wide narrow)
     c.from_residual.result c.in_err-add_share.field-0.0 (λ fit. fit) c.from_residual.ensures.1
     (join_any self.shelf (length shares) n c.args.first wide narrow c.loop-share.sums c.add_share.new.sums

@@ -13,7 +13,7 @@ returns-in_err-narrow-clause-share g c = record {
       let s = c.args.self.now.shelf in
       made_err _ _ (AllFit (summed s.width narrow)) (AllPartsFit s wide narrow) c.from_residual-in_err-narrow.result
       c.in_err-narrow.field-0.0 (λ fit. fit.1) c.from_residual-in_err-narrow.ensures.1
-      (rw c.first_file-first.ensures at (c.in_err-narrow.ensures.given honest narrow are_narrow));
+      (c.in_err-narrow.ensures.given honest narrow are_narrow);
 }
 
 pub returns-clause-share : goal.returns-clause-share

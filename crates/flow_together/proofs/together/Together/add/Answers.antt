@@ -10,7 +10,7 @@ returns-in_err-more-clause-added g c = λ honest v is vs are.
     err_matched c.from_residual.result (Query (c.in_err-more.field-0).0) (λ all. AreSumsOf all.sums (vs ++ v ∷ []))
     (λ e. IsAddingRefused (first_file c.args.snapshot.now.shelf) vs v e) c.from_residual.ensures.1
     (unshared c.args.snapshot.now.shelf v is (first_file c.args.snapshot.now.shelf) vs (c.in_err-more.field-0).0
-    (c.in_err-more.ensures.share.given honest))
+    (rw c.first_file-first.ensures at (c.in_err-more.ensures.share.given honest)))
 
 pub returns-in_err-sums-clause-added : goal.returns-in_err-sums-clause-added
 returns-in_err-sums-clause-added g c = λ honest v is vs are.

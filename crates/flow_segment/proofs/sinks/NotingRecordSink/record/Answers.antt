@@ -1,0 +1,24 @@
+use Rattle.std.proofs.Common.{◌++◌, ◌∷◌, [], sym, ap, ◌∙◌, refl, Some}
+use Rattle.flow_codec.specs.Raw.{raw, Placed}
+use Rattle.flow_measure.specs.declared.flow.Flow.{Flow}
+use Rattle.flow_measure.specs.Flows.{flows_of_records}
+use Rattle.flow_measure.proofs.SinkSteps.{one_more, none_more}
+use Rattle.flow_segment.proofs.NotingStarts.{same_more, start_more}
+use Rattle.flow_segment.proofs.sinks.NotingRecordSink.record.Goals as goal
+
+pub returns-then-options-clause-taken : goal.returns-then-options-clause-taken
+returns-then-options-clause-taken c = λ start taken h.
+    let x : Placed = (c.args.header.now, raw c.args._id c.args.definition.now c.args.octets.now) in
+    let none = none_more taken c.args.header.now c.args._id c.args.definition.now c.args.octets.now
+    (sym c.options.ensures ∙ c.if-options.true) in
+    same_more start.records start.span taken x c.args.self.now.records _ refl c.args.self.now.span none h
+
+pub returns-clause-taken : goal.returns-clause-taken
+returns-clause-taken c = λ start taken h.
+    let x : Placed = (c.args.header.now, raw c.args._id c.args.definition.now c.args.octets.now) in
+    let f : Flow = c.flow_of-flow.result in
+    let more = one_more taken c.args.header.now c.args._id c.args.definition.now c.args.octets.now
+    (sym c.options.ensures ∙ c.if-options.false)
+    ∙ ap (λ f. flows_of_records taken ++ f ∷ []) (sym c.flow_of-flow.ensures) in
+    start_more start.records start.span taken x c.args.self.now.records _ refl f c.args.self.now.span _ c.in-Some.span
+    more c.in-Some.is (ap Some c.with.ensures) h
