@@ -96,13 +96,13 @@ ended_so said answered first input is_first is_read count seen shown old new how
         → IfSome known (λ octets. IsTrue is_first → AreAnswered said answered octets how seen shown old new)
     by None h = tt
     by (Some octets) h = λ is. record {
-        count = count;
-        before = shown;
-        mid = new;
-        replied = (h is).0;
-        later = ([], append-nil shown);
-        ended = end octets (subst (λ (b : Bool). IsTrue b) (sym s.going) is) (h is).1;
-      }
+      count = count;
+      before = shown;
+      mid = new;
+      replied = (h is).0;
+      later = ([], append-nil shown);
+      ended = end octets (subst (λ (b : Bool). IsTrue b) (sym s.going) is) (h is).1;
+    }
 
 -- at the end of the input
 pub at_end : (octets : List ℕ) (input : Option (List ℕ)) (n : ℕ) → IsAtEnd input → input ≡ Some (after_lines n octets)

@@ -59,8 +59,7 @@ loop-preserved g c =
     let replied = subst (λ (w : ℕ). IsLineReplied g.B.Ends.said
     (IsAnswered g.J.Naming.honest g.J.Naming.opening w shown) line c.in_ok-answer_line.field-0
     (contents c.loop.output) (contents c.answer_line.new.output)) c.loop.invariant.0
-    c.in_ok-answer_line.ensures.replied in
-    (
+    c.in_ok-answer_line.ensures.replied in (
       c.answer_line.ensures.width ∙ c.loop.invariant.0,
       line_more g.B.Ends.said (IsAnswered g.J.Naming.honest g.J.Naming.opening c.args.asking.now.width)
           (remaining c.args.lines.now.input) (remaining c.loop.lines.input) (remaining c.read.new.self.input)
