@@ -20,8 +20,8 @@ after_one (suc n) octets = after_one n (drop_through 10 octets)
 
 -- Lines were answered, where it's known what the input has, and as many of it are left.
 pub record Serving (said : ℕ → Fed → Type 0)
-    (answered : List Change → Query → Option (List ℕ) → Option (List ℕ) → Type 0) (first left : Option (List ℕ)) (is_first is_read : Bool) (count : ℕ) (seen shown : List Change)
-    (old new : Option (List ℕ)) : Type 0 where
+    (answered : List Change → Query → Option (List ℕ) → Option (List ℕ) → Type 0) (first left : Option (List ℕ))
+    (is_first is_read : Bool) (count : ℕ) (seen shown : List Change) (old new : Option (List ℕ)) : Type 0 where
   pub going : is_read ≡ is_first
   pub replied : IfSome first (λ octets. IsTrue is_first
       → AreReplied said answered octets count seen shown old new × (left ≡ Some (after_lines count octets)))
