@@ -17,7 +17,7 @@ _flowvault() {
         inspect) words='--csv --json --utc' paths=-f ;;
         create) words='--limit --wide' paths=-d ;;
         check) words='--files' paths=-d ;;
-        totals) words='--since --until --csv --json --utc --workers' paths=-d ;;
+        totals) words='--since --until --csv --json --utc --workers --each' paths=-d ;;
         flows) words='--since --until --csv --json --utc' paths=-d ;;
         feed) words='--keep --from --warn --datagrams' paths=-f ;;
         shell) words='--keep' paths=-d ;;

@@ -13,7 +13,8 @@ restart shows. In the model
 - a name that is made or removed is on the device after a good sync of the folder; one that failed forgets the names
   that waited; a file's sync settles no name;
 - after a good sync of a file the device must have just the octets that are read of it, and octets must be written only
-  to a file that has a name on the device;
+  to a file that has a name on the device; a file is marked as settled by a name beside it (docs/DISK.md) only where the
+  device has it as it is read, and changed only where no such name is there;
 - a stop of the machine leaves what the device has, and of what is dirty nothing, all, or some of it: of each sector of
   512 octets any content that it had since the last sync, so that pages are torn, of each length likewise, of the names
   that wait the first ones.
@@ -26,6 +27,9 @@ the runs with two faults a sync of process 2 fails too, those of its opening fir
 on and acknowledges. The machine stops at the end of each process, after changes of the folder of process 1 from the
 fault on, and after those of process 2 while it opens, writes anew and goes on: after each Nth change, from another one
 on in each run, where N is FULL_EVERY, or SHORT_EVERY.
+
+`shared feed` is a feed with rolling of an archive whose slots and active file a group may write when it begins, so that
+these are marked by names; marks come back and go with stops as all names do, and all that are left count.
 
 At each stop a folder is made of what is left, and the archive in it must open; answer the same totals before and after
 it was opened to be changed; hold all messages that were acknowledged, each once, none changed; besides them at most the
@@ -173,6 +177,11 @@ class Inode:
         return octets[:length], mode
 
 
+def mark_of(name):
+    """The name that marks a file as settled."""
+    return name.split(".")[0] + ".settled"
+
+
 class Model:
     """A folder: its names in the cache and on the device, and those that wait for a sync of the folder."""
 
@@ -249,11 +258,18 @@ class Model:
         made = name not in self.names
         if made:
             self.set_name(name, Inode(int(words[-1], 8) & ~0o022))
+            self.mark(name)
         self.descriptors[answer] = self.names[name]
         if call == "creat" or any("O_TRUNC" in word for word in words):
             self.names[name].cut(0)
             return True
         return made
+
+    def mark(self, made):
+        """A file that is marked as settled must be on the device as it is read, where a name is made that marks one."""
+        for name, inode in self.names.items():
+            if mark_of(name) == made and name != made and not (inode.agrees() and self.device.get(name) is inode):
+                raise Seen("wrong: a file is marked as settled that the device has otherwise")
 
     def by_path(self, call, words):
         name = self.name_of(words)
@@ -268,6 +284,9 @@ class Model:
     def change(self, inode, call, words, answer):
         if inode == FOLDER:
             raise Unmodelled("%s of the folder" % call)
+        names = [name for name, named in self.names.items() if named is inode]
+        if call != "fchmod" and any(mark_of(name) in self.names for name in names):
+            raise Seen("wrong: a file is changed that is marked as settled")
         if call == "pwrite64":
             if not any(named is inode for named in self.device.values()):
                 raise Seen("wrong: octets are written to a file that has no name on the device")
@@ -397,6 +416,8 @@ class Judge:
             os.mkdir(folder)
             for name, (octets, mode) in image.items():
                 write_file(os.path.join(folder, name), octets, mode)
+                # (of one time, so that each mark that is left counts)
+                os.utime(os.path.join(folder, name), (1700000000, 1700000000))
             try:
                 self.verdicts[key] = self.opened(folder, expected)
             except Seen as it:
@@ -586,13 +607,13 @@ class Case:
     """What is run as process 1, after what was made before without a fault."""
     creation = ("300", "--limit", "65535", "--wide", "600")
 
-    def __init__(self, name, kind, before, options=(), files=()):
+    def __init__(self, name, kind, before, options=(), files=(), shared=False):
         self.name, self.kind, self.before = name, kind, before
-        self.options, self.files = options, files
+        self.options, self.files, self.shared = options, files, shared
 
     def more(self, run):
         """Five messages more, others in each process."""
-        first = 99 + 9 * run.number + (self.name != "feed with rolling")
+        first = 99 + 9 * run.number + (not (self.kind == "feed" and self.options))
         files = [range(first, first + 5)]
         return dict(kind="feed", options=self.options if self.kind == "feed" else (), files=files)
 
@@ -608,10 +629,25 @@ class Case:
             status, _, told = judge.ask(kind, folder, *paths, *options)
             if status:
                 sys.exit("%s, before any fault: %s" % (kind, told))
+        if self.shared:
+            share(judge, folder)
         return State(folder, Expected(bool(self.before), [history]))
 
     def first(self, run, state, fault=None, watch="none"):
         return run.process(state, self.kind, self.options, self.files, fault, watch)
+
+
+def share(judge, folder):
+    """A group may change the folder and its files that can be changed, and these are marked by names."""
+    os.chmod(folder, 0o770)
+    numbers = [int(name[:-6]) for name in os.listdir(folder) if name.endswith(".ipfix")]
+    names = ["1.slot", "2.slot", "%d.ipfix" % max(numbers)]
+    for name in names:
+        os.chmod(os.path.join(folder, name), 0o660)
+    if judge.ask("roll", folder, *NOTHING)[:2] != (0, "rolled 0\n"):
+        sys.exit("roll, before any fault, of files that a group may write")
+    if not all(os.path.exists(os.path.join(folder, mark_of(name))) for name in names):
+        sys.exit("files that a group may write aren't marked as settled")
 
 
 def threes(first, count):
@@ -627,6 +663,7 @@ def all_cases():
         Case("create", "create", [], Case.creation),
         Case("feed", "feed", [made, ("feed", (), threes(0, 1))], (), threes(3, 2)),
         Case("feed with rolling", "feed", [made, ("feed", (), threes(0, 4))], ("--keep", "0"), threes(12, 8)),
+        Case("shared feed", "feed", [made, ("feed", (), threes(0, 4))], ("--keep", "0"), threes(12, 4), shared=True),
         Case("roll", "roll", [made, ("feed", (), threes(0, 8)), ("feed", (), threes(24, 5))], ("1",)),
         Case("merge", "merge", [made, *rolled, ("feed", (), threes(27, 1))], ("0",)),
     ]
@@ -821,8 +858,8 @@ BASES = []
 JUDGE = None
 WAYS = ("once", "for good")
 SHORT_EVERY, FULL_EVERY = 24, 16
-EACH = {"create": 2, "feed": 4, "feed with rolling": 12, "roll": 12, "merge": 12}
-SHORT = {"create": 3, "feed": 9, "feed with rolling": 9, "roll": 12, "merge": 16}
+EACH = {"create": 2, "feed": 4, "feed with rolling": 12, "shared feed": 12, "roll": 12, "merge": 12}
+SHORT = {"create": 3, "feed": 9, "feed with rolling": 9, "shared feed": 12, "roll": 12, "merge": 16}
 
 
 if __name__ == "__main__":

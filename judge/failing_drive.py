@@ -9,12 +9,12 @@ limit is reached stays one, and the loop device fails that write. So ext4 says E
 its pages clean, and reads them as they were meant to be, until they are dropped from the page cache: what docs/DISK.md
 says of failed syncs. What the drive has is in the file at each moment.
 
-What is run: `create`, `feed`, `feed` with rolling, `roll` and `merge` (judge/failed_syncs.py) are process 1, with room
-for so many blocks of 4,096 octets: for none, one, and so on up to as many as they take (of these every Nth, 1 if not
-said). Then there is room again, in every other run after the page cache was dropped. Process 2 opens the archive by a
-roll that rolls nothing, checks it, goes on with the same job, and feeds five messages more. After each process the
-machine stops: the file is copied as it is, mounted (ext4 plays its journal), and the archive in it must open and hold
-all that was acknowledged, each message once, as judge/failed_syncs.py has it.
+What is run: `create`, `feed`, `feed` with rolling, one of files that a group may write, `roll` and `merge`
+(judge/failed_syncs.py) are process 1, with room for so many blocks of 4,096 octets: for none, one, and so on up to as
+many as they take (of these every Nth, 1 if not said). Then there is room again, in every other run after the page cache
+was dropped. Process 2 opens the archive by a roll that rolls nothing, checks it, goes on with the same job, and feeds
+five messages more. After each process the machine stops: the file is copied as it is, mounted (ext4 plays its journal),
+and the archive in it must open and hold all that was acknowledged, each message once, as judge/failed_syncs.py has it.
 
 Each write is of one block: of a longer one, of which the first blocks can be made and the next not, Linux's loop driver
 says that it was good, so that the drive would lie.

@@ -87,6 +87,7 @@ with tempfile.TemporaryDirectory(dir=os.environ.get("TMPDIR", ".")) as place:
     fed = ["feed", place + "/all.ipfix", "--keep", "4294967295"]
     for before, words in (([], made), ([made], ["feed", place + "/all.ipfix", "--keep", "0"]),
                           ([made, fed], ["check"]), ([made, fed], ["totals", "0", "4294967296"]),
+                          ([made, fed], ["totals", "0", "4294967296", "--each"]),
                           ([made, fed], ["flows", "0", "4294967296"]), ([made, fed], ["roll", "0"]),
                           ([made, fed, ["roll", "1"], ["roll", "0"]], ["totals", "0", "4294967296"])):
         if commands and words[0] not in commands:

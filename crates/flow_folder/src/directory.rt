@@ -2,6 +2,7 @@
 use crate::error::SystemError;
 use crate::first_fault::FirstFault;
 use crate::found::{Found, Opened, look_up};
+use crate::marks::{Marks, may_be_marked};
 use crate::naming::path_of;
 use crate::place::{Hold, Place, list_files};
 use crate::reader::SystemReader;
@@ -14,8 +15,8 @@ use std::io::ErrorKind;
 use std::os::unix::fs::FileExt;
 use std::sync::Arc;
 
-/// A folder of the system, locked as long as a handle of it is open, and its files that are open. What the last look at
-/// a name found is kept, so that a file that is opened then is known to be that one.
+/// A folder of the system, locked as long as a handle of it is open, its files that are open, and those that are marked
+/// by a name. What the last look at a name found is kept, so that a file that is opened then is known to be that one.
 #[derive(Drop)]
 pub struct SystemDirectory<'a, R: Files> {
     rt: &'a R,
@@ -23,6 +24,7 @@ pub struct SystemDirectory<'a, R: Files> {
     place: Arc<Place<R::File>>,
     open: BTreeMap<u64, Opened<R::File>>,
     looked: Option<(u64, Found)>,
+    marks: Marks,
 }
 
 impl<'a, R: Files + AllocGlobal + Clone + Drop> SystemDirectory<'a, R>
@@ -37,13 +39,14 @@ where
         path: &str,
         first_fault: Option<&'a FirstFault>,
     ) -> Result<Self, FolderError> {
-        let place = Place::open(rt, path, Hold::Alone, first_fault)?;
+        let (place, marks) = Place::open(rt, path, Hold::Alone, first_fault)?;
         Ok(SystemDirectory {
             rt,
             first_fault,
             place: Arc::new(rt.alloc(), place)?,
             open: BTreeMap::new(rt.alloc()),
             looked: None,
+            marks,
         })
     }
 
@@ -63,6 +66,17 @@ where
         }
     }
 
+    /// How many octets a file has that was found, and whether it counts as read-only: nobody may write it, or it is
+    /// marked.
+    fn status_of(&self, file: u64, found: Found) -> Result<Status, SystemError> {
+        let folder = self.place.path.as_str();
+        let read_only = found.read_only || self.marks.has(self.rt, folder, file, found)?;
+        Ok(Status {
+            length: found.length,
+            read_only,
+        })
+    }
+
     /// A file that is open.
     fn opened(&self, file: u64) -> Result<&Opened<R::File>, SystemError> {
         match self.open.get(&file) {
@@ -71,11 +85,52 @@ where
         }
     }
 
-    /// Takes a name away. Answers whether it was there.
+    fn opened_mut(&mut self, file: u64) -> Result<&mut Opened<R::File>, SystemError> {
+        match self.open.get_mut(&file) {
+            Some(opened) => Ok(opened),
+            None => Err(ErrorKind::NotFound.into()),
+        }
+    }
+
+    /// Takes the mark of a file away, where it is marked by a name.
+    fn unmark(&mut self, file: u64) -> Result<(), SystemError> {
+        self.marks.remove(self.rt, self.place.path.as_str(), file)?;
+        Ok(())
+    }
+
+    /// Marks an open file by a name, where all who may write the file may take that name away.
+    fn mark(&mut self, file: u64) -> Result<(), SystemError> {
+        let found = self.opened(file)?.file.metadata()?;
+        if !may_be_marked(&self.place.handle.metadata()?, &found) {
+            return Err(ErrorKind::PermissionDenied.into());
+        }
+        let folder = self.place.path.as_str();
+        self.marks.make(self.rt, folder, file, found.modified()?)?;
+        Ok(())
+    }
+
+    /// Takes the permission to write an open file from everyone. Where that isn't to be, or this user may not do it, the
+    /// file is marked by a name.
+    fn take_permission(&mut self, file: u64) -> Result<(), SystemError> {
+        match self.opened_mut(file)?.take_permission() {
+            Err(e) if e.kind() == ErrorKind::PermissionDenied => self.mark(file),
+            taken => Ok(taken?),
+        }
+    }
+
+    /// Takes the mark of an open file away, and gives its owner the permission to write it, where nobody has it.
+    fn give_permission(&mut self, file: u64) -> Result<(), SystemError> {
+        self.unmark(file)?;
+        self.opened_mut(file)?.give_permission()?;
+        Ok(())
+    }
+
+    /// Takes a name away, and the mark of the file before it. Answers whether it was there.
     fn take_name(&mut self, file: u64) -> Result<bool, SystemError> {
         let path = self.path_of(file)?;
         let _ = self.open.remove(&file);
         self.looked = None;
+        self.unmark(file)?;
         match fs::remove_file(self.rt, path.as_str()) {
             Ok(()) => Ok(true),
             Err(e) if e.kind() == ErrorKind::NotFound => Ok(false),
@@ -152,7 +207,7 @@ where
             return Ok(None);
         };
         self.looked = Some((file, found));
-        Ok(Some(found.status()))
+        Ok(Some(self.status_of(file, found)?))
     }
 
     fn list(&mut self, alloc: Global) -> Result<Vec<u64>, SystemError> {
@@ -164,7 +219,10 @@ where
         let named = self.looked_at(file, path.as_str())?;
         let _ = self.open.remove(&file);
         let opened = Opened::open(self.rt, path.as_str(), named, access == Access::Write)?;
-        let status = opened.found.status();
+        let status = self.status_of(file, opened.found)?;
+        if access == Access::Write && !status.read_only {
+            self.unmark(file)?;
+        }
         self.open.insert(file, opened)?;
         Ok(status)
     }
@@ -174,6 +232,7 @@ where
     }
 
     fn create(&mut self, file: u64) -> Result<(), SystemError> {
+        self.unmark(file)?;
         let path = self.path_of(file)?;
         let made = Opened::create(self.rt, path.as_str())?;
         self.open.insert(file, made)?;
@@ -202,8 +261,11 @@ where
     }
 
     fn set_read_only(&mut self, file: u64, read_only: bool) -> Result<(), SystemError> {
-        self.opened(file)?.set_read_only(read_only)?;
-        Ok(())
+        if read_only {
+            self.take_permission(file)
+        } else {
+            self.give_permission(file)
+        }
     }
 
     fn length(&mut self, file: u64) -> Result<u64, SystemError> {

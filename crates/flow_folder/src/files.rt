@@ -32,7 +32,7 @@ where
     /// it exists. Each entry with the name of a file has to be a regular file. What the system says of the first call
     /// that fails is noted.
     pub fn open(rt: &'a R, folder: &str, first_fault: &'a FirstFault) -> Result<Self, FolderError> {
-        let place = Place::open(rt, folder, Hold::Shared, Some(first_fault))?;
+        let (place, _) = Place::open(rt, folder, Hold::Shared, Some(first_fault))?;
         Ok(FolderFiles {
             rt,
             first_fault,

@@ -1,5 +1,5 @@
 // Files of the system, found by their names.
-use flow_directory::Status;
+use crate::marks::{Changed, changed};
 use std::fs::{self, Files, Metadata, OpenFile, OpenOptions, Permissions};
 use std::io::{self, ErrorKind};
 use std::os::unix::fs::{FileExt, MetadataExt, OpenOptionsExt, PermissionsExt};
@@ -25,7 +25,8 @@ pub(crate) struct Found {
     dev: u64,
     ino: u64,
     pub(crate) length: u64,
-    read_only: bool,
+    pub(crate) read_only: bool,
+    pub(crate) changed: Changed,
 }
 
 impl Found {
@@ -35,15 +36,8 @@ impl Found {
             dev: metadata.dev(),
             ino: metadata.ino(),
             length: metadata.len(),
-            read_only: is_read_only(metadata),
-        }
-    }
-
-    /// How many octets it has, and whether it is read-only.
-    pub(crate) fn status(self) -> Status {
-        Status {
-            length: self.length,
-            read_only: self.read_only,
+            read_only: metadata.mode() & WRITE == 0,
+            changed: changed(metadata),
         }
     }
 
@@ -53,7 +47,7 @@ impl Found {
     }
 }
 
-/// A file that is open, to be changed or to be read alone, and its mode as it was opened.
+/// A file that is open, to be changed or to be read alone, and its mode.
 #[derive(Drop)]
 pub(crate) struct Opened<F> {
     pub(crate) file: F,
@@ -116,25 +110,29 @@ impl<F: FileExt + OpenFile + Drop> Opened<F> {
         })
     }
 
-    /// Takes from everyone the permission to write it, or gives it to its owner. It isn't taken from a file that is open
-    /// to be changed where others than its owner may write it: they couldn't give it back, and couldn't change it again.
-    pub(crate) fn set_read_only(&self, read_only: bool) -> io::Result<()> {
-        if read_only && self.write && self.mode & OTHERS_WRITE != 0 {
+    /// Takes from everyone the permission to write it. It isn't taken from a file that is open to be changed where others
+    /// than its owner may write it: they couldn't give it back, and couldn't change it again.
+    pub(crate) fn take_permission(&mut self) -> io::Result<()> {
+        if self.write && self.mode & OTHERS_WRITE != 0 {
             return Err(ErrorKind::PermissionDenied.into());
         }
-        let mode = if read_only {
-            self.mode & !WRITE
-        } else {
-            self.mode | OWNER_WRITES
-        };
-        self.file
-            .set_permissions(Permissions::from_mode(mode & PERMISSIONS))
+        self.set_mode(self.mode & !WRITE)
     }
-}
 
-/// Whether nobody may write it.
-fn is_read_only(metadata: &Metadata) -> bool {
-    metadata.mode() & WRITE == 0
+    /// Gives its owner the permission to write it, where nobody has it.
+    pub(crate) fn give_permission(&mut self) -> io::Result<()> {
+        if self.mode & WRITE != 0 {
+            return Ok(());
+        }
+        self.set_mode(self.mode | OWNER_WRITES)
+    }
+
+    fn set_mode(&mut self, mode: u32) -> io::Result<()> {
+        self.file
+            .set_permissions(Permissions::from_mode(mode & PERMISSIONS))?;
+        self.mode = mode;
+        Ok(())
+    }
 }
 
 /// What this name leads to, if there is such a name; an error where that is no regular file.

@@ -16,6 +16,7 @@ mod error;
 mod files;
 mod first_fault;
 mod found;
+mod marks;
 mod naming;
 mod place;
 mod reader;

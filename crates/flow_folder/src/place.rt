@@ -1,7 +1,8 @@
 // A folder of the system, by its handle.
 use crate::first_fault::FirstFault;
 use crate::found::{Opened, look_up};
-use crate::naming::{file_named, path_of};
+use crate::marks::Marks;
+use crate::naming::{file_marked_by, file_named, path_of};
 use crate::system::{FolderError, Lockable};
 use std::alloc::{AllocGlobal, Global};
 use std::fs::{self, File, Files, OpenFile};
@@ -25,14 +26,14 @@ pub(crate) struct Place<F> {
 }
 
 impl<F: OpenFile + Lockable + Drop> Place<F> {
-    /// Opens and locks a folder that exists. Each entry with the name of a file has to be a regular file. What the
-    /// system says of a call that fails is noted, where that is asked for.
+    /// Opens and locks a folder that exists, and answers its marks too. Each entry with the name of a file has to be a
+    /// regular file. What the system says of a call that fails is noted, where that is asked for.
     pub(crate) fn open<R: Files<File = F> + AllocGlobal + Clone + Drop>(
         rt: &R,
         path: &str,
         hold: Hold,
         first_fault: Option<&FirstFault>,
-    ) -> Result<Self, FolderError> {
+    ) -> Result<(Self, Marks), FolderError> {
         let opened = Self::looked_through(rt, path, hold);
         if let (Err(refused), Some(first)) = (&opened, first_fault) {
             if let Some(error) = refused.said() {
@@ -46,10 +47,10 @@ impl<F: OpenFile + Lockable + Drop> Place<F> {
         rt: &R,
         path: &str,
         hold: Hold,
-    ) -> Result<Self, FolderError> {
+    ) -> Result<(Self, Marks), FolderError> {
         let place = Self::lock(rt, path, hold)?;
-        look_at_names(rt, place.path.as_str())?;
-        Ok(place)
+        let marks = look_at_names(rt, place.path.as_str())?;
+        Ok((place, marks))
     }
 
     fn lock<R: Files<File = F> + AllocGlobal>(
@@ -76,23 +77,27 @@ impl<F: OpenFile + Lockable + Drop> Place<F> {
     }
 }
 
-/// An error where an entry with the name of a file isn't a regular file.
+/// Which marks may be there; an error where an entry with the name of a file isn't a regular file.
 fn look_at_names<R: Files + AllocGlobal + Clone + Drop>(
     rt: &R,
     folder: &str,
-) -> Result<(), FolderError> {
+) -> Result<Marks, FolderError> {
+    let mut marks = Marks::new(rt.alloc());
     for entry in fs::read_dir(rt, folder)? {
         match entry {
             Ok(entry) => {
                 if let Some(file) = file_named(entry.file_name()) {
                     look_at_name(rt, folder, file)?;
                 }
+                if let Some(file) = file_marked_by(entry.file_name()) {
+                    marks.note(file)?;
+                }
             }
             Err(e) if e.kind() == ErrorKind::InvalidFilename => {}
             Err(e) => return Err(e.into()),
         }
     }
-    Ok(())
+    Ok(marks)
 }
 
 /// An error where the entry with this file's name isn't a regular file.

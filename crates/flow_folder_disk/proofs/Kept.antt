@@ -1,5 +1,5 @@
 -- What a disk has reported agrees with its folder after a call on one file.
-use Rattle.std.proofs.Common.{◌≡◌, ◌≢◌, ⊎_elim, ℕ, Bool, true, false, List, Option, is_some, refl, sym, ◌∙◌, ap, subst}
+use Rattle.std.proofs.Common.{◌≡◌, ◌≢◌, ⊎_elim, ℕ, true, false, Option, is_some, sym, ◌∙◌, ap, subst}
 use Rattle.std.proofs.lemmas.Bool.{cases_eq, false≢true}
 use Rattle.flow_disk.specs.Disk.{Marks, Changes, Stays}
 use Rattle.flow_directory.specs.File.{File}

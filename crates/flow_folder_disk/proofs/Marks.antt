@@ -1,10 +1,10 @@
 -- The marks of a disk after a call, whether its system keeps the rules or not.
-use Rattle.std.proofs.Common.{◌≡◌, ◌≢◌, ◌⊎◌, inl, inr, ⊎_elim, ℕ, ◌+◌, ◌<◌, ◌≤◌, max, min, Bool, true, false, ◌||◌}
+use Rattle.std.proofs.Common.{◌≡◌, ◌≢◌, ℕ, ◌+◌, ◌≤◌, max, min, Bool, true, false, ◌||◌}
 use Rattle.std.proofs.Common.{IsTrue, List, [], length, take}
 use Rattle.std.proofs.Common.{refl, sym, ◌∙◌, ap, subst, arith, Result, Ok, Err, OnOk, OnErr, IfOk, ◌-◌, ◌++◌, drop}
 use Rattle.std.proofs.Common.{length-append, length-take, length-drop, Contains, ◌↔◌}
 use Rattle.std.proofs.lemmas.Bool.{false≢true}
-use Rattle.flow_disk.specs.Disk.{Held, Marks, Changes, Stays, IsDiskImage, settled_at, touched_at, loosened_at, put_at}
+use Rattle.flow_disk.specs.Disk.{Held, Marks, Changes, Stays, settled_at, touched_at, loosened_at, put_at}
 use Rattle.flow_disk.specs.Files.{Marked, frozen_as}
 use Rattle.flow_disk.specs.Moments.{Elapses, Covers}
 use Rattle.flow_directory.specs.File.{File}

@@ -1,11 +1,10 @@
 -- What a call on a disk does, by what the call on its folder did, and what was reported before and after it.
-use Rattle.std.proofs.Common.{◌≡◌, ◌≢◌, inl, ⊎_elim, ℕ, ◌+◌, ◌≤◌, max, min, Bool, true, false, ◌||◌, List, [], length}
-use Rattle.std.proofs.Common.{take, refl, sym}
+use Rattle.std.proofs.Common.{◌≡◌, ◌≢◌, inl, ℕ, max, Bool, List}
+use Rattle.std.proofs.Common.{sym}
 use Rattle.std.proofs.Common.{◌∙◌, ap, subst, arith, Result, Ok, Err, OnOk, OnErr}
 use Rattle.std.specs.Prelude.{IsErr}
-use Rattle.std.proofs.lemmas.Bool.{cases_eq, false≢true}
+use Rattle.std.proofs.lemmas.Bool.{false≢true}
 use Rattle.flow_disk.specs.Disk.{Held, Marks, IsImage, IsWithin, Changes, Stays, settled_at, touched_at, loosened_at}
-use Rattle.flow_disk.specs.Disk.{given_up}
 use Rattle.flow_disk.proofs.Images.{settled_one}
 use Rattle.flow_disk.specs.Files.{Makes, Marked, Syncs, Removes}
 use Rattle.flow_disk.specs.Moments.{Elapses, Passes, Covers}

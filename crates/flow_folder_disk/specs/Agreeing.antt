@@ -1,5 +1,5 @@
 -- How what a disk has reported agrees with its folder.
-use Rattle.std.specs.Prelude.{◌≡◌, ℕ, Bool, true, false, Option, is_some}
+use Rattle.std.specs.Prelude.{◌≡◌, ℕ, true, false, Option, is_some}
 use Rattle.flow_disk.specs.Disk.{Marks}
 use Rattle.flow_directory.specs.File.{File}
 use Rattle.flow_pending.specs.declared.pending.Pending.{Pending}

@@ -1,4 +1,5 @@
 pub mod Agreeing
+pub mod Ended
 pub mod Known
 pub mod Marking
 pub mod Table

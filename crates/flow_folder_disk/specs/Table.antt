@@ -1,8 +1,8 @@
 -- What a disk keeps of its files.
-use Rattle.std.specs.Prelude.{ℕ, ◌≤◌, ◌^◌, Bool, true, false, ◌||◌, Option, Some, None, length, if◌then◌else◌}
+use Rattle.std.specs.Prelude.{ℕ, ◌≤◌, ◌^◌, Bool, false, ◌||◌, List, Option, Some, None, length, if◌then◌else◌}
 use Rattle.std.proofs.Common.{lit≤}
 use Rattle.std.specs.Ordering.{nat_cmp}
-use Rattle.std.specs.BTreeMap.{get}
+use Rattle.std.specs.BTreeMap.{get, keys}
 use Rattle.flow_disk.specs.Disk.{Marks}
 use Rattle.flow_directory.specs.File.{File}
 use Rattle.flow_folder_disk.specs.declared.reported.Reported.{Reported}
@@ -32,6 +32,10 @@ doubted marks = record { size = marks.size; settled = false; frozen = marks.froz
 -- what was reported of each file
 abbrev pub marks_in : Table → ℕ → Marks
 marks_in table file = marks_of_some (get nat_cmp table.reported file)
+
+-- the files of which something was reported
+abbrev pub reported_in : Table → List ℕ
+reported_in table = keys table.reported
 
 -- what holds of a file of a system that keeps its rules, of which this was reported
 abbrev pub marks_with : Marks → File → Marks

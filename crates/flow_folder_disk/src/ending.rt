@@ -22,6 +22,8 @@ impl<S: Directory> Folder<S> {
         ensures reached { IsTrue (S.honest self.old.system)
             → IsReached (S.files self.old.system file) (S.files self.new.system file) }
         ensures marked { IsTrue (S.honest self.old.system) → OnOk result (IsMarked (S.files self.new.system file)) }
+        ensures still { IsTrue (S.honest self.old.system)
+            → IsMarked (S.files self.old.system file) → IsMarked (S.files self.new.system file) }
         ensures leaves { IsTrue (S.honest self.old.system) → Leaves S.files S.moment S.left_since self.old.system
             self.new.system file (held_of (S.files self.old.system)) }
     {
@@ -35,6 +37,8 @@ impl<S: Directory> Folder<S> {
         requires clean { IsTrue (S.honest self.old.system) → IsClean (S.files self.old.system file) }
         requires read_only { IsTrue (S.honest self.old.system) → IfSome found
             (λ status. status.read_only ≡ (S.files self.old.system file).read_only) }
+        requires some { IsTrue (S.honest self.old.system) → IfSome found
+            (λ status. (S.files self.old.system file).linked ≡ true) }
         requires none { IsTrue (S.honest self.old.system) → IfNone found
             ((S.files self.old.system file).linked ≡ false) }
         ensures honest { S.honest self.new.system ≡ S.honest self.old.system }
@@ -42,6 +46,8 @@ impl<S: Directory> Folder<S> {
         ensures reached { IsTrue (S.honest self.old.system)
             → IsReached (S.files self.old.system file) (S.files self.new.system file) }
         ensures marked { IsTrue (S.honest self.old.system) → OnOk result (IsMarked (S.files self.new.system file)) }
+        ensures still { IsTrue (S.honest self.old.system)
+            → IsMarked (S.files self.old.system file) → IsMarked (S.files self.new.system file) }
         ensures leaves { IsTrue (S.honest self.old.system) → Leaves S.files S.moment S.left_since self.old.system
             self.new.system file (held_of (S.files self.old.system)) }
     {
@@ -88,13 +94,16 @@ impl<S: Directory> Folder<S> {
 
 ghost use Rattle.std.specs.List.{list_any};
 ghost use Rattle.std.specs.Ordering.{eq_by_cmp};
+ghost use Rattle.std.specs.Prelude.{IsErrOf};
 ghost use Rattle.flow_disk.specs.Cause.{HasCause, FailsOnlyByFault};
+ghost use Rattle.flow_folder_disk.specs.Ended.{HasRisenBy, left_of};
 ghost use Rattle.flow_folder_disk.specs.Known.{KeepsAll};
-ghost use Rattle.flow_folder_disk.specs.Table.{marks_in};
+ghost use Rattle.flow_folder_disk.specs.Table.{marks_in, reported_in};
 
 impl<S: Directory> FolderDisk<S> {
     /// Makes all settled files read-only, so that a later value takes each of them for settled and writes none of it
-    /// again. Nothing else differs. Where the system refuses that for a file, others may stay as they are.
+    /// again. Nothing else differs. Where the system refuses that for a file, the others are made so all the same: no
+    /// more stay as they are than faults are counted.
     pub fn end(&mut self, alloc: Global) -> Result<(), DiskError>
         ensures honest { S.honest self.new.folder.system ≡ S.honest self.old.folder.system }
         ensures table { self.new.table ≡ self.old.table }
@@ -102,6 +111,9 @@ impl<S: Directory> FolderDisk<S> {
             → KeepsAll S.files S.moment S.left_since self.old.folder.system self.new.folder.system }
         ensures marked { IsTrue (S.honest self.old.folder.system) → OnOk result ((n : ℕ)
             → (marks_in self.old.table n).settled ≡ true → IsMarked (S.files self.new.folder.system n)) }
+        ensures left { IsTrue (S.honest self.old.folder.system) → IsErrOf result DiskError.Fault
+            → HasRisenBy (left_of (marks_in self.old.table) (S.files self.new.folder.system)
+            (reported_in self.old.table)) self.old.failed self.new.failed }
         ensures cause { HasCause DiskError.Fault self.old.failed self.new.failed result }
     {
         let files = self.table.files(alloc)?;
@@ -117,12 +129,16 @@ impl<S: Directory> FolderDisk<S> {
         ensures marked { IsTrue (S.honest self.old.folder.system) → OnOk result ((n : ℕ)
             → list_any (eq_by_cmp nat_cmp n) files.now ≡ true → (marks_in self.old.table n).settled ≡ true
             → IsMarked (S.files self.new.folder.system n)) }
+        ensures left { IsTrue (S.honest self.old.folder.system) → HasRisenBy (left_of (marks_in self.old.table)
+            (S.files self.new.folder.system) files.now) self.old.failed self.new.failed }
         ensures cause { FailsOnlyByFault self.old.failed self.new.failed result }
     {
+        let mut marked = Ok(());
         for file in files {
-            self.mark(*file)?;
+            let one = self.mark(*file);
+            marked = marked.and(one);
         }
-        Ok(())
+        marked
     }
 
     /// The same of one file.
@@ -133,8 +149,8 @@ impl<S: Directory> FolderDisk<S> {
             → KeepsAll S.files S.moment S.left_since self.old.folder.system self.new.folder.system }
         ensures marked { IsTrue (S.honest self.old.folder.system) → OnOk result
             ((marks_in self.old.table file).settled ≡ true → IsMarked (S.files self.new.folder.system file)) }
-        ensures still { IsTrue (S.honest self.old.folder.system) → OnOk result ((n : ℕ)
-            → IsMarked (S.files self.old.folder.system n) → IsMarked (S.files self.new.folder.system n)) }
+        ensures still { IsTrue (S.honest self.old.folder.system) → (n : ℕ)
+            → IsMarked (S.files self.old.folder.system n) → IsMarked (S.files self.new.folder.system n) }
         ensures cause { FailsOnlyByFault self.old.failed self.new.failed result }
     {
         if self.table.of(file).settled {
@@ -152,8 +168,8 @@ impl<S: Directory> FolderDisk<S> {
             → KeepsAll S.files S.moment S.left_since self.old.folder.system self.new.folder.system }
         ensures marked { IsTrue (S.honest self.old.folder.system)
             → OnOk result (IsMarked (S.files self.new.folder.system file)) }
-        ensures still { IsTrue (S.honest self.old.folder.system) → OnOk result ((n : ℕ)
-            → IsMarked (S.files self.old.folder.system n) → IsMarked (S.files self.new.folder.system n)) }
+        ensures still { IsTrue (S.honest self.old.folder.system) → (n : ℕ)
+            → IsMarked (S.files self.old.folder.system n) → IsMarked (S.files self.new.folder.system n) }
         ensures cause { FailsOnlyByFault self.old.failed self.new.failed result }
     {
         match self.folder.mark(file) {

@@ -26,7 +26,7 @@ impl Table {
     ghost use Rattle.std.specs.Ordering.{nat_cmp, eq_by_cmp};
     ghost use Rattle.std.specs.BTreeSet.{contains};
     ghost use Rattle.flow_disk.specs.Disk.{Changes, Stays};
-    ghost use Rattle.flow_folder_disk.specs.Table.{marks_of, marks_in};
+    ghost use Rattle.flow_folder_disk.specs.Table.{marks_of, marks_in, reported_in};
 
     /// No call has named a file.
     pub fn new(alloc: Global) -> Self
@@ -97,6 +97,7 @@ impl Table {
 
     /// The files of which something was reported.
     pub(crate) fn files(&self, alloc: Global) -> Result<Vec<u64>, AllocError>
+        ensures all { IfOk result (λ files. files.items ≡ reported_in self.now) }
         ensures listed { IfOk result (λ files. (n : ℕ) → (marks_in self.now n).listed ≡ true
             → list_any (eq_by_cmp nat_cmp n) files.items ≡ true) }
         ensures settled { IfOk result (λ files. (n : ℕ) → (marks_in self.now n).settled ≡ true

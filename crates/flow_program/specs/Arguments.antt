@@ -1,6 +1,6 @@
 -- What a command asks for, by its name and the values that were found for its arguments.
 use Rattle.std.specs.Prelude.{ℕ, ◌%◌, ◌==◌, ◌&&◌, ◌||◌, is_some, List, Option, Some, None, option_map, option_and_then}
-use Rattle.std.specs.Prelude.{codes, ◌-◌, if◌then◌else◌, length, nat_lt, Bool, true, false}
+use Rattle.std.specs.Prelude.{codes, ◌-◌, if◌then◌else◌, [], get_or, length, nat_lt, not, take, Bool, true, false}
 use Rattle.std.specs.List.{list_any}
 use Rattle.std.specs.Option.{option_map_or}
 use Rattle.std.specs.Str.{bytes_eq}
@@ -9,7 +9,7 @@ use Rattle.clap.specs.Walk.{Row, Text, all_of, first_of}
 use Rattle.flow_program.specs.declared.request.Request.{Request}
 use Rattle.flow_program.specs.declared.request.Request.TheVariants.{Measure, Dump, Inspect, InspectFiles}
 use Rattle.flow_program.specs.declared.request.Request.TheVariants.{Create, Check, CheckFiles}
-use Rattle.flow_program.specs.declared.request.Request.TheVariants.{Totals, Flows}
+use Rattle.flow_program.specs.declared.request.Request.TheVariants.{Totals, TotalsOfSeveral, Flows}
 use Rattle.flow_program.specs.declared.request.Request.TheVariants.{Feed, Shell, Roll, Merge, Explain}
 use Rattle.flow_refusals.specs.Table.{is_refusal}
 use Rattle.flow_program.specs.declared.arguments.MomentSpan.{MomentSpan}
@@ -120,10 +120,13 @@ is_later (Ago a) (Second b) = false
 abbrev pub forward : MomentSpan → Option MomentSpan
 forward span = if is_later span.from span.to then None else Some span
 
+-- the span is given by moments
+abbrev pub is_by_moments : List Row → Bool
+is_by_moments rows = is_given (codes "SINCE") rows || is_given (codes "UNTIL") rows
+
 abbrev pub span_in : List Row → Option MomentSpan
 span_in rows =
-    if is_given (codes "SINCE") rows || is_given (codes "UNTIL") rows then option_and_then forward (worded_span_in rows)
-    else numbered_span_in rows
+    if is_by_moments rows then option_and_then forward (worded_span_in rows) else numbered_span_in rows
 
 -- `--since` is later than `--until`
 abbrev pub are_swapped : List Row → Bool
@@ -141,10 +144,40 @@ abbrev pub workers_in : List Row → Option (Option ℕ)
 workers_in rows =
     option_map_or (λ word. option_map Some (number_between 1 64 word)) (first_of (codes "WORKERS") rows) (Some None)
 
+-- a span by two numbers
+abbrev pub span_of : Text → Text → Option MomentSpan
+span_of from to =
+    option_and_then (λ first. option_map (λ last. record { from = Second first; to = Second last })
+    (number_between 0 4294967296 to)) (number_between 0 4294967296 from)
+
+-- the span that the last two words are
+abbrev pub last_span_of : List Text → Option MomentSpan
+last_span_of words =
+    if nat_lt (length words) 2 then None
+    else span_of (get_or words (length words - 2) []) (get_or words (length words - 1) [])
+
+-- the span of `totals`: by moments, or by the last two of its words
+abbrev pub totals_span_in : List Row → List Text → Option MomentSpan
+totals_span_in rows words =
+    if is_by_moments rows then option_and_then forward (worded_span_in rows) else last_span_of words
+
+-- the folders of `totals`: all of its words, or those before the span
+abbrev pub folders_of : List Row → List Text → List Text
+folders_of rows words = if is_by_moments rows then words else take (length words - 2) words
+
+-- One archive alone, by so many workers; or 1 to 4,096 archives, without a word of workers: all together, or each by
+-- itself.
+abbrev pub totalled : List Text → MomentSpan → Option ℕ → Bool → Format → Option Request
+totalled folders span workers each format =
+    if length folders == 1 && not each then Some (Totals (get_or folders 0 []) span workers format)
+    else if length folders == 0 || is_some workers || nat_lt 4096 (length folders) then None
+    else Some (TotalsOfSeveral folders span each format)
+
 -- what `totals` asks for
 abbrev pub totalled_in : List Row → Option Request
-totalled_in rows = option_and_then (λ folder. option_and_then (λ span. option_and_then (λ workers.
-    option_map (Totals folder span workers) (format_in rows)) (workers_in rows)) (span_in rows)) (folder_in rows)
+totalled_in rows = option_and_then (λ words. option_and_then (λ span. option_and_then (λ workers. option_and_then
+    (totalled (folders_of rows words) span workers (is_set (codes "each") rows)) (format_in rows)) (workers_in rows))
+    (totals_span_in rows words)) (all_of (codes "DIR") rows)
 
 -- what `flows` asks for
 abbrev pub listed_in : List Row → Option Request
@@ -232,8 +265,7 @@ changing name rows =
 -- what a query's name and the values of its arguments ask for
 abbrev pub queried : Text → List Row → Option Request
 queried name rows =
-    if bytes_eq (codes "totals") name then totalled_in rows
-    else if bytes_eq (codes "flows") name then listed_in rows
+    if bytes_eq (codes "flows") name then listed_in rows
     else if bytes_eq (codes "explain") name then option_map Explain (explained_in rows)
     else changing name rows
 
@@ -242,9 +274,9 @@ abbrev pub checked_in : List Row → Option Request
 checked_in rows =
     option_map (λ folder. if is_set (codes "files") rows then CheckFiles folder else Check folder) (folder_in rows)
 
--- what the name of a command that is given no Files, and the values of its arguments, ask for
-abbrev pub without_files : Text → List Row → Option Request
-without_files name rows =
+-- what the name of a command that is given no list, and the values of its arguments, ask for
+abbrev pub without_list : Text → List Row → Option Request
+without_list name rows =
     if bytes_eq (codes "measure") name then measured_in rows
     else if bytes_eq (codes "dump") name then Some Dump
     else if bytes_eq (codes "create") name then create_in rows
@@ -256,7 +288,8 @@ abbrev pub requested : Text → List Row → Option Request
 requested name rows =
     if bytes_eq (codes "feed") name then fed_in rows
     else if bytes_eq (codes "inspect") name then inspected_in rows
-    else without_files name rows
+    else if bytes_eq (codes "totals") name then totalled_in rows
+    else without_list name rows
 
 abbrev pub request_in : Option (Text × List Row) → Option Request
 request_in command = option_and_then (λ c. requested c.0 c.1) command

@@ -73,27 +73,41 @@ inspect_shape = record (new_shape (codes "inspect")) { rules = any_number (codes
 abbrev pub check_shape : Shape
 check_shape = record (new_shape (codes "check")) { rules = folder_rule ∷ flag (codes "files") ∷ [] }
 
--- the span of starts that `totals` and `flows` ask about, by numbers
+-- the span of starts that `flows` asks about, by numbers
 abbrev pub span_shape : Text → Shape
 span_shape name = record (new_shape name) {
   rules = folder_rule ∷ optional (codes "FROM") ∷ optional (codes "TO") ∷ [];
 }
 
 -- or by moments
+abbrev pub since_rule : Rule
+since_rule = option (codes "SINCE") (codes "since")
+
+abbrev pub until_rule : Rule
+until_rule = option (codes "UNTIL") (codes "until")
+
 abbrev pub moment_rules : List Rule
-moment_rules = option (codes "SINCE") (codes "since") ∷ option (codes "UNTIL") (codes "until") ∷ []
+moment_rules = since_rule ∷ until_rule ∷ []
 
 abbrev pub moments_shape : Text → Shape
 moments_shape name = record (span_shape name) { rules = (span_shape name).rules ++ moment_rules }
 
--- `totals` and `flows`
+-- and in a format
 abbrev pub query_shape : Text → Shape
 query_shape name = record (moments_shape name) { rules = (moments_shape name).rules ++ format_rules }
 
--- `totals` also takes how many workers scan
+-- the folders that `totals` asks, and after them its span by numbers, or moments in their place
+abbrev pub folders_shape : Shape
+folders_shape = record (new_shape (codes "totals")) { rules = several (codes "DIR") ∷ moment_rules }
+
+-- in a format
+abbrev pub summed_shape : Shape
+summed_shape = record folders_shape { rules = folders_shape.rules ++ format_rules }
+
+-- and how many workers scan one archive, or whether each archive is answered by itself
 abbrev pub totals_shape : Shape
-totals_shape = record (query_shape (codes "totals")) {
-  rules = (query_shape (codes "totals")).rules ++ option (codes "WORKERS") (codes "workers") ∷ [];
+totals_shape = record summed_shape {
+  rules = summed_shape.rules ++ option (codes "WORKERS") (codes "workers") ∷ flag (codes "each") ∷ [];
 }
 
 -- `roll` and `merge`

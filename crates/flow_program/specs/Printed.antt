@@ -25,7 +25,8 @@ words_text line.Span =
     ++ codes "in their place, are as 2026-11-25, 2026-11-25T06:00, 1d, 6h or now"
 words_text line.Totals =
     codes "FROM and TO are seconds since 1970-01-01 00:00 UTC, digits alone, 0 to 4294967296; --since and --until, "
-    ++ codes "in their place, are as 2026-11-25, 2026-11-25T06:00, 1d, 6h or now; --workers is 1 to 64"
+    ++ codes "in their place, are as 2026-11-25, 2026-11-25T06:00, 1d, 6h or now; DIR is given 1 to 4096 times; "
+    ++ codes "--workers is 1 to 64, with one DIR and without --each"
 words_text line.Swapped = codes "--since is later than --until: the span ends before it begins"
 words_text line.Keep = codes "KEEP is how many of the newest files are left, digits alone, 0 to 4294967295"
 words_text line.Files =

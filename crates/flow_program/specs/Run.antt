@@ -15,6 +15,7 @@ use Rattle.flow_program.specs.declared.request.LineError.TheVariants.{Totals as 
 use Rattle.flow_program.specs.declared.request.Request.{Request}
 use Rattle.flow_program.specs.declared.request.Request.TheVariants.{Measure, Dump, Inspect, InspectFiles}
 use Rattle.flow_program.specs.declared.request.Request.TheVariants.{Create, Check, CheckFiles, Totals, Flows}
+use Rattle.flow_program.specs.declared.request.Request.TheVariants.{TotalsOfSeveral}
 use Rattle.flow_program.specs.declared.request.Request.TheVariants.{Feed, Shell, Roll as RollAsked, Merge as MergeAsked}
 use Rattle.flow_program.specs.declared.request.Request.TheVariants.{Explain}
 use Rattle.flow_commands.specs.declared.archive_refusal.ArchiveRefusal.{ArchiveRefusal}
@@ -38,6 +39,7 @@ use Rattle.flow_program.specs.declared.arguments.MomentSpan.{MomentSpan}
 use Rattle.flow_program.specs.CommandLine.{asked}
 use Rattle.flow_program.specs.Inspecting.{InspectEnds}
 use Rattle.flow_program.specs.Requested.{IsLineError}
+use Rattle.flow_program.specs.Several.{SeveralEnd}
 use Rattle.flow_report.specs.Refusals.{status_of}
 use Rattle.flow_program.specs.Printed.{kind_text, told_lines, words_text}
 use Rattle.flow_report.specs.Printed.{printed, line_of}
@@ -178,6 +180,8 @@ Runs g octets (CheckFiles folder) input left old new before after status =
     Keeps input left × AskEnds AreListings old new before after status
 Runs g octets (Totals folder span workers format) input left old new before after status =
     Keeps input left × AskEnds (AreRowsAsked format span) old new before after status
+Runs g octets (TotalsOfSeveral folders span each format) input left old new before after status =
+    Keeps input left × SeveralEnd (length folders) span each format old new before after status
 Runs g octets (Flows folder span format) input left old new before after status =
     Keeps input left × ListEnds (AreFlowsAsked format span) old new before after status
 Runs g octets (Feed folder plan files) input left old new before after status =

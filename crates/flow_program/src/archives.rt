@@ -119,7 +119,7 @@ fn second_of_now<H: Clock>(rt: &H) -> Result<u64, ArchiveRefusal>
 }
 
 /// The seconds of a span; the clock is read only where one of them depends on it.
-fn seconds_of<H: Clock>(rt: &H, span: MomentSpan) -> Result<StartSpan, ArchiveRefusal>
+pub(crate) fn seconds_of<H: Clock>(rt: &H, span: MomentSpan) -> Result<StartSpan, ArchiveRefusal>
     ensures found { IfOk result (λ seconds. (now : ℕ) × (seconds ≡ span_at now span)) }
     ensures refused { IfErr result (λ e. e ≡ refusal.Folder fault.NoClock) }
 {

@@ -1,16 +1,17 @@
 //! What the values of a command's arguments are.
 
-ghost use Rattle.std.specs.Prelude.{◌≡◌, ◌≤◌, IfOk, IfSome, codes};
+ghost use Rattle.std.specs.Prelude.{◌≡◌, ◌≤◌, IfOk, IfSome, codes, map, option_map};
 ghost use Rattle.std.specs.List.{list_any};
 ghost use Rattle.std.specs.Str.{bytes_eq};
 ghost use Rattle.clap.specs.Matches.{found_of};
-ghost use Rattle.clap.specs.Walk.{rows_of};
+ghost use Rattle.clap.specs.Walk.{all_of, rows_of};
 ghost use Rattle.flow_program.specs.Arguments.{explained_in, few_of, folder_in, limit_in, plan_in, second_in, span_in};
 ghost use Rattle.flow_program.specs.Arguments.{wide_in};
 ghost use Rattle.flow_program.specs.Arguments.{feeding_in, files_in, format_in, given_in, is_given, is_set, keep_in};
 ghost use Rattle.flow_program.specs.Arguments.{are_swapped, forward, is_later, kept_or};
 ghost use Rattle.flow_program.specs.Arguments.{layout_in, times_in};
 ghost use Rattle.flow_program.specs.Arguments.{moment_in, numbered_span_in, passed_in, worded_span_in};
+ghost use Rattle.flow_program.specs.Arguments.{folders_of, is_by_moments, last_span_of, span_of, totals_span_in};
 ghost use Rattle.flow_program.specs.Arguments.{width_in, workers_in};
 ghost use Rattle.flow_commands.specs.Plans.{IsWide};
 ghost use Rattle.flow_manifest.specs.Limits.{greatest_limit, least_limit};
@@ -65,6 +66,20 @@ impl<'a> Model for FolderName<'a> {
     ghost Value = { List ℕ };
 
     ghost view = { λ f. f.path.now };
+}
+
+/// Paths of folders.
+#[derive(Drop)]
+pub struct FolderNames<'a> {
+    pub(crate) paths: Vec<&'a str>,
+}
+
+impl<'a> Model for FolderNames<'a> {
+    ghost use Rattle.std.specs.Prelude.{ℕ, List, map};
+
+    ghost Value = { List (List ℕ) };
+
+    ghost view = { λ f. map (λ s. s.now) f.paths.items };
 }
 
 /// Paths of Files.
@@ -279,15 +294,84 @@ pub(crate) fn are_swapped(arguments: &ArgMatches<'_>) -> bool
     }
 }
 
+/// Whether a span is given by moments, among the arguments of a command that asks for one.
+fn is_by_moments(arguments: &ArgMatches<'_>) -> bool
+    ensures { result ≡ is_by_moments (rows_of (found_of arguments.now)) }
+{
+    is_given(arguments, "SINCE") || is_given(arguments, "UNTIL")
+}
+
 /// The span among the arguments of a command that asks for one: by two numbers, or by options alone.
 pub(crate) fn span_in(arguments: &ArgMatches<'_>) -> Option<MomentSpan>
     ensures { result ≡ span_in (rows_of (found_of arguments.now)) }
 {
-    if is_given(arguments, "SINCE") || is_given(arguments, "UNTIL") {
+    if is_by_moments(arguments) {
         forward(worded_span_in(arguments)?)
     } else {
         numbered_span_in(arguments)
     }
+}
+
+/// The words among the arguments of `totals`: folders, and a span by two numbers after them.
+#[tactic(auto, using(crate::proofs::Reading::all_values_are))]
+pub(crate) fn words_in<'b, 'a>(arguments: &'b ArgMatches<'a>) -> Option<&'b [&'a str]>
+    ensures { option_map (λ words. map (λ word. word.now) words.now) result
+        ≡ all_of (codes "DIR") (rows_of (found_of arguments.now)) }
+{
+    arguments.get_strs("DIR")
+}
+
+/// A span by two numbers.
+fn span_of(from: &str, to: &str) -> Option<MomentSpan>
+    ensures { result ≡ span_of from.now to.now }
+{
+    let first = number_between(0, MOST_SECOND, from.as_bytes())?;
+    let last = number_between(0, MOST_SECOND, to.as_bytes())?;
+    Some(MomentSpan {
+        from: Moment::Second(first),
+        to: Moment::Second(last),
+    })
+}
+
+/// The span that the last two words are.
+fn last_span_of(words: &[&str]) -> Option<MomentSpan>
+    ensures { result ≡ last_span_of (map (λ word. word.now) words.now) }
+{
+    let count = words.len();
+    if count < 2 {
+        return None;
+    }
+    span_of(words[count - 2], words[count - 1])
+}
+
+/// The span of `totals`: by options, or by the last two of its words.
+pub(crate) fn totals_span_in(arguments: &ArgMatches<'_>, words: &[&str]) -> Option<MomentSpan>
+    ensures { result ≡ totals_span_in (rows_of (found_of arguments.now)) (map (λ word. word.now) words.now) }
+{
+    if is_by_moments(arguments) {
+        forward(worded_span_in(arguments)?)
+    } else {
+        last_span_of(words)
+    }
+}
+
+/// The folders of `totals`: all of its words, or those before the span.
+pub(crate) fn folders_of<'a>(
+    alloc: Global,
+    arguments: &ArgMatches<'_>,
+    words: &[&'a str],
+) -> Result<FolderNames<'a>, AllocError>
+    ensures { IfOk result (λ folders. folders
+        ≡ folders_of (rows_of (found_of arguments.now)) (map (λ word. word.now) words.now)) }
+{
+    let by_moments = is_by_moments(arguments);
+    let count = if by_moments {
+        words.len()
+    } else {
+        words.len().saturating_sub(2)
+    };
+    let paths = Vec::from_slice(alloc, &words[..count])?;
+    Ok(FolderNames { paths })
 }
 
 /// Whether an option without a value is among a command's arguments.

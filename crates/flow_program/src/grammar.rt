@@ -8,7 +8,8 @@ ghost use Rattle.flow_program.specs.CommandLine.{any_number, check_shape, create
 ghost use Rattle.flow_program.specs.CommandLine.{feed_shape, flag, passing_shape};
 ghost use Rattle.flow_program.specs.CommandLine.{flowvault, folder_rule, keep_shape, measure_shape, needed, option};
 ghost use Rattle.flow_program.specs.CommandLine.{moments_shape, optional, program, several, sized_shape, span_shape};
-ghost use Rattle.flow_program.specs.CommandLine.{totals_shape, width_rule};
+ghost use Rattle.flow_program.specs.CommandLine.{since_rule, until_rule};
+ghost use Rattle.flow_program.specs.CommandLine.{folders_shape, summed_shape, totals_shape, width_rule};
 ghost use Rattle.flow_program.specs.CommandLine.{with_archives, with_feeding, with_queries, with_rolling, with_streams};
 ghost use Rattle.flow_program.specs.CommandLine.{format_rules, inspect_shape, kept_shape, query_shape, shell_shape};
 
@@ -103,19 +104,27 @@ const CHECK_HELP: &str =
 
 /// What `totals` does, in a line or two.
 const TOTALS_ABOUT: &str =
-    "Sums the flows in the archive of a folder, by interval, Observation\nDomain and protocol";
+    "Sums the flows in the archives of folders, by interval, Observation\nDomain and protocol";
 
 /// What help has below the arguments of `totals`.
 const TOTALS_HELP: &str =
-    "Each line: START DOMAIN PROTOCOL FLOWS OCTETS PACKETS, as of measure, for the\n\
+    "The last two words are FROM and TO, in seconds since 1970-01-01 00:00 UTC, up to\n\
+     4294967296. --since and --until, in their place, take a day or a minute of UTC,\n\
+     days or hours before now, or now; then all words are DIRs.\n\
+     Each line: START DOMAIN PROTOCOL FLOWS OCTETS PACKETS, as of measure, for the\n\
      intervals that start from FROM on and before TO. Sums over wide intervals have\n\
      the interval's width in seconds as a seventh number. The lines don't depend on\n\
-     --workers. --since and --until, in place of FROM and TO, take a day or a minute\n\
-     of UTC, days or hours before now, or now. A damaged archive is reported as of\n\
-     check: status 5.\n\
+     --workers.\n\
+     Of several DIRs, up to 4096, the lines are the sums of all archives. These have\n\
+     one WIDTH and one --wide: the first that has others is refused, 51 Widths, and\n\
+     only --each asks them. With --each the lines are those of each archive, after\n\
+     its number, which counts DIRs from 1; archive is the first name of CSV and JSON.\n\
+     The first archive that can't be asked is named: archive N.\n\
+     A damaged archive is reported as of check: status 5.\n\
      \n\
      Examples: flowvault totals flows 0 4294967296\n\
-     \x20         flowvault totals flows --since 2026-11-01 --until 2026-12-01";
+     \x20         flowvault totals flows --since 2026-11-01 --until 2026-12-01\n\
+     \x20         flowvault totals north south --since 2026-11-01 --each --csv";
 
 /// What `flows` does, in a line or two.
 const FLOWS_ABOUT: &str = "Writes the flows in the archive of a folder that aren't rolled";
@@ -212,6 +221,12 @@ const EXPLAIN_HELP: &str =
      number that no refusal has is a wrong command line: status 2.\n\
      \n\
      Example: flowvault explain 16";
+
+/// Which words `totals` takes.
+const FOLDERS: &str = "Folders of archives; then FROM and TO, where no moment is given";
+
+/// What `--each` asks for.
+const EACH: &str = "Lines of each archive, with its number first";
 
 /// What `--csv` asks for.
 const CSV: &str = "As CSV: a line of names first";
@@ -323,6 +338,22 @@ fn folder_argument<'a>(alloc: Global) -> Arg<'a>
     ensures own { result.global ≡ false }
 {
     needed(alloc, "DIR", "Folder of the archive")
+}
+
+/// The moment from which a span is asked about.
+fn since_argument<'a>(alloc: Global) -> Arg<'a>
+    ensures rule { rule_of result ≡ since_rule }
+    ensures own { result.global ≡ false }
+{
+    option(alloc, "SINCE", "since", SINCE)
+}
+
+/// The moment before which it is.
+fn until_argument<'a>(alloc: Global) -> Arg<'a>
+    ensures rule { rule_of result ≡ until_rule }
+    ensures own { result.global ≡ false }
+{
+    option(alloc, "UNTIL", "until", UNTIL)
 }
 
 /// A command that takes the words of a format too.
@@ -447,8 +478,8 @@ fn moments_command<'a>(
     ensures own { IfOk result (λ command. (fields_of command).has_globals ≡ false) }
 {
     span_command(alloc, name, about, help)?
-        .arg(option(alloc, "SINCE", "since", SINCE))?
-        .arg(option(alloc, "UNTIL", "until", UNTIL))
+        .arg(since_argument(alloc))?
+        .arg(until_argument(alloc))
 }
 
 /// The same, and takes a format.
@@ -464,17 +495,40 @@ fn query_command<'a>(
     in_formats(alloc, moments_command(alloc, name, about, help)?)
 }
 
+/// The command `totals` with its folders and its span.
+fn folders_command<'a>(alloc: Global) -> Result<Command<'a>, AllocError>
+    ensures shape { IfOk result (λ command. shape_of command ≡ folders_shape) }
+    ensures own { IfOk result (λ command. (fields_of command).has_globals ≡ false) }
+{
+    Command::new(alloc, "totals")
+        .about(TOTALS_ABOUT)
+        .after_help(TOTALS_HELP)
+        .arg(several(alloc, "DIR", FOLDERS))?
+        .arg(since_argument(alloc))?
+        .arg(until_argument(alloc))
+}
+
+/// The same, and takes a format.
+fn summed_command<'a>(alloc: Global) -> Result<Command<'a>, AllocError>
+    ensures shape { IfOk result (λ command. shape_of command ≡ summed_shape) }
+    ensures own { IfOk result (λ command. (fields_of command).has_globals ≡ false) }
+{
+    in_formats(alloc, folders_command(alloc)?)
+}
+
 /// The command `totals`, with its help.
 fn totals_command<'a>(alloc: Global) -> Result<Command<'a>, AllocError>
     ensures shape { IfOk result (λ command. shape_of command ≡ totals_shape) }
     ensures own { IfOk result (λ command. (fields_of command).has_globals ≡ false) }
 {
-    query_command(alloc, "totals", TOTALS_ABOUT, TOTALS_HELP)?.arg(option(
-        alloc,
-        "WORKERS",
-        "workers",
-        "Threads that scan: 1 to 64 [as many as processors]",
-    ))
+    summed_command(alloc)?
+        .arg(option(
+            alloc,
+            "WORKERS",
+            "workers",
+            "Threads that scan: 1 to 64 [as many as processors]",
+        ))?
+        .arg(flag(alloc, "each", EACH))
 }
 
 /// The command `feed` but for its last arguments.

@@ -13,6 +13,7 @@ mod inspecting;
 mod refusing;
 mod request;
 mod run;
+mod several;
 mod telling;
 
 pub use run::run_line;

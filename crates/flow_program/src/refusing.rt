@@ -34,10 +34,11 @@ const WRONG_SPAN: &str =
     "flowvault: FROM and TO are seconds since 1970-01-01 00:00 UTC, digits alone, 0 to 4294967296; --since and \
      --until, in their place, are as 2026-11-25, 2026-11-25T06:00, 1d, 6h or now\n";
 
-/// The line for seconds that no span has, or of a number of workers that no scan has.
+/// The line for seconds that no span has, or of a number of folders or workers that no scan has.
 const WRONG_TOTALS: &str =
     "flowvault: FROM and TO are seconds since 1970-01-01 00:00 UTC, digits alone, 0 to 4294967296; --since and \
-     --until, in their place, are as 2026-11-25, 2026-11-25T06:00, 1d, 6h or now; --workers is 1 to 64\n";
+     --until, in their place, are as 2026-11-25, 2026-11-25T06:00, 1d, 6h or now; DIR is given 1 to 4096 times; \
+     --workers is 1 to 64, with one DIR and without --each\n";
 
 /// The line for a number of files that can't be left.
 const WRONG_KEEP: &str =

@@ -6,7 +6,7 @@ ghost use Rattle.clap.specs.Matches.{found_of};
 ghost use Rattle.clap.specs.Walk.{rows_of};
 ghost use Rattle.clap.specs.Simple.{subcommand_rows_of};
 ghost use Rattle.flow_program.specs.Arguments.{changing, checked_in, create_in, fed_alone, fed_in, inspected_in};
-ghost use Rattle.flow_program.specs.Arguments.{queried, request_in, requested, without_files};
+ghost use Rattle.flow_program.specs.Arguments.{queried, request_in, requested, totalled, totalled_in, without_list};
 ghost use Rattle.flow_program.specs.CommandLine.{asked};
 ghost use Rattle.flow_program.specs.Requested.{formatted_values, wrong_values, wrong_values_in, wrong_values_of};
 ghost use Rattle.flow_program.specs.Requested.{IsLineError};
@@ -14,9 +14,9 @@ ghost use Rattle.clap.specs.declared.error.kind.ErrorKind.TheVariants as ErrorKi
 ghost use Rattle.flow_program.specs.declared.request.LineError.TheVariants as LineError;
 
 use crate::arguments::{
-    FileNames, FolderName, MomentSpan, are_swapped, explained_in, feeding_in, files_in, folder_in,
-    format_in, given_in, is_set, keep_in, kept_in_shell, passes, plan_in, span_in, width_in,
-    workers_in,
+    FileNames, FolderName, FolderNames, MomentSpan, are_swapped, explained_in, feeding_in,
+    files_in, folder_in, folders_of, format_in, given_in, is_set, keep_in, kept_in_shell, passes,
+    plan_in, span_in, totals_span_in, width_in, words_in, workers_in,
 };
 use crate::explaining::Explanation;
 use crate::grammar::command_line;
@@ -26,6 +26,9 @@ use flow_commands::{FeedPlan, NewArchive, Workers};
 use flow_report::{Format, Width};
 use std::alloc::{AllocError, Global};
 use std::convert::AsStr;
+
+/// The most archives whose totals are asked for at once.
+const MOST_FOLDERS: usize = 4_096;
 
 /// A command with its arguments.
 #[derive(Drop)]
@@ -67,6 +70,13 @@ pub enum Request<'a> {
         span: MomentSpan,
         /// How many workers scan it; as many as there are processors where nothing is said.
         workers: Option<Workers>,
+        format: Format,
+    },
+    /// Totals lines of the archives of folders: of all together, or of each, with its number.
+    TotalsOfSeveral {
+        folders: FolderNames<'a>,
+        span: MomentSpan,
+        each: bool,
         format: Format,
     },
     /// Lines of the flows in the archive of a folder that aren't rolled.
@@ -113,7 +123,8 @@ pub enum LineError {
     Plan,
     /// The span of `flows` isn't two numbers, digits alone and at most 2^32, nor by moments in their place.
     Span,
-    /// The same of the span of `totals`, or how many workers scan isn't digits alone, from 1 to 64.
+    /// The same of the span of `totals`, or how many workers scan isn't digits alone, from 1 to 64, or is said of several
+    /// archives or with `--each`; or there is no folder, or there are more than 4,096.
     Totals,
     /// The span ends before it begins: `--since` is later than `--until`.
     Swapped,
@@ -187,12 +198,6 @@ fn queried<'a>(name: &str, arguments: &ArgMatches<'a>) -> Option<Request<'a>>
     ensures { result ≡ queried name.now (rows_of (found_of arguments.now)) }
 {
     match name {
-        "totals" => Some(Request::Totals {
-            folder: folder_in(arguments)?,
-            span: span_in(arguments)?,
-            workers: workers_in(arguments)?,
-            format: format_in(arguments)?,
-        }),
         "flows" => Some(Request::Flows {
             folder: folder_in(arguments)?,
             span: span_in(arguments)?,
@@ -205,9 +210,9 @@ fn queried<'a>(name: &str, arguments: &ArgMatches<'a>) -> Option<Request<'a>>
     }
 }
 
-/// What a command that is given no Files asks for, by its name and its arguments.
-fn without_files<'a>(name: &str, arguments: &ArgMatches<'a>) -> Option<Request<'a>>
-    ensures { result ≡ without_files name.now (rows_of (found_of arguments.now)) }
+/// What a command that is given no list asks for, by its name and its arguments.
+fn without_list<'a>(name: &str, arguments: &ArgMatches<'a>) -> Option<Request<'a>>
+    ensures { result ≡ without_list name.now (rows_of (found_of arguments.now)) }
 {
     match name {
         "measure" => Some(Request::Measure {
@@ -268,6 +273,64 @@ fn inspected_in<'a>(
     }
 }
 
+/// The totals of one archive alone, by so many workers; or of 1 to 4,096, without a word of workers: of all together, or
+/// of each by itself.
+fn totalled<'a>(
+    folders: FolderNames<'a>,
+    span: MomentSpan,
+    workers: Option<Workers>,
+    each: bool,
+    format: Format,
+) -> Option<Request<'a>>
+    ensures { result ≡ totalled folders.entry span workers each format }
+{
+    let count = folders.paths.len();
+    if count == 1 && !each {
+        let folder = FolderName {
+            path: folders.paths[0],
+        };
+        return Some(Request::Totals {
+            folder,
+            span,
+            workers,
+            format,
+        });
+    }
+    if count == 0 || workers.is_some() || MOST_FOLDERS < count {
+        return None;
+    }
+    Some(Request::TotalsOfSeveral {
+        folders,
+        span,
+        each,
+        format,
+    })
+}
+
+/// What `totals` asks for.
+fn totalled_in<'a>(
+    alloc: Global,
+    arguments: &ArgMatches<'a>,
+) -> Result<Option<Request<'a>>, AllocError>
+    ensures { IfOk result (λ request. request ≡ totalled_in (rows_of (found_of arguments.now))) }
+{
+    let Some(words) = words_in(arguments) else {
+        return Ok(None);
+    };
+    let folders = folders_of(alloc, arguments, words)?;
+    let each = is_set(arguments, "each");
+    match (
+        totals_span_in(arguments, words),
+        workers_in(arguments),
+        format_in(arguments),
+    ) {
+        (Some(span), Some(workers), Some(format)) => {
+            Ok(totalled(folders, span, workers, each, format))
+        }
+        _ => Ok(None),
+    }
+}
+
 /// What a command asks for, by its name and its arguments.
 fn requested<'a>(
     alloc: Global,
@@ -279,7 +342,8 @@ fn requested<'a>(
     match name {
         "feed" => fed_in(alloc, arguments),
         "inspect" => inspected_in(alloc, arguments),
-        _ => Ok(without_files(name, arguments)),
+        "totals" => totalled_in(alloc, arguments),
+        _ => Ok(without_list(name, arguments)),
     }
 }
 

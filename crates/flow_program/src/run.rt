@@ -11,6 +11,7 @@ use crate::explaining::Explanation;
 use crate::inspecting::run_inspect_files;
 use crate::refusing::refuse;
 use crate::request::{Request, parse};
+use crate::several::run_several;
 use crate::telling::{DONE, tell, write_octets};
 use flow_commands::{Progress, tell_fault, warn_of_input};
 use flow_disk::Disk;
@@ -18,6 +19,7 @@ use flow_folder::{FolderDisk, Lockable};
 use flow_inspect::inspect;
 use flow_manifest::JobKind;
 use flow_report::{Format, Width, dump, measure};
+use flow_several_folders::FolderViews;
 use std::alloc::{AllocGlobal, Global};
 use std::convert::AsStr;
 use std::fs::Files;
@@ -162,6 +164,21 @@ where
             first_fault,
             span,
             workers,
+            format,
+            output,
+            errors,
+        ),
+        Request::TotalsOfSeveral {
+            folders,
+            span,
+            each,
+            format,
+        } => run_several(
+            rt,
+            &FolderViews::new(rt, first_fault),
+            &folders,
+            span,
+            each,
             format,
             output,
             errors,

@@ -1,4 +1,3 @@
-use Rattle.std.proofs.Common.{ℕ}
 use Rattle.flow_folder_disk.proofs.Listed.{inserted_more}
 use Rattle.flow_folder_disk.proofs.reporting.numbers_of.Goals as goal
 

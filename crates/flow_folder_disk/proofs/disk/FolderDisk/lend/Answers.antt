@@ -6,11 +6,8 @@ use Rattle.std.specs.Prelude.{is_some}
 use Rattle.std.specs.BTreeMap.{BTreeMap}
 use Rattle.flow_pending.specs.declared.pending.Pending.{Pending}
 use Rattle.flow_disk.specs.Disk.{Marks}
-use Rattle.std.proofs.Common.{◌≢◌, Bool, true, false, List, length}
-use Rattle.flow_disk.specs.Disk.{Held}
-use Rattle.flow_directory.specs.File.{held_of}
+use Rattle.std.proofs.Common.{Bool, true, false, List, length}
 use Rattle.flow_folder_disk.specs.declared.reported.Table.{Table}
-use Rattle.flow_folder_disk.specs.Table.{marks_of}
 use Rattle.flow_folder_disk.proofs.Leaving.{honest_then, seen_then}
 use Rattle.flow_folder_disk.proofs.Reports.{passes_then}
 use Rattle.flow_folder_disk.proofs.Kept.{settled_with, frozen_with, frozen_kept, unchanged_reported, settled_reported}

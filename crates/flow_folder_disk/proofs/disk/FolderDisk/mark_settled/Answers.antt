@@ -41,7 +41,7 @@ returns-in-Ok-clause-all g c h = keeps_one g.S.Directory.files g.S.Directory.mom
 
 pub returns-in-Ok-clause-still : goal.returns-in-Ok-clause-still
 returns-in-Ok-clause-still g c h = marked_still (g.S.Directory.files c.args.self.now.folder.system)
-    (g.S.Directory.files c.mark.new.self.system) c.args.file (c.in-Ok.ensures.marked h) (c.mark.ensures.leaves h).others
+    (g.S.Directory.files c.mark.new.self.system) c.args.file (c.mark.ensures.still h) (c.mark.ensures.leaves h).others
 
 pub returns-in-Err-clause-all : goal.returns-in-Err-clause-all
 returns-in-Err-clause-all g c h =
@@ -49,3 +49,9 @@ returns-in-Err-clause-all g c h =
     rw same (keeps_one g.S.Directory.files g.S.Directory.moment g.S.Directory.left_since
     c.args.self.now.folder.system c.mark.new.self.system c.args.file (c.mark.ensures.reached h)
     (c.mark.ensures.leaves h))
+
+pub returns-in-Err-clause-still : goal.returns-in-Err-clause-still
+returns-in-Err-clause-still g c h =
+    let same : c.fault.new.self.folder.system ≡ c.mark.new.self.system = c.fault.ensures.system in
+    rw same (marked_still (g.S.Directory.files c.args.self.now.folder.system)
+    (g.S.Directory.files c.mark.new.self.system) c.args.file (c.mark.ensures.still h) (c.mark.ensures.leaves h).others)

@@ -1,11 +1,10 @@
-use Rattle.std.proofs.Common.{◌≡◌, ℕ, IsTrue, sym, ◌∙◌, refl, ap, subst}
+use Rattle.std.proofs.Common.{ℕ, IsTrue, sym, ◌∙◌, ap}
 use Rattle.std.specs.Ordering.{nat_cmp}
 use Rattle.std.specs.BTreeMap.{get}
 use Rattle.flow_folder_disk.specs.Table.{marks_in}
 use Rattle.std.specs.Prelude.{is_some}
 use Rattle.std.specs.BTreeMap.{BTreeMap}
 use Rattle.flow_pending.specs.declared.pending.Pending.{Pending}
-use Rattle.flow_disk.specs.Disk.{Marks}
 use Rattle.flow_folder_disk.proofs.Leaving.{seen_same}
 use Rattle.flow_folder_disk.proofs.Kept.{settled_stays, frozen_stays}
 use Rattle.flow_folder_disk.proofs.disk.FolderDisk.named.Goals as goal

@@ -1,8 +1,7 @@
-use Rattle.std.proofs.Common.{◌≡◌, ℕ, Bool, true, false, IsTrue, refl, sym, ◌∙◌, ap, subst}
+use Rattle.std.proofs.Common.{Bool, true, IsTrue, refl, sym, ◌∙◌, ap}
 use Rattle.flow_disk.specs.Disk.{Held, Marks, settled_at}
-use Rattle.flow_directory.specs.File.{held_of}
 use Rattle.flow_folder_disk.specs.declared.reported.Table.{Table}
-use Rattle.flow_folder_disk.specs.Table.{marks_of, marks_in}
+use Rattle.flow_folder_disk.specs.Table.{marks_in}
 use Rattle.flow_folder_disk.proofs.Leaving.{honest_then}
 use Rattle.flow_folder_disk.proofs.Reports.{settled_within, makes_failed, makes_done, leaves_between, marked_not}
 use Rattle.flow_folder_disk.proofs.Reports.{marked_at_once}

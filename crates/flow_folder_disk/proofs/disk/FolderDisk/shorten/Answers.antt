@@ -1,14 +1,13 @@
-use Rattle.std.proofs.Common.{◌≡◌, ℕ, ◌+◌, ◌≤◌, max, Bool, true, false, IsTrue, List, [], length, take, refl, sym, ◌∙◌}
-use Rattle.std.proofs.Common.{ap, subst, rules}
-use Rattle.flow_disk.specs.Disk.{Held, Marks, settled_at, touched_at, loosened_at, given_up, put_at}
-use Rattle.flow_disk.specs.Files.{while_writing, while_cutting, while_removing}
-use Rattle.flow_directory.specs.File.{held_of}
+use Rattle.std.proofs.Common.{◌≡◌, ◌≤◌, true, false, IsTrue, length, take, refl, sym, ◌∙◌}
+use Rattle.std.proofs.Common.{ap, subst}
+use Rattle.flow_disk.specs.Disk.{Held, Marks, loosened_at}
+use Rattle.flow_disk.specs.Files.{while_cutting}
 use Rattle.flow_folder_disk.specs.declared.reported.Table.{Table}
 use Rattle.flow_folder_disk.specs.Known.{IsSettled}
-use Rattle.flow_folder_disk.specs.Table.{marks_of, marks_in}
-use Rattle.flow_folder_disk.proofs.Leaving.{honest_then, touched_more, loosened_more, given_all}
+use Rattle.flow_folder_disk.specs.Table.{marks_in}
+use Rattle.flow_folder_disk.proofs.Leaving.{honest_then, loosened_more}
 use Rattle.flow_folder_disk.proofs.Removing.{on_any}
-use Rattle.flow_folder_disk.proofs.Reports.{not_ok, touched_within, loosened_within, settled_within, sized_max}
+use Rattle.flow_folder_disk.proofs.Reports.{not_ok, loosened_within}
 use Rattle.flow_folder_disk.proofs.Reports.{leaves_stay, makes_none, makes_failed}
 use Rattle.flow_folder_disk.proofs.Reports.{makes_done, leaves_between, covers_between, marked_not, marked_doubted}
 use Rattle.flow_folder_disk.proofs.Reports.{marked_done}

@@ -1,4 +1,4 @@
-use Rattle.std.proofs.Common.{◌≡◌, ℕ, IsTrue, sym, ◌∙◌, refl, ap, subst}
+use Rattle.std.proofs.Common.{◌≡◌, IsTrue, sym, ◌∙◌}
 use Rattle.std.specs.Ordering.{nat_cmp}
 use Rattle.std.specs.BTreeMap.{get}
 use Rattle.flow_folder_disk.specs.Table.{marks_in}

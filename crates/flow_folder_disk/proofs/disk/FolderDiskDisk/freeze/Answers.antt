@@ -1,16 +1,14 @@
-use Rattle.std.proofs.Common.{◌≡◌, ◌≢◌, ℕ, ◌+◌, ◌≤◌, ◌^◌, max, Bool, true, false, ◌||◌, IsTrue, List, [], length, take}
-use Rattle.std.proofs.Common.{refl, sym, ◌∙◌, ap, subst}
-use Rattle.flow_disk.specs.Disk.{Held, Marks}
-use Rattle.flow_disk.specs.Files.{while_writing, while_cutting, while_removing, frozen_as}
-use Rattle.flow_directory.specs.File.{File, held_of}
-use Rattle.flow_folder_disk.specs.Table.{marks_in, marks_by, limited}
-use Rattle.flow_folder_disk.specs.Marking.{size_of, limit_of, settled_of}
+use Rattle.std.proofs.Common.{◌≡◌}
+use Rattle.std.proofs.Common.{sym, ◌∙◌, ap}
+use Rattle.flow_disk.specs.Disk.{Held}
+use Rattle.flow_disk.specs.Files.{frozen_as}
+use Rattle.flow_directory.specs.File.{held_of}
+use Rattle.flow_folder_disk.specs.Table.{marks_in}
+use Rattle.flow_folder_disk.specs.Marking.{settled_of}
 use Rattle.flow_folder_disk.proofs.Removing.{on_ok}
-use Rattle.flow_folder_disk.proofs.Marks.{frozen_of, marked_by, later_by, elapses_by, covers_by, marks_by_same}
-use Rattle.flow_folder_disk.proofs.Marks.{changes_by, written_marks, cut_marks, synced_marks, removed_marks}
-use Rattle.flow_folder_disk.proofs.Marks.{le_then}
-use Rattle.flow_folder_disk.proofs.Marks.{measured, measured_others, sized_by, frozen_marks, sealed_by, on_err}
-use Rattle.flow_folder_disk.proofs.Marks.{listed_by, listed_in}
+use Rattle.flow_folder_disk.proofs.Marks.{frozen_of, later_by, elapses_by, marks_by_same}
+use Rattle.flow_folder_disk.proofs.Marks.{changes_by}
+use Rattle.flow_folder_disk.proofs.Marks.{frozen_marks, sealed_by, on_err}
 use Rattle.flow_folder_disk.proofs.disk.FolderDiskDisk.freeze.Goals as goal
 
 pub lend-requires-clause-settled : goal.lend-requires-clause-settled

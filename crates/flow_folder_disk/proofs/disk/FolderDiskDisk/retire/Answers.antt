@@ -1,14 +1,12 @@
-use Rattle.std.proofs.Common.{◌≡◌, ◌≢◌, ℕ, ◌+◌, ◌≤◌, ◌^◌, max, Bool, true, false, ◌||◌, IsTrue, List, [], length, take}
-use Rattle.std.proofs.Common.{refl, sym, ◌∙◌, ap, subst}
-use Rattle.flow_disk.specs.Disk.{Held, Marks}
-use Rattle.flow_disk.specs.Files.{while_writing, while_cutting, while_removing, frozen_as}
-use Rattle.flow_directory.specs.File.{File, held_of}
-use Rattle.flow_folder_disk.specs.Table.{marks_in, marks_by, limited}
-use Rattle.flow_folder_disk.specs.Marking.{size_of, limit_of, settled_of}
+use Rattle.std.proofs.Common.{true, false}
+use Rattle.std.proofs.Common.{ap}
+use Rattle.flow_disk.specs.Disk.{Held}
+use Rattle.flow_disk.specs.Files.{while_removing}
+use Rattle.flow_directory.specs.File.{held_of}
+use Rattle.flow_folder_disk.specs.Table.{marks_in, marks_by}
 use Rattle.flow_folder_disk.proofs.Removing.{on_ok}
-use Rattle.flow_folder_disk.proofs.Marks.{frozen_of, marked_by, later_by, elapses_by, covers_by, marks_by_same}
-use Rattle.flow_folder_disk.proofs.Marks.{changes_by, written_marks, cut_marks, synced_marks, removed_marks}
-use Rattle.flow_folder_disk.proofs.Marks.{le_then}
+use Rattle.flow_folder_disk.proofs.Marks.{frozen_of, marked_by, later_by, elapses_by, covers_by}
+use Rattle.flow_folder_disk.proofs.Marks.{removed_marks}
 use Rattle.flow_folder_disk.proofs.disk.FolderDiskDisk.retire.Goals as goal
 
 pub returns-clause-honest : goal.returns-clause-honest

@@ -1,4 +1,4 @@
-use Rattle.std.proofs.Common.{ℕ, Bool, ◌||◌, ◌∙◌, sym, ap}
+use Rattle.std.proofs.Common.{Bool, ◌||◌, ◌∙◌, sym, ap}
 use Rattle.std.specs.Ordering.{nat_cmp}
 use Rattle.std.specs.BTreeSet.{contains}
 use Rattle.flow_disk.specs.Disk.{Marks}

@@ -1,4 +1,3 @@
-use Rattle.std.proofs.Common.{ℕ}
 use Rattle.flow_folder_disk.specs.Table.{marks_in}
 use Rattle.flow_folder_disk.proofs.Listed.{added_more}
 use Rattle.flow_folder_disk.proofs.reported.Table.add_all.Goals as goal

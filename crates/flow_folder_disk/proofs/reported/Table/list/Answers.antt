@@ -1,4 +1,4 @@
-use Rattle.std.proofs.Common.{◌≡◌, ℕ, List, true, sym, subst, rules}
+use Rattle.std.proofs.Common.{◌≡◌, ℕ, List, true, subst, rules}
 use Rattle.std.specs.Ordering.{nat_cmp, eq_by_cmp}
 use Rattle.std.specs.List.{list_any}
 use Rattle.flow_folder_disk.specs.Table.{marks_in}

@@ -1,0 +1,46 @@
+-- What is reported of several archives.
+use Rattle.std.proofs.Common.{◌≡◌, ◌∙◌, ◌⊎◌, inr, ℕ, List, Option, ap, sym, subst}
+use Rattle.std.proofs.KnownBytes.{Keeps-refl}
+use Rattle.flow_report.specs.Writing.{AppendsFront}
+use Rattle.flow_program.specs.Printed.{told_lines}
+use Rattle.flow_commands.specs.Archives.{archive_printed, archive_status, of_folder}
+use Rattle.flow_several.specs.Refusals.{several_status, several_text}
+use Rattle.flow_commands.specs.declared.archive_refusal.ArchiveRefusal.{ArchiveRefusal}
+use Rattle.flow_folder.specs.declared.system.FolderError.{FolderError}
+use Rattle.flow_report.specs.declared.format.Format.{Format}
+use Rattle.flow_several.specs.declared.refusal.SeveralRefusal.{SeveralRefusal}
+use Rattle.flow_several_folders.specs.declared.asking.Question.{Question}
+use Rattle.flow_several_folders.specs.declared.refusal.FoldersRefusal.{FoldersRefusal}
+use Rattle.flow_several_folders.specs.declared.refusal.FoldersRefusal.TheVariants.{Folder, Several}
+use Rattle.flow_program.specs.declared.arguments.MomentSpan.{MomentSpan}
+use Rattle.flow_program.specs.Several.{no_clock, numbered, text_reported, AreFoldersReported, QuestionEnds}
+
+module _ (before after : Option (List ℕ)) (status : ℕ) (r : FoldersRefusal) where
+  pub folder_reported : (number : ℕ) (e : FolderError) (a : ArchiveRefusal) → r ≡ Folder number e → a ≡ of_folder e
+      → status ≡ archive_status a
+      → AppendsFront before after (told_lines (text_reported status (numbered (archive_printed a) number)))
+      → AreFoldersReported r before after
+  folder_reported number e a is made by reported =
+      let text_of = λ (s : ℕ) (a : ArchiveRefusal). told_lines (text_reported s (numbered (archive_printed a) number)) in
+      subst (λ (r : FoldersRefusal). AreFoldersReported r before after) (sym is)
+      (subst (λ (a : ArchiveRefusal). AppendsFront before after (text_of (archive_status a) a)) made
+      (subst (λ (s : ℕ). AppendsFront before after (text_of s a)) by reported))
+
+  pub several_reported : (e : SeveralRefusal) → r ≡ Several e → status ≡ several_status e
+      → AppendsFront before after (told_lines (text_reported status (several_text e)))
+      → AreFoldersReported r before after
+  several_reported e is by reported =
+      subst (λ (r : FoldersRefusal). AreFoldersReported r before after) (sym is)
+      (subst (λ (s : ℕ). AppendsFront before after (told_lines (text_reported s (several_text e)))) by reported)
+
+-- no time is known, and nothing is written
+pub without_clock : (answered : Question → Type 0) (refused : Question → FoldersRefusal → Type 0) (span : MomentSpan)
+    (each : _) (format : Format) (output before after : Option (List ℕ)) (status : ℕ) (e : ArchiveRefusal)
+    → e ≡ no_clock → status ≡ archive_status e → AppendsFront before after (told_lines (archive_printed e))
+    → QuestionEnds answered refused span each format output output before after status
+without_clock answered refused span each format output before after status e is by reported =
+    inr (inr (
+      by ∙ ap archive_status is,
+      subst (λ (e : ArchiveRefusal). AppendsFront before after (told_lines (archive_printed e))) is reported,
+      Keeps-refl output,
+    ))

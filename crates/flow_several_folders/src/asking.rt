@@ -1,0 +1,85 @@
+//! The totals of archives in folders.
+
+ghost use Rattle.std.specs.Prelude.{◌≡◌, ℕ, false, length, map, IsTrue, IfErr, OnOk};
+ghost use Rattle.std.specs.List.{All};
+ghost use Rattle.flow_several.specs.Several.{readings, HasReadCause};
+ghost use Rattle.flow_several_folders.specs.Folders.{AnswersFolders, AreFoldersRefused, HasFoldersCause, KeepsOrRows};
+ghost use Rattle.flow_several_folders.specs.Questions.{Answers, AnswersRows, AnswersSomeRows, IsUnanswered};
+
+use crate::opener::Opener;
+use crate::opening::open_all;
+use crate::refusal::FoldersRefusal;
+use flow_disk::{Disk, Faults};
+use flow_report::Format;
+use flow_several::{SeveralRefusal, totals_of, totals_of_each};
+use std::alloc::Global;
+use std::io::Write;
+
+/// What is asked of several archives: the totals of the intervals that start from `from` on and before `to`.
+#[derive(Clone, Copy)]
+pub struct Question {
+    pub from: u64,
+    pub to: u64,
+    /// Those of each archive, with its number first, and not those of all together.
+    pub each: bool,
+    pub format: Format,
+}
+
+/// Writes the answer of the archives on these disks, of which nothing is frozen.
+fn answer<D: Disk, W: Write>(
+    alloc: Global,
+    disks: Vec<D>,
+    question: &Question,
+    output: &mut W,
+    faults: &mut Faults<D::Sealed>,
+) -> Result<(), SeveralRefusal>
+    requires { All (λ d. (n : ℕ) → (D.marks d n).frozen ≡ false) disks.items }
+    ensures answered { All (λ d. IsTrue (D.honest d)) disks.items → OnOk result
+        (Answers question.now (readings D.Disk disks.items) (W.contents output.old) (W.contents output.new)) }
+    ensures refused { All (λ d. IsTrue (D.honest d)) disks.items → IfErr result
+        (IsUnanswered question.now (readings D.Disk disks.items) (W.contents output.old) (W.contents output.new)) }
+    ensures written { OnOk result
+        (AnswersRows question.now (length disks.items) (W.contents output.old) (W.contents output.new)) }
+    ensures kept { IfErr result (AnswersSomeRows question.now (W.contents output.old) (W.contents output.new)) }
+    ensures cause { HasReadCause faults.old faults.new result }
+{
+    let Question {
+        from,
+        to,
+        each,
+        format,
+    } = *question;
+    if each {
+        totals_of_each(alloc, disks, from, to, format, output, faults)
+    } else {
+        totals_of(alloc, disks, from, to, format, output, faults)
+    }
+}
+
+/// Opens folders, and then asks their archives, one after the other, in the order of the folders. A folder that can't
+/// be opened is named, the first by its number, and then nothing is asked.
+pub fn totals_of_folders<'a, D: Disk, O: Opener<'a, D>, W: Write>(
+    alloc: Global,
+    opener: &O,
+    folders: &[&'a str],
+    question: &Question,
+    output: &mut W,
+    faults: &mut Faults<D::Sealed>,
+) -> Result<(), FoldersRefusal>
+    // The disk at each place is that of the folder there; where all are honest the lines are those of what was read.
+    ensures answered { OnOk result (AnswersFolders D.Disk O.opens question.now
+        (map (λ folder. folder.now) folders.now) (W.contents output.old) (W.contents output.new)) }
+    ensures refused { IfErr result (AreFoldersRefused D.Disk O.opens O.refuses question.now
+        (map (λ folder. folder.now) folders.now) (W.contents output.old) (W.contents output.new)) }
+    // And whatever the disks:
+    ensures written { OnOk result
+        (AnswersRows question.now (length folders.now) (W.contents output.old) (W.contents output.new)) }
+    ensures kept { IfErr result
+        (KeepsOrRows question.now (length folders.now) (W.contents output.old) (W.contents output.new)) }
+    // It is a fault of asking exactly where a read of an archive's file failed.
+    ensures cause { HasFoldersCause faults.old faults.new result }
+{
+    let disks = open_all(alloc, opener, folders)?;
+    answer(alloc, disks, question, output, faults)?;
+    Ok(())
+}
