@@ -19,9 +19,9 @@ after_one zero octets = refl
 after_one (suc n) octets = after_one n (drop_through 10 octets)
 
 -- Lines were answered, where it's known what the input has, and as many of it are left.
-pub record Serving (said : ℕ → Fed → Type 0) (answered : List Change → Query → Option (List ℕ) → Option (List ℕ) → Type 0)
-    (first left : Option (List ℕ)) (is_first is_read : Bool) (count : ℕ) (seen shown : List Change)
-    (old new : Option (List ℕ)) : Type 0 where
+pub record Serving (said : ℕ → Fed → Type 0)
+    (answered : List Change → Query → Option (List ℕ) → Option (List ℕ) → Type 0) (first left : Option (List ℕ))
+    (is_first is_read : Bool) (count : ℕ) (seen shown : List Change) (old new : Option (List ℕ)) : Type 0 where
   pub going : is_read ≡ is_first
   pub replied : IfSome first (λ octets. IsTrue is_first
       → AreReplied said answered octets count seen shown old new × (left ≡ Some (after_lines count octets)))
@@ -57,8 +57,8 @@ pub line_more : (said : ℕ → Fed → Type 0)
     → is_read ≡ was → IsPrefix before shown → quits ≡ false → next ≡ suc count
     → IsLineReplied said (answered shown) line quits mid new
     → Serving said answered first left is_first is_read next seen shown old new
-line_more said answered first input left is_first was is_read quits count next seen before shown old mid new line s is_next
-    is_going later no_quit one_more this =
+line_more said answered first input left is_first was is_read quits count next seen before shown old mid new line s
+    is_next is_going later no_quit one_more this =
     record {
       going = is_going ∙ s.going;
       replied = subst (λ (n : ℕ). IfSome first (λ octets. IsTrue is_first
@@ -96,13 +96,13 @@ ended_so said answered first input is_first is_read count seen shown old new how
         → IfSome known (λ octets. IsTrue is_first → AreAnswered said answered octets how seen shown old new)
     by None h = tt
     by (Some octets) h = λ is. record {
-        count = count;
-        before = shown;
-        mid = new;
-        replied = (h is).0;
-        later = ([], append-nil shown);
-        ended = end octets (subst (λ (b : Bool). IsTrue b) (sym s.going) is) (h is).1;
-      }
+      count = count;
+      before = shown;
+      mid = new;
+      replied = (h is).0;
+      later = ([], append-nil shown);
+      ended = end octets (subst (λ (b : Bool). IsTrue b) (sym s.going) is) (h is).1;
+    }
 
 -- at the end of the input
 pub at_end : (octets : List ℕ) (input : Option (List ℕ)) (n : ℕ) → IsAtEnd input → input ≡ Some (after_lines n octets)
@@ -117,8 +117,8 @@ pub quit_so : (said : ℕ → Fed → Type 0)
     → IsNextLine input left line → IsPrefix before shown → quits ≡ true
     → IsLineReplied said (answered shown) line quits mid new
     → IfSome first (λ octets. IsTrue is_first → AreAnswered said answered octets end.Quit seen shown old new)
-quit_so said answered first input left is_first was quits count seen before shown old mid new line s is_next later is_quit
-    this = by first s.replied
+quit_so said answered first input left is_first was quits count seen before shown old mid new line s is_next later
+    is_quit this = by first s.replied
   where
     by : (known : Option (List ℕ)) → IfSome known (λ octets. IsTrue is_first
         → AreReplied said answered octets count seen before old mid × (input ≡ Some (after_lines count octets)))

@@ -68,8 +68,8 @@ pub record IsLineReplied (said : ℕ → Fed → Type 0) (answered : Query → O
 
 -- ---- all lines of an input
 
--- So many lines of an input were answered, one after the other: each by the steps that were shown then, which begin with
--- those that were shown before.
+-- So many lines of an input were answered, one after the other: each by the steps that were shown then, which begin
+-- with those that were shown before.
 abbrev pub AreReplied : (ℕ → Fed → Type 0)
     → (List Change → Query → Option (List ℕ) → Option (List ℕ) → Type 0) → List ℕ → ℕ → List Change → List Change
     → Option (List ℕ) → Option (List ℕ) → Type 0

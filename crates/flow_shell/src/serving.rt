@@ -287,7 +287,7 @@ where
     H::Dir: Send + Sync,
     D::Sealed: Send + Sync,
     requires { (number : ℕ) (fed : FedFile) → EndsSo D.Disk J.opening B.to_feed fed → ∥ B.said number fed ∥₁ }
-    // Of an input whose octets are known: each line was answered in turn, up to its end, to `quit`, or to a failed read.
+    // Of an input whose octets are known: each line was answered in turn, up to its end, `quit`, or a failed read.
     ensures replied { IfSome (I.remaining lines.old.input) (λ octets. IsTrue lines.old.is_read
         → IfOk result (λ end. AreAnswered B.said (IsAnswered J.honest J.opening asking.old.width) octets end
         asking.old.reader asking.new.reader (W.contents output.old) (W.contents output.new))) }

@@ -59,8 +59,7 @@ loop-preserved g c =
     let replied = subst (λ (w : ℕ). IsLineReplied g.B.Ends.said
     (IsAnswered g.J.Naming.honest g.J.Naming.opening w shown) line c.in_ok-answer_line.field-0
     (contents c.loop.output) (contents c.answer_line.new.output)) c.loop.invariant.0
-    c.in_ok-answer_line.ensures.replied in
-    (
+    c.in_ok-answer_line.ensures.replied in (
       c.answer_line.ensures.width ∙ c.loop.invariant.0,
       line_more g.B.Ends.said (IsAnswered g.J.Naming.honest g.J.Naming.opening c.args.asking.now.width)
           (remaining c.args.lines.now.input) (remaining c.loop.lines.input) (remaining c.read.new.self.input)
@@ -77,4 +76,5 @@ returns-clause-replied g c =
     ended_so g.B.Ends.said (IsAnswered g.J.Naming.honest g.J.Naming.opening c.args.asking.now.width)
     (remaining c.args.lines.now.input) (remaining c.loop.lines.input) c.args.lines.now.is_read c.loop.lines.is_read
     c.loop.counter c.args.asking.now.reader c.loop.asking.reader (g.W.Write.contents c.args.output.now)
-    (g.W.Write.contents c.loop.output) OfInput c.loop.invariant.1 (λ octets is left. (refl, inr (omega (arith, c.loop.auto.counter-end, c.loop-test.false))))
+    (g.W.Write.contents c.loop.output) OfInput c.loop.invariant.1
+    (λ octets is left. (refl, inr (omega (arith, c.loop.auto.counter-end, c.loop-test.false))))
