@@ -35,11 +35,7 @@ fn numbered(alloc: Global, text: &str, number: u64) -> Result<String, AllocError
 }
 
 /// The text of why the folder with this number can't be opened.
-fn folder_text(
-    alloc: Global,
-    number: u64,
-    refusal: &ArchiveRefusal,
-) -> Result<String, AllocError>
+fn folder_text(alloc: Global, number: u64, refusal: &ArchiveRefusal) -> Result<String, AllocError>
     ensures { IfOk result (λ text. string_bytes text ≡ numbered (archive_printed refusal.now) number) }
 {
     let text = format!(in alloc; "{refusal}")?;
@@ -113,7 +109,14 @@ fn question_of(span: &StartSpan, each: bool, format: Format) -> Question
 }
 
 /// Runs `totals` over the archives of these folders.
-pub(crate) fn run_several<'a, H: AllocGlobal + Clock, D: Disk, O: Opener<'a, D>, W: Write, E: Write>(
+pub(crate) fn run_several<
+    'a,
+    H: AllocGlobal + Clock,
+    D: Disk,
+    O: Opener<'a, D>,
+    W: Write,
+    E: Write,
+>(
     rt: &H,
     opener: &O,
     folders: &FolderNames<'a>,

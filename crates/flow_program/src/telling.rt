@@ -18,7 +18,8 @@ use std::io::Write;
 pub(crate) const DONE: u8 = 0;
 
 /// The line where no memory was found.
-pub(crate) const NO_MEMORY: &str = "flowvault: 11 OutOfMemory\nflowvault: see: flowvault explain 11\n";
+pub(crate) const NO_MEMORY: &str =
+    "flowvault: 11 OutOfMemory\nflowvault: see: flowvault explain 11\n";
 
 /// Writes octets.
 pub(crate) fn write_octets<W: Write>(to: &mut W, octets: &[u8]) -> Result<(), Refusal>

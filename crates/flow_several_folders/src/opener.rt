@@ -40,8 +40,7 @@ impl<'a, H> FolderViews<'a, H> {
     }
 }
 
-impl<'a, H: Files + AllocGlobal + Clone + Drop> Opener<'a, FolderView<'a, H>>
-    for FolderViews<'a, H>
+impl<'a, H: Files + AllocGlobal + Clone + Drop> Opener<'a, FolderView<'a, H>> for FolderViews<'a, H>
 where
     H::File: FileExt + Lockable,
 {
