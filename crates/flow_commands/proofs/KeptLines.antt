@@ -1,21 +1,15 @@
 -- Lines of the flows of kept messages, taken from one file after the other.
-use Rattle.std.proofs.Common.{◌≡◌, ◌∙◌, ℕ, ◌+◌, ◌<◌, List, [], ◌∷◌, ◌++◌, Option, Some, length, map, drop, get_or}
-use Rattle.std.proofs.Common.{◌≢◌, refl, sym, ap, subst, append-nil, append_assoc, arith, inl, inr}
+use Rattle.std.proofs.Common.{◌≡◌, ℕ, ◌+◌, ◌<◌, List, [], ◌++◌, Option, Some, length, take}
+use Rattle.std.proofs.Common.{◌≢◌, refl, sym, ap, subst, arith, inl, inr}
 use Rattle.std.specs.Io.KnownBytes.{Appends}
 use Rattle.std.proofs.KnownBytes.{Appends-nil, Keeps-refl}
 use Rattle.std.specs.Prelude.{slice_get, true, IfErr, IsTrue, OnOk, Result, Ok, Err}
 use Rattle.std.specs.List.{flat_map}
-use Rattle.std.proofs.lemmas.List.{drop_more, length-append, length-map}
 use Rattle.std.proofs.lemmas.List.Concat.{flat_map-append}
 use Rattle.std.proofs.lemmas.List.Elements.{All-append, All-nil}
-use Rattle.std.proofs.lemmas.Option.{slice_get-get_or}
-use Rattle.flow_codec.specs.Templates.{AllTemplates}
 use Rattle.flow_measure.specs.declared.flow.Flow.{Flow}
-use Rattle.flow_measure.specs.History.{Accepted, AreAcceptedFrom, flows_in, templates_from}
-use Rattle.flow_segment.specs.Carry.{octets_of}
-use Rattle.flow_segment.specs.PartFlows.{flows_within}
-use Rattle.flow_model.specs.Shelf.{messages_in, Segment}
-use Rattle.flow_snapshot.proofs.KeptFlows.{more_flows, next_ones, taken_next, Next, Taken}
+use Rattle.flow_snapshot.specs.Found.{AppendsOwnFlows, AreOwnFlows, HaveOwnFlows, KeptFile}
+use Rattle.flow_snapshot.proofs.ByFile.{first_flows, flows_at, one_file_more}
 use Rattle.flow_report.specs.declared.format.Format.{Format}
 use Rattle.flow_report.specs.ArchiveLines.{flow_line, flows_text}
 use Rattle.flow_report.specs.Telling.{Tells, TellsFront}
@@ -40,113 +34,60 @@ use Rattle.flow_commands.specs.Plans.{is_in, Span}
 abbrev pub lines_of : Format → List Flow → List ℕ
 lines_of format flows = flat_map (flow_line format) flows
 
--- the lines of the flows of these messages that start in a span came
-abbrev pub HasTold : Format → ℕ → ℕ → Option (List ℕ) → List ℕ → Option (List ℕ) → List ℕ → List Accepted → Type 0
-HasTold format from to old held now left messages =
-    Tells old held now left (lines_of format (flows_within from to (flows_in messages)))
+both_lines : (format : Format) (flows more : List Flow)
+    → lines_of format flows ++ lines_of format more ≡ lines_of format (flows ++ more)
+both_lines format flows more = sym (flat_map-append (flow_line format) flows more)
 
-more_lines : (format : Format) (from to : ℕ) (front own : List Accepted)
-    → lines_of format (flows_within from to (flows_in front)) ++ lines_of format (flows_within from to (flows_in own))
-    ≡ lines_of format (flows_within from to (flows_in (front ++ own)))
-more_lines format from to front own =
-    let first = flows_within from to (flows_in front) in
-    let more = flows_within from to (flows_in own) in
-    sym (flat_map-append (flow_line format) first more)
-    ∙ ap (lines_of format) (more_flows from to [] first (first ++ more) front own refl refl)
+-- ---- files, one after the other
 
--- ---- files of messages
+-- the lines of the flows of these files that start in a span came
+abbrev pub HasTold : Format → ℕ → ℕ → List KeptFile → Option (List ℕ) → List ℕ → Option (List ℕ) → List ℕ → Type 0
+HasTold format from to files old held now left =
+    (flows : List Flow) × AreOwnFlows from to files flows × Tells old held now left (lines_of format flows)
 
-abbrev pub all_in : List (List (List ℕ)) → List (List ℕ)
-all_in files = flat_map (λ (messages : List (List ℕ)). messages) files
-
-pub all_kept : (segments : List Segment) (active : List (List ℕ))
-    → all_in (map (λ g. g.messages) segments ++ active ∷ []) ≡ messages_in segments ++ active
-all_kept [] active = append-nil active
-all_kept (g ∷ gs) active =
-    ap (λ (ms : List (List ℕ)). g.messages ++ ms) (all_kept gs active)
-    ∙ sym (append_assoc g.messages (messages_in gs) active)
-
-pub files_count : (segments : List Segment) (active : List (List ℕ))
-    → length (map (λ (g : Segment). g.messages) segments ++ active ∷ []) ≡ length segments + 1
-files_count segments active =
-    length-append (map (λ (g : Segment). g.messages) segments) (active ∷ [])
-    ∙ ap (λ (n : ℕ). n + 1) (length-map segments (λ (g : Segment). g.messages))
-
-next_file : (files : List (List (List ℕ))) (i : ℕ) → i < length files
-    → all_in (drop i files) ≡ get_or files i [] ++ all_in (drop (i + 1) files)
-next_file files i within = ap all_in (drop_more files i [] within)
-
-module _ (format : Format) (from to : ℕ) (old now : Option (List ℕ)) (held mid : List ℕ)
-    (before templates : AllTemplates) (messages : List Accepted) (left : List (List ℕ))
-    (taken : Taken (HasTold format from to old held now mid) before messages left templates) where
+module _ (format : Format) (from to : ℕ) (files : List KeptFile) (i : ℕ) (all : List Flow)
+    (are : AreOwnFlows from to files all) (old now : Option (List ℕ)) (held mid : List ℕ)
+    (so_far : HasTold format from to (take i files) old held now mid) where
   -- what came so far is a prefix of all
-  pub stopped : TellsFront old held now (lines_of format (flows_within from to (flows_in messages)))
+  pub stopped : TellsFront old held now (lines_of format all)
   stopped =
-      let first = lines_of format (flows_within from to (flows_in taken.front)) in
-      let more = lines_of format (flows_within from to (flows_in taken.rest)) in
-      subst (λ (ms : List Accepted).
-      TellsFront old held now (lines_of format (flows_within from to (flows_in ms)))) (sym taken.whole)
-      (subst (TellsFront old held now) (more_lines format from to taken.front taken.rest)
-      (stops_more old now held first more (mid, taken.has)))
+      let rest = first_flows from to files i so_far.0 all so_far.1 are in
+      subst (λ (fs : List Flow). TellsFront old held now (lines_of format fs)) (sym rest.1)
+      (subst (TellsFront old held now) (both_lines format so_far.0 rest.0)
+      (stops_more old now held (lines_of format so_far.0) (lines_of format rest.0) (mid, so_far.2)))
 
--- what is reported of a file that has accepted messages is no damage
-pub file_blameless : (Has : List Accepted → Type 0) (before templates : AllTemplates) (messages : List Accepted)
-    (files : List (List (List ℕ))) (i : ℕ) (e : ReadRefusal) → i < length files → AreAcceptedFrom before messages
-    → Taken Has before messages (all_in (drop i files)) templates
-    → ((octets : List (List ℕ)) → slice_get files i ≡ Some octets → (own : List Accepted)
-    → AreAcceptedFrom templates own → octets_of own ≡ octets → IsNoDamage e)
-    → IsNoDamage e
-file_blameless Has before templates messages files i e within accepted taken given =
-    let n = next_ones Has before messages (get_or files i []) (all_in (drop (i + 1) files)) templates accepted
-    (subst (λ (os : List (List ℕ)). Taken Has before messages os templates) (next_file files i within) taken) in
-    given (get_or files i []) (slice_get-get_or files i [] within) n.own n.accepted n.octets
+  module _ (new : Option (List ℕ)) (flows : List Flow) (within : i < length files)
+      (given : (file : KeptFile) → slice_get files i ≡ Some file → (own : List Flow) → HaveOwnFlows from to file own
+      → flows ≡ own) where
+    more_own : AreOwnFlows from to (take (i + 1) files) (so_far.0 ++ flows)
+    more_own = one_file_more from to files i so_far.0 (so_far.0 ++ flows) within so_far.1 each
+      where
+        each : (file : KeptFile) → slice_get files i ≡ Some file
+            → AppendsOwnFlows from to file so_far.0 (so_far.0 ++ flows)
+        each file there =
+            let own = flows_at from to files all i file are there in
+            (own.0, own.1, ap (λ (fs : List Flow). so_far.0 ++ fs) (given file there own.0 own.1))
 
-module _ (format : Format) (from to : ℕ) (old now new : Option (List ℕ)) (held mid : List ℕ)
-    (before templates after : AllTemplates) (messages : List Accepted) (files : List (List (List ℕ))) (i : ℕ)
-    (flows : List Flow) (within : i < length files) (accepted : AreAcceptedFrom before messages)
-    (taken : Taken (HasTold format from to old held now mid) before messages (all_in (drop i files)) templates)
-    (given : (octets : List (List ℕ)) → slice_get files i ≡ Some octets → (own : List Accepted)
-    → AreAcceptedFrom templates own → octets_of own ≡ octets
-    → (after ≡ templates_from templates own) × (flows ≡ flows_within from to (flows_in own))) where
-  abbrev next : Next (HasTold format from to old held now mid) before messages (get_or files i [])
-      (all_in (drop (i + 1) files)) templates
-  next =
-      next_ones (HasTold format from to old held now mid) before messages (get_or files i [])
-      (all_in (drop (i + 1) files)) templates accepted
-      (subst (λ (os : List (List ℕ)). Taken (HasTold format from to old held now mid) before messages os templates)
-      (next_file files i within) taken)
+    -- the lines of one file's flows more
+    pub one_more : (last : List ℕ) → Tells now mid new last (lines_of format flows)
+        → HasTold format from to (take (i + 1) files) old held new last
+    one_more last told = (
+      so_far.0 ++ flows,
+      more_own,
+      subst (Tells old held new last) (both_lines format so_far.0 flows)
+          (tells_then old now new held mid last (lines_of format so_far.0) (lines_of format flows) so_far.2 told),
+    )
 
-  right : (after ≡ templates_from templates next.own) × (flows ≡ flows_within from to (flows_in next.own))
-  right = given (get_or files i []) (slice_get-get_or files i [] within) next.own next.accepted next.octets
-
-  -- the lines of one file's flows more
-  pub one_more : (last : List ℕ) → Tells now mid new last (lines_of format flows)
-      → Taken (HasTold format from to old held new last) before messages (all_in (drop (i + 1) files)) after
-  one_more last told =
-      let own = flows_within from to (flows_in next.own) in
-      let first = flows_within from to (flows_in next.front) in
-      taken_next (HasTold format from to old held now mid) (HasTold format from to old held new last) before messages
-      (get_or files i []) (all_in (drop (i + 1) files)) templates after next right.0
-      (subst (Tells old held new last) (more_lines format from to next.front next.own)
-      (tells_then old now new held mid last (lines_of format first) (lines_of format own) next.has
-      (subst (λ (fs : List Flow). Tells now mid new last (lines_of format fs)) right.1 told)))
-
-  -- a prefix of them
-  pub cut_off : TellsFront now mid new (lines_of format flows)
-      → TellsFront old held new (lines_of format (flows_within from to (flows_in messages)))
-  cut_off told =
-      let own = flows_within from to (flows_in next.own) in
-      let first = flows_within from to (flows_in next.front) in
-      let both = next.front ++ next.own in
-      let these = lines_of format (flows_within from to (flows_in both)) in
-      let others = lines_of format (flows_within from to (flows_in next.rest)) in
-      subst (λ (ms : List Accepted).
-      TellsFront old held new (lines_of format (flows_within from to (flows_in ms)))) (sym next.whole)
-      (subst (TellsFront old held new) (more_lines format from to both next.rest)
-      (stops_more old new held these others
-      (subst (TellsFront old held new) (more_lines format from to next.front next.own)
-      (stops_then old now new held mid (lines_of format first) (lines_of format own) next.has
-      (subst (λ (fs : List Flow). TellsFront now mid new (lines_of format fs)) right.1 told)))))
+    -- a prefix of them
+    pub cut_off : TellsFront now mid new (lines_of format flows) → TellsFront old held new (lines_of format all)
+    cut_off told =
+        let both = so_far.0 ++ flows in
+        let rest = first_flows from to files (i + 1) both all more_own are in
+        subst (λ (fs : List Flow). TellsFront old held new (lines_of format fs)) (sym rest.1)
+        (subst (TellsFront old held new) (both_lines format both rest.0)
+        (stops_more old new held (lines_of format both) (lines_of format rest.0)
+        (subst (TellsFront old held new) (both_lines format so_far.0 flows)
+        (stops_then old now new held mid (lines_of format so_far.0) (lines_of format flows) so_far.2 told))))
 
 -- ---- lines of any flows of a span
 

@@ -13,11 +13,9 @@ ghost use Rattle.flow_commands.specs.Opened.{IsAsked, IsHandedOn, KeepsArchive, 
 ghost use Rattle.flow_commands.specs.Asking.{flows_lines, Always, AreFlows, AreFlowsIn, FlowsStartIn, IsBlameless};
 ghost use Rattle.flow_commands.specs.Asking.{HasFront, HasSome, IsWhileAsking, TellsLines, TellsUpTo, Writes};
 ghost use Rattle.flow_commands.specs.Asking.{WritesUpTo};
-ghost use Rattle.flow_measure.specs.History.{Accepted, AreAcceptedFrom, flows_in, templates_from};
-ghost use Rattle.flow_segment.specs.Carry.{octets_of};
-ghost use Rattle.flow_segment.specs.PartFlows.{flows_within};
+ghost use Rattle.flow_measure.specs.declared.flow.Flow.{Flow};
 ghost use Rattle.flow_snapshot.specs.Answered.{IsAnswered};
-ghost use Rattle.flow_snapshot.specs.Found.{kept_by_file};
+ghost use Rattle.flow_snapshot.specs.Found.{kept_by_file, HaveOwnFlows, KeptFile};
 ghost use Rattle.flow_measure.specs.Query.{flows_in_view};
 ghost use Rattle.flow_measure.specs.View.{View};
 ghost use Rattle.flow_model.specs.Views.{IsViewOf};
@@ -30,7 +28,6 @@ use crate::asking::to_ask;
 use crate::ending::ended;
 use crate::plan::StartSpan;
 use flow_archive::{Archive, Refused};
-use flow_codec::Templates;
 use flow_disk::{Disk, Faults, SealedFile};
 use flow_folder::{FirstFault, Lockable};
 use flow_folder_view::FolderView;
@@ -44,32 +41,31 @@ use std::fs::Files;
 use std::io::Write;
 use std::os::unix::fs::FileExt;
 
-/// The flows of one file's kept messages that start in a span. Whatever the file is, no other one is among them.
+/// The flows of one file's kept messages that start in a span. Whatever the file is, no other one is among them. It
+/// isn't read where it is known to have none.
 fn flows_of_file<S: SealedFile>(
     alloc: Global,
     snapshot: &Snapshot<S>,
     at: u64,
-    templates: &mut Templates,
     span: &StartSpan,
     faults: &mut Faults<S>,
 ) -> Result<Vec<Flow>, ReadRefusal>
     requires { at ≤ length snapshot.now.shelf.sealed }
     ensures cause { HasCause ReadRefusal.Fault faults.old faults.new result }
     ensures within { IfOk result (λ flows. FlowsStartIn span.now flows.items) }
-    ensures given { IsTrue snapshot.now.honest → (octets : List (List ℕ))
-        → slice_get (kept_by_file snapshot.now.shelf) at ≡ Some octets → (messages : List Accepted)
-        → AreAcceptedFrom templates.old messages → octets_of messages ≡ octets
-        → IsAnswered (λ flows. (templates.new ≡ templates_from templates.old messages)
-        × (flows.items ≡ flows_within span.now.from span.now.to (flows_in messages))) result }
+    ensures given { IsTrue snapshot.now.honest → (file : KeptFile)
+        → slice_get (kept_by_file snapshot.now.shelf) at ≡ Some file → (own : List Flow)
+        → HaveOwnFlows span.now.from span.now.to file own → IsAnswered (λ flows. flows.items ≡ own) result }
 {
     let (from, to) = (span.from(), span.to());
-    let mut flows = snapshot.flows_of_file(alloc, at, templates, from, to, faults)?;
+    let mut flows = snapshot.flows_of_file(alloc, at, from, to, faults)?;
     flows.retain(|flow| span.has(flow.start));
     Ok(flows)
 }
 
 /// Takes the lines of a snapshot's flows that start in a span, those of one file after the other: no more flows are
-/// held than one file has. They go to the writer as they come.
+/// held than one file has. They go to the writer as they come. Files that are known to have none in the span aren't
+/// read.
 fn tell_kept<S: SealedFile, W: Write>(
     alloc: Global,
     snapshot: &Snapshot<S>,
@@ -93,10 +89,9 @@ fn tell_kept<S: SealedFile, W: Write>(
         (flows_in_view span.now.from span.now.to v))) }
     ensures cause { HasCause (refusal.Query ReadRefusal.Fault) faults.old faults.new result }
 {
-    let mut templates = snapshot.templates(alloc, faults)?;
     let files = snapshot.kept_files();
     for at in 0..files {
-        let flows = flows_of_file(alloc, snapshot, at, &mut templates, span, faults)?;
+        let flows = flows_of_file(alloc, snapshot, at, span, faults)?;
         lines.put(output, flows.as_slice())?;
     }
     Ok(())

@@ -11,20 +11,15 @@ use Rattle.flow_codec.specs.Templates.{AllTemplates}
 use Rattle.flow_disk.specs.declared.sealed.SealedFile.{Ghosts}
 use Rattle.flow_refusals.specs.declared.read_refusal.ReadRefusal.{ReadRefusal}
 use Rattle.flow_refusals.specs.declared.read_refusal.ReadRefusal.TheVariants as read
-use Rattle.flow_measure.specs.declared.flow.Flow.{Flow}
-use Rattle.flow_measure.specs.History.{Accepted, AreAcceptedFrom, flows_in, templates_from}
-use Rattle.flow_measure.specs.Query.{flows_in_view}
 use Rattle.flow_measure.specs.View.{View}
 use Rattle.flow_segment.specs.declared.sealed.SealedPart.{SealedPart}
-use Rattle.flow_segment.specs.Carry.{octets_of}
-use Rattle.flow_segment.specs.PartFlows.{flows_within, AreCollected}
 use Rattle.flow_segment.specs.Prefix.{AreTemplatesGiven, IsRestated}
 use Rattle.flow_segment.specs.Segment.{part_octets}
 use Rattle.flow_snapshot.specs.Files.{cut_into, is_honest, segment_of, shared}
 use Rattle.flow_model.specs.Shelf.{messages_in, Shelf}
 use Rattle.flow_snapshot.specs.Answered.{IsNoDamage}
 use Rattle.flow_model.specs.Views.{AreRestated, IsViewOf}
-use Rattle.flow_snapshot.proofs.KeptFlows.{more_flows, next_ones, Next}
+use Rattle.flow_snapshot.proofs.KeptFlows.{next_ones, Next}
 use Rattle.flow_snapshot.proofs.PartMessages.{cut_count}
 use Rattle.flow_snapshot.proofs.Sharing.{first_of_two, second_of_two}
 
@@ -64,63 +59,6 @@ kept_in_two s v is = next_ones (λ ms. ms ≡ []) v.templates v.kept (messages_i
       moved = refl;
       has = refl;
     })
-
-module _ (s : Shelf) (v : View) (is : IsViewOf s v) where
-  abbrev halves : Next (λ ms. ms ≡ []) v.templates v.kept (messages_in s.sealed) s.active v.templates
-  halves = kept_in_two s v is
-
-  both_halves : v.kept ≡ halves.own ++ halves.rest
-  both_halves = halves.whole ∙ ap (λ (ms : List Accepted). (ms ++ halves.own) ++ halves.rest) halves.has
-
-  rest_accepted : AreAcceptedFrom (templates_from v.templates halves.own) halves.rest
-  rest_accepted = behind v.templates halves.own halves.rest
-      (subst (AreAcceptedFrom v.templates) both_halves is.accepted)
-    where
-      behind : (t : AllTemplates) (xs ys : List Accepted) → AreAcceptedFrom t (xs ++ ys)
-          → AreAcceptedFrom (templates_from t xs) ys
-      behind t [] ys h = h
-      behind t (x ∷ xs) ys h = behind x.after xs ys h.1
-
-  module _ (from to : ℕ) (first middle last : AllTemplates) (flows more : List Flow) (start : first ≡ v.templates)
-    where
-      sealed_first : AreAcceptedFrom first halves.own
-      sealed_first = subst (λ (t : AllTemplates). AreAcceptedFrom t halves.own) (sym start) halves.accepted
-
-      -- why sealed segments' flows aren't there
-      pub sealed_blameless : (old : List Flow) (e : ReadRefusal)
-          → ((messages : List Accepted) → AreAcceptedFrom first messages → octets_of messages ≡ messages_in s.sealed
-          → AreCollected {X = Unit {0}} first from to old messages (Err e) middle flows) → IsNoDamage e
-      sealed_blameless old e given = by e (given halves.own sealed_first halves.octets)
-        where
-          by : (e : ReadRefusal) → AreCollected {X = Unit {0}} first from to old halves.own (Err e) middle flows
-              → IsNoDamage e
-          by (read.Damaged file at) h = h
-          by read.Fault h = tt
-          by read.OutOfMemory h = tt
-
-      module _ (sealed : (messages : List Accepted) → AreAcceptedFrom first messages
-          → octets_of messages ≡ messages_in s.sealed → (middle ≡ templates_from first messages)
-          × (flows ≡ [] ++ flows_within from to (flows_in messages))) where
-        sealed_right : (middle ≡ templates_from first halves.own)
-            × (flows ≡ [] ++ flows_within from to (flows_in halves.own))
-        sealed_right = sealed halves.own sealed_first halves.octets
-
-        active_first : AreAcceptedFrom middle halves.rest
-        active_first = subst (λ (t : AllTemplates). AreAcceptedFrom t halves.rest)
-            (ap (λ (t : AllTemplates). templates_from t halves.own) (sym start) ∙ sym sealed_right.0) rest_accepted
-
-        pub active_blameless : (e : ReadRefusal)
-            → ((list : List Accepted) → AreAcceptedFrom middle list → octets_of list ≡ s.active → IsNoDamage e)
-            → IsNoDamage e
-        active_blameless e given = given halves.rest active_first halves.others
-
-        pub flows_are : ((list : List Accepted) → AreAcceptedFrom middle list → octets_of list ≡ s.active
-            → (last ≡ templates_from middle list) × (more ≡ flows ++ flows_within from to (flows_in list)))
-            → more ≡ flows_in_view from to v
-        flows_are active =
-            let right = active halves.rest active_first halves.others in
-            more_flows from to [] flows more halves.own halves.rest sealed_right.1 right.1
-            ∙ ap (λ (ms : List Accepted). flows_within from to (flows_in ms)) (sym both_halves)
 
 -- ---- the templates before the kept messages
 

@@ -18,14 +18,13 @@ use Rattle.flow_codec.specs.Message.{in_fields, joined, IsAccepted}
 use Rattle.flow_codec.specs.Raw.{under, Placed, Took}
 use Rattle.flow_codec.specs.Templates.{AllTemplates}
 use Rattle.flow_refusals.specs.declared.read_refusal.ReadRefusal.{ReadRefusal}
-use Rattle.flow_refusals.specs.declared.read_refusal.ReadRefusal.TheVariants.{Damaged, Fault, OutOfMemory}
 use Rattle.flow_measure.specs.declared.flow.Flow.{Flow}
 use Rattle.flow_measure.specs.Flows.{flows_of, flows_of_records}
 use Rattle.flow_measure.specs.History.{Accepted, AreAcceptedFrom, flows_in, templates_from}
 use Rattle.flow_measure.proofs.SinkSteps.{flows-in_fields}
 use Rattle.flow_measure.proofs.ViewLaws.{flows-append}
 use Rattle.flow_segment.specs.Carry.{octets_of}
-use Rattle.flow_segment.specs.PartFlows.{flows_within, AreCollected, ArePartMessages, HasChosen}
+use Rattle.flow_segment.specs.PartFlows.{flows_within, ArePartMessages, HasChosen}
 use Rattle.flow_segment.specs.declared.sealed.SealedPart.{SealedPart}
 use Rattle.flow_segment.specs.declared.sinks.Chosen.{Chosen}
 use Rattle.flow_segment.specs.Prefix.{HaveNoRecords, IsRestated}
@@ -301,41 +300,6 @@ skipped_part {F} {X} {files} Has before messages left templates part none p =
       moved = n.moved;
       has = n.has;
     }
-
-pub sealed_step : {F X : Type 0} {files : Ghosts F X} (from to : ℕ) (old flows more : List Flow)
-    (before templates after : AllTemplates) (messages : List Accepted) (left : List (List ℕ))
-    (part : SealedPart F X files) → NextPart (HasFlows from to old flows) before messages left templates part
-    → 0 < part.messages
-    → (IsTrue (is_honest part) → (own : List Accepted)
-    → ArePartMessages (part_octets part.prefix part.length (files.octets part.reader)) templates part.messages own
-    → (after ≡ templates_from templates own) × (more ≡ flows ++ flows_within from to (flows_in own)))
-    → Taken (HasFlows from to old more) before messages left after
-sealed_step from to old flows more before templates after messages left part p some given =
-    let n = p.next in
-    let right = given p.honest n.own (p.are some) in
-    taken_next (HasFlows from to old flows) (HasFlows from to old more) before messages (segment_of part).messages left
-    templates after n right.0 (more_flows from to old flows more n.front n.own n.has right.1)
-
-pub sealed_err : {F X Y : Type 0} {files : Ghosts F X} (Has : List Accepted → Type 0) (from to : ℕ)
-    (old flows more last : List Flow) (before templates after final : AllTemplates) (messages : List Accepted)
-    (left : List (List ℕ)) (part : SealedPart F X files) (r : Result Y ReadRefusal) (e : ReadRefusal)
-    → NextPart Has before messages left templates part → 0 < part.messages → IsErrAnd r (λ x. x ≡ e)
-    → (IsTrue (is_honest part) → (own : List Accepted)
-    → ArePartMessages (part_octets part.prefix part.length (files.octets part.reader)) templates part.messages own
-    → AreCollected {X = Unit {0}} templates from to flows own (Err e) after more)
-    → AreCollected before from to old messages r final last
-sealed_err {Y = Y} Has from to old flows more last before templates after final messages left part r e p some is given =
-    by e r is (given p.honest p.next.own (p.are some))
-  where
-    by : (e : ReadRefusal) (r : Result Y ReadRefusal) → IsErrAnd r (λ x. x ≡ e)
-        → AreCollected {X = Unit {0}} templates from to flows p.next.own (Err e) after more
-        → AreCollected before from to old messages r final last
-    by e (Ok x) is h = absurd is
-    by e (Err Fault) is h = tt
-    by e (Err OutOfMemory) is h = tt
-    by e (Err (Damaged file at)) is h =
-        subst (λ (x : ReadRefusal). AreCollected {X = Unit {0}} templates from to flows p.next.own (Err x) after more)
-        (sym is) h
 
 -- ---- a prefix
 

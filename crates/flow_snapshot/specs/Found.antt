@@ -1,31 +1,53 @@
 -- What has been read where a query is answered, also of files that are damaged.
 use Rattle.std.specs.Prelude.{◌≡◌, ◌⊎◌, ℕ, zero, suc, ◌+◌, ◌≤◌, ◌<◌, List, [], ◌∷◌, ◌++◌, length, map, slice_get}
 use Rattle.std.specs.Prelude.{Option, Some, None}
+use Rattle.std.specs.List.{flat_map, AllZip}
 use Rattle.flow_codec.specs.Cutting.{IsCutOff, IsDivided}
 use Rattle.flow_codec.specs.Templates.{AllTemplates}
 use Rattle.flow_measure.specs.declared.flow.Flow.{Flow}
-use Rattle.flow_measure.specs.History.{flows_in, templates_from, Accepted, AreAcceptedFrom}
+use Rattle.flow_measure.specs.History.{flows_in, Accepted, AreAcceptedFrom}
 use Rattle.flow_segment.specs.Carry.{octets_of}
 use Rattle.flow_segment.specs.PartFlows.{flows_within}
+use Rattle.flow_segment.specs.Prefix.{IsRestated}
 use Rattle.flow_model.specs.Shelf.{Segment, Shelf, cut_of, messages_in, position_of}
 
--- ---- all files
+-- ---- messages
 
 -- These octets are messages, each accepted after those before it, the first one after these templates.
 abbrev pub AreAccepted : AllTemplates → List (List ℕ) → Type 0
 AreAccepted before octets =
     (messages : List Accepted) × AreAcceptedFrom before messages × (octets_of messages ≡ octets)
 
--- These octets are messages, each accepted after those before it, the first one after the templates before; the flows
--- are those of them that start in a span, and the templates after are those after the last one.
-abbrev pub HaveFlows : List (List ℕ) → AllTemplates → ℕ → ℕ → AllTemplates → List Flow → Type 0
-HaveFlows octets before from to after flows =
-    (messages : List Accepted) × AreAcceptedFrom before messages × (octets_of messages ≡ octets)
-    × (after ≡ templates_from before messages) × (flows ≡ flows_within from to (flows_in messages))
+-- ---- the flows of files
 
--- the kept messages of each file: of the sealed segments, and of the active one
-abbrev pub kept_by_file : Shelf → List (List (List ℕ))
-kept_by_file s = map (λ g. g.messages) s.sealed ++ s.active ∷ []
+-- a file with kept messages: its prefix, and the messages after it
+pub record KeptFile : Type 0 where
+  pub prefix : List ℕ
+  pub messages : List (List ℕ)
+
+-- the sealed segments, and the active one
+abbrev pub kept_file : Segment → KeptFile
+kept_file g = record { prefix = g.prefix; messages = g.messages }
+
+abbrev pub kept_by_file : Shelf → List KeptFile
+kept_by_file s = map kept_file s.sealed ++ record { prefix = s.prefix; messages = s.active } ∷ []
+
+-- A file's messages are accepted, each after those before it, the first one after the templates that the file's own
+-- prefix restates; these are their flows that start in a span.
+abbrev pub HaveOwnFlows : ℕ → ℕ → KeptFile → List Flow → Type 0
+HaveOwnFlows from to file flows =
+    (before : AllTemplates) × (messages : List Accepted) × IsRestated file.prefix before
+    × AreAcceptedFrom before messages × (octets_of messages ≡ file.messages)
+    × (flows ≡ flows_within from to (flows_in messages))
+
+-- the flows of one file more
+abbrev pub AppendsOwnFlows : ℕ → ℕ → KeptFile → List Flow → List Flow → Type 0
+AppendsOwnFlows from to file old new = (own : List Flow) × HaveOwnFlows from to file own × (new ≡ old ++ own)
+
+-- the flows of these files, one after the other
+abbrev pub AreOwnFlows : ℕ → ℕ → List KeptFile → List Flow → Type 0
+AreOwnFlows from to files flows =
+    (lists : List (List Flow)) × AllZip (HaveOwnFlows from to) files lists × (flows ≡ flat_map (λ own. own) lists)
 
 -- ---- one message
 

@@ -1,7 +1,6 @@
 //! The flows of kept messages.
 
-ghost use Rattle.std.specs.Prelude.{◌≡◌, ◌≢◌, ◌++◌, true, false, IsTrue, IfErr, IfOk, IfSome, List, [], OnOk, map};
-ghost use Rattle.std.specs.List.{list_all};
+ghost use Rattle.std.specs.Prelude.{◌≡◌, ◌≢◌, ◌++◌, true, false, IsTrue, IfErr, IfOk, IfSome, List, [], OnErr, OnOk};
 ghost use Rattle.flow_codec.specs.Fault.{IsOctets};
 ghost use Rattle.flow_codec.specs.Message.{IsAccepted};
 ghost use Rattle.flow_codec.specs.Raw.{Took};
@@ -9,12 +8,11 @@ ghost use Rattle.flow_codec.specs.Templates.{AllTemplates};
 ghost use Rattle.flow_disk.specs.Cause.{HasCause};
 ghost use Rattle.flow_measure.specs.History.{Accepted, AreAcceptedFrom, flows_in, templates_from};
 ghost use Rattle.flow_segment.specs.Carry.{octets_of};
-ghost use Rattle.flow_segment.specs.PartFlows.{flows_within, AreCollected};
+ghost use Rattle.flow_segment.specs.PartFlows.{flows_within};
 ghost use Rattle.flow_segment.specs.Prefix.{IsRestated};
-ghost use Rattle.flow_segment.specs.Spans.{noted, IsOwnSpan};
-ghost use Rattle.flow_snapshot.specs.Files.{is_honest, segment_of, shared};
-ghost use Rattle.flow_snapshot.specs.Found.{AreAccepted, HaveFlows};
-ghost use Rattle.flow_model.specs.Shelf.{messages_in};
+ghost use Rattle.flow_segment.specs.Spans.{is_known_outside, noted, IsOwnSpan};
+ghost use Rattle.flow_snapshot.specs.Files.{is_honest, segment_of};
+ghost use Rattle.flow_snapshot.specs.Found.{kept_file, AppendsOwnFlows, AreAccepted, HaveOwnFlows};
 ghost use Rattle.flow_snapshot.specs.Answered.{IsAnswered};
 
 use bytes::Bytes;
@@ -22,10 +20,9 @@ use flow_codec::{MessageError, RecordSink, Templates, WalkError, front_of, walk_
 use flow_disk::{Faults, SealedFile};
 use flow_measure::{Flow, PartSpan};
 use flow_refusals::ReadRefusal;
-use flow_segment::{Chosen, HasRecords, Noting, SealedPart, collect_flows};
+use flow_segment::{Chosen, HasRecords, Noting, SealedPart, collect_flows, templates_of};
 use std::alloc::{AllocError, Global};
 use std::mem::replace;
-use std::sync::Arc;
 
 /// The refusal of a message in memory that isn't accepted, or doesn't belong in a prefix: damage of file 0, since it is
 /// in no file.
@@ -97,61 +94,57 @@ pub(crate) fn restated(alloc: Global, prefix: &[u8]) -> Result<Templates, ReadRe
     Ok(templates)
 }
 
-/// Appends the flows of sealed segments' messages that start from `from` on and before `to` to a list.
-pub(crate) fn collect_sealed<S: SealedFile>(
+/// Appends the flows of a sealed segment's messages that start from `from` on and before `to` to a list. They are read
+/// after the templates that its own prefix restates; where it has none, its prefix is read all the same.
+fn collect_read<S: SealedFile>(
     alloc: Global,
-    parts: &[Arc<SealedPart<S>>],
-    templates: &mut Templates,
+    part: &SealedPart<S>,
     from: u64,
     to: u64,
     flows: &mut Vec<Flow>,
     faults: &mut Faults<S>,
 ) -> Result<(), ReadRefusal>
     ensures cause { HasCause ReadRefusal.Fault faults.old faults.new result }
-    // On honest disks: all messages are accepted after the templates given.
-    ensures found { IsTrue (list_all is_honest (shared parts.now)) → OnOk result
-        (AreAccepted templates.old (messages_in (map segment_of (shared parts.now)))) }
-    // And the flows are theirs.
-    ensures given { IsTrue (list_all is_honest (shared parts.now)) → (messages : List Accepted)
-        → AreAcceptedFrom templates.old messages
-        → octets_of messages ≡ messages_in (map segment_of (shared parts.now))
-        → AreCollected templates.old from to flows.old.items messages result templates.new flows.new.items }
+    ensures found { IsTrue (is_honest part.now) → OnOk result
+        (AppendsOwnFlows from to (kept_file (segment_of part.now)) flows.old.items flows.new.items) }
+    ensures given { IsTrue (is_honest part.now) → (own : List Flow)
+        → HaveOwnFlows from to (kept_file (segment_of part.now)) own
+        → IsAnswered (λ _. flows.new.items ≡ flows.old.items ++ own) result }
 {
-    for part in parts {
-        if part.messages > 0 {
-            collect_flows(alloc, part, templates, from, to, flows, faults)?;
-        }
+    let mut templates = templates_of(alloc, part, faults)?;
+    if part.messages == 0 {
+        return Ok(());
     }
-    Ok(())
+    collect_flows(alloc, part, &mut templates, from, to, flows, faults)
 }
 
-/// The flows of one sealed segment's messages that start from `from` on and before `to`.
-pub(crate) fn flows_of_segment<S: SealedFile>(
+/// The same; a segment that is known to have no flow in the span isn't read.
+pub(crate) fn collect_segment<S: SealedFile>(
     alloc: Global,
     part: &SealedPart<S>,
-    templates: &mut Templates,
     from: u64,
     to: u64,
+    flows: &mut Vec<Flow>,
     faults: &mut Faults<S>,
-) -> Result<Vec<Flow>, ReadRefusal>
+) -> Result<(), ReadRefusal>
     ensures cause { HasCause ReadRefusal.Fault faults.old faults.new result }
-    // On an honest disk: all its messages are accepted after the templates given, and the flows are theirs.
-    ensures found { IsTrue (is_honest part.now) → IfOk result
-        (λ flows. HaveFlows (segment_of part.now).messages templates.old from to templates.new flows.items) }
-    ensures given { IsTrue (is_honest part.now) → (messages : List Accepted)
-        → AreAcceptedFrom templates.old messages → octets_of messages ≡ (segment_of part.now).messages
-        → IsAnswered (λ flows. (templates.new ≡ templates_from templates.old messages)
-        × (flows.items ≡ flows_within from to (flows_in messages))) result }
+    ensures unread { is_known_outside part.now.span 1 from to ≡ true
+        → OnErr result ⊥ × (faults.new ≡ faults.old) × (flows.new.items ≡ flows.old.items) }
+    // On an honest disk: its messages are accepted after its own prefix, and the flows are theirs.
+    ensures found { IsTrue (is_honest part.now) → OnOk result
+        (AppendsOwnFlows from to (kept_file (segment_of part.now)) flows.old.items flows.new.items) }
+    ensures given { IsTrue (is_honest part.now) → (own : List Flow)
+        → HaveOwnFlows from to (kept_file (segment_of part.now)) own
+        → IsAnswered (λ _. flows.new.items ≡ flows.old.items ++ own) result }
 {
-    let mut flows = Vec::new(alloc);
-    if part.messages > 0 {
-        collect_flows(alloc, part, templates, from, to, &mut flows, faults)?;
+    if part.is_outside(1, from, to) {
+        return Ok(());
     }
-    Ok(flows)
+    collect_read(alloc, part, from, to, flows, faults)
 }
 
 /// Appends the flows of messages in memory that start from `from` on and before `to` to a list.
-pub(crate) fn collect_active(
+fn collect_after(
     alloc: Global,
     messages: &[Bytes],
     templates: &mut Templates,
@@ -177,24 +170,24 @@ pub(crate) fn collect_active(
     Ok(())
 }
 
-/// The flows of messages in memory that start from `from` on and before `to`.
-pub(crate) fn flows_of_active(
+/// The same, the first message after the templates that the prefix restates.
+pub(crate) fn collect_active(
     alloc: Global,
+    prefix: &[u8],
     messages: &[Bytes],
-    templates: &mut Templates,
     from: u64,
     to: u64,
-) -> Result<Vec<Flow>, ReadRefusal>
-    ensures found { IfOk result
-        (λ flows. HaveFlows messages.now templates.old from to templates.new flows.items) }
-    ensures given { (list : List Accepted) → AreAcceptedFrom templates.old list → octets_of list ≡ messages.now
-        → IsAnswered (λ flows. (templates.new ≡ templates_from templates.old list)
-        × (flows.items ≡ flows_within from to (flows_in list))) result }
+    flows: &mut Vec<Flow>,
+) -> Result<(), ReadRefusal>
+    ensures found { OnOk result (AppendsOwnFlows from to (record { prefix = prefix.now; messages = messages.now })
+        flows.old.items flows.new.items) }
+    ensures given { (own : List Flow)
+        → HaveOwnFlows from to (record { prefix = prefix.now; messages = messages.now }) own
+        → IsAnswered (λ _. flows.new.items ≡ flows.old.items ++ own) result }
     ensures quiet { IfErr result (λ e. e ≢ ReadRefusal.Fault) }
 {
-    let mut flows = Vec::new(alloc);
-    collect_active(alloc, messages, templates, from, to, &mut flows)?;
-    Ok(flows)
+    let mut templates = restated(alloc, prefix)?;
+    collect_after(alloc, messages, &mut templates, from, to, flows)
 }
 
 /// When the flows of messages in memory start, the first of which comes after the templates that the prefix restates;

@@ -5,8 +5,8 @@
 //! messages, the flows and the totals that it answers are, on honest disks, those of each view of its files. So damage
 //! is reported only where there is no view, or where a sum of the view would pass its type, which no sum of a history
 //! within the limits does; and 30 only where a read failed in that call. Whatever is damaged, what it answers was read
-//! whole: flows of all kept messages, totals of all files. Only workers, whose totals are of a span, pass a file over,
-//! where it is known that none of its sums are in the span; it is known only of files that read whole.
+//! whole: flows of all kept messages, totals of all files. `flows` and workers pass a file over where it is known that
+//! none of its flows or sums are in the span; it is known only of files that read whole.
 //!
 //! Workers can share the files of one query of totals: each answers the sums of its own, and what comes of all their
 //! answers is what one call answers.
@@ -28,7 +28,7 @@ mod summing;
 pub use directory::Directory;
 pub use files::Files;
 pub use kept::span_in_memory;
-pub use laws::parts_are;
+pub use laws::{flows_by_file, parts_are};
 pub use shares::{PartSums, Share};
 pub use snapshot::{QueryError, Snapshot};
 pub use step::{Mark, Step};

@@ -1,21 +1,22 @@
 //! A snapshot, and what is asked of it.
 
-ghost use Rattle.std.specs.Prelude.{◌≡◌, ◌+◌, ◌<◌, ◌≤◌, ℕ, length, min, slice_get, IfOk, IsTrue, List, OnOk};
+ghost use Rattle.std.specs.Prelude.{◌≡◌, ◌+◌, ◌++◌, ◌<◌, ◌≤◌, ℕ, length, min, slice_get, IfOk, IsTrue, List, OnOk};
 ghost use Rattle.std.specs.Prelude.{Some};
 ghost use Rattle.std.specs.FinMap.{FinMap};
 ghost use Rattle.flow_codec.specs.Templates.{AllTemplates};
 ghost use Rattle.flow_disk.specs.Cause.{HasCause};
-ghost use Rattle.flow_measure.specs.History.{flows_in, templates_from, Accepted, AreAcceptedFrom, History, IsHistory};
+ghost use Rattle.flow_measure.specs.declared.flow.Flow.{Flow};
+ghost use Rattle.flow_measure.specs.History.{flows_in, Accepted, History, IsHistory};
 ghost use Rattle.flow_measure.specs.Query.{flows_in_view, message_in_view, narrow_table_in, totals_between};
 ghost use Rattle.flow_measure.specs.Query.{rows_of_both, totals_in_view};
 ghost use Rattle.flow_measure.specs.declared.rows.Sums.{Sums};
 ghost use Rattle.flow_measure.specs.Sums.{key_cmp, AllFit};
 ghost use Rattle.flow_measure.specs.View.{view_of, AreCountsOf, View};
-ghost use Rattle.flow_segment.specs.Carry.{octets_of};
-ghost use Rattle.flow_segment.specs.PartFlows.{flows_within, with_flows};
+ghost use Rattle.flow_segment.specs.PartFlows.{with_flows};
 ghost use Rattle.flow_segment.specs.Prefix.{IsRestated};
 ghost use Rattle.flow_snapshot.specs.Directories.{sight_of};
-ghost use Rattle.flow_snapshot.specs.Found.{kept_by_file, HaveFlows, IsMessageAt};
+ghost use Rattle.flow_snapshot.specs.Found.{kept_by_file, AppendsOwnFlows, AreOwnFlows, HaveOwnFlows, IsMessageAt};
+ghost use Rattle.flow_snapshot.specs.Found.{KeptFile};
 ghost use Rattle.flow_model.specs.Views.{first_prefix, AreKept, IsReadIn};
 ghost use Rattle.flow_snapshot.specs.Shares.{narrow_turn, own, summed, AllPartsFit, AreNarrow, AreShares, AreWide};
 ghost use Rattle.flow_snapshot.specs.Shares.{HaveSums, IsFileSum, IsNarrowRead, IsShare};
@@ -28,7 +29,7 @@ ghost use Rattle.flow_model.specs.Views.{AreRestated, AreRolledInto, IsViewOf};
 use crate::counting::{rolled_count, sealed_count};
 use crate::files::Files;
 use crate::interleaving::rows_of_both;
-use crate::kept::{collect_active, collect_sealed, flows_of_active, flows_of_segment, restated};
+use crate::kept::{collect_active, collect_segment, restated};
 use crate::numbered::sealed_message;
 use crate::shares::{
     PartSums, Share, add_own_active, add_own_files, add_own_segments, add_share, answer_of,
@@ -119,7 +120,7 @@ impl<S: SealedFile> Snapshot<S> {
     }
 
     /// The templates in force before the first kept message. It refuses as `flows` does.
-    pub fn templates(&self, alloc: Global, faults: &mut Faults<S>) -> Result<Templates, ReadRefusal>
+    fn templates(&self, alloc: Global, faults: &mut Faults<S>) -> Result<Templates, ReadRefusal>
         ensures cause { HasCause ReadRefusal.Fault faults.old faults.new result }
         ensures found { IsTrue self.now.honest → IfOk result
             (λ templates. IsRestated (first_prefix self.now.shelf.sealed self.now.shelf.prefix) templates) }
@@ -133,11 +134,75 @@ impl<S: SealedFile> Snapshot<S> {
         }
     }
 
+    /// How many files have kept messages: the sealed segments, and the active one.
+    pub fn kept_files(&self) -> u64
+        ensures { result ≡ length self.now.shelf.sealed + 1 }
+    {
+        self.files.sealed.len() as u64 + 1
+    }
+
+    /// Appends the flows of the file at a place.
+    fn collect_file(
+        &self,
+        alloc: Global,
+        at: u64,
+        from: u64,
+        to: u64,
+        flows: &mut Vec<Flow>,
+        faults: &mut Faults<S>,
+    ) -> Result<(), ReadRefusal>
+        requires { at ≤ length self.now.shelf.sealed }
+        ensures cause { HasCause ReadRefusal.Fault faults.old faults.new result }
+        ensures found { IsTrue self.now.honest → (file : KeptFile)
+            → slice_get (kept_by_file self.now.shelf) at ≡ Some file
+            → OnOk result (AppendsOwnFlows from to file flows.old.items flows.new.items) }
+        ensures given { IsTrue self.now.honest → (file : KeptFile)
+            → slice_get (kept_by_file self.now.shelf) at ≡ Some file → (own : List Flow)
+            → HaveOwnFlows from to file own → IsAnswered (λ _. flows.new.items ≡ flows.old.items ++ own) result }
+    {
+        match self.files.sealed.get(at as usize) {
+            Some(part) => collect_segment(alloc, part, from, to, flows, faults),
+            None => {
+                let prefix = self.files.prefix.as_slice();
+                collect_active(alloc, prefix, self.files.active.as_slice(), from, to, flows)
+            }
+        }
+    }
+
+    /// The flows of one file's kept messages that start from `from` on and before `to`, as `flows` has them. Files have
+    /// places from 0 on: the sealed segments, the oldest first, and after them the active one. Only this file is read,
+    /// a piece at a time: its prefix, and its messages after the templates that this restates; and nothing where it is
+    /// known that none of its flows start in the span. It refuses as `flows` does.
+    pub fn flows_of_file(
+        &self,
+        alloc: Global,
+        at: u64,
+        from: u64,
+        to: u64,
+        faults: &mut Faults<S>,
+    ) -> Result<Vec<Flow>, ReadRefusal>
+        requires { at ≤ length self.now.shelf.sealed }
+        ensures cause { HasCause ReadRefusal.Fault faults.old faults.new result }
+        // On honest disks, also where files are damaged: its messages are accepted, and the flows are theirs.
+        ensures found { IsTrue self.now.honest → (file : KeptFile)
+            → slice_get (kept_by_file self.now.shelf) at ≡ Some file
+            → IfOk result (λ flows. HaveOwnFlows from to file flows.items) }
+        // Where it has flows, they are answered; damage is reported only where it has none.
+        ensures given { IsTrue self.now.honest → (file : KeptFile)
+            → slice_get (kept_by_file self.now.shelf) at ≡ Some file → (own : List Flow)
+            → HaveOwnFlows from to file own → IsAnswered (λ flows. flows.items ≡ own) result }
+    {
+        let mut flows = Vec::new(alloc);
+        self.collect_file(alloc, at, from, to, &mut flows, faults)?;
+        Ok(flows)
+    }
+
     /// The flows of kept messages that start from `from` on and before `to`, both in seconds since 1970-01-01 00:00
-    /// UTC, in the order of their records. The segments are read once, a piece at a time.
+    /// UTC, in the order of their records. Each file is read once, a piece at a time, with nothing but its own prefix;
+    /// and not at all where it is known that none of its flows start in the span.
     ///
-    /// Where a file isn't what its archive wrote, it answers `Damaged`, with the file and the place; `Fault` exactly
-    /// where a read has raised `faults`; and `OutOfMemory`.
+    /// Where a file that is read isn't what its archive wrote, it answers `Damaged`, with the file and the place;
+    /// `Fault` exactly where a read has raised `faults`; and `OutOfMemory`.
     pub fn flows(
         &self,
         alloc: Global,
@@ -146,60 +211,20 @@ impl<S: SealedFile> Snapshot<S> {
         faults: &mut Faults<S>,
     ) -> Result<Vec<Flow>, ReadRefusal>
         ensures cause { HasCause ReadRefusal.Fault faults.old faults.new result }
-        // On honest disks, also where files are damaged: the flows of all kept messages, each of them accepted.
-        ensures found { IsTrue self.now.honest → IfOk result (λ flows. (before : AllTemplates) × (kept : List Accepted)
-            × AreKept self.now.shelf before kept × (flows.items ≡ flows_within from to (flows_in kept))) }
+        // On honest disks, also where files are damaged: the flows of all kept messages, each of them accepted, the
+        // first one of each file after the templates that its own prefix restates.
+        ensures found { IsTrue self.now.honest
+            → IfOk result (λ flows. AreOwnFlows from to (kept_by_file self.now.shelf) flows.items) }
         // What is answered by each view of the files; damage is reported only where there is none.
         ensures given { IsTrue self.now.honest → (v : View) → IsViewOf self.now.shelf v
             → IsAnswered (λ flows. flows.items ≡ flows_in_view from to v) result }
     {
-        let mut templates = self.templates(alloc, faults)?;
         let mut flows = Vec::new(alloc);
-        let sealed = self.files.sealed.as_slice();
-        collect_sealed(alloc, sealed, &mut templates, from, to, &mut flows, faults)?;
-        let active = self.files.active.as_slice();
-        collect_active(alloc, active, &mut templates, from, to, &mut flows)?;
-        Ok(flows)
-    }
-
-    /// How many files have kept messages: the sealed segments, and the active one.
-    pub fn kept_files(&self) -> u64
-        ensures { result ≡ length self.now.shelf.sealed + 1 }
-    {
-        self.files.sealed.len() as u64 + 1
-    }
-
-    /// The flows of one file's kept messages that start from `from` on and before `to`, as `flows` has them. Files have
-    /// places from 0 on: the sealed segments, the oldest first, and after them the active one. The templates given are
-    /// those in force before its first message, for the file at place 0 as `templates` answers them; after `Ok` they
-    /// are those after its last message, for the next file. It refuses as `flows` does. Only this file is read, a piece
-    /// at a time.
-    pub fn flows_of_file(
-        &self,
-        alloc: Global,
-        at: u64,
-        templates: &mut Templates,
-        from: u64,
-        to: u64,
-        faults: &mut Faults<S>,
-    ) -> Result<Vec<Flow>, ReadRefusal>
-        requires { at ≤ length self.now.shelf.sealed }
-        ensures cause { HasCause ReadRefusal.Fault faults.old faults.new result }
-        // On honest disks, also where files are damaged: its messages are accepted, and the flows are theirs.
-        ensures found { IsTrue self.now.honest → (octets : List (List ℕ))
-            → slice_get (kept_by_file self.now.shelf) at ≡ Some octets
-            → IfOk result (λ flows. HaveFlows octets templates.old from to templates.new flows.items) }
-        // Where these are accepted messages, their flows are answered; damage is reported only where they are none.
-        ensures given { IsTrue self.now.honest → (octets : List (List ℕ))
-            → slice_get (kept_by_file self.now.shelf) at ≡ Some octets → (messages : List Accepted)
-            → AreAcceptedFrom templates.old messages → octets_of messages ≡ octets
-            → IsAnswered (λ flows. (templates.new ≡ templates_from templates.old messages)
-            × (flows.items ≡ flows_within from to (flows_in messages))) result }
-    {
-        match self.files.sealed.get(at as usize) {
-            Some(part) => Ok(flows_of_segment(alloc, part, templates, from, to, faults)?),
-            None => flows_of_active(alloc, self.files.active.as_slice(), templates, from, to),
+        let files = self.kept_files();
+        for at in 0..files {
+            self.collect_file(alloc, at, from, to, &mut flows, faults)?;
         }
+        Ok(flows)
     }
 
     /// The octets of the message with this number, if it is kept: where it is above `cut` and not above `position`. It

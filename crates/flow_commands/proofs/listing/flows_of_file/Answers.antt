@@ -1,4 +1,4 @@
-use Rattle.std.proofs.Common.{rules, ◌≡◌, ◌∙◌, true, ap}
+use Rattle.std.proofs.Common.{rules, ◌≡◌, ◌∙◌, true, ap, sym}
 use Rattle.std.specs.Prelude.{filter}
 use Rattle.std.proofs.lemmas.Fn.{filter_same}
 use Rattle.std.proofs.lemmas.List.Elements.{All-same, filter_passes}
@@ -17,10 +17,9 @@ returns-clause-within g c =
     (filter_passes (λ (f : Flow). is_in c.args.span.now f.start) c.in_ok-flows.flows.items)
 
 pub returns-clause-given : goal.returns-clause-given
-returns-clause-given g c honest octets at messages accepted is =
+returns-clause-given g c honest file there own has =
     let test = λ (f : Flow). is_in c.args.span.now f.start in
     let kept : c.retain.new.self.items ≡ filter test c.in_ok-flows.flows.items =
     filter_same _ test _ (λ x b f' k. search rules) _ _ c.retain.ensures.filtered in
-    let given = (rw (c.from-from.ensures, c.to-to.ensures) at c.in_ok-flows.ensures.given) honest octets at messages
-    accepted is in
-    (given.0, kept ∙ ap (filter test) given.1 ∙ filter_all test _ (filter_passes test (flows_in messages)))
+    let given = (rw (c.from-from.ensures, c.to-to.ensures) at c.in_ok-flows.ensures.given) honest file there own has in
+    kept ∙ ap (filter test) (given ∙ has.5) ∙ filter_all test _ (filter_passes test (flows_in has.1)) ∙ sym has.5

@@ -3,7 +3,7 @@ use Rattle.flow_measure.specs.History.{Accepted, AreAcceptedFrom}
 use Rattle.flow_segment.specs.Carry.{octets_of}
 use Rattle.flow_snapshot.proofs.Finding.{AreBehind}
 use Rattle.flow_snapshot.proofs.KeptFlows.{HasChosenFlows, Taken}
-use Rattle.flow_snapshot.proofs.kept.collect_active.Given as goal
+use Rattle.flow_snapshot.proofs.kept.collect_after.Given as goal
 
 -- the messages so far were taken
 abbrev pub invariant-loop-message : goal.invariant-loop-message
