@@ -1,5 +1,5 @@
 -- What is reported of several archives.
-use Rattle.std.proofs.Common.{◌≡◌, ◌∙◌, ◌⊎◌, inr, ℕ, List, Option, ap, sym, subst}
+use Rattle.std.proofs.Common.{◌≡◌, ◌∙◌, ◌⊎◌, inl, inr, ℕ, Bool, List, Option, refl, ap, sym, subst}
 use Rattle.std.proofs.KnownBytes.{Keeps-refl}
 use Rattle.flow_report.specs.Writing.{AppendsFront}
 use Rattle.flow_program.specs.Printed.{told_lines}
@@ -13,7 +13,8 @@ use Rattle.flow_several_folders.specs.declared.asking.Question.{Question}
 use Rattle.flow_several_folders.specs.declared.refusal.FoldersRefusal.{FoldersRefusal}
 use Rattle.flow_several_folders.specs.declared.refusal.FoldersRefusal.TheVariants.{Folder, Several}
 use Rattle.flow_program.specs.declared.arguments.MomentSpan.{MomentSpan}
-use Rattle.flow_program.specs.Several.{no_clock, numbered, text_reported, AreFoldersReported, QuestionEnds}
+use Rattle.flow_program.specs.Several.{no_clock, numbered, question_at, text_reported}
+use Rattle.flow_program.specs.Several.{AreFoldersReported, QuestionEnds}
 
 module _ (before after : Option (List ℕ)) (status : ℕ) (r : FoldersRefusal) where
   pub folder_reported : (number : ℕ) (e : FolderError) (a : ArchiveRefusal) → r ≡ Folder number e → a ≡ of_folder e
@@ -33,9 +34,17 @@ module _ (before after : Option (List ℕ)) (status : ℕ) (r : FoldersRefusal) 
       subst (λ (r : FoldersRefusal). AreFoldersReported r before after) (sym is)
       (subst (λ (s : ℕ). AppendsFront before after (told_lines (text_reported s (several_text e)))) by reported)
 
+-- what was asked is answered
+pub is_answered : (answered : Question → Type 0) (refused : Question → FoldersRefusal → Type 0) (span : MomentSpan)
+    (each : Bool) (format : Format) (old new before : Option (List ℕ)) (now : ℕ) (q : Question)
+    → q ≡ question_at now span each format → answered q
+    → QuestionEnds answered refused span each format old new before before 0
+is_answered answered refused span each format old new before now q is done =
+    inl (now, refl, Keeps-refl before, subst answered is done)
+
 -- no time is known, and nothing is written
 pub without_clock : (answered : Question → Type 0) (refused : Question → FoldersRefusal → Type 0) (span : MomentSpan)
-    (each : _) (format : Format) (output before after : Option (List ℕ)) (status : ℕ) (e : ArchiveRefusal)
+    (each : Bool) (format : Format) (output before after : Option (List ℕ)) (status : ℕ) (e : ArchiveRefusal)
     → e ≡ no_clock → status ≡ archive_status e → AppendsFront before after (told_lines (archive_printed e))
     → QuestionEnds answered refused span each format output output before after status
 without_clock answered refused span each format output before after status e is by reported =

@@ -1,11 +1,10 @@
 -- What is answered of archives in folders.
-use Rattle.std.specs.Prelude.{◌≡◌, ◌≤◌, ◌⊎◌, ⊤, ℕ, ◌+◌, List, [], ◌∷◌, ◌++◌, length, Option, Result, OnOk, IfErr, IsTrue}
+use Rattle.std.specs.Prelude.{◌≡◌, ◌≤◌, ◌⊎◌, ℕ, ◌+◌, List, ◌∷◌, ◌++◌, length, Option, Result, OnOk, IfErr, IsTrue}
 use Rattle.std.specs.Io.KnownBytes.{Keeps}
 use Rattle.std.specs.List.{All, AllZip}
 use Rattle.flow_disk.specs.Cause.{HasRisen}
 use Rattle.flow_disk.specs.declared.disk.Disk.{Ghosts}
 use Rattle.flow_folder.specs.declared.system.FolderError.{FolderError}
-use Rattle.flow_several.specs.declared.refusal.SeveralRefusal.{SeveralRefusal}
 use Rattle.flow_several.specs.declared.refusal.SeveralRefusal.TheVariants.{OutOfMemory}
 use Rattle.flow_several.specs.Several.{readings, IsReadFault}
 use Rattle.flow_several_folders.specs.declared.asking.Question.{Question}

@@ -1,7 +1,13 @@
-use Rattle.std.specs.Prelude.{length}
+use Rattle.std.proofs.Common.{◌≡◌, ◌∙◌, ℕ, Bool, List, length, map, ap, sym, subst}
+use Rattle.std.specs.Borrow.{Bor}
+use Rattle.std.proofs.lemmas.List.{length-map}
+use Rattle.clap.specs.Walk.{Text}
+use Rattle.flow_commands.specs.Plans.{Span}
+use Rattle.flow_report.specs.declared.format.Format.{Format}
+use Rattle.flow_several_folders.specs.declared.asking.Question.{Question}
 use Rattle.flow_several_folders.specs.Folders.{AnswersFolders, AreFoldersRefused, KeepsOrRows}
 use Rattle.flow_several_folders.specs.Questions.{AnswersRows}
-use Rattle.flow_program.proofs.Reported.{without_clock}
+use Rattle.flow_program.proofs.Reported.{is_answered, without_clock}
 use Rattle.flow_program.proofs.several.run_several.Goals as goal
 
 pub returns-in-Err-clause-folders : goal.returns-in-Err-clause-folders
@@ -22,3 +28,43 @@ returns-in-Err-clause-runs g c =
     without_clock (λ q. AnswersRows q count output output) (λ q e. KeepsOrRows q count output output e) c.args.span
     c.args.each c.args.format output (g.E.Write.contents c.args.errors.now) (g.E.Write.contents told.new.errors)
     told.result c.in-Err.refusal c.in-Err.ensures.refused told.ensures.status told.ensures.told
+
+-- what is asked in the seconds of a span
+abbrev asked_in : Span → Bool → Format → Question
+asked_in s each format = record { from = s.from; to = s.to; each = each; format = format }
+
+pub returns-in-Ok-totals_of_folders-clause-folders : goal.returns-in-Ok-totals_of_folders-clause-folders
+returns-in-Ok-totals_of_folders-clause-folders g c =
+    let opens = g.O.Opener.opens in
+    let old = g.W.Write.contents c.args.output.now in
+    let new = g.W.Write.contents c.totals_of_folders.new.output in
+    let found = c.in-Ok.ensures.found in
+    let q = c.question_of-question.result in
+    let folders = c.args.folders.now in
+    let folders_are : map (λ (path : Bor Text). path.now) c.as_slice-paths.result.now ≡ folders =
+    ap (λ (paths : List (Bor Text)). map (λ (path : Bor Text). path.now) paths) c.as_slice-paths.ensures.value
+    ∙ c.folders.view_is in
+    is_answered (λ q. AnswersFolders g.D.Disk opens q folders old new)
+    (λ q e. AreFoldersRefused g.D.Disk opens g.O.Opener.refuses q folders old new e) c.args.span c.args.each
+    c.args.format old new (g.E.Write.contents c.args.errors.now) found.0 q
+    (c.question_of-question.ensures ∙ ap (λ (s : Span). asked_in s c.args.each c.args.format) found.1)
+    (subst (λ (paths : List Text). AnswersFolders g.D.Disk opens q paths old new) folders_are
+    c.in-Ok-totals_of_folders.ensures.answered)
+
+pub returns-in-Ok-totals_of_folders-clause-runs : goal.returns-in-Ok-totals_of_folders-clause-runs
+returns-in-Ok-totals_of_folders-clause-runs g c =
+    let old = g.W.Write.contents c.args.output.now in
+    let new = g.W.Write.contents c.totals_of_folders.new.output in
+    let found = c.in-Ok.ensures.found in
+    let q = c.question_of-question.result in
+    let paths = c.as_slice-paths.result.now in
+    let count = length c.args.folders.now in
+    let folders_are : map (λ (path : Bor Text). path.now) paths ≡ c.args.folders.now =
+    ap (λ (paths : List (Bor Text)). map (λ (path : Bor Text). path.now) paths) c.as_slice-paths.ensures.value
+    ∙ c.folders.view_is in
+    is_answered (λ q. AnswersRows q count old new) (λ q e. KeepsOrRows q count old new e) c.args.span c.args.each
+    c.args.format old new (g.E.Write.contents c.args.errors.now) found.0 q
+    (c.question_of-question.ensures ∙ ap (λ (s : Span). asked_in s c.args.each c.args.format) found.1)
+    (subst (λ (n : ℕ). AnswersRows q n old new)
+    (sym (length-map paths (λ (path : Bor Text). path.now)) ∙ ap length folders_are)
+    c.in-Ok-totals_of_folders.ensures.written)
