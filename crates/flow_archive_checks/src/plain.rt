@@ -1,10 +1,17 @@
 //! The plain archive.
 
 use crate::messages::{PLAIN, RECORD};
-use flow_archive::PlainArchive;
+use flow_archive::{PlainArchive, PlainError};
+use flow_codec::MessageError;
 use flow_measure::{Key, Row, Sums};
 use std::alloc::Global;
 use std::test::*;
+
+/// A template of one element of any length, and a record of it whose field passes the end of its Set.
+const RECORD_CUT: [u8; 36] = [
+    0x00, 0x0A, 0x00, 0x24, 0x65, 0x53, 0xF1, 0x00, 0, 0, 0, 0, 0, 0, 0, 7, 0x00, 0x02, 0x00, 0x0C,
+    0x01, 0x2C, 0x00, 0x01, 0x00, 0xD2, 0xFF, 0xFF, 0x01, 0x2C, 0x00, 0x08, 0x05, 0xAA, 0xBB, 0xCC,
+];
 
 /// The row of two flows.
 const TWO: Row = Row {
@@ -21,10 +28,19 @@ const TWO: Row = Row {
     width: 300,
 };
 
-/// Whether a message is taken in, one that is cut short is refused, and another taken in after it.
+/// Whether a message whose last record is cut is refused by just that.
+fn is_refused(archive: &mut PlainArchive) -> bool {
+    matches!(
+        archive.append(&RECORD_CUT),
+        Err(PlainError::Message(MessageError::RecordCut(32)))
+    )
+}
+
+/// Whether a message is taken in, some that are cut short are refused, and another is taken in after them.
 fn is_taken(archive: &mut PlainArchive) -> bool {
     matches!(archive.append(&PLAIN), Ok(1))
         && archive.append(&PLAIN[..56]).is_err()
+        && is_refused(archive)
         && matches!(archive.append(&RECORD), Ok(2))
 }
 

@@ -1,6 +1,7 @@
 pub mod EndedLines
-pub mod KeepsAsked
 pub mod Names
+pub mod Replies
+pub mod Requested
 pub mod Said
 pub mod Shown
 pub mod Table

@@ -7,6 +7,8 @@ use Rattle.std.specs.Str.{bytes_eq}
 use Rattle.flow_report.specs.Numbers.{number_between}
 use Rattle.flow_manifest.specs.Limits.{too_many_messages}
 use Rattle.flow_commands.specs.Plans.{Span}
+use Rattle.flow_commands.specs.declared.plan.InputKind.{InputKind}
+use Rattle.flow_commands.specs.declared.plan.InputKind.TheVariants.{File, Datagrams}
 use Rattle.flow_shell.specs.declared.asked.Query.{Query}
 use Rattle.flow_shell.specs.declared.asked.Query.TheVariants.{Totals, Flows, Message, Check}
 use Rattle.flow_shell.specs.declared.asked.ShellRequest.{ShellRequest}
@@ -73,6 +75,19 @@ request_in line =
     else if bytes_eq (codes "quit") line then Some Quit
     else by_name (name_of line) (rest_of line)
 
+-- the File that a request asks to be fed, by its path, and how: from its first message on, or by datagrams
+abbrev pub feed_of : ShellRequest → Option (List ℕ × InputKind)
+feed_of (Feed path) = Some (path, File 0)
+feed_of (Collect path) = Some (path, Datagrams)
+feed_of (Ask query) = None
+feed_of (Keep keep) = None
+feed_of Wait = None
+feed_of Quit = None
+
+-- the same of a line
+abbrev pub feed_in : List ℕ → Option (List ℕ × InputKind)
+feed_in line = option_and_then feed_of (request_in line)
+
 -- ---- what an input asks for
 
 -- what is left of an input after so many lines
@@ -85,11 +100,18 @@ abbrev pub IsNextLine : Option (List ℕ) → Option (List ℕ) → List ℕ →
 IsNextLine old left line =
     IfSome old (λ octets. (octets ≢ []) × (line ≡ first_piece 10 octets) × (left ≡ Some (drop_through 10 octets)))
 
--- A line of the input asks that so many segments are kept. Of an input of which it isn't known what it has nothing is
--- said.
+-- One of the lines of an input is such. Of an input of which it isn't known what it has nothing is said.
+abbrev pub HasLine : (List ℕ → Type 0) → Option (List ℕ) → Type 0
+HasLine is None = ⊤
+HasLine is (Some octets) = (n : ℕ) × is (first_piece 10 (after_lines n octets))
+
+-- A line of the input asks that so many segments are kept.
 abbrev pub AsksToKeep : Option (List ℕ) → ℕ → Type 0
-AsksToKeep None keep = ⊤
-AsksToKeep (Some octets) keep = (n : ℕ) × (request_in (first_piece 10 (after_lines n octets)) ≡ Some (Keep keep))
+AsksToKeep input keep = HasLine (λ line. request_in line ≡ Some (Keep keep)) input
+
+-- A line of the input asks that the File at this path is fed so.
+abbrev pub AsksToFeed : Option (List ℕ) → List ℕ → InputKind → Type 0
+AsksToFeed input path kind = HasLine (λ line. feed_in line ≡ Some (path, kind)) input
 
 -- So many may be kept: as many as at first, or as a line of the input asks for.
 abbrev pub MayKeep : ℕ → Option (List ℕ) → ℕ → Type 0

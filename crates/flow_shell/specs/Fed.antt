@@ -6,7 +6,6 @@ use Rattle.flow_feed.specs.declared.batch.Fed.{Fed}
 use Rattle.flow_feed.specs.declared.batch.FeedStop.TheVariants as stop
 use Rattle.flow_commands.specs.Feeding.{unopened, IsFedFrom}
 use Rattle.flow_commands.specs.declared.plan.InputKind.{InputKind}
-use Rattle.flow_commands.specs.declared.plan.InputKind.TheVariants.{File, Datagrams}
 
 -- A File was fed by its kind, and ended so: its messages that are reported are acknowledged, in their order, each once,
 -- and what comes after them is why there aren't more; and where each step is made they are in the archive's steps. Or
@@ -16,6 +15,7 @@ EndsBy g opening kind fed =
     (fed ≡ unopened stop.OutOfMemory) ⊎ (fed ≡ unopened stop.Unopened)
     ⊎ ((octets : Option (List ℕ)) × IsFedFrom g opening kind octets fed)
 
--- A File was fed from its first message on, or by datagrams.
-abbrev pub EndsSo : {D S X : Type 0} → Ghosts D S X → Shelf → Fed → Type 0
-EndsSo g opening fed = EndsBy g opening (File 0) fed ⊎ EndsBy g opening Datagrams fed
+-- A File was fed by the kind by which a File at some path was to be fed, and ended so.
+abbrev pub EndsSo : {D S X : Type 0} → Ghosts D S X → Shelf → (List ℕ → InputKind → Type 0) → Fed → Type 0
+EndsSo g opening to_feed fed =
+    (path : List ℕ) × (kind : InputKind) × ∥ to_feed path kind ∥₁ × EndsBy g opening kind fed

@@ -4,4 +4,5 @@ pub mod Endings
 pub mod Fed
 pub mod Places
 pub mod Refusals
+pub mod Replies
 pub mod Written

@@ -116,10 +116,14 @@ impl Places {
     }
 }
 
-/// What is said of how Files ended. Each use of a board picks it.
+/// Which Files were asked for, and what is said of how they ended. Each use of a board picks it.
 pub(crate) trait Ends {
-    ghost use Rattle.std.specs.Prelude.{ℕ};
+    ghost use Rattle.std.specs.Prelude.{ℕ, List};
+    ghost use Rattle.flow_commands.specs.declared.plan.InputKind.{InputKind as Kind};
     ghost use Rattle.flow_feed.specs.declared.batch.Fed.{Fed as HowFar};
+
+    /// The File at this path was asked for, to be fed so.
+    ghost to_feed: { List ℕ → Kind → Type 0 };
 
     /// The File of this number ended so.
     ghost said: { ℕ → HowFar → Type 0 };
@@ -127,6 +131,8 @@ pub(crate) trait Ends {
 
 impl Ends for Brand {
     ghost use Rattle.std.specs.Prelude.{⊤};
+
+    ghost to_feed = { λ path kind. ⊤ };
 
     ghost said = { λ number fed. ⊤ };
 }

@@ -1,5 +1,6 @@
 //! A File that was asked for is fed.
 
+ghost use Rattle.std.specs.Prelude.{string_bytes};
 ghost use Rattle.flow_commands.specs.Feeding.{IsFedFrom};
 ghost use Rattle.flow_shell.specs.Fed.{EndsBy};
 ghost use Rattle.flow_feed.specs.declared.batch.Fed.{Fed as FedFile};
@@ -40,7 +41,7 @@ fn feed_file<H: AllocGlobal + Wait, D: Disk, J: Naming, K: Keeping, B: Ends, R: 
     collected.fed
 }
 
-/// The same of the File at a path.
+/// The same of the File at a path, which was asked for, to be fed so.
 fn feed_path<H: Files + AllocGlobal + Clone + Drop + Wait, D: Disk, J: Naming, K: Keeping, B: Ends>(
     rt: &H,
     shared: &SharedArchive<D, J, H>,
@@ -50,6 +51,7 @@ fn feed_path<H: Files + AllocGlobal + Clone + Drop + Wait, D: Disk, J: Naming, K
     kind: InputKind,
     path: &str,
 ) -> Fed
+    requires { ∥ B.to_feed path.now kind ∥₁ }
     ensures { EndsBy D.Disk J.opening kind result }
 {
     match File::open(rt, path) {
@@ -78,8 +80,9 @@ pub(crate) fn feed_one<
     number: u64,
     path: String,
 )
+    requires asked { ∥ B.to_feed (string_bytes path) kind ∥₁ }
     // What is said of its end is what feeding it gives.
-    requires { (fed : FedFile) → EndsBy D.Disk J.opening kind fed → ∥ B.said number fed ∥₁ }
+    requires said { (fed : FedFile) → EndsBy D.Disk J.opening kind fed → ∥ B.said number fed ∥₁ }
 {
     let fed = feed_path(rt, shared, bell, board, limit, kind, path.as_str());
     board.end(rt, number, fed);

@@ -1,13 +1,15 @@
 //! The lines of the requests.
 
-ghost use Rattle.std.specs.Prelude.{◌≡◌, ℕ, [], Some, true, false, IfOk, IfSome, IsTrue};
+ghost use Rattle.std.specs.Prelude.{◌≡◌, ℕ, List, [], Some, true, false, option_and_then, IfOk, IfSome, IsTrue};
 ghost use Rattle.std.specs.Io.BufRead.{strip_last};
 ghost use Rattle.std.specs.Io.KnownBytes.{IsAtEnd};
 ghost use Rattle.std.specs.Str.{IsUtf8};
-ghost use Rattle.flow_shell.specs.Asked.{request_in, AsksToKeep, IsNextLine};
+ghost use Rattle.flow_commands.specs.declared.plan.InputKind.{InputKind};
+ghost use Rattle.flow_shell.specs.Asked.{feed_in, feed_of, request_in, AsksToFeed, AsksToKeep, IsNextLine};
 ghost use Rattle.flow_shell.specs.declared.asked.ShellRequest.TheVariants as asked;
 
 use crate::asked::{ShellRequest, request_of};
+use crate::board::Ends;
 use flow_roller::Keeping;
 use std::io;
 use std::io::BufRead;
@@ -22,37 +24,45 @@ fn strip_feed(line: &mut Vec<u8>)
     }
 }
 
-/// The lines of an input, of which the one that was read last is at hand. That as many segments are kept as one of them
-/// says was asked for.
+/// The lines of an input, of which the one that was read last is at hand. What one of them says was asked for: that so
+/// many segments are kept, and that the File at a path is fed so.
 #[derive(Drop)]
-pub(crate) struct Lines<K: Keeping, I: BufRead + Drop> {
+pub(crate) struct Lines<K: Keeping, B: Ends, I: BufRead + Drop> {
     input: I,
     line: Vec<u8>,
     /// Whether each line so far was read.
     is_read: bool,
-    of: PhantomData<K>,
+    keeping: PhantomData<K>,
+    feeding: PhantomData<B>,
     ghost left: { is_read ≡ true → (keep : ℕ) → AsksToKeep (I.remaining input) keep → ∥ K.asked keep ∥₁ },
     ghost here: { (keep : ℕ) → request_in line.items ≡ Some (asked.Keep keep) → ∥ K.asked keep ∥₁ },
+    ghost feeds_left: { is_read ≡ true
+        → (path : List ℕ) (kind : InputKind) → AsksToFeed (I.remaining input) path kind → ∥ B.to_feed path kind ∥₁ },
+    ghost feed_here: { (path : List ℕ) (kind : InputKind) → feed_in line.items ≡ Some (path, kind)
+        → ∥ B.to_feed path kind ∥₁ },
 }
 
-impl<K: Keeping, I: BufRead + Drop> Lines<K, I> {
+impl<K: Keeping, B: Ends, I: BufRead + Drop> Lines<K, B, I> {
     /// Those of an input, of which none was read.
-    #[tactic(auto, using(crate::proofs::KeepsAsked::no_line))]
-    pub(crate) fn new(input: I, line: Vec<u8>) -> Lines<K, I>
+    #[tactic(auto, using(crate::proofs::Requested::no_line, crate::proofs::Requested::no_feed))]
+    pub(crate) fn new(input: I, line: Vec<u8>) -> Lines<K, B, I>
         requires none { line.items ≡ [] }
         requires asked { (keep : ℕ) → AsksToKeep (I.remaining input) keep → ∥ K.asked keep ∥₁ }
+        requires to_feed { (path : List ℕ) (kind : InputKind) → AsksToFeed (I.remaining input) path kind
+            → ∥ B.to_feed path kind ∥₁ }
         ensures { result.is_read ≡ true }
     {
         Lines {
             input,
             line,
             is_read: true,
-            of: PhantomData,
+            keeping: PhantomData,
+            feeding: PhantomData,
         }
     }
 
     /// Reads the next line, without its line feed, and answers whether there is one. After a failed read there is none.
-    #[tactic(auto, using(crate::proofs::KeepsAsked::no_line))]
+    #[tactic(auto, using(crate::proofs::Requested::no_line, crate::proofs::Requested::no_feed))]
     pub(crate) fn read(&mut self) -> Result<bool, io::Error>
         ensures next { IfOk result (λ more. IsTrue more
             → IsNextLine (I.remaining self.old.input) (I.remaining self.new.input) self.new.line.items) }
@@ -80,6 +90,8 @@ impl<K: Keeping, I: BufRead + Drop> Lines<K, I> {
         ensures value { IsUtf8 self.now.line.items → result ≡ request_in self.now.line.items }
         ensures text { IfSome result (λ _. IsUtf8 self.now.line.items) }
         ensures asked { (keep : ℕ) → result ≡ Some (asked.Keep keep) → ∥ K.asked keep ∥₁ }
+        ensures to_feed { (path : List ℕ) (kind : InputKind) → option_and_then feed_of result ≡ Some (path, kind)
+            → ∥ B.to_feed path kind ∥₁ }
     {
         match str::from_utf8(self.line.as_slice()) {
             Ok(text) => request_of(text),

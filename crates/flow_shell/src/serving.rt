@@ -1,11 +1,16 @@
 //! Requests, answered one after the other while Files are fed.
 
-ghost use Rattle.std.specs.Prelude.{◌≡◌, ◌≢◌, ◌≤◌, ⊤, ℕ, IfErr, IfOk, List, OnOk, Option, Some, string_bytes};
+ghost use Rattle.std.specs.Prelude.{◌≡◌, ◌≢◌, ◌≤◌, ⊤, ℕ, IfErr, IfOk, List, OnOk, Option, Some, option_and_then};
+ghost use Rattle.std.specs.Prelude.{string_bytes};
 ghost use Rattle.std.specs.Io.KnownBytes.{Appends};
 ghost use Rattle.flow_shell.specs.Written.{began_line, HasTold};
+ghost use Rattle.flow_shell.specs.Asked.{feed_of};
+ghost use mathlib.Core.List.{IsPrefix};
 ghost use Rattle.flow_shell.specs.Fed.{EndsBy, EndsSo};
+ghost use Rattle.flow_shell.specs.Replies.{IsAnswered, IsBegun, IsLineReplied, IsReply, IsSettled};
 ghost use Rattle.flow_shell.specs.declared.asked.ShellRequest.TheVariants as asked;
 ghost use Rattle.flow_shell.specs.Endings.{end_status, end_text, IsUnanswered, RollsAsked};
+ghost use Rattle.flow_commands.specs.declared.plan.InputKind.{InputKind as Kind};
 ghost use Rattle.flow_feed.specs.declared.batch.Fed.{Fed as FedFile};
 
 use crate::asked::ShellRequest;
@@ -88,8 +93,10 @@ where
     H::File: Send + Sync,
     H::Dir: Send + Sync,
     D::Sealed: Send + Sync,
-    requires { (number : ℕ) (fed : FedFile) → EndsBy D.Disk J.opening kind fed → ∥ B.said number fed ∥₁ }
-    ensures { IfErr result IsUnanswered }
+    requires asked { ∥ B.to_feed path.now kind ∥₁ }
+    requires said { (number : ℕ) (fed : FedFile) → EndsBy D.Disk J.opening kind fed → ∥ B.said number fed ∥₁ }
+    ensures begun { OnOk result (IsBegun (W.contents output.old) (W.contents output.new)) }
+    ensures unanswered { IfErr result IsUnanswered }
 {
     let Ok(path) = String::from_str(alloc, path) else {
         return answer_text(NO_MEMORY, WITHOUT_MEMORY, output);
@@ -99,7 +106,8 @@ where
     };
     match scope.spawn(
         move ||
-            requires { (fed : FedFile) → EndsBy D.Disk J.opening kind fed → ∥ B.said number fed ∥₁ }
+            requires asked { ∥ B.to_feed (string_bytes path) kind ∥₁ }
+            requires said { (fed : FedFile) → EndsBy D.Disk J.opening kind fed → ∥ B.said number fed ∥₁ }
         { feed_one(rt, shared, bell, board, limit, kind, number, path) },
     ) {
         Ok(_) => {}
@@ -130,7 +138,8 @@ fn answer_wait<B: Ends, H: Wait, W: Write>(
     board: &Board<B>,
     output: &mut W,
 ) -> Result<(), ArchiveRefusal>
-    ensures { IfErr result IsUnanswered }
+    ensures settled { OnOk result (IsSettled B.said (W.contents output.old) (W.contents output.new)) }
+    ensures unanswered { IfErr result IsUnanswered }
 {
     board.wait(rt);
     match tell_ended(rt, alloc, board, output) {
@@ -166,9 +175,16 @@ where
     H::File: Send + Sync,
     H::Dir: Send + Sync,
     D::Sealed: Send + Sync,
-    requires said { (number : ℕ) (fed : FedFile) → EndsSo D.Disk J.opening fed → ∥ B.said number fed ∥₁ }
+    requires said { (number : ℕ) (fed : FedFile) → EndsSo D.Disk J.opening B.to_feed fed → ∥ B.said number fed ∥₁ }
     requires asked { (keep : ℕ) → request ≡ Some (asked.Keep keep) → ∥ K.asked keep ∥₁ }
-    ensures { IfErr result IsUnanswered }
+    requires to_feed { (path : List ℕ) (kind : Kind) → option_and_then feed_of request ≡ Some (path, kind)
+        → ∥ B.to_feed path kind ∥₁ }
+    ensures later { IsPrefix asking.old.reader asking.new.reader }
+    ensures width { asking.new.width ≡ asking.old.width }
+    ensures replied { OnOk result (IsReply B.said
+        (IsAnswered J.honest J.opening asking.old.width asking.new.reader) request.entry (W.contents output.old)
+        (W.contents output.new)) }
+    ensures unanswered { IfErr result IsUnanswered }
 {
     match request {
         None => answer_text(WRONG_REQUEST, WRONG_LINE, output),
@@ -197,8 +213,52 @@ where
     }
 }
 
-/// Answers requests, up to the end of the input, or to `quit`.
+/// Writes the lines of the Files that have ended, and answers the line at hand; whether that was `quit`.
 #[tactic(auto, using(crate::proofs::Unanswered::told))]
+fn answer_line<
+    's,
+    E: 's,
+    H: Files + AllocGlobal + Clone + Drop + Threads + Wait + Send + Sync,
+    D: Disk + Send,
+    J: Naming + Send + Sync,
+    K: Keeping + Send + Sync,
+    B: Ends + Send + Sync,
+    I: BufRead + Drop,
+    W: Write,
+>(
+    scope: &Scope<'s, E>,
+    rt: &'s H,
+    alloc: Global,
+    shared: &'s SharedArchive<D, J, H>,
+    bell: &'s Bell<K>,
+    board: &'s Board<B>,
+    limit: u32,
+    asking: &mut Asking<D::Sealed, J>,
+    lines: &Lines<K, B, I>,
+    output: &mut W,
+) -> Result<bool, ArchiveRefusal>
+where
+    H::File: Send + Sync,
+    H::Dir: Send + Sync,
+    D::Sealed: Send + Sync,
+    requires { (number : ℕ) (fed : FedFile) → EndsSo D.Disk J.opening B.to_feed fed → ∥ B.said number fed ∥₁ }
+    ensures later { IsPrefix asking.old.reader asking.new.reader }
+    ensures width { asking.new.width ≡ asking.old.width }
+    ensures replied { IfOk result (λ quits. IsLineReplied B.said
+        (IsAnswered J.honest J.opening asking.old.width asking.new.reader) lines.now.line.items quits
+        (W.contents output.old) (W.contents output.new)) }
+    ensures unanswered { IfErr result IsUnanswered }
+{
+    tell_ended(rt, alloc, board, output)?;
+    let request = lines.request();
+    let is_quit = matches!(request, Some(ShellRequest::Quit));
+    answer_request(
+        scope, rt, alloc, shared, bell, board, limit, asking, request, output,
+    )?;
+    Ok(is_quit)
+}
+
+/// Answers requests, up to the end of the input, or to `quit`.
 fn serve<
     's,
     E: 's,
@@ -218,14 +278,14 @@ fn serve<
     board: &'s Board<B>,
     limit: u32,
     asking: &mut Asking<D::Sealed, J>,
-    lines: &mut Lines<K, I>,
+    lines: &mut Lines<K, B, I>,
     output: &mut W,
 ) -> Result<End, ArchiveRefusal>
 where
     H::File: Send + Sync,
     H::Dir: Send + Sync,
     D::Sealed: Send + Sync,
-    requires { (number : ℕ) (fed : FedFile) → EndsSo D.Disk J.opening fed → ∥ B.said number fed ∥₁ }
+    requires { (number : ℕ) (fed : FedFile) → EndsSo D.Disk J.opening B.to_feed fed → ∥ B.said number fed ∥₁ }
     ensures { IfErr result IsUnanswered }
 {
     for _ in 0..u64::MAX {
@@ -234,14 +294,11 @@ where
             Ok(false) => return Ok(End::OfInput),
             Err(_) => return Ok(End::Unread),
         }
-        tell_ended(rt, alloc, board, output)?;
-        let request = lines.request();
-        if let Some(ShellRequest::Quit) = request {
+        if answer_line(
+            scope, rt, alloc, shared, bell, board, limit, asking, lines, output,
+        )? {
             return Ok(End::Quit);
         }
-        answer_request(
-            scope, rt, alloc, shared, bell, board, limit, asking, request, output,
-        )?;
     }
     Ok(End::OfInput)
 }
@@ -291,7 +348,7 @@ pub(crate) fn serve_beside<
     bell: &Bell<K>,
     limit: u32,
     asking: &mut Asking<D::Sealed, J>,
-    lines: Lines<K, I>,
+    lines: Lines<K, Brand, I>,
     output: &mut W,
 ) -> (Result<u8, ArchiveRefusal>, Option<ArchiveError>)
 where

@@ -82,7 +82,7 @@ where
         width,
         workers: Workers::of_processors(rt),
     };
-    let lines: Lines<K, BufReader<&mut R>> = Lines::new(input, Vec::new(alloc));
+    let lines: Lines<K, Brand, BufReader<&mut R>> = Lines::new(input, Vec::new(alloc));
     let bell: Bell<K> = Bell::new(keep);
     let (status, refused) = serve_beside(rt, shared, &bell, limit, &mut asking, lines, output);
     ended(status, refused)

@@ -1,14 +1,28 @@
-use Rattle.std.proofs.Common.{◌∙◌, ℕ, List, ap, sym}
-use Rattle.flow_shell.specs.Asked.{request_in}
-use Rattle.flow_shell.proofs.KeepsAsked.{line_here, lines_left}
+use Rattle.std.proofs.Common.{◌≡◌, ◌∙◌, ℕ, List, ap, sym}
+use Rattle.std.specs.Prelude.{Some}
+use Rattle.flow_commands.specs.declared.plan.InputKind.{InputKind}
+use Rattle.flow_shell.specs.declared.asked.ShellRequest.TheVariants.{Keep}
+use Rattle.flow_shell.specs.Asked.{feed_in, request_in}
+use Rattle.flow_shell.proofs.Requested.{line_here, lines_left}
 use Rattle.flow_shell.proofs.lines.Lines.read.Goals as goal
 
 pub invariant_of-self-in-Ok : goal.invariant_of-self-in-Ok
 invariant_of-self-in-Ok g c =
-    let input = g.I.Read.remaining c.args.self.now.input in record {
-      left = λ read. lines_left g.K.Keeping.asked input (g.I.Read.remaining c.read_until.new.self) c.in-Ok.ensures.rest
-          (c.args.self.now.left read);
-      here = λ keep asks. line_here g.K.Keeping.asked input c.clear.new.self.items c.read_until.new.buf.items
-          c.clear.ensures.items c.in-Ok.ensures.bytes (c.args.self.now.left c.if-not-self.false) keep
-          (ap request_in (sym {A = List ℕ} c.strip_feed.ensures) ∙ asks);
+    let old = g.I.Read.remaining c.args.self.now.input in
+    let new = g.I.Read.remaining c.read_until.new.self in
+    let before = c.clear.new.self.items in
+    let read = c.read_until.new.buf.items in
+    let line = sym {A = List ℕ} c.strip_feed.ensures in
+    let keeps = λ (keep : ℕ) (line : List ℕ). request_in line ≡ Some (Keep keep) in
+    let feeds = λ (path : List ℕ) (kind : InputKind) (line : List ℕ). feed_in line ≡ Some (path, kind) in
+    record {
+      left = λ is keep. lines_left (∥ g.K.Keeping.asked keep ∥₁) (keeps keep) old new c.in-Ok.ensures.rest
+          (c.args.self.now.left is keep);
+      here = λ keep asks. line_here (∥ g.K.Keeping.asked keep ∥₁) (keeps keep) old before read c.clear.ensures.items
+          c.in-Ok.ensures.bytes (c.args.self.now.left c.if-not-self.false keep) (ap request_in line ∙ asks);
+      feeds_left = λ is path kind. lines_left (∥ g.B.Ends.to_feed path kind ∥₁) (feeds path kind) old new
+          c.in-Ok.ensures.rest (c.args.self.now.feeds_left is path kind);
+      feed_here = λ path kind asks. line_here (∥ g.B.Ends.to_feed path kind ∥₁) (feeds path kind) old before read
+          c.clear.ensures.items c.in-Ok.ensures.bytes (c.args.self.now.feeds_left c.if-not-self.false path kind)
+          (ap feed_in line ∙ asks);
     }
