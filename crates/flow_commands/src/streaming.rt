@@ -13,7 +13,8 @@ use crate::warning::{LossyFile, PassedFile, RefusedFile, UnopenedFile};
 use flow_codec::Losses;
 use flow_disk::Disk;
 use flow_feed::{
-    Collected, Fed, FeedStop, RefusedDatagrams, SharedAppender, feed_datagrams, feed_shared,
+    Collected, Counter, Fed, FeedStop, RefusedDatagrams, SharedAppender, Uncounted, feed_datagrams,
+    feed_shared,
 };
 use flow_roller::{Bell, Keeping};
 use flow_shared::{Naming, SharedArchive};
@@ -31,8 +32,8 @@ struct Streamed {
 }
 
 /// Takes what an input gives into an archive that threads share, by its kind.
-pub fn take_input<D: Disk, J: Naming, W: Wait, R: Read>(
-    appender: &mut SharedAppender<'_, D, J, W>,
+pub fn take_input<D: Disk, J: Naming, W: Wait, C: Counter + Drop, R: Read>(
+    appender: &mut SharedAppender<'_, D, J, W, C>,
     alloc: Global,
     input: &mut R,
     kind: InputKind,
@@ -63,7 +64,7 @@ fn stream<H: AllocGlobal + Wait, D: Disk, J: Naming, K: Keeping, R: Read, P: Wri
     ensures { IsStreamed D.Disk J.opening kind (R.remaining input.old) result.collected }
 {
     let mut input = Watched::new(rt, input, progress, bell, span);
-    let mut appender = SharedAppender::new(rt, shared);
+    let mut appender = SharedAppender::new(rt, shared, Uncounted);
     let collected = take_input(&mut appender, rt.alloc(), &mut input, kind);
     let losses = appender.losses();
     Streamed { collected, losses }

@@ -6,6 +6,7 @@ ghost use Rattle.flow_feed.specs.Shared.{IsGivenShared};
 
 use crate::appender::{Appender, SharedAppender};
 use crate::batch::{Fed, FeedStop};
+use crate::counter::Counter;
 use crate::datagrams::{DATAGRAM_ROOM, Datagrams, Receiver};
 use crate::refused::RefusedDatagrams;
 use flow_archive::ArchiveError;
@@ -36,7 +37,7 @@ fn fault_of(error: ArchiveError) -> Option<MessageError>
     }
 }
 
-/// Gives a datagram by itself. Where it isn't accepted its fault is answered.
+/// Gives a datagram by itself. Where it isn't accepted it is passed over, and its fault is answered.
 fn take_datagram<A: Appender>(
     appender: &mut A,
     alloc: Global,
@@ -48,7 +49,10 @@ fn take_datagram<A: Appender>(
         return Ok(None);
     };
     match fault_of(error) {
-        Some(fault) => Ok(Some(fault)),
+        Some(fault) => {
+            appender.pass_over(fault);
+            Ok(Some(fault))
+        }
         None => Err(error),
     }
 }
@@ -137,8 +141,8 @@ pub fn collect<A: Appender, S: Datagrams>(
 /// The datagrams that an input gives, one a read, into an archive that threads share; `is_socket` says whether it is a
 /// socket, of which a read may give an empty one. Where the appender is whole then, the steps that it learnt meanwhile
 /// add the messages that are taken in, each once, in their order.
-pub fn feed_datagrams<D: Disk, J: Naming, W: Wait, R: Read>(
-    appender: &mut SharedAppender<'_, D, J, W>,
+pub fn feed_datagrams<D: Disk, J: Naming, W: Wait, C: Counter + Drop, R: Read>(
+    appender: &mut SharedAppender<'_, D, J, W, C>,
     alloc: Global,
     input: &mut R,
     is_socket: bool,

@@ -7,6 +7,7 @@ ghost use Rattle.flow_feed.specs.Shared.{IsGivenShared, IsInSteps};
 
 use crate::appender::{Appender, SharedAppender};
 use crate::batch::{Fed, FeedStop};
+use crate::counter::Counter;
 use crate::giving::give;
 use crate::reading::read_batch;
 use flow_codec::MessageReader;
@@ -86,8 +87,8 @@ pub fn feed<A: Appender, R: Read>(appender: &mut A, alloc: Global, input: &mut R
 
 /// The same into an archive that threads share. Where the appender is whole then, the steps that it learnt meanwhile add
 /// the messages that are reported, but for those that are only read, each once, in the File's order.
-pub fn feed_shared<D: Disk, J: Naming, W: Wait, R: Read>(
-    appender: &mut SharedAppender<'_, D, J, W>,
+pub fn feed_shared<D: Disk, J: Naming, W: Wait, C: Counter + Drop, R: Read>(
+    appender: &mut SharedAppender<'_, D, J, W, C>,
     alloc: Global,
     input: &mut R,
     first: u64,

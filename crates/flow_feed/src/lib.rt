@@ -4,12 +4,14 @@
 //! to an appender: the value under the archive's lock, or the archive that threads share. What is acknowledged of the
 //! File are the messages after those that are passed over, in their order, each once, and as many as are reported, and
 //! where nothing stopped it all the rest of the File. Into an archive that threads share `feed_shared` does the same,
-//! and says of the thread that feeds that the steps which it learnt meanwhile add these messages.
+//! and says of the thread that feeds that the steps which it learnt meanwhile add these messages. What isn't read, and
+//! datagrams that are passed over, are counted meanwhile by whatever counts them (`Counter`).
 #![tactic(auto)]
 
 mod appender;
 mod batch;
 mod collecting;
+mod counter;
 mod datagrams;
 mod feeding;
 mod giving;
@@ -19,6 +21,7 @@ mod refused;
 pub use appender::{Appender, SharedAppender};
 pub use batch::{Fed, FeedStop};
 pub use collecting::{Collected, collect, feed_datagrams};
+pub use counter::{Counter, Uncounted};
 pub use datagrams::{DATAGRAM_ROOM, Datagrams, ReceiveFailed, Receiver};
 pub use feeding::{feed, feed_shared};
 pub use refused::RefusedDatagrams;

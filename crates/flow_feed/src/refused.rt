@@ -26,7 +26,7 @@ impl RefusedDatagrams {
     }
 
     /// One more has this fault.
-    pub(crate) fn add(&mut self, fault: MessageError)
+    pub fn add(&mut self, fault: MessageError)
         ensures { IsOneMore fault self.old.counts self.new.counts }
     {
         let number = fault.code().number() as usize;

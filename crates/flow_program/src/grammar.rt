@@ -179,6 +179,9 @@ const SHELL_HELP: &str =
      \x20 flows FROM TO   lines as of flows\n\
      \x20 message N       the octets of the Nth message in hexadecimal digits, or none\n\
      \x20 check           ok POSITION CUT ROLLED SEALED, as of check\n\
+     \x20 losses          what isn't read of all Files so far: sets N (no template),\n\
+     \x20                 domain N (of the first), gaps N and records N (missing by\n\
+     \x20                 Sequence Numbers), datagrams COUNT NUMBER NAME (passed over)\n\
      \x20 keep N          from now on sealed segments but the newest N are rolled\n\
      \x20 wait            answered when all Files have ended\n\
      \x20 quit            answered last: Files end with what was read of them\n\

@@ -12,7 +12,7 @@ use Rattle.flow_commands.specs.declared.plan.InputKind.TheVariants.{File, Datagr
 use Rattle.flow_shell.specs.declared.asked.Query.{Query}
 use Rattle.flow_shell.specs.declared.asked.Query.TheVariants.{Totals, Flows, Message, Check}
 use Rattle.flow_shell.specs.declared.asked.ShellRequest.{ShellRequest}
-use Rattle.flow_shell.specs.declared.asked.ShellRequest.TheVariants.{Ask, Feed, Collect, Keep, Wait, Quit}
+use Rattle.flow_shell.specs.declared.asked.ShellRequest.TheVariants.{Ask, Feed, Collect, Keep, Losses, Wait, Quit}
 
 -- the part of a line before its first space, and what comes after that
 abbrev pub name_of : List ℕ → List ℕ
@@ -71,6 +71,7 @@ by_name name rest =
 abbrev pub request_in : List ℕ → Option ShellRequest
 request_in line =
     if bytes_eq (codes "check") line then Some (Ask Check)
+    else if bytes_eq (codes "losses") line then Some Losses
     else if bytes_eq (codes "wait") line then Some Wait
     else if bytes_eq (codes "quit") line then Some Quit
     else by_name (name_of line) (rest_of line)
@@ -81,6 +82,7 @@ feed_of (Feed path) = Some (path, File 0)
 feed_of (Collect path) = Some (path, Datagrams)
 feed_of (Ask query) = None
 feed_of (Keep keep) = None
+feed_of Losses = None
 feed_of Wait = None
 feed_of Quit = None
 

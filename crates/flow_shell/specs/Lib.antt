@@ -2,6 +2,7 @@ pub mod Answers
 pub mod Asked
 pub mod Endings
 pub mod Fed
+pub mod Losses
 pub mod Places
 pub mod Refusals
 pub mod Replies

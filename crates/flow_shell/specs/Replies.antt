@@ -12,9 +12,11 @@ use Rattle.flow_shared.specs.Meaning.{HasView}
 use Rattle.flow_feed.specs.declared.batch.Fed.{Fed}
 use Rattle.flow_shell.specs.declared.asked.Query.{Query}
 use Rattle.flow_shell.specs.declared.asked.ShellRequest.{ShellRequest}
-use Rattle.flow_shell.specs.declared.asked.ShellRequest.TheVariants.{Ask, Feed, Collect, Keep, Wait, Quit}
+use Rattle.flow_shell.specs.declared.asked.ShellRequest.TheVariants.{Ask, Feed, Collect, Keep, Losses, Wait, Quit}
 use Rattle.flow_shell.specs.Answers.{query_lines}
+use Rattle.flow_shell.specs.declared.losses.FeedCounts.{FeedCounts}
 use Rattle.flow_shell.specs.Asked.{after_lines, request_in}
+use Rattle.flow_shell.specs.Losses.{HasLosses}
 use Rattle.flow_shell.specs.declared.serving.End.{End}
 use Rattle.flow_shell.specs.declared.serving.End.TheVariants as end
 use Rattle.flow_shell.specs.Written.{began_line, done_line, HasTold, IsAnswer}
@@ -23,7 +25,7 @@ use Rattle.flow_shell.specs.Written.{began_line, done_line, HasTold, IsAnswer}
 abbrev pub no_request : List ℕ
 no_request =
     codes "refused no request: one of feed FILE [datagrams], totals FROM TO, flows FROM TO, message N, check, "
-    ++ codes "keep N, wait, quit\n"
+    ++ codes "losses, keep N, wait, quit\n"
 
 -- What a query is answered by the steps that are shown: on an honest disk its lines and their end, or a refusal.
 abbrev pub IsAnswered : Bool → Shelf → ℕ → List Change → Query → Option (List ℕ) → Option (List ℕ) → Type 0
@@ -42,28 +44,31 @@ abbrev pub IsSettled : (ℕ → Fed → Type 0) → Option (List ℕ) → Option
 IsSettled said old new = (mid : Option (List ℕ)) × HasTold said old mid × Appends mid new (done_line 0)
 
 -- What a request is answered, or a line that is none; `quit` nothing before all Files have ended.
-abbrev pub IsReply : (ℕ → Fed → Type 0) → (Query → Option (List ℕ) → Option (List ℕ) → Type 0) → Option ShellRequest
-    → Option (List ℕ) → Option (List ℕ) → Type 0
-IsReply said answered None old new = Appends old new (no_request ++ done_line 2)
-IsReply said answered (Some (Ask query)) old new = answered query old new
-IsReply said answered (Some (Feed path)) old new = IsBegun old new
-IsReply said answered (Some (Collect path)) old new = IsBegun old new
-IsReply said answered (Some (Keep keep)) old new = Appends old new (done_line 0)
-IsReply said answered (Some Wait) old new = IsSettled said old new
-IsReply said answered (Some Quit) old new = new ≡ old
+abbrev pub IsReply : (ℕ → Fed → Type 0) → (FeedCounts → Type 0)
+    → (Query → Option (List ℕ) → Option (List ℕ) → Type 0) → Option ShellRequest → Option (List ℕ) → Option (List ℕ)
+    → Type 0
+IsReply said had answered None old new = Appends old new (no_request ++ done_line 2)
+IsReply said had answered (Some (Ask query)) old new = answered query old new
+IsReply said had answered (Some (Feed path)) old new = IsBegun old new
+IsReply said had answered (Some (Collect path)) old new = IsBegun old new
+IsReply said had answered (Some (Keep keep)) old new = Appends old new (done_line 0)
+IsReply said had answered (Some Losses) old new = HasLosses had old new
+IsReply said had answered (Some Wait) old new = IsSettled said old new
+IsReply said had answered (Some Quit) old new = new ≡ old
 
 -- A line is taken for what it asks for, where it is text, and else for no request.
 abbrev pub IsRequest : List ℕ → Option ShellRequest → Type 0
 IsRequest line request = (IsUtf8 line → request ≡ request_in line) × IfSome request (λ _. IsUtf8 line)
 
 -- A line was answered, after the lines of Files that had ended so; and it is `quit`, or isn't.
-pub record IsLineReplied (said : ℕ → Fed → Type 0) (answered : Query → Option (List ℕ) → Option (List ℕ) → Type 0)
-    (line : List ℕ) (quits : Bool) (old new : Option (List ℕ)) : Type 0 where
+pub record IsLineReplied (said : ℕ → Fed → Type 0) (had : FeedCounts → Type 0)
+    (answered : Query → Option (List ℕ) → Option (List ℕ) → Type 0) (line : List ℕ) (quits : Bool)
+    (old new : Option (List ℕ)) : Type 0 where
   pub request : Option ShellRequest
   pub asked : IsRequest line request
   pub mid : Option (List ℕ)
   pub told : HasTold said old mid
-  pub replied : IsReply said answered request mid new
+  pub replied : IsReply said had answered request mid new
   pub is_quit : IsTrue quits ↔ (request ≡ Some Quit)
 
 -- ---- all lines of an input

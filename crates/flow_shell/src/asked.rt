@@ -53,6 +53,8 @@ pub enum ShellRequest<'a> {
     Collect(FileName<'a>),
     /// `keep N`: so many of the newest segments are left as they are from now on.
     Keep(u32),
+    /// `losses`: what all Files so far show not to be read.
+    Losses,
     /// `wait`: answered when all Files that are fed have ended.
     Wait,
     /// `quit`: the shell ends.
@@ -158,6 +160,7 @@ pub fn request_of(line: &str) -> Option<ShellRequest<'_>>
 {
     match line {
         "check" => Some(ShellRequest::Ask(Query::Check)),
+        "losses" => Some(ShellRequest::Losses),
         "wait" => Some(ShellRequest::Wait),
         "quit" => Some(ShellRequest::Quit),
         _ => {

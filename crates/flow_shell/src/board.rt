@@ -2,8 +2,11 @@
 
 ghost use Rattle.std.specs.Prelude.{◌≡◌, ◌≢◌, ◌↔◌, IfSome, IsTrue};
 ghost use Rattle.std.specs.Sync.Mutex.{mutex_guard_value};
+ghost use Rattle.flow_shell.specs.Losses.{IsCounted, IsUncounted};
+ghost use Rattle.flow_shell.specs.declared.losses.FeedCounts.{FeedCounts as Counts};
 ghost use Rattle.flow_shell.specs.Places.{AreSaid, Begins, Frees, HasFed, IsFirst, Replaces};
 
+use crate::losses::{FeedCounts, Missed};
 use flow_feed::Fed;
 use flow_roller::{Bell, Keeping};
 use std::io;
@@ -116,17 +119,27 @@ impl Places {
     }
 }
 
-/// Which Files were asked for, and what is said of how they ended. Each use of a board picks it.
+/// Which Files were asked for, what is said of how they ended, and what was counted of them at some time. Each use of a
+/// board picks it.
 pub(crate) trait Ends {
     ghost use Rattle.std.specs.Prelude.{ℕ, List};
     ghost use Rattle.flow_commands.specs.declared.plan.InputKind.{InputKind as Kind};
     ghost use Rattle.flow_feed.specs.declared.batch.Fed.{Fed as HowFar};
+    ghost use Rattle.flow_shell.specs.declared.losses.FeedCounts.{FeedCounts as Counts};
+    ghost use Rattle.flow_shell.specs.declared.losses.Missed.{Missed as NotRead};
+    ghost use Rattle.flow_shell.specs.Losses.{IsCounted};
 
     /// The File at this path was asked for, to be fed so.
     ghost to_feed: { List ℕ → Kind → Type 0 };
 
     /// The File of this number ended so.
     ghost said: { ℕ → HowFar → Type 0 };
+
+    /// At some time so much was counted of all Files.
+    ghost had: { Counts → Type 0 };
+
+    /// After one more is counted so much is.
+    ghost had_more: { (missed : NotRead) (old new : Counts) → ∥ had old ∥₁ → IsCounted missed old new → ∥ had new ∥₁ };
 }
 
 impl Ends for Brand {
@@ -135,20 +148,29 @@ impl Ends for Brand {
     ghost to_feed = { λ path kind. ⊤ };
 
     ghost said = { λ number fed. ⊤ };
+
+    ghost had = { λ counts. ⊤ };
+
+    ghost had_more = { λ missed old new had counted. had };
 }
 
-/// The places, of which each File that has ended did so as is said of it.
+/// The places, of which each File that has ended did so as is said of it; and what was counted of all Files so far.
 #[derive(Drop)]
 struct Table<B: Ends> {
     places: Places,
+    counts: FeedCounts,
     of: PhantomData<B>,
     ghost are_said: { AreSaid B.said places.places },
+    ghost is_had: { ∥ B.had counts ∥₁ },
 }
 
 impl<B: Ends> Table<B> {
-    /// No File is fed.
+    /// No File is fed, and nothing is counted.
     #[tactic(auto, using(crate::proofs::Said::none_ended))]
-    fn new() -> Table<B> {
+    fn new() -> Table<B>
+        requires { (counts : Counts) → IsUncounted counts → ∥ B.had counts ∥₁ }
+        ensures { IsUncounted result.counts }
+    {
         let places = Places {
             places: [Place::Free; MOST_FILES],
             count: 0,
@@ -156,6 +178,7 @@ impl<B: Ends> Table<B> {
         };
         Table {
             places,
+            counts: FeedCounts::none(),
             of: PhantomData,
         }
     }
@@ -170,7 +193,8 @@ impl<B: Ends> Table<B> {
     /// A place for one File more, which has the number that is answered; none where all are taken.
     #[tactic(auto, using(crate::proofs::Said::begun))]
     fn begin(&mut self) -> Option<u64>
-        ensures { Begins self.old.places result self.new.places }
+        ensures places { Begins self.old.places result self.new.places }
+        ensures counts { self.new.counts ≡ self.old.counts }
     {
         self.places.begin()
     }
@@ -179,7 +203,8 @@ impl<B: Ends> Table<B> {
     #[tactic(auto, using(crate::proofs::Said::ended))]
     fn end(&mut self, number: u64, fed: Fed)
         requires { ∥ B.said number fed ∥₁ }
-        ensures { Replaces (Place.Fed number) (Place.Ended number fed) self.old.places self.new.places }
+        ensures places { Replaces (Place.Fed number) (Place.Ended number fed) self.old.places self.new.places }
+        ensures counts { self.new.counts ≡ self.old.counts }
     {
         self.places.end(number, fed);
     }
@@ -190,13 +215,31 @@ impl<B: Ends> Table<B> {
         ensures answered { IsFirst self.old.places.places result }
         ensures freed { Frees result self.old.places self.new.places }
         ensures said { IfSome result (λ ended. ∥ B.said ended.0 ended.1 ∥₁) }
+        ensures counts { self.new.counts ≡ self.old.counts }
     {
         self.places.take_ended()
     }
 
+    /// Counts what a File shows not to be read.
+    fn add(&mut self, missed: Missed)
+        ensures counted { IsCounted missed self.old.counts self.new.counts }
+        ensures places { self.new.places ≡ self.old.places }
+    {
+        self.counts.add(missed);
+    }
+
+    /// What was counted so far.
+    fn counts(&self) -> FeedCounts
+        ensures value { result ≡ self.now.counts }
+        ensures had { ∥ B.had result ∥₁ }
+    {
+        self.counts
+    }
+
     /// No File is read from now on.
     fn quit(&mut self)
-        ensures { self.new.places.places ≡ self.old.places.places }
+        ensures places { self.new.places.places ≡ self.old.places.places }
+        ensures counts { self.new.counts ≡ self.old.counts }
     {
         self.places.is_ending = true;
     }
@@ -210,8 +253,10 @@ pub(crate) struct Board<B: Ends> {
 }
 
 impl<B: Ends> Board<B> {
-    /// No File is fed.
-    pub(crate) fn new() -> Board<B> {
+    /// No File is fed, and nothing is counted.
+    pub(crate) fn new() -> Board<B>
+        requires { (counts : Counts) → IsUncounted counts → ∥ B.had counts ∥₁ }
+    {
         Board {
             table: Mutex::new(Table::new()),
             changed: Condvar::new(),
@@ -238,6 +283,18 @@ impl<B: Ends> Board<B> {
         ensures { IfSome result (λ ended. ∥ B.said ended.0 ended.1 ∥₁) }
     {
         self.table.lock(rt).take_ended()
+    }
+
+    /// Counts what a File shows not to be read.
+    pub(crate) fn add<H: Wait>(&self, rt: &H, missed: Missed) {
+        self.table.lock(rt).add(missed);
+    }
+
+    /// What was counted so far, of all Files.
+    pub(crate) fn counts<H: Wait>(&self, rt: &H) -> FeedCounts
+        ensures { ∥ B.had result ∥₁ }
+    {
+        self.table.lock(rt).counts()
     }
 
     /// The table, at a moment when no File is fed.

@@ -6,6 +6,7 @@ ghost use Rattle.flow_shell.specs.Fed.{EndsBy};
 ghost use Rattle.flow_feed.specs.declared.batch.Fed.{Fed as FedFile};
 
 use crate::board::{Board, Ends, Stoppable};
+use crate::losses::Noting;
 use flow_commands::{InputKind, take_input, unopened};
 use flow_disk::Disk;
 use flow_feed::{Fed, SharedAppender};
@@ -16,7 +17,8 @@ use std::fs::{File, Files};
 use std::io::Read;
 use std::sync::Wait;
 
-/// Takes what `input` gives into the archive, by its kind, until the shell ends, and says how it ended.
+/// Takes what `input` gives into the archive, by its kind, until the shell ends, and says how it ended. What isn't read
+/// is counted meanwhile.
 fn feed_file<H: AllocGlobal + Wait, D: Disk, J: Naming, K: Keeping, B: Ends, R: Read>(
     rt: &H,
     shared: &SharedArchive<D, J, H>,
@@ -36,7 +38,7 @@ fn feed_file<H: AllocGlobal + Wait, D: Disk, J: Naming, K: Keeping, B: Ends, R: 
         input,
         octets: 0,
     };
-    let mut appender = SharedAppender::new(rt, shared);
+    let mut appender = SharedAppender::new(rt, shared, Noting { rt, board });
     let collected = take_input(&mut appender, rt.alloc(), &mut input, kind);
     collected.fed
 }

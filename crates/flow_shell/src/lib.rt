@@ -12,6 +12,7 @@ mod board;
 mod feeding;
 mod finishing;
 mod lines;
+mod losses;
 mod querying;
 mod refusal;
 mod rolling;

@@ -19,6 +19,7 @@ use crate::board::{Board, Ends};
 use crate::feeding::feed_one;
 use crate::finishing::{DONE, NO_MEMORY, WITHOUT_MEMORY, answer_text, end_answer};
 use crate::lines::Lines;
+use crate::losses::answer_losses;
 use crate::querying::{Asking, answer_query};
 use crate::rolling::roll_files;
 use crate::telling::tell_ended;
@@ -42,7 +43,7 @@ const WRONG_LINE: u8 = 2;
 /// What a line that is no request is answered.
 const WRONG_REQUEST: &str =
     "refused no request: one of feed FILE [datagrams], totals FROM TO, flows FROM TO, message N, check, \
-     keep N, wait, quit\n";
+     losses, keep N, wait, quit\n";
 
 /// A File is fed from its first message on.
 const FROM_FIRST: InputKind = InputKind::File(0);
@@ -182,7 +183,7 @@ where
         → ∥ B.to_feed path kind ∥₁ }
     ensures later { IsPrefix asking.old.reader asking.new.reader }
     ensures width { asking.new.width ≡ asking.old.width }
-    ensures replied { OnOk result (IsReply B.said
+    ensures replied { OnOk result (IsReply B.said B.had
         (IsAnswered J.honest J.opening asking.old.width asking.new.reader) request.entry (W.contents output.old)
         (W.contents output.new)) }
     ensures unanswered { IfErr result IsUnanswered }
@@ -195,6 +196,7 @@ where
             bell.set_keep(rt, keep);
             end_answer(DONE, output)
         }
+        Some(ShellRequest::Losses) => answer_losses(rt, alloc, board, output),
         Some(ShellRequest::Wait) => answer_wait(rt, alloc, board, output),
         Some(ShellRequest::Feed(file)) => begin_feed(
             scope, rt, alloc, shared, bell, board, limit, FROM_FIRST, file.path, output,
@@ -245,7 +247,7 @@ where
     requires { (number : ℕ) (fed : FedFile) → EndsSo D.Disk J.opening B.to_feed fed → ∥ B.said number fed ∥₁ }
     ensures later { IsPrefix asking.old.reader asking.new.reader }
     ensures width { asking.new.width ≡ asking.old.width }
-    ensures replied { IfOk result (λ quits. IsLineReplied B.said
+    ensures replied { IfOk result (λ quits. IsLineReplied B.said B.had
         (IsAnswered J.honest J.opening asking.old.width asking.new.reader) lines.now.line.items quits
         (W.contents output.old) (W.contents output.new)) }
     ensures unanswered { IfErr result IsUnanswered }

@@ -1,0 +1,218 @@
+//! What the Files that were fed show of records that aren't read, and the answer to `losses`.
+
+ghost use Rattle.std.specs.Prelude.{◌≡◌, IfErr, IfOk, OnOk, Some, string_bytes};
+ghost use Rattle.flow_shell.specs.Endings.{IsUnanswered};
+ghost use Rattle.flow_shell.specs.Losses.{domain_text, losses_text, passed_text, refused_text, with_losses};
+ghost use Rattle.flow_shell.specs.Losses.{HasLosses, IsCounted, IsUncounted};
+
+use crate::board::{Board, Ends};
+use crate::finishing::{DONE, NO_MEMORY, WITHOUT_MEMORY, answer_text};
+use flow_codec::{Losses, MessageError};
+use flow_commands::ArchiveRefusal;
+use flow_feed::{Counter, RefusedDatagrams};
+use flow_refusals::RefusalCode;
+use std::alloc::{AllocError, Global};
+use std::fmt;
+use std::io::Write;
+use std::sync::Wait;
+
+/// What a File that is fed shows not to be read.
+#[derive(Clone, Copy, Debug, PartialEq, Eq)]
+pub(crate) enum Missed {
+    /// Records, by a batch that was taken in.
+    Records(Losses),
+    /// A datagram, which isn't accepted for this fault.
+    Datagram(MessageError),
+}
+
+/// What all Files so far show not to be read. Counts stop at 2^64 - 1.
+#[derive(Clone, Copy, Debug, PartialEq, Eq)]
+pub(crate) struct FeedCounts {
+    /// Data Sets without a definition in force.
+    sets: u64,
+    /// The Observation Domain of the first of them.
+    domain: Option<u32>,
+    /// Messages whose Sequence Number is past the due one.
+    gaps: u64,
+    /// How many records are missing there.
+    records: u64,
+    /// Datagrams that were passed over.
+    refused: RefusedDatagrams,
+}
+
+impl FeedCounts {
+    /// Of no File.
+    pub(crate) fn none() -> FeedCounts
+        ensures { IsUncounted result }
+    {
+        FeedCounts {
+            sets: 0,
+            domain: None,
+            gaps: 0,
+            records: 0,
+            refused: RefusedDatagrams::none(),
+        }
+    }
+
+    /// With what a batch shows.
+    fn with_losses(self, losses: Losses) -> FeedCounts
+        ensures { result ≡ with_losses losses self }
+    {
+        FeedCounts {
+            sets: self.sets.saturating_add(losses.unread),
+            domain: self.domain.or(losses.domain),
+            gaps: self.gaps.saturating_add(losses.gaps),
+            records: self.records.saturating_add(losses.missing),
+            refused: self.refused,
+        }
+    }
+
+    /// Adds what is shown not to be read.
+    pub(crate) fn add(&mut self, missed: Missed)
+        ensures { IsCounted missed self.old self.new }
+    {
+        match missed {
+            Missed::Records(losses) => *self = self.with_losses(losses),
+            Missed::Datagram(fault) => self.refused.add(fault),
+        }
+    }
+}
+
+/// The line of the first domain, where there is one.
+#[derive(Clone, Copy, Debug)]
+struct DomainLine {
+    domain: Option<u32>,
+}
+
+impl fmt::Display for DomainLine {
+    ghost output = { λ line. Some (domain_text line.domain) };
+
+    fn fmt<W: fmt::Write>(&self, f: &mut fmt::Formatter<W>) -> fmt::Result {
+        match self.domain {
+            None => write!(f, ""),
+            Some(domain) => write!(f, "domain {domain}\n"),
+        }
+    }
+}
+
+/// The line of the datagrams that were passed over by a refusal, where there are any.
+#[derive(Clone, Copy, Debug)]
+struct PassedLine {
+    refused: RefusedDatagrams,
+    code: RefusalCode,
+}
+
+impl fmt::Display for PassedLine {
+    ghost output = { λ line. Some (passed_text line.refused.counts line.code) };
+
+    fn fmt<W: fmt::Write>(&self, f: &mut fmt::Formatter<W>) -> fmt::Result {
+        let count = self.refused.of_number(self.code.number());
+        if count == 0 {
+            return write!(f, "");
+        }
+        write!(f, "datagrams {} {}\n", count, self.code)
+    }
+}
+
+/// The lines of the datagrams that were passed over, by the numbers of their refusals.
+#[derive(Clone, Copy, Debug)]
+struct PassedLines {
+    refused: RefusedDatagrams,
+}
+
+impl PassedLines {
+    /// That of a refusal.
+    fn of(&self, code: RefusalCode) -> PassedLine
+        ensures { result ≡ record { refused = self.now.refused; code = code } }
+    {
+        PassedLine {
+            refused: self.refused,
+            code,
+        }
+    }
+}
+
+impl fmt::Display for PassedLines {
+    ghost output = { λ lines. Some (refused_text lines.refused.counts) };
+
+    fn fmt<W: fmt::Write>(&self, f: &mut fmt::Formatter<W>) -> fmt::Result {
+        write!(
+            f,
+            "{}{}{}{}{}{}{}{}{}{}",
+            self.of(RefusalCode::Short),
+            self.of(RefusalCode::Version),
+            self.of(RefusalCode::Length),
+            self.of(RefusalCode::SetLength),
+            self.of(RefusalCode::TemplateCut),
+            self.of(RefusalCode::TemplateId),
+            self.of(RefusalCode::ScopeCount),
+            self.of(RefusalCode::RecordCut),
+            self.of(RefusalCode::TemplatesFull),
+            self.of(RefusalCode::DomainsFull)
+        )
+    }
+}
+
+impl fmt::Display for FeedCounts {
+    ghost output = { λ counts. Some (losses_text counts) };
+
+    fn fmt<W: fmt::Write>(&self, f: &mut fmt::Formatter<W>) -> fmt::Result {
+        write!(
+            f,
+            "sets {}\n{}gaps {}\nrecords {}\n{}",
+            self.sets,
+            DomainLine {
+                domain: self.domain
+            },
+            self.gaps,
+            self.records,
+            PassedLines {
+                refused: self.refused
+            }
+        )
+    }
+}
+
+/// The lines of `losses`.
+fn losses_lines(alloc: Global, counts: &FeedCounts) -> Result<String, AllocError>
+    ensures { IfOk result (λ text. string_bytes text ≡ losses_text counts.now) }
+{
+    format!(in alloc; "{counts}")
+}
+
+/// Answers what all Files so far show not to be read, those that are fed too.
+#[tactic(auto, using(crate::proofs::Unanswered::written))]
+pub(crate) fn answer_losses<B: Ends, H: Wait, W: Write>(
+    rt: &H,
+    alloc: Global,
+    board: &Board<B>,
+    output: &mut W,
+) -> Result<(), ArchiveRefusal>
+    ensures answered { OnOk result (HasLosses B.had (W.contents output.old) (W.contents output.new)) }
+    ensures unanswered { IfErr result IsUnanswered }
+{
+    let counts = board.counts(rt);
+    let Ok(lines) = losses_lines(alloc, &counts) else {
+        return answer_text(NO_MEMORY, WITHOUT_MEMORY, output);
+    };
+    answer_text(lines.as_str(), DONE, output)
+}
+
+/// Counts on a board what a File that is fed shows not to be read, as soon as it is shown.
+#[derive(Drop)]
+pub(crate) struct Noting<'a, B: Ends, H: Wait> {
+    pub(crate) rt: &'a H,
+    pub(crate) board: &'a Board<B>,
+}
+
+impl<B: Ends, H: Wait> Counter for Noting<'_, B, H> {
+    fn add_losses(&mut self, piece: Losses) {
+        if piece.unread > 0 || piece.gaps > 0 {
+            self.board.add(self.rt, Missed::Records(piece));
+        }
+    }
+
+    fn add_refused(&mut self, fault: MessageError) {
+        self.board.add(self.rt, Missed::Datagram(fault));
+    }
+}
