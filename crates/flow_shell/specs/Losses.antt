@@ -50,7 +50,7 @@ abbrev pub passed_text : List ℕ → RefusalCode → List ℕ
 passed_text counts refusal =
     if nat_eq (get_or counts (row_of refusal).number 0) 0 then []
     else codes "datagrams " ++ decimal (get_or counts (row_of refusal).number 0) ++ codes " " ++ code_text refusal
-        ++ codes "\n"
+    ++ codes "\n"
 
 -- by each refusal that a message may earn, in the order of their numbers
 abbrev pub refused_text : List ℕ → List ℕ

@@ -75,31 +75,31 @@ pub record IsLineReplied (said : ℕ → Fed → Type 0) (had : FeedCounts → T
 
 -- So many lines of an input were answered, one after the other: each by the steps that were shown then, which begin
 -- with those that were shown before.
-abbrev pub AreReplied : (ℕ → Fed → Type 0)
+abbrev pub AreReplied : (ℕ → Fed → Type 0) → (FeedCounts → Type 0)
     → (List Change → Query → Option (List ℕ) → Option (List ℕ) → Type 0) → List ℕ → ℕ → List Change → List Change
     → Option (List ℕ) → Option (List ℕ) → Type 0
-AreReplied said answered octets zero seen shown old new = (shown ≡ seen) × (new ≡ old)
-AreReplied said answered octets (suc n) seen shown old new =
-    (before : List Change) × (mid : Option (List ℕ)) × AreReplied said answered octets n seen before old mid
-    × IsPrefix before shown × IsLineReplied said (answered shown) (first_piece 10 (after_lines n octets)) false mid new
+AreReplied said had answered octets zero seen shown old new = (shown ≡ seen) × (new ≡ old)
+AreReplied said had answered octets (suc n) seen shown old new =
+    (before : List Change) × (mid : Option (List ℕ)) × AreReplied said had answered octets n seen before old mid
+    × IsPrefix before shown × IsLineReplied said had (answered shown) (first_piece 10 (after_lines n octets)) false mid new
 
 -- How requests end after so many lines: there is none more, or so many were answered as can be; the next one is `quit`;
 -- or reading it failed.
-abbrev pub IsEndOf : End → (ℕ → Fed → Type 0) → (Query → Option (List ℕ) → Option (List ℕ) → Type 0) → List ℕ → ℕ
-    → Option (List ℕ) → Option (List ℕ) → Type 0
-IsEndOf end.OfInput said answered octets n old new =
+abbrev pub IsEndOf : End → (ℕ → Fed → Type 0) → (FeedCounts → Type 0)
+    → (Query → Option (List ℕ) → Option (List ℕ) → Type 0) → List ℕ → ℕ → Option (List ℕ) → Option (List ℕ) → Type 0
+IsEndOf end.OfInput said had answered octets n old new =
     (new ≡ old) × ((after_lines n octets ≡ []) ⊎ (n ≡ 18446744073709551615))
-IsEndOf end.Quit said answered octets n old new =
-    IsLineReplied said answered (first_piece 10 (after_lines n octets)) true old new
-IsEndOf end.Unread said answered octets n old new = new ≡ old
+IsEndOf end.Quit said had answered octets n old new =
+    IsLineReplied said had answered (first_piece 10 (after_lines n octets)) true old new
+IsEndOf end.Unread said had answered octets n old new = new ≡ old
 
 -- The requests of an input of these octets were answered, up to how they ended.
-pub record AreAnswered (said : ℕ → Fed → Type 0)
+pub record AreAnswered (said : ℕ → Fed → Type 0) (had : FeedCounts → Type 0)
     (answered : List Change → Query → Option (List ℕ) → Option (List ℕ) → Type 0) (octets : List ℕ) (end : End)
     (seen shown : List Change) (old new : Option (List ℕ)) : Type 0 where
   pub count : ℕ
   pub before : List Change
   pub mid : Option (List ℕ)
-  pub replied : AreReplied said answered octets count seen before old mid
+  pub replied : AreReplied said had answered octets count seen before old mid
   pub later : IsPrefix before shown
-  pub ended : IsEndOf end said (answered shown) octets count mid new
+  pub ended : IsEndOf end said had (answered shown) octets count mid new

@@ -291,7 +291,7 @@ where
     requires { (number : ℕ) (fed : FedFile) → EndsSo D.Disk J.opening B.to_feed fed → ∥ B.said number fed ∥₁ }
     // Of an input whose octets are known: each line was answered in turn, up to its end, `quit`, or a failed read.
     ensures replied { IfSome (I.remaining lines.old.input) (λ octets. IsTrue lines.old.is_read
-        → IfOk result (λ end. AreAnswered B.said (IsAnswered J.honest J.opening asking.old.width) octets end
+        → IfOk result (λ end. AreAnswered B.said B.had (IsAnswered J.honest J.opening asking.old.width) octets end
         asking.old.reader asking.new.reader (W.contents output.old) (W.contents output.new))) }
     ensures unanswered { IfErr result IsUnanswered }
 {

@@ -7,7 +7,7 @@ use Rattle.flow_shell.proofs.serving.serve.Goals as goal
 pub loop-init : goal.loop-init
 loop-init g c = (
   refl,
-  none_replied g.B.Ends.said (IsAnswered g.J.Naming.honest g.J.Naming.opening c.args.asking.now.width)
+  none_replied g.B.Ends.said g.B.Ends.had (IsAnswered g.J.Naming.honest g.J.Naming.opening c.args.asking.now.width)
       (g.I.Read.remaining c.args.lines.now.input) c.args.lines.now.is_read c.args.asking.now.reader
       (g.W.Write.contents c.args.output.now),
 )
@@ -16,7 +16,7 @@ pub returns-in-Ok-false-clause-replied : goal.returns-in-Ok-false-clause-replied
 returns-in-Ok-false-clause-replied g c =
     let remaining = g.I.Read.remaining in
     let input = remaining c.loop.lines.input in
-    ended_so g.B.Ends.said (IsAnswered g.J.Naming.honest g.J.Naming.opening c.args.asking.now.width)
+    ended_so g.B.Ends.said g.B.Ends.had (IsAnswered g.J.Naming.honest g.J.Naming.opening c.args.asking.now.width)
     (remaining c.args.lines.now.input) input c.args.lines.now.is_read c.loop.lines.is_read c.loop.counter
     c.args.asking.now.reader c.loop.asking.reader (g.W.Write.contents c.args.output.now)
     (g.W.Write.contents c.loop.output) OfInput c.loop.invariant.1
@@ -28,7 +28,7 @@ returns-in-Ok-false-clause-replied g c =
 pub returns-in-Err-clause-replied : goal.returns-in-Err-clause-replied
 returns-in-Err-clause-replied g c =
     let remaining = g.I.Read.remaining in
-    ended_so g.B.Ends.said (IsAnswered g.J.Naming.honest g.J.Naming.opening c.args.asking.now.width)
+    ended_so g.B.Ends.said g.B.Ends.had (IsAnswered g.J.Naming.honest g.J.Naming.opening c.args.asking.now.width)
     (remaining c.args.lines.now.input) (remaining c.loop.lines.input) c.args.lines.now.is_read c.loop.lines.is_read
     c.loop.counter c.args.asking.now.reader c.loop.asking.reader (g.W.Write.contents c.args.output.now)
     (g.W.Write.contents c.loop.output) Unread c.loop.invariant.1 (λ octets is left. refl)
@@ -39,11 +39,11 @@ returns-then-branch-clause-replied g c =
     let contents = g.W.Write.contents in
     let shown = c.answer_line.new.asking.reader in
     let line = c.read.new.self.line.items in
-    let replied = subst (λ (w : ℕ). IsLineReplied g.B.Ends.said
+    let replied = subst (λ (w : ℕ). IsLineReplied g.B.Ends.said g.B.Ends.had
     (IsAnswered g.J.Naming.honest g.J.Naming.opening w shown) line c.in_ok-answer_line.field-0
     (contents c.loop.output) (contents c.answer_line.new.output)) c.loop.invariant.0
     c.in_ok-answer_line.ensures.replied in
-    quit_so g.B.Ends.said (IsAnswered g.J.Naming.honest g.J.Naming.opening c.args.asking.now.width)
+    quit_so g.B.Ends.said g.B.Ends.had (IsAnswered g.J.Naming.honest g.J.Naming.opening c.args.asking.now.width)
     (remaining c.args.lines.now.input) (remaining c.loop.lines.input) (remaining c.read.new.self.input)
     c.args.lines.now.is_read c.loop.lines.is_read c.in_ok-answer_line.field-0 c.loop.counter c.args.asking.now.reader
     c.loop.asking.reader shown (contents c.args.output.now) (contents c.loop.output)
@@ -56,12 +56,12 @@ loop-preserved g c =
     let contents = g.W.Write.contents in
     let shown = c.answer_line.new.asking.reader in
     let line = c.read.new.self.line.items in
-    let replied = subst (λ (w : ℕ). IsLineReplied g.B.Ends.said
+    let replied = subst (λ (w : ℕ). IsLineReplied g.B.Ends.said g.B.Ends.had
     (IsAnswered g.J.Naming.honest g.J.Naming.opening w shown) line c.in_ok-answer_line.field-0
     (contents c.loop.output) (contents c.answer_line.new.output)) c.loop.invariant.0
     c.in_ok-answer_line.ensures.replied in (
       c.answer_line.ensures.width ∙ c.loop.invariant.0,
-      line_more g.B.Ends.said (IsAnswered g.J.Naming.honest g.J.Naming.opening c.args.asking.now.width)
+      line_more g.B.Ends.said g.B.Ends.had (IsAnswered g.J.Naming.honest g.J.Naming.opening c.args.asking.now.width)
           (remaining c.args.lines.now.input) (remaining c.loop.lines.input) (remaining c.read.new.self.input)
           c.args.lines.now.is_read c.loop.lines.is_read c.read.new.self.is_read c.in_ok-answer_line.field-0
           c.loop.counter (c.loop.counter + 1) c.args.asking.now.reader c.loop.asking.reader shown
@@ -73,7 +73,7 @@ loop-preserved g c =
 pub returns-clause-replied : goal.returns-clause-replied
 returns-clause-replied g c =
     let remaining = g.I.Read.remaining in
-    ended_so g.B.Ends.said (IsAnswered g.J.Naming.honest g.J.Naming.opening c.args.asking.now.width)
+    ended_so g.B.Ends.said g.B.Ends.had (IsAnswered g.J.Naming.honest g.J.Naming.opening c.args.asking.now.width)
     (remaining c.args.lines.now.input) (remaining c.loop.lines.input) c.args.lines.now.is_read c.loop.lines.is_read
     c.loop.counter c.args.asking.now.reader c.loop.asking.reader (g.W.Write.contents c.args.output.now)
     (g.W.Write.contents c.loop.output) OfInput c.loop.invariant.1

@@ -7,6 +7,6 @@ use Rattle.flow_shell.proofs.serving.serve.Given as goal
 abbrev pub invariant-loop : goal.invariant-loop
 invariant-loop g l =
     (l.asking.width ≡ l.fn.asking.width)
-    × Serving g.B.Ends.said (IsAnswered g.J.Naming.honest g.J.Naming.opening l.fn.asking.width)
+    × Serving g.B.Ends.said g.B.Ends.had (IsAnswered g.J.Naming.honest g.J.Naming.opening l.fn.asking.width)
     (g.I.Read.remaining l.fn.lines.input) (g.I.Read.remaining l.lines.input) l.fn.lines.is_read l.lines.is_read
     l.counter l.fn.asking.reader l.asking.reader (g.W.Write.contents l.fn.output) (g.W.Write.contents l.output)
