@@ -4,6 +4,7 @@ use Rattle.std.proofs.lemmas.Fn.{filter_same}
 use Rattle.std.proofs.lemmas.List.Elements.{All-same, filter_passes}
 use Rattle.flow_measure.specs.declared.flow.Flow.{Flow}
 use Rattle.flow_measure.specs.History.{flows_in}
+use Rattle.flow_snapshot.proofs.KeptFlows.{answered_err}
 use Rattle.flow_commands.specs.Plans.{is_in}
 use Rattle.flow_commands.proofs.Spans.{filter_all}
 use Rattle.flow_commands.proofs.listing.flows_of_file.Goals as goal
@@ -23,3 +24,8 @@ returns-clause-given g c honest file there own has =
     filter_same _ test _ (λ x b f' k. search rules) _ _ c.retain.ensures.filtered in
     let given = (rw (c.from-from.ensures, c.to-to.ensures) at c.in_ok-flows.ensures.given) honest file there own has in
     kept ∙ ap (filter test) (given ∙ has.5) ∙ filter_all test _ (filter_passes test (flows_in has.1)) ∙ sym has.5
+
+pub returns-in_err-flows-clause-given : goal.returns-in_err-flows-clause-given
+returns-in_err-flows-clause-given g c = λ honest file there own has.
+    answered_err _ c.from_residual.result _ c.from_residual.ensures.1
+    ((rw (c.from-from.ensures, c.to-to.ensures) at c.in_err-flows.ensures.given) honest file there own has)
