@@ -41,19 +41,19 @@ IsCounted (Datagram fault) old new =
 
 -- ---- what is answered
 
-abbrev pub domain_text : Option ℕ → List ℕ
+unfoldable pub domain_text : Option ℕ → List ℕ
 domain_text None = []
 domain_text (Some domain) = codes "domain " ++ decimal domain ++ codes "\n"
 
 -- datagrams that were passed over by this refusal, where there are any
-abbrev pub passed_text : List ℕ → RefusalCode → List ℕ
+unfoldable pub passed_text : List ℕ → RefusalCode → List ℕ
 passed_text counts refusal =
     if nat_eq (get_or counts (row_of refusal).number 0) 0 then []
     else codes "datagrams " ++ decimal (get_or counts (row_of refusal).number 0) ++ codes " " ++ code_text refusal
     ++ codes "\n"
 
 -- by each refusal that a message may earn, in the order of their numbers
-abbrev pub refused_text : List ℕ → List ℕ
+unfoldable pub refused_text : List ℕ → List ℕ
 refused_text counts =
     passed_text counts code.Short ++ passed_text counts code.Version ++ passed_text counts code.Length
     ++ passed_text counts code.SetLength ++ passed_text counts code.TemplateCut ++ passed_text counts code.TemplateId

@@ -87,6 +87,7 @@ struct DomainLine {
 impl fmt::Display for DomainLine {
     ghost output = { λ line. Some (domain_text line.domain) };
 
+    #[tactic(auto, unfolding(crate::specs::Losses::domain_text))]
     fn fmt<W: fmt::Write>(&self, f: &mut fmt::Formatter<W>) -> fmt::Result {
         match self.domain {
             None => write!(f, ""),
@@ -105,6 +106,7 @@ struct PassedLine {
 impl fmt::Display for PassedLine {
     ghost output = { λ line. Some (passed_text line.refused.counts line.code) };
 
+    #[tactic(auto, unfolding(crate::specs::Losses::passed_text))]
     fn fmt<W: fmt::Write>(&self, f: &mut fmt::Formatter<W>) -> fmt::Result {
         let count = self.refused.of_number(self.code.number());
         if count == 0 {
@@ -120,18 +122,6 @@ struct PassedLines {
     refused: RefusedDatagrams,
 }
 
-impl PassedLines {
-    /// That of a refusal.
-    fn of(&self, code: RefusalCode) -> PassedLine
-        ensures { result ≡ record { refused = self.now.refused; code = code } }
-    {
-        PassedLine {
-            refused: self.refused,
-            code,
-        }
-    }
-}
-
 impl fmt::Display for PassedLines {
     ghost output = { λ lines. Some (refused_text lines.refused.counts) };
 
@@ -139,16 +129,46 @@ impl fmt::Display for PassedLines {
         write!(
             f,
             "{}{}{}{}{}{}{}{}{}{}",
-            self.of(RefusalCode::Short),
-            self.of(RefusalCode::Version),
-            self.of(RefusalCode::Length),
-            self.of(RefusalCode::SetLength),
-            self.of(RefusalCode::TemplateCut),
-            self.of(RefusalCode::TemplateId),
-            self.of(RefusalCode::ScopeCount),
-            self.of(RefusalCode::RecordCut),
-            self.of(RefusalCode::TemplatesFull),
-            self.of(RefusalCode::DomainsFull)
+            PassedLine {
+                refused: self.refused,
+                code: RefusalCode::Short
+            },
+            PassedLine {
+                refused: self.refused,
+                code: RefusalCode::Version
+            },
+            PassedLine {
+                refused: self.refused,
+                code: RefusalCode::Length
+            },
+            PassedLine {
+                refused: self.refused,
+                code: RefusalCode::SetLength
+            },
+            PassedLine {
+                refused: self.refused,
+                code: RefusalCode::TemplateCut
+            },
+            PassedLine {
+                refused: self.refused,
+                code: RefusalCode::TemplateId
+            },
+            PassedLine {
+                refused: self.refused,
+                code: RefusalCode::ScopeCount
+            },
+            PassedLine {
+                refused: self.refused,
+                code: RefusalCode::RecordCut
+            },
+            PassedLine {
+                refused: self.refused,
+                code: RefusalCode::TemplatesFull
+            },
+            PassedLine {
+                refused: self.refused,
+                code: RefusalCode::DomainsFull
+            }
         )
     }
 }

@@ -1,4 +1,7 @@
+use Rattle.std.proofs.Common.{append_assoc}
+use Rattle.std.proofs.Output.{has_written_of_eq}
 use Rattle.flow_shell.proofs.losses.FeedCountsDisplay.fmt.Goals as goal
 
 pub returns-clause-writes : goal.returns-clause-writes
-returns-clause-writes g c = c.write.ensures.writes
+returns-clause-writes g c plain ok =
+    has_written_of_eq _ _ _ _ _ (simp append_assoc) (c.write.ensures.writes plain ok)

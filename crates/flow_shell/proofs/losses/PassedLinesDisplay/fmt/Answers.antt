@@ -1,16 +1,9 @@
+use Rattle.std.proofs.Common.{append_assoc}
+use Rattle.std.proofs.Output.{has_written_of_eq}
+use Rattle.flow_shell.specs.Losses.{refused_text}
 use Rattle.flow_shell.proofs.losses.PassedLinesDisplay.fmt.Goals as goal
 
 pub returns-clause-writes : goal.returns-clause-writes
-returns-clause-writes g c =
-    rw (
-      c.of.ensures,
-      c.of-2.ensures,
-      c.of-3.ensures,
-      c.of-4.ensures,
-      c.of-5.ensures,
-      c.of-6.ensures,
-      c.of-7.ensures,
-      c.of-8.ensures,
-      c.of-9.ensures,
-      c.of-10.ensures,
-    ) at c.write.ensures.writes
+unfolding refused_text
+returns-clause-writes g c plain ok =
+    has_written_of_eq _ _ _ _ _ (simp append_assoc) (c.write.ensures.writes plain ok)
