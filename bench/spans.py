@@ -1,8 +1,9 @@
 #!/usr/bin/env python3
 """spans.py PROGRAM [SEGMENTS [FOLDER]]: what a question costs of a span of a long archive: an archive of so many
 segments (4,000), four an hour, and in one run `shell` is asked `totals` of all, of one hour in the middle, and of an
-hour without flows. Prints the steps (instructions, counted by valgrind where it is there) and the time of one question
-each. The archive is made in FOLDER (the system's for temporary files), which is left empty."""
+hour without flows, and `flows` of these hours. Prints the steps (instructions, counted by valgrind where it is there)
+of one question of `totals` each, and the least time of each. The archive is made in FOLDER (the system's for temporary
+files), which is left empty."""
 import os
 import re
 import shutil
@@ -15,6 +16,8 @@ import time
 START, EVERY, LIMIT = 1_700_000_000, 900, 65_535
 ALL, NONE = (0, 4_294_967_296), (4_000_000_000, 4_000_003_600)
 RECORDS = 3_000
+# How many questions are counted, and how often each is timed.
+TIMES, TURNS = 4, 20
 TEMPLATE = struct.pack(">HHHHHHHHHHHH", 2, 24, 256, 4, 150, 4, 4, 1, 1, 4, 2, 4)
 
 
@@ -26,23 +29,44 @@ def message(number, sequence):
     return struct.pack(">HHIII", 10, 16 + len(sets), start + 300, sequence, 7) + sets
 
 
-def asked(program, folder, span, times, counted):
-    """What a shell takes that is asked so often: steps, or seconds."""
-    words = [program, "shell", folder]
-    if counted:
-        words = ["valgrind", "--tool=callgrind", "--callgrind-out-file=/dev/null"] + words
+def steps(program, folder, span, times):
+    """The steps of a shell that is asked so often."""
+    words = ["valgrind", "--tool=callgrind", "--callgrind-out-file=/dev/null", program, "shell", folder]
     requests = "".join("totals %d %d\n" % span for _ in range(times)) + "quit\n"
-    begun = time.monotonic()
-    ran = subprocess.run(words, input=requests.encode(), stdout=subprocess.PIPE, stderr=subprocess.PIPE, check=True)
-    took = time.monotonic() - begun
-    if not counted:
-        return took
+    ran = subprocess.run(words, input=requests.encode(), stdout=subprocess.DEVNULL, stderr=subprocess.PIPE, check=True)
     return int(re.search(rb"Collected : (\d+)", ran.stderr).group(1))
 
 
-def each(program, folder, span, times, counted):
-    """What one question takes: of so many, without what a shell takes that is asked none."""
-    return (asked(program, folder, span, times, counted) - asked(program, folder, span, 0, counted)) / times
+def counted(program, folder, span):
+    """The steps of one question: of several, without those of a shell that is asked none."""
+    return (steps(program, folder, span, TIMES) - steps(program, folder, span, 0)) // TIMES
+
+
+def answered(shell, request):
+    """How long an answer takes."""
+    begun = time.monotonic()
+    shell.stdin.write(request.encode() + b"\n")
+    shell.stdin.flush()
+    while not shell.stdout.readline().startswith(b"done "):
+        pass
+    return time.monotonic() - begun
+
+
+def timed(program, folder, spans):
+    """The least time of one question of each span, asked in turn of one shell."""
+    least = {}
+    with subprocess.Popen([program, "shell", folder], stdin=subprocess.PIPE, stdout=subprocess.PIPE) as shell:
+        answered(shell, "check")
+        for _ in range(TURNS):
+            for query in ("totals", "flows"):
+                for name, span in spans.items():
+                    if (query, name) != ("flows", "all"):
+                        took = answered(shell, "%s %d %d" % (query, *span))
+                        least[query, name] = min(took, least.get((query, name), took))
+        answered(shell, "wait")
+        shell.stdin.write(b"quit\n")
+        shell.stdin.close()
+    return least
 
 
 def main():
@@ -59,12 +83,13 @@ def main():
         subprocess.run([program, "feed", folder, whole, "--keep", "4294967295"], check=True, stdout=subprocess.DEVNULL)
         middle = START + segments // 2 * EVERY
         spans = {"all": ALL, "an hour": (middle, middle + 3600), "an hour without flows": NONE}
-        for counted in (True, False) if shutil.which("valgrind") else (False,):
-            times = 4 if counted else 40
-            took = {name: each(program, folder, span, times, counted) for name, span in spans.items()}
+        if shutil.which("valgrind"):
+            took = {name: counted(program, folder, span) for name, span in spans.items()}
             for name, it in took.items():
-                count = "%d steps" % it if counted else "%.2f ms" % (it * 1000)
-                print("%-22s %s, %.4f of all" % (name, count, it / took["all"]))
+                print("totals, %-22s %d steps, %.4f of all" % (name, it, it / took["all"]), flush=True)
+        least = timed(program, folder, spans)
+        for (query, name), it in least.items():
+            print("%s, %-22s %.2f ms, %.4f of all totals" % (query, name, it * 1000, it / least["totals", "all"]))
     finally:
         shutil.rmtree(place)
 
