@@ -1,9 +1,9 @@
 #!/usr/bin/env python3
 """damaged_parts.py PROGRAM: damages each file of an archive in turn while `PROGRAM shell` has it open: one over wide
-intervals, a rolled one, and 70 sealed segments, which the shell's threads share among them. Whichever file is damaged,
-`totals` reports it, and of two one of them; `flows` and `message` report a sealed segment's, and go on answering where
-a file of sums is damaged. Once it is mended the answers are those of all messages. What is answered is reckoned from
-the messages that are fed.
+intervals, a rolled one, and 70 sealed segments, which the shell's threads share among them. Each has flows, so a
+question of all reads it. Whichever file is damaged, `totals` reports it, and of two one of them; `flows` and `message`
+report a sealed segment's, and go on answering where a file of sums is damaged. Once it is mended the answers are those
+of all messages. What is answered is reckoned from the messages that are fed.
 
 It prints each difference, and ends with 'N cases of damage: M differ', where a case is a damaged file; its status is 0
 where M is 0, else 1."""
@@ -14,7 +14,7 @@ import sys
 import tempfile
 
 from rolling_refused import ROLLED, SEALED, Running, entries_of, path_of, writable
-from trials import ALL, DAY, KEEP_ALL, LEAST, Given, grown, in_memory, interleaved
+from trials import ALL, DAY, KEEP_ALL, LEAST, TIME, Given, a_set, in_memory, interleaved
 
 WIDE = 4
 
@@ -45,12 +45,12 @@ class Part:
 
 
 class Answers:
-    """What a shell must answer of the archive: it has a message of a flow and a longest one in turn."""
+    """What a shell must answer of the archive: each of its messages has a flow."""
 
     def __init__(self, given):
         wide, narrow, kept = Given(), Given(), Given()
-        wide.flows, narrow.flows = (given.flows[: (SUMMED + 1) // 2], given.flows[(SUMMED + 1) // 2 :])
-        kept.flows = given.flows[SUMMED:]
+        wide.flows, narrow.flows = given.flows[:SUMMED], given.flows[SUMMED:]
+        kept.flows = given.flows[2 * SUMMED :]
         self.messages = given.messages
         self.totals = interleaved(narrow.sums(300), wide.sums(DAY, " %d" % DAY)) + "done 0\n"
         self.flows = kept.lines() + "done 0\n"
@@ -62,7 +62,8 @@ class Answers:
 def archive(program, folder):
     """Makes the archive, and answers the messages that it has."""
     given = Given()
-    grown(given, 0, 2 * SUMMED + COUNT + 1)
+    for number in range(2 * SUMMED + COUNT + 1):
+        given.add(7, [(TIME + 300 * (number % 50), 6)], after=a_set(4, bytes(LEAST * 9 // 10)))
     os.mkdir(folder)
     subprocess.run([program, "create", folder, "300", "--limit", str(LEAST)], check=True)
     for words in (["feed", folder, "-", *KEEP_ALL], ["roll", folder, str(SUMMED + COUNT)], ["merge", folder, "0"],

@@ -41,9 +41,9 @@ class Segments:
     ones."""
 
     def __init__(self, count, with_domains=False):
-        self.given, self.segments = Given(), []
+        self.given, self.segments, self.flows = Given(), [], []
         for number in range(count):
-            before = len(self.given.messages)
+            before, flows = len(self.given.messages), len(self.given.flows)
             if number == 0 and with_domains:
                 self.given.messages += [a_message(1 + n % DOMAINS, a_set(2, WITH)) for n in range(DOMAINS + 1)]
             elif number % 2 == 0:
@@ -52,6 +52,7 @@ class Segments:
             else:
                 self.given.messages.append(LONGEST)
             self.segments.append(self.given.messages[before:])
+            self.flows.append(self.given.flows[flows:])
 
     def file(self, first=0, to=None):
         """The octets of some of the segments."""
@@ -59,6 +60,12 @@ class Segments:
 
     def count(self, first=0, to=None):
         return sum(map(len, self.segments[first:to]))
+
+    def sums(self, to):
+        """The lines of the sums of the first segments."""
+        given = Given()
+        given.flows = sum(self.flows[:to], [])
+        return given.sums(300)
 
 
 # ---- The archive ----
@@ -276,7 +283,11 @@ def asked(program, place, damage):
         run.until(lambda: are_sealed(folder, 4))
         text, found, mend = damage.done_to(folder, entries_of(folder, SEALED)[damage.segment], segments)
         yield "keep", "done 0\n", run.asks("keep 1", 1)
-        yield "totals", "refused %s\ndone %d\n" % (text, damage.status), run.asks("totals %s %s" % ALL, 2)
+        # (a segment that has no flows isn't read for sums)
+        answer = "refused %s\ndone %d\n" % (text, damage.status)
+        if not segments.flows[damage.segment]:
+            answer = segments.sums(5) + "done 0\n"
+        yield "totals", answer, run.asks("totals %s %s" % ALL, answer.count("\n"))
         yield "feed", "began 2\ndone 0\n", run.asks("feed %s2" % file, 2)
         yield "wait", "fed 2 %d\ndone 0\n" % files[1][1], run.asks("wait", 2)
         last = "message %d" % segments.count()
