@@ -205,3 +205,30 @@ pub fn flow_of(header: &Header, definition: &Definition, octets: &[u8]) -> Flow
     };
     counts.flow(header)
 }
+
+/// When the flow of a record starts whose numbers are at these places.
+#[inline(always)]
+fn start_at(header: &Header, octets: &[u8], places: &Places) -> u32
+    requires { ArePlaces octets.now places.now }
+    ensures { result ≡ (flow_by header.now (counts_at octets.now places.now)).start }
+{
+    let milliseconds = milliseconds_at(octets, places.milliseconds);
+    start_of(
+        header.time,
+        milliseconds,
+        seconds_at(octets, places.seconds),
+    )
+}
+
+/// When the flow of a whole record of a Template starts. Where each field is of fixed length, nothing else of it is
+/// read.
+#[inline(always)]
+pub fn start_of_flow(header: &Header, definition: &Definition, octets: &[u8]) -> u32
+    requires { IsWholeRecord definition.now octets.now }
+    ensures { result ≡ (flow_from header.now (values_of (fields_in definition.now.fields octets.now))).start }
+{
+    match &definition.plan().way {
+        Way::ByPlaces(places) => start_at(header, octets, places),
+        Way::BySteps(steps) => counts_by(steps.as_slice(), octets).flow(header).start,
+    }
+}

@@ -1,5 +1,5 @@
 -- What is reported of several archives.
-use Rattle.std.proofs.Common.{◌≡◌, ◌∙◌, ◌⊎◌, inl, inr, ℕ, Bool, List, Option, refl, ap, sym, subst}
+use Rattle.std.proofs.Common.{◌≡◌, ◌∙◌, inl, inr, ℕ, Bool, true, List, Option, refl, ap, sym, subst}
 use Rattle.std.proofs.KnownBytes.{Keeps-refl}
 use Rattle.flow_report.specs.Writing.{AppendsFront}
 use Rattle.flow_program.specs.Printed.{told_lines}
@@ -13,6 +13,7 @@ use Rattle.flow_several_folders.specs.declared.asking.Question.{Question}
 use Rattle.flow_several_folders.specs.declared.refusal.FoldersRefusal.{FoldersRefusal}
 use Rattle.flow_several_folders.specs.declared.refusal.FoldersRefusal.TheVariants.{Folder, Several}
 use Rattle.flow_program.specs.declared.arguments.MomentSpan.{MomentSpan}
+use Rattle.flow_program.specs.Arguments.{depends_on_now}
 use Rattle.flow_program.specs.Several.{no_clock, numbered, question_at, text_reported}
 use Rattle.flow_program.specs.Several.{AreFoldersReported, QuestionEnds}
 
@@ -45,10 +46,12 @@ is_answered answered refused span each format old new before now q is done =
 -- no time is known, and nothing is written
 pub without_clock : (answered : Question → Type 0) (refused : Question → FoldersRefusal → Type 0) (span : MomentSpan)
     (each : Bool) (format : Format) (output before after : Option (List ℕ)) (status : ℕ) (e : ArchiveRefusal)
-    → e ≡ no_clock → status ≡ archive_status e → AppendsFront before after (told_lines (archive_printed e))
+    → depends_on_now span ≡ true → e ≡ no_clock → status ≡ archive_status e
+    → AppendsFront before after (told_lines (archive_printed e))
     → QuestionEnds answered refused span each format output output before after status
-without_clock answered refused span each format output before after status e is by reported =
+without_clock answered refused span each format output before after status e relative is by reported =
     inr (inr (
+      relative,
       by ∙ ap archive_status is,
       subst (λ (e : ArchiveRefusal). AppendsFront before after (told_lines (archive_printed e))) is reported,
       Keeps-refl output,

@@ -1,5 +1,5 @@
 -- What a run of `totals` over several archives answers.
-use Rattle.std.specs.Prelude.{◌≡◌, ◌⊎◌, ℕ, ◌++◌, ◌==◌, Bool, List, Option, codes, if◌then◌else◌, length, nat_lt}
+use Rattle.std.specs.Prelude.{◌≡◌, ◌⊎◌, ℕ, ◌++◌, ◌==◌, Bool, List, Option, codes, if◌then◌else◌, length, nat_lt, true}
 use Rattle.std.specs.Fmt.{decimal}
 use Rattle.std.specs.Io.KnownBytes.{Keeps}
 use Rattle.std.specs.List.{after_first, before_first, position_or_len}
@@ -19,7 +19,7 @@ use Rattle.flow_several_folders.specs.declared.refusal.FoldersRefusal.{FoldersRe
 use Rattle.flow_several_folders.specs.declared.refusal.FoldersRefusal.TheVariants.{Folder, Several}
 use Rattle.flow_several_folders.specs.Folders.{AnswersFolders, AreFoldersRefused, KeepsOrRows, Path}
 use Rattle.flow_several_folders.specs.Questions.{AnswersRows}
-use Rattle.flow_program.specs.Arguments.{span_at}
+use Rattle.flow_program.specs.Arguments.{depends_on_now, span_at}
 use Rattle.flow_program.specs.declared.arguments.MomentSpan.{MomentSpan}
 use Rattle.flow_program.specs.Printed.{told_lines}
 
@@ -76,8 +76,8 @@ QuestionEnds answered refused span each format old new before after status =
     ((now : ℕ) × (status ≡ 0) × Keeps before after × answered (question_at now span each format))
     ⊎ (((now : ℕ) × (e : FoldersRefusal) × (status ≡ folders_status e) × AreFoldersReported e before after
     × refused (question_at now span each format) e)
-    ⊎ ((status ≡ archive_status no_clock) × AppendsFront before after (told_lines (archive_printed no_clock))
-    × Keeps old new))
+    ⊎ ((depends_on_now span ≡ true) × (status ≡ archive_status no_clock)
+    × AppendsFront before after (told_lines (archive_printed no_clock)) × Keeps old new))
 
 -- By the disks of the folders: `g` are those of their kind, `opens` says which is that of a path, `refuses` why there is
 -- none.

@@ -1,13 +1,13 @@
 //! The commands over an archive.
 
-ghost use Rattle.std.specs.Prelude.{◌≡◌, ◌≢◌, ◌≤◌, ℕ, false, OnOk, IfOk, IfErr, length};
+ghost use Rattle.std.specs.Prelude.{◌≡◌, ◌≢◌, ◌≤◌, ℕ, true, false, OnOk, OnErr, IfOk, IfErr, length};
 ghost use Rattle.std.specs.Io.KnownBytes.{Keeps};
 ghost use Rattle.flow_commands.specs.ArchiveFiles.{AreListings};
 ghost use Rattle.flow_commands.specs.Asking.{Writes, WritesOrNot, WritesUpTo};
 ghost use Rattle.flow_commands.specs.declared.archive_refusal.ArchiveRefusal.TheVariants as refusal;
 ghost use Rattle.flow_commands.specs.declared.folder_fault.FolderFault.TheVariants as fault;
 ghost use Rattle.flow_commands.specs.Feeding.{FeedsIn, FeedsLines, KeepsOrFeeds};
-ghost use Rattle.flow_program.specs.Arguments.{has_input, span_at};
+ghost use Rattle.flow_program.specs.Arguments.{depends_on_now, has_input, span_at};
 ghost use Rattle.flow_program.specs.Run.{AreFlowsAsked, AreRowsAsked, AskEnds, CheckEnds, CreateEnds, FeedEnds};
 ghost use Rattle.flow_program.specs.Run.{JobEnds, input_given, ListEnds, ShellEnds};
 
@@ -122,6 +122,7 @@ fn second_of_now<H: Clock>(rt: &H) -> Result<u64, ArchiveRefusal>
 pub(crate) fn seconds_of<H: Clock>(rt: &H, span: MomentSpan) -> Result<StartSpan, ArchiveRefusal>
     ensures found { IfOk result (λ seconds. (now : ℕ) × (seconds ≡ span_at now span)) }
     ensures refused { IfErr result (λ e. e ≡ refusal.Folder fault.NoClock) }
+    ensures relative { OnErr result (depends_on_now span ≡ true) }
 {
     let now = if span.is_relative() {
         second_of_now(rt)?

@@ -3,7 +3,7 @@
 ghost use Rattle.std.specs.Prelude.{◌≡◌, nat_le, nat_lt, ◌&&◌};
 
 use flow_codec::{Definition, Header, RecordSink};
-use flow_measure::{Adder, Flow, PartSpan, SumError, flow_of};
+use flow_measure::{Adder, Flow, PartSpan, SumError, flow_of, start_of_flow};
 use std::alloc::AllocError;
 use std::convert::Infallible;
 
@@ -143,8 +143,8 @@ impl RecordSink for Noting {
         if definition.options() {
             return Ok(());
         }
-        let flow = flow_of(header, definition, octets);
-        self.span = Some(span.with(flow.start));
+        let start = start_of_flow(header, definition, octets);
+        self.span = Some(span.with(start));
         Ok(())
     }
 }

@@ -1,7 +1,10 @@
-use Rattle.std.proofs.Common.{◌++◌, ◌∷◌, [], sym, ap, ◌∙◌, refl, Some}
+use Rattle.std.proofs.Common.{sym, ap, ◌∙◌, refl, Some}
 use Rattle.flow_codec.specs.Raw.{raw, Placed}
 use Rattle.flow_measure.specs.declared.flow.Flow.{Flow}
-use Rattle.flow_measure.specs.Flows.{flows_of_records}
+use Rattle.flow_codec.specs.Fields.{fields_in}
+use Rattle.flow_codec.specs.Plan.{values_of}
+use Rattle.flow_measure.specs.Flows.{flow_from}
+use Rattle.flow_measure.specs.Span.{with_start}
 use Rattle.flow_measure.proofs.SinkSteps.{one_more, none_more}
 use Rattle.flow_segment.proofs.NotingStarts.{same_more, start_more}
 use Rattle.flow_segment.proofs.sinks.NotingRecordSink.record.Goals as goal
@@ -16,9 +19,10 @@ returns-then-options-clause-taken c = λ start taken h.
 pub returns-clause-taken : goal.returns-clause-taken
 returns-clause-taken c = λ start taken h.
     let x : Placed = (c.args.header.now, raw c.args._id c.args.definition.now c.args.octets.now) in
-    let f : Flow = c.flow_of-flow.result in
+    let f : Flow =
+    flow_from c.args.header.now (values_of (fields_in c.args.definition.now.fields c.args.octets.now)) in
     let more = one_more taken c.args.header.now c.args._id c.args.definition.now c.args.octets.now
-    (sym c.options.ensures ∙ c.if-options.false)
-    ∙ ap (λ f. flows_of_records taken ++ f ∷ []) (sym c.flow_of-flow.ensures) in
+    (sym c.options.ensures ∙ c.if-options.false) in
+    let now = ap Some (c.with.ensures ∙ ap (λ n. with_start n c.in-Some.span) c.start_of_flow-start.ensures) in
     start_more start.records start.span taken x c.args.self.now.records _ refl f c.args.self.now.span _ c.in-Some.span
-    more c.in-Some.is (ap Some c.with.ensures) h
+    more c.in-Some.is now h
