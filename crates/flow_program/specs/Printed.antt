@@ -32,7 +32,7 @@ words_text line.Keep = codes "KEEP is how many of the newest files are left, dig
 words_text line.Files =
     codes "FILE is given 1 to 8 times, but once with --from, 0 to 281474976710655, and without --datagrams; "
     ++ codes "--keep is how many of the newest segments are left, 0 to 4294967295"
-words_text line.Number = codes "no refusal has this NUMBER: they are 1 to 11, 14 to 17, 20 to 27, 30 to 32, 40 to 51"
+words_text line.Number = codes "no refusal has this NUMBER: they are 1 to 11, 14 to 17, 20 to 27, 30 to 32, 40 to 52"
 words_text line.Formats = codes "--csv and --json are two formats: one of them is taken, not both"
 words_text line.OutOfMemory = codes "11 OutOfMemory"
 

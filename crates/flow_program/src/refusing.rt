@@ -51,7 +51,7 @@ const WRONG_FILES: &str =
 
 /// The line for a number that no refusal has.
 const WRONG_NUMBER: &str =
-    "flowvault: no refusal has this NUMBER: they are 1 to 11, 14 to 17, 20 to 27, 30 to 32, 40 to 51\n";
+    "flowvault: no refusal has this NUMBER: they are 1 to 11, 14 to 17, 20 to 27, 30 to 32, 40 to 52\n";
 
 /// The line for a span that ends before it begins.
 const SWAPPED: &str = "flowvault: --since is later than --until: the span ends before it begins\n";

@@ -52,6 +52,7 @@ row_of code.NothingToRetire = listed 48 (codes "NothingToRetire") 1
 row_of code.Closed = listed 49 (codes "Closed") 3
 row_of code.Away = listed 50 (codes "Away") 3
 row_of code.Widths = listed 51 (codes "Widths") 1
+row_of code.Rolled = listed 52 (codes "Rolled") 1
 
 abbrev pub is_between : ℕ → ℕ → ℕ → Bool
 is_between least most number = nat_le least number && nat_le number most
@@ -61,7 +62,7 @@ is_between least most number = nat_le least number && nat_le number most
 abbrev pub is_refusal : ℕ → Bool
 is_refusal number =
     is_between 1 11 number || is_between 14 17 number || is_between 20 27 number || is_between 30 32 number
-    || is_between 40 51 number
+    || is_between 40 52 number
 
 -- the number and the name
 unfoldable pub code_text : RefusalCode → List ℕ

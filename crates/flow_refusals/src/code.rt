@@ -85,6 +85,8 @@ pub enum RefusalCode {
     Away,
     /// Archives that are summed together have intervals of other widths.
     Widths,
+    /// Messages that are asked for are in sums alone.
+    Rolled,
 }
 
 /// What the table has of a refusal.
@@ -159,6 +161,7 @@ impl RefusalCode {
             Self::Closed => Row::new(49, "Closed", 3, texts::CLOSED),
             Self::Away => Row::new(50, "Away", 3, texts::AWAY),
             Self::Widths => Row::new(51, "Widths", 1, texts::WIDTHS),
+            Self::Rolled => Row::new(52, "Rolled", 1, texts::ROLLED),
         }
     }
 
@@ -204,7 +207,7 @@ impl RefusalCode {
             14..=17 => Some(of_files(number)),
             20..=27 => Some(of_openings(number)),
             30..=32 => Some(of_devices(number)),
-            40..=51 => Some(of_archives(number)),
+            40..=52 => Some(of_archives(number)),
             _ => None,
         }
     }
@@ -286,10 +289,10 @@ fn of_devices(number: u64) -> RefusalCode
 }
 
 /// The refusal that an open archive earns, what readers are shown of it, or several archives, by its number from 40 to
-/// 51.
+/// 52.
 fn of_archives(number: u64) -> RefusalCode
     requires least { 40 ≤ number }
-    requires most { number ≤ 51 }
+    requires most { number ≤ 52 }
     ensures { (row_of result).number ≡ number }
 {
     match number {
@@ -304,6 +307,7 @@ fn of_archives(number: u64) -> RefusalCode
         48 => RefusalCode::NothingToRetire,
         49 => RefusalCode::Closed,
         50 => RefusalCode::Away,
-        _ => RefusalCode::Widths,
+        51 => RefusalCode::Widths,
+        _ => RefusalCode::Rolled,
     }
 }

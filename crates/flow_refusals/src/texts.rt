@@ -234,3 +234,7 @@ pub(crate) const WIDTHS: &str =
     "51 Widths: the archives that are summed together have intervals of other widths.\n\
 Usual cause: one of them was created with another WIDTH, or another --wide.\n\
 What to do: ask archives of the same widths together, the others apart.\n";
+
+pub(crate) const ROLLED: &str = "52 Rolled CUT: messages that are asked for are in sums alone.\n\
+Usual cause: they were rolled: of the first CUT messages no octets are kept.\n\
+What to do: ask from message CUT + 1 on.\n";

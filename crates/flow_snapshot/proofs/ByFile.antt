@@ -155,6 +155,26 @@ pub at_active : (gs : List Segment) (active file : KeptFile)
 at_active [] active file is = let same : active ≡ file = cc in sym same
 at_active (x ∷ xs) active file is = at_active xs active file is
 
+abbrev first_at : List Segment → KeptFile → List KeptFile
+first_at gs active = map kept_file gs ++ active ∷ []
+
+there_at : (gs : List Segment) (active : KeptFile) → slice_get (first_at gs active) (length gs) ≡ Some active
+there_at [] active = refl
+there_at (x ∷ xs) active = there_at xs active
+
+pub active_there : (gs : List Segment) (active : KeptFile) (i : ℕ) → length gs ≤ i → i ≤ length gs
+    → slice_get (map kept_file gs ++ active ∷ []) i ≡ Some active
+active_there gs active i least most =
+    let here : length gs ≡ i = omega (arith, least, most) in
+    subst (λ (k : ℕ). slice_get (first_at gs active) k ≡ Some active) here (there_at gs active)
+
+pub segment_at : (gs : List Segment) (active : KeptFile) (i : ℕ) (g : Segment) → slice_get gs i ≡ Some g
+    → slice_get (map kept_file gs ++ active ∷ []) i ≡ Some (kept_file g)
+segment_at [] active i g there = absurd cc
+segment_at (x ∷ xs) active zero g there =
+    let same : x ≡ g = cc in ap (λ (y : Segment). Some (kept_file y)) same
+segment_at (x ∷ xs) active (suc i) g there = segment_at xs active i g there
+
 pub at_the_end : (gs : List Segment) (active : KeptFile) (i : ℕ) (file : KeptFile) → length gs ≤ i
     → i ≤ length gs → slice_get (map kept_file gs ++ active ∷ []) i ≡ Some file → file ≡ active
 at_the_end gs active i file least most is =
@@ -176,6 +196,11 @@ module _ {F X Z : Type 0} {files : Ghosts F X} (parts : List (Arc (SealedPart F 
       → file ≡ kept_file (segment_of part)
   own_file active file there =
       at_segment (map segment_of (shared parts)) active i file (segment_of part) there segment_there
+
+  pub segment_found : (active : KeptFile)
+      → slice_get (map kept_file (map segment_of (shared parts)) ++ active ∷ []) i
+      ≡ Some (kept_file (segment_of part))
+  segment_found active = segment_at (map segment_of (shared parts)) active i (segment_of part) segment_there
 
   pub honest_there : IsTrue (list_all is_honest (shared parts)) → IsTrue (is_honest part)
   honest_there honest = honest_one parts i item part within is same is_honest honest

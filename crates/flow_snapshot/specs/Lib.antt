@@ -2,6 +2,7 @@ pub mod Found
 pub mod ShelfSeen
 pub mod Files
 pub mod Steps
+pub mod Parts
 pub mod Directories
 pub mod Answered
 pub mod Totals

@@ -12,6 +12,7 @@
 //! answers is what one call answers.
 #![tactic(auto)]
 
+mod by_file;
 mod counting;
 mod directory;
 mod files;
@@ -25,6 +26,7 @@ mod snapshot;
 mod step;
 mod summing;
 
+pub use by_file::KeptPart;
 pub use directory::Directory;
 pub use files::Files;
 pub use kept::span_in_memory;

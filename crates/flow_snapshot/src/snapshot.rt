@@ -18,6 +18,7 @@ ghost use Rattle.flow_snapshot.specs.Directories.{sight_of};
 ghost use Rattle.flow_snapshot.specs.Found.{kept_by_file, AppendsOwnFlows, AreOwnFlows, HaveOwnFlows, IsMessageAt};
 ghost use Rattle.flow_snapshot.specs.Found.{KeptFile};
 ghost use Rattle.flow_model.specs.Views.{first_prefix, AreKept, IsReadIn};
+ghost use Rattle.flow_snapshot.specs.Parts.{file_of, is_honest_part};
 ghost use Rattle.flow_snapshot.specs.Shares.{narrow_turn, own, summed, AllPartsFit, AreNarrow, AreShares, AreWide};
 ghost use Rattle.flow_snapshot.specs.Shares.{HaveSums, IsFileSum, IsNarrowRead, IsShare};
 ghost use Rattle.flow_model.specs.Shelf.{cut_of, position_of, second_of};
@@ -26,6 +27,7 @@ ghost use Rattle.flow_snapshot.specs.Spans.{IsSightWithin};
 ghost use Rattle.flow_snapshot.specs.Totals.{first_file, wide_table_in, IsMade, IsWithinHistoryLimits, SumsFit};
 ghost use Rattle.flow_model.specs.Views.{AreRestated, AreRolledInto, IsViewOf};
 
+use crate::by_file::KeptPart;
 use crate::counting::{rolled_count, sealed_count};
 use crate::files::Files;
 use crate::interleaving::rows_of_both;
@@ -139,6 +141,22 @@ impl<S: SealedFile> Snapshot<S> {
         ensures { result ≡ length self.now.shelf.sealed + 1 }
     {
         self.files.sealed.len() as u64 + 1
+    }
+
+    /// The file with kept messages at a place: the sealed segments, the oldest first, from 0 on, and after them the active
+    /// one. Nothing is read.
+    pub fn kept_part(&self, at: u64) -> KeptPart<'_, S>
+        requires { at ≤ length self.now.shelf.sealed }
+        ensures file { slice_get (kept_by_file self.now.shelf) at ≡ Some (file_of result) }
+        ensures honest { IsTrue self.now.honest → IsTrue (is_honest_part result) }
+    {
+        match self.files.sealed.get(at as usize) {
+            Some(part) => KeptPart::Sealed(part),
+            None => {
+                let prefix = self.files.prefix.as_slice();
+                KeptPart::Active(prefix, self.files.active.as_slice())
+            }
+        }
     }
 
     /// Appends the flows of the file at a place.
