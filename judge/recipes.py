@@ -2,8 +2,9 @@
 """recipes.py PROGRAM: runs recipes of docs/OPERATING.md, as that page has them, over an archive of a month with a flow in
 each interval of 300 seconds but some: the bill of the month, and the 95th percentile, which is compared with one
 reckoned here. They are run on single flows, after `roll`, and after `merge`, when the percentile has no answer and the
-recipe has to say so. Prints each difference, and ends with 'N cases of recipes: M differ'; its status is 0 where M is 0,
-else 1."""
+recipe has to say so. And examples/metrics.py over archives that are well, in use, damaged and not there, and while
+Files are fed that lack records. Prints each difference, and ends with 'N cases of recipes: M differ'; its status is 0
+where M is 0, else 1."""
 import os
 import re
 import struct
@@ -11,7 +12,14 @@ import subprocess
 import sys
 import tempfile
 
-PAGE = os.path.join(os.path.dirname(os.path.abspath(__file__)), "..", "docs", "OPERATING.md")
+from questions import until_locked
+
+TOP = os.path.join(os.path.dirname(os.path.abspath(__file__)), "..")
+PAGE = os.path.join(TOP, "docs", "OPERATING.md")
+METRICS = os.path.abspath(os.path.join(TOP, "examples", "metrics.py"))
+
+# What a metrics collector reads.
+EXPOSED = re.compile(r"# HELP [a-z_]+ .*|# TYPE [a-z_]+ (counter|gauge)|[a-z_]+\{(,?[a-z]+=\"[^\"\n]*\")+\} \d+")
 
 # 2023-11-01 and 2023-12-01, 00:00 UTC.
 FROM, TO = 1698796800, 1701388800
@@ -33,8 +41,8 @@ def month():
     return [0 if i % 50 == 0 else 3000 * (i * 7919 % INTERVALS + 1) for i in range(INTERVALS)]
 
 
-def file_of(octets):
-    """An IPFIX File of domain 7 with a flow in each interval that has octets."""
+def messages_of(octets):
+    """Messages of domain 7 with a flow in each interval that has octets."""
     template = struct.pack(">HHHHHHHHHHHH", 2, 24, 256, 4, 150, 4, 4, 1, 1, 8, 2, 4)
     flows = [struct.pack(">IBQI", FROM + 300 * i, 6, count, 1) for i, count in enumerate(octets) if count]
     messages = []
@@ -42,7 +50,7 @@ def file_of(octets):
         part = flows[at : at + FLOWS]
         body = (b"" if at else template) + struct.pack(">HH", 256, 4 + sum(map(len, part))) + b"".join(part)
         messages.append(struct.pack(">HHIII", 10, 16 + len(body), FROM, at, 7) + body)
-    return b"".join(messages)
+    return messages
 
 
 class Trial:
@@ -63,6 +71,54 @@ class Trial:
             print("%s: wanted %r, came %r" % (what, wanted, came))
 
 
+def measured(trial, words):
+    """What metrics.py writes of an archive: its status, what it says, and the values of metrics that aren't 0 by their
+    names, without `flowvault_`, and by their last labels, where there are several."""
+    ran = trial.run("python3 '%s' text.prom %s" % (METRICS, words))
+    with open(os.path.join(trial.place, "text.prom")) as file:
+        lines = file.read().splitlines()
+    values = {}
+    for line in lines:
+        if not EXPOSED.fullmatch(line):
+            return "no line of metrics: " + line
+        name, _, value = line.rpartition(" ")
+        name = re.sub(r"flowvault_(\w+)\{archive=\"[a-z]+\",?", r"\1{", name).replace("{}", "")
+        if value != "0" and line[0] != "#" and not name.startswith("size_bytes"):
+            values[name] = int(value)
+    return ran.returncode, ran.stdout, values
+
+
+def metrics(trial, messages):
+    """What metrics.py writes, in turn of archives that are well, in use, damaged and not there, and of one to which
+    Files are fed that lack a template and a message, and what is none."""
+    for name, octets in (("three", b"".join(messages[:3])), ("lacking", messages[1] + messages[0] + messages[2]),
+                         ("octet", b"\x00"), ("cut", messages[0][:20])):
+        with open(os.path.join(trial.place, name), "wb") as file:
+            file.write(octets)
+    trial.run("for it in watched lossy; do mkdir $it && flowvault create $it 300; done && flowvault feed watched three"
+              " && cp -r watched damaged && chmod u+w damaged/3.ipfix && printf x |"
+              " dd of=damaged/3.ipfix conv=notrunc")
+    well = {"messages_total": 3, "files": 1}
+    trial.compare("metrics", (0, "", well), measured(trial, "watched"))
+    with subprocess.Popen(["bin/flowvault", "feed", "watched", "-"], cwd=trial.place, stdin=subprocess.PIPE,
+                          stdout=subprocess.DEVNULL) as feed:
+        until_locked(os.path.join(trial.place, "watched"))
+        trial.compare("metrics, in use", (0, "", {"check_status": 3, "check_refusal": 30, "in_use": 1, "files": 1}),
+                      measured(trial, "watched"))
+        feed.stdin.close()
+    for name, wanted in (("damaged", {"check_status": 5, "check_refusal": 20, "files": 1}),
+                         ("none", {"check_status": 3, "check_refusal": 30})):
+        trial.compare("metrics, " + name, (0, "", wanted), measured(trial, name))
+    for words, status, line, ending, lost in (
+        ("lacking", 0, "fed 1 3", "fed",
+         {"sets_without_template_total": 1, "sequence_gaps_total": 1, "missing_records_total": FLOWS}),
+        ("octet --datagrams", 0, "fed 1 0", "fed", {'refused_datagrams_total{refusal="1 Short"}': 1}),
+        ("cut", 1, "stopped 1 0 15 Cut", "15 Cut", {}),
+    ):
+        wanted = {**well, **lost, 'ended_files_total{ending="%s"}' % ending: 1}
+        trial.compare("metrics, fed " + words, (status, line + "\n", wanted), measured(trial, "lossy --feed " + words))
+
+
 def main(program):
     octets = month()
     rows, bill, peak = recipe("rows() {"), recipe('"%s %.0f\\n", d, octets[d]'), recipe("all * 95")
@@ -70,7 +126,7 @@ def main(program):
     with tempfile.TemporaryDirectory() as place:
         trial = Trial(program, place)
         with open(os.path.join(place, "month.ipfix"), "wb") as file:
-            file.write(file_of(octets))
+            file.write(b"".join(messages_of(octets)))
         made = trial.run("mkdir flows && flowvault create flows 300 --limit 65535 && "
                          "flowvault feed flows month.ipfix --keep 4294967295")
         trial.compare("feed", (0, ""), (made.returncode, made.stderr))
@@ -83,6 +139,7 @@ def main(program):
                 trial.compare("no percentile after " + what, True, "no answer" in came.stderr and came.stdout == "")
                 continue
             trial.compare("the percentile after " + what, (0, "%d\n" % rate), (came.returncode, came.stdout))
+        metrics(trial, messages_of(octets))
     print("%d cases of recipes: %d differ" % (trial.cases, trial.differ))
     return int(trial.differ > 0)
 
