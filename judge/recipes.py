@@ -2,8 +2,9 @@
 """recipes.py PROGRAM: runs recipes of docs/OPERATING.md, as that page has them, over an archive of a month with a flow in
 each interval of 300 seconds but some: the bill of the month, and the 95th percentile, which is compared with one
 reckoned here. They are run on single flows, after `roll`, and after `merge`, when the percentile has no answer and the
-recipe has to say so. And examples/metrics.py over archives that are well, in use, damaged and not there, and while
-Files are fed that lack records. Prints each difference, and ends with 'N cases of recipes: M differ'; its status is 0
+recipe has to say so. Then examples/days.sh: the month in three archives of a day each, their sums as files, and the
+bill of these. And examples/metrics.py over archives that are well, in use, damaged and not there, and while Files are
+fed that lack records. Prints each difference, and ends with 'N cases of recipes: M differ'; its status is 0
 where M is 0, else 1."""
 import os
 import re
@@ -16,7 +17,7 @@ from questions import until_locked
 
 TOP = os.path.join(os.path.dirname(os.path.abspath(__file__)), "..")
 PAGE = os.path.join(TOP, "docs", "OPERATING.md")
-METRICS = os.path.abspath(os.path.join(TOP, "examples", "metrics.py"))
+METRICS, DAYS = (os.path.abspath(os.path.join(TOP, "examples", name)) for name in ("metrics.py", "days.sh"))
 
 # What a metrics collector reads.
 EXPOSED = re.compile(r"# HELP [a-z_]+ .*|# TYPE [a-z_]+ (counter|gauge)|[a-z_]+\{(,?[a-z]+=\"[^\"\n]*\")+\} \d+")
@@ -69,6 +70,27 @@ class Trial:
         if wanted != came:
             self.differ += 1
             print("%s: wanted %r, came %r" % (what, wanted, came))
+
+
+def days(trial, octets):
+    """Three parts of a month, each fed on a day of its own to an archive of that day, with another exporter's archive
+    that is damaged: what is left once days are closed, and the bill of their sums."""
+    def closes(today, files):
+        came = trial.run("TODAY=%s '%s' close udp sums 5; echo $?; ls -d udp/*/* sums/*/*" % (today, DAYS))
+        trial.compare("days.sh close, on " + today, "1 " + files, " ".join(came.stdout.split()))
+        trial.compare("what it says on " + today, True, "days.sh: no sums of udp/4740/2023-11-10" in came.stderr)
+
+    dates, part = ("2023-11-10", "2023-11-20", "2023-11-30"), INTERVALS // 3
+    for at, date in enumerate(dates):
+        with open(os.path.join(trial.place, "part"), "wb") as file:
+            file.write(b"".join(messages_of([count if i // part == at else 0 for i, count in enumerate(octets)])))
+        came = trial.run("TODAY=%s '%s' feed udp/4739 < part" % (date, DAYS))
+        trial.compare("days.sh feed", (0, ""), (came.returncode, came.stderr))
+    trial.run("mkdir -p udp/4740 && cp -r udp/4739/2023-11-10 udp/4740 && rm udp/4740/*/*.slot")
+    closes("2023-11-30", "sums/4739/2023-11-10.csv sums/4739/2023-11-20.csv udp/4739/2023-11-30 udp/4740/2023-11-10")
+    closes("2023-12-01", " ".join("sums/4739/%s.csv" % it for it in dates) + " udp/4739/2023-11-30 udp/4740/2023-11-10")
+    came = trial.run(recipe("FNR > 1 && $1 >= from"))
+    trial.compare("the bill of sums by days", (0, "7 %d\n" % sum(octets)), (came.returncode, came.stdout))
 
 
 def measured(trial, words):
@@ -139,6 +161,7 @@ def main(program):
                 trial.compare("no percentile after " + what, True, "no answer" in came.stderr and came.stdout == "")
                 continue
             trial.compare("the percentile after " + what, (0, "%d\n" % rate), (came.returncode, came.stdout))
+        days(trial, octets)
         metrics(trial, messages_of(octets))
     print("%d cases of recipes: %d differ" % (trial.cases, trial.differ))
     return int(trial.differ > 0)
