@@ -7,7 +7,7 @@
 #     besides. It rolls nothing.
 # days.sh close EXPORTERS SUMS DAYS
 #     of each archive of a day before today writes the sums, once, to SUMS/EXPORTER/DATE.csv, and removes those whose
-#     sums are written and whose day is DAYS days before today, or more. It names each that it can't ask, leaves that
+#     sums are written and whose day is more than DAYS days before today. It names each that it can't ask, leaves that
 #     one as it is, and goes on; its status is 1 then. What was left is done by the next run.
 
 today=${TODAY:-$(date -u +%F)}
@@ -46,7 +46,7 @@ close() {
         [ "$day" -lt "$(number "$today")" ] || continue
         sums=$2/${exporter##*/}/${archive##*/}.csv
         if [ -e "$sums" ] || write_sums "$archive" "$sums"; then
-            [ "$day" -gt "$last" ] || rm -rf "$archive" || status=1
+            [ "$day" -ge "$last" ] || rm -rf "$archive" || status=1
         else
             echo "days.sh: no sums of $archive" >&2
             status=1

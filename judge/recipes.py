@@ -3,9 +3,9 @@
 each interval of 300 seconds but some: the bill of the month, and the 95th percentile, which is compared with one
 reckoned here. They are run on single flows, after `roll`, and after `merge`, when the percentile has no answer and the
 recipe has to say so. Then examples/days.sh: the month in three archives of a day each, their sums as files, and the
-bill of these. And examples/metrics.py over archives that are well, in use, damaged and not there, and while Files are
-fed that lack records. Prints each difference, and ends with 'N cases of recipes: M differ'; its status is 0
-where M is 0, else 1."""
+bill of these; and what an archive lacks. And examples/metrics.py over archives that are well, in use, damaged and not
+there, and while Files are fed that lack records. Prints each difference, and ends with 'N cases of recipes: M differ';
+its status is 0 where M is 0, else 1."""
 import os
 import re
 import struct
@@ -75,22 +75,36 @@ class Trial:
 def days(trial, octets):
     """Three parts of a month, each fed on a day of its own to an archive of that day, with another exporter's archive
     that is damaged: what is left once days are closed, and the bill of their sums."""
-    def closes(today, files):
-        came = trial.run("TODAY=%s '%s' close udp sums 5; echo $?; ls -d udp/*/* sums/*/*" % (today, DAYS))
-        trial.compare("days.sh close, on " + today, "1 " + files, " ".join(came.stdout.split()))
-        trial.compare("what it says on " + today, True, "days.sh: no sums of udp/4740/2023-11-10" in came.stderr)
+    def closes(today, *files):
+        came = trial.run("TODAY=%s '%s' close udp sums 10; echo $?; ls -d udp/*/* sums/*/*" % (today, DAYS))
+        wanted = ["1", *sorted([*files, "udp/4739/2023-11-10"])]
+        trial.compare("days.sh close, on " + today, wanted, came.stdout.split())
+        trial.compare("what it says on " + today, True, "days.sh: no sums of udp/4739/2023-11-10" in came.stderr)
 
     dates, part = ("2023-11-10", "2023-11-20", "2023-11-30"), INTERVALS // 3
+    sums, kept = (["%s/4740/%s%s" % (of, it, end) for it in dates] for of, end in (("sums", ".csv"), ("udp", "")))
     for at, date in enumerate(dates):
         with open(os.path.join(trial.place, "part"), "wb") as file:
             file.write(b"".join(messages_of([count if i // part == at else 0 for i, count in enumerate(octets)])))
-        came = trial.run("TODAY=%s '%s' feed udp/4739 < part" % (date, DAYS))
+        came = trial.run("TODAY=%s '%s' feed udp/4740 < part" % (date, DAYS))
         trial.compare("days.sh feed", (0, ""), (came.returncode, came.stderr))
-    trial.run("mkdir -p udp/4740 && cp -r udp/4739/2023-11-10 udp/4740 && rm udp/4740/*/*.slot")
-    closes("2023-11-30", "sums/4739/2023-11-10.csv sums/4739/2023-11-20.csv udp/4739/2023-11-30 udp/4740/2023-11-10")
-    closes("2023-12-01", " ".join("sums/4739/%s.csv" % it for it in dates) + " udp/4739/2023-11-30 udp/4740/2023-11-10")
+    trial.run("mkdir -p udp/4739 && cp -r udp/4740/2023-11-10 udp/4739 && rm udp/4739/*/*.slot")
+    closes("2023-11-30", *sums[:2], *kept[1:])
+    closes("2023-12-01", *sums, kept[2])
     came = trial.run(recipe("FNR > 1 && $1 >= from"))
     trial.compare("the bill of sums by days", (0, "7 %d\n" % sum(octets)), (came.returncode, came.stdout))
+
+
+def lacks(trial, messages):
+    """What an archive lacks of which a message was lost, by its segments, as by the File that was fed; but for the
+    number of messages, among which those are that give a segment its templates."""
+    with open(os.path.join(trial.place, "lost"), "wb") as file:
+        file.write(b"".join(messages[:40] + messages[41:]))
+    trial.run("mkdir day && flowvault create day 300 --limit 65535 && flowvault feed day lost --keep 4294967295")
+    of_file, of_segments = (re.sub(r"messages \d+ ", "", trial.run(it).stdout)
+                            for it in ("flowvault inspect < lost", recipe('head -c "$octets"')))
+    trial.compare("what a day lacks", of_file, of_segments)
+    trial.compare("that a day lacks records", True, " gaps 1 missing %d " % FLOWS in of_segments)
 
 
 def measured(trial, words):
@@ -162,6 +176,7 @@ def main(program):
                 continue
             trial.compare("the percentile after " + what, (0, "%d\n" % rate), (came.returncode, came.stdout))
         days(trial, octets)
+        lacks(trial, messages_of(octets))
         metrics(trial, messages_of(octets))
     print("%d cases of recipes: %d differ" % (trial.cases, trial.differ))
     return int(trial.differ > 0)
