@@ -12,6 +12,7 @@ import concurrent.futures
 import csv
 import io
 import os
+import resource
 import shutil
 import subprocess
 import sys
@@ -58,8 +59,17 @@ class Servers:
         ran = self.as_postgres("psql", "-h", "%s/data%d" % (self.place, port), "-p", str(port), "-U", role, "-X", "-q",
                                "-A", "-t", "-F", ",", "-v", "ON_ERROR_STOP=1", "postgres", check=False, given=text)
         if ran.returncode:
-            return [line for line in ran.stderr.split("\n") if "ERROR" in line][0]
+            return next((line for line in ran.stderr.split("\n") if "ERROR" in line), ran.stderr)
         return [tuple(line.split(",")) for line in ran.stdout.split("\n") if line]
+
+    def processor(self):
+        """How many processor seconds this script's children took, and the servers with all that they started."""
+        ticks, it = 0, resource.getrusage(resource.RUSAGE_CHILDREN)
+        for port in (5541, 5542):
+            with open("%s/data%d/postmaster.pid" % (self.place, port)) as file:
+                with open("/proc/%s/stat" % file.readline().strip()) as stat:
+                    ticks += sum(map(int, stat.read().rpartition(")")[2].split()[11:15]))
+        return ticks / os.sysconf("SC_CLK_TCK") + it.ru_utime + it.ru_stime
 
     def path(self, number):
         return "%s/archives/a%02d" % (self.place, number)
@@ -150,10 +160,14 @@ def setup(servers):
 
 
 def took(servers, what, wanted, answer):
-    """Compares an answer, and says how long it took."""
-    since = time.monotonic()
+    """Compares an answer, and says how long it took, and how many processor seconds."""
+    spent, since = servers.processor(), time.monotonic()
     came = answer()
-    servers.say("%s: %.2f s" % (what, time.monotonic() - since), wanted, sorted(came))
+    lasted = time.monotonic() - since
+    # (a server counts what a session took once that has ended)
+    time.sleep(0.5)
+    spent = servers.processor() - spent
+    servers.say("%s: %.2f s, %.2f processor seconds" % (what, lasted, spent), wanted, sorted(came))
 
 
 def asked_of(servers, wanted):
