@@ -2,11 +2,11 @@
 """postgres.py PROGRAM [--archives N] [--octets N] [--days N] [--file FILE]: archives as tables of PostgreSQL
 (docs/SCALE.md), on Debian's PostgreSQL 15, by root: two servers in a folder of its own, on sockets of their own. Each
 archive is a table of file_fdw, whose program is `PROGRAM totals DIR .. --csv`; a view has all of them; one more table
-has all of them by one program, `totals DIR.. --each --csv`; a second server has half of them, and the first one asks
-both. It compares the sums of each with those that `totals` of each archive gives, takes the times, and tries what may
-go wrong: a damaged archive, one that a `feed` has open, a limit, sessions side by side, parallel plans, a role that may
-only read. Each archive has the same messages: of so many octets in so many days, or those of FILE. It prints a line for
-each, and ends with 'N lines, M differ'; its status is 0 where M is 0, else 1."""
+has all of them by one program, `totals DIR.. --each --csv`, and one keeps their sums; a second server has half of the
+archives, and the first one asks both. It compares the sums of each with those that `totals` of each archive gives,
+takes the times, and tries what may go wrong: a damaged archive, one that a `feed` has open, a limit, sessions side by
+side, parallel plans, a role that may only read. Each archive has the same messages: of so many octets in so many days,
+or those of FILE. It prints a line for each, and ends with 'N lines, M differ'; its status is 0 where M is 0, else 1."""
 import argparse
 import concurrent.futures
 import csv
@@ -170,6 +170,18 @@ def took(servers, what, wanted, answer):
     servers.say("%s: %.2f s, %.2f processor seconds" % (what, lasted, spent), wanted, sorted(came))
 
 
+def keep_sums(servers):
+    """Fills a table with the sums of all archives, each written to a file."""
+    answers, path = [], os.path.join(servers.place, "sums.csv")
+    for number, folder in enumerate(servers.paths(), 1):
+        with open(path, "w") as file:
+            subprocess.run([servers.program, "totals", folder, *SPAN, "--csv"], stdout=file, check=True)
+        answers += servers.sql("create temp table day (like sums); alter table day drop exporter;\n"
+                               "\\copy day from '%s' with (format csv, header)\n"
+                               "insert into sums select 'a%02d', * from day;" % (path, number))
+    return answers
+
+
 def asked_of(servers, wanted):
     """The sums of each archive, of a table of each, and of all by one program."""
     program, paths, by = servers.program, servers.paths(), "select domain, sum(octets) from %s group by 1 order by 1"
@@ -181,11 +193,17 @@ def asked_of(servers, wanted):
     took(servers, "two machines (two servers here), half of the archives each", wanted,
          lambda: servers.sql("set enable_partitionwise_aggregate = on;" + by % "bills"))
     took(servers, "one table by one program, --each", wanted, lambda: servers.sql(by % "every"))
-    count = "select count(distinct archive) from every"
-    took(servers, "how many archives that table has", [(str(servers.archives),)], lambda: servers.sql(count))
+    servers.sql("create table names (archive int primary key, exporter text); insert into names values "
+                + ", ".join("(%d, 'a%02d')" % (n, n) for n in range(1, servers.archives + 1)))
+    octets = sum(int(row[1]) for row in wanted) // servers.archives
+    took(servers, "that table by exporter", [("a%02d" % (n + 1), str(octets)) for n in range(servers.archives)],
+         lambda: servers.sql("select exporter, sum(octets) from every join names using (archive) group by 1"))
     took(servers, "a materialized view, made", [], lambda: servers.sql(
         "create materialized view month as select * from bill"))
     took(servers, "and asked", wanted, lambda: servers.sql(by % "month"))
+    servers.sql("create table sums (exporter text, %s)" % TABLE)
+    took(servers, "a table of sums, filled", [], lambda: keep_sums(servers))
+    took(servers, "and asked", wanted, lambda: servers.sql(by % "sums"))
     one = "select count(*) > 0, count(distinct exporter) from bill where exporter = 'a01'"
     took(servers, "one exporter of the view", [("t", "1")], lambda: servers.sql(one))
 
