@@ -9,6 +9,7 @@ side, parallel plans, a role that may only read. Each archive has the same messa
 or those of FILE. It prints a line for each, and ends with 'N lines, M differ'; its status is 0 where M is 0, else 1."""
 import argparse
 import concurrent.futures
+import contextlib
 import csv
 import io
 import os
@@ -62,13 +63,33 @@ class Servers:
             return next((line for line in ran.stderr.split("\n") if "ERROR" in line), ran.stderr)
         return [tuple(line.split(",")) for line in ran.stdout.split("\n") if line]
 
-    def processor(self):
-        """How many processor seconds this script's children took, and the servers with all that they started."""
-        ticks, it = 0, resource.getrusage(resource.RUSAGE_CHILDREN)
+    def postmasters(self):
         for port in (5541, 5542):
             with open("%s/data%d/postmaster.pid" % (self.place, port)) as file:
-                with open("/proc/%s/stat" % file.readline().strip()) as stat:
-                    ticks += sum(map(int, stat.read().rpartition(")")[2].split()[11:15]))
+                yield file.readline().strip()
+
+    def sessions(self):
+        """How many processes of the servers are sessions of users; one that has ended, and isn't counted yet, has no
+        words."""
+        count = 0
+        for pid in self.postmasters():
+            with open("/proc/%s/task/%s/children" % (pid, pid)) as children:
+                for child in children.read().split():
+                    with contextlib.suppress(OSError), open("/proc/%s/cmdline" % child) as file:
+                        words = file.read()
+                        count += not words or "[local]" in words
+        return count
+
+    def processor(self):
+        """How many processor seconds this script's children took, and the servers with all that they started, once
+        each session has ended: then a server counts what it took."""
+        until = time.monotonic() + 60
+        while self.sessions() and time.monotonic() < until:
+            time.sleep(0.1)
+        ticks, it = 0, resource.getrusage(resource.RUSAGE_CHILDREN)
+        for pid in self.postmasters():
+            with open("/proc/%s/stat" % pid) as stat:
+                ticks += sum(map(int, stat.read().rpartition(")")[2].split()[11:15]))
         return ticks / os.sysconf("SC_CLK_TCK") + it.ru_utime + it.ru_stime
 
     def path(self, number):
@@ -164,8 +185,6 @@ def took(servers, what, wanted, answer):
     spent, since = servers.processor(), time.monotonic()
     came = answer()
     lasted = time.monotonic() - since
-    # (a server counts what a session took once that has ended)
-    time.sleep(0.5)
     spent = servers.processor() - spent
     servers.say("%s: %.2f s, %.2f processor seconds" % (what, lasted, spent), wanted, sorted(came))
 
