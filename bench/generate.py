@@ -1,5 +1,6 @@
 #!/usr/bin/env python3
-"""generate.py OCTETS > FILE: an IPFIX File of at least so many octets, the same for the same number.
+"""generate.py OCTETS [SECONDS] > FILE: an IPFIX File of at least so many octets, the same for the same numbers, whose
+messages are sent within so many seconds, or 200 of them in each second.
 
 Four Observation Domains send messages of some 1,400 octets, as over UDP: three Templates (IPv4 with 12 fields, IPv6
 with 14, IPv4 with 16), sent again every 500 messages of a domain, and some 20 data records a message."""
@@ -49,10 +50,12 @@ def flow(number, numbers, time):
 
 def main():
     wanted, written, index = int(sys.argv[1]), 0, 0
+    # (a message has some 1,390 octets)
+    span, messages = (int(sys.argv[2]), wanted // 1390) if len(sys.argv) > 2 else (1, 200)
     numbers, out = Numbers(7), sys.stdout.buffer
     sequences, sent = [0] * 4, [0] * 4
     while written < wanted:
-        domain, time = index % 4, 1700000000 + index // 200
+        domain, time = index % 4, 1700000000 + index * span // messages
         sets = template_set() if sent[domain] % 500 == 0 else b""
         records = 0
         while True:

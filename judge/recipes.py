@@ -2,8 +2,10 @@
 """recipes.py PROGRAM: runs recipes of docs/OPERATING.md, as that page has them, over an archive of a month with a flow in
 each interval of 300 seconds but some: the bill of the month, and the 95th percentile, which is compared with one
 reckoned here. They are run on single flows, after `roll`, and after `merge`, when the percentile has no answer and the
-recipe has to say so. Prints each difference, and ends with 'N cases of recipes: M differ'; its status is 0 where M is 0,
-else 1."""
+recipe has to say so. Then examples/days.sh: the month in three archives of a day each, their sums as files, and the
+bill of these; and what an archive lacks. And examples/metrics.py over archives that are well, in use, damaged and not
+there, and while Files are fed that lack records. Prints each difference, and ends with 'N cases of recipes: M differ';
+its status is 0 where M is 0, else 1."""
 import os
 import re
 import struct
@@ -11,7 +13,14 @@ import subprocess
 import sys
 import tempfile
 
-PAGE = os.path.join(os.path.dirname(os.path.abspath(__file__)), "..", "docs", "OPERATING.md")
+from questions import until_locked
+
+TOP = os.path.join(os.path.dirname(os.path.abspath(__file__)), "..")
+PAGE = os.path.join(TOP, "docs", "OPERATING.md")
+METRICS, DAYS = (os.path.abspath(os.path.join(TOP, "examples", name)) for name in ("metrics.py", "days.sh"))
+
+# What a metrics collector reads.
+EXPOSED = re.compile(r"# HELP [a-z_]+ .*|# TYPE [a-z_]+ (counter|gauge)|[a-z_]+\{(,?[a-z]+=\"[^\"\n]*\")+\} \d+")
 
 # 2023-11-01 and 2023-12-01, 00:00 UTC.
 FROM, TO = 1698796800, 1701388800
@@ -33,8 +42,8 @@ def month():
     return [0 if i % 50 == 0 else 3000 * (i * 7919 % INTERVALS + 1) for i in range(INTERVALS)]
 
 
-def file_of(octets):
-    """An IPFIX File of domain 7 with a flow in each interval that has octets."""
+def messages_of(octets):
+    """Messages of domain 7 with a flow in each interval that has octets."""
     template = struct.pack(">HHHHHHHHHHHH", 2, 24, 256, 4, 150, 4, 4, 1, 1, 8, 2, 4)
     flows = [struct.pack(">IBQI", FROM + 300 * i, 6, count, 1) for i, count in enumerate(octets) if count]
     messages = []
@@ -42,7 +51,7 @@ def file_of(octets):
         part = flows[at : at + FLOWS]
         body = (b"" if at else template) + struct.pack(">HH", 256, 4 + sum(map(len, part))) + b"".join(part)
         messages.append(struct.pack(">HHIII", 10, 16 + len(body), FROM, at, 7) + body)
-    return b"".join(messages)
+    return messages
 
 
 class Trial:
@@ -63,6 +72,89 @@ class Trial:
             print("%s: wanted %r, came %r" % (what, wanted, came))
 
 
+def days(trial, octets):
+    """Three parts of a month, each fed on a day of its own to an archive of that day, with another exporter's archive
+    that is damaged: what is left once days are closed, and the bill of their sums."""
+    def closes(today, *files):
+        came = trial.run("TODAY=%s '%s' close udp sums 10; echo $?; ls -d udp/*/* sums/*/*" % (today, DAYS))
+        wanted = ["1", *sorted([*files, "udp/4739/2023-11-10"])]
+        trial.compare("days.sh close, on " + today, wanted, came.stdout.split())
+        trial.compare("what it says on " + today, True, "days.sh: no sums of udp/4739/2023-11-10" in came.stderr)
+
+    dates, part = ("2023-11-10", "2023-11-20", "2023-11-30"), INTERVALS // 3
+    sums, kept = (["%s/4740/%s%s" % (of, it, end) for it in dates] for of, end in (("sums", ".csv"), ("udp", "")))
+    for at, date in enumerate(dates):
+        with open(os.path.join(trial.place, "part"), "wb") as file:
+            file.write(b"".join(messages_of([count if i // part == at else 0 for i, count in enumerate(octets)])))
+        came = trial.run("TODAY=%s '%s' feed udp/4740 < part" % (date, DAYS))
+        trial.compare("days.sh feed", (0, ""), (came.returncode, came.stderr))
+    trial.run("mkdir -p udp/4739 && cp -r udp/4740/2023-11-10 udp/4739 && rm udp/4739/*/*.slot")
+    closes("2023-11-30", *sums[:2], *kept[1:])
+    closes("2023-12-01", *sums, kept[2])
+    came = trial.run(recipe("FNR > 1 && $1 >= from"))
+    trial.compare("the bill of sums by days", (0, "7 %d\n" % sum(octets)), (came.returncode, came.stdout))
+
+
+def lacks(trial, messages):
+    """What an archive lacks of which a message was lost, by its segments, as by the File that was fed; but for the
+    number of messages, among which those are that give a segment its templates."""
+    with open(os.path.join(trial.place, "lost"), "wb") as file:
+        file.write(b"".join(messages[:40] + messages[41:]))
+    trial.run("mkdir day && flowvault create day 300 --limit 65535 && flowvault feed day lost --keep 4294967295")
+    of_file, of_segments = (re.sub(r"messages \d+ ", "", trial.run(it).stdout)
+                            for it in ("flowvault inspect < lost", recipe('head -c "$octets"')))
+    trial.compare("what a day lacks", of_file, of_segments)
+    trial.compare("that a day lacks records", True, " gaps 1 missing %d " % FLOWS in of_segments)
+
+
+def measured(trial, words):
+    """What metrics.py writes of an archive: its status, what it says, and the values of metrics that aren't 0 by their
+    names, without `flowvault_`, and by their last labels, where there are several."""
+    ran = trial.run("python3 '%s' text.prom %s" % (METRICS, words))
+    with open(os.path.join(trial.place, "text.prom")) as file:
+        lines = file.read().splitlines()
+    values = {}
+    for line in lines:
+        if not EXPOSED.fullmatch(line):
+            return "no line of metrics: " + line
+        name, _, value = line.rpartition(" ")
+        name = re.sub(r"flowvault_(\w+)\{archive=\"[a-z]+\",?", r"\1{", name).replace("{}", "")
+        if value != "0" and line[0] != "#" and not name.startswith("size_bytes"):
+            values[name] = int(value)
+    return ran.returncode, ran.stdout, values
+
+
+def metrics(trial, messages):
+    """What metrics.py writes, in turn of archives that are well, in use, damaged and not there, and of one to which
+    Files are fed that lack a template and a message, and what is none."""
+    for name, octets in (("three", b"".join(messages[:3])), ("lacking", messages[1] + messages[0] + messages[2]),
+                         ("octet", b"\x00"), ("cut", messages[0][:20])):
+        with open(os.path.join(trial.place, name), "wb") as file:
+            file.write(octets)
+    trial.run("for it in watched lossy; do mkdir $it && flowvault create $it 300; done && flowvault feed watched three"
+              " && cp -r watched damaged && chmod u+w damaged/3.ipfix && printf x |"
+              " dd of=damaged/3.ipfix conv=notrunc")
+    well = {"messages_total": 3, "files": 1}
+    trial.compare("metrics", (0, "", well), measured(trial, "watched"))
+    with subprocess.Popen(["bin/flowvault", "feed", "watched", "-"], cwd=trial.place, stdin=subprocess.PIPE,
+                          stdout=subprocess.DEVNULL) as feed:
+        until_locked(os.path.join(trial.place, "watched"))
+        trial.compare("metrics, in use", (0, "", {"check_status": 3, "check_refusal": 30, "in_use": 1, "files": 1}),
+                      measured(trial, "watched"))
+        feed.stdin.close()
+    for name, wanted in (("damaged", {"check_status": 5, "check_refusal": 20, "files": 1}),
+                         ("none", {"check_status": 3, "check_refusal": 30})):
+        trial.compare("metrics, " + name, (0, "", wanted), measured(trial, name))
+    for words, status, line, ending, lost in (
+        ("lacking", 0, "fed 1 3", "fed",
+         {"sets_without_template_total": 1, "sequence_gaps_total": 1, "missing_records_total": FLOWS}),
+        ("octet --datagrams", 0, "fed 1 0", "fed", {'refused_datagrams_total{refusal="1 Short"}': 1}),
+        ("cut", 1, "stopped 1 0 15 Cut", "15 Cut", {}),
+    ):
+        wanted = {**well, **lost, 'ended_files_total{ending="%s"}' % ending: 1}
+        trial.compare("metrics, fed " + words, (status, line + "\n", wanted), measured(trial, "lossy --feed " + words))
+
+
 def main(program):
     octets = month()
     rows, bill, peak = recipe("rows() {"), recipe('"%s %.0f\\n", d, octets[d]'), recipe("all * 95")
@@ -70,7 +162,7 @@ def main(program):
     with tempfile.TemporaryDirectory() as place:
         trial = Trial(program, place)
         with open(os.path.join(place, "month.ipfix"), "wb") as file:
-            file.write(file_of(octets))
+            file.write(b"".join(messages_of(octets)))
         made = trial.run("mkdir flows && flowvault create flows 300 --limit 65535 && "
                          "flowvault feed flows month.ipfix --keep 4294967295")
         trial.compare("feed", (0, ""), (made.returncode, made.stderr))
@@ -83,6 +175,9 @@ def main(program):
                 trial.compare("no percentile after " + what, True, "no answer" in came.stderr and came.stdout == "")
                 continue
             trial.compare("the percentile after " + what, (0, "%d\n" % rate), (came.returncode, came.stdout))
+        days(trial, octets)
+        lacks(trial, messages_of(octets))
+        metrics(trial, messages_of(octets))
     print("%d cases of recipes: %d differ" % (trial.cases, trial.differ))
     return int(trial.differ > 0)
 

@@ -165,9 +165,13 @@ class Trial:
 
     def begin(self, sweep, size):
         """A new case, in an empty folder."""
-        self.end()
         shutil.rmtree(self.place)
         os.mkdir(self.place)
+        self.go_on(sweep, size)
+
+    def go_on(self, sweep, size):
+        """A new case, in the folder as it is."""
+        self.end()
         self.case, self.differs = "%s: %s" % (sweep, size), False
         self.cases += 1
 
