@@ -11,7 +11,8 @@ questions and 2,000 seals, and it is done twice more: where nothing is rolled, a
 
 It prints what it counted, and answers 1 where a message takes more than MOST_STEPS times as many steps, or the shell
 holds more than MOST_A_SEAL octets more for each segment that was sealed since, and more than GOALS has. The goals, 1.2
-times and 1.1 times, are missed where segments are sealed: docs/SPEED.md has by what."""
+times and 1.1 times, are missed where segments are sealed, and these bounds are looser, taken from what was measured:
+docs/SPEED.md has by what."""
 import os
 import random
 import struct
