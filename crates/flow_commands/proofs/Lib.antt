@@ -11,6 +11,8 @@ mod Jobs
 mod FileLines
 mod HandedOn
 mod KeptLines
+mod KnownStarts
 mod OneEach
 mod RollEnds
 mod Spans
+mod SpanStarts

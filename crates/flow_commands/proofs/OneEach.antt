@@ -146,7 +146,7 @@ no_starts : (starts : Option Starts) (width : ℕ) → starts_or starts (summed 
 no_starts (Some starts) width = refl
 no_starts None width = ap starts_of (no_rows width)
 
-file_alone : (s : Shelf) (wide narrow : List (FinMap key_cmp Sums)) (n count : ℕ) → AreWide s wide
+pub file_alone : (s : Shelf) (wide narrow : List (FinMap key_cmp Sums)) (n count : ℕ) → AreWide s wide
     → 0 < length narrow → count ≡ length wide + length narrow → n < count
     → starts_of_file s count wide narrow n ≡ starts_of (rows_in (alone s wide narrow n))
 file_alone s wide narrow n count are_wide some is below = by (nat_lt n (length wide)) refl

@@ -10,7 +10,8 @@ use Rattle.flow_manifest.specs.declared.manifest.Kind.{Kind}
 use Rattle.flow_manifest.specs.declared.manifest.Kind.TheVariants.{Active, Rolled, Sealed, Wide}
 use Rattle.flow_measure.specs.declared.rows.Row.{Row}
 use Rattle.flow_measure.specs.declared.rows.Sums.{Sums}
-use Rattle.flow_measure.specs.Sums.{key_cmp, rows_between, Table}
+use Rattle.flow_measure.specs.declared.span.PartSpan.{PartSpan}
+use Rattle.flow_measure.specs.Sums.{interval_of, key_cmp, rows_between, Table}
 use Rattle.flow_model.specs.Shelved.{shelf_of}
 use Rattle.flow_model.specs.Standing.{StandsFor}
 use Rattle.flow_model.specs.State.{end_of, State}
@@ -49,6 +50,12 @@ starts_or None other = starts_of (rows_in other)
 
 abbrev pub starts_in : Table → Table → Option Starts
 starts_in wide narrow = starts_or (starts_of (rows_in wide)) narrow
+
+-- the starts of the first and of the last interval of flows with this span, none where there are no flows
+abbrev pub starts_of_span : ℕ → PartSpan → Option Starts
+starts_of_span width span =
+    if nat_lt span.last span.first then None
+    else Some (record { first = interval_of span.first width; last = interval_of span.last width })
 
 -- ---- a line
 

@@ -1,6 +1,7 @@
 //! The command `check --files`.
 
 ghost use Rattle.std.specs.Prelude.{◌≡◌, ◌≢◌, ◌++◌, ◌+◌, ◌<◌, ◌^◌, List, ℕ, length, false, IsTrue, OnOk, IfOk, IfErr};
+ghost use Rattle.std.specs.Prelude.{IfSome};
 ghost use Rattle.std.specs.FinMap.{FinMap};
 ghost use Rattle.std.specs.List.{flat_map};
 ghost use Rattle.flow_commands.specs.declared.archive_files.FileLine.{FileLine};
@@ -15,7 +16,7 @@ ghost use Rattle.flow_snapshot.specs.Totals.{first_file, IsMade, SumsFit};
 ghost use Rattle.flow_commands.specs.declared.archive_refusal.ArchiveRefusal.TheVariants as refusal;
 ghost use Rattle.flow_commands.specs.ArchiveFiles.{AreFileLines, AreListings, ListsFiles, ListsNoFiles};
 ghost use Rattle.flow_commands.specs.ArchiveFiles.{file_line, kind_word, line_of, lines_of, starts_in, starts_of};
-ghost use Rattle.flow_commands.specs.ArchiveFiles.{starts_of_file, starts_words};
+ghost use Rattle.flow_commands.specs.ArchiveFiles.{starts_of_file, starts_of_span, starts_words};
 ghost use Rattle.flow_commands.specs.Asking.{IsBeforeWriting, IsNotFound, Writes, WritesOrNot};
 ghost use Rattle.flow_commands.specs.Archives.{of_query};
 ghost use Rattle.flow_commands.specs.Opened.{IsAsked, IsHandedOn, KeepsArchive, KeepsFiles};
@@ -29,11 +30,11 @@ use flow_disk::{Disk, Faults, SealedFile};
 use flow_folder::{FirstFault, Lockable};
 use flow_folder_view::FolderView;
 use flow_manifest::{Entry, Kind, OpenError};
-use flow_measure::{Row, Rows};
+use flow_measure::{PartSpan, Row, Rows, interval_of};
 use flow_model::one_view_of_a_state;
 use flow_refusals::ReadRefusal;
 use flow_report::{Patience, push_count, write_patiently};
-use flow_snapshot::{PartSums, Snapshot};
+use flow_snapshot::{KeptPart, PartSums, Snapshot};
 use std::alloc::{AllocError, AllocGlobal, Global};
 use std::fs::Files;
 use std::io::Write;
@@ -92,6 +93,20 @@ fn starts_in(alloc: Global, sums: &PartSums) -> Result<Option<Starts>, AllocErro
     Ok(starts_of(narrow.as_slice()))
 }
 
+/// The starts of the first and of the last interval of flows with this span.
+fn starts_of_span(span: PartSpan, width: u32) -> Option<Starts>
+    requires { 0 < width }
+    ensures { result ≡ starts_of_span width span }
+{
+    if span.last < span.first {
+        return None;
+    }
+    Some(Starts {
+        first: interval_of(span.first, width),
+        last: interval_of(span.last, width),
+    })
+}
+
 /// The word of a kind.
 fn kind_word(kind: Kind) -> &'static str
     ensures { result.now ≡ kind_word kind }
@@ -146,21 +161,57 @@ fn line_of(end: u64, active: u64, entry: &Entry, starts: Option<Starts>) -> File
     }
 }
 
-/// The starts of the flows of the file with this number, of so many.
+/// The starts of the flows of the file with this number, of so many, where they are known without reading it: those of
+/// a sealed segment whose span is known.
+fn known_starts<S: SealedFile>(
+    snapshot: &Snapshot<S>,
+    width: u32,
+    count: u32,
+    number: u32,
+) -> Option<Option<Starts>>
+    requires count { number < count }
+    requires some { 0 < width }
+    requires width { width ≡ snapshot.now.shelf.width }
+    ensures { IsTrue snapshot.now.honest → (wide narrow : List (FinMap key_cmp Sums))
+        → AreWide snapshot.now.shelf wide → AreNarrow snapshot.now.shelf narrow
+        → IfSome result (λ starts. starts ≡ starts_of_file snapshot.now.shelf count wide narrow number) }
+{
+    let summed = snapshot.summed_files();
+    let number = u64::from(number);
+    // The files with numbers are those of the snapshot.
+    if number < summed || u64::from(count) != summed.saturating_add(snapshot.kept_files()) {
+        return None;
+    }
+    match snapshot.kept_part(number - summed) {
+        KeptPart::Sealed(part) => {
+            let span = part.span?;
+            Some(starts_of_span(span, width))
+        }
+        KeptPart::Active(_prefix, _messages) => None,
+    }
+}
+
+/// The starts of the flows of the file with this number, of so many. It isn't read where they are known.
 fn starts_of_file<S: SealedFile>(
     alloc: Global,
     snapshot: &Snapshot<S>,
+    width: u32,
     count: u32,
     number: u32,
     faults: &mut Faults<S>,
 ) -> Result<Option<Starts>, ReadRefusal>
-    requires { number < count }
+    requires count { number < count }
+    requires some { 0 < width }
+    requires width { width ≡ snapshot.now.shelf.width }
     ensures cause { HasCause ReadRefusal.Fault faults.old faults.new result }
     ensures given { IsTrue snapshot.now.honest → (wide narrow : List (FinMap key_cmp Sums))
         → AreWide snapshot.now.shelf wide → AreNarrow snapshot.now.shelf narrow
         → IsMade (first_file snapshot.now.shelf) (AllPartsFit snapshot.now.shelf wide narrow)
         (λ starts. starts ≡ starts_of_file snapshot.now.shelf count wide narrow number) result }
 {
+    if let Some(starts) = known_starts(snapshot, width, count, number) {
+        return Ok(starts);
+    }
     let first = snapshot.first_file();
     let sums = snapshot.share(alloc, first, count, number, faults)?;
     Ok(starts_in(alloc, &sums)?)
@@ -170,13 +221,16 @@ fn starts_of_file<S: SealedFile>(
 fn push_files<S: SealedFile>(
     alloc: Global,
     snapshot: &Snapshot<S>,
+    width: u32,
     end: u64,
     active: u64,
     entries: &[Entry],
     text: &mut Vec<u8>,
     faults: &mut Faults<S>,
 ) -> Result<(), ReadRefusal>
-    requires { length entries.now < 2 ^ 32 }
+    requires count { length entries.now < 2 ^ 32 }
+    requires some { 0 < width }
+    requires width { width ≡ snapshot.now.shelf.width }
     ensures cause { HasCause ReadRefusal.Fault faults.old faults.new result }
     ensures given { IsTrue snapshot.now.honest → (wide narrow : List (FinMap key_cmp Sums))
         → AreWide snapshot.now.shelf wide → AreNarrow snapshot.now.shelf narrow
@@ -189,7 +243,7 @@ fn push_files<S: SealedFile>(
     let count = entries.len() as u32;
     let mut number: u32 = 0;
     for entry in entries {
-        let starts = starts_of_file(alloc, snapshot, count, number, faults)?;
+        let starts = starts_of_file(alloc, snapshot, width, count, number, faults)?;
         push_line(text, &line_of(end, active, entry, starts))?;
         number = number.wrapping_add(1);
     }
@@ -222,12 +276,14 @@ fn find_files<D: Disk>(
     // It has a valid manifest.
     let _closed = archive.is_closed();
     let snapshot = archive.directory(alloc)?.into_snapshot();
+    let width = archive.width();
     let mut text = standing_of(archive).line(alloc)?;
     let entries = archive.manifest().entries.as_slice();
     let active = archive.active_count() as u64;
     push_files(
         alloc,
         &snapshot,
+        width,
         archive.end(),
         active,
         entries,
@@ -262,7 +318,8 @@ fn list_files<D: Disk, W: Write>(
 /// Opens the archive on a disk, of which nothing is frozen, and writes the line of `check`, and then one for each file,
 /// in the manifest's order: KIND FILE OCTETS MESSAGES FIRST LAST. Its kind is `wide`, `rolled`, `sealed` or `active`;
 /// FIRST and LAST are the starts of the first and the last interval of its flows, in seconds, and `-` where it has
-/// none. Each file is read. It hands the archive on, or gives the disk back.
+/// none. Each file is read, but for a sealed segment of which the opening knows when its flows start. It hands the
+/// archive on, or gives the disk back.
 pub fn check_files<D: Disk, W: Write>(
     alloc: Global,
     disk: D,

@@ -1,4 +1,4 @@
-use Rattle.std.proofs.Common.{◌∙◌, ap, length, sym, subst}
+use Rattle.std.proofs.Common.{◌≡◌, ◌∙◌, ap, arith, length, sym, subst}
 use Rattle.flow_disk.proofs.Results.{passed_on}
 use Rattle.flow_manifest.specs.declared.manifest.Manifest.{Manifest}
 use Rattle.flow_model.specs.State.{end_of, State}
@@ -10,6 +10,19 @@ use Rattle.flow_commands.specs.Asking.{IsNotFound}
 use Rattle.flow_commands.specs.Check.{standing_line, standing_of}
 use Rattle.flow_commands.proofs.FileLines.{listed, sums_of, SumsOf}
 use Rattle.flow_commands.proofs.archive_files.find_files.Goals as goal
+
+pub push_files-requires-clause-some : goal.push_files-requires-clause-some
+push_files-requires-clause-some g c =
+    let width : c.width-width.result ≡ c.args.archive.now.state.manifest.width =
+    c.width-width.ensures ∙ ap (λ (x : State). x.manifest.width) c.directory.ensures.state in
+    let least = c.is_closed-closed.ensures.valid.ranges.width_from in
+    omega (arith, width, least)
+
+pub push_files-requires-clause-width : goal.push_files-requires-clause-width
+push_files-requires-clause-width g c =
+    c.width-width.ensures ∙ ap (λ (x : State). x.manifest.width) c.directory.ensures.state
+    ∙ sym c.in_ok-directory.ensures.active.width
+    ∙ sym (ap (λ (x : ShelfSeen). x.shelf.width) c.into_snapshot-snapshot.ensures)
 
 pub returns-in_err-directory-clause-refused : goal.returns-in_err-directory-clause-refused
 returns-in_err-directory-clause-refused g c h reads stands =
