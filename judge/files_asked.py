@@ -2,7 +2,8 @@
 """files_asked.py PROGRAM: which files a shell reads for a question: those that may have flows of its span, and no
 other, whether the shell's opening found when their flows start, or its own sealing or rolling did. Each question is of
 an hour, of an hour in which no flow starts, or of all; the system counts the octets that the shell reads for it, in
-/proc/PID/io. A program that reads each file for each question answers the same.
+/proc/PID/io. And which files `check --files` reads beside what `check` does: the files of sums, and no sealed segment,
+of which the opening knows when their flows start. A program that reads each file for each question answers the same.
 
 It prints each question that reads more, or less than the files that have such flows, and ends with 'N cases of files
 asked: M differ', where a case is a question; its status is 0 where M is 0, else 1."""
@@ -19,6 +20,9 @@ FIRST = TIME - TIME % HOUR
 # How many flows a message has: so many that each one fills a segment; and what may be read beside files.
 FLOWS, BESIDE = 3_000, 1_024
 NONE = (FIRST - 2 * HOUR, FIRST - HOUR)
+# The width, and the start of an hour's last interval that has flows, from the hour on.
+WIDTH = 300
+LAST = (FLOWS - 1) * HOUR // FLOWS // WIDTH * WIDTH
 # What is asked, and how many lines an hour has.
 QUERIES = (("totals", 12), ("flows", FLOWS))
 SECONDS = 60
@@ -40,6 +44,12 @@ def messages(numbers):
     return b"".join(one(number) for number in numbers)
 
 
+def octets_of(process):
+    """How many octets a process has read."""
+    with open("/proc/%d/io" % process, encoding="ascii") as counts:
+        return int(dict(line.split(": ") for line in counts)["rchar"])
+
+
 class Shell:
     """A shell over an archive, and how many octets it has read."""
 
@@ -47,25 +57,31 @@ class Shell:
         self.ran = subprocess.Popen([program, "shell", folder], stdin=subprocess.PIPE, stdout=subprocess.PIPE)
         self.asked("check")
 
-    def octets(self):
-        with open("/proc/%d/io" % self.ran.pid, encoding="ascii") as counts:
-            return int(dict(line.split(": ") for line in counts)["rchar"])
-
     def asked(self, request):
         """The lines of an answer, and how many octets were read for it."""
-        before, lines = self.octets(), []
+        before, lines = octets_of(self.ran.pid), []
         self.ran.stdin.write(request.encode() + b"\n")
         self.ran.stdin.flush()
         while not lines or not lines[-1].startswith(b"done "):
             lines.append(self.ran.stdout.readline())
             if not lines[-1]:
                 sys.exit("files asked: the shell ended")
-        return lines, self.octets() - before
+        return lines, octets_of(self.ran.pid) - before
 
     def end(self):
         self.ran.stdin.write(b"quit\n")
         self.ran.stdin.close()
         self.ran.wait()
+
+
+def counted(*command):
+    """The lines of a run that ended well, and how many octets it read."""
+    ran = subprocess.Popen(command, stdout=subprocess.PIPE)
+    lines = ran.stdout.read().decode().splitlines()
+    # Until it is waited for, its counts are there.
+    os.waitid(os.P_PID, ran.pid, os.WEXITED | os.WNOWAIT)
+    octets = octets_of(ran.pid)
+    return lines if ran.wait() == 0 else [], octets
 
 
 class Cases:
@@ -87,6 +103,18 @@ class Cases:
         for number in numbers:
             self.ask(shell, what, query, hour(number), rows, octets // 2, octets * 4 // 3)
 
+    def list_files(self, program, folder, what, numbers, least, most):
+        """Whether the sealed segments are listed with the starts of these hours, and so many octets, from one number up
+        to another, read for that beside those of `check`."""
+        _, opened = counted(program, "check", folder)
+        lines, octets = counted(program, "check", "--files", folder)
+        self.count += 1
+        listed = [tuple(map(int, line.split()[4:])) for line in lines if line.startswith("sealed ")]
+        starts = [(hour(number)[0], hour(number)[0] + LAST) for number in numbers]
+        if listed != starts or not least <= octets - opened <= most + BESIDE:
+            self.differ += 1
+            print("%s: check --files: %r, %d octets read, not %d to %d" % (what, listed, octets - opened, least, most))
+
 
 def sizes(folder):
     return {name: os.path.getsize(os.path.join(folder, name)) for name in os.listdir(folder)}
@@ -97,12 +125,13 @@ def main(program):
     with tempfile.TemporaryDirectory() as place:
         folder, more = os.path.join(place, "a"), os.path.join(place, "more")
         os.mkdir(folder)
-        subprocess.run([program, "create", folder, "300", "--limit", str(LEAST)], check=True)
+        subprocess.run([program, "create", folder, str(WIDTH), "--limit", str(LEAST)], check=True)
         feed = [program, "feed", folder, "-", *KEEP_ALL]
         subprocess.run(feed, input=messages(range(8)), stdout=subprocess.DEVNULL, check=True)
         with open(more, "wb") as file:
             file.write(messages(range(8, 12)))
         one = len(messages([0]))
+        cases.list_files(program, folder, "opened", range(7), 0, 0)
         shell = Shell(program, folder)
         for query, rows in QUERIES:
             cases.ask_hours(shell, "opened", range(7), query, rows, one)
@@ -129,6 +158,7 @@ def main(program):
         cases.ask(again, "opened again", "totals", NONE, 0, 0, 0)
         cases.ask(again, "opened again", "totals", hour(2), 12, 1, rolled)
         again.end()
+        cases.list_files(program, folder, "opened again", range(8, 11), rolled // 2, rolled * 4 // 3)
     print("%d cases of files asked: %d differ" % (cases.count, cases.differ))
     return int(cases.differ != 0)
 
