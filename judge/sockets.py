@@ -105,8 +105,18 @@ def has_datagram(end):
     return True
 
 
+def is_queued(port):
+    """Whether a datagram waits at a port of UDP, by the system's table. (Who peeks at a socket moves what came to another
+    queue of it, and a read that just begins may miss it there, and sleep until the next one comes.)"""
+    with open("/proc/net/udp") as table:
+        rows = [row.split() for row in table][1:]
+    return any(int(row[1].split(":")[1], 16) == port and int(row[4].split(":")[1], 16) > 0 for row in rows)
+
+
 def is_unread(ours, theirs):
     """Whether something that was sent waits in either end."""
+    if theirs.family == socket.AF_INET and theirs.type == socket.SOCK_DGRAM:
+        return is_queued(theirs.getsockname()[1])
     if theirs.type == socket.SOCK_DGRAM:
         return has_datagram(theirs)
     return waiting(theirs, termios.FIONREAD) or (ours.type == socket.SOCK_STREAM and waiting(ours, termios.TIOCOUTQ))
