@@ -5,11 +5,16 @@ many processor seconds each crate took, by what for, and those of all else. Stat
 What for: `proof` (a crate's first check and its library), `tests` (their proofs and their program), `seed` and `edits`
 (what wrong bodies are tried over, and each of them), `code` (LLVM and linking). A process that ends between two samples
 (a fifth of a second) is counted up to its last one; so the sum is less than what the system counted for all children,
-which is the last line, with the machine's load (a mean of its one-minute averages) and how long it took. Run it on a
-machine that kept nothing, with nothing beside it: proofs side by side slow each other."""
+which comes after it, with the machine's load (a mean of its one-minute averages) and how long it took. Run it on a
+machine that kept nothing, with nothing beside it: proofs side by side slow each other.
+
+The last line says how fast the machine was meanwhile: the processor time of a million additions in Python, measured once
+a minute. Virtual processors that share a machine with others differ twofold and more, from one hour to the next: compare
+figures of two runs only with this beside them."""
 import os
 import re
 import resource
+import statistics
 import subprocess
 import sys
 import time
@@ -17,6 +22,7 @@ import time
 EVERY = 0.2
 TICKS = os.sysconf("SC_CLK_TCK")
 KINDS = ("proof", "tests", "seed", "edits", "code")
+MINUTE = 60
 
 
 def read(path):
@@ -59,17 +65,29 @@ def what_for(pid):
     return crate, "edits" if "--only" in words else "proof"
 
 
+def additions():
+    """The processor time of a million additions, in milliseconds."""
+    began, count = time.process_time(), 0
+    while count < 1_000_000:
+        count += 1
+    return (time.process_time() - began) * 1000
+
+
 def sampled(command):
-    """Runs a command: its status, the seconds of each process with what it was for, and the loads."""
-    spent, kinds, loads = {}, {}, []
+    """Runs a command: its status, the seconds of each process with what it was for, the loads, and how fast the machine
+    was."""
+    spent, kinds, loads, speeds = {}, {}, [], []
+    began = time.time()
     ran = subprocess.Popen(command)
     while ran.poll() is None:
+        if time.time() >= began + MINUTE * len(speeds):
+            speeds.append(additions())
         for pid, seconds in descendants(ran.pid).items():
             kinds[pid] = kinds.get(pid) or what_for(pid)
             spent[pid] = max(seconds, spent.get(pid, 0))
         loads.append(os.getloadavg()[0])
         time.sleep(EVERY)
-    return ran.returncode, [(kinds[pid], seconds) for pid, seconds in spent.items()], loads
+    return ran.returncode, [(kinds[pid], seconds) for pid, seconds in spent.items()], loads, speeds
 
 
 def table(processes):
@@ -94,11 +112,13 @@ def main():
         print(__doc__)
         return 2
     began = time.time()
-    status, processes, loads = sampled(sys.argv[1:])
+    status, processes, loads, speeds = sampled(sys.argv[1:])
     table(processes)
     used = resource.getrusage(resource.RUSAGE_CHILDREN)
     print("the system counted %.0f s for it (%.0f user); it took %.0f s, under a load of %.1f"
           % (used.ru_utime + used.ru_stime, used.ru_utime, time.time() - began, sum(loads) / max(1, len(loads))))
+    print("a million additions took %.0f ms in the middle, %.0f to %.0f"
+          % (statistics.median(speeds), min(speeds), max(speeds)))
     return status
 
 

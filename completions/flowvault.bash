@@ -2,7 +2,7 @@
 # `. flowvault.bash`. judge/completions.py holds it against the program's help.
 
 _flowvault() {
-    local commands='measure dump inspect create check totals flows feed shell roll merge explain help'
+    local commands='measure dump inspect create check totals flows records feed shell roll merge explain help'
     local current=${COMP_WORDS[COMP_CWORD]} previous=${COMP_WORDS[COMP_CWORD - 1]} words= paths=
     COMPREPLY=()
     if [ "$COMP_CWORD" -eq 1 ]; then
@@ -19,6 +19,7 @@ _flowvault() {
         check) words='--files' paths=-d ;;
         totals) words='--since --until --csv --json --utc --workers --each' paths=-d ;;
         flows) words='--since --until --csv --json --utc' paths=-d ;;
+        records) words='--since --until --json --utc' paths=-d ;;
         feed) words='--keep --from --warn --datagrams' paths=-f ;;
         shell) words='--keep' paths=-d ;;
         roll | merge) paths=-d ;;

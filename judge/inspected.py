@@ -9,7 +9,11 @@ import sys
 
 # The elements that say when a flow starts and ends, in the octets that they are encoded in.
 MOMENTS = ((150, 4), (151, 4), (152, 8), (153, 8))
-FIELDS = MOMENTS + ((151, 2), (4, 1), (1, 8), (2, 4), (82, 65535))
+FIELDS = 5 * MOMENTS + 2 * ((1, 8), (2, 4)) + ((151, 2), (4, 1), (82, 65535), (22, 4), (154, 8), (150, 2), (152, 4))
+# What a flow's octets and packets are summed by, and the elements that count them otherwise.
+SUMMED = ((1, {23, 85, 352}), (2, {24, 86}))
+RATES = {34, 50, *range(305, 312)}
+FIELDS += ((23, 4), (85, 8), (352, 65535), (24, 4), (86, 8), (34, 4), (50, 1), (305, 4), (311, 8), (304, 2), (312, 2))
 TEMPLATES = (256, 257, 258, 259)
 SETS = TEMPLATES + (260, 9, 255)
 HALF = 1 << 31
@@ -102,6 +106,13 @@ def seconds_of(found, milliseconds, seconds):
     return found[milliseconds] // 1000 if milliseconds in found else found.get(seconds)
 
 
+def take_caveats(row, found, elements):
+    """Counts a flow whose sums may be other than its exporter means."""
+    row["placed"] += found.get(152, 2**63) // 1000 >= 2**32 and 150 not in found
+    row["uncounted"] += any(number not in elements and others & elements for number, others in SUMMED)
+    row["sampled"] += bool(RATES & elements)
+
+
 def take_flow(row, time, found):
     """Counts a flow: when it starts, and how long it lasts."""
     start = found.get(152, 2**63) // 1000
@@ -132,6 +143,7 @@ def take_set(row, time, number, octets, here):
         row["options" if kind == 3 else "records"] += 1
         if kind == 2:
             take_flow(row, time, found)
+            take_caveats(row, found, {element for enterprise, element, _ in fields if enterprise is None})
     return count
 
 
@@ -147,11 +159,12 @@ def counted(octets):
     """What there is of each domain, in the order of their first messages."""
     rows, templates, at = {}, {}, 0
     names = ("messages", "records", "options", "unread_sets", "unread_octets", "replaced", "gaps", "missing", "backwards")
+    names += ("long", "placed", "uncounted", "sampled")
     while at < len(octets):
         _, length, time, sequence, domain = struct.unpack_from(">HHIII", octets, at)
         if domain in rows:
             take_sequence(rows[domain], sequence)
-        row = rows.setdefault(domain, {"domain": domain, "long": 0, **dict.fromkeys(names, 0)})
+        row = rows.setdefault(domain, {"domain": domain, **dict.fromkeys(names, 0)})
         row["messages"] += 1
         row["from"], row["to"] = min(row.get("from", time), time), max(row.get("to", time), time)
         records, to, at = 0, at + length, at + 16

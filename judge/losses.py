@@ -3,12 +3,17 @@
 datagrams, that stay open. What was written to them is counted before they end, each count goes up and never down, and
 after the end of one of them its counts are still there.
 
+Beside it `PROGRAM feed` reads two pipes that stay open, of messages and of datagrams, with `--warn` and without: more
+than a minute after they were begun the next message brings a line of what they lack so far, where warnings are asked
+for, and none before; a minute without more brings none.
+
 It prints each difference, and ends with 'N cases of losses: M differ'; its status is 0 where M is 0, else 1."""
 import os
 import struct
 import subprocess
 import sys
 import tempfile
+import threading
 import time
 
 SECONDS = 30
@@ -111,21 +116,123 @@ def both(came, wanted):
     return lines, list(wanted), fell
 
 
+class Feeding:
+    """`feed` of a pipe that stays open, and the lines that it wrote on standard error."""
+
+    def __init__(self, program, place, name, words):
+        folder = os.path.join(place, name)
+        os.mkdir(folder)
+        subprocess.run([program, "create", folder, "300"], check=True)
+        self.began, self.lines = time.time(), []
+        self.run = subprocess.Popen(
+            [program, "feed", folder, "-", *words],
+            stdin=subprocess.PIPE,
+            stdout=subprocess.PIPE,
+            stderr=subprocess.PIPE,
+            bufsize=0,
+        )
+        self.reader = threading.Thread(target=self.read)
+        self.reader.start()
+
+    def read(self):
+        for line in self.run.stderr:
+            self.lines.append(line.decode().rstrip("\n"))
+
+    def write(self, octets):
+        self.run.stdin.write(octets)
+
+    def lines_at(self, second, wanted):
+        """The lines at this second after the beginning, or up to 30 later, until they are these."""
+        while time.time() < self.began + second or (self.lines != wanted and time.time() < self.began + second + SECONDS):
+            time.sleep(0.05)
+        return list(self.lines)
+
+    def ended(self):
+        """All lines, once the pipe has ended."""
+        self.run.stdin.close()
+        written = self.run.stdout.read().decode()
+        self.run.wait()
+        self.reader.join()
+        return [written, *self.lines]
+
+
+# When a message is written that may bring a line, and when it has come, in seconds after the beginning.
+LATE = 62
+LATER = 63
+
+
+def begun(program, place):
+    """Feeds that are under way, each with a message that lacks a template."""
+    feeds = {
+        "warned": Feeding(program, place, "warned", ["--warn"]),
+        "not warned": Feeding(program, place, "quiet", []),
+        "datagrams": Feeding(program, place, "datagrams", ["--warn", "--datagrams"]),
+        "nothing lacks": Feeding(program, place, "whole", ["--warn"]),
+    }
+    for name in ("warned", "not warned"):
+        feeds[name].write(message(7, 0, FLOW))
+    feeds["datagrams"].write(b"\x00")
+    feeds["nothing lacks"].write(message(7, 0, TEMPLATE + FLOW))
+    return feeds
+
+
+def warned(feeds):
+    """What came, and what was wanted, of feeds that began at least a minute ago, after one message more each."""
+    first = "flowvault: warning: file 1 (-)"
+    for feed in feeds.values():
+        yield "no line before a minute is over", feed.lines_at(1, []), []
+    time.sleep(max(0, max(feed.began for feed in feeds.values()) + LATE - time.time()))
+    for name in ("warned", "not warned"):
+        feeds[name].write(message(8, 0, FLOW))
+    feeds["datagrams"].write(message(7, 0, TEMPLATE + FLOW))
+    feeds["nothing lacks"].write(message(7, 1, FLOW))
+    lacks = ": 1 data sets of domain 7 had no template, and 1 of other domains"
+    wanted = {
+        "warned": [first + " so far" + lacks],
+        "datagrams": [first + " so far: datagrams passed over: 1 by 1 Short"],
+        "not warned": [],
+        "nothing lacks": [],
+    }
+    for name, lines in wanted.items():
+        yield name, feeds[name].lines_at(LATER, lines), lines
+    for name in ("warned", "not warned"):
+        feeds[name].write(message(8, 0, FLOW))
+    at_end = {
+        "warned": ["fed 1 3\n", *wanted["warned"], first + lacks.replace("1 of other", "2 of other")],
+        "datagrams": ["fed 1 1\n", *wanted["datagrams"], first + ": datagrams passed over: 1 by 1 Short"],
+        "not warned": ["fed 1 3\n"],
+        "nothing lacks": ["fed 1 2\n"],
+    }
+    for name, lines in at_end.items():
+        yield name + ", at the end", feeds[name].ended(), lines
+
+
+def asked_in(shell, place):
+    """The same of a shell, which is ended whatever comes."""
+    try:
+        yield from asked(shell, place)
+    finally:
+        shell.run.kill()
+        shell.run.wait()
+
+
 def main(program):
     differ = count = 0
+    program = os.path.abspath(program)
     with tempfile.TemporaryDirectory() as place:
         folder = os.path.join(place, "archive")
+        feeds = begun(program, place)
         os.mkdir(folder)
-        shell = Shell(os.path.abspath(program), folder)
-        try:
-            for name, came, wanted, fell in asked(shell, place):
-                count += 1
-                if came != wanted or fell:
-                    differ += 1
-                    print("%s: wanted %s, came %s%s" % (name, wanted, came, ", and a count went down" if fell else ""))
-        finally:
-            shell.run.kill()
-            shell.run.wait()
+        for name, came, wanted, fell in asked_in(Shell(program, folder), place):
+            count += 1
+            if came != wanted or fell:
+                differ += 1
+                print("%s: wanted %s, came %s%s" % (name, wanted, came, ", and a count went down" if fell else ""))
+        for name, came, wanted in warned(feeds):
+            count += 1
+            if came != wanted:
+                differ += 1
+                print("%s: wanted %s, came %s" % (name, wanted, came))
     print("%d cases of losses: %d differ" % (count, differ))
     return int(differ > 0)
 

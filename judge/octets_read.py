@@ -27,6 +27,7 @@ RUNS = (
     (2, ("totals", "a", *ALL, "--workers", "1")),
     (2, ("totals", "a", *ALL, "--workers", "3")),
     (2, ("flows", "a", *ALL)),
+    (2, ("records", "a", *ALL)),
     (2, ("shell", "a")),
     (2, ("roll", "a", "0")),
 )

@@ -4,10 +4,13 @@ each interval of 300 seconds but some: the bill of the month, and the 95th perce
 reckoned here. They are run on single flows, after `roll`, and after `merge`, when the percentile has no answer and the
 recipe has to say so. Then examples/days.sh: the month in three archives of a day each, their sums as files, and the
 bill of these; and what an archive lacks. And examples/metrics.py over archives that are well, in use, damaged and not
-there, and while Files are fed that lack records. Prints each difference, and ends with 'N cases of recipes: M differ';
+there, and while Files are fed that lack records. And who sent most in an hour, by awk, and by jq where that is there.
+Prints each difference, and ends with 'N cases of recipes: M differ';
 its status is 0 where M is 0, else 1."""
+import json
 import os
 import re
+import shutil
 import struct
 import subprocess
 import sys
@@ -155,6 +158,38 @@ def metrics(trial, messages):
         trial.compare("metrics, fed " + words, (status, line + "\n", wanted), measured(trial, "lossy --feed " + words))
 
 
+def talkers(trial):
+    """Who sent most in an hour, by the data records of flows: 14 addresses, of IPv4 and IPv6, each with several flows in
+    the hour, and a greater one before it and after it."""
+    start, end = 1700000400, 1700004000
+    sent, sets = {}, b""
+    for number, (element, width) in ((256, (8, 4)), (257, (27, 16))):
+        sets += struct.pack(">HHHHHHHHHH", 2, 20, number, 3, 150, 4, element, width, 1, 8)
+        flows = b""
+        for last in range(1, 8):
+            octets = bytes([192, 0, 2, last]) if width == 4 else bytes.fromhex("20010db8" + "00" * 11) + bytes([last])
+            text = (".".join(map(str, octets)) if width == 4 else
+                    ":".join(octets[i : i + 2].hex() for i in range(0, width, 2)))
+            for at in (start - 1, start, start + 1800, end - 1, end):
+                count = (last * 1009 + width) * (at % 97 + 1) + (10**12 if at in (start - 1, end) else 0)
+                flows += struct.pack(">I", at) + octets + struct.pack(">Q", count)
+                if start <= at < end:
+                    sent[text] = sent.get(text, 0) + count
+        sets += struct.pack(">HH", number, 4 + len(flows)) + flows
+    os.mkdir(os.path.join(trial.place, "talk"))
+    with open(os.path.join(trial.place, "talk", "one"), "wb") as file:
+        file.write(struct.pack(">HHIII", 10, 16 + len(sets), start, 0, 7) + sets)
+    made = trial.run("cd talk && mkdir flows && flowvault create flows 300 && flowvault feed flows one")
+    trial.compare("talkers, fed", (0, "fed 1 1\n"), (made.returncode, made.stdout))
+    most = sorted(((count, text) for text, count in sent.items()), reverse=True)[:10]
+    came = trial.run("cd talk && " + recipe("records.txt"))
+    trial.compare("who sent most, by awk", (0, "".join("%d %s\n" % it for it in most)), (came.returncode, came.stdout))
+    if shutil.which("jq"):
+        came = trial.run("cd talk && " + recipe("records.json"))
+        trial.compare("who sent most, by jq", (0, [{"from": text, "octets": count} for count, text in most]),
+                      (came.returncode, [json.loads(line) for line in came.stdout.splitlines()]))
+
+
 def main(program):
     octets = month()
     rows, bill, peak = recipe("rows() {"), recipe('"%s %.0f\\n", d, octets[d]'), recipe("all * 95")
@@ -178,6 +213,7 @@ def main(program):
         days(trial, octets)
         lacks(trial, messages_of(octets))
         metrics(trial, messages_of(octets))
+        talkers(trial)
     print("%d cases of recipes: %d differ" % (trial.cases, trial.differ))
     return int(trial.differ > 0)
 

@@ -694,7 +694,8 @@ def lengths(trial, size):
             records += 1
     trial.runs(["dump"], "".join(lines), given=octets)
     counted = ("messages %d records %d options 0 unread 0 0 replaced 0 gaps 0 missing 0 backwards 0 from %d to %d "
-               "starts %d %d longest - long 0\n" % (len(sets), records, *[TIME] * 4))
+               "starts %d %d longest - long 0 placed %d uncounted 0 sampled 0\n"
+               % (len(sets), records, *[TIME] * 4, records))
     trial.runs(["inspect"], "domain 7 %sall domains 1 %s" % (counted, counted), given=octets)
     summed = records * int.from_bytes(values[1], "big") if 1 <= size <= 8 else 0
     trial.runs(["measure", 300], "%d 7 - %d %d 0\n" % (TIME - TIME % 300, records, summed), given=octets)

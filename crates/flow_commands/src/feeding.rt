@@ -30,6 +30,7 @@ use std::marker::Brand;
 use std::os::unix::fs::FileExt;
 use std::sync::Wait;
 use std::thread::Threads;
+use std::time::Clock;
 
 /// The status where each File was taken in whole.
 const DONE: u8 = 0;
@@ -138,7 +139,7 @@ fn ended(first: Option<FeedStop>, refused: Option<ArchiveError>) -> Result<u8, A
 /// Errors: the first refusal of the rolling, where no File stopped; 11 before a File is read, where memory for the
 /// threads is refused; 11 and 32 where a line couldn't be made or written.
 fn feed_files<
-    H: Files + AllocGlobal + Clone + Drop + Threads + Wait + Send + Sync,
+    H: Files + AllocGlobal + Clock + Clone + Drop + Threads + Wait + Send + Sync,
     D: Disk + Leave + Send,
     J: Naming + Send + Sync,
     S: AsStr + Sync,
@@ -191,7 +192,7 @@ where
 
 /// Opens the archive on a disk, of which nothing is frozen, and takes Files into it.
 fn feed_on<
-    H: Files + AllocGlobal + Clone + Drop + Threads + Wait + Send + Sync,
+    H: Files + AllocGlobal + Clock + Clone + Drop + Threads + Wait + Send + Sync,
     D: Disk + Leave + Send,
     S: AsStr + Sync,
     R: Read,
@@ -242,7 +243,7 @@ where
 
 /// Opens the archive of a folder over any system of calls, and takes Files into it.
 fn feed_over<
-    H: Files + AllocGlobal + Clone + Drop + Threads + Wait + Send + Sync,
+    H: Files + AllocGlobal + Clock + Clone + Drop + Threads + Wait + Send + Sync,
     D: Directory + Send,
     S: AsStr + Sync,
     R: Read,
@@ -285,7 +286,7 @@ where
 /// File that stopped.
 pub fn feed_in<
     'a,
-    H: Files + AllocGlobal + Clone + Drop + Threads + Wait + Send + Sync,
+    H: Files + AllocGlobal + Clock + Clone + Drop + Threads + Wait + Send + Sync,
     S: AsStr + Sync,
     R: Read,
     W: Write,

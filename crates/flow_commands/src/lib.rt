@@ -25,6 +25,7 @@ mod rolling;
 mod side_by_side;
 mod streaming;
 mod totalling;
+mod warner;
 mod warning;
 
 pub use archive_files::{check_files, check_files_in};
@@ -40,6 +41,6 @@ pub use listing::{flows, flows_in};
 pub use plan::{FeedPlan, InputKind, NewArchive, StartSpan, Workers};
 pub use progress::Progress;
 pub use rolling::{roll, roll_in, roll_on};
-pub use streaming::{feed_stream, take_input, unopened};
+pub use streaming::{take_input, unopened};
 pub use totalling::{ask_rows, totals, totals_in};
 pub use warning::{tell_fault, warn_of_input, warn_of_wide};

@@ -77,6 +77,11 @@ impl<W: Write + Drop> Progress<W> {
         self.shown.lock(rt).warns = true;
     }
 
+    /// Whether warnings are written.
+    pub(crate) fn warns<H: Wait>(&self, rt: &H) -> bool {
+        self.shown.lock(rt).warns
+    }
+
     /// Shows that so many mebibytes more are read, in place of what is shown.
     fn add<H: Wait>(&self, rt: &H, mebibytes: u64) {
         let mut guard = self.shown.lock(rt);

@@ -20,6 +20,7 @@ use std::io::{Read, Write};
 use std::os::unix::fs::FileTypeExt;
 use std::sync::Wait;
 use std::thread::Threads;
+use std::time::Clock;
 use std::{fs, thread};
 
 /// The most Files that are fed at once.
@@ -50,7 +51,7 @@ fn roll_files<D: Disk, J: Naming, K: Keeping, H: Wait>(
 /// Takes the File at this place of some paths into an archive that threads share, and answers what came of it: of
 /// standard input what was there before.
 fn feed_at<
-    H: Files + AllocGlobal + Clone + Drop + Wait,
+    H: Files + AllocGlobal + Clock + Clone + Drop + Wait,
     D: Disk,
     J: Naming,
     K: Keeping,
@@ -82,7 +83,7 @@ fn feed_at<
 /// Takes the Files at these paths but standard input into an archive that threads share, each by a thread of its own
 /// where one can be made, and puts what came of each in its place.
 fn feed_each<
-    H: Files + AllocGlobal + Clone + Drop + Threads + Wait + Send + Sync,
+    H: Files + AllocGlobal + Clock + Clone + Drop + Threads + Wait + Send + Sync,
     D: Disk + Send,
     J: Naming + Send + Sync,
     K: Keeping + Send + Sync,
@@ -151,7 +152,7 @@ fn place_of_input<S: AsStr>(paths: &[S]) -> Option<usize>
 /// Takes the Files at these paths into an archive that threads share; standard input, which is the first at `-`, by
 /// this thread, and where it is there again, that has ended.
 fn feed_with_input<
-    H: Files + AllocGlobal + Clone + Drop + Threads + Wait + Send + Sync,
+    H: Files + AllocGlobal + Clock + Clone + Drop + Threads + Wait + Send + Sync,
     D: Disk + Send,
     J: Naming + Send + Sync,
     K: Keeping + Send + Sync,
@@ -218,7 +219,7 @@ where
 /// Takes the Files at these paths into an archive that threads share; standard input, where it is given and among
 /// them, too.
 fn feed_all<
-    H: Files + AllocGlobal + Clone + Drop + Threads + Wait + Send + Sync,
+    H: Files + AllocGlobal + Clock + Clone + Drop + Threads + Wait + Send + Sync,
     D: Disk + Send,
     J: Naming + Send + Sync,
     K: Keeping + Send + Sync,
@@ -261,7 +262,7 @@ where
 /// The same, while another thread rolls; where none can be made, this one rolls once they are fed. It answers the first
 /// refusal of the rolling besides, if any. Reads of sources that fail raise `faults`.
 pub(crate) fn feed_beside<
-    H: Files + AllocGlobal + Clone + Drop + Threads + Wait + Send + Sync,
+    H: Files + AllocGlobal + Clock + Clone + Drop + Threads + Wait + Send + Sync,
     D: Disk + Send,
     J: Naming + Send + Sync,
     K: Keeping + Send + Sync,

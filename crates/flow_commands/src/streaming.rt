@@ -9,11 +9,12 @@ ghost use Rattle.std.specs.declared.io.ErrorKind.TheVariants as io_kind;
 
 use crate::plan::InputKind;
 use crate::progress::{Progress, Watched};
-use crate::warning::{LossyFile, PassedFile, RefusedFile, UnopenedFile};
+use crate::warner::Warner;
+use crate::warning::{LossyFile, NamedFile, PassedFile, RefusedFile, UnopenedFile, WHOLE};
 use flow_codec::Losses;
 use flow_disk::Disk;
 use flow_feed::{
-    Collected, Counter, Fed, FeedStop, RefusedDatagrams, SharedAppender, Uncounted, feed_datagrams,
+    Collected, Counter, Fed, FeedStop, RefusedDatagrams, SharedAppender, feed_datagrams,
     feed_shared,
 };
 use flow_roller::{Bell, Keeping};
@@ -23,6 +24,7 @@ use std::fs::{File, Files};
 use std::io;
 use std::io::{ErrorKind, Read, Write};
 use std::sync::Wait;
+use std::time::Clock;
 
 /// How far an input was taken in, and what its messages show of records that aren't read.
 #[derive(Clone, Copy)]
@@ -50,13 +52,22 @@ pub fn take_input<D: Disk, J: Naming, W: Wait, C: Counter + Drop, R: Read>(
     }
 }
 
-/// Takes what `input` gives into an archive that threads share, by its kind, shows its progress, and rings the bell for
-/// each `span` octets that are read.
-fn stream<H: AllocGlobal + Wait, D: Disk, J: Naming, K: Keeping, R: Read, P: Write + Drop>(
+/// Takes what `input` gives into an archive that threads share, by its kind, counts there what isn't read, shows its
+/// progress, and rings the bell for each `span` octets that are read.
+fn stream<
+    H: AllocGlobal + Wait,
+    D: Disk,
+    J: Naming,
+    K: Keeping,
+    C: Counter + Drop,
+    R: Read,
+    P: Write + Drop,
+>(
     rt: &H,
     shared: &SharedArchive<D, J, H>,
     bell: &Bell<K>,
     span: u32,
+    counter: C,
     input: &mut R,
     progress: &Progress<P>,
     kind: InputKind,
@@ -64,33 +75,17 @@ fn stream<H: AllocGlobal + Wait, D: Disk, J: Naming, K: Keeping, R: Read, P: Wri
     ensures { IsStreamed D.Disk J.opening kind (R.remaining input.old) result.collected }
 {
     let mut input = Watched::new(rt, input, progress, bell, span);
-    let mut appender = SharedAppender::new(rt, shared, Uncounted);
+    let mut appender = SharedAppender::new(rt, shared, counter);
     let collected = take_input(&mut appender, rt.alloc(), &mut input, kind);
     let losses = appender.losses();
     Streamed { collected, losses }
 }
 
-/// Takes what `input` gives into an archive that threads share, by its kind, shows its progress, and rings the bell for
-/// each `span` octets that are read.
-pub fn feed_stream<H: AllocGlobal + Wait, D: Disk, J: Naming, K: Keeping, R: Read, P: Write + Drop>(
-    rt: &H,
-    shared: &SharedArchive<D, J, H>,
-    bell: &Bell<K>,
-    span: u32,
-    input: &mut R,
-    progress: &Progress<P>,
-    kind: InputKind,
-) -> Fed
-    ensures { IsFedFrom D.Disk J.opening kind (R.remaining input.old) result }
-{
-    let streamed = stream(rt, shared, bell, span, input, progress, kind);
-    streamed.collected.fed
-}
-
-/// The same of the File of this number and path, and warns of records that its messages show not to be read, and of
-/// datagrams that aren't accepted.
+/// Takes what `input` gives into an archive that threads share, by its kind, as the File of this number and path, shows
+/// its progress, and rings the bell for each `span` octets that are read. It warns of records that its messages show not
+/// to be read, and of datagrams that aren't accepted, while it is read and after its end.
 pub(crate) fn feed_named<
-    H: AllocGlobal + Wait,
+    H: AllocGlobal + Clock + Wait,
     D: Disk,
     J: Naming,
     K: Keeping,
@@ -109,12 +104,14 @@ pub(crate) fn feed_named<
 ) -> Fed
     ensures { IsFedFrom D.Disk J.opening kind (R.remaining input.old) result }
 {
-    let streamed = stream(rt, shared, bell, span, input, progress, kind);
+    let file = NamedFile { number, path };
+    let warner = Warner::new(rt, progress, file);
+    let streamed = stream(rt, shared, bell, span, warner, input, progress, kind);
     let collected = streamed.collected;
-    if let Some(line) = RefusedFile::of(number, path, collected.refused) {
+    if let Some(line) = RefusedFile::of(file, WHOLE, collected.refused) {
         progress.say(rt, &line);
     }
-    if let Some(line) = LossyFile::of(number, path, streamed.losses) {
+    if let Some(line) = LossyFile::of(file, WHOLE, streamed.losses) {
         progress.say(rt, &line);
     }
     if let Some(line) = PassedFile::of(number, path, collected.fed, kind) {
@@ -158,7 +155,7 @@ fn warn_of_unopened<H: Wait, P: Write + Drop>(
 
 /// The same of the File of this number at a path.
 pub(crate) fn feed_path<
-    H: Files + AllocGlobal + Clone + Drop + Wait,
+    H: Files + AllocGlobal + Clock + Clone + Drop + Wait,
     D: Disk,
     J: Naming,
     K: Keeping,

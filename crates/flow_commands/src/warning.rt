@@ -159,26 +159,44 @@ impl fmt::Display for PassedFile<'_> {
     }
 }
 
-/// Datagrams of the File of this number and path that were passed over.
+/// A File by its number and path.
+#[derive(Clone, Copy, Debug)]
+pub(crate) struct NamedFile<'a> {
+    pub(crate) number: u64,
+    pub(crate) path: &'a str,
+}
+
+impl fmt::Display for NamedFile<'_> {
+    fn fmt<W: fmt::Write>(&self, f: &mut fmt::Formatter<W>) -> fmt::Result {
+        write!(f, "file {} ({})", self.number, self.path)
+    }
+}
+
+/// What is said after a File's name where counts are of all of it, and where it is still read.
+pub(crate) const WHOLE: &str = "";
+
+pub(crate) const SO_FAR: &str = " so far";
+
+/// Datagrams of a File that were passed over, in all or so far.
 #[derive(Debug, Drop)]
 pub(crate) struct RefusedFile<'a> {
-    number: u64,
-    path: &'a str,
+    file: NamedFile<'a>,
+    extent: &'static str,
     refused: RefusedDatagrams,
 }
 
 impl<'a> RefusedFile<'a> {
     /// Nothing where none were.
     pub(crate) fn of(
-        number: u64,
-        path: &'a str,
+        file: NamedFile<'a>,
+        extent: &'static str,
         refused: RefusedDatagrams,
     ) -> Option<RefusedFile<'a>> {
-        for of_number in 1..=MOST_NUMBER {
-            if refused.of_number(of_number) > 0 {
+        for number in 1..=MOST_NUMBER {
+            if refused.of_number(number) > 0 {
                 return Some(RefusedFile {
-                    number,
-                    path,
+                    file,
+                    extent,
                     refused,
                 });
             }
@@ -191,8 +209,8 @@ impl fmt::Display for RefusedFile<'_> {
     fn fmt<W: fmt::Write>(&self, f: &mut fmt::Formatter<W>) -> fmt::Result {
         write!(
             f,
-            "warning: file {} ({}): datagrams passed over",
-            self.number, self.path
+            "warning: {}{}: datagrams passed over",
+            self.file, self.extent
         )?;
         let mut before = ": ";
         for number in 1..=MOST_NUMBER {
@@ -370,21 +388,25 @@ impl fmt::Display for Lacks {
     }
 }
 
-/// The messages of the File of this number and path show that records aren't read.
+/// The messages of a File, all or so far, show that records aren't read.
 #[derive(Debug, Drop)]
 pub(crate) struct LossyFile<'a> {
-    number: u64,
-    path: &'a str,
+    file: NamedFile<'a>,
+    extent: &'static str,
     lacks: Lacks,
 }
 
 impl<'a> LossyFile<'a> {
     /// Nothing where they don't.
-    pub(crate) fn of(number: u64, path: &'a str, losses: Losses) -> Option<LossyFile<'a>> {
+    pub(crate) fn of(
+        file: NamedFile<'a>,
+        extent: &'static str,
+        losses: Losses,
+    ) -> Option<LossyFile<'a>> {
         let lacks = Lacks::of(losses)?;
         Some(LossyFile {
-            number,
-            path,
+            file,
+            extent,
             lacks,
         })
     }
@@ -392,11 +414,7 @@ impl<'a> LossyFile<'a> {
 
 impl fmt::Display for LossyFile<'_> {
     fn fmt<W: fmt::Write>(&self, f: &mut fmt::Formatter<W>) -> fmt::Result {
-        write!(
-            f,
-            "warning: file {} ({}): {}",
-            self.number, self.path, self.lacks
-        )
+        write!(f, "warning: {}{}: {}", self.file, self.extent, self.lacks)
     }
 }
 

@@ -44,8 +44,9 @@ use Rattle.flow_inspect.specs.declared.lasting.Lasted.{Lasted}
 use Rattle.flow_inspect.specs.declared.span.Span.{Span}
 use Rattle.flow_inspect.specs.declared.tally.Tally.{Tally}
 use Rattle.flow_inspect.specs.Lasting.{lasted_after, lastings_of, none_lasted}
-use Rattle.flow_inspect.specs.Counting.{HasCounted, Inspected, counts_of, is_flow, is_option, starts_of, walked_of}
-use Rattle.flow_inspect.specs.Counting.{widened}
+use Rattle.flow_inspect.specs.Caveats.{is_placed, is_sampled, is_uncounted}
+use Rattle.flow_inspect.specs.Counting.{HasCounted, HasRisen, Inspected, counts_of, is_flow, is_option, starts_of}
+use Rattle.flow_inspect.specs.Counting.{walked_of, widened}
 use Rattle.flow_report.specs.declared.format.Format.{Format}
 use Rattle.flow_inspect.specs.Reports.{domains_text, entries_after, heading_of, report_in, reports_of, whole_of}
 use Rattle.flow_inspect.specs.Reports.{with_tally}
@@ -142,47 +143,60 @@ count_under p header records = from 0 records
     from a [] = refl
     from a (r ∷ rs) = from (a + cond (p r) 1 0) rs
 
-none_counted : (n : ℕ) → n ≡ 0 → n ≡ min (n + 0) (2 ^ 32 - 1)
-none_counted n zero = subst (λ (k : ℕ). k ≡ min (k + 0) (2 ^ 32 - 1)) (sym zero) refl
+-- before its first record
+abbrev pub nothing : RecordCounts
+nothing = record {
+  records = 0;
+  options = 0;
+  starts = None;
+  lasted = none_lasted;
+  placed = 0;
+  uncounted = 0;
+  sampled = 0;
+}
 
-pub counts_are : (m : RawMessage) (start now : RecordCounts) → start.records ≡ 0 → start.options ≡ 0
-    → start.starts ≡ None → start.lasted ≡ none_lasted
-    → length m.records < 65536 → HasCounted start (under m.header m.records) now
-    → now ≡ counts_of m
-counts_are m start now none nought no_start no_flow few h =
-    alike now (counts_of m) (of_kind is_flow start.records now.records none h.0)
-    (of_kind is_option start.options now.options nought h.1)
-    (h.2 ∙ ap (λ (s : Option Span). fold widened s (starts_of (under m.header m.records))) no_start)
-    (h.3 ∙ ap (λ (l : Lasted). fold lasted_after l (lastings_of (under m.header m.records))) no_flow)
+pub counts_are : (m : RawMessage) (now : RecordCounts) → length m.records < 65536
+    → HasCounted nothing (under m.header m.records) now → now ≡ counts_of m
+counts_are m now few h =
+    alike now (counts_of m) (of_kind is_flow now.records h.0) (of_kind is_option now.options h.1) h.2 h.3
+    (of_kind is_placed now.placed h.4) (of_kind is_uncounted now.uncounted h.5) (of_kind is_sampled now.sampled h.6)
   where
-    of_kind : (p : RawRecord → Bool) (first last : ℕ) → first ≡ 0
-        → last ≡ min (first + count_by (λ (x : Placed). p x.1) (under m.header m.records)) (2 ^ 32 - 1)
+    of_kind : (p : RawRecord → Bool) (last : ℕ) → HasRisen p 0 (under m.header m.records) last
         → last ≡ count_by p m.records
-    of_kind p first last zero is =
+    of_kind p last is =
         let le = count_by-le-length p m.records in
         let same = count_under p m.header m.records in
-        is ∙ ap (λ (n : ℕ). min n (2 ^ 32 - 1)) (omega (arith, zero, same))
+        is ∙ ap (λ (n : ℕ). min n (2 ^ 32 - 1)) (omega (arith, same))
         ∙ min-eq_left (omega (arith, le, few))
 
-    of_four : ℕ → ℕ → Option Span → Lasted → RecordCounts
-    of_four x y s l = record { records = x; options = y; starts = s; lasted = l }
+    of_seven : ℕ → ℕ → Option Span → Lasted → ℕ → ℕ → ℕ → RecordCounts
+    of_seven x y s l p u n = record {
+      records = x;
+      options = y;
+      starts = s;
+      lasted = l;
+      placed = p;
+      uncounted = u;
+      sampled = n;
+    }
 
     alike : (a b : RecordCounts) → a.records ≡ b.records → a.options ≡ b.options → a.starts ≡ b.starts
-        → a.lasted ≡ b.lasted → a ≡ b
-    alike a b records options starts lasted =
-        ap₂ (λ (x y : ℕ). of_four x y a.starts a.lasted) records options
-        ∙ ap₂ (λ (s : Option Span) (l : Lasted). of_four b.records b.options s l) starts lasted
+        → a.lasted ≡ b.lasted → a.placed ≡ b.placed → a.uncounted ≡ b.uncounted → a.sampled ≡ b.sampled → a ≡ b
+    alike a b records options starts lasted placed uncounted sampled =
+        ap₂ (λ (x y : ℕ). of_seven x y a.starts a.lasted a.placed a.uncounted a.sampled) records options
+        ∙ ap₂ (λ (s : Option Span) (l : Lasted).
+        of_seven b.records b.options s l a.placed a.uncounted a.sampled) starts lasted
+        ∙ ap₂ (λ (p u : ℕ). of_seven b.records b.options b.starts b.lasted p u a.sampled) placed uncounted
+        ∙ ap (λ (n : ℕ). of_seven b.records b.options b.starts b.lasted b.placed b.uncounted n) sampled
 
 -- one message more
 pub stepped : (old : Option (List ℕ)) (r0 r1 : Progress) (h0 h1 : AllTemplates)
-    (before after : List (ℕ × DomainReport)) (start now : RecordCounts) (walked : Walked) (octets : List ℕ)
+    (before after : List (ℕ × DomainReport)) (now : RecordCounts) (walked : Walked) (octets : List ℕ)
     → HasInspected old r0 h0 before → IsStep r0 (Ok true) r1 → octets ≡ r1.message
-    → start.records ≡ 0 → start.options ≡ 0 → start.starts ≡ None → start.lasted ≡ none_lasted
-    → IsWalkedBy HasCounted octets h0 h1 start now walked.header → walked.unread ≡ counted (unread_of h0 octets)
+    → IsWalkedBy HasCounted octets h0 h1 nothing now walked.header → walked.unread ≡ counted (unread_of h0 octets)
     → walked.replaced ≡ replaced_of h0 octets
     → after ≡ entries_after before walked now → HasInspected old r1 h1 after
-stepped old r0 r1 h0 h1 before after start now walked octets s step is none nought no_start no_flow found unread
-    replaced grown =
+stepped old r0 r1 h0 h1 before after now walked octets s step is found unread replaced grown =
     let m : RawMessage = record { header = walked.header; records = found.0 } in
     let whole : Inspected = record {
       message = m;
@@ -190,10 +204,10 @@ stepped old r0 r1 h0 h1 before after start now walked octets s step is none noug
       replaced = replaced_of h0 r1.message;
     } in
     let accepted : IsAccepted r1.message h0 m h1 = subst (λ (o : List ℕ). IsAccepted o h0 m h1) is found.1 in
-    let took = found.2 start [] (none_counted start.records none, none_counted start.options nought, refl, refl) in
+    let took = found.2 nothing [] (refl, refl, refl, refl, refl, refl, refl) in
     let records = few_records r1.message h0 m h1 accepted.0 in
     let short = short_enough r1.message h0 m h1 accepted.0 in
-    let counts = counts_are m start now none nought no_start no_flow (omega (arith, records, short.1)) took in
+    let counts = counts_are m now (omega (arith, records, short.1)) took in
     let walked_is : walked ≡ walked_of whole = ap₂ (λ (u : UnreadSets) (n : ℕ). of_three walked.header u n)
     (unread ∙ ap (λ (o : List ℕ). counted (unread_of h0 o)) is)
     (replaced ∙ ap (replaced_of h0) is) in

@@ -1,4 +1,6 @@
+pub mod ElementsLoop
 pub mod EndsLoop
 pub mod Following
 pub mod Alone
+pub mod Placing
 pub mod Taking

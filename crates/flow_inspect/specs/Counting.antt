@@ -1,4 +1,4 @@
--- The data records of messages, by the kind of their definition, and when their flows start.
+-- The data records of messages, by the kind of their definition, when their flows start, and how these are summed.
 use Rattle.std.specs.Prelude.{◌≡◌, ◌+◌, ◌-◌, ◌^◌, ℕ, min, max, Bool, not, List, Option, Some, None, count_by, fold, map}
 use Rattle.flow_codec.specs.declared.walk.Walked.{Walked}
 use Rattle.flow_codec.specs.Raw.{Placed, RawRecord, RawMessage, under}
@@ -7,6 +7,7 @@ use Rattle.flow_codec.specs.Unread.{counted}
 use Rattle.flow_measure.specs.Flows.{flows_of_records}
 use Rattle.flow_inspect.specs.declared.counting.RecordCounts.{RecordCounts}
 use Rattle.flow_inspect.specs.declared.span.Span.{Span}
+use Rattle.flow_inspect.specs.Caveats.{is_placed, is_sampled, is_uncounted}
 use Rattle.flow_inspect.specs.Lasting.{lasted_after, lastings_of, none_lasted}
 
 -- a record of a Template, and one of an Options Template
@@ -39,14 +40,21 @@ starts_of taken = map (λ flow. flow.start) (flows_of_records taken)
 
 -- ---- counts
 
--- The counts have risen by these records; they stop at 2^32 - 1. The span has widened by the starts of their flows, and
--- how long these last is counted.
+-- a count has risen by those of these records that hold; it stops at 2^32 - 1
+abbrev pub HasRisen : (RawRecord → Bool) → ℕ → List Placed → ℕ → Type 0
+HasRisen test start taken now = now ≡ min (start + count_by (λ x. test x.1) taken) (2 ^ 32 - 1)
+
+-- The counts have risen by these records. The span has widened by the starts of their flows, and how long these last is
+-- counted.
 abbrev pub HasCounted : RecordCounts → List Placed → RecordCounts → Type 0
 HasCounted start taken now =
-    (now.records ≡ min (start.records + count_by (λ x. is_flow x.1) taken) (2 ^ 32 - 1))
-    × (now.options ≡ min (start.options + count_by (λ x. is_option x.1) taken) (2 ^ 32 - 1))
+    HasRisen is_flow start.records taken now.records
+    × HasRisen is_option start.options taken now.options
     × (now.starts ≡ fold widened start.starts (starts_of taken))
     × (now.lasted ≡ fold lasted_after start.lasted (lastings_of taken))
+    × HasRisen is_placed start.placed taken now.placed
+    × HasRisen is_uncounted start.uncounted taken now.uncounted
+    × HasRisen is_sampled start.sampled taken now.sampled
 
 -- a message, beside its data Sets without a definition in force, and how many of its template records replace a
 -- definition
@@ -66,4 +74,7 @@ counts_of m = record {
   options = count_by is_option m.records;
   starts = span_of (starts_of (under m.header m.records));
   lasted = fold lasted_after none_lasted (lastings_of (under m.header m.records));
+  placed = count_by is_placed m.records;
+  uncounted = count_by is_uncounted m.records;
+  sampled = count_by is_sampled m.records;
 }

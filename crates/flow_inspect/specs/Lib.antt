@@ -1,3 +1,4 @@
+pub mod Caveats
 pub mod Lasting
 pub mod Counting
 pub mod Reports

@@ -59,6 +59,9 @@ begun walked counts = record {
     last = walked.header.time;
     starts = counts.starts;
     lasted = counts.lasted;
+    placed = counts.placed;
+    uncounted = counts.uncounted;
+    sampled = counts.sampled;
   };
   due = due_after walked.header counts;
 }
@@ -79,6 +82,9 @@ tally_after tally far walked counts = record {
   last = max tally.last walked.header.time;
   starts = hull tally.starts counts.starts;
   lasted = both_lasted tally.lasted counts.lasted;
+  placed = plus tally.placed counts.placed;
+  uncounted = plus tally.uncounted counts.uncounted;
+  sampled = plus tally.sampled counts.sampled;
 }
 
 abbrev pub continued : DomainReport → Walked → RecordCounts → DomainReport
@@ -130,6 +136,9 @@ together a b = record {
   last = max a.last b.last;
   starts = hull a.starts b.starts;
   lasted = both_lasted a.lasted b.lasted;
+  placed = plus a.placed b.placed;
+  uncounted = plus a.uncounted b.uncounted;
+  sampled = plus a.sampled b.sampled;
 }
 
 abbrev pub with_tally : Option Tally → Tally → Tally
@@ -170,13 +179,19 @@ longest_text (Some seconds) = codes " longest" ++ 32 ∷ decimal seconds
 unfoldable pub lasted_text : Lasted → List ℕ
 lasted_text lasted = longest_text lasted.longest ++ codes " long" ++ 32 ∷ decimal lasted.long
 
+-- how many flows may have other sums than their exporter means
+unfoldable pub caveats_text : Tally → List ℕ
+caveats_text tally =
+    codes " placed" ++ 32 ∷ decimal tally.placed ++ codes " uncounted" ++ 32 ∷ decimal tally.uncounted
+    ++ codes " sampled" ++ 32 ∷ decimal tally.sampled
+
 -- messages N records N options N unread SETS OCTETS replaced N gaps N missing N backwards N from TIME to TIME starts
--- FIRST LAST longest SECONDS long N, with a line feed
+-- FIRST LAST longest SECONDS long N placed N uncounted N sampled N, with a line feed
 unfoldable pub tally_text : Times → Tally → List ℕ
 tally_text times tally =
     counts_text tally ++ sequence_text tally ++ codes " from" ++ 32 ∷ second_text times tally.first
     ++ codes " to" ++ 32 ∷ second_text times tally.last ++ starts_text times tally.starts ++ lasted_text tally.lasted
-    ++ 10 ∷ []
+    ++ caveats_text tally ++ 10 ∷ []
 
 -- domain DOMAIN, and what is counted of it
 unfoldable pub report_line : Times → ℕ × DomainReport → List ℕ
@@ -194,19 +209,22 @@ report_values e =
     ∷ (codes "to", Time t.last)
     ∷ (codes "first", time_or_none (option_map (λ span. span.first) t.starts))
     ∷ (codes "last", time_or_none (option_map (λ span. span.last) t.starts))
-    ∷ (codes "longest", number_or_none t.lasted.longest) ∷ (codes "long", Number t.lasted.long) ∷ []
+    ∷ (codes "longest", number_or_none t.lasted.longest) ∷ (codes "long", Number t.lasted.long)
+    ∷ (codes "placed", Number t.placed) ∷ (codes "uncounted", Number t.uncounted)
+    ∷ (codes "sampled", Number t.sampled) ∷ []
 
 abbrev pub report_names : List (List ℕ)
 report_names =
     codes "domain" ∷ codes "messages" ∷ codes "records" ∷ codes "options" ∷ codes "unread_sets" ∷ codes "unread_octets"
     ∷ codes "replaced" ∷ codes "gaps" ∷ codes "missing" ∷ codes "backwards" ∷ codes "from" ∷ codes "to"
-    ∷ codes "first" ∷ codes "last" ∷ codes "longest" ∷ codes "long" ∷ []
+    ∷ codes "first" ∷ codes "last" ∷ codes "longest" ∷ codes "long" ∷ codes "placed" ∷ codes "uncounted"
+    ∷ codes "sampled" ∷ []
 
 -- all domains N, and what is counted of all together
 unfoldable pub whole_line : Times → ℕ → Option Tally → List ℕ
 whole_line times domains None =
     codes "all domains 0 messages 0 records 0 options 0 unread 0 0 replaced 0 gaps 0 missing 0 backwards 0"
-    ++ codes " from - to - starts - - longest - long 0\n"
+    ++ codes " from - to - starts - - longest - long 0 placed 0 uncounted 0 sampled 0\n"
 whole_line times domains (Some whole) = codes "all domains" ++ 32 ∷ decimal domains ++ tally_text times whole
 
 -- ---- of a File with a number

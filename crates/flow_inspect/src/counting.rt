@@ -1,17 +1,19 @@
 //! The data records of a message.
 
-ghost use Rattle.std.specs.Prelude.{◌≡◌};
+ghost use Rattle.std.specs.Prelude.{◌≡◌, ◌+◌, ◌-◌, ◌^◌, min, if◌then◌else◌};
 ghost use Rattle.flow_codec.specs.Fields.{fields_in};
 ghost use Rattle.flow_inspect.specs.Lasting.{ends_of, lasting, with_lasting};
 
+use crate::caveats::{are_uncounted, elements_of, has_no_start};
 use crate::lasting::{Lasted, lasted_after, lasting};
 use crate::span::{Span, widened};
 use flow_codec::{Definition, Header, RecordSink};
 use flow_measure::flow_of;
 use std::convert::Infallible;
 
-/// How many data records a message has, by the kind of their definition, when their flows start, and how long they
-/// last. Counts stop at 2^32 - 1, which no message reaches.
+/// How many data records a message has, by the kind of their definition, when their flows start, how long they last,
+/// and how many of them have sums that may be other than their exporter means. Counts stop at 2^32 - 1, which no message
+/// reaches.
 #[derive(Clone, Copy, Debug)]
 pub(crate) struct RecordCounts {
     /// Those of Templates.
@@ -22,6 +24,12 @@ pub(crate) struct RecordCounts {
     pub(crate) starts: Option<Span>,
     /// How long the flows last.
     pub(crate) lasted: Lasted,
+    /// Flows that start at the Export Time of the message.
+    pub(crate) placed: u32,
+    /// Flows whose octets or packets are counted by an element that isn't summed.
+    pub(crate) uncounted: u32,
+    /// Flows whose record has a sampling rate.
+    pub(crate) sampled: u32,
 }
 
 /// What is counted of the flows so far, and of one more, where it has a start and an end.
@@ -32,6 +40,13 @@ fn with_flow(lasted: Lasted, definition: &Definition, octets: &[u8]) -> Lasted
         Some(seconds) => lasted_after(lasted, seconds),
         None => lasted,
     }
+}
+
+/// A count, and one more where the test holds.
+fn risen(count: u32, test: bool) -> u32
+    ensures { result ≡ min (count + (if test then 1 else 0)) (2 ^ 32 - 1) }
+{
+    if test { count.saturating_add(1) } else { count }
 }
 
 impl RecordSink for RecordCounts {
@@ -60,6 +75,10 @@ impl RecordSink for RecordCounts {
             self.records = self.records.saturating_add(1);
             self.starts = widened(self.starts, flow_of(header, definition, octets).start);
             self.lasted = with_flow(self.lasted, definition, octets);
+            self.placed = risen(self.placed, has_no_start(header, definition, octets));
+            let elements = elements_of(definition);
+            self.uncounted = risen(self.uncounted, are_uncounted(elements));
+            self.sampled = risen(self.sampled, elements.rate);
         }
         Ok(())
     }

@@ -73,6 +73,9 @@ fn reports_of<R: Read>(alloc: Global, input: &mut R) -> Result<Reports, Refusal>
                 longest: None,
                 long: 0,
             },
+            placed: 0,
+            uncounted: 0,
+            sampled: 0,
         };
         match walk_sets(&mut templates, alloc, reader.message(), &mut counts) {
             Ok(walked) => add_message(&mut reports, &walked, counts)?,
@@ -183,9 +186,9 @@ fn write_lines<R: Read, W: Write>(
 
 /// Reads a File and writes a line for each Observation Domain, in the order of their first messages: `domain DOMAIN
 /// messages N records N options N unread SETS OCTETS replaced N gaps N missing N backwards N from TIME to TIME starts
-/// FIRST LAST longest SECONDS long N`, or the same values as CSV or JSON. In words one line of the whole File comes
-/// after them: `all domains N`, and the same of all domains together. Nothing is written unless the whole File was
-/// accepted.
+/// FIRST LAST longest SECONDS long N placed N uncounted N sampled N`, or the same values as CSV or JSON. In words one
+/// line of the whole File comes after them: `all domains N`, and the same of all domains together. Nothing is written
+/// unless the whole File was accepted.
 ///
 /// Data Sets without a definition in force are passed over: SETS is how many there are, and OCTETS what they have with
 /// their headers. How many records they hold can't be known.
@@ -202,6 +205,10 @@ fn write_lines<R: Read, W: Write>(
 ///
 /// A flow lasts from its start to its end, where its record has both: flowStartMilliseconds or else flowStartSeconds,
 /// and flowEndMilliseconds or else flowEndSeconds. The longest one lasts SECONDS, and N of them last more than 300.
+///
+/// A flow is placed by the Export Time of its message where its record has no start that counts. One is uncounted where
+/// its octets or packets are counted by another element alone than octetDeltaCount and packetDeltaCount, which are
+/// summed. One is sampled where its record has a sampling rate, which no sum is multiplied by.
 pub fn inspect<R: Read, W: Write>(
     alloc: Global,
     format: Format,

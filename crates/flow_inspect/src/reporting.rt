@@ -3,9 +3,9 @@
 ghost use Rattle.std.specs.Prelude.{◌≡◌, ◌++◌, ◌∷◌, [], if◌then◌else◌, OnOk, option_map, codes};
 ghost use Rattle.std.specs.Fmt.{decimal};
 ghost use Rattle.flow_inspect.specs.Reports.{begun, continued, due_after, plus, tally_after};
-ghost use Rattle.flow_inspect.specs.Reports.{counts_text, lasted_text, report_line, sequence_text, starts_text};
+ghost use Rattle.flow_inspect.specs.Reports.{caveats_text, counts_text, lasted_text, report_line, sequence_text};
 ghost use Rattle.flow_inspect.specs.Reports.{beginning_of, file_values, file_words, heading_of, report_in};
-ghost use Rattle.flow_inspect.specs.Reports.{report_names, report_values, tally_text};
+ghost use Rattle.flow_inspect.specs.Reports.{report_names, report_values, starts_text, tally_text};
 ghost use Rattle.flow_report.specs.Formats.{closing, heading, line_in, number_or_none, second_text, separator};
 ghost use Rattle.flow_report.specs.Formats.{time_or_none, value_in};
 ghost use Rattle.flow_report.specs.Formats.Value.{Nothing, Number};
@@ -72,6 +72,9 @@ pub(crate) fn begun(walked: &Walked, counts: RecordCounts) -> DomainReport
             last: walked.header.time,
             starts: counts.starts,
             lasted: counts.lasted,
+            placed: u64::from(counts.placed),
+            uncounted: u64::from(counts.uncounted),
+            sampled: u64::from(counts.sampled),
         },
         due: due_after(&walked.header, counts),
     }
@@ -99,6 +102,9 @@ fn tally_after(tally: Tally, distance: u32, walked: &Walked, counts: RecordCount
         last: tally.last.max(walked.header.time),
         starts: hull(tally.starts, counts.starts),
         lasted: both_lasted(tally.lasted, counts.lasted),
+        placed: tally.placed.saturating_add(u64::from(counts.placed)),
+        uncounted: tally.uncounted.saturating_add(u64::from(counts.uncounted)),
+        sampled: tally.sampled.saturating_add(u64::from(counts.sampled)),
     }
 }
 
@@ -189,8 +195,20 @@ fn push_lasted(text: &mut Vec<u8>, lasted: Lasted) -> Result<(), AllocError>
     push_named(text, " long", lasted.long)
 }
 
+/// Puts after a text how many flows may have other sums than their exporter means.
+#[tactic(auto, unfolding(crate::specs::Reports::caveats_text))]
+fn push_caveats(text: &mut Vec<u8>, tally: &Tally) -> Result<(), AllocError>
+    ensures { OnOk result (text.new.items ≡ text.old.items ++ caveats_text tally.now) }
+{
+    push_named(text, " placed", tally.placed)?;
+    push_named(text, " uncounted", tally.uncounted)?;
+    push_named(text, " sampled", tally.sampled)?;
+    Ok(())
+}
+
 /// Puts after a text what was counted, and ends the line: ` messages N records N options N unread SETS OCTETS
-/// replaced N gaps N missing N backwards N from TIME to TIME starts FIRST LAST longest SECONDS long N`.
+/// replaced N gaps N missing N backwards N from TIME to TIME starts FIRST LAST longest SECONDS long N placed N
+/// uncounted N sampled N`.
 #[tactic(auto, unfolding(crate::specs::Reports::tally_text))]
 pub(crate) fn push_tally(text: &mut Vec<u8>, times: Times, tally: &Tally) -> Result<(), AllocError>
     ensures { OnOk result (text.new.items ≡ text.old.items ++ tally_text times tally.now) }
@@ -201,6 +219,7 @@ pub(crate) fn push_tally(text: &mut Vec<u8>, times: Times, tally: &Tally) -> Res
     push_named_time(text, " to", times, tally.last)?;
     push_starts(text, times, tally.starts)?;
     push_lasted(text, tally.lasted)?;
+    push_caveats(text, tally)?;
     text.push(b'\n')?;
     Ok(())
 }
@@ -243,8 +262,8 @@ fn without_longest(format: Format) -> &'static str
     }
 }
 
-/// The most octets of sixteen values, which a line of a domain has.
-const MOST_REPORT: usize = 16 * MOST_VALUE;
+/// The most octets of nineteen values, which a line of a domain has.
+const MOST_REPORT: usize = 19 * MOST_VALUE;
 
 /// Puts after a text the starts of the flows, and a separator.
 fn push_start_values(
@@ -269,11 +288,12 @@ fn push_start_values(
     Ok(())
 }
 
-/// Puts after a text how long the flows last, the last two values of a line, and what the line ends with.
+/// Puts after a text how long the flows last, and a separator.
 fn push_lasting_values(text: &mut Vec<u8>, format: Format, lasted: Lasted) -> Result<(), AllocError>
     ensures { OnOk result (text.new.items
         ≡ text.old.items ++ value_in format (codes "longest", number_or_none lasted.longest)
-        ++ separator format.layout ∷ value_in format (codes "long", Number lasted.long) ++ closing format.layout) }
+        ++ separator format.layout ∷ value_in format (codes "long", Number lasted.long)
+        ++ separator format.layout ∷ []) }
 {
     match lasted.longest {
         Some(seconds) => {
@@ -283,7 +303,23 @@ fn push_lasting_values(text: &mut Vec<u8>, format: Format, lasted: Lasted) -> Re
         None => text.extend_from_slice(without_longest(format).as_bytes())?,
     }
     text.reserve(MOST_VALUE)?;
-    put_last(text, format, "long", lasted.long);
+    put_value(text, format, "long", lasted.long);
+    Ok(())
+}
+
+/// Puts after a text how many flows may have other sums than their exporter means, the last three values of a line, and
+/// what the line ends with.
+fn push_caveat_values(text: &mut Vec<u8>, format: Format, tally: &Tally) -> Result<(), AllocError>
+    ensures { OnOk result (text.new.items
+        ≡ text.old.items ++ value_in format (codes "placed", Number tally.now.placed)
+        ++ separator format.layout ∷ value_in format (codes "uncounted", Number tally.now.uncounted)
+        ++ separator format.layout ∷ value_in format (codes "sampled", Number tally.now.sampled)
+        ++ closing format.layout) }
+{
+    text.reserve(3 * MOST_VALUE)?;
+    put_value(text, format, "placed", tally.placed);
+    put_value(text, format, "uncounted", tally.uncounted);
+    put_last(text, format, "sampled", tally.sampled);
     Ok(())
 }
 
@@ -327,6 +363,7 @@ fn push_values(
     put_time(text, format, "to", tally.last);
     push_start_values(text, format, tally.starts)?;
     push_lasting_values(text, format, tally.lasted)?;
+    push_caveat_values(text, format, &tally)?;
     Ok(())
 }
 
@@ -377,7 +414,7 @@ pub(crate) fn push_in(
 /// The names of the values of a domain, in CSV.
 const NAMES: &str =
     "domain,messages,records,options,unread_sets,unread_octets,replaced,gaps,missing,backwards,from,to,\
-     first,last,longest,long\n";
+     first,last,longest,long,placed,uncounted,sampled\n";
 
 /// Puts the name of a File's number and those of the values of a domain after a text, in CSV.
 fn push_numbered_names(text: &mut Vec<u8>) -> Result<(), AllocError>

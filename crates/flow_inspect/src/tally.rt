@@ -34,6 +34,12 @@ pub(crate) struct Tally {
     pub(crate) starts: Option<Span>,
     /// How long the flows last.
     pub(crate) lasted: Lasted,
+    /// Flows that start at the Export Time of their message.
+    pub(crate) placed: u64,
+    /// Flows whose octets or packets are counted by an element that isn't summed.
+    pub(crate) uncounted: u64,
+    /// Flows whose record has a sampling rate.
+    pub(crate) sampled: u64,
 }
 
 /// What is counted of two parts of a File, together.
@@ -54,6 +60,9 @@ fn together(a: Tally, b: Tally) -> Tally
         last: a.last.max(b.last),
         starts: hull(a.starts, b.starts),
         lasted: both_lasted(a.lasted, b.lasted),
+        placed: a.placed.saturating_add(b.placed),
+        uncounted: a.uncounted.saturating_add(b.uncounted),
+        sampled: a.sampled.saturating_add(b.sampled),
     }
 }
 

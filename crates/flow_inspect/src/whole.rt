@@ -32,4 +32,4 @@ pub(crate) fn push_whole(
 /// The line of a File without messages.
 const NO_MESSAGE: &str =
     "all domains 0 messages 0 records 0 options 0 unread 0 0 replaced 0 gaps 0 missing 0 backwards 0 \
-     from - to - starts - - longest - long 0\n";
+     from - to - starts - - longest - long 0 placed 0 uncounted 0 sampled 0\n";

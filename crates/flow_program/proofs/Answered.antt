@@ -94,6 +94,7 @@ abbrev IsOurs : LineError → Type 0
 IsOurs line.Width = ⊤
 IsOurs line.Plan = ⊤
 IsOurs line.Span = ⊤
+IsOurs line.Flows = ⊤
 IsOurs line.Totals = ⊤
 IsOurs line.Swapped = ⊤
 IsOurs line.Keep = ⊤
@@ -114,16 +115,18 @@ named_ours name =
     let merged : LineError = if bytes_eq (codes "merge") name then line.Keep else shelled in
     let rolled : LineError = if bytes_eq (codes "roll") name then line.Keep else merged in
     let fed : LineError = if bytes_eq (codes "feed") name then line.Files else rolled in
-    let listed : LineError = if bytes_eq (codes "flows") name then line.Span else fed in
+    let recorded : LineError = if bytes_eq (codes "records") name then line.Span else fed in
+    let listed : LineError = if bytes_eq (codes "flows") name then line.Flows else recorded in
     let totalled : LineError = if bytes_eq (codes "totals") name then line.Totals else listed in
     either_ours (bytes_eq (codes "create") name) line.Plan totalled tt
     (either_ours (bytes_eq (codes "totals") name) line.Totals listed tt
-    (either_ours (bytes_eq (codes "flows") name) line.Span fed tt
+    (either_ours (bytes_eq (codes "flows") name) line.Flows recorded tt
+    (either_ours (bytes_eq (codes "records") name) line.Span fed tt
     (either_ours (bytes_eq (codes "feed") name) line.Files rolled tt
     (either_ours (bytes_eq (codes "roll") name) line.Keep merged tt
     (either_ours (bytes_eq (codes "merge") name) line.Keep shelled tt
     (either_ours (bytes_eq (codes "shell") name) line.Keep numbered tt
-    (either_ours (bytes_eq (codes "explain") name) line.Number line.Width tt tt)))))))
+    (either_ours (bytes_eq (codes "explain") name) line.Number line.Width tt tt))))))))
 
 values_ours : (command : Option (Text × List Row)) → IsOurs (wrong_values command)
 values_ours None = tt
@@ -153,6 +156,7 @@ wrong_words : (asking : List Text) (e : LineError) → e ≡ wrong_values (subco
 wrong_words asking line.Width is none = (none, is)
 wrong_words asking line.Plan is none = (none, is)
 wrong_words asking line.Span is none = (none, is)
+wrong_words asking line.Flows is none = (none, is)
 wrong_words asking line.Totals is none = (none, is)
 wrong_words asking line.Swapped is none = (none, is)
 wrong_words asking line.Keep is none = (none, is)

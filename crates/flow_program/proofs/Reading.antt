@@ -13,7 +13,7 @@ use Rattle.clap.proofs.WalkLemmas.{first_value-rows, raw_values-rows}
 use Rattle.flow_program.specs.declared.request.Request.{Request}
 use Rattle.flow_program.specs.declared.request.Request.TheVariants.{Dump, Explain}
 use Rattle.flow_program.specs.Arguments.{changing, checked_in, create_in, explained_in, fed_in, inspected_in}
-use Rattle.flow_program.specs.Arguments.{listed_in, measured_in, queried, requested, totalled_in, without_list}
+use Rattle.flow_program.specs.Arguments.{listed_in, measured_in, queried, recorded_in, requested, totalled_in, without_list}
 
 pub first_value_is : (f : Found) (id : Text) → first_value f id ≡ first_of id (rows_of f)
 first_value_is f id = first_value-rows f id
@@ -49,26 +49,29 @@ other_name name rows no_measure no_dump no_create no_check =
     ∙ passed_over (bytes_eq (codes "measure") name) (measured_in rows) dumped
     (differs (codes "measure") name no_measure)
 
--- a name other than `feed`, `inspect` and `totals`
+-- a name other than `feed`, `inspect`, `totals` and `flows`
 pub without_list_name : (name : Text) (rows : List Row) → (name ≡ codes "feed" → ⊥) → (name ≡ codes "inspect" → ⊥)
-    → (name ≡ codes "totals" → ⊥) → without_list name rows ≡ requested name rows
-without_list_name name rows no_feed no_inspect no_totals =
-    let totalled : Option Request = if bytes_eq (codes "totals") name then totalled_in rows
-    else without_list name rows in
+    → (name ≡ codes "totals" → ⊥) → (name ≡ codes "flows" → ⊥)
+    → without_list name rows ≡ requested name rows
+without_list_name name rows no_feed no_inspect no_totals no_flows =
+    let listed : Option Request = if bytes_eq (codes "flows") name then listed_in rows else without_list name rows in
+    let totalled : Option Request = if bytes_eq (codes "totals") name then totalled_in rows else listed in
     let inspected : Option Request = if bytes_eq (codes "inspect") name then inspected_in rows else totalled in
-    passed_over (bytes_eq (codes "totals") name) (totalled_in rows) (without_list name rows)
+    passed_over (bytes_eq (codes "flows") name) (listed_in rows) (without_list name rows)
+    (differs (codes "flows") name no_flows)
+    ∙ passed_over (bytes_eq (codes "totals") name) (totalled_in rows) listed
     (differs (codes "totals") name no_totals)
     ∙ passed_over (bytes_eq (codes "inspect") name) (inspected_in rows) totalled
     (differs (codes "inspect") name no_inspect)
     ∙ passed_over (bytes_eq (codes "feed") name) (fed_in rows) inspected (differs (codes "feed") name no_feed)
 
 -- the name of no command that is met before those that change an archive
-pub changing_name : (name : Text) (rows : List Row) → (name ≡ codes "flows" → ⊥) → (name ≡ codes "explain" → ⊥)
-    → changing name rows ≡ queried name rows
-changing_name name rows no_flows no_explain =
+pub changing_name : (name : Text) (rows : List Row) → (name ≡ codes "records" → ⊥)
+    → (name ≡ codes "explain" → ⊥) → changing name rows ≡ queried name rows
+changing_name name rows no_records no_explain =
     let explained : Option Request = if bytes_eq (codes "explain") name then option_map Explain (explained_in rows)
     else changing name rows in
     passed_over (bytes_eq (codes "explain") name) (option_map Explain (explained_in rows)) (changing name rows)
     (differs (codes "explain") name no_explain)
-    ∙ passed_over (bytes_eq (codes "flows") name) (listed_in rows) explained
-    (differs (codes "flows") name no_flows)
+    ∙ passed_over (bytes_eq (codes "records") name) (recorded_in rows) explained
+    (differs (codes "records") name no_records)

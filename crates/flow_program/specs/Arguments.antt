@@ -9,7 +9,7 @@ use Rattle.clap.specs.Walk.{Row, Text, all_of, first_of}
 use Rattle.flow_program.specs.declared.request.Request.{Request}
 use Rattle.flow_program.specs.declared.request.Request.TheVariants.{Measure, Dump, Inspect, InspectFiles}
 use Rattle.flow_program.specs.declared.request.Request.TheVariants.{Create, Check, CheckFiles}
-use Rattle.flow_program.specs.declared.request.Request.TheVariants.{Totals, TotalsOfSeveral, Flows}
+use Rattle.flow_program.specs.declared.request.Request.TheVariants.{Totals, TotalsOfSeveral, Flows, FlowsOfSeveral, Records}
 use Rattle.flow_program.specs.declared.request.Request.TheVariants.{Feed, Shell, Roll, Merge, Explain}
 use Rattle.flow_refusals.specs.Table.{is_refusal}
 use Rattle.flow_program.specs.declared.arguments.MomentSpan.{MomentSpan}
@@ -21,6 +21,8 @@ use Rattle.flow_report.specs.declared.format.Layout.{Layout}
 use Rattle.flow_report.specs.declared.format.Layout.TheVariants.{Lines, Csv, Json}
 use Rattle.flow_report.specs.declared.format.Times.{Times}
 use Rattle.flow_report.specs.declared.format.Times.TheVariants.{Seconds, Dates}
+use Rattle.flow_report.specs.declared.records.RecordFormat.{RecordFormat}
+use Rattle.flow_report.specs.declared.records.RecordLayout.TheVariants as records
 use Rattle.flow_report.specs.Numbers.{number_between}
 use Rattle.flow_commands.specs.declared.plan.FeedPlan.{FeedPlan}
 use Rattle.flow_commands.specs.Plans.{Plan, Span}
@@ -48,6 +50,13 @@ times_in rows = if is_set (codes "utc") rows then Dates else Seconds
 
 abbrev pub format_in : List Row → Option Format
 format_in rows = option_map (λ layout. record { layout = layout; times = times_in rows }) (layout_in rows)
+
+-- how `records` writes: as JSON where that is asked for
+abbrev pub record_format_in : List Row → RecordFormat
+record_format_in rows = record {
+  layout = if is_set (codes "json") rows then records.Json else records.Lines;
+  times = times_in rows;
+}
 
 -- what `measure` asks for
 abbrev pub measured_in : List Row → Option Request
@@ -156,12 +165,12 @@ last_span_of words =
     if nat_lt (length words) 2 then None
     else span_of (get_or words (length words - 2) []) (get_or words (length words - 1) [])
 
--- the span of `totals`: by moments, or by the last two of its words
+-- the span of `totals` and `flows`: by moments, or by the last two of its words
 abbrev pub totals_span_in : List Row → List Text → Option MomentSpan
 totals_span_in rows words =
     if is_by_moments rows then option_and_then forward (worded_span_in rows) else last_span_of words
 
--- the folders of `totals`: all of its words, or those before the span
+-- their folders: all of their words, or those before the span
 abbrev pub folders_of : List Row → List Text → List Text
 folders_of rows words = if is_by_moments rows then words else take (length words - 2) words
 
@@ -179,10 +188,23 @@ totalled_in rows = option_and_then (λ words. option_and_then (λ span. option_a
     (totalled (folders_of rows words) span workers (is_set (codes "each") rows)) (format_in rows)) (workers_in rows))
     (totals_span_in rows words)) (all_of (codes "DIR") rows)
 
+-- one archive alone, or 2 to 4,096
+abbrev pub listed : List Text → MomentSpan → Format → Option Request
+listed folders span format =
+    if length folders == 1 then Some (Flows (get_or folders 0 []) span format)
+    else if length folders == 0 || nat_lt 4096 (length folders) then None
+    else Some (FlowsOfSeveral folders span format)
+
 -- what `flows` asks for
 abbrev pub listed_in : List Row → Option Request
-listed_in rows = option_and_then (λ folder. option_and_then (λ span. option_map (Flows folder span) (format_in rows))
-    (span_in rows)) (folder_in rows)
+listed_in rows = option_and_then (λ words. option_and_then (λ span. option_and_then
+    (listed (folders_of rows words) span) (format_in rows)) (totals_span_in rows words)) (all_of (codes "DIR") rows)
+
+-- what `records` asks for
+abbrev pub recorded_in : List Row → Option Request
+recorded_in rows =
+    option_and_then (λ folder. option_map (λ span. Records folder span (record_format_in rows)) (span_in rows))
+    (folder_in rows)
 
 -- how many of the newest files are left
 abbrev pub keep_in : List Row → Option ℕ
@@ -265,7 +287,7 @@ changing name rows =
 -- what a query's name and the values of its arguments ask for
 abbrev pub queried : Text → List Row → Option Request
 queried name rows =
-    if bytes_eq (codes "flows") name then listed_in rows
+    if bytes_eq (codes "records") name then recorded_in rows
     else if bytes_eq (codes "explain") name then option_map Explain (explained_in rows)
     else changing name rows
 
@@ -289,6 +311,7 @@ requested name rows =
     if bytes_eq (codes "feed") name then fed_in rows
     else if bytes_eq (codes "inspect") name then inspected_in rows
     else if bytes_eq (codes "totals") name then totalled_in rows
+    else if bytes_eq (codes "flows") name then listed_in rows
     else without_list name rows
 
 abbrev pub request_in : Option (Text × List Row) → Option Request

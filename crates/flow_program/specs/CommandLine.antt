@@ -92,17 +92,22 @@ moment_rules = since_rule ∷ until_rule ∷ []
 abbrev pub moments_shape : Text → Shape
 moments_shape name = record (span_shape name) { rules = (span_shape name).rules ++ moment_rules }
 
--- and in a format
-abbrev pub query_shape : Text → Shape
-query_shape name = record (moments_shape name) { rules = (moments_shape name).rules ++ format_rules }
+-- `records`
+abbrev pub records_shape : Shape
+records_shape = record (moments_shape (codes "records")) {
+  rules = (moments_shape (codes "records")).rules ++ flag (codes "json") ∷ flag (codes "utc") ∷ [];
+}
 
--- the folders that `totals` asks, and after them its span by numbers, or moments in their place
-abbrev pub folders_shape : Shape
-folders_shape = record (new_shape (codes "totals")) { rules = several (codes "DIR") ∷ moment_rules }
+-- the folders that `totals` and `flows` ask, and after them a span by numbers, or moments in their place
+abbrev pub folders_shape : Text → Shape
+folders_shape name = record (new_shape name) { rules = several (codes "DIR") ∷ moment_rules }
 
 -- in a format
+abbrev pub asking_shape : Text → Shape
+asking_shape name = record (folders_shape name) { rules = (folders_shape name).rules ++ format_rules }
+
 abbrev pub summed_shape : Shape
-summed_shape = record folders_shape { rules = folders_shape.rules ++ format_rules }
+summed_shape = asking_shape (codes "totals")
 
 -- and how many workers scan one archive, or whether each archive is answered by itself
 abbrev pub totals_shape : Shape
@@ -145,8 +150,8 @@ explain_shape = record (new_shape (codes "explain")) { rules = needed (codes "NU
 
 -- the commands whose arguments are asked for as the parser reads them
 abbrev pub parsed_names : List Text
-parsed_names = codes "inspect" ∷ codes "create" ∷ codes "check" ∷ codes "totals" ∷ codes "flows" ∷ codes "feed"
-    ∷ codes "shell" ∷ codes "roll" ∷ codes "merge" ∷ codes "explain" ∷ []
+parsed_names = codes "inspect" ∷ codes "create" ∷ codes "check" ∷ codes "totals" ∷ codes "flows" ∷ codes "records"
+    ∷ codes "feed" ∷ codes "shell" ∷ codes "roll" ∷ codes "merge" ∷ codes "explain" ∷ []
 
 -- the program with the commands that read standard input
 abbrev pub with_streams : App
@@ -159,7 +164,8 @@ with_archives = with_subcommand (with_subcommand with_streams create_shape) chec
 -- and with those that ask it
 abbrev pub with_queries : App
 with_queries =
-    with_subcommand (with_subcommand with_archives totals_shape) (query_shape (codes "flows"))
+    with_subcommand (with_subcommand (with_subcommand with_archives totals_shape) (asking_shape (codes "flows")))
+    records_shape
 
 -- and with those that take Files into it
 abbrev pub with_feeding : App

@@ -23,6 +23,9 @@ words_text line.Plan =
 words_text line.Span =
     codes "FROM and TO are seconds since 1970-01-01 00:00 UTC, digits alone, 0 to 4294967296; --since and --until, "
     ++ codes "in their place, are as 2026-11-25, 2026-11-25T06:00, 1d, 6h or now"
+words_text line.Flows =
+    codes "FROM and TO are seconds since 1970-01-01 00:00 UTC, digits alone, 0 to 4294967296; --since and --until, "
+    ++ codes "in their place, are as 2026-11-25, 2026-11-25T06:00, 1d, 6h or now; DIR is given 1 to 4096 times"
 words_text line.Totals =
     codes "FROM and TO are seconds since 1970-01-01 00:00 UTC, digits alone, 0 to 4294967296; --since and --until, "
     ++ codes "in their place, are as 2026-11-25, 2026-11-25T06:00, 1d, 6h or now; DIR is given 1 to 4096 times; "

@@ -8,7 +8,8 @@ use Rattle.clap.specs.Simple.{subcommand_of}
 use Rattle.clap.specs.Walk.{Row, Text}
 use Rattle.flow_program.specs.declared.request.LineError.{LineError}
 use Rattle.flow_program.specs.declared.request.LineError.TheVariants.{Parser, Width, Plan, Span, Keep, Files}
-use Rattle.flow_program.specs.declared.request.LineError.TheVariants.{Formats, Number, OutOfMemory, Swapped, Totals}
+use Rattle.flow_program.specs.declared.request.LineError.TheVariants.{Flows, Formats, Number}
+use Rattle.flow_program.specs.declared.request.LineError.TheVariants.{OutOfMemory, Swapped, Totals}
 use Rattle.flow_program.specs.Arguments.{are_swapped, format_in}
 use Rattle.flow_program.specs.CommandLine.{asked, flowvault}
 
@@ -17,7 +18,8 @@ abbrev pub wrong_values_of : Text → LineError
 wrong_values_of name =
     if bytes_eq (codes "create") name then Plan
     else if bytes_eq (codes "totals") name then Totals
-    else if bytes_eq (codes "flows") name then Span
+    else if bytes_eq (codes "flows") name then Flows
+    else if bytes_eq (codes "records") name then Span
     else if bytes_eq (codes "feed") name then Files
     else if bytes_eq (codes "roll") name then Keep
     else if bytes_eq (codes "merge") name then Keep
@@ -48,6 +50,7 @@ IsLineError words OutOfMemory = ⊤
 IsLineError words Width = IsOfValues words Width
 IsLineError words Plan = IsOfValues words Plan
 IsLineError words Span = IsOfValues words Span
+IsLineError words Flows = IsOfValues words Flows
 IsLineError words Totals = IsOfValues words Totals
 IsLineError words Swapped = IsOfValues words Swapped
 IsLineError words Keep = IsOfValues words Keep

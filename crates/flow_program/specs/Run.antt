@@ -11,11 +11,12 @@ use Rattle.flow_report.specs.declared.refusal.Refusal.TheVariants as refusal
 use Rattle.flow_program.specs.declared.request.LineError.{LineError}
 use Rattle.flow_program.specs.declared.request.LineError.TheVariants.{Parser, Width, Plan, Span, Keep, Files}
 use Rattle.flow_program.specs.declared.request.LineError.TheVariants.{Formats, Number, OutOfMemory, Swapped}
+use Rattle.flow_program.specs.declared.request.LineError.TheVariants.{Flows as FlowsWrong}
 use Rattle.flow_program.specs.declared.request.LineError.TheVariants.{Totals as TotalsWrong}
 use Rattle.flow_program.specs.declared.request.Request.{Request}
 use Rattle.flow_program.specs.declared.request.Request.TheVariants.{Measure, Dump, Inspect, InspectFiles}
 use Rattle.flow_program.specs.declared.request.Request.TheVariants.{Create, Check, CheckFiles, Totals, Flows}
-use Rattle.flow_program.specs.declared.request.Request.TheVariants.{TotalsOfSeveral}
+use Rattle.flow_program.specs.declared.request.Request.TheVariants.{TotalsOfSeveral, FlowsOfSeveral, Records}
 use Rattle.flow_program.specs.declared.request.Request.TheVariants.{Feed, Shell, Roll as RollAsked, Merge as MergeAsked}
 use Rattle.flow_program.specs.declared.request.Request.TheVariants.{Explain}
 use Rattle.flow_commands.specs.declared.archive_refusal.ArchiveRefusal.{ArchiveRefusal}
@@ -33,13 +34,16 @@ use Rattle.flow_commands.specs.ArchiveFiles.{AreListings}
 use Rattle.flow_commands.specs.Asking.{AreFlowsIn, AreRowsIn, Writes, WritesOrNot, WritesUpTo}
 use Rattle.flow_shell.specs.Asked.{MayKeep}
 use Rattle.flow_shell.specs.Endings.{ShellsIn}
+use Rattle.flow_kept_records.specs.Listing.{AreRecordsIn}
 use Rattle.flow_report.specs.declared.format.Format.{Format}
+use Rattle.flow_report.specs.declared.records.RecordFormat.{RecordFormat}
 use Rattle.flow_program.specs.Arguments.{has_input, span_at}
 use Rattle.flow_program.specs.declared.arguments.MomentSpan.{MomentSpan}
 use Rattle.flow_program.specs.CommandLine.{asked}
 use Rattle.flow_program.specs.Inspecting.{InspectEnds}
 use Rattle.flow_program.specs.Requested.{IsLineError}
-use Rattle.flow_program.specs.Several.{SeveralEnd}
+use Rattle.flow_program.specs.Several.{totals_wanted, SeveralEnd}
+use Rattle.flow_several_folders.specs.declared.asking.Wanted.TheVariants.{FlowsOfEach}
 use Rattle.flow_report.specs.Refusals.{status_of}
 use Rattle.flow_program.specs.Printed.{kind_text, told_lines, words_text}
 use Rattle.flow_report.specs.Printed.{printed, line_of}
@@ -103,6 +107,11 @@ AreRowsAsked format span text = (now : ℕ) × AreRowsIn format (span_at now spa
 
 abbrev pub AreFlowsAsked : Format → MomentSpan → List ℕ → Type 0
 AreFlowsAsked format span text = (now : ℕ) × AreFlowsIn format (span_at now span) text
+
+-- and lines of the data records of flows that start in it
+abbrev pub AreRecordsAsked : RecordFormat → MomentSpan → List ℕ → Type 0
+AreRecordsAsked format span text =
+    (now : ℕ) × AreRecordsIn format (span_at now span).from (span_at now span).to text
 
 -- standard input is given to `feed` where it is one of the Files
 abbrev pub input_given : List (List ℕ) → Option (List ℕ) → Option (Option (List ℕ))
@@ -181,9 +190,13 @@ Runs g octets (CheckFiles folder) input left old new before after status =
 Runs g octets (Totals folder span workers format) input left old new before after status =
     Keeps input left × AskEnds (AreRowsAsked format span) old new before after status
 Runs g octets (TotalsOfSeveral folders span each format) input left old new before after status =
-    Keeps input left × SeveralEnd (length folders) span each format old new before after status
+    Keeps input left × SeveralEnd (length folders) span (totals_wanted each) format old new before after status
 Runs g octets (Flows folder span format) input left old new before after status =
     Keeps input left × ListEnds (AreFlowsAsked format span) old new before after status
+Runs g octets (FlowsOfSeveral folders span format) input left old new before after status =
+    Keeps input left × SeveralEnd (length folders) span FlowsOfEach format old new before after status
+Runs g octets (Records folder span format) input left old new before after status =
+    Keeps input left × ListEnds (AreRecordsAsked format span) old new before after status
 Runs g octets (Feed folder plan files) input left old new before after status =
     (has_input files ≡ false → Keeps input left) × FeedEnds g octets plan files input old new before after status
 Runs g octets (Shell folder keep) input left old new before after status =
@@ -228,6 +241,7 @@ IsTold (Parser error) old new before after status =
 IsTold Width old new before after status = IsWrong Width old new before after status
 IsTold Plan old new before after status = IsWrong Plan old new before after status
 IsTold Span old new before after status = IsWrong Span old new before after status
+IsTold FlowsWrong old new before after status = IsWrong FlowsWrong old new before after status
 IsTold TotalsWrong old new before after status = IsWrong TotalsWrong old new before after status
 IsTold Swapped old new before after status = IsWrong Swapped old new before after status
 IsTold Keep old new before after status = IsWrong Keep old new before after status

@@ -1,5 +1,6 @@
--- What a run of `totals` over several archives answers.
-use Rattle.std.specs.Prelude.{◌≡◌, ◌⊎◌, ℕ, ◌++◌, ◌==◌, Bool, List, Option, codes, if◌then◌else◌, length, nat_lt, true}
+-- What a run over several archives answers.
+use Rattle.std.specs.Prelude.{◌≡◌, ◌⊎◌, ℕ, ◌++◌, ◌==◌, Bool, List, Option, codes, if◌then◌else◌, length, nat_lt}
+use Rattle.std.specs.Prelude.{false, true}
 use Rattle.std.specs.Fmt.{decimal}
 use Rattle.std.specs.Io.KnownBytes.{Keeps}
 use Rattle.std.specs.List.{after_first, before_first, position_or_len}
@@ -15,6 +16,8 @@ use Rattle.flow_report.specs.declared.format.Format.{Format}
 use Rattle.flow_report.specs.Writing.{AppendsFront}
 use Rattle.flow_several.specs.Refusals.{several_status, several_text}
 use Rattle.flow_several_folders.specs.declared.asking.Question.{Question}
+use Rattle.flow_several_folders.specs.declared.asking.Wanted.{Wanted}
+use Rattle.flow_several_folders.specs.declared.asking.Wanted.TheVariants.{Totals, TotalsOfEach}
 use Rattle.flow_several_folders.specs.declared.refusal.FoldersRefusal.{FoldersRefusal}
 use Rattle.flow_several_folders.specs.declared.refusal.FoldersRefusal.TheVariants.{Folder, Several}
 use Rattle.flow_several_folders.specs.Folders.{AnswersFolders, AreFoldersRefused, KeepsOrRows, Path}
@@ -52,6 +55,10 @@ folders_status (Several e) = several_status e
 abbrev pub text_reported : ℕ → List ℕ → List ℕ
 text_reported status printed = if status == 4 then code_text code.OutOfMemory else printed
 
+-- what is reported of the archive with this number
+abbrev pub refused_text : ℕ → ArchiveRefusal → List ℕ
+refused_text number e = text_reported (archive_status e) (numbered (archive_printed e) number)
+
 -- its lines came on standard error, or a prefix of them
 abbrev pub AreFoldersReported : FoldersRefusal → Option (List ℕ) → Option (List ℕ) → Type 0
 AreFoldersReported e before after =
@@ -63,34 +70,39 @@ AreFoldersReported e before after =
 abbrev pub no_clock : ArchiveRefusal
 no_clock = archive.Folder NoClock
 
+-- what is wanted of totals: of each archive, or of all together
+abbrev pub totals_wanted : Bool → Wanted
+totals_wanted true = TotalsOfEach
+totals_wanted false = Totals
+
 -- what is asked, where it is now the second `now`
-abbrev pub question_at : ℕ → MomentSpan → Bool → Format → Question
-question_at now span each format =
-    record { from = (span_at now span).from; to = (span_at now span).to; each = each; format = format }
+abbrev pub question_at : ℕ → MomentSpan → Wanted → Format → Question
+question_at now span wanted format =
+    record { from = (span_at now span).from; to = (span_at now span).to; wanted = wanted; format = format }
 
 -- What was asked is answered, with status 0 and nothing on standard error; or that is refused, and reported; or no time
 -- is known, on which the span depends.
-abbrev pub QuestionEnds : (Question → Type 0) → (Question → FoldersRefusal → Type 0) → MomentSpan → Bool → Format
+abbrev pub QuestionEnds : (Question → Type 0) → (Question → FoldersRefusal → Type 0) → MomentSpan → Wanted → Format
     → Option (List ℕ) → Option (List ℕ) → Option (List ℕ) → Option (List ℕ) → ℕ → Type 0
-QuestionEnds answered refused span each format old new before after status =
-    ((now : ℕ) × (status ≡ 0) × Keeps before after × answered (question_at now span each format))
+QuestionEnds answered refused span wanted format old new before after status =
+    ((now : ℕ) × (status ≡ 0) × Keeps before after × answered (question_at now span wanted format))
     ⊎ (((now : ℕ) × (e : FoldersRefusal) × (status ≡ folders_status e) × AreFoldersReported e before after
-    × refused (question_at now span each format) e)
+    × refused (question_at now span wanted format) e)
     ⊎ ((depends_on_now span ≡ true) × (status ≡ archive_status no_clock)
     × AppendsFront before after (told_lines (archive_printed no_clock)) × Keeps old new))
 
 -- By the disks of the folders: `g` are those of their kind, `opens` says which is that of a path, `refuses` why there is
 -- none.
 abbrev pub FoldersEnd : {D S X : Type 0} → Ghosts D S X → (Path → D → Type 0) → (Path → FolderError → Type 0)
-    → List Path → MomentSpan → Bool → Format → Option (List ℕ) → Option (List ℕ) → Option (List ℕ) → Option (List ℕ)
+    → List Path → MomentSpan → Wanted → Format → Option (List ℕ) → Option (List ℕ) → Option (List ℕ) → Option (List ℕ)
     → ℕ → Type 0
-FoldersEnd g opens refuses folders span each format old new before after status =
+FoldersEnd g opens refuses folders span wanted format old new before after status =
     QuestionEnds (λ q. AnswersFolders g opens q folders old new)
-    (λ q e. AreFoldersRefused g opens refuses q folders old new e) span each format old new before after status
+    (λ q e. AreFoldersRefused g opens refuses q folders old new e) span wanted format old new before after status
 
--- whatever the disks: the lines of rows of so many archives, of starts in the span that was asked for
-abbrev pub SeveralEnd : ℕ → MomentSpan → Bool → Format → Option (List ℕ) → Option (List ℕ) → Option (List ℕ)
+-- whatever the disks: the lines of rows, or flows, of so many archives, of starts in the span that was asked for
+abbrev pub SeveralEnd : ℕ → MomentSpan → Wanted → Format → Option (List ℕ) → Option (List ℕ) → Option (List ℕ)
     → Option (List ℕ) → ℕ → Type 0
-SeveralEnd count span each format old new before after status =
-    QuestionEnds (λ q. AnswersRows q count old new) (λ q e. KeepsOrRows q count old new e) span each format old new
+SeveralEnd count span wanted format old new before after status =
+    QuestionEnds (λ q. AnswersRows q count old new) (λ q e. KeepsOrRows q count old new e) span wanted format old new
     before after status

@@ -8,8 +8,8 @@ ghost use Rattle.flow_commands.specs.declared.archive_refusal.ArchiveRefusal.The
 ghost use Rattle.flow_commands.specs.declared.folder_fault.FolderFault.TheVariants as fault;
 ghost use Rattle.flow_commands.specs.Feeding.{FeedsIn, FeedsLines, KeepsOrFeeds};
 ghost use Rattle.flow_program.specs.Arguments.{depends_on_now, has_input, span_at};
-ghost use Rattle.flow_program.specs.Run.{AreFlowsAsked, AreRowsAsked, AskEnds, CheckEnds, CreateEnds, FeedEnds};
-ghost use Rattle.flow_program.specs.Run.{JobEnds, input_given, ListEnds, ShellEnds};
+ghost use Rattle.flow_program.specs.Run.{AreFlowsAsked, AreRecordsAsked, AreRowsAsked, AskEnds, CheckEnds, CreateEnds};
+ghost use Rattle.flow_program.specs.Run.{FeedEnds, JobEnds, input_given, ListEnds, ShellEnds};
 
 use crate::arguments::{FileNames, FolderName, MomentSpan};
 use crate::telling::{DONE, tell_of_archive};
@@ -20,7 +20,8 @@ use flow_commands::{
 use flow_disk::Disk;
 use flow_folder::{FirstFault, FolderDisk, Lockable};
 use flow_manifest::JobKind;
-use flow_report::Format;
+use flow_records::records_in;
+use flow_report::{Format, RecordFormat};
 use flow_shell::shell_in;
 use std::alloc::AllocGlobal;
 use std::fs::Files;
@@ -228,10 +229,54 @@ where
     }
 }
 
+/// Writes the lines of `records`.
+fn write_records<H: Files + AllocGlobal + Clock + Clone + Drop, W: Write>(
+    rt: &H,
+    folder: &FolderName<'_>,
+    first_fault: &FirstFault,
+    span: MomentSpan,
+    format: RecordFormat,
+    output: &mut W,
+) -> Result<(), ArchiveRefusal>
+where
+    H::File: FileExt + Lockable,
+    ensures written { OnOk result (Writes (AreRecordsAsked format span) (W.contents output.old)
+        (W.contents output.new)) }
+    ensures kept { IfErr result
+        (λ e. WritesUpTo (AreRecordsAsked format span) e (W.contents output.old) (W.contents output.new)) }
+{
+    let span = seconds_of(rt, span)?;
+    records_in(rt, folder.path, first_fault, &span, format, output)
+}
+
+/// Runs `records`.
+pub(crate) fn run_records<H: Files + AllocGlobal + Clock + Clone + Drop, W: Write, E: Write>(
+    rt: &H,
+    folder: &FolderName<'_>,
+    first_fault: &FirstFault,
+    span: MomentSpan,
+    format: RecordFormat,
+    output: &mut W,
+    errors: &mut E,
+) -> u8
+where
+    H::File: FileExt + Lockable,
+    ensures runs { ListEnds (AreRecordsAsked format span) (W.contents output.old) (W.contents output.new)
+        (E.contents errors.old) (E.contents errors.new) result }
+    ensures quiet { result ≡ 0 → Keeps (E.contents errors.old) (E.contents errors.new) }
+    ensures status { result ≤ 5 }
+    ensures other { result ≢ 2 }
+{
+    match write_records(rt, folder, first_fault, span, format, output) {
+        Ok(()) => DONE,
+        Err(refusal) => tell_of_archive(rt.alloc(), errors, &refusal),
+    }
+}
+
 /// Feeds Files; standard input is one of them, or it isn't read.
 fn feed_files<
     'a,
-    H: Files + AllocGlobal + Clone + Drop + Threads + Wait + Send + Sync,
+    H: Files + AllocGlobal + Clock + Clone + Drop + Threads + Wait + Send + Sync,
     R: Read,
     W: Write,
     P: Write + Drop + Send,
@@ -269,7 +314,7 @@ where
 /// Runs `feed`.
 pub(crate) fn run_feed<
     'a,
-    H: Files + AllocGlobal + Clone + Drop + Threads + Wait + Send + Sync,
+    H: Files + AllocGlobal + Clock + Clone + Drop + Threads + Wait + Send + Sync,
     R: Read,
     W: Write,
     E: Write,

@@ -9,7 +9,7 @@ ghost use Rattle.flow_program.specs.Arguments.{explained_in, few_of, folder_in, 
 ghost use Rattle.flow_program.specs.Arguments.{wide_in};
 ghost use Rattle.flow_program.specs.Arguments.{feeding_in, files_in, format_in, given_in, is_given, is_set, keep_in};
 ghost use Rattle.flow_program.specs.Arguments.{are_swapped, forward, is_later, kept_or};
-ghost use Rattle.flow_program.specs.Arguments.{layout_in, times_in};
+ghost use Rattle.flow_program.specs.Arguments.{layout_in, record_format_in, times_in};
 ghost use Rattle.flow_program.specs.Arguments.{moment_in, numbered_span_in, passed_in, worded_span_in};
 ghost use Rattle.flow_program.specs.Arguments.{folders_of, is_by_moments, last_span_of, span_of, totals_span_in};
 ghost use Rattle.flow_program.specs.Arguments.{width_in, workers_in};
@@ -21,7 +21,7 @@ use clap::ArgMatches;
 use flow_commands::{FeedPlan, NewArchive, StartSpan, Workers};
 use flow_manifest::{GREATEST_LIMIT, GREATEST_WIDTH, LEAST_LIMIT, MOST_MESSAGES};
 use flow_moments::{Moment, moment_of};
-use flow_report::{Format, Layout, Times, Width, number_between};
+use flow_report::{Format, Layout, RecordFormat, RecordLayout, Times, Width, number_between};
 use std::alloc::{AllocError, Global};
 use std::marker::Model;
 
@@ -312,7 +312,7 @@ pub(crate) fn span_in(arguments: &ArgMatches<'_>) -> Option<MomentSpan>
     }
 }
 
-/// The words among the arguments of `totals`: folders, and a span by two numbers after them.
+/// The words among the arguments of `totals` and `flows`: folders, and a span by two numbers after them.
 #[tactic(auto, using(crate::proofs::Reading::all_values_are))]
 pub(crate) fn words_in<'b, 'a>(arguments: &'b ArgMatches<'a>) -> Option<&'b [&'a str]>
     ensures { option_map (λ words. map (λ word. word.now) words.now) result
@@ -344,7 +344,7 @@ fn last_span_of(words: &[&str]) -> Option<MomentSpan>
     span_of(words[count - 2], words[count - 1])
 }
 
-/// The span of `totals`: by options, or by the last two of its words.
+/// The span of `totals` and `flows`: by options, or by the last two of their words.
 pub(crate) fn totals_span_in(arguments: &ArgMatches<'_>, words: &[&str]) -> Option<MomentSpan>
     ensures { result ≡ totals_span_in (rows_of (found_of arguments.now)) (map (λ word. word.now) words.now) }
 {
@@ -355,7 +355,7 @@ pub(crate) fn totals_span_in(arguments: &ArgMatches<'_>, words: &[&str]) -> Opti
     }
 }
 
-/// The folders of `totals`: all of its words, or those before the span.
+/// Their folders: all of their words, or those before the span.
 pub(crate) fn folders_of<'a>(
     alloc: Global,
     arguments: &ArgMatches<'_>,
@@ -415,6 +415,19 @@ pub(crate) fn format_in(arguments: &ArgMatches<'_>) -> Option<Format>
     let layout = layout_in(arguments)?;
     let times = times_in(arguments);
     Some(Format { layout, times })
+}
+
+/// How `records` writes, among its arguments.
+pub(crate) fn record_format_in(arguments: &ArgMatches<'_>) -> RecordFormat
+    ensures { result ≡ record_format_in (rows_of (found_of arguments.now)) }
+{
+    let layout = if is_set(arguments, "json") {
+        RecordLayout::Json
+    } else {
+        RecordLayout::Lines
+    };
+    let times = times_in(arguments);
+    RecordFormat { layout, times }
 }
 
 /// How many workers scan, among the arguments of `totals`, where that is said.

@@ -9,9 +9,9 @@ ghost use Rattle.flow_program.specs.CommandLine.{feed_shape, flag, passing_shape
 ghost use Rattle.flow_program.specs.CommandLine.{flowvault, folder_rule, keep_shape, measure_shape, needed, option};
 ghost use Rattle.flow_program.specs.CommandLine.{moments_shape, optional, program, several, sized_shape, span_shape};
 ghost use Rattle.flow_program.specs.CommandLine.{since_rule, until_rule};
-ghost use Rattle.flow_program.specs.CommandLine.{folders_shape, summed_shape, totals_shape, width_rule};
+ghost use Rattle.flow_program.specs.CommandLine.{asking_shape, folders_shape, records_shape, totals_shape, width_rule};
 ghost use Rattle.flow_program.specs.CommandLine.{with_archives, with_feeding, with_queries, with_rolling, with_streams};
-ghost use Rattle.flow_program.specs.CommandLine.{format_rules, inspect_shape, kept_shape, query_shape, shell_shape};
+ghost use Rattle.flow_program.specs.CommandLine.{format_rules, inspect_shape, kept_shape, shell_shape};
 
 use clap::{Arg, ArgAction, Command};
 use std::alloc::{AllocError, Global};
@@ -53,8 +53,8 @@ const INSPECT_ABOUT: &str =
 const INSPECT_HELP: &str =
     "The lines, a domain each, in the order of their first messages: domain DOMAIN\n\
      messages N records N options N unread SETS OCTETS replaced N gaps N missing N\n\
-     backwards N from TIME to TIME starts FIRST LAST longest SECONDS long N; then\n\
-     one of all together: all domains N messages N ..\n\
+     backwards N from TIME to TIME starts FIRST LAST longest SECONDS long N placed N\n\
+     uncounted N sampled N; then one of all together: all domains N messages N ..\n\
      Unread are the data Sets without a template in force, and their octets; how\n\
      many records these hold isn't known. Replaced are the templates whose ID had a\n\
      different one in force, as where two exporters use the same IDs. A gap is a\n\
@@ -63,8 +63,11 @@ const INSPECT_HELP: &str =
      are those before it: sent twice, in another order, or by an exporter that\n\
      began anew. TIME is the least and the greatest Export Time, FIRST and LAST the\n\
      least and the greatest start of the flows, SECONDS how long the longest one\n\
-     lasts, - without one; N flows last more than 300 seconds. Nothing is written\n\
-     unless the whole File is accepted.\n\
+     lasts, - without one; N flows last more than 300 seconds. Placed are flows that\n\
+     start at the Export Time, as their record has no start that counts; uncounted\n\
+     those whose octets or packets are counted by elements that aren't summed;\n\
+     sampled those with a sampling rate, which no sum is multiplied by. Nothing is\n\
+     written unless the whole File is accepted.\n\
      Without a FILE standard input is read. The lines of FILEs begin with file N,\n\
      which counts them from 1; file is the first name of CSV and JSON. Each is read\n\
      by itself, in their order, up to the first that is refused, with its N.\n\
@@ -127,18 +130,41 @@ const TOTALS_HELP: &str =
      \x20         flowvault totals north south --since 2026-11-01 --each --csv";
 
 /// What `flows` does, in a line or two.
-const FLOWS_ABOUT: &str = "Writes the flows in the archive of a folder that aren't rolled";
+const FLOWS_ABOUT: &str = "Writes the flows in the archives of folders that aren't rolled";
 
 /// What help has below the arguments of `flows`.
 const FLOWS_HELP: &str =
     "Each line: START DOMAIN PROTOCOL OCTETS PACKETS, for the flows that start from\n\
      FROM on and before TO, in the order in which they were taken in. START is in\n\
-     seconds since 1970-01-01 00:00 UTC; PROTOCOL is - where a flow has none. --since\n\
-     and --until are those of totals. A damaged archive is reported as of check:\n\
-     status 5.\n\
+     seconds since 1970-01-01 00:00 UTC; PROTOCOL is - where a flow has none. FROM\n\
+     and TO, --since and --until are those of totals.\n\
+     Of several DIRs, up to 4096, the lines are those of each archive, after its\n\
+     number, which counts DIRs from 1; archive is the first name of CSV and JSON. The\n\
+     first archive that can't be asked is named: archive N, after the lines of those\n\
+     before it. A damaged archive is reported as of check: status 5.\n\
      \n\
      Examples: flowvault flows flows 1700000000 1700003600\n\
-     \x20         flowvault flows flows --since 1h";
+     \x20         flowvault flows flows --since 1h\n\
+     \x20         flowvault flows north south --since 1h --csv";
+
+/// What `records` does, in a line or two.
+const RECORDS_ABOUT: &str = "Writes the data records of flows of a span, with all their fields";
+
+/// What help has below the arguments of `records`.
+const RECORDS_HELP: &str =
+    "Each line: START DOMAIN record ID NAME=VALUE .., for the flows that start from\n\
+     FROM on and before TO, in the order in which they were taken in: START as of\n\
+     flows, then the record as of dump. With --json an object each: start, domain and\n\
+     template, then all fields by their names, numbers as numbers, addresses and\n\
+     octets in quotes. Records of Options Templates are no flows, and aren't written.\n\
+     --since and --until are those of totals. A damaged archive is reported as of\n\
+     check: status 5.\n\
+     \n\
+     Examples: flowvault records flows 1700000000 1700003600\n\
+     \x20         flowvault records flows --since 1h --json";
+
+/// What `--utc` does of records.
+const RECORDS_UTC: &str = "START as a date of UTC: 2026-11-25T06:00:00Z";
 
 /// What `feed` does, in a line or two.
 const FEED_ABOUT: &str = "Takes IPFIX Files into the archive of a folder";
@@ -157,7 +183,8 @@ const FEED_HELP: &str =
      nothing. A terminal on standard error is shown how much is read, the octet at\n\
      which a File stopped, which records it lacks: those without a template in force,\n\
      and those that Sequence Numbers leave out, and how many messages are in sums\n\
-     alone in the end; --warn shows these anywhere, but for how much is read.\n\
+     alone in the end; --warn shows these anywhere, but for how much is read. What a\n\
+     File lacks so far is said while it is read too, once a minute.\n\
      With --datagrams each read gives one message, as of a socket of datagrams. One\n\
      that isn't accepted, or is empty, is passed over; --warn says how many were, by\n\
      their refusals.\n\
@@ -225,7 +252,7 @@ const EXPLAIN_HELP: &str =
      \n\
      Example: flowvault explain 16";
 
-/// Which words `totals` takes.
+/// Which words a command over several archives takes.
 const FOLDERS: &str = "Folders of archives; then FROM and TO, where no moment is given";
 
 /// What `--each` asks for.
@@ -485,38 +512,45 @@ fn moments_command<'a>(
         .arg(until_argument(alloc))
 }
 
-/// The same, and takes a format.
-fn query_command<'a>(
+/// The command `records` with its help.
+fn records_command<'a>(alloc: Global) -> Result<Command<'a>, AllocError>
+    ensures shape { IfOk result (λ command. shape_of command ≡ records_shape) }
+    ensures own { IfOk result (λ command. (fields_of command).has_globals ≡ false) }
+{
+    moments_command(alloc, "records", RECORDS_ABOUT, RECORDS_HELP)?
+        .arg(flag(alloc, "json", JSON))?
+        .arg(flag(alloc, "utc", RECORDS_UTC))
+}
+
+/// A command that asks the archives of folders about a span, with its help.
+fn folders_command<'a>(
     alloc: Global,
     name: &'a str,
     about: &'a str,
     help: &'a str,
 ) -> Result<Command<'a>, AllocError>
-    ensures shape { IfOk result (λ command. shape_of command ≡ query_shape name.now) }
+    ensures shape { IfOk result (λ command. shape_of command ≡ folders_shape name.now) }
     ensures own { IfOk result (λ command. (fields_of command).has_globals ≡ false) }
 {
-    in_formats(alloc, moments_command(alloc, name, about, help)?)
-}
-
-/// The command `totals` with its folders and its span.
-fn folders_command<'a>(alloc: Global) -> Result<Command<'a>, AllocError>
-    ensures shape { IfOk result (λ command. shape_of command ≡ folders_shape) }
-    ensures own { IfOk result (λ command. (fields_of command).has_globals ≡ false) }
-{
-    Command::new(alloc, "totals")
-        .about(TOTALS_ABOUT)
-        .after_help(TOTALS_HELP)
+    Command::new(alloc, name)
+        .about(about)
+        .after_help(help)
         .arg(several(alloc, "DIR", FOLDERS))?
         .arg(since_argument(alloc))?
         .arg(until_argument(alloc))
 }
 
 /// The same, and takes a format.
-fn summed_command<'a>(alloc: Global) -> Result<Command<'a>, AllocError>
-    ensures shape { IfOk result (λ command. shape_of command ≡ summed_shape) }
+fn asking_command<'a>(
+    alloc: Global,
+    name: &'a str,
+    about: &'a str,
+    help: &'a str,
+) -> Result<Command<'a>, AllocError>
+    ensures shape { IfOk result (λ command. shape_of command ≡ asking_shape name.now) }
     ensures own { IfOk result (λ command. (fields_of command).has_globals ≡ false) }
 {
-    in_formats(alloc, folders_command(alloc)?)
+    in_formats(alloc, folders_command(alloc, name, about, help)?)
 }
 
 /// The command `totals`, with its help.
@@ -524,7 +558,7 @@ fn totals_command<'a>(alloc: Global) -> Result<Command<'a>, AllocError>
     ensures shape { IfOk result (λ command. shape_of command ≡ totals_shape) }
     ensures own { IfOk result (λ command. (fields_of command).has_globals ≡ false) }
 {
-    summed_command(alloc)?
+    asking_command(alloc, "totals", TOTALS_ABOUT, TOTALS_HELP)?
         .arg(option(
             alloc,
             "WORKERS",
@@ -664,7 +698,8 @@ fn with_queries<'a>(alloc: Global, version: &'a str) -> Result<Command<'a>, Allo
 {
     with_archives(alloc, version)?
         .subcommand(totals_command(alloc)?)?
-        .subcommand(query_command(alloc, "flows", FLOWS_ABOUT, FLOWS_HELP)?)
+        .subcommand(asking_command(alloc, "flows", FLOWS_ABOUT, FLOWS_HELP)?)?
+        .subcommand(records_command(alloc)?)
 }
 
 /// The program with these, and those that take Files into an archive.

@@ -34,6 +34,11 @@ const WRONG_SPAN: &str =
     "flowvault: FROM and TO are seconds since 1970-01-01 00:00 UTC, digits alone, 0 to 4294967296; --since and \
      --until, in their place, are as 2026-11-25, 2026-11-25T06:00, 1d, 6h or now\n";
 
+/// The line for seconds that no span has, or of a number of folders that aren't asked.
+const WRONG_FLOWS: &str =
+    "flowvault: FROM and TO are seconds since 1970-01-01 00:00 UTC, digits alone, 0 to 4294967296; --since and \
+     --until, in their place, are as 2026-11-25, 2026-11-25T06:00, 1d, 6h or now; DIR is given 1 to 4096 times\n";
+
 /// The line for seconds that no span has, or of a number of folders or workers that no scan has.
 const WRONG_TOTALS: &str =
     "flowvault: FROM and TO are seconds since 1970-01-01 00:00 UTC, digits alone, 0 to 4294967296; --since and \
@@ -99,6 +104,10 @@ pub(crate) fn refuse<W: Write, E: Write>(
         }
         LineError::Span => {
             tell_line(errors, WRONG_SPAN.as_bytes());
+            WRONG_LINE
+        }
+        LineError::Flows => {
+            tell_line(errors, WRONG_FLOWS.as_bytes());
             WRONG_LINE
         }
         LineError::Totals => {

@@ -6,7 +6,8 @@ ghost use Rattle.clap.specs.Matches.{found_of};
 ghost use Rattle.clap.specs.Walk.{rows_of};
 ghost use Rattle.clap.specs.Simple.{subcommand_rows_of};
 ghost use Rattle.flow_program.specs.Arguments.{changing, checked_in, create_in, fed_alone, fed_in, inspected_in};
-ghost use Rattle.flow_program.specs.Arguments.{queried, request_in, requested, totalled, totalled_in, without_list};
+ghost use Rattle.flow_program.specs.Arguments.{listed, listed_in, queried, request_in, requested, totalled};
+ghost use Rattle.flow_program.specs.Arguments.{totalled_in, without_list};
 ghost use Rattle.flow_program.specs.CommandLine.{asked};
 ghost use Rattle.flow_program.specs.Requested.{formatted_values, wrong_values, wrong_values_in, wrong_values_of};
 ghost use Rattle.flow_program.specs.Requested.{IsLineError};
@@ -16,18 +17,18 @@ ghost use Rattle.flow_program.specs.declared.request.LineError.TheVariants as Li
 use crate::arguments::{
     FileNames, FolderName, FolderNames, MomentSpan, are_swapped, explained_in, feeding_in,
     files_in, folder_in, folders_of, format_in, given_in, is_set, keep_in, kept_in_shell, passes,
-    plan_in, span_in, totals_span_in, width_in, words_in, workers_in,
+    plan_in, record_format_in, span_in, totals_span_in, width_in, words_in, workers_in,
 };
 use crate::explaining::Explanation;
 use crate::grammar::command_line;
 use clap::error::ErrorKind;
 use clap::{ArgMatches, Error};
 use flow_commands::{FeedPlan, NewArchive, Workers};
-use flow_report::{Format, Width};
+use flow_report::{Format, RecordFormat, Width};
 use std::alloc::{AllocError, Global};
 use std::convert::AsStr;
 
-/// The most archives whose totals are asked for at once.
+/// The most archives that are asked at once.
 const MOST_FOLDERS: usize = 4_096;
 
 /// A command with its arguments.
@@ -85,6 +86,18 @@ pub enum Request<'a> {
         span: MomentSpan,
         format: Format,
     },
+    /// The same of the archives of folders, each with its number.
+    FlowsOfSeveral {
+        folders: FolderNames<'a>,
+        span: MomentSpan,
+        format: Format,
+    },
+    /// Lines of the data records of these flows.
+    Records {
+        folder: FolderName<'a>,
+        span: MomentSpan,
+        format: RecordFormat,
+    },
     /// Files are taken into the archive of a folder.
     Feed {
         folder: FolderName<'a>,
@@ -121,8 +134,10 @@ pub enum LineError {
     Width,
     /// A number of a new archive isn't digits alone, or out of its range.
     Plan,
-    /// The span of `flows` isn't two numbers, digits alone and at most 2^32, nor by moments in their place.
+    /// The span of `records` isn't two numbers, digits alone and at most 2^32, nor by moments in their place.
     Span,
+    /// The same of the span of `flows`, or there is no folder, or there are more than 4,096.
+    Flows,
     /// The same of the span of `totals`, or how many workers scan isn't digits alone, from 1 to 64, or is said of several
     /// archives or with `--each`; or there is no folder, or there are more than 4,096.
     Totals,
@@ -198,10 +213,10 @@ fn queried<'a>(name: &str, arguments: &ArgMatches<'a>) -> Option<Request<'a>>
     ensures { result ≡ queried name.now (rows_of (found_of arguments.now)) }
 {
     match name {
-        "flows" => Some(Request::Flows {
+        "records" => Some(Request::Records {
             folder: folder_in(arguments)?,
             span: span_in(arguments)?,
-            format: format_in(arguments)?,
+            format: record_format_in(arguments),
         }),
         "explain" => Some(Request::Explain {
             refusal: explained_in(arguments)?,
@@ -331,6 +346,48 @@ fn totalled_in<'a>(
     }
 }
 
+/// The flows of one archive alone, or of 2 to 4,096.
+fn listed<'a>(folders: FolderNames<'a>, span: MomentSpan, format: Format) -> Option<Request<'a>>
+    ensures { result ≡ listed folders.entry span format }
+{
+    let count = folders.paths.len();
+    if count == 1 {
+        let folder = FolderName {
+            path: folders.paths[0],
+        };
+        return Some(Request::Flows {
+            folder,
+            span,
+            format,
+        });
+    }
+    if count == 0 || MOST_FOLDERS < count {
+        return None;
+    }
+    Some(Request::FlowsOfSeveral {
+        folders,
+        span,
+        format,
+    })
+}
+
+/// What `flows` asks for.
+fn listed_in<'a>(
+    alloc: Global,
+    arguments: &ArgMatches<'a>,
+) -> Result<Option<Request<'a>>, AllocError>
+    ensures { IfOk result (λ request. request ≡ listed_in (rows_of (found_of arguments.now))) }
+{
+    let Some(words) = words_in(arguments) else {
+        return Ok(None);
+    };
+    let folders = folders_of(alloc, arguments, words)?;
+    match (totals_span_in(arguments, words), format_in(arguments)) {
+        (Some(span), Some(format)) => Ok(listed(folders, span, format)),
+        _ => Ok(None),
+    }
+}
+
 /// What a command asks for, by its name and its arguments.
 fn requested<'a>(
     alloc: Global,
@@ -343,6 +400,7 @@ fn requested<'a>(
         "feed" => fed_in(alloc, arguments),
         "inspect" => inspected_in(alloc, arguments),
         "totals" => totalled_in(alloc, arguments),
+        "flows" => listed_in(alloc, arguments),
         _ => Ok(without_list(name, arguments)),
     }
 }
@@ -364,7 +422,8 @@ fn wrong_values_of(name: &str) -> LineError
     match name {
         "create" => LineError::Plan,
         "totals" => LineError::Totals,
-        "flows" => LineError::Span,
+        "flows" => LineError::Flows,
+        "records" => LineError::Span,
         "feed" => LineError::Files,
         "roll" => LineError::Keep,
         "merge" => LineError::Keep,

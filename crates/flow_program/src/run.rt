@@ -5,13 +5,14 @@ ghost use Rattle.std.specs.Io.KnownBytes.{Keeps};
 ghost use Rattle.flow_program.specs.Run.{DumpEnds, InspectInputEnds, MeasureEnds, Runs, IsAnswered, IsShown};
 
 use crate::archives::{
-    run_check, run_check_files, run_create, run_feed, run_flows, run_job, run_shell, run_totals,
+    run_check, run_check_files, run_create, run_feed, run_flows, run_job, run_records, run_shell,
+    run_totals,
 };
 use crate::explaining::Explanation;
 use crate::inspecting::run_inspect_files;
 use crate::refusing::refuse;
 use crate::request::{Request, parse};
-use crate::several::run_several;
+use crate::several::{run_several, totals_wanted};
 use crate::telling::{DONE, tell, write_octets};
 use flow_commands::{Progress, tell_fault, warn_of_input};
 use flow_disk::Disk;
@@ -19,7 +20,7 @@ use flow_folder::{FolderDisk, Lockable};
 use flow_inspect::inspect;
 use flow_manifest::JobKind;
 use flow_report::{Format, Width, dump, measure};
-use flow_several_folders::FolderViews;
+use flow_several_folders::{FolderViews, Wanted};
 use std::alloc::{AllocGlobal, Global};
 use std::convert::AsStr;
 use std::fs::Files;
@@ -178,7 +179,7 @@ where
             &FolderViews::new(rt, first_fault),
             &folders,
             span,
-            each,
+            totals_wanted(each),
             format,
             output,
             errors,
@@ -188,6 +189,25 @@ where
             span,
             format,
         } => run_flows(rt, &folder, first_fault, span, format, output, errors),
+        Request::FlowsOfSeveral {
+            folders,
+            span,
+            format,
+        } => run_several(
+            rt,
+            &FolderViews::new(rt, first_fault),
+            &folders,
+            span,
+            Wanted::FlowsOfEach,
+            format,
+            output,
+            errors,
+        ),
+        Request::Records {
+            folder,
+            span,
+            format,
+        } => run_records(rt, &folder, first_fault, span, format, output, errors),
         Request::Feed {
             folder,
             plan,

@@ -1,10 +1,10 @@
-//! A run of `totals` over several archives.
+//! A run over several archives.
 
 ghost use Rattle.std.specs.Prelude.{◌≡◌, ◌≢◌, ◌≤◌, ℕ, List, map, length, IfOk, string_bytes};
 ghost use Rattle.std.specs.Io.KnownBytes.{Keeps};
-ghost use Rattle.flow_commands.specs.Archives.{archive_printed};
+ghost use Rattle.flow_commands.specs.Archives.{archive_printed, archive_status};
 ghost use Rattle.flow_program.specs.Printed.{told_lines};
-ghost use Rattle.flow_program.specs.Several.{folders_status, numbered, text_reported};
+ghost use Rattle.flow_program.specs.Several.{folders_status, numbered, refused_text, text_reported, totals_wanted};
 ghost use Rattle.flow_program.specs.Several.{AreFoldersReported, FoldersEnd, SeveralEnd};
 ghost use Rattle.flow_report.specs.Writing.{AppendsFront};
 ghost use Rattle.flow_several.specs.Refusals.{several_text};
@@ -16,7 +16,7 @@ use flow_commands::{ArchiveRefusal, StartSpan};
 use flow_disk::{Disk, Faults};
 use flow_report::Format;
 use flow_several::SeveralRefusal;
-use flow_several_folders::{FoldersRefusal, Opener, Question, totals_of_folders};
+use flow_several_folders::{FoldersRefusal, Opener, Question, Wanted, ask_folders};
 use std::alloc::{AllocError, AllocGlobal, Global};
 use std::io::Write;
 use std::time::Clock;
@@ -73,6 +73,25 @@ fn report_text<E: Write>(
     tell_line(errors, lines.as_bytes());
 }
 
+/// Reports the refusal of the archive with this number. It answers the exit status.
+fn report_archive<E: Write>(
+    alloc: Global,
+    errors: &mut E,
+    number: u64,
+    refusal: &ArchiveRefusal,
+) -> u8
+    ensures status { result ≡ archive_status refusal.now }
+    ensures failed { 1 ≤ result }
+    ensures other { result ≢ 2 }
+    ensures most { result ≤ 5 }
+    ensures reported { AppendsFront (E.contents errors.old) (E.contents errors.new)
+        (told_lines (refused_text number refusal.now)) }
+{
+    let status = refusal.status();
+    report_text(alloc, errors, status, folder_text(alloc, number, refusal));
+    status
+}
+
 /// Reports why archives in folders aren't asked, or their answer isn't written. It answers the exit status.
 fn report_folders<E: Write>(alloc: Global, errors: &mut E, refusal: FoldersRefusal) -> u8
     ensures status { result ≡ folders_status refusal }
@@ -84,9 +103,7 @@ fn report_folders<E: Write>(alloc: Global, errors: &mut E, refusal: FoldersRefus
     match refusal {
         FoldersRefusal::Folder(number, error) => {
             let refusal = ArchiveRefusal::from(error);
-            let status = refusal.status();
-            report_text(alloc, errors, status, folder_text(alloc, number, &refusal));
-            status
+            report_archive(alloc, errors, number, &refusal)
         }
         FoldersRefusal::Several(refusal) => {
             let status = refusal.status();
@@ -97,18 +114,29 @@ fn report_folders<E: Write>(alloc: Global, errors: &mut E, refusal: FoldersRefus
 }
 
 /// What is asked of several archives.
-fn question_of(span: &StartSpan, each: bool, format: Format) -> Question
-    ensures { result ≡ record { from = span.now.from; to = span.now.to; each = each; format = format } }
+fn question_of(span: &StartSpan, wanted: Wanted, format: Format) -> Question
+    ensures { result ≡ record { from = span.now.from; to = span.now.to; wanted = wanted; format = format } }
 {
     Question {
         from: span.from(),
         to: span.to(),
-        each,
+        wanted,
         format,
     }
 }
 
-/// Runs `totals` over the archives of these folders.
+/// What is wanted of totals: of each archive, or of all together.
+pub(crate) fn totals_wanted(each: bool) -> Wanted
+    ensures { result ≡ totals_wanted each }
+{
+    if each {
+        Wanted::TotalsOfEach
+    } else {
+        Wanted::Totals
+    }
+}
+
+/// Runs `totals` or `flows` over the archives of these folders.
 pub(crate) fn run_several<
     'a,
     H: AllocGlobal + Clock,
@@ -121,14 +149,14 @@ pub(crate) fn run_several<
     opener: &O,
     folders: &FolderNames<'a>,
     span: MomentSpan,
-    each: bool,
+    wanted: Wanted,
     format: Format,
     output: &mut W,
     errors: &mut E,
 ) -> u8
-    ensures folders { FoldersEnd D.Disk O.opens O.refuses folders.now span each format (W.contents output.old)
+    ensures folders { FoldersEnd D.Disk O.opens O.refuses folders.now span wanted format (W.contents output.old)
         (W.contents output.new) (E.contents errors.old) (E.contents errors.new) result }
-    ensures runs { SeveralEnd (length folders.now) span each format (W.contents output.old) (W.contents output.new)
+    ensures runs { SeveralEnd (length folders.now) span wanted format (W.contents output.old) (W.contents output.new)
         (E.contents errors.old) (E.contents errors.new) result }
     ensures quiet { result ≡ 0 → Keeps (E.contents errors.old) (E.contents errors.new) }
     ensures status { result ≤ 5 }
@@ -139,10 +167,10 @@ pub(crate) fn run_several<
         Ok(seconds) => seconds,
         Err(refusal) => return tell_of_archive(alloc, errors, &refusal),
     };
-    let question = question_of(&seconds, each, format);
+    let question = question_of(&seconds, wanted, format);
     let paths = folders.paths.as_slice();
     let faults = &mut Faults::new();
-    match totals_of_folders(alloc, opener, paths, &question, output, faults) {
+    match ask_folders(alloc, opener, paths, &question, output, faults) {
         Ok(()) => DONE,
         Err(refusal) => report_folders(alloc, errors, refusal),
     }

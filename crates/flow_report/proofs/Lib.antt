@@ -9,3 +9,4 @@ pub mod Putting
 pub mod Fields
 pub mod Digits
 pub mod Losing
+pub mod Recording

@@ -10,3 +10,4 @@ pub mod Measure
 pub mod Telling
 pub mod Dump
 pub mod Lacks
+pub mod Records

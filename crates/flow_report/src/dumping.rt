@@ -116,7 +116,7 @@ fn next_message<R: Read>(
 
 impl HeldText {
     /// Room for a line of so many octets.
-    fn widen(&mut self, len: usize) -> Result<(), AllocError>
+    pub(crate) fn widen(&mut self, len: usize) -> Result<(), AllocError>
         ensures text { self.new.text ≡ self.old.text }
         ensures room { OnOk result (len ≤ vec_len self.new.line) }
     {
@@ -127,7 +127,7 @@ impl HeldText {
     }
 
     /// Appends the octets of the line from a place on to the text.
-    fn push_line(&mut self, start: usize) -> Result<(), AllocError>
+    pub(crate) fn push_line(&mut self, start: usize) -> Result<(), AllocError>
         requires { start ≤ vec_len self.old.line }
         ensures { OnOk result (self.new.text.items ≡ self.old.text.items ++ drop start self.old.line.items) }
     {
@@ -212,7 +212,7 @@ impl HeldText {
     }
 
     /// Takes the line of a record: where its fields are of fixed lengths and its line isn't long, at once.
-    fn put_record<W: Write>(
+    pub(crate) fn put_record<W: Write>(
         &mut self,
         output: &mut W,
         id: u16,

@@ -23,7 +23,7 @@ use itoa::write_digits;
 pub(crate) const FIELD_ROOM: usize = 128;
 
 /// One octet.
-fn put_octet(line: &mut [u8], at: usize, octet: u8) -> usize
+pub(crate) fn put_octet(line: &mut [u8], at: usize, octet: u8) -> usize
     requires { (1 ≤ at) × (at ≤ length line.old) }
     ensures put { IsPut line.old at line.new result (octet ∷ []) }
     ensures room { at ≤ result + 1 }
@@ -45,7 +45,7 @@ fn put_text(line: &mut [u8], at: usize, text: &[u8]) -> usize
 }
 
 /// A number in decimal.
-fn put_number(line: &mut [u8], at: usize, number: u64) -> usize
+pub(crate) fn put_number(line: &mut [u8], at: usize, number: u64) -> usize
     requires { (20 ≤ at) × (at ≤ length line.old) }
     ensures put { IsPut line.old at line.new result (decimal number) }
     ensures room { at ≤ result + 20 }
@@ -178,7 +178,7 @@ fn put_address6(line: &mut [u8], at: usize, octets: [u8; 16]) -> usize
 }
 
 /// The value of octets by an element's type.
-fn put_value(line: &mut [u8], at: usize, kind: ElementType, octets: &[u8]) -> usize
+pub(crate) fn put_value(line: &mut [u8], at: usize, kind: ElementType, octets: &[u8]) -> usize
     requires { (83 + 2 * length octets.now ≤ at) × (at ≤ length line.old) }
     ensures put { IsPut line.old at line.new result (value_text (value_by kind octets.now)) }
     ensures room { at ≤ result + 83 + 2 * length octets.now }

@@ -93,7 +93,7 @@ module _ (format : Format) (from to : ℕ) where
       ∙ sym (append_assoc own (each_lines format from to (number + 1) all)
       (archive_lines format (number + suc (length all)) (width_of_sums sums) (rows_of_sums from to sums)))
 
-front_then : (a b c : Option (List ℕ)) (text more : List ℕ) → Appends a b text → AppendsFront b c more
+pub front_then : (a b c : Option (List ℕ)) (text more : List ℕ) → Appends a b text → AppendsFront b c more
     → AppendsFront a c (text ++ more)
 front_then a b c text more whole (n, within, grown) = (
   length text + n,

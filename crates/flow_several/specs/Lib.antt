@@ -1,3 +1,4 @@
 pub mod Refusals
 pub mod Several
 pub mod Each
+pub mod Flows

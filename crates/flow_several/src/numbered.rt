@@ -33,7 +33,11 @@ fn without_protocol(format: Format) -> &'static str
 }
 
 /// Puts a protocol after a text, and a separator.
-fn push_protocol(text: &mut Vec<u8>, format: Format, protocol: Option<u8>) -> Result<(), AllocError>
+pub(crate) fn push_protocol(
+    text: &mut Vec<u8>,
+    format: Format,
+    protocol: Option<u8>,
+) -> Result<(), AllocError>
     ensures { OnOk result (text.new.items
         ≡ text.old.items ++ value_in format (codes "protocol", number_or_none protocol)
         ++ separator format.layout ∷ []) }

@@ -17,12 +17,13 @@ use std::alloc::AllocError;
 use std::error::Error;
 use std::fmt;
 
-/// Why an archive isn't summed with others, printed as its number, its name and what it carries.
+/// Why an archive isn't summed with others, or its flows aren't all listed, printed as its number, its name and what it
+/// carries.
 #[derive(Debug, Drop)]
 pub enum SummingRefusal {
     /// The archive can't be opened: 20 to 24, 30, or 11.
     Opening(OpenError),
-    /// Its sums aren't added to those of others.
+    /// Its sums aren't added to those of others, or one of its files can't be asked.
     Sums(TogetherError),
 }
 
@@ -52,10 +53,10 @@ impl SummingRefusal {
     }
 }
 
-/// Why the sums of several archives aren't written, printed as its number, its name and what it carries.
+/// Why the sums or the flows of several archives aren't written, printed as its number, its name and what it carries.
 #[derive(Debug, Drop)]
 pub enum SeveralRefusal {
-    /// The archive with this number, from 1 on, is the first that isn't summed.
+    /// The archive with this number, from 1 on, is the first that isn't summed or listed.
     Archive(u64, SummingRefusal),
     /// The sums of all archives by the width and by the wide width, which are one, don't fit one table: 14.
     SumSpent,

@@ -1,13 +1,23 @@
 -- Folders, opened one after the other.
 use Rattle.std.proofs.Common.{◌≡◌, ◌∙◌, ◌<◌, ◌+◌, ℕ, List, [], ◌∷◌, ◌++◌, length, map, take, drop, get_or}
-use Rattle.std.proofs.Common.{suc, refl, sym, ap, subst, arith}
+use Rattle.std.proofs.Common.{length-append, suc, refl, sym, ap, subst, arith, Option}
+use Rattle.std.proofs.KnownBytes.{Appends-nil, Keeps-refl}
 use Rattle.std.specs.Borrow.{Bor}
 use Rattle.std.specs.List.{AllZip}
 use Rattle.std.proofs.Math.ListN.{get_or-map}
 use Rattle.std.proofs.lemmas.List.{drop_more, length-map, length-take-le, take-append-drop, take_more}
 use Rattle.flow_folder.specs.declared.system.FolderError.{FolderError}
 use Rattle.flow_several.proofs.OneByOne.{zip_then}
-use Rattle.flow_several_folders.specs.Folders.{IsFirstUnopened, Path}
+use Rattle.flow_report.specs.declared.format.Format.{Format}
+use Rattle.flow_several.specs.declared.refusal.SeveralRefusal.{SeveralRefusal}
+use Rattle.flow_several.specs.declared.refusal.SeveralRefusal.TheVariants.{OutOfMemory}
+use Rattle.flow_several_folders.specs.declared.asking.Question.{Question}
+use Rattle.flow_several_folders.specs.declared.asking.Wanted.{Wanted}
+use Rattle.flow_several_folders.specs.declared.asking.Wanted.TheVariants.{Totals, TotalsOfEach, FlowsOfEach}
+use Rattle.flow_several_folders.specs.declared.refusal.FoldersRefusal.{FoldersRefusal}
+use Rattle.flow_several_folders.specs.declared.refusal.FoldersRefusal.TheVariants.{Folder, Several}
+use Rattle.flow_several_folders.specs.Folders.{AreUnopened, IsFirstUnopened, KeepsOrRows, Path}
+use Rattle.flow_several_folders.specs.Questions.{AnswersSomeRows, WritesSomeWanted}
 
 abbrev pub no_path : Bor Path
 no_path = record { ref_ptr = (0, 0); now = [] }
@@ -48,6 +58,26 @@ module _ {D : Type 0} (opens : Path → D → Type 0) (words : List (Bor Path)) 
       opened = each;
       refused = why;
     }
+
+-- memory ran out before any archive was asked
+memory_kept : (wanted : Wanted) (format : Format) (from to : ℕ) (known : Option (List ℕ))
+    → WritesSomeWanted wanted format from to known known OutOfMemory
+memory_kept Totals format from to known = Keeps-refl known
+memory_kept TotalsOfEach format from to known = ([], Appends-nil known)
+memory_kept FlowsOfEach format from to known = Keeps-refl known
+
+-- nothing is written where not all folders are open
+pub unopened_kept : {D : Type 0} (opens : Path → D → Type 0) (refuses : Path → FolderError → Type 0)
+    (folders : List Path) (q : Question) (count : ℕ) (known : Option (List ℕ)) → length folders ≡ count
+    → (e : FoldersRefusal) → AreUnopened opens refuses folders e → KeepsOrRows q count known known e
+unopened_kept opens refuses folders q count known is (Folder number e) first = (
+  omega (arith, first.place),
+  omega (arith, first.place, ap length first.all, length-append first.before (first.own ∷ first.after), is),
+  Keeps-refl known,
+)
+unopened_kept opens refuses folders q count known is (Several e) memory =
+    subst (λ (e : SeveralRefusal). AnswersSomeRows q known known e) (sym memory)
+    (memory_kept q.wanted q.format q.from q.to known)
 
 same_length : {A B : Type 0} (P : A → B → Type 0) (xs : List A) (ys : List B) → AllZip P xs ys → length ys ≡ length xs
 same_length P [] [] each = refl

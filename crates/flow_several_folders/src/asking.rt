@@ -1,4 +1,4 @@
-//! The totals of archives in folders.
+//! Archives in folders that are asked.
 
 ghost use Rattle.std.specs.Prelude.{◌≡◌, ℕ, false, length, map, IsTrue, IfErr, OnOk};
 ghost use Rattle.std.specs.List.{All};
@@ -11,17 +11,27 @@ use crate::opening::open_all;
 use crate::refusal::FoldersRefusal;
 use flow_disk::{Disk, Faults};
 use flow_report::Format;
-use flow_several::{SeveralRefusal, totals_of, totals_of_each};
+use flow_several::{SeveralRefusal, flows_of_each, totals_of, totals_of_each};
 use std::alloc::Global;
 use std::io::Write;
 
-/// What is asked of several archives: the totals of the intervals that start from `from` on and before `to`.
+/// What is asked of several archives.
+#[derive(Clone, Copy)]
+pub enum Wanted {
+    /// The totals of all together.
+    Totals,
+    /// Those of each, with its number first.
+    TotalsOfEach,
+    /// The flows of each that aren't rolled, with its number first.
+    FlowsOfEach,
+}
+
+/// What is asked of several archives: of the intervals, or flows, that start from `from` on and before `to`.
 #[derive(Clone, Copy)]
 pub struct Question {
     pub from: u64,
     pub to: u64,
-    /// Those of each archive, with its number first, and not those of all together.
-    pub each: bool,
+    pub wanted: Wanted,
     pub format: Format,
 }
 
@@ -46,19 +56,19 @@ fn answer<D: Disk, W: Write>(
     let Question {
         from,
         to,
-        each,
+        wanted,
         format,
     } = *question;
-    if each {
-        totals_of_each(alloc, disks, from, to, format, output, faults)
-    } else {
-        totals_of(alloc, disks, from, to, format, output, faults)
+    match wanted {
+        Wanted::Totals => totals_of(alloc, disks, from, to, format, output, faults),
+        Wanted::TotalsOfEach => totals_of_each(alloc, disks, from, to, format, output, faults),
+        Wanted::FlowsOfEach => flows_of_each(alloc, disks, from, to, format, output, faults),
     }
 }
 
 /// Opens folders, and then asks their archives, one after the other, in the order of the folders. A folder that can't
 /// be opened is named, the first by its number, and then nothing is asked.
-pub fn totals_of_folders<'a, D: Disk, O: Opener<'a, D>, W: Write>(
+pub fn ask_folders<'a, D: Disk, O: Opener<'a, D>, W: Write>(
     alloc: Global,
     opener: &O,
     folders: &[&'a str],

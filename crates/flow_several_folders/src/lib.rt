@@ -2,8 +2,8 @@
 //!
 //! Promised to the layer above: all folders are opened before the first archive is asked, and each disk is that of the
 //! folder at its place. A folder that can't be opened is named, the first by its number, and nothing is written. Of the
-//! disks `totals_of_folders` answers what flow_several promises: the totals of all archives together, or of each with
-//! its number first.
+//! disks `ask_folders` answers what flow_several promises: the totals of all archives together, or the totals or the
+//! flows of each with its number first.
 #![tactic(auto)]
 
 mod asking;
@@ -11,6 +11,6 @@ mod opener;
 mod opening;
 mod refusal;
 
-pub use asking::{Question, totals_of_folders};
+pub use asking::{Question, Wanted, ask_folders};
 pub use opener::{FolderViews, Opener};
 pub use refusal::FoldersRefusal;

@@ -4,9 +4,8 @@ use Rattle.flow_codec.specs.Stream.{progress, IsStep}
 use Rattle.flow_report.specs.declared.refusal.Refusal.TheVariants as refusal
 use Rattle.flow_report.proofs.Reached.{opened}
 use Rattle.flow_report.proofs.Summing.{err_of, short_at}
-use Rattle.flow_inspect.specs.Lasting.{none_lasted}
 use Rattle.flow_inspect.specs.Counting.{HasCounted}
-use Rattle.flow_inspect.proofs.Following.{always, begun, ended, ended_by, stepped, stopped_at}
+use Rattle.flow_inspect.proofs.Following.{always, begun, ended, ended_by, nothing, stepped, stopped_at}
 use Rattle.flow_inspect.proofs.inspecting.reports_of.Goals as goal
 
 pub messages-init : goal.messages-init
@@ -24,8 +23,8 @@ messages-preserved g c =
     (progress c.messages.reader (g.R.Read.remaining c.messages.input))
     (progress c.advance.new.self (g.R.Read.remaining c.advance.new.input))
     c.messages.templates c.walk_sets.new.templates c.messages.reports.entries c.add_message.new.reports.entries
-    (record { records = 0; options = 0; starts = None; lasted = none_lasted }) c.walk_sets.new.sink c.in-Ok.walked c.message.result.now
-    c.messages.invariant step c.message.ensures.value refl refl refl refl c.in-Ok.ensures.found c.in-Ok.ensures.unread
+    c.walk_sets.new.sink c.in-Ok.walked c.message.result.now
+    c.messages.invariant step c.message.ensures.value c.in-Ok.ensures.found c.in-Ok.ensures.unread
     c.in-Ok.ensures.replaced c.in_ok-add_message-in-Ok.ensures
 
 pub returns-clause-reports : goal.returns-clause-reports
@@ -61,6 +60,6 @@ returns-in-Err-clause-refused g c =
     let refused = stopped_at HasCounted (λ _ _ _ _. ⊥)
     (g.R.Read.remaining c.args.input.now) _ (progress c.messages.reader (g.R.Read.remaining c.messages.input))
     (progress c.advance.new.self (g.R.Read.remaining c.advance.new.input)) c.messages.templates
-    c.messages.reports.entries (record { records = 0; options = 0; starts = None; lasted = none_lasted }) c.message.result.now c.in-Err.stop
+    c.messages.reports.entries nothing c.message.result.now c.in-Err.stop
     c.messages.invariant step c.message.ensures.value c.in-Err.ensures.fault in
     rw (c.walk_refusal.ensures.value, c.count.ensures.value) refused

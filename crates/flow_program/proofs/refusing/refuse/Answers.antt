@@ -14,6 +14,10 @@ pub returns-in-Span-clause-told : goal.returns-in-Span-clause-told
 returns-in-Span-clause-told g c =
     rw c.in-Span.is (refl, Keeps-refl _, rw c.as_bytes-in-Span.ensures.value at c.tell_line-in-Span.ensures)
 
+pub returns-in-Flows-clause-told : goal.returns-in-Flows-clause-told
+returns-in-Flows-clause-told g c =
+    rw c.in-Flows.is (refl, Keeps-refl _, rw c.as_bytes-in-Flows.ensures.value at c.tell_line-in-Flows.ensures)
+
 pub returns-in-Totals-clause-told : goal.returns-in-Totals-clause-told
 returns-in-Totals-clause-told g c =
     rw c.in-Totals.is (refl, Keeps-refl _, rw c.as_bytes-in-Totals.ensures.value at c.tell_line-in-Totals.ensures)

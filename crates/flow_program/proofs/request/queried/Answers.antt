@@ -7,4 +7,4 @@ use Rattle.flow_program.proofs.request.queried.Goals as goal
 pub returns-in_default : goal.returns-in_default
 returns-in_default c =
     c.changing.ensures ∙ changing_name c.args.name.now (rows_of (found_of c.args.arguments.now))
-    c.in_default.not-flows c.in_default.not-explain
+    c.in_default.not-records c.in_default.not-explain

@@ -13,3 +13,7 @@ returns-else-options-clause-taken c = λ start taken h.
     (sym c.options.ensures ∙ c.if-options.false) c.saturating_add-self-else-options.result
     c.saturating_add-self-else-options.ensures c.flow_of.result c.flow_of.ensures c.widened-self.result
     c.widened-self.ensures c.with_flow-self.result c.with_flow-self.ensures
+    c.risen-self.result c.risen-self-else-options.result c.risen-self-else-options-2.result
+    (rw c.has_no_start.ensures at c.risen-self.ensures)
+    (rw (c.are_uncounted.ensures, c.elements_of-elements.ensures) at c.risen-self-else-options.ensures)
+    (rw c.elements_of-elements.ensures at c.risen-self-else-options-2.ensures)

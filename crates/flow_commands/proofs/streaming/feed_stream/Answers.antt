@@ -1,4 +1,0 @@
-use Rattle.flow_commands.proofs.streaming.feed_stream.Goals as goal
-
-pub returns : goal.returns
-returns g c = (c.stream-streamed.result.collected.refused, c.stream-streamed.ensures)

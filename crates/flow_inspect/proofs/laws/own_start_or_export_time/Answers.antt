@@ -1,0 +1,5 @@
+use Rattle.flow_inspect.proofs.Placing.{start_is}
+use Rattle.flow_inspect.proofs.laws.own_start_or_export_time.Goals as goal
+
+pub returns : goal.returns
+returns c = start_is

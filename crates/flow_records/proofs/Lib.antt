@@ -1,0 +1,4 @@
+pub mod Lines
+mod Ended
+mod HandedOn
+mod Unchanged
