@@ -44,7 +44,7 @@ class Run:
         self.place, self.words, self.given = place, words, given
         self.out, self.err, self.status = [], [], 0
         self.begins, self.columns, self.by, self.lines = None, None, None, []
-        self.is_full, self.is_unread, self.shown = False, False, None
+        self.is_full, self.is_unread, self.shown, self.wrote = False, False, None, None
 
     def ran(self, words, before):
         """Runs these words, and answers how the run ended, and what it wrote."""
@@ -80,19 +80,28 @@ class Run:
         return b"".join(sorted(octets.splitlines(True), key=lambda line: line.split()[self.by - 1]))
 
     def errors(self):
-        """The lines on standard error, with the one of a refusal that cases leave out: it is the last one, but for what
-        the system said."""
-        refused = re.match(r"flowvault: (\d+) [A-Z]", self.err[0]) if self.err else None
-        if not refused:
+        """The lines on standard error, with those of refusals that cases leave out: each is the last one of its
+        refusal, but for what the system said."""
+        refused = [re.match(r"flowvault: (\d+) [A-Z]", line) for line in self.err]
+        if not self.err or not refused[0]:
             return self.err
         last = len(self.err) - int(self.err[-1].startswith("flowvault: the system said: "))
-        return self.err[:last] + ["flowvault: see: flowvault explain " + refused[1]] + self.err[last:]
+        lines = []
+        for at in range(last):
+            if at and refused[at]:
+                lines.append("flowvault: see: flowvault explain " + number)
+            number = refused[at][1] if refused[at] else number
+            lines.append(self.err[at])
+        return lines + ["flowvault: see: flowvault explain " + number] + self.err[last:]
 
     def differs(self, got):
         """Yields each difference of what came, as (what, wanted, came)."""
         if got.returncode != self.status:
             yield "status", self.status, got.returncode
-        if self.begins is None:
+        if self.wrote is not None:
+            if got.stdout != self.wrote:
+                yield "wrote", self.wrote.hex(), got.stdout.hex()
+        elif self.begins is None:
             wanted = "".join(line + "\n" for line in self.out).encode()
             if self.sorted(got.stdout) != wanted:
                 yield "out", wanted, self.sorted(got.stdout)
@@ -374,7 +383,8 @@ class Reader:
             self.run = None
         elif not self.cases:
             raise Bad("'%s' stands before the first case" % word)
-        elif word in ("out", "out*", "lines", "has", "err", "status", "columns", "by", "full", "unread", "shown"):
+        elif word in ("out", "out*", "lines", "has", "err", "status", "columns", "by", "full", "unread", "shown",
+                      "wrote"):
             self.expect(word, rest)
         else:
             self.step(place, word, rest)
@@ -402,6 +412,8 @@ class Reader:
             self.run.is_full = True
         elif word == "unread":
             self.run.is_unread = True
+        elif word == "wrote":
+            self.run.wrote = octets_of(rest.split(), self.named)
         elif word == "shown":
             self.run.shown = octets_of(rest.split(), self.named)
         else:

@@ -2,14 +2,14 @@
 # `. flowvault.bash`. judge/completions.py holds it against the program's help.
 
 _flowvault() {
-    local commands='measure dump inspect create check totals flows records feed shell roll merge explain help'
+    local commands='measure dump inspect create check totals flows records export templates feed shell roll merge explain help'
     local current=${COMP_WORDS[COMP_CWORD]} previous=${COMP_WORDS[COMP_CWORD - 1]} words= paths=
     COMPREPLY=()
     if [ "$COMP_CWORD" -eq 1 ]; then
         words="$commands -h --help -V --version"
     else
         case $previous in
-        --limit | --wide | --keep | --from | --since | --until | --workers) return ;;
+        --limit | --wide | --keep | --from | --to | --since | --until | --workers) return ;;
         esac
         case ${COMP_WORDS[1]} in
         measure) words='--csv --json --utc --warn' ;;
@@ -20,6 +20,8 @@ _flowvault() {
         totals) words='--since --until --csv --json --utc --workers --each' paths=-d ;;
         flows) words='--since --until --csv --json --utc' paths=-d ;;
         records) words='--since --until --json --utc' paths=-d ;;
+        export) words='--from --to' paths=-d ;;
+        templates) paths=-d ;;
         feed) words='--keep --from --warn --datagrams' paths=-f ;;
         shell) words='--keep' paths=-d ;;
         roll | merge) paths=-d ;;

@@ -3,8 +3,8 @@
 # exporters"). Days are UTC's; where TODAY is set, it is the date of today.
 #
 # days.sh feed FOLDER [WORDS..]
-#     makes the archive FOLDER/DATE of today, where it isn't there, and feeds standard input to it, with these words
-#     besides. It rolls nothing.
+#     makes the archive FOLDER/DATE of today, where it isn't there, with the templates that the one of yesterday has in
+#     force, where there is one, and feeds standard input to it, with these words besides. It rolls nothing.
 # days.sh close EXPORTERS SUMS DAYS
 #     of each archive of a day before today writes the sums, once, to SUMS/EXPORTER/DATE.csv, and removes those whose
 #     sums are written and whose day is more than DAYS days before today. It names each that it can't ask, leaves that
@@ -17,6 +17,13 @@ number() {
     echo "$1" | tr -d -
 }
 
+# Gives the archive of today the templates of that of yesterday. Where these can't be had, that is said, and it goes on.
+hand_on() {
+    before=$1/$(date -u -d "$today - 1 day" +%F)
+    [ -d "$before" ] || return 0
+    flowvault templates "$before" | flowvault feed "$2" - --keep 4294967295 >/dev/null || true
+}
+
 # (an archive has its name once it is whole, and is fed once its name is on the disk)
 feed() {
     folder=$1 archive=$1/$today
@@ -24,7 +31,7 @@ feed() {
     if [ ! -d "$archive" ]; then
         rm -rf "$archive.new"
         mkdir -p "$archive.new" && flowvault create "$archive.new" 300 --limit 16777216 --wide 300 &&
-            mv "$archive.new" "$archive" || exit
+            hand_on "$folder" "$archive.new" && mv "$archive.new" "$archive" || exit
     fi
     sync "$folder" || exit
     exec flowvault feed "$archive" - --keep 4294967295 --warn "$@"

@@ -20,7 +20,7 @@ BESIDE = 65_536
 LIMIT = 1 << 20
 
 # How often a command goes through all files: an opening does once, and what is asked then, times of flows among it,
-# once more.
+# once more. An export goes through the file of its first message twice more: for the templates before it, and to write.
 RUNS = (
     (1, ("check", "a")),
     (2, ("check", "a", "--files")),
@@ -28,6 +28,8 @@ RUNS = (
     (2, ("totals", "a", *ALL, "--workers", "3")),
     (2, ("flows", "a", *ALL)),
     (2, ("records", "a", *ALL)),
+    (3, ("export", "a")),
+    (1, ("templates", "a")),
     (2, ("shell", "a")),
     (2, ("roll", "a", "0")),
 )

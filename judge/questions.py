@@ -1,12 +1,12 @@
 #!/usr/bin/env python3
-"""questions.py PROGRAM: shows that `check`, `check --files`, `totals`, `flows` and `records` only read an archive.
-Archives that are settled, that a killed `feed` left, and of which files are longer than they are to be or no longer
-named, are asked: as they are, without any permission to write, by another user, on a read-only mount, and beside others
-that ask. Each time the folder must be the same afterwards (names, octets, modes, times), and the answers those that
-come after the archive was opened to be changed (by a `roll` that rolls nothing). Where strace may trace, no call that
-changes a file may be made, none that syncs, and no file opened for more than reading. A damaged archive is refused as
-that roll refuses it. While a `feed` runs, questions are refused; while a question runs, `feed` is. And what a command
-has left that ended is opened to be changed without a write.
+"""questions.py PROGRAM: shows that `check`, `check --files`, `totals`, `flows`, `records`, `export` and `templates`
+only read an archive. Archives that are settled, that a killed `feed` left, and of which files are longer than they are
+to be or no longer named, are asked: as they are, without any permission to write, by another user, on a read-only
+mount, and beside others that ask. Each time the folder must be the same afterwards (names, octets, modes, times), and
+the answers those that come after the archive was opened to be changed (by a `roll` that rolls nothing). Where strace
+may trace, no call that changes a file may be made, none that syncs, and no file opened for more than reading. A damaged
+archive is refused as that roll refuses it. While a `feed` runs, questions are refused; while a question runs, `feed`
+is. And what a command has left that ended is opened to be changed without a write.
 
 A line is printed for each difference, and one for each case that can't be played here, which begins with `skipped`;
 the last line is `N cases of questions: D differ`, and the status is 0 where D is 0, else 1."""
@@ -26,7 +26,7 @@ import time
 SECONDS = 120
 ALL = ("0", "4294967296")
 QUESTIONS = (("check",), ("check", "--files"), ("totals", *ALL), ("totals", *ALL, "--workers", "1"), ("records", *ALL),
-             ("flows", *ALL))
+             ("export",), ("templates",), ("flows", *ALL))
 NOTHING = "4294967295"
 IN_USE = ("flowvault: 30 Fault\nflowvault: the folder is in use, by a flowvault that still runs\n"
           "flowvault: see: flowvault explain 30\n")
@@ -60,9 +60,9 @@ def file_of(domain, count, seed):
 
 
 def ran(*words, given=b"", within=()):
-    """What a command answers: its status, and what it wrote."""
+    """What a command answers: its status, and what it wrote, each octet as a character."""
     it = subprocess.run([*within, *words], input=given, capture_output=True, timeout=SECONDS)
-    return it.returncode, it.stdout.decode(), it.stderr.decode()
+    return it.returncode, it.stdout.decode("latin-1"), it.stderr.decode("latin-1")
 
 
 def seen(folder):

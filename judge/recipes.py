@@ -1,12 +1,12 @@
 #!/usr/bin/env python3
-"""recipes.py PROGRAM: runs recipes of docs/OPERATING.md, as that page has them, over an archive of a month with a flow in
-each interval of 300 seconds but some: the bill of the month, and the 95th percentile, which is compared with one
+"""recipes.py PROGRAM: runs recipes of docs/OPERATING.md, as that page has them, over an archive of a month with a flow
+in each interval of 300 seconds but some: the bill of the month, and the 95th percentile, which is compared with one
 reckoned here. They are run on single flows, after `roll`, and after `merge`, when the percentile has no answer and the
 recipe has to say so. Then examples/days.sh: the month in three archives of a day each, their sums as files, and the
-bill of these; and what an archive lacks. And examples/metrics.py over archives that are well, in use, damaged and not
-there, and while Files are fed that lack records. And who sent most in an hour, by awk, and by jq where that is there.
-Prints each difference, and ends with 'N cases of recipes: M differ';
-its status is 0 where M is 0, else 1."""
+bill of these; what an archive lacks; and two days, the second of which has its templates from the first. And
+examples/metrics.py over archives that are well, in use, damaged and not there, and while Files are fed that lack
+records. And who sent most in an hour, by awk, and by jq where that is there. Prints each difference, and ends with 'N
+cases of recipes: M differ'; its status is 0 where M is 0, else 1."""
 import json
 import os
 import re
@@ -99,15 +99,30 @@ def days(trial, octets):
 
 
 def lacks(trial, messages):
-    """What an archive lacks of which a message was lost, by its segments, as by the File that was fed; but for the
-    number of messages, among which those are that give a segment its templates."""
+    """What an archive lacks of which a message was lost, as it is exported, is what the File lacks that was fed."""
     with open(os.path.join(trial.place, "lost"), "wb") as file:
         file.write(b"".join(messages[:40] + messages[41:]))
     trial.run("mkdir day && flowvault create day 300 --limit 65535 && flowvault feed day lost --keep 4294967295")
-    of_file, of_segments = (re.sub(r"messages \d+ ", "", trial.run(it).stdout)
-                            for it in ("flowvault inspect < lost", recipe('head -c "$octets"')))
-    trial.compare("what a day lacks", of_file, of_segments)
-    trial.compare("that a day lacks records", True, " gaps 1 missing %d " % FLOWS in of_segments)
+    of_file, of_archive = (trial.run(it).stdout for it in ("flowvault inspect < lost", recipe("flowvault export day")))
+    trial.compare("what a day lacks", of_file, of_archive)
+    trial.compare("that a day lacks records", True, " gaps 1 missing %d " % FLOWS in of_archive)
+
+
+def change_of_day(trial, messages):
+    """Messages of which only the first has the template, fed on two days by days.sh: the second day's archive has the
+    template from the first one, and both have all flows; and it lacks what was lost between the days."""
+    for name, part in (("all", messages), ("first", messages[:40]), ("second", messages[40:]), ("late", messages[41:])):
+        with open(os.path.join(trial.place, name), "wb") as file:
+            file.write(b"".join(part))
+    lacking = "flowvault: warning: file 1 (-): %d records are missing, in 1 gaps of sequence numbers\n" % FLOWS
+    for port, second, said in ((4741, "second", ""), (4742, "late", lacking)):
+        for date, part, warned in (("2023-11-14", "first", ""), ("2023-11-15", second, said)):
+            came = trial.run("TODAY=%s '%s' feed udp/%d < %s" % (date, DAYS, port, part))
+            trial.compare("days.sh feed on " + date, (0, warned), (came.returncode, came.stderr))
+    wanted = trial.run("flowvault measure 300 < all").stdout
+    trial.compare("all flows of two days", wanted, trial.run("flowvault totals udp/4741/* 0 4294967296").stdout)
+    lacked = trial.run("flowvault export udp/4742/2023-11-15 | flowvault inspect").stdout
+    trial.compare("what is lost between two days", True, " gaps 1 missing %d " % FLOWS in lacked)
 
 
 def measured(trial, words):
@@ -212,6 +227,7 @@ def main(program):
             trial.compare("the percentile after " + what, (0, "%d\n" % rate), (came.returncode, came.stdout))
         days(trial, octets)
         lacks(trial, messages_of(octets))
+        change_of_day(trial, messages_of(octets))
         metrics(trial, messages_of(octets))
         talkers(trial)
     print("%d cases of recipes: %d differ" % (trial.cases, trial.differ))

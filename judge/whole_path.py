@@ -7,8 +7,9 @@ third one sends over TCP; on the first day its connection ends within a message,
 Messages are lost on their way, and on the second day some come before their template.
 
 What each `feed` answers is compared with what was sent, to the line; what `totals` answers of all archives, of each, and
-of each date, with the exporters' own counts, whose sums pass 64 bits; and so are the totals once the first day is
-rolled and merged, and those of the second day once the first one is removed.
+of each date, with the exporters' own counts, whose sums pass 64 bits; so are those of new archives, to which each of
+these is fed as it is exported, in two parts; and so are the totals once the first day is rolled and merged, and those
+of the second day once the first one is removed.
 
 It prints each difference, and ends with 'N cases of the whole path: M differ'; its status is 0 where M is 0, else 1."""
 import concurrent.futures
@@ -244,6 +245,40 @@ def asked(trial, exporters):
                    all_of(every).sums(WIDTH, span=(DAYS[day], DAYS[day] + DAY)))
 
 
+def octets_of(trial, folder, first, last):
+    """The octets of messages of an archive, exported."""
+    words = [trial.program, "export", trial.at(folder), "--from", str(first), "--to", str(last)]
+    return subprocess.run(words, stdout=subprocess.PIPE, timeout=SECONDS).stdout
+
+
+def divided(octets):
+    """The messages of a File."""
+    messages = []
+    while octets:
+        end = max(16, int.from_bytes(octets[2:4], "big"))
+        messages.append(octets[:end])
+        octets = octets[end:]
+    return messages
+
+
+def exported(trial, exporters):
+    """Each archive is exported in two parts, whose octets end with those of its messages, and two new archives that
+    they are fed to have its totals."""
+    every = [exporter.counts[day] for day in range(2) for exporter in exporters]
+    for folder, given in zip(folders(exporters, 0, 1), every):
+        trial.go_on("export", folder)
+        parts, names = (given.messages[:HALF], given.messages[HALF:]), []
+        for number, part in enumerate(parts):
+            octets = octets_of(trial, folder, 1 + HALF * number, HALF * number + len(part))
+            messages = divided(octets)
+            trial.compare("export", str(part), str(messages[len(messages) - len(part):]))
+            names.append("%s-%d" % (folder.replace("/", "-"), number))
+            os.mkdir(trial.at(names[-1]))
+            trial.runs(["create", names[-1], WIDTH, "--limit", LEAST])
+            trial.runs(["feed", names[-1], "-", *KEEP_ALL], "fed 1 %d\n" % len(messages), given=octets)
+        trial.runs(["totals", *names, *ALL], given.sums(WIDTH))
+
+
 def sealed(trial, folder):
     """How many segments of an archive are sealed: of one that a stream was fed to, it depends on its reads."""
     ran = subprocess.run([trial.program, "check", trial.at(folder)], stdout=subprocess.PIPE, timeout=SECONDS)
@@ -281,6 +316,7 @@ def main(program):
             for day in range(2):
                 collected(trial, exporters, day)
             asked(trial, exporters)
+            exported(trial, exporters)
             kept(trial, exporters)
         except Hung:
             pass

@@ -27,7 +27,7 @@ use Rattle.flow_commands.specs.ArchiveFiles.{ListsNoFiles}
 use Rattle.flow_commands.specs.Check.{standing_line, standing_of}
 use Rattle.flow_commands.specs.Archives.{of_query}
 use Rattle.flow_commands.specs.Asking.{IsNotFound}
-use Rattle.flow_commands.proofs.Asked.{sums_told}
+use Rattle.flow_commands.proofs.OpenedAnswers.{sums_told}
 
 -- where less fits, a sum is spent for more
 pub spent_for : (first : ℕ) (fit other : Type 0) → (other → fit) → (e : ReadRefusal) → IsTotalsRefusal first fit e

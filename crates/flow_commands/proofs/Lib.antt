@@ -1,15 +1,15 @@
 pub mod StandingIs
 pub mod FirstState
 pub mod Unwritten
-pub mod Asked
+pub mod OpenedAnswers
 pub mod Causes
 mod AllFed
-mod Unchanged
-mod Ended
+pub mod Unchanged
+pub mod Endings
 mod Lines
 mod Jobs
 mod FileLines
-mod HandedOn
+pub mod HandedOn
 mod KeptLines
 mod KnownStarts
 mod OneEach

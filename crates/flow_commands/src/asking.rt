@@ -13,14 +13,14 @@ use std::alloc::{AllocError, Global};
 
 /// An archive that is asked: its files, and the width of its intervals.
 #[derive(Drop)]
-pub(crate) struct Asked<S: SealedFile> {
-    pub(crate) snapshot: Snapshot<S>,
+pub struct Asked<S: SealedFile> {
+    pub snapshot: Snapshot<S>,
     /// In seconds.
-    pub(crate) width: u32,
+    pub width: u32,
 }
 
 /// What there is now of an archive, to be asked.
-pub(crate) fn to_ask<D: Disk>(
+pub fn to_ask<D: Disk>(
     alloc: Global,
     archive: &mut Archive<D>,
 ) -> Result<Asked<D::Sealed>, AllocError>

@@ -25,7 +25,7 @@ impl<S: Directory> Leave for FolderDisk<S> {
 
 /// What a command answers where it gives an archive back, or the disk with a refusal. Both are dropped, which leaves a
 /// folder to others again.
-pub(crate) fn ended<D: Disk, E: Drop>(given: Result<Archive<D>, Refused<D, E>>) -> Result<(), E>
+pub fn ended<D: Disk, E: Drop>(given: Result<Archive<D>, Refused<D, E>>) -> Result<(), E>
     ensures { result ≡ done_of given }
 {
     match given {

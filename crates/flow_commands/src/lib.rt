@@ -30,9 +30,10 @@ mod warning;
 
 pub use archive_files::{check_files, check_files_in};
 pub use archive_refusal::ArchiveRefusal;
+pub use asking::{Asked, to_ask};
 pub use checking::{Standing, check, check_in};
 pub use creating::{create, create_in};
-pub use ending::Leave;
+pub use ending::{Leave, ended};
 pub use feed_line::fed_line;
 pub use feeding::feed_in;
 pub use folder_fault::FolderFault;

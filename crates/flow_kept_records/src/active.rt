@@ -14,10 +14,10 @@ ghost use Rattle.flow_kept_records.specs.Records.{records_within, HaveOwnRecords
 use crate::listing::Listing;
 use crate::message::tell_message;
 use crate::refusal::RecordsRefusal;
-use crate::restated::restated;
 use bytes::Bytes;
 use flow_codec::Templates;
 use flow_refusals::ReadRefusal;
+use flow_snapshot::restated;
 use std::alloc::Global;
 use std::io::Write;
 

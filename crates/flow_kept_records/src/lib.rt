@@ -13,7 +13,6 @@ mod listing;
 mod message;
 mod part;
 mod refusal;
-mod restated;
 
 pub use laws::records_are_flows;
 pub use listing::write_records;

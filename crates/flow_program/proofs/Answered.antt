@@ -94,12 +94,14 @@ abbrev IsOurs : LineError → Type 0
 IsOurs line.Width = ⊤
 IsOurs line.Plan = ⊤
 IsOurs line.Span = ⊤
+IsOurs line.Folders = ⊤
 IsOurs line.Flows = ⊤
 IsOurs line.Totals = ⊤
 IsOurs line.Swapped = ⊤
 IsOurs line.Keep = ⊤
 IsOurs line.Files = ⊤
 IsOurs line.Number = ⊤
+IsOurs line.Messages = ⊤
 IsOurs line.Formats = ⊤
 IsOurs line.OutOfMemory = ⊤
 IsOurs (line.Parser e) = ⊥
@@ -110,7 +112,8 @@ either_ours false this other is_this is_other = is_other
 
 named_ours : (name : Text) → IsOurs (wrong_values_of name)
 named_ours name =
-    let numbered : LineError = if bytes_eq (codes "explain") name then line.Number else line.Width in
+    let exported : LineError = if bytes_eq (codes "export") name then line.Messages else line.Width in
+    let numbered : LineError = if bytes_eq (codes "explain") name then line.Number else exported in
     let shelled : LineError = if bytes_eq (codes "shell") name then line.Keep else numbered in
     let merged : LineError = if bytes_eq (codes "merge") name then line.Keep else shelled in
     let rolled : LineError = if bytes_eq (codes "roll") name then line.Keep else merged in
@@ -118,7 +121,9 @@ named_ours name =
     let recorded : LineError = if bytes_eq (codes "records") name then line.Span else fed in
     let listed : LineError = if bytes_eq (codes "flows") name then line.Flows else recorded in
     let totalled : LineError = if bytes_eq (codes "totals") name then line.Totals else listed in
-    either_ours (bytes_eq (codes "create") name) line.Plan totalled tt
+    let checked : LineError = if bytes_eq (codes "check") name then line.Folders else totalled in
+    either_ours (bytes_eq (codes "create") name) line.Plan checked tt
+    (either_ours (bytes_eq (codes "check") name) line.Folders totalled tt
     (either_ours (bytes_eq (codes "totals") name) line.Totals listed tt
     (either_ours (bytes_eq (codes "flows") name) line.Flows recorded tt
     (either_ours (bytes_eq (codes "records") name) line.Span fed tt
@@ -126,7 +131,8 @@ named_ours name =
     (either_ours (bytes_eq (codes "roll") name) line.Keep merged tt
     (either_ours (bytes_eq (codes "merge") name) line.Keep shelled tt
     (either_ours (bytes_eq (codes "shell") name) line.Keep numbered tt
-    (either_ours (bytes_eq (codes "explain") name) line.Number line.Width tt tt))))))))
+    (either_ours (bytes_eq (codes "explain") name) line.Number exported tt
+    (either_ours (bytes_eq (codes "export") name) line.Messages line.Width tt tt))))))))))
 
 values_ours : (command : Option (Text × List Row)) → IsOurs (wrong_values command)
 values_ours None = tt
@@ -156,12 +162,14 @@ wrong_words : (asking : List Text) (e : LineError) → e ≡ wrong_values (subco
 wrong_words asking line.Width is none = (none, is)
 wrong_words asking line.Plan is none = (none, is)
 wrong_words asking line.Span is none = (none, is)
+wrong_words asking line.Folders is none = (none, is)
 wrong_words asking line.Flows is none = (none, is)
 wrong_words asking line.Totals is none = (none, is)
 wrong_words asking line.Swapped is none = (none, is)
 wrong_words asking line.Keep is none = (none, is)
 wrong_words asking line.Files is none = (none, is)
 wrong_words asking line.Number is none = (none, is)
+wrong_words asking line.Messages is none = (none, is)
 wrong_words asking line.Formats is none = (none, is)
 wrong_words asking line.OutOfMemory is none = tt
 wrong_words asking (line.Parser e) is none =

@@ -9,3 +9,4 @@ pub mod Told
 pub mod CommandWords
 pub mod Verdicts
 pub mod Walking
+mod Checked

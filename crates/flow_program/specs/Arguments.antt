@@ -8,9 +8,11 @@ use Rattle.flow_manifest.specs.Limits.{greatest_width, least_limit, greatest_lim
 use Rattle.clap.specs.Walk.{Row, Text, all_of, first_of}
 use Rattle.flow_program.specs.declared.request.Request.{Request}
 use Rattle.flow_program.specs.declared.request.Request.TheVariants.{Measure, Dump, Inspect, InspectFiles}
-use Rattle.flow_program.specs.declared.request.Request.TheVariants.{Create, Check, CheckFiles}
+use Rattle.flow_program.specs.declared.request.Request.TheVariants.{Create, Check, CheckFiles, CheckSeveral}
 use Rattle.flow_program.specs.declared.request.Request.TheVariants.{Totals, TotalsOfSeveral, Flows, FlowsOfSeveral, Records}
 use Rattle.flow_program.specs.declared.request.Request.TheVariants.{Feed, Shell, Roll, Merge, Explain}
+use Rattle.flow_program.specs.declared.request.Request.TheVariants.{Export, Templates}
+use Rattle.flow_export_folder.specs.declared.span.MessageSpan.{MessageSpan}
 use Rattle.flow_refusals.specs.Table.{is_refusal}
 use Rattle.flow_program.specs.declared.arguments.MomentSpan.{MomentSpan}
 use Rattle.flow_moments.specs.declared.moment.Moment.{Moment}
@@ -276,13 +278,43 @@ explained_in rows =
 abbrev pub shelled_in : List Row → Option Request
 shelled_in rows = option_and_then (λ folder. option_map (Shell folder) (kept_or 4294967295 rows)) (folder_in rows)
 
+-- the number of the first message that `export` asks for, where one is given, and that of the last, or else the greatest
+abbrev pub first_in : List Row → Option (Option ℕ)
+first_in rows =
+    option_map_or (λ word. option_map Some (number_between 1 (too_many_messages - 1) word)) (first_of (codes "N") rows)
+    (Some None)
+
+abbrev pub last_in : List Row → Option ℕ
+last_in rows =
+    option_map_or (number_between 0 (too_many_messages - 1)) (first_of (codes "M") rows) (Some (too_many_messages - 1))
+
+-- the last one isn't before the one that comes before the first
+abbrev pub ordered : MessageSpan → Option MessageSpan
+ordered span = if option_map_or (λ from. nat_lt span.to (from - 1)) span.from false then None else Some span
+
+abbrev pub messages_in : List Row → Option MessageSpan
+messages_in rows =
+    option_and_then (λ from. option_and_then (λ to. ordered (record { from = from; to = to })) (last_in rows))
+    (first_in rows)
+
+-- what `export` asks for
+abbrev pub exported_in : List Row → Option Request
+exported_in rows = option_and_then (λ folder. option_map (Export folder) (messages_in rows)) (folder_in rows)
+
+-- what the name of a command that exports an archive, and the values of its arguments, ask for
+abbrev pub exporting : Text → List Row → Option Request
+exporting name rows =
+    if bytes_eq (codes "export") name then exported_in rows
+    else if bytes_eq (codes "templates") name then option_map Templates (folder_in rows)
+    else None
+
 -- what the name of a command that changes an archive, and the values of its arguments, ask for
 abbrev pub changing : Text → List Row → Option Request
 changing name rows =
     if bytes_eq (codes "roll") name then rolled_in Roll rows
     else if bytes_eq (codes "merge") name then rolled_in Merge rows
     else if bytes_eq (codes "shell") name then shelled_in rows
-    else None
+    else exporting name rows
 
 -- what a query's name and the values of its arguments ask for
 abbrev pub queried : Text → List Row → Option Request
@@ -291,10 +323,16 @@ queried name rows =
     else if bytes_eq (codes "explain") name then option_map Explain (explained_in rows)
     else changing name rows
 
--- what `check` asks for: with its files, or without
+-- one archive alone, or 2 to 4,096: with their files, or without
+abbrev pub checked : List Text → Bool → Option Request
+checked folders files =
+    if length folders == 1 then Some (if files then CheckFiles (get_or folders 0 []) else Check (get_or folders 0 []))
+    else if length folders == 0 || nat_lt 4096 (length folders) then None
+    else Some (CheckSeveral folders files)
+
+-- what `check` asks for
 abbrev pub checked_in : List Row → Option Request
-checked_in rows =
-    option_map (λ folder. if is_set (codes "files") rows then CheckFiles folder else Check folder) (folder_in rows)
+checked_in rows = option_and_then (λ words. checked words (is_set (codes "files") rows)) (all_of (codes "DIR") rows)
 
 -- what the name of a command that is given no list, and the values of its arguments, ask for
 abbrev pub without_list : Text → List Row → Option Request
@@ -302,7 +340,6 @@ without_list name rows =
     if bytes_eq (codes "measure") name then measured_in rows
     else if bytes_eq (codes "dump") name then Some Dump
     else if bytes_eq (codes "create") name then create_in rows
-    else if bytes_eq (codes "check") name then checked_in rows
     else queried name rows
 
 -- what a command's name and the values of its arguments ask for
@@ -312,6 +349,7 @@ requested name rows =
     else if bytes_eq (codes "inspect") name then inspected_in rows
     else if bytes_eq (codes "totals") name then totalled_in rows
     else if bytes_eq (codes "flows") name then listed_in rows
+    else if bytes_eq (codes "check") name then checked_in rows
     else without_list name rows
 
 abbrev pub request_in : Option (Text × List Row) → Option Request

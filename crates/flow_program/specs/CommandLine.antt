@@ -71,7 +71,7 @@ abbrev pub inspect_shape : Shape
 inspect_shape = record (new_shape (codes "inspect")) { rules = any_number (codes "FILE") ∷ format_rules }
 
 abbrev pub check_shape : Shape
-check_shape = record (new_shape (codes "check")) { rules = folder_rule ∷ flag (codes "files") ∷ [] }
+check_shape = record (new_shape (codes "check")) { rules = several (codes "DIR") ∷ flag (codes "files") ∷ [] }
 
 -- the span of starts that `flows` asks about, by numbers
 abbrev pub span_shape : Text → Shape
@@ -134,6 +134,14 @@ passing_shape = record kept_shape {
 abbrev pub feed_shape : Shape
 feed_shape = record passing_shape { rules = passing_shape.rules ++ flag (codes "datagrams") ∷ [] }
 
+abbrev pub export_shape : Shape
+export_shape = record (new_shape (codes "export")) {
+  rules = folder_rule ∷ option (codes "N") (codes "from") ∷ option (codes "M") (codes "to") ∷ [];
+}
+
+abbrev pub templates_shape : Shape
+templates_shape = record (new_shape (codes "templates")) { rules = folder_rule ∷ [] }
+
 abbrev pub shell_shape : Shape
 shell_shape = record (new_shape (codes "shell")) {
   rules = folder_rule ∷ option (codes "KEEP") (codes "keep") ∷ [];
@@ -151,7 +159,8 @@ explain_shape = record (new_shape (codes "explain")) { rules = needed (codes "NU
 -- the commands whose arguments are asked for as the parser reads them
 abbrev pub parsed_names : List Text
 parsed_names = codes "inspect" ∷ codes "create" ∷ codes "check" ∷ codes "totals" ∷ codes "flows" ∷ codes "records"
-    ∷ codes "feed" ∷ codes "shell" ∷ codes "roll" ∷ codes "merge" ∷ codes "explain" ∷ []
+    ∷ codes "export" ∷ codes "templates" ∷ codes "feed" ∷ codes "shell" ∷ codes "roll" ∷ codes "merge"
+    ∷ codes "explain" ∷ []
 
 -- the program with the commands that read standard input
 abbrev pub with_streams : App
@@ -167,9 +176,13 @@ with_queries =
     with_subcommand (with_subcommand (with_subcommand with_archives totals_shape) (asking_shape (codes "flows")))
     records_shape
 
+-- and with those that export it
+abbrev pub with_exports : App
+with_exports = with_subcommand (with_subcommand with_queries export_shape) templates_shape
+
 -- and with those that take Files into it
 abbrev pub with_feeding : App
-with_feeding = with_subcommand (with_subcommand with_queries feed_shape) shell_shape
+with_feeding = with_subcommand (with_subcommand with_exports feed_shape) shell_shape
 
 -- and with those that roll its files
 abbrev pub with_rolling : App

@@ -4,4 +4,6 @@ pub mod Requested
 pub mod Printed
 pub mod Inspecting
 pub mod Several
+pub mod Checks
+pub mod Exporting
 pub mod Run

@@ -23,6 +23,7 @@ words_text line.Plan =
 words_text line.Span =
     codes "FROM and TO are seconds since 1970-01-01 00:00 UTC, digits alone, 0 to 4294967296; --since and --until, "
     ++ codes "in their place, are as 2026-11-25, 2026-11-25T06:00, 1d, 6h or now"
+words_text line.Folders = codes "DIR is given 1 to 4096 times"
 words_text line.Flows =
     codes "FROM and TO are seconds since 1970-01-01 00:00 UTC, digits alone, 0 to 4294967296; --since and --until, "
     ++ codes "in their place, are as 2026-11-25, 2026-11-25T06:00, 1d, 6h or now; DIR is given 1 to 4096 times"
@@ -36,6 +37,8 @@ words_text line.Files =
     codes "FILE is given 1 to 8 times, but once with --from, 0 to 281474976710655, and without --datagrams; "
     ++ codes "--keep is how many of the newest segments are left, 0 to 4294967295"
 words_text line.Number = codes "no refusal has this NUMBER: they are 1 to 11, 14 to 17, 20 to 27, 30 to 32, 40 to 52"
+words_text line.Messages =
+    codes "--from is 1 to 281474976710655, --to up to 281474976710655 and at least --from less 1, digits alone"
 words_text line.Formats = codes "--csv and --json are two formats: one of them is taken, not both"
 words_text line.OutOfMemory = codes "11 OutOfMemory"
 

@@ -8,7 +8,7 @@ use Rattle.clap.specs.Simple.{subcommand_of}
 use Rattle.clap.specs.Walk.{Row, Text}
 use Rattle.flow_program.specs.declared.request.LineError.{LineError}
 use Rattle.flow_program.specs.declared.request.LineError.TheVariants.{Parser, Width, Plan, Span, Keep, Files}
-use Rattle.flow_program.specs.declared.request.LineError.TheVariants.{Flows, Formats, Number}
+use Rattle.flow_program.specs.declared.request.LineError.TheVariants.{Flows, Folders, Formats, Messages, Number}
 use Rattle.flow_program.specs.declared.request.LineError.TheVariants.{OutOfMemory, Swapped, Totals}
 use Rattle.flow_program.specs.Arguments.{are_swapped, format_in}
 use Rattle.flow_program.specs.CommandLine.{asked, flowvault}
@@ -17,6 +17,7 @@ use Rattle.flow_program.specs.CommandLine.{asked, flowvault}
 abbrev pub wrong_values_of : Text → LineError
 wrong_values_of name =
     if bytes_eq (codes "create") name then Plan
+    else if bytes_eq (codes "check") name then Folders
     else if bytes_eq (codes "totals") name then Totals
     else if bytes_eq (codes "flows") name then Flows
     else if bytes_eq (codes "records") name then Span
@@ -25,6 +26,7 @@ wrong_values_of name =
     else if bytes_eq (codes "merge") name then Keep
     else if bytes_eq (codes "shell") name then Keep
     else if bytes_eq (codes "explain") name then Number
+    else if bytes_eq (codes "export") name then Messages
     else Width
 
 -- of values that have one format: that a span ends before it begins, or what is said by the command's name
@@ -50,11 +52,13 @@ IsLineError words OutOfMemory = ⊤
 IsLineError words Width = IsOfValues words Width
 IsLineError words Plan = IsOfValues words Plan
 IsLineError words Span = IsOfValues words Span
+IsLineError words Folders = IsOfValues words Folders
 IsLineError words Flows = IsOfValues words Flows
 IsLineError words Totals = IsOfValues words Totals
 IsLineError words Swapped = IsOfValues words Swapped
 IsLineError words Keep = IsOfValues words Keep
 IsLineError words Files = IsOfValues words Files
 IsLineError words Number = IsOfValues words Number
+IsLineError words Messages = IsOfValues words Messages
 IsLineError words Formats = IsOfValues words Formats
 IsLineError words (Parser error) = (asked words ≡ None) × HasKind (fault_of flowvault words) error

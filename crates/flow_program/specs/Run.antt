@@ -10,15 +10,15 @@ use Rattle.flow_report.specs.declared.refusal.Refusal.{Refusal}
 use Rattle.flow_report.specs.declared.refusal.Refusal.TheVariants as refusal
 use Rattle.flow_program.specs.declared.request.LineError.{LineError}
 use Rattle.flow_program.specs.declared.request.LineError.TheVariants.{Parser, Width, Plan, Span, Keep, Files}
-use Rattle.flow_program.specs.declared.request.LineError.TheVariants.{Formats, Number, OutOfMemory, Swapped}
-use Rattle.flow_program.specs.declared.request.LineError.TheVariants.{Flows as FlowsWrong}
+use Rattle.flow_program.specs.declared.request.LineError.TheVariants.{Formats, Messages, Number, OutOfMemory, Swapped}
+use Rattle.flow_program.specs.declared.request.LineError.TheVariants.{Flows as FlowsWrong, Folders}
 use Rattle.flow_program.specs.declared.request.LineError.TheVariants.{Totals as TotalsWrong}
 use Rattle.flow_program.specs.declared.request.Request.{Request}
 use Rattle.flow_program.specs.declared.request.Request.TheVariants.{Measure, Dump, Inspect, InspectFiles}
 use Rattle.flow_program.specs.declared.request.Request.TheVariants.{Create, Check, CheckFiles, Totals, Flows}
-use Rattle.flow_program.specs.declared.request.Request.TheVariants.{TotalsOfSeveral, FlowsOfSeveral, Records}
+use Rattle.flow_program.specs.declared.request.Request.TheVariants.{CheckSeveral, TotalsOfSeveral, FlowsOfSeveral, Records}
 use Rattle.flow_program.specs.declared.request.Request.TheVariants.{Feed, Shell, Roll as RollAsked, Merge as MergeAsked}
-use Rattle.flow_program.specs.declared.request.Request.TheVariants.{Explain}
+use Rattle.flow_program.specs.declared.request.Request.TheVariants.{Explain, Export, Templates}
 use Rattle.flow_commands.specs.declared.archive_refusal.ArchiveRefusal.{ArchiveRefusal}
 use Rattle.flow_commands.specs.Archives.{archive_printed, archive_status}
 use Rattle.flow_commands.specs.Check.{IsChecked, KeepsOrChecks}
@@ -39,7 +39,9 @@ use Rattle.flow_report.specs.declared.format.Format.{Format}
 use Rattle.flow_report.specs.declared.records.RecordFormat.{RecordFormat}
 use Rattle.flow_program.specs.Arguments.{has_input, span_at}
 use Rattle.flow_program.specs.declared.arguments.MomentSpan.{MomentSpan}
+use Rattle.flow_program.specs.Checks.{ChecksEnd, MayBeOutcome}
 use Rattle.flow_program.specs.CommandLine.{asked}
+use Rattle.flow_program.specs.Exporting.{MessagesEnd, TemplatesEnd}
 use Rattle.flow_program.specs.Inspecting.{InspectEnds}
 use Rattle.flow_program.specs.Requested.{IsLineError}
 use Rattle.flow_program.specs.Several.{totals_wanted, SeveralEnd}
@@ -169,43 +171,51 @@ InspectInputEnds format input left old new before after status =
     × IfSome input (λ octets. IsRefusedBy octets left e)
     × InspectKeepsOrFront format input old new e)
 
--- A run of a command; the disks of its folders are of the kind `g`, and Files that are opened have these octets.
-abbrev pub Runs : {D S X F : Type 0} → Ghosts D S X → (F → Option (List ℕ)) → Request → Option (List ℕ)
-    → Option (List ℕ) → Option (List ℕ) → Option (List ℕ) → Option (List ℕ) → Option (List ℕ) → ℕ → Type 0
-Runs g octets (Measure width format warn) input left old new before after status =
+-- A run of a command; the disks of its folders are of the kind `g`, those of folders that are only read of the kind
+-- `view`, and Files that are opened have these octets.
+abbrev pub Runs : {D S X V T Y F : Type 0} → Ghosts D S X → Ghosts V T Y → (F → Option (List ℕ)) → Request
+    → Option (List ℕ) → Option (List ℕ) → Option (List ℕ) → Option (List ℕ) → Option (List ℕ) → Option (List ℕ) → ℕ
+    → Type 0
+Runs g view octets (Measure width format warn) input left old new before after status =
     MeasureEnds format width input left old new before after status
-Runs g octets Dump input left old new before after status = DumpEnds input left old new before after status
-Runs g octets (Inspect format) input left old new before after status =
+Runs g view octets Dump input left old new before after status = DumpEnds input left old new before after status
+Runs g view octets (Inspect format) input left old new before after status =
     InspectInputEnds format input left old new before after status
 -- None of these reads standard input, but `inspect` and `feed` where it is one of the Files, and `shell`; and `create`
 -- writes nothing.
-Runs g octets (InspectFiles format files) input left old new before after status =
+Runs g view octets (InspectFiles format files) input left old new before after status =
     (has_input files ≡ false → Keeps input left) × InspectEnds format files input left old new before after status
-Runs g octets (Create folder plan) input left old new before after status =
+Runs g view octets (Create folder plan) input left old new before after status =
     Keeps input left × Keeps old new × CreateEnds g plan before after status
-Runs g octets (Check folder) input left old new before after status =
+Runs g view octets (Check folder) input left old new before after status =
     Keeps input left × CheckEnds old new before after status
-Runs g octets (CheckFiles folder) input left old new before after status =
+Runs g view octets (CheckFiles folder) input left old new before after status =
     Keeps input left × AskEnds AreListings old new before after status
-Runs g octets (Totals folder span workers format) input left old new before after status =
+Runs g view octets (CheckSeveral folders files) input left old new before after status =
+    Keeps input left × ChecksEnd (MayBeOutcome files) folders old new before after status
+Runs g view octets (Totals folder span workers format) input left old new before after status =
     Keeps input left × AskEnds (AreRowsAsked format span) old new before after status
-Runs g octets (TotalsOfSeveral folders span each format) input left old new before after status =
+Runs g view octets (TotalsOfSeveral folders span each format) input left old new before after status =
     Keeps input left × SeveralEnd (length folders) span (totals_wanted each) format old new before after status
-Runs g octets (Flows folder span format) input left old new before after status =
+Runs g view octets (Flows folder span format) input left old new before after status =
     Keeps input left × ListEnds (AreFlowsAsked format span) old new before after status
-Runs g octets (FlowsOfSeveral folders span format) input left old new before after status =
+Runs g view octets (FlowsOfSeveral folders span format) input left old new before after status =
     Keeps input left × SeveralEnd (length folders) span FlowsOfEach format old new before after status
-Runs g octets (Records folder span format) input left old new before after status =
+Runs g view octets (Records folder span format) input left old new before after status =
     Keeps input left × ListEnds (AreRecordsAsked format span) old new before after status
-Runs g octets (Feed folder plan files) input left old new before after status =
+Runs g view octets (Feed folder plan files) input left old new before after status =
     (has_input files ≡ false → Keeps input left) × FeedEnds g octets plan files input old new before after status
-Runs g octets (Shell folder keep) input left old new before after status =
+Runs g view octets (Shell folder keep) input left old new before after status =
     ShellEnds g keep input old new before after status
-Runs g octets (RollAsked folder keep) input left old new before after status =
+Runs g view octets (RollAsked folder keep) input left old new before after status =
     Keeps input left × JobEnds g Roll keep old new before after status
-Runs g octets (MergeAsked folder keep) input left old new before after status =
+Runs g view octets (MergeAsked folder keep) input left old new before after status =
     Keeps input left × JobEnds g Merge keep old new before after status
-Runs g octets (Explain number) input left old new before after status = Keeps input left × IsShown before after status
+Runs g view octets (Export folder span) input left old new before after status =
+    Keeps input left × MessagesEnd view span old new before after status
+Runs g view octets (Templates folder) input left old new before after status =
+    Keeps input left × TemplatesEnd view old new before after status
+Runs g view octets (Explain number) input left old new before after status = Keeps input left × IsShown before after status
 
 -- what was asked for is help, or the version
 abbrev pub IsHelp : ErrorKind → Type 0
@@ -241,19 +251,23 @@ IsTold (Parser error) old new before after status =
 IsTold Width old new before after status = IsWrong Width old new before after status
 IsTold Plan old new before after status = IsWrong Plan old new before after status
 IsTold Span old new before after status = IsWrong Span old new before after status
+IsTold Folders old new before after status = IsWrong Folders old new before after status
 IsTold FlowsWrong old new before after status = IsWrong FlowsWrong old new before after status
 IsTold TotalsWrong old new before after status = IsWrong TotalsWrong old new before after status
 IsTold Swapped old new before after status = IsWrong Swapped old new before after status
 IsTold Keep old new before after status = IsWrong Keep old new before after status
 IsTold Files old new before after status = IsWrong Files old new before after status
 IsTold Number old new before after status = IsWrong Number old new before after status
+IsTold Messages old new before after status = IsWrong Messages old new before after status
 IsTold Formats old new before after status = IsWrong Formats old new before after status
 IsTold OutOfMemory old new before after status =
     (status ≡ 4) × Keeps old new × IsRefusalTold refusal.OutOfMemory before after
 
 -- What is answered of any words: the run of the request that they ask for, or why there is none.
-abbrev pub IsAnswered : {D S X F : Type 0} → Ghosts D S X → (F → Option (List ℕ)) → List (List ℕ) → Option (List ℕ)
-    → Option (List ℕ) → Option (List ℕ) → Option (List ℕ) → Option (List ℕ) → Option (List ℕ) → ℕ → Type 0
-IsAnswered g octets words input left old new before after status =
-    ((request : Request) × (asked words ≡ Some request) × Runs g octets request input left old new before after status)
+abbrev pub IsAnswered : {D S X V T Y F : Type 0} → Ghosts D S X → Ghosts V T Y → (F → Option (List ℕ))
+    → List (List ℕ) → Option (List ℕ) → Option (List ℕ) → Option (List ℕ) → Option (List ℕ) → Option (List ℕ)
+    → Option (List ℕ) → ℕ → Type 0
+IsAnswered g view octets words input left old new before after status =
+    ((request : Request) × (asked words ≡ Some request)
+    × Runs g view octets request input left old new before after status)
     ⊎ ((e : LineError) × IsLineError words e × IsTold e old new before after status)

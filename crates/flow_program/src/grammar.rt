@@ -13,6 +13,7 @@ ghost use Rattle.flow_program.specs.CommandLine.{asking_shape, folders_shape, re
 ghost use Rattle.flow_program.specs.CommandLine.{with_archives, with_feeding, with_queries, with_rolling, with_streams};
 ghost use Rattle.flow_program.specs.CommandLine.{format_rules, inspect_shape, kept_shape, shell_shape};
 
+use crate::export_words::with_exports;
 use clap::{Arg, ArgAction, Command};
 use std::alloc::{AllocError, Global};
 
@@ -90,7 +91,7 @@ const CREATE_HELP: &str =
      Example: mkdir flows && flowvault create flows 300";
 
 /// What `check` does, in a line or two.
-const CHECK_ABOUT: &str = "Opens the archive of a folder and says what it holds";
+const CHECK_ABOUT: &str = "Opens the archives of folders and says what they hold";
 
 /// What help has below the arguments of `check`.
 const CHECK_HELP: &str =
@@ -102,8 +103,12 @@ const CHECK_HELP: &str =
      which a flow of it starts, or - without one. A damaged archive is reported on\n\
      standard error as 20 Damaged FILE AT, 21 Format SLOT, 22 Entries SLOT, 23 Cut\n\
      SLOT or 24 NoArchive: status 5.\n\
+     Of several DIRs, up to 4096, each line is after the number of its archive, which\n\
+     counts DIRs from 1. What isn't well is reported with its number, archive N, and\n\
+     the next one is checked; the status is the greatest of all.\n\
      \n\
-     Example: flowvault check flows";
+     Examples: flowvault check flows\n\
+     \x20         flowvault check north south";
 
 /// What `totals` does, in a line or two.
 const TOTALS_ABOUT: &str =
@@ -231,7 +236,7 @@ const ROLL_HELP: &str = "All sealed segments but the newest KEEP become one file
 
 /// What `merge` does, in a line or two.
 const MERGE_ABOUT: &str =
-    "Sums the rolled files of the archive in a folder over wide intervals,\nbut the newest";
+    "Sums the rolled files of the archive in a folder over wide\nintervals, but the newest";
 
 /// What help has below the arguments of `merge`.
 const MERGE_HELP: &str = "All rolled files but the newest KEEP become one file of sums over wide\n\
@@ -329,7 +334,7 @@ fn optional<'a>(alloc: Global, id: &'a str, help: &'a str) -> Arg<'a>
 }
 
 /// An option with a value.
-fn option<'a>(alloc: Global, id: &'a str, name: &'a str, help: &'a str) -> Arg<'a>
+pub(crate) fn option<'a>(alloc: Global, id: &'a str, name: &'a str, help: &'a str) -> Arg<'a>
     ensures rule { rule_of result ≡ option id.now name.now }
     ensures own { result.global ≡ false }
 {
@@ -363,7 +368,7 @@ fn width_argument<'a>(alloc: Global) -> Arg<'a>
 }
 
 /// The folder of an archive.
-fn folder_argument<'a>(alloc: Global) -> Arg<'a>
+pub(crate) fn folder_argument<'a>(alloc: Global) -> Arg<'a>
     ensures rule { rule_of result ≡ folder_rule }
     ensures own { result.global ≡ false }
 {
@@ -471,7 +476,7 @@ fn check_command<'a>(alloc: Global) -> Result<Command<'a>, AllocError>
     Command::new(alloc, "check")
         .about(CHECK_ABOUT)
         .after_help(CHECK_HELP)
-        .arg(folder_argument(alloc))?
+        .arg(several(alloc, "DIR", "Folders of archives"))?
         .arg(flag(alloc, "files", FILES))
 }
 
@@ -693,7 +698,7 @@ fn with_archives<'a>(alloc: Global, version: &'a str) -> Result<Command<'a>, All
 }
 
 /// The program with these, and those that ask an archive.
-fn with_queries<'a>(alloc: Global, version: &'a str) -> Result<Command<'a>, AllocError>
+pub(crate) fn with_queries<'a>(alloc: Global, version: &'a str) -> Result<Command<'a>, AllocError>
     ensures { IfOk result (λ command. app_of command ≡ with_queries) }
 {
     with_archives(alloc, version)?
@@ -706,7 +711,7 @@ fn with_queries<'a>(alloc: Global, version: &'a str) -> Result<Command<'a>, Allo
 fn with_feeding<'a>(alloc: Global, version: &'a str) -> Result<Command<'a>, AllocError>
     ensures { IfOk result (λ command. app_of command ≡ with_feeding) }
 {
-    with_queries(alloc, version)?
+    with_exports(alloc, version)?
         .subcommand(feed_command(alloc)?)?
         .subcommand(shell_command(alloc)?)
 }

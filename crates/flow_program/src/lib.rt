@@ -7,7 +7,10 @@
 
 mod archives;
 mod arguments;
+mod checks;
 mod explaining;
+mod export_words;
+mod exporting;
 mod grammar;
 mod inspecting;
 mod refusing;

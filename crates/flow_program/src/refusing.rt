@@ -34,6 +34,9 @@ const WRONG_SPAN: &str =
     "flowvault: FROM and TO are seconds since 1970-01-01 00:00 UTC, digits alone, 0 to 4294967296; --since and \
      --until, in their place, are as 2026-11-25, 2026-11-25T06:00, 1d, 6h or now\n";
 
+/// The line for a number of folders that aren't asked.
+const WRONG_FOLDERS: &str = "flowvault: DIR is given 1 to 4096 times\n";
+
 /// The line for seconds that no span has, or of a number of folders that aren't asked.
 const WRONG_FLOWS: &str =
     "flowvault: FROM and TO are seconds since 1970-01-01 00:00 UTC, digits alone, 0 to 4294967296; --since and \
@@ -60,6 +63,10 @@ const WRONG_NUMBER: &str =
 
 /// The line for a span that ends before it begins.
 const SWAPPED: &str = "flowvault: --since is later than --until: the span ends before it begins\n";
+
+/// The line for numbers that no messages have.
+const WRONG_MESSAGES: &str =
+    "flowvault: --from is 1 to 281474976710655, --to up to 281474976710655 and at least --from less 1, digits alone\n";
 
 /// What is reported of two formats.
 const WRONG_FORMATS: &str =
@@ -106,6 +113,10 @@ pub(crate) fn refuse<W: Write, E: Write>(
             tell_line(errors, WRONG_SPAN.as_bytes());
             WRONG_LINE
         }
+        LineError::Folders => {
+            tell_line(errors, WRONG_FOLDERS.as_bytes());
+            WRONG_LINE
+        }
         LineError::Flows => {
             tell_line(errors, WRONG_FLOWS.as_bytes());
             WRONG_LINE
@@ -128,6 +139,10 @@ pub(crate) fn refuse<W: Write, E: Write>(
         }
         LineError::Number => {
             tell_line(errors, WRONG_NUMBER.as_bytes());
+            WRONG_LINE
+        }
+        LineError::Messages => {
+            tell_line(errors, WRONG_MESSAGES.as_bytes());
             WRONG_LINE
         }
         LineError::Formats => {

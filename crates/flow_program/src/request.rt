@@ -5,7 +5,8 @@ ghost use Rattle.clap.specs.Values.{kind_of};
 ghost use Rattle.clap.specs.Matches.{found_of};
 ghost use Rattle.clap.specs.Walk.{rows_of};
 ghost use Rattle.clap.specs.Simple.{subcommand_rows_of};
-ghost use Rattle.flow_program.specs.Arguments.{changing, checked_in, create_in, fed_alone, fed_in, inspected_in};
+ghost use Rattle.flow_program.specs.Arguments.{changing, checked, checked_in, create_in, fed_alone, fed_in};
+ghost use Rattle.flow_program.specs.Arguments.{inspected_in};
 ghost use Rattle.flow_program.specs.Arguments.{listed, listed_in, queried, request_in, requested, totalled};
 ghost use Rattle.flow_program.specs.Arguments.{totalled_in, without_list};
 ghost use Rattle.flow_program.specs.CommandLine.{asked};
@@ -20,10 +21,12 @@ use crate::arguments::{
     plan_in, record_format_in, span_in, totals_span_in, width_in, words_in, workers_in,
 };
 use crate::explaining::Explanation;
+use crate::export_words::exporting;
 use crate::grammar::command_line;
 use clap::error::ErrorKind;
 use clap::{ArgMatches, Error};
 use flow_commands::{FeedPlan, NewArchive, Workers};
+use flow_export_folder::MessageSpan;
 use flow_report::{Format, RecordFormat, Width};
 use std::alloc::{AllocError, Global};
 use std::convert::AsStr;
@@ -64,6 +67,11 @@ pub enum Request<'a> {
     /// The same line, and one for each of its files.
     CheckFiles {
         folder: FolderName<'a>,
+    },
+    /// The same of the archives of folders, each with its number: lines of what they have, or of their files too.
+    CheckSeveral {
+        folders: FolderNames<'a>,
+        files: bool,
     },
     /// Totals lines of the archive of a folder.
     Totals {
@@ -119,6 +127,15 @@ pub enum Request<'a> {
         folder: FolderName<'a>,
         keep: u32,
     },
+    /// Messages of the archive of a folder, after the templates in force before them.
+    Export {
+        folder: FolderName<'a>,
+        span: MessageSpan,
+    },
+    /// The templates in force in the archive of a folder.
+    Templates {
+        folder: FolderName<'a>,
+    },
     /// What a refusal means.
     Explain {
         refusal: Explanation,
@@ -136,6 +153,8 @@ pub enum LineError {
     Plan,
     /// The span of `records` isn't two numbers, digits alone and at most 2^32, nor by moments in their place.
     Span,
+    /// There are more than 4,096 folders.
+    Folders,
     /// The same of the span of `flows`, or there is no folder, or there are more than 4,096.
     Flows,
     /// The same of the span of `totals`, or how many workers scan isn't digits alone, from 1 to 64, or is said of several
@@ -150,6 +169,9 @@ pub enum LineError {
     Files,
     /// No refusal has the number.
     Number,
+    /// A number of a message isn't digits alone, or out of its range, or the last one is before the one that comes
+    /// before the first.
+    Messages,
     /// Two formats are asked for.
     Formats,
     OutOfMemory,
@@ -176,15 +198,38 @@ fn create_in<'a>(arguments: &ArgMatches<'a>) -> Option<Request<'a>>
     Some(Request::Create { folder, plan })
 }
 
-/// What `check` asks for: with its files, or without.
-fn checked_in<'a>(arguments: &ArgMatches<'a>) -> Option<Request<'a>>
-    ensures { result ≡ checked_in (rows_of (found_of arguments.now)) }
+/// One archive alone, or 2 to 4,096: with their files, or without.
+fn checked<'a>(folders: FolderNames<'a>, files: bool) -> Option<Request<'a>>
+    ensures { result ≡ checked folders.entry files }
 {
-    let folder = folder_in(arguments)?;
-    if is_set(arguments, "files") {
-        return Some(Request::CheckFiles { folder });
+    let count = folders.paths.len();
+    if count == 1 {
+        let folder = FolderName {
+            path: folders.paths[0],
+        };
+        if files {
+            return Some(Request::CheckFiles { folder });
+        }
+        return Some(Request::Check { folder });
     }
-    Some(Request::Check { folder })
+    if count == 0 || MOST_FOLDERS < count {
+        return None;
+    }
+    Some(Request::CheckSeveral { folders, files })
+}
+
+/// What `check` asks for.
+fn checked_in<'a>(
+    alloc: Global,
+    arguments: &ArgMatches<'a>,
+) -> Result<Option<Request<'a>>, AllocError>
+    ensures { IfOk result (λ request. request ≡ checked_in (rows_of (found_of arguments.now))) }
+{
+    let Some(words) = words_in(arguments) else {
+        return Ok(None);
+    };
+    let paths = Vec::from_slice(alloc, words)?;
+    Ok(checked(FolderNames { paths }, is_set(arguments, "files")))
 }
 
 /// What a command that changes an archive asks for, by its name and its arguments.
@@ -204,7 +249,7 @@ fn changing<'a>(name: &str, arguments: &ArgMatches<'a>) -> Option<Request<'a>>
             folder: folder_in(arguments)?,
             keep: kept_in_shell(arguments)?,
         }),
-        _ => None,
+        _ => exporting(name, arguments),
     }
 }
 
@@ -237,7 +282,6 @@ fn without_list<'a>(name: &str, arguments: &ArgMatches<'a>) -> Option<Request<'a
         }),
         "dump" => Some(Request::Dump),
         "create" => create_in(arguments),
-        "check" => checked_in(arguments),
         _ => queried(name, arguments),
     }
 }
@@ -401,6 +445,7 @@ fn requested<'a>(
         "inspect" => inspected_in(alloc, arguments),
         "totals" => totalled_in(alloc, arguments),
         "flows" => listed_in(alloc, arguments),
+        "check" => checked_in(alloc, arguments),
         _ => Ok(without_list(name, arguments)),
     }
 }
@@ -421,6 +466,7 @@ fn wrong_values_of(name: &str) -> LineError
 {
     match name {
         "create" => LineError::Plan,
+        "check" => LineError::Folders,
         "totals" => LineError::Totals,
         "flows" => LineError::Flows,
         "records" => LineError::Span,
@@ -429,6 +475,7 @@ fn wrong_values_of(name: &str) -> LineError
         "merge" => LineError::Keep,
         "shell" => LineError::Keep,
         "explain" => LineError::Number,
+        "export" => LineError::Messages,
         _ => LineError::Width,
     }
 }

@@ -8,7 +8,9 @@ use crate::archives::{
     run_check, run_check_files, run_create, run_feed, run_flows, run_job, run_records, run_shell,
     run_totals,
 };
+use crate::checks::run_checks;
 use crate::explaining::Explanation;
+use crate::exporting::{run_export, run_templates};
 use crate::inspecting::run_inspect_files;
 use crate::refusing::refuse;
 use crate::request::{Request, parse};
@@ -17,6 +19,7 @@ use crate::telling::{DONE, tell, write_octets};
 use flow_commands::{Progress, tell_fault, warn_of_input};
 use flow_disk::Disk;
 use flow_folder::{FolderDisk, Lockable};
+use flow_folder_view::FolderView;
 use flow_inspect::inspect;
 use flow_manifest::JobKind;
 use flow_report::{Format, Width, dump, measure};
@@ -132,9 +135,9 @@ fn run<
 where
     H::File: FileExt + Lockable + Send + Sync,
     H::Dir: Send + Sync,
-    ensures runs { Runs ⟦<FolderDisk<'a, H> as Disk>⟧ H.File.remaining request.entry (R.remaining input.old)
-        (R.remaining input.new) (W.contents output.old) (W.contents output.new) (E.contents errors.old)
-        (E.contents errors.new) result }
+    ensures runs { Runs ⟦<FolderDisk<'a, H> as Disk>⟧ ⟦<FolderView<'a, H> as Disk>⟧ H.File.remaining request.entry
+        (R.remaining input.old) (R.remaining input.new) (W.contents output.old) (W.contents output.new)
+        (E.contents errors.old) (E.contents errors.new) result }
     ensures quiet { result ≡ 0 → Keeps (E.contents errors.old) (E.contents errors.new) }
     ensures status { result ≤ 5 }
     ensures other { result ≢ 2 }
@@ -154,6 +157,14 @@ where
         Request::Create { folder, plan } => run_create(rt, &folder, &plan, errors, progress),
         Request::Check { folder } => run_check(rt, &folder, first_fault, output, errors),
         Request::CheckFiles { folder } => run_check_files(rt, &folder, first_fault, output, errors),
+        Request::CheckSeveral { folders, files } => run_checks(
+            rt.alloc(),
+            &FolderViews::new(rt, first_fault),
+            &folders,
+            files,
+            output,
+            errors,
+        ),
         Request::Totals {
             folder,
             span,
@@ -228,6 +239,10 @@ where
         Request::Merge { folder, keep } => {
             run_job(rt, &folder, JobKind::Merge, keep, output, errors, progress)
         }
+        Request::Export { folder, span } => {
+            run_export(rt, &folder, first_fault, &span, output, errors)
+        }
+        Request::Templates { folder } => run_templates(rt, &folder, first_fault, output, errors),
         Request::Explain { refusal } => run_explain(rt.alloc(), &refusal, output, errors),
     }
 }
@@ -256,9 +271,9 @@ where
     H::File: FileExt + Lockable + Send + Sync,
     H::Dir: Send + Sync,
     // The words decide which command runs, on what width, or why none does.
-    ensures answered { IsAnswered ⟦<FolderDisk<'a, H> as Disk>⟧ H.File.remaining (map S.text words.now)
-        (R.remaining input.old) (R.remaining input.new) (W.contents output.old) (W.contents output.new)
-        (E.contents errors.old) (E.contents errors.new) result }
+    ensures answered { IsAnswered ⟦<FolderDisk<'a, H> as Disk>⟧ ⟦<FolderView<'a, H> as Disk>⟧ H.File.remaining
+        (map S.text words.now) (R.remaining input.old) (R.remaining input.new) (W.contents output.old)
+        (W.contents output.new) (E.contents errors.old) (E.contents errors.new) result }
     ensures quiet { result ≡ 0 → Keeps (E.contents errors.old) (E.contents errors.new) }
     ensures status { result ≤ 5 }
     // Of words that ask for nothing nothing is written but why.

@@ -51,7 +51,7 @@ fn several_text(alloc: Global, refusal: &SeveralRefusal) -> Result<String, Alloc
 
 /// Reports a refusal by its status and its text, and how to ask what its number means. That memory ran out is reported
 /// without any, and without more; where there is none for the text or the lines of another refusal, nothing is.
-fn report_text<E: Write>(
+pub(crate) fn report_text<E: Write>(
     alloc: Global,
     errors: &mut E,
     status: u8,
@@ -74,7 +74,7 @@ fn report_text<E: Write>(
 }
 
 /// Reports the refusal of the archive with this number. It answers the exit status.
-fn report_archive<E: Write>(
+pub(crate) fn report_archive<E: Write>(
     alloc: Global,
     errors: &mut E,
     number: u64,

@@ -6,7 +6,6 @@
 //! Whatever the disk, and so over a folder, it writes lines of records whose flows start in the span.
 #![tactic(auto)]
 
-mod asking;
 mod listing;
 
 pub use listing::{records, records_in};

@@ -17,9 +17,8 @@ ghost use Rattle.flow_model.specs.Views.{IsViewOf};
 ghost use Rattle.flow_records.specs.Refused.{of_records};
 ghost use Rattle.flow_report.specs.Writing.{AppendsFront};
 
-use crate::asking::to_ask;
 use flow_archive::{Archive, Refused};
-use flow_commands::{ArchiveRefusal, StartSpan};
+use flow_commands::{ArchiveRefusal, StartSpan, ended, to_ask};
 use flow_disk::{Disk, Faults, SealedFile};
 use flow_folder::{FirstFault, Lockable};
 use flow_folder_view::FolderView;
@@ -32,17 +31,6 @@ use std::alloc::{AllocGlobal, Global};
 use std::fs::Files;
 use std::io::Write;
 use std::os::unix::fs::FileExt;
-
-/// What the command answers where it gives an archive back, or the disk with a refusal. Both are dropped, which leaves
-/// a folder to others again.
-fn ended<D: Disk, E: Drop>(given: Result<Archive<D>, Refused<D, E>>) -> Result<(), E>
-    ensures { result ≡ done_of given }
-{
-    match given {
-        Ok(_) => Ok(()),
-        Err(refused) => Err(refused.error),
-    }
-}
 
 /// Why the command ended.
 fn refusal_of(refusal: RecordsRefusal) -> ArchiveRefusal

@@ -23,10 +23,11 @@ use flow_manifest::{Entry, Manifest, OpenError};
 use flow_segment::seal_tail;
 use std::alloc::Global;
 
-/// Cuts a file to a length that it has, and settles it.
+/// Cuts a file to a length that it has, and settles it. One that is settled and as long already stays as it is.
 pub(crate) fn cut_file<D: Disk>(disk: &mut D, file: u64, length: u64) -> Result<(), OpenError>
     requires thawed { (D.marks disk.old file).frozen ≡ false }
     requires settled { (D.marks disk.old file).settled ≡ true }
+    requires listed { (D.marks disk.old file).listed ≡ true }
     ensures honest { D.honest disk.new ≡ D.honest disk.old }
     ensures other_marks { (n : ℕ) → n ≢ file → D.marks disk.new n ≡ D.marks disk.old n }
     ensures thawed { (D.marks disk.new file).frozen ≡ false }
@@ -43,7 +44,9 @@ pub(crate) fn cut_file<D: Disk>(disk: &mut D, file: u64, length: u64) -> Result<
     if length > size {
         return Err(OpenError::Damaged(file, size));
     }
-    seal_tail(disk, file, length)?;
+    if length < size {
+        seal_tail(disk, file, length)?;
+    }
     Ok(())
 }
 
@@ -51,6 +54,7 @@ pub(crate) fn cut_file<D: Disk>(disk: &mut D, file: u64, length: u64) -> Result<
 fn freeze_one<D: Disk>(disk: &mut D, entry: Entry) -> Result<D::Sealed, OpenError>
     requires thawed { (D.marks disk.old entry.file).frozen ≡ false }
     requires settled { (D.marks disk.old entry.file).settled ≡ true }
+    requires listed { (D.marks disk.old entry.file).listed ≡ true }
     ensures honest { D.honest disk.new ≡ D.honest disk.old }
     ensures other_marks { (n : ℕ) → n ≢ entry.file → D.marks disk.new n ≡ D.marks disk.old n }
     ensures any_moment { StopsBy D.Disk disk.old disk.new (InFile entry.file (KeepsFront entry.length)) }
@@ -80,6 +84,7 @@ pub(crate) fn freeze_files<D: Disk>(
     requires own { HaveOwnFiles entries.now }
     requires thawed { AllByRecursion (λ e. (D.marks disk.old e.file).frozen ≡ false) entries.now }
     requires settled { AllByRecursion (λ e. (D.marks disk.old e.file).settled ≡ true) entries.now }
+    requires listed { AllByRecursion (λ e. (D.marks disk.old e.file).listed ≡ true) entries.now }
     ensures honest { D.honest disk.new ≡ D.honest disk.old }
     ensures other_marks { (n : ℕ) → AllByRecursion (λ e. e.file ≢ n) entries.now
         → D.marks disk.new n ≡ D.marks disk.old n }
@@ -182,6 +187,7 @@ pub(crate) fn tidy<D: Disk>(
     requires end { end + 2 < 2 ^ 64 }
     requires thawed { (n : ℕ) → (D.marks disk.old n).frozen ≡ false }
     requires settled { AllByRecursion (λ e. (D.marks disk.old e.file).settled ≡ true) manifest.now.entries }
+    requires listed { (n : ℕ) → is_file_of manifest.now n ≡ true → (D.marks disk.old n).listed ≡ true }
     requires slots { (slot : Slot) → ((D.marks disk.old (file_of slot)).settled ≡ true)
         × (1 ≤ (D.marks disk.old (file_of slot)).size) }
     ensures honest { D.honest disk.new ≡ D.honest disk.old }

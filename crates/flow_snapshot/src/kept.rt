@@ -73,7 +73,7 @@ pub(crate) fn hand_over<R: RecordSink<Error = AllocError>>(
 }
 
 /// The templates that a prefix in memory restates. One with data records is refused.
-pub(crate) fn restated(alloc: Global, prefix: &[u8]) -> Result<Templates, ReadRefusal>
+pub fn restated(alloc: Global, prefix: &[u8]) -> Result<Templates, ReadRefusal>
     ensures found { IfOk result (λ templates. IsRestated prefix.now templates) }
     ensures given { (all : AllTemplates) → IsRestated prefix.now all
         → IsAnswered (λ templates. templates ≡ all) result }

@@ -29,7 +29,7 @@ mod summing;
 pub use by_file::KeptPart;
 pub use directory::Directory;
 pub use files::Files;
-pub use kept::span_in_memory;
+pub use kept::{restated, span_in_memory};
 pub use laws::{flows_by_file, parts_are};
 pub use shares::{PartSums, Share};
 pub use snapshot::{QueryError, Snapshot};

@@ -8,3 +8,4 @@ mod Turning
 mod TurnRuns
 mod TurnLaws
 mod Dues
+mod Newest

@@ -1,15 +1,17 @@
 //! Turns of rolling.
 
-ghost use Rattle.std.specs.Prelude.{◌≡◌};
+ghost use Rattle.std.specs.Prelude.{◌≡◌, ◌-◌, ◌↔◌, ◌<◌, IsTrue};
 ghost use Rattle.flow_disk.specs.Cause.{HasCause};
 ghost use Rattle.flow_archive.specs.declared.event.Answer.{Answer as CoreAnswer};
 ghost use Rattle.flow_manifest.specs.Following.{source_of, count_of};
+ghost use Rattle.flow_manifest.specs.Manifest.{IsInOrder};
+ghost use Rattle.flow_manifest.specs.declared.manifest.Kind.TheVariants.{Sealed};
 ghost use Rattle.flow_manifest.specs.declared.following.JobKind.TheVariants.{Merge, Roll};
 ghost use Rattle.flow_turns.specs.Turns.{begun_by, due, files_over, next_step, turn_told, IsTurn};
 
 use flow_archive::{Answer, Archive, ArchiveError, Event, JobStatus, take_event};
 use flow_disk::{Disk, Faults};
-use flow_manifest::{JobKind, MOST_ENTRIES};
+use flow_manifest::{Entry, JobKind, Kind, MOST_ENTRIES};
 use std::alloc::Global;
 
 /// What a turn of rolling did.
@@ -31,17 +33,39 @@ pub enum Turn {
     Idle,
 }
 
+/// Whether more segments are sealed than the newest `keep`. They are the last entries but the active one: so the one
+/// before those that are kept decides it, and none is counted.
+fn has_more_sealed(entries: &[Entry], keep: u32) -> bool
+    requires { IsInOrder entries.now }
+    ensures { IsTrue result ↔ (keep < count_of Sealed entries.now) }
+{
+    match entries.len().checked_sub(keep as usize + 2) {
+        Some(at) => matches!(entries[at].kind, Kind::Sealed),
+        None => false,
+    }
+}
+
+/// How many segments are sealed besides the newest `keep`.
+fn sealed_over<D: Disk>(archive: &Archive<D>, keep: u32) -> usize
+    ensures { result ≡ count_of Sealed archive.now.state.manifest.entries - keep }
+{
+    // On every disk, open or not, its manifest is a valid one.
+    let _closed = archive.is_closed();
+    if has_more_sealed(archive.manifest().entries.as_slice(), keep) {
+        return archive.sealed_count().saturating_sub(keep as usize);
+    }
+    0
+}
+
 /// How many files a job of this kind may be begun over, where the newest `keep` are left as they are.
 pub(crate) fn files_over<D: Disk>(archive: &Archive<D>, kind: JobKind, keep: u32) -> u32
     ensures { result ≡ files_over kind keep archive.now.state }
 {
     let count = match kind {
-        JobKind::Roll => archive.sealed_count(),
-        JobKind::Merge => archive.rolled_count(),
+        JobKind::Roll => sealed_over(archive, keep),
+        JobKind::Merge => archive.rolled_count().saturating_sub(keep as usize),
     };
-    count
-        .saturating_sub(keep as usize)
-        .min(MOST_ENTRIES as usize) as u32
+    count.min(MOST_ENTRIES as usize) as u32
 }
 
 /// The event that begins a job of this kind.

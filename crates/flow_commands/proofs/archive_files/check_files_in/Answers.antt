@@ -4,8 +4,8 @@ use Rattle.flow_commands.specs.declared.checking.Standing.{Standing}
 use Rattle.flow_commands.specs.ArchiveFiles.{AreListings}
 use Rattle.flow_commands.specs.Check.{standing_line}
 use Rattle.flow_commands.specs.Asking.{Writes, WritesOrNot}
-use Rattle.flow_commands.proofs.Asked.{away_kept}
-use Rattle.flow_commands.proofs.Ended.{if_refused, on_ended}
+use Rattle.flow_commands.proofs.OpenedAnswers.{away_kept}
+use Rattle.flow_commands.proofs.Endings.{if_refused, on_ended}
 use Rattle.flow_commands.proofs.archive_files.check_files_in.Goals as goal
 
 pub returns-clause-written : goal.returns-clause-written

@@ -7,7 +7,7 @@ use Rattle.flow_commands.specs.declared.archive_refusal.ArchiveRefusal.TheVarian
 use Rattle.flow_commands.specs.ArchiveFiles.{AreListings, ListsNoFiles}
 use Rattle.flow_commands.specs.Archives.{of_query}
 use Rattle.flow_commands.specs.Asking.{WritesOrNot}
-use Rattle.flow_commands.proofs.Asked.{none_written, query_unwritten}
+use Rattle.flow_commands.proofs.OpenedAnswers.{none_written, query_unwritten}
 use Rattle.flow_commands.proofs.Causes.{query_fault, query_is_no_opening, query_is_told}
 use Rattle.flow_commands.proofs.FileLines.{query_listed}
 use Rattle.flow_commands.proofs.archive_files.list_files.Goals as goal

@@ -1,7 +1,7 @@
 use Rattle.std.proofs.Common.{subst, sym}
 use Rattle.flow_snapshot.specs.ShelfSeen.{ShelfSeen}
 use Rattle.flow_commands.specs.Asking.{IsReadAs}
-use Rattle.flow_commands.proofs.Asked.{read_as}
+use Rattle.flow_commands.proofs.OpenedAnswers.{read_as}
 use Rattle.flow_commands.proofs.asking.to_ask.Goals as goal
 
 pub returns-clause-read : goal.returns-clause-read

@@ -1,6 +1,6 @@
 use Rattle.std.proofs.Common.{inr}
 use Rattle.flow_commands.specs.Archives.{of_folder}
-use Rattle.flow_commands.proofs.Ended.{error_is}
+use Rattle.flow_commands.proofs.Endings.{error_is}
 use Rattle.flow_commands.proofs.creating.create_in.Goals as goal
 
 pub returns-in_err-system : goal.returns-in_err-system

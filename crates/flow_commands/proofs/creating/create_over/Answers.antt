@@ -1,5 +1,5 @@
 use Rattle.std.proofs.Common.{inl}
-use Rattle.flow_commands.proofs.Ended.{done_created, refused_created}
+use Rattle.flow_commands.proofs.Endings.{done_created, refused_created}
 use Rattle.flow_commands.proofs.creating.create_over.Goals as goal
 
 pub returns : goal.returns

@@ -1,7 +1,7 @@
 use Rattle.std.specs.Prelude.{IfErr}
 use Rattle.flow_disk.proofs.Results.{if_err_by, on_ok_by}
 use Rattle.flow_commands.specs.Asking.{AreFlows, AreFlowsIn, Writes, WritesUpTo}
-use Rattle.flow_commands.proofs.Ended.{if_refused, on_ended}
+use Rattle.flow_commands.proofs.Endings.{if_refused, on_ended}
 use Rattle.flow_commands.proofs.KeptLines.{away_up_to}
 use Rattle.flow_commands.proofs.Spans.{flows_weaker, up_to_weaker, writes_weaker}
 use Rattle.flow_commands.proofs.listing.flows_in.Goals as goal

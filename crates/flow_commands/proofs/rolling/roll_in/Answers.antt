@@ -5,7 +5,7 @@ use Rattle.flow_commands.specs.Archives.{of_folder}
 use Rattle.flow_commands.specs.Asking.{WritesOrNot}
 use Rattle.flow_commands.specs.Rolling.{IsJobLine}
 use Rattle.flow_commands.proofs.Jobs.{folder_unwritten}
-use Rattle.flow_commands.proofs.Ended.{error_is}
+use Rattle.flow_commands.proofs.Endings.{error_is}
 use Rattle.flow_commands.proofs.rolling.roll_in.Goals as goal
 
 pub returns-in_err-system-clause-kept : goal.returns-in_err-system-clause-kept

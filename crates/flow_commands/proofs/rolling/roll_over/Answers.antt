@@ -1,7 +1,7 @@
 use Rattle.std.proofs.Common.{inl}
 use Rattle.flow_commands.specs.Asking.{Writes, WritesOrNot}
 use Rattle.flow_commands.specs.Rolling.{IsJobLine}
-use Rattle.flow_commands.proofs.Ended.{if_refused, on_ended}
+use Rattle.flow_commands.proofs.Endings.{if_refused, on_ended}
 use Rattle.flow_commands.proofs.rolling.roll_over.Goals as goal
 
 pub returns-clause-written : goal.returns-clause-written

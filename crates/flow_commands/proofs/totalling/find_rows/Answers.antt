@@ -7,7 +7,7 @@ use Rattle.flow_snapshot.specs.Totals.{SumsFit}
 use Rattle.flow_commands.specs.declared.archive_refusal.ArchiveRefusal.TheVariants as refusal
 use Rattle.flow_commands.specs.Archives.{of_query}
 use Rattle.flow_commands.specs.Asking.{IsBeforeWriting, IsNotFound}
-use Rattle.flow_commands.proofs.Asked.{query_unwritten, rows_read, rows_refused}
+use Rattle.flow_commands.proofs.OpenedAnswers.{query_unwritten, rows_read, rows_refused}
 use Rattle.flow_commands.proofs.Causes.{memory_is_no_opening, memory_is_no_query, other_than, query_fault}
 use Rattle.flow_commands.proofs.Causes.{query_is_no_opening, query_is_told}
 use Rattle.flow_commands.proofs.totalling.find_rows.Goals as goal

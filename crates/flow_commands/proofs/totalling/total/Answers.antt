@@ -8,7 +8,7 @@ use Rattle.flow_report.specs.ArchiveLines.{rows_text}
 use Rattle.flow_commands.specs.declared.archive_refusal.ArchiveRefusal.TheVariants as refusal
 use Rattle.flow_commands.specs.Archives.{of_text}
 use Rattle.flow_commands.specs.Asking.{AreRowsIn, TellsNoLines, WritesOrNot, totals_lines}
-use Rattle.flow_commands.proofs.Asked.{cut_told, cut_written, none_told, none_written}
+use Rattle.flow_commands.proofs.OpenedAnswers.{cut_told, cut_written, none_told, none_written}
 use Rattle.flow_commands.proofs.Causes.{other_than, text_is_no_opening, text_is_no_query}
 use Rattle.flow_commands.proofs.totalling.total.Goals as goal
 

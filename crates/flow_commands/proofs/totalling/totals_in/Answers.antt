@@ -3,8 +3,8 @@ use Rattle.std.specs.Prelude.{IfErr}
 use Rattle.flow_disk.proofs.Results.{if_err_by, on_ok_by}
 use Rattle.flow_report.specs.ArchiveLines.{rows_text}
 use Rattle.flow_commands.specs.Asking.{AreRows, AreRowsIn, Writes, WritesOrNot}
-use Rattle.flow_commands.proofs.Asked.{away_kept}
-use Rattle.flow_commands.proofs.Ended.{if_refused, on_ended}
+use Rattle.flow_commands.proofs.OpenedAnswers.{away_kept}
+use Rattle.flow_commands.proofs.Endings.{if_refused, on_ended}
 use Rattle.flow_commands.proofs.Spans.{no_rows_in, not_weaker, rows_weaker, writes_weaker}
 use Rattle.flow_commands.proofs.totalling.totals_in.Goals as goal
 

@@ -14,6 +14,10 @@ pub returns-in-Span-clause-told : goal.returns-in-Span-clause-told
 returns-in-Span-clause-told g c =
     rw c.in-Span.is (refl, Keeps-refl _, rw c.as_bytes-in-Span.ensures.value at c.tell_line-in-Span.ensures)
 
+pub returns-in-Folders-clause-told : goal.returns-in-Folders-clause-told
+returns-in-Folders-clause-told g c =
+    rw c.in-Folders.is (refl, Keeps-refl _, rw c.as_bytes-in-Folders.ensures.value at c.tell_line-in-Folders.ensures)
+
 pub returns-in-Flows-clause-told : goal.returns-in-Flows-clause-told
 returns-in-Flows-clause-told g c =
     rw c.in-Flows.is (refl, Keeps-refl _, rw c.as_bytes-in-Flows.ensures.value at c.tell_line-in-Flows.ensures)
@@ -33,6 +37,10 @@ returns-in-Keep-clause-told g c =
 pub returns-in-Files-clause-told : goal.returns-in-Files-clause-told
 returns-in-Files-clause-told g c =
     rw c.in-Files.is (refl, Keeps-refl _, rw c.as_bytes-in-Files.ensures.value at c.tell_line-in-Files.ensures)
+
+pub returns-in-Messages-clause-told : goal.returns-in-Messages-clause-told
+returns-in-Messages-clause-told g c =
+    rw c.in-Messages.is (refl, Keeps-refl _, rw c.as_bytes-in-Messages.ensures.value at c.tell_line-in-Messages.ensures)
 
 pub returns-in-Formats-clause-told : goal.returns-in-Formats-clause-told
 returns-in-Formats-clause-told g c =

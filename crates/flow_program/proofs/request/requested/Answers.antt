@@ -9,3 +9,4 @@ returns-in_default c =
     c.without_list.ensures
     ∙ without_list_name c.args.name.now (rows_of (found_of c.args.arguments.now)) c.in_default.not-feed
     c.in_default.not-inspect c.in_default.not-totals c.in_default.not-flows
+    c.in_default.not-check

@@ -10,3 +10,15 @@ pub returns-in-FlowsOfSeveral-clause-runs : goal.returns-in-FlowsOfSeveral-claus
 returns-in-FlowsOfSeveral-clause-runs g c =
     rw c.in-FlowsOfSeveral.is
     (Keeps-refl (g.R.Read.remaining c.args.input.now), c.run_several-in-FlowsOfSeveral.ensures.runs)
+
+pub returns-in-CheckSeveral-clause-runs : goal.returns-in-CheckSeveral-clause-runs
+returns-in-CheckSeveral-clause-runs g c =
+    rw c.in-CheckSeveral.is (Keeps-refl (g.R.Read.remaining c.args.input.now), c.run_checks.ensures.runs)
+
+pub returns-in-Export-clause-runs : goal.returns-in-Export-clause-runs
+returns-in-Export-clause-runs g c =
+    rw c.in-Export.is (Keeps-refl (g.R.Read.remaining c.args.input.now), c.run_export.ensures.runs)
+
+pub returns-in-Templates-clause-runs : goal.returns-in-Templates-clause-runs
+returns-in-Templates-clause-runs g c =
+    rw c.in-Templates.is (Keeps-refl (g.R.Read.remaining c.args.input.now), c.run_templates.ensures.runs)

@@ -3,11 +3,11 @@ use Rattle.flow_manifest.specs.Slots.{reads_of}
 use Rattle.flow_commands.specs.declared.archive_refusal.ArchiveRefusal.{ArchiveRefusal}
 use Rattle.flow_commands.specs.Asking.{Always, TellsUpTo}
 use Rattle.flow_kept_records.specs.Listing.{records_lines}
-use Rattle.flow_records.proofs.HandedOn.{handed_on, keeps}
+use Rattle.flow_commands.proofs.HandedOn.{handed_on, keeps}
 use Rattle.flow_records.proofs.Lines.{none_up_to, unopened_up_to}
 use Rattle.std.specs.Prelude.{IsTrue}
 use Rattle.flow_commands.specs.Opened.{KeepsFiles}
-use Rattle.flow_records.proofs.Unchanged.{asked_keeps, opening_keeps}
+use Rattle.flow_commands.proofs.Unchanged.{asked_keeps, opening_keeps}
 use Rattle.flow_records.proofs.listing.records.Goals as goal
 
 pub returns-in-Ok-list-clause-any_moment : goal.returns-in-Ok-list-clause-any_moment

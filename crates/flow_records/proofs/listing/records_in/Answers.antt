@@ -1,7 +1,7 @@
 use Rattle.std.specs.Prelude.{IfErr}
 use Rattle.flow_commands.specs.Asking.{Writes, WritesUpTo}
 use Rattle.flow_kept_records.specs.Listing.{AreRecordsIn}
-use Rattle.flow_records.proofs.Ended.{if_refused, on_ended}
+use Rattle.flow_commands.proofs.Endings.{if_refused, on_ended}
 use Rattle.flow_records.proofs.Lines.{away_up_to}
 use Rattle.flow_records.proofs.listing.records_in.Goals as goal
 

@@ -32,6 +32,19 @@ returns-then-length-size-clause-any_moment g c h =
     (λ b is. (b, is, keeps_same c.args.length b)) in
     run1
 
+pub returns-else-length-size-2-clause-any_moment : goal.returns-else-length-size-2-clause-any_moment
+returns-else-length-size-2-clause-any_moment g c h =
+    let D = g.D.Disk in
+    let d0 = c.args.disk.now in
+    let f = c.args.file in
+    let Q = KeepsFront c.args.length in
+    let d1 = c.length.new.self in
+    let run0 = starts D d0 f Q (λ image left. g.met.D.Disk.only_now d0 image h left)
+    (λ b is. keeps_same c.args.length b) in
+    let run1 = stays D d0 d0 d1 f Q run0 (λ n differs. refl) (c.length.ensures.time h)
+    (λ b is. (b, is, keeps_same c.args.length b)) in
+    run1
+
 pub returns-in_err-seal_tail-clause-any_moment : goal.returns-in_err-seal_tail-clause-any_moment
 returns-in_err-seal_tail-clause-any_moment g c h =
     let D = g.D.Disk in
@@ -53,8 +66,8 @@ returns-in_err-seal_tail-clause-any_moment g c h =
       here = keeps_then c.args.length (a f) (b f) (x f) one.here two.here;
     })
 
-pub returns-clause-any_moment : goal.returns-clause-any_moment
-returns-clause-any_moment g c h =
+pub returns-in_ok-seal_tail-clause-any_moment : goal.returns-in_ok-seal_tail-clause-any_moment
+returns-in_ok-seal_tail-clause-any_moment g c h =
     let D = g.D.Disk in
     let d0 = c.args.disk.now in
     let f = c.args.file in
@@ -84,11 +97,3 @@ pub returns-in_err-seal_tail-clause-other_files : goal.returns-in_err-seal_tail-
 returns-in_err-seal_tail-clause-other_files g c h n differs = c.seal_tail.ensures.call.other_files
     (subst IsTrue (sym c.length.ensures.honest)
     h) n differs ∙ c.length.ensures.held h n
-
-pub returns-clause-other_files : goal.returns-clause-other_files
-returns-clause-other_files g c h n differs = c.seal_tail.ensures.call.other_files
-    (subst IsTrue (sym c.length.ensures.honest)
-    h) n differs ∙ c.length.ensures.held h n
-
-pub returns-clause-listed : goal.returns-clause-listed
-returns-clause-listed g c = c.in_ok-seal_tail.ensures.call.listed

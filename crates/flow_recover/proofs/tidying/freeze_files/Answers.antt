@@ -74,6 +74,20 @@ freeze_one-requires-clause-settled g c =
     ap (λ (m : Marks). m.settled) same ∙ all_at (λ (x : Entry).
     (D.marks d0 x.file).settled ≡ true) es i c.requires.settled lt
 
+pub freeze_one-requires-clause-listed : goal.freeze_one-requires-clause-listed
+freeze_one-requires-clause-listed g c =
+    let D = g.D.Disk in
+    let d0 = c.args.disk.now in
+    let d1 = c.entries.disk in
+    let i = c.entries.entry-index in
+    let was = c.entries.invariant in
+    let es = c.args.entries.now in
+    let e = get_or es i no_entry in
+    let lt : i < length es = c.entries-test.true in
+    let same : D.marks d1 e.file ≡ D.marks d0 e.file = was.others e.file (own_before es i c.requires.own lt) in
+    ap (λ (m : Marks). m.listed) same ∙ all_at (λ (x : Entry).
+    (D.marks d0 x.file).listed ≡ true) es i c.requires.listed lt
+
 pub returns-in_err-part-clause-other_marks : goal.returns-in_err-part-clause-other_marks
 returns-in_err-part-clause-other_marks g c n apart =
     let D = g.D.Disk in

@@ -117,6 +117,21 @@ pub freeze_files-requires-clause-settled : goal.freeze_files-requires-clause-set
 freeze_files-requires-clause-settled g c =
     each (λ e. (g.D.Disk.marks c.args.disk.now e.file).settled ≡ true) c.as_slice-entries.ensures c.requires.settled
 
+pub freeze_files-requires-clause-listed : goal.freeze_files-requires-clause-listed
+freeze_files-requires-clause-listed g c =
+    each (λ e. (g.D.Disk.marks c.args.disk.now e.file).listed ≡ true) c.as_slice-entries.ensures
+    (all_by (λ e. is_file_of c.args.manifest.now e.file ≡ true)
+    (λ e. (g.D.Disk.marks c.args.disk.now e.file).listed ≡ true) (λ e is. c.requires.listed e.file is)
+    c.args.manifest.now.entries (entries_named c.args.manifest.now))
+
+pub cut_file-requires-clause-listed : goal.cut_file-requires-clause-listed
+cut_file-requires-clause-listed g c =
+    rw (here g (goal.at.cut_file-requires-clause-listed g c).After-freeze_files)
+    (at_last (λ e. (g.D.Disk.marks c.args.disk.now e.file).listed ≡ true) c.requires.valid c.requires.active_entry
+    (all_by (λ e. is_file_of c.args.manifest.now e.file ≡ true)
+    (λ e. (g.D.Disk.marks c.args.disk.now e.file).listed ≡ true) (λ e is. c.requires.listed e.file is)
+    c.args.manifest.now.entries (entries_named c.args.manifest.now)))
+
 pub cut_file-requires-clause-thawed : goal.cut_file-requires-clause-thawed
 cut_file-requires-clause-thawed g c =
     rw (here g (goal.at.cut_file-requires-clause-thawed g c).After-freeze_files) (c.requires.thawed

@@ -1,0 +1,7 @@
+mod Passed
+mod ReadWhole
+pub mod HandingOn
+mod Choosing
+mod Viewed
+mod Written
+pub mod ReadBack

@@ -1,0 +1,36 @@
+-- Segments that are read whole.
+use Rattle.std.proofs.Common.{◌≡◌, ◌∙◌, ℕ, ◌<◌, List, sym, arith}
+use Rattle.std.specs.Prelude.{Err}
+use Rattle.std.specs.List.{AllByRecursion}
+use Rattle.flow_codec.specs.Cutting.{IsCutOff}
+use Rattle.flow_disk.specs.declared.error.DiskError.{DiskError}
+use Rattle.flow_disk.specs.declared.error.DiskError.TheVariants as disk
+use Rattle.flow_disk.specs.Printed.{read_refusal}
+use Rattle.flow_refusals.specs.declared.read_refusal.ReadRefusal.{ReadRefusal}
+use Rattle.flow_refusals.specs.declared.read_refusal.ReadRefusal.TheVariants as read
+use Rattle.flow_segment.specs.Segment.{AreGiven, AreMessagesOf}
+use Rattle.flow_snapshot.specs.Answered.{IsNoDamage}
+use Rattle.flow_snapshot.specs.Files.{cut_into}
+use Rattle.flow_snapshot.proofs.PartMessages.{cut_whole, messages_are}
+
+pub found_cut : (n : ℕ) (octets : List ℕ) (shared messages : List (List ℕ)) → shared ≡ messages
+    → AreMessagesOf octets n messages → shared ≡ cut_into n octets
+found_cut n octets shared messages is are = is ∙ sym (messages_are octets n messages are)
+
+no_damage : (list : List (List ℕ)) (e : ReadRefusal) → AreGiven list (Err e) → IsNoDamage e
+no_damage list (read.Damaged file at) h = h
+no_damage list read.Fault h = tt
+no_damage list read.OutOfMemory h = tt
+
+pub cut_blameless : (n : ℕ) (octets : List ℕ) (e : ReadRefusal) → 0 < n → AllByRecursion IsCutOff (cut_into n octets)
+    → ((list : List (List ℕ)) → AreMessagesOf octets n list → AreGiven list (Err e)) → IsNoDamage e
+cut_blameless n octets e some each given =
+    no_damage (cut_into n octets) e (given (cut_into n octets) (cut_whole n octets some each))
+
+pub some_messages : (n : ℕ) → (n ≡ 0 → ⊥) → 0 < n
+some_messages n some = omega (arith, some)
+
+-- a read that failed is no damage
+pub read_failed : (e : DiskError) → IsNoDamage (read_refusal e)
+read_failed disk.Fault = tt
+read_failed disk.OutOfMemory = tt

@@ -1,0 +1,116 @@
+-- What was written, and what was not.
+use Rattle.std.proofs.Common.{◌≡◌, ◌≢◌, ◌∙◌, inl, inr, ℕ, List, [], ◌++◌, Option, refl, sym, ap, subst, append-nil}
+use Rattle.std.proofs.Common.{take}
+use Rattle.std.proofs.Common.{drop, arith}
+use Rattle.std.specs.Prelude.{Result, Ok, Err, IfErr, OnErr, OnOk}
+use Rattle.std.specs.Io.KnownBytes.{Appends}
+use Rattle.std.proofs.KnownBytes.{Appends-trans}
+use Rattle.flow_codec.specs.Message.{joined}
+use Rattle.flow_disk.specs.Cause.{HasCause}
+use Rattle.flow_model.specs.Shelf.{kept_of, Shelf}
+use Rattle.flow_refusals.specs.declared.read_refusal.ReadRefusal.TheVariants as query
+use Rattle.flow_report.specs.Writing.{AppendsFront}
+use Rattle.flow_segment.specs.Carry.{prefix_of, Carry, IsCarry}
+use Rattle.flow_snapshot.specs.Found.{kept_by_file}
+use Rattle.flow_export.specs.declared.refusal.ExportRefusal.{ExportRefusal}
+use Rattle.flow_export.specs.declared.refusal.ExportRefusal.TheVariants as refusal
+use Rattle.flow_export.specs.Export.{messages_of, Grows, IsCarryBefore, IsExport, IsExportOf, Writes, WritesOrNot}
+use Rattle.flow_export.specs.Export.{WritesUpTo}
+use Rattle.flow_export.proofs.Choosing.{all_is_prefix, all_kept, prefix_after, prefix_of_more}
+
+pub on_ok_always : {X E : Type 0} (r : Result X E) (P : Type 0) → P → OnOk r P
+on_ok_always (Ok x) P holds = holds
+on_ok_always (Err e) P holds = tt
+
+pub on_err_always : {X E : Type 0} (r : Result X E) (P : Type 0) → P → OnErr r P
+on_err_always (Ok x) P holds = tt
+on_err_always (Err e) P holds = holds
+
+pub if_err_always : {X E : Type 0} (r : Result X E) (P : E → Type 0) → ((e : E) → P e) → IfErr r P
+if_err_always (Ok x) P holds = tt
+if_err_always (Err e) P holds = holds e
+
+pub some_of : {X E : Type 0} (r : Result X E) (P : Type 0) (Q : E → Type 0) → (P → (e : E) → Q e) → OnErr r P
+    → IfErr r Q
+some_of (Ok x) P Q each is = tt
+some_of (Err e) P Q each is = each is e
+
+-- all of a text was written, or a prefix of it
+pub grown_by : {X E : Type 0} (r : Result X E) (old new : Option (List ℕ)) (text : List ℕ) → OnOk r (Appends old new text)
+    → OnErr r (AppendsFront old new text) → Grows old new
+grown_by (Ok x) old new text all some = (text, all)
+grown_by (Err e) old new text all (n, most, some) = (take n text, some)
+
+-- a refusal that is no failed read, where none was counted
+pub quiet_cause : {X : Type 0} (old new : ℕ) (r : Result X ExportRefusal) → new ≡ old
+    → IfErr r (λ e. e ≢ refusal.Query query.Fault) → HasCause (refusal.Query query.Fault) old new r
+quiet_cause old new (Ok x) same quiet =
+    record { later = omega (arith, same); done = same; risen = λ is. absurd cc; other = tt }
+quiet_cause old new (Err e) same quiet = record {
+  later = omega (arith, same);
+  done = tt;
+  risen = λ is. absurd (quiet (let this : e ≡ refusal.Query query.Fault = cc in this));
+  other = λ _. same;
+}
+
+pub or_weaker : (are also : List ℕ → Type 0) (old new : Option (List ℕ)) → ((text : List ℕ) → are text → also text)
+    → (e : ExportRefusal) → WritesOrNot are old new e → WritesOrNot also old new e
+or_weaker are also old new also_are (refusal.Query e) kept = kept
+or_weaker are also old new also_are (refusal.Write failed) (text, is, some) = (text, also_are text is, some)
+
+-- all of it was written, and then something failed
+pub whole_up_to : (are : List ℕ → Type 0) (old new : Option (List ℕ)) → Writes are old new → (e : ExportRefusal)
+    → WritesUpTo are old new e
+whole_up_to are old new (text, is, all) (refusal.Query e) = inr (text, is, all_is_prefix old new text all)
+whole_up_to are old new (text, is, all) (refusal.Write failed) = (text, is, all_is_prefix old new text all)
+
+pub prefix_up_to : (are : List ℕ → Type 0) (old new : Option (List ℕ)) (text : List ℕ) → are text
+    → AppendsFront old new text → (e : ExportRefusal) → WritesUpTo are old new e
+prefix_up_to are old new text is some (refusal.Query e) = inr (text, is, some)
+prefix_up_to are old new text is some (refusal.Write failed) = (text, is, some)
+
+-- ---- the templates, and some octets after them
+
+module _ (carry : Carry) (old mid new : Option (List ℕ)) (first : Appends old mid (prefix_of carry)) where
+  pub exported : IsCarry carry → Grows mid new → Writes IsExport old new
+  exported is (more, grown) =
+      (prefix_of carry ++ more, (carry, more, is, refl), Appends-trans old mid new (prefix_of carry) more first grown)
+
+  -- just those that are asked for
+  module _ (s : Shelf) (skip most : ℕ) (before : IsCarryBefore (kept_by_file s) skip carry) where
+    abbrev chosen : List ℕ
+    chosen = joined (take most (drop skip (messages_of (kept_by_file s))))
+
+    is_export : IsExportOf s skip most (prefix_of carry ++ chosen)
+    is_export = (
+      carry,
+      before,
+      ap (λ (ms : List (List ℕ)). prefix_of carry ++ joined (take most (drop skip ms))) (all_kept s),
+    )
+
+    pub all_exported : Appends mid new chosen → Writes (IsExportOf s skip most) old new
+    all_exported more =
+        (prefix_of carry ++ chosen, is_export, Appends-trans old mid new (prefix_of carry) chosen first more)
+
+    pub some_exported : AppendsFront mid new chosen → (e : ExportRefusal) → WritesUpTo (IsExportOf s skip most) old new e
+    some_exported more e =
+        prefix_up_to (IsExportOf s skip most) old new (prefix_of carry ++ chosen) is_export
+        (prefix_after old mid new (prefix_of carry) chosen first more) e
+
+-- the templates alone, or a prefix of them
+pub templates_cut : (carry : Carry) (old new : Option (List ℕ)) → IsCarry carry → (e : ExportRefusal)
+    → WritesOrNot (λ text. text ≡ prefix_of carry) old new e → WritesUpTo IsExport old new e
+templates_cut carry old new is (refusal.Query e) kept = inl kept
+templates_cut carry old new is (refusal.Write failed) (text, same, some) =
+    (text, (carry, [], is, same ∙ sym (append-nil (prefix_of carry))), some)
+
+pub messages_cut : (carry : Carry) (s : Shelf) (skip most : ℕ) (old new : Option (List ℕ))
+    → IsCarryBefore (kept_by_file s) skip carry → (e : ExportRefusal)
+    → WritesOrNot (λ text. text ≡ prefix_of carry) old new e → WritesUpTo (IsExportOf s skip most) old new e
+messages_cut carry s skip most old new before (refusal.Query e) kept = inl kept
+messages_cut carry s skip most old new before (refusal.Write failed) (text, same, some) =
+    let later = joined (take most (drop skip (kept_of s))) in (
+      prefix_of carry ++ later,
+      (carry, before, refl),
+      prefix_of_more old new (prefix_of carry) later (subst (AppendsFront old new) same some),
+    )

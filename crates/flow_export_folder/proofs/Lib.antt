@@ -1,0 +1,2 @@
+mod AskedFor
+mod Cut

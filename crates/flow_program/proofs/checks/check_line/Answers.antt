@@ -1,0 +1,14 @@
+use Rattle.std.proofs.Common.{false, subst, sym}
+use Rattle.flow_manifest.specs.Slots.{reads_of}
+use Rattle.flow_program.specs.Checks.{IsNotChecked}
+use Rattle.flow_program.proofs.Checked.{line_refused, line_told, line_written}
+use Rattle.flow_program.proofs.checks.check_line.Goals as goal
+
+pub returns-in-Ok-clause-told : goal.returns-in-Ok-clause-told
+returns-in-Ok-clause-told g c = λ honest.
+    line_told c.check.new.output.items c.new-text.result.items c.new-text.ensures.items
+    (reads_of (g.D.Disk.held c.args.disk)) (c.in-Ok.ensures.told honest)
+
+pub returns-in-Ok-clause-written : goal.returns-in-Ok-clause-written
+returns-in-Ok-clause-written g c =
+    line_written c.check.new.output.items c.new-text.result.items c.new-text.ensures.items c.in-Ok.ensures.written

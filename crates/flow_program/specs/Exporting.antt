@@ -1,0 +1,70 @@
+-- What a run of `export` or `templates` answers.
+use Rattle.std.specs.Prelude.{◌≡◌, ◌⊎◌, ℕ, ◌++◌, List, Option, Result, Ok, Err, codes}
+use Rattle.std.specs.Fmt.{decimal}
+use Rattle.std.specs.Io.KnownBytes.{Keeps}
+use Rattle.flow_commands.specs.declared.archive_refusal.ArchiveRefusal.{ArchiveRefusal}
+use Rattle.flow_commands.specs.declared.archive_refusal.ArchiveRefusal.TheVariants as archive
+use Rattle.flow_commands.specs.Archives.{archive_printed, archive_status, of_folder, of_opening, of_query}
+use Rattle.flow_disk.specs.declared.disk.Disk.{Ghosts}
+use Rattle.flow_export.specs.Export.{AreTemplates, IsExport, Writes}
+use Rattle.flow_export_folder.specs.declared.refusal.ArchiveExportRefusal.{ArchiveExportRefusal}
+use Rattle.flow_export_folder.specs.declared.refusal.ArchiveExportRefusal.TheVariants.{Folder, Opening, Query}
+use Rattle.flow_export_folder.specs.declared.refusal.ArchiveExportRefusal.TheVariants.{Rolled, Write}
+use Rattle.flow_export_folder.specs.declared.span.MessageSpan.{MessageSpan}
+use Rattle.flow_export_folder.specs.Asked.{ExportsIn, TemplatesIn, WritesOrNot, WritesUpTo}
+use Rattle.flow_refusals.specs.declared.code.RefusalCode.TheVariants as code
+use Rattle.flow_refusals.specs.Table.{code_text, row_of}
+use Rattle.flow_report.specs.Writing.{AppendsFront}
+use Rattle.flow_program.specs.Printed.{told_lines}
+
+-- messages up to this one are in sums alone
+abbrev pub rolled_printed : ℕ → List ℕ
+rolled_printed cut = code_text code.Rolled ++ (codes " " ++ decimal cut)
+
+-- a refusal of a command over an archive, or else the number of the last message that is in sums alone
+abbrev pub archive_refusal : ArchiveExportRefusal → Result ArchiveRefusal ℕ
+archive_refusal (Folder e) = Ok (of_folder e)
+archive_refusal (Opening e) = Ok (of_opening e)
+archive_refusal (Query e) = Ok (of_query e)
+archive_refusal (Write failed) = Ok (archive.Write failed)
+archive_refusal (Rolled cut) = Err cut
+
+abbrev pub printed_of : Result ArchiveRefusal ℕ → List ℕ
+printed_of (Ok e) = archive_printed e
+printed_of (Err cut) = rolled_printed cut
+
+abbrev pub status_of : Result ArchiveRefusal ℕ → ℕ
+status_of (Ok e) = archive_status e
+status_of (Err cut) = (row_of code.Rolled).status
+
+-- the number, the name and what the refusal carries
+abbrev pub export_printed : ArchiveExportRefusal → List ℕ
+export_printed e = printed_of (archive_refusal e)
+
+abbrev pub export_status : ArchiveExportRefusal → ℕ
+export_status e = status_of (archive_refusal e)
+
+-- its lines came on standard error, or a prefix of them
+abbrev pub IsExportReported : ArchiveExportRefusal → Option (List ℕ) → Option (List ℕ) → Type 0
+IsExportReported e before after = AppendsFront before after (told_lines (export_printed e))
+
+-- Such octets were written, with status 0 and nothing on standard error; or that is refused, and reported.
+abbrev pub ExportEnds : Type 0 → (ArchiveExportRefusal → Type 0) → Option (List ℕ) → Option (List ℕ) → ℕ → Type 0
+ExportEnds done refused before after status =
+    ((status ≡ 0) × Keeps before after × done)
+    ⊎ ((e : ArchiveExportRefusal) × (status ≡ export_status e) × IsExportReported e before after × refused e)
+
+-- `export` of these messages: of a folder that is read as some disk of the kind `g` just these, and whatever the disk
+-- messages that restate some templates, and then some octets
+abbrev pub MessagesEnd : {D S X : Type 0} → Ghosts D S X → MessageSpan → Option (List ℕ) → Option (List ℕ)
+    → Option (List ℕ) → Option (List ℕ) → ℕ → Type 0
+MessagesEnd g span old new before after status =
+    ExportEnds (Writes IsExport old new × ExportsIn g span old new (Ok tt))
+    (λ e. WritesUpTo IsExport span old new e × ExportsIn g span old new (Err e)) before after status
+
+-- `templates`, likewise: just those in force, and whatever the disk messages that restate some templates
+abbrev pub TemplatesEnd : {D S X : Type 0} → Ghosts D S X → Option (List ℕ) → Option (List ℕ) → Option (List ℕ)
+    → Option (List ℕ) → ℕ → Type 0
+TemplatesEnd g old new before after status =
+    ExportEnds (Writes AreTemplates old new × TemplatesIn g old new (Ok tt))
+    (λ e. WritesOrNot AreTemplates old new e × TemplatesIn g old new (Err e)) before after status
