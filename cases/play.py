@@ -44,7 +44,7 @@ class Run:
         self.place, self.words, self.given = place, words, given
         self.out, self.err, self.status = [], [], 0
         self.begins, self.columns, self.by, self.lines = None, None, None, []
-        self.is_full, self.is_unread, self.shown, self.wrote = False, False, None, None
+        self.is_full, self.is_gone, self.is_unread, self.shown, self.wrote = False, False, False, None, None
 
     def ran(self, words, before):
         """Runs these words, and answers how the run ended, and what it wrote."""
@@ -54,6 +54,10 @@ class Run:
         with contextlib.ExitStack() as opened:
             if self.is_full:
                 how["stdout"] = opened.enter_context(open("/dev/full", "wb"))
+            if self.is_gone:
+                reader, how["stdout"] = os.pipe()
+                os.close(reader)
+                opened.callback(os.close, how["stdout"])
             if self.is_unread:
                 del how["input"]
                 how["stdin"] = os.open(".", os.O_RDONLY)
@@ -383,8 +387,8 @@ class Reader:
             self.run = None
         elif not self.cases:
             raise Bad("'%s' stands before the first case" % word)
-        elif word in ("out", "out*", "lines", "has", "err", "status", "columns", "by", "full", "unread", "shown",
-                      "wrote"):
+        elif word in ("out", "out*", "lines", "has", "err", "status", "columns", "by", "full", "gone", "unread",
+                      "shown", "wrote"):
             self.expect(word, rest)
         else:
             self.step(place, word, rest)
@@ -410,6 +414,8 @@ class Reader:
             self.run.by = int(rest)
         elif word == "full":
             self.run.is_full = True
+        elif word == "gone":
+            self.run.is_gone = True
         elif word == "unread":
             self.run.is_unread = True
         elif word == "wrote":
