@@ -9,8 +9,9 @@ _flowvault() {
         words="$commands -h --help -V --version"
     else
         case $previous in
-        --limit | --wide | --keep | --from | --to | --since | --until | --workers) return ;;
+        --limit | --wide | --keep | --merge | --from | --to | --since | --until | --workers) return ;;
         esac
+        [ "${COMP_WORDS[1]} $previous" = 'records --csv' ] && return
         case ${COMP_WORDS[1]} in
         measure) words='--csv --json --utc --warn' ;;
         dump) ;;
@@ -19,11 +20,11 @@ _flowvault() {
         check) words='--files' paths=-d ;;
         totals) words='--since --until --csv --json --utc --workers --each' paths=-d ;;
         flows) words='--since --until --csv --json --utc' paths=-d ;;
-        records) words='--since --until --json --utc' paths=-d ;;
+        records) words='--since --until --csv --json --utc' paths=-d ;;
         export) words='--from --to' paths=-d ;;
         templates) paths=-d ;;
-        feed) words='--keep --from --warn --datagrams' paths=-f ;;
-        shell) words='--keep' paths=-d ;;
+        feed) words='--keep --merge --from --warn --datagrams' paths=-f ;;
+        shell) words='--keep --merge' paths=-d ;;
         roll | merge) paths=-d ;;
         explain) ;;
         help)

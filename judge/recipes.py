@@ -5,8 +5,8 @@ reckoned here. They are run on single flows, after `roll`, and after `merge`, wh
 recipe has to say so. Then examples/days.sh: the month in three archives of a day each, their sums as files, and the
 bill of these; what an archive lacks; and two days, the second of which has its templates from the first. And
 examples/metrics.py over archives that are well, in use, damaged and not there, and while Files are fed that lack
-records. And who sent most in an hour, by awk, and by jq where that is there. Prints each difference, and ends with 'N
-cases of recipes: M differ'; its status is 0 where M is 0, else 1."""
+records. And who sent most in an hour, by awk, and by jq and sqlite3 where they are there. Prints each difference, and
+ends with 'N cases of recipes: M differ'; its status is 0 where M is 0, else 1."""
 import json
 import os
 import re
@@ -199,6 +199,10 @@ def talkers(trial):
     most = sorted(((count, text) for text, count in sent.items()), reverse=True)[:10]
     came = trial.run("cd talk && " + recipe("records.txt"))
     trial.compare("who sent most, by awk", (0, "".join("%d %s\n" % it for it in most)), (came.returncode, came.stdout))
+    if shutil.which("sqlite3"):
+        came = trial.run("cd talk && " + recipe("records.csv"))
+        trial.compare("who sent most, by sqlite3", (0, "".join("%d %s\n" % it for it in most)),
+                      (came.returncode, came.stdout))
     if shutil.which("jq"):
         came = trial.run("cd talk && " + recipe("records.json"))
         trial.compare("who sent most, by jq", (0, [{"from": text, "octets": count} for count, text in most]),

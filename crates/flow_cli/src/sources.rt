@@ -1,4 +1,4 @@
 //! What the program is built from: `./renew-release --stamp` writes this file.
 
 /// The version, and the first digits of the sum of the sources.
-pub const VERSION: &str = "1.6.0 (sources 9420933ece1b)";
+pub const VERSION: &str = "1.7.0 (sources 259319baa871)";

@@ -6,10 +6,11 @@ use Rattle.flow_disk.specs.declared.disk.Disk.{Ghosts}
 use Rattle.flow_disk.specs.Cause.{HasRisen}
 use Rattle.flow_disk.proofs.Results.{if_err_by, on_ok_by}
 use Rattle.flow_model.specs.Shelf.{Shelf}
+use Rattle.flow_roller.specs.Asked.{Asked}
 use Rattle.flow_commands.specs.Feeding.{answer_by, IsRollEnd}
 
 -- the reads that failed in another thread, added
-pub end_added : {D S X : Type 0} (g : Ghosts D S X) (opening : Shelf) (asked : ℕ → Type 0) (own before now : ℕ)
+pub end_added : {D S X : Type 0} (g : Ghosts D S X) (opening : Shelf) (asked : Asked → Type 0) (own before now : ℕ)
     (refused : Option ArchiveError) → (own ≡ 0 → now ≡ before) → (HasRisen 0 own → HasRisen before now)
     → before ≤ now → IsRollEnd g opening asked 0 own refused → IsRollEnd g opening asked before now refused
 end_added g opening asked own before now refused none risen later end = record {

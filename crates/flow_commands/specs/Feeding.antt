@@ -23,6 +23,7 @@ use Rattle.flow_feed.specs.declared.collecting.Collected.{Collected}
 use Rattle.flow_feed.specs.declared.refused.RefusedDatagrams.{RefusedDatagrams}
 use Rattle.flow_feed.specs.Stopped.{stop_code}
 use Rattle.flow_feed.specs.declared.batch.FeedStop.{FeedStop}
+use Rattle.flow_roller.specs.Asked.{Asked}
 use Rattle.flow_roller.specs.Rolling.{RollsBeside, Round}
 use Rattle.flow_refusals.specs.Table.{code_text, row_of}
 use Rattle.flow_report.specs.Writing.{AppendsFront}
@@ -33,7 +34,7 @@ use Rattle.flow_commands.specs.declared.archive_refusal.ArchiveRefusal.TheVarian
 use Rattle.flow_commands.specs.declared.plan.FeedPlan.{FeedPlan}
 use Rattle.flow_commands.specs.declared.plan.InputKind.{InputKind}
 use Rattle.flow_commands.specs.declared.plan.InputKind.TheVariants.{File, Datagrams, Socket}
-use Rattle.flow_commands.specs.Plans.{input_kind_in, kind_in}
+use Rattle.flow_commands.specs.Plans.{input_kind_in, kind_in, IsPlanned}
 use Rattle.flow_commands.specs.Archives.{of_archive}
 use Rattle.flow_commands.specs.Asking.{IsUnopened as IsNotOpened}
 
@@ -125,9 +126,9 @@ abbrev pub answer_by : Option ArchiveError → Result (Unit {0}) ArchiveError
 answer_by None = Ok tt
 answer_by (Some error) = Err error
 
--- How rolling beside Files ended: after rounds of turns by one who keeps as many as was asked for; and a refusal is
--- that of a source exactly where a read of one failed.
-pub record IsRollEnd {D S X : Type 0} (g : Ghosts D S X) (opening : Shelf) (asked : ℕ → Type 0) (before now : ℕ)
+-- How rolling beside Files ended: after rounds of turns by one who keeps and merges as many as was asked for; and a
+-- refusal is that of a source exactly where a read of one failed.
+pub record IsRollEnd {D S X : Type 0} (g : Ghosts D S X) (opening : Shelf) (asked : Asked → Type 0) (before now : ℕ)
     (refused : Option ArchiveError) : Type 0 where
   pub rounds : List Round
   pub rolled : RollsBeside g opening asked rounds (answer_by refused)
@@ -174,13 +175,13 @@ pub record AreFed {D S X F : Type 0} (g : Ghosts D S X) (octets : F → Option (
   pub others : (k : ℕ) (fed : Fed) → slice_get paths k ≡ Some (codes "-") → slice_get feds k ≡ Some fed
       → (IsTrue (is_some input) → IsInputAt paths k → ⊥) → fed ≡ unfed
 
--- The Files were fed so, while one rolled who keeps exactly as many as the plan says.
+-- The Files were fed so, while one rolled who keeps exactly as many as the plan says, and merges where it says so.
 pub record IsAskedFeeding {D S X F : Type 0} (g : Ghosts D S X) (octets : F → Option (List ℕ)) (opening : Shelf)
     (plan : FeedPlan) (input : Option (Option (List ℕ))) (paths : List (List ℕ)) (feds : List Fed)
     (refused : Option ArchiveError) : Type 0 where
   pub fed : AreFed g octets opening plan input paths feds
   pub rounds : List Round
-  pub rolled : RollsBeside g opening (λ keep. keep ≡ plan.keep) rounds (answer_by refused)
+  pub rolled : RollsBeside g opening (IsPlanned plan) rounds (answer_by refused)
 
 -- ---- what is written
 

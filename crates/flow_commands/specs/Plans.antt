@@ -4,6 +4,7 @@ use Rattle.flow_manifest.specs.Limits.{greatest_width, least_limit, greatest_lim
 use Rattle.flow_commands.specs.declared.plan.FeedPlan.{FeedPlan}
 use Rattle.flow_commands.specs.declared.plan.InputKind.{InputKind}
 use Rattle.flow_commands.specs.declared.plan.InputKind.TheVariants.{File, Datagrams, Socket}
+use Rattle.flow_roller.specs.Asked.{to_keep, to_merge, Asked}
 
 -- A new archive: the width of its intervals in seconds, a wide width where one is asked for, and how many octets of
 -- messages a segment takes.
@@ -33,6 +34,11 @@ pub record Span : Type 0 where
 -- whether a start is one of them
 abbrev pub is_in : Span → ℕ → Bool
 is_in span start = nat_le span.from start && nat_lt start span.to
+
+-- what a plan asks of the roller
+abbrev pub IsPlanned : FeedPlan → Asked → Type 0
+IsPlanned plan (to_keep keep) = keep ≡ plan.keep
+IsPlanned plan (to_merge merge) = merge ≡ plan.merge
 
 -- how Files at paths are read
 abbrev pub kind_in : FeedPlan → InputKind

@@ -64,19 +64,28 @@ fn warn_of_stops<H: Wait, S: AsStr, P: Write + Drop>(
     }
 }
 
-/// Warns of messages that are in sums alone, where more of them are than were before; then leaves the archive's disk to
-/// others again.
+/// How many messages of an archive are in sums alone.
+fn rolled_messages<D: Disk>(archive: &Archive<D>) -> RolledMessages {
+    let manifest = archive.manifest();
+    RolledMessages {
+        rolled: manifest.rolled,
+        wide: manifest.second,
+        messages: archive.position(),
+    }
+}
+
+/// Warns of messages that are in sums alone, where more of them are than were before, or more over wide intervals; then
+/// leaves the archive's disk to others again.
 fn leave_archive<H: Wait, D: Disk + Leave, P: Write + Drop>(
     rt: &H,
     alloc: Global,
-    before: u64,
+    before: RolledMessages,
     archive: Archive<D>,
     progress: &Progress<P>,
 ) {
-    let rolled = archive.manifest().rolled;
-    let messages = archive.position();
-    if rolled > before {
-        progress.say(rt, &RolledMessages { rolled, messages });
+    let now = rolled_messages(&archive);
+    if now.rolled > before.rolled || now.wide > before.wide {
+        progress.say(rt, &now);
     }
     archive.into_disk().leave(alloc);
 }
@@ -175,7 +184,7 @@ where
 {
     let alloc = rt.alloc();
     let span = archive.limit();
-    let rolled = archive.manifest().rolled;
+    let rolled = rolled_messages(&archive);
     let Ok((shared, places)) = start::<D, J, H>(alloc, archive, opened, 1) else {
         return Err(ArchiveRefusal::OutOfMemory);
     };
@@ -282,8 +291,9 @@ where
 
 /// Takes Files into the archive of a folder, at most 8, side by side, and writes a line for each. The path `-` is
 /// standard input's, where `input` is given. The archive is opened before a File is read. As many of the newest sealed
-/// segments are kept as the plan says; older ones are rolled meanwhile. It answers the exit status: that of the first
-/// File that stopped.
+/// segments are kept as the plan says; older ones are rolled meanwhile, and where the plan says so rolled files but the
+/// newest are merged, whenever there are 1,024 of them. It answers the exit status: that of the first File that
+/// stopped.
 pub fn feed_in<
     'a,
     H: Files + AllocGlobal + Clock + Clone + Drop + Threads + Wait + Send + Sync,

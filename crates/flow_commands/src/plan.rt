@@ -119,6 +119,8 @@ impl StartSpan {
 pub struct FeedPlan {
     /// How many of the newest sealed segments are left as they are.
     pub keep: u32,
+    /// How many of the newest rolled files are left as they are, where older ones are merged.
+    pub merge: Option<u32>,
     /// How many of the first messages of each File are only read.
     pub passed: u64,
     /// Whether a warning says where a File stopped, though standard error is no terminal.

@@ -1,9 +1,10 @@
-//! Files are taken in side by side, while another thread rolls.
+//! Files are taken in side by side, while another thread rolls and merges.
 
 ghost use Rattle.std.specs.Prelude.{◌≡◌, ◌≢◌, ◌<◌, ℕ, Bool, Some, length, codes, map, replicate, slice_get, IfNone, IfSome};
 ghost use Rattle.flow_commands.specs.Feeding.{AreFed, AreFilesFed, IsFedAt, IsFedFrom, IsInputAt, IsRollEnd};
 ghost use Rattle.flow_commands.specs.Feeding.{octets_given, unfed};
 ghost use Rattle.flow_commands.specs.Plans.{input_kind_in};
+ghost use Rattle.flow_roller.specs.Asked.{to_keep, to_merge};
 
 use crate::plan::{FeedPlan, InputKind};
 use crate::progress::Progress;
@@ -286,14 +287,15 @@ where
     D::Sealed: Send + Sync,
     requires room { length feds.items ≡ length paths.now }
     requires none { feds.items ≡ replicate (length paths.now) unfed }
-    // The bell keeps what was asked for.
-    requires asked { ∥ K.asked plan.keep ∥₁ }
+    // The bell keeps, and merges, what was asked for.
+    requires asked { ∥ K.asked (to_keep plan.keep) ∥₁ }
+    requires merge_asked { ∥ K.asked (to_merge plan.merge) ∥₁ }
     ensures count { length result.0.items ≡ length paths.now }
     ensures fed { AreFed D.Disk H.File.remaining J.opening plan (octets_given R.remaining input.entry)
         (map S.text paths.now) result.0.items }
     ensures rolled { IsRollEnd D.Disk J.opening K.asked faults.old faults.new result.1 }
 {
-    let bell: Bell<K> = Bell::new(plan.keep);
+    let bell: Bell<K> = Bell::new(plan.keep, plan.merge);
     let rung = &bell;
     let alloc = rt.alloc();
     let ((refused, unread), feds) = thread::join(

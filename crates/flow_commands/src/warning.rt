@@ -228,6 +228,8 @@ impl fmt::Display for RefusedFile<'_> {
 #[derive(Debug, Drop)]
 pub(crate) struct RolledMessages {
     pub(crate) rolled: u64,
+    /// Those of them that are in sums over wide intervals.
+    pub(crate) wide: u64,
     pub(crate) messages: u64,
 }
 
@@ -237,7 +239,11 @@ impl fmt::Display for RolledMessages {
             f,
             "{} of {} messages are in sums alone now",
             self.rolled, self.messages
-        )
+        )?;
+        match self.wide {
+            0 => Ok(()),
+            wide => write!(f, ", {wide} of them over wide intervals"),
+        }
     }
 }
 

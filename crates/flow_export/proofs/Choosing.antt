@@ -12,7 +12,7 @@ use Rattle.flow_codec.specs.Message.{joined}
 use Rattle.flow_model.specs.Shelf.{kept_of, messages_in, Segment, Shelf}
 use Rattle.flow_report.specs.Writing.{AppendsFront}
 use Rattle.flow_snapshot.specs.Found.{kept_by_file, kept_file, KeptFile}
-use Rattle.flow_export.specs.Export.{messages_of, Grows}
+use Rattle.flow_export.specs.Export.{asked_count, messages_of}
 
 -- ---- lists
 
@@ -78,14 +78,6 @@ prefix_of_more a b text more (n, most, front) =
       subst (Appends a b) (sym (take_within text more n most)) front,
     )
 
-whole : {A : Type 0} (xs : List A) → take (length xs) xs ≡ xs
-whole [] = refl
-whole {A} (x ∷ xs) = ap (λ (ys : List A). x ∷ ys) (whole xs)
-
-pub all_is_prefix : (a b : Option (List ℕ)) (text : List ℕ) → Appends a b text → AppendsFront a b text
-all_is_prefix a b text written =
-    (length text, omega arith, subst (Appends a b) (sym (whole text)) written)
-
 pub none_is_prefix : (output : Option (List ℕ)) (text : List ℕ) → AppendsFront output output text
 none_is_prefix output text = (0, omega arith, Appends-nil output)
 
@@ -130,14 +122,12 @@ pub skip_more : (skip : ℕ) (ms m : List (List ℕ)) (now next : ℕ) → now �
 skip_more skip ms m now next is then = let long = length-append ms m in omega (arith, is, then, long)
 
 pub left_more : (most skip now left next : ℕ) (ms m : List (List ℕ)) → now ≡ skip - length ms
-    → left ≡ most - length (drop skip ms) → next ≡ left - length (take left (drop now m))
+    → left ≡ most - length (drop skip ms) → next ≡ left - asked_count now left (length m)
     → next ≡ most - length (drop skip (ms ++ m))
 left_more most skip now left next ms m at is then =
     let parts = ap length (drop_both skip ms m) ∙ length-append (drop skip ms) (drop (skip - length ms) m) in
     let own = length-drop (skip - length ms) m in
-    let rest = length-drop now m in
-    let taken = length-take left (drop now m) in
-    omega (arith, at, is, then, parts, own, rest, taken)
+    omega (arith, at, is, then, parts, own)
 
 pub written_more : (most skip now left : ℕ) (ms m : List (List ℕ)) (a b c : Option (List ℕ))
     → now ≡ skip - length ms → left ≡ most - length (drop skip ms)
@@ -169,10 +159,6 @@ cut_in_all most skip now left ms m rest a b c at is before more =
     (prefix_of_more a c (joined (front ++ own)) (joined later)
     (subst (AppendsFront a c) (sym (joined_then front own))
     (prefix_after a b c (joined front) (joined own) before more)))
-
--- octets that grew, and grew again
-pub grown : (a b c : Option (List ℕ)) → Grows a b → Grows b c → Grows a c
-grown a b c (text, one) (more, two) = (text ++ more, Appends-trans a b c text more one two)
 
 -- the files up to one, that one, and those after it
 pub parted_after : (files : List KeptFile) (i : ℕ) (file : KeptFile) → i < length files → slice_get files i ≡ Some file
@@ -242,11 +228,8 @@ chosen_is most skip from end count xs is first last =
     ∙ ap (λ (k : ℕ). take most (drop k xs)) start ∙ ap (take most) (drop_min skip xs)
 
 pub chosen_count : (most skip from end count : ℕ) (xs : List (List ℕ)) → count ≡ length xs → from ≡ min skip count
-    → end ≡ from + min most (count - from) → end - from ≡ length (take most (drop skip xs))
-chosen_count most skip from end count xs is first last =
-    let taken = length-take most (drop skip xs) in
-    let left = length-drop skip xs in
-    omega (arith, is, first, last, taken, left)
+    → end ≡ from + min most (count - from) → end - from ≡ asked_count skip most (length xs)
+chosen_count most skip from end count xs is first last = omega (arith, is, first, last)
 
 pub first_ones : (count most n : ℕ) (xs : List (List ℕ)) → most ≡ length xs → n ≡ min count most
     → take n xs ≡ take count xs
@@ -299,7 +282,7 @@ module _ (files : List KeptFile) (at : ℕ) (file : KeptFile) (within : at < len
 
   pub left_file : (most skip now left written : ℕ) → now ≡ skip - length (messages_of (take at files))
       → left ≡ most - length (drop skip (messages_of (take at files)))
-      → written ≡ length (take left (drop now file.messages))
+      → written ≡ asked_count now left (length file.messages)
       → left - written ≡ most - length (drop skip (messages_of (take (at + 1) files)))
   left_file most skip now left written is rest many =
       subst (λ (ms : List (List ℕ)). left - written ≡ most - length (drop skip ms))

@@ -16,7 +16,7 @@ use Rattle.flow_model.specs.Views.{IsViewOf}
 use Rattle.flow_model.proofs.Accepting.{all_cut}
 use Rattle.flow_snapshot.specs.Found.{kept_by_file, KeptFile}
 use Rattle.flow_snapshot.proofs.ByFile.{active_file, active_there, files_count, flows_at, view_flows}
-use Rattle.flow_export.specs.Export.{messages_of, IsCarryBefore, IsFileOfMessage, PassesOn}
+use Rattle.flow_export.specs.Export.{asked_count, messages_of, IsCarryBefore, IsFileOfMessage, PassesOn}
 use Rattle.flow_export.proofs.Choosing.{file_more, found_there, none_after, same_of}
 
 -- its messages are accepted after the templates that its own prefix restates
@@ -101,6 +101,13 @@ pub no_more : (s : Shelf) (i : ℕ) (one file : KeptFile) (most skip count : ℕ
 no_more s i one file most skip count is there many few =
     let same = ap (λ (f : KeptFile). length f.messages) (found_there (kept_by_file s) i file one is there) in
     none_after most skip file.messages (omega (arith, same, many, few))
+
+pub none_asked_for : (s : Shelf) (i : ℕ) (one file : KeptFile) (most skip count : ℕ)
+    → slice_get (kept_by_file s) i ≡ Some one → slice_get (kept_by_file s) i ≡ Some file → count ≡ length one.messages
+    → count ≤ skip → asked_count skip most (length file.messages) ≡ 0
+none_asked_for s i one file most skip count is there many few =
+    let same = ap (λ (f : KeptFile). length f.messages) (found_there (kept_by_file s) i file one is there) in
+    omega (arith, same, many, few)
 
 pub carry_found : {E : Type 0} (files : List KeptFile) (skip at first : ℕ) (file : KeptFile) (r : Result Carry E)
     → IsFileOfMessage files skip at first → slice_get files at ≡ Some file → IfOk r (PassesOn file first)

@@ -1,5 +1,5 @@
 -- What was written, and what was not.
-use Rattle.std.proofs.Common.{◌≡◌, ◌≢◌, ◌∙◌, inl, inr, ℕ, List, [], ◌++◌, Option, refl, sym, ap, subst, append-nil}
+use Rattle.std.proofs.Common.{◌≡◌, ◌≢◌, ◌∙◌, inl, inr, ℕ, List, ◌++◌, Option, refl, ap, subst}
 use Rattle.std.proofs.Common.{take}
 use Rattle.std.proofs.Common.{drop, arith}
 use Rattle.std.specs.Prelude.{Result, Ok, Err, IfErr, OnErr, OnOk}
@@ -14,32 +14,19 @@ use Rattle.flow_segment.specs.Carry.{prefix_of, Carry, IsCarry}
 use Rattle.flow_snapshot.specs.Found.{kept_by_file}
 use Rattle.flow_export.specs.declared.refusal.ExportRefusal.{ExportRefusal}
 use Rattle.flow_export.specs.declared.refusal.ExportRefusal.TheVariants as refusal
-use Rattle.flow_export.specs.Export.{messages_of, Grows, IsCarryBefore, IsExport, IsExportOf, Writes, WritesOrNot}
-use Rattle.flow_export.specs.Export.{WritesUpTo}
-use Rattle.flow_export.proofs.Choosing.{all_is_prefix, all_kept, prefix_after, prefix_of_more}
-
-pub on_ok_always : {X E : Type 0} (r : Result X E) (P : Type 0) → P → OnOk r P
-on_ok_always (Ok x) P holds = holds
-on_ok_always (Err e) P holds = tt
+use Rattle.flow_export.specs.Export.{messages_of, AreMessages, IsCarryBefore, IsExport, IsExportOf, Writes, WritesOrNot}
+use Rattle.flow_export.specs.Export.{WritesSome, WritesUpTo}
+use Rattle.flow_export.proofs.Choosing.{all_kept, prefix_after, prefix_of_more}
+use Rattle.flow_export.proofs.WholeMessages.{some_messages}
 
 pub on_err_always : {X E : Type 0} (r : Result X E) (P : Type 0) → P → OnErr r P
 on_err_always (Ok x) P holds = tt
 on_err_always (Err e) P holds = holds
 
-pub if_err_always : {X E : Type 0} (r : Result X E) (P : E → Type 0) → ((e : E) → P e) → IfErr r P
-if_err_always (Ok x) P holds = tt
-if_err_always (Err e) P holds = holds e
-
 pub some_of : {X E : Type 0} (r : Result X E) (P : Type 0) (Q : E → Type 0) → (P → (e : E) → Q e) → OnErr r P
     → IfErr r Q
 some_of (Ok x) P Q each is = tt
 some_of (Err e) P Q each is = each is e
-
--- all of a text was written, or a prefix of it
-pub grown_by : {X E : Type 0} (r : Result X E) (old new : Option (List ℕ)) (text : List ℕ) → OnOk r (Appends old new text)
-    → OnErr r (AppendsFront old new text) → Grows old new
-grown_by (Ok x) old new text all some = (text, all)
-grown_by (Err e) old new text all (n, most, some) = (take n text, some)
 
 -- a refusal that is no failed read, where none was counted
 pub quiet_cause : {X : Type 0} (old new : ℕ) (r : Result X ExportRefusal) → new ≡ old
@@ -58,23 +45,24 @@ pub or_weaker : (are also : List ℕ → Type 0) (old new : Option (List ℕ)) �
 or_weaker are also old new also_are (refusal.Query e) kept = kept
 or_weaker are also old new also_are (refusal.Write failed) (text, is, some) = (text, also_are text is, some)
 
--- all of it was written, and then something failed
-pub whole_up_to : (are : List ℕ → Type 0) (old new : Option (List ℕ)) → Writes are old new → (e : ExportRefusal)
-    → WritesUpTo are old new e
-whole_up_to are old new (text, is, all) (refusal.Query e) = inr (text, is, all_is_prefix old new text all)
-whole_up_to are old new (text, is, all) (refusal.Write failed) = (text, is, all_is_prefix old new text all)
-
+-- a prefix of it was written, and then something failed
 pub prefix_up_to : (are : List ℕ → Type 0) (old new : Option (List ℕ)) (text : List ℕ) → are text
     → AppendsFront old new text → (e : ExportRefusal) → WritesUpTo are old new e
 prefix_up_to are old new text is some (refusal.Query e) = inr (text, is, some)
 prefix_up_to are old new text is some (refusal.Write failed) = (text, is, some)
 
--- ---- the templates, and some octets after them
+-- ---- the templates, and messages after them
 
 module _ (carry : Carry) (old mid new : Option (List ℕ)) (first : Appends old mid (prefix_of carry)) where
-  pub exported : IsCarry carry → Grows mid new → Writes IsExport old new
-  exported is (more, grown) =
-      (prefix_of carry ++ more, (carry, more, is, refl), Appends-trans old mid new (prefix_of carry) more first grown)
+  pub exported : (n : ℕ) → IsCarry carry → Writes (AreMessages n) mid new → Writes (IsExport n) old new
+  exported n is (more, are, all) =
+      (prefix_of carry ++ more, (carry, more, is, are, refl), Appends-trans old mid new (prefix_of carry) more first all)
+
+  pub exported_part : (n : ℕ) → IsCarry carry → WritesSome (AreMessages n) mid new → (e : ExportRefusal)
+      → WritesUpTo (IsExport n) old new e
+  exported_part n is (more, are, some) e =
+      prefix_up_to (IsExport n) old new (prefix_of carry ++ more) (carry, more, is, are, refl)
+      (prefix_after old mid new (prefix_of carry) more first some) e
 
   -- just those that are asked for
   module _ (s : Shelf) (skip most : ℕ) (before : IsCarryBefore (kept_by_file s) skip carry) where
@@ -98,11 +86,15 @@ module _ (carry : Carry) (old mid new : Option (List ℕ)) (first : Appends old 
         (prefix_after old mid new (prefix_of carry) chosen first more) e
 
 -- the templates alone, or a prefix of them
-pub templates_cut : (carry : Carry) (old new : Option (List ℕ)) → IsCarry carry → (e : ExportRefusal)
-    → WritesOrNot (λ text. text ≡ prefix_of carry) old new e → WritesUpTo IsExport old new e
-templates_cut carry old new is (refusal.Query e) kept = inl kept
-templates_cut carry old new is (refusal.Write failed) (text, same, some) =
-    (text, (carry, [], is, same ∙ sym (append-nil (prefix_of carry))), some)
+pub templates_cut : (n : ℕ) (carry : Carry) (old new : Option (List ℕ)) → IsCarry carry → (e : ExportRefusal)
+    → WritesOrNot (λ text. text ≡ prefix_of carry) old new e → WritesUpTo (IsExport n) old new e
+templates_cut n carry old new is (refusal.Query e) kept = inl kept
+templates_cut n carry old new is (refusal.Write failed) (text, same, some) =
+    let more = some_messages n in (
+      prefix_of carry ++ more.0,
+      (carry, more.0, is, more.1, refl),
+      prefix_of_more old new (prefix_of carry) more.0 (subst (AppendsFront old new) same some),
+    )
 
 pub messages_cut : (carry : Carry) (s : Shelf) (skip most : ℕ) (old new : Option (List ℕ))
     → IsCarryBefore (kept_by_file s) skip carry → (e : ExportRefusal)

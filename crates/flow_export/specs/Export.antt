@@ -1,8 +1,9 @@
 -- What is exported of an archive's files.
 use Rattle.std.specs.Prelude.{◌≡◌, ◌⊎◌, ⊤, ℕ, ◌+◌, ◌-◌, ◌<◌, List, [], ◌++◌, length, take, drop, slice_get, Option}
-use Rattle.std.specs.Prelude.{Some}
-use Rattle.std.specs.List.{flat_map}
+use Rattle.std.specs.Prelude.{Some, min}
+use Rattle.std.specs.List.{flat_map, AllByRecursion}
 use Rattle.std.specs.Io.KnownBytes.{Appends, Keeps}
+use Rattle.flow_codec.specs.Cutting.{IsCutOff}
 use Rattle.flow_codec.specs.Message.{joined}
 use Rattle.flow_export.specs.declared.reading.ReadFile.{ReadFile}
 use Rattle.flow_export.specs.declared.refusal.ExportRefusal.{ExportRefusal}
@@ -94,15 +95,27 @@ pub record IsReadAs (text : List ℕ) (templates : AllTemplates) (messages : Lis
   pub in_force : templates_from [] prefix ≡ templates
   pub flows : flows_in (prefix ++ messages) ≡ flows_in messages
 
--- on every disk: messages that restate some templates in force, and then some octets
-abbrev pub IsExport : List ℕ → Type 0
-IsExport text = (carry : Carry) × (more : List ℕ) × IsCarry carry × (text ≡ prefix_of carry ++ more)
+-- ---- on every disk
 
--- some octets more were written
-abbrev pub Grows : Option (List ℕ) → Option (List ℕ) → Type 0
-Grows old new = (text : List ℕ) × Appends old new text
+-- so many messages, each cut off by its own header, one after the other
+abbrev pub AreMessages : ℕ → List ℕ → Type 0
+AreMessages count text =
+    (messages : List (List ℕ)) × AllByRecursion IsCutOff messages × (length messages ≡ count) × (text ≡ joined messages)
+
+-- messages that restate some templates in force, and then so many messages
+abbrev pub IsExport : ℕ → List ℕ → Type 0
+IsExport count text =
+    (carry : Carry) × (more : List ℕ) × IsCarry carry × AreMessages count more × (text ≡ prefix_of carry ++ more)
+
+-- of so many messages how many there are after the first `skip`, at most `most`
+abbrev pub asked_count : ℕ → ℕ → ℕ → ℕ
+asked_count skip most all = min most (all - skip)
+
+-- a prefix of such octets was written
+abbrev pub WritesSome : (List ℕ → Type 0) → Option (List ℕ) → Option (List ℕ) → Type 0
+WritesSome are old new = (text : List ℕ) × are text × AppendsFront old new text
 
 -- a prefix of such octets, where writing failed; nothing, or a prefix, where reading did
 abbrev pub WritesUpTo : (List ℕ → Type 0) → Option (List ℕ) → Option (List ℕ) → ExportRefusal → Type 0
-WritesUpTo are old new (Write failed) = (text : List ℕ) × are text × AppendsFront old new text
-WritesUpTo are old new (Query e) = Keeps old new ⊎ ((text : List ℕ) × are text × AppendsFront old new text)
+WritesUpTo are old new (Write failed) = WritesSome are old new
+WritesUpTo are old new (Query e) = Keeps old new ⊎ WritesSome are old new

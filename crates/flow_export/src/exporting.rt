@@ -9,9 +9,9 @@ ghost use Rattle.flow_codec.specs.Message.{joined};
 ghost use Rattle.flow_disk.specs.Cause.{HasCause};
 ghost use Rattle.flow_export.specs.declared.refusal.ExportRefusal.TheVariants as refusal;
 ghost use Rattle.flow_export.specs.Export.{IsBlameless, IsCarryBefore, IsExport, IsExportOf, IsFileOfMessage};
-ghost use Rattle.flow_export.specs.Export.{messages_of};
-ghost use Rattle.flow_export.specs.Export.{Grows, Writes, WritesUpTo};
+ghost use Rattle.flow_export.specs.Export.{asked_count, messages_of, AreMessages, Writes, WritesSome, WritesUpTo};
 ghost use Rattle.flow_measure.specs.View.{View};
+ghost use Rattle.flow_model.specs.Shelf.{kept_of};
 ghost use Rattle.flow_model.specs.Views.{IsViewOf};
 ghost use Rattle.flow_report.specs.Writing.{AppendsFront};
 ghost use Rattle.flow_snapshot.specs.Answered.{IsAnswered};
@@ -21,10 +21,11 @@ ghost use Rattle.flow_snapshot.specs.Parts.{file_of, is_honest_part};
 use crate::reading::read_messages;
 use crate::refusal::ExportRefusal;
 use crate::restating::{carry_after, message_count, write_restated};
+use crate::whole::write_whole;
 use bytes::Bytes;
 use flow_disk::{Faults, SealedFile};
 use flow_refusals::ReadRefusal;
-use flow_report::{Patience, write_patiently};
+use flow_report::Patience;
 use flow_segment::Carry;
 use flow_snapshot::{KeptPart, Snapshot};
 use std::alloc::Global;
@@ -65,21 +66,29 @@ fn carry_before<S: SealedFile>(
     carry_after(alloc, snapshot.kept_part(at), first, faults)
 }
 
-/// Writes messages: at most so many, after the first ones. It answers how many it wrote.
+/// Writes messages of a file: at most so many, after the first ones, and none that isn't whole. It answers how many it
+/// wrote.
 fn write_some<W: Write>(
+    file: u64,
     messages: &[Bytes],
     skip: u64,
     most: u64,
     output: &mut W,
     patience: &mut Patience,
 ) -> Result<u64, ExportRefusal>
-    ensures count { IfOk result (λ n. n ≡ length (take most (drop skip messages.now))) }
+    ensures count { IfOk result (λ n. n ≡ asked_count skip most (length messages.now)) }
     ensures most { IfOk result (λ n. n ≤ most) }
+    // Whatever the messages are: as many, each whole, or a prefix of such octets.
+    ensures whole { OnOk result (Writes (AreMessages (asked_count skip most (length messages.now)))
+        (W.contents output.old) (W.contents output.new)) }
+    ensures part { OnErr result (WritesSome (AreMessages (asked_count skip most (length messages.now)))
+        (W.contents output.old) (W.contents output.new)) }
+    // They are these.
     ensures all { OnOk result (Appends (W.contents output.old) (W.contents output.new)
         (joined (take most (drop skip messages.now)))) }
     ensures some { OnErr result (AppendsFront (W.contents output.old) (W.contents output.new)
         (joined (take most (drop skip messages.now)))) }
-    ensures blameless { IfErr result IsBlameless }
+    ensures blameless { AllByRecursion IsCutOff messages.now → IfErr result IsBlameless }
     ensures quiet { IfErr result (λ e. e ≢ refusal.Query ReadRefusal.Fault) }
 {
     let count = messages.len() as u64;
@@ -87,7 +96,7 @@ fn write_some<W: Write>(
     let end = from + most.min(count - from);
     let chosen = &messages[from as usize..end as usize];
     for message in chosen {
-        write_patiently(output, message.as_slice(), patience)?;
+        write_whole(file, message.as_slice(), output, patience)?;
     }
     Ok(end - from)
 }
@@ -102,10 +111,14 @@ fn write_part<S: SealedFile, W: Write>(
     patience: &mut Patience,
     faults: &mut Faults<S>,
 ) -> Result<u64, ExportRefusal>
-    ensures grows { Grows (W.contents output.old) (W.contents output.new) }
+    // On every disk: as many as are asked for, of those that it is to have, each whole, or a prefix of such octets.
+    ensures count { IfOk result (λ n. n ≡ asked_count skip most (length (file_of part.entry).messages)) }
     ensures most { IfOk result (λ n. n ≤ most) }
-    ensures count { IsTrue (is_honest_part part.entry)
-        → IfOk result (λ n. n ≡ length (take most (drop skip (file_of part.entry).messages))) }
+    ensures whole { OnOk result (Writes (AreMessages (asked_count skip most (length (file_of part.entry).messages)))
+        (W.contents output.old) (W.contents output.new)) }
+    ensures part { OnErr result (WritesSome (AreMessages (asked_count skip most
+        (length (file_of part.entry).messages))) (W.contents output.old) (W.contents output.new)) }
+    // On an honest one they are these.
     ensures all { IsTrue (is_honest_part part.entry) → OnOk result (Appends (W.contents output.old)
         (W.contents output.new) (joined (take most (drop skip (file_of part.entry).messages)))) }
     ensures some { IsTrue (is_honest_part part.entry) → OnErr result (AppendsFront (W.contents output.old)
@@ -117,9 +130,10 @@ fn write_part<S: SealedFile, W: Write>(
     match part {
         KeptPart::Sealed(part) => {
             let messages = read_messages(alloc, part, faults)?;
-            write_some(messages.as_slice(), skip, most, output, patience)
+            let file = part.reader.file();
+            write_some(file, messages.as_slice(), skip, most, output, patience)
         }
-        KeptPart::Active(_, messages) => write_some(messages, skip, most, output, patience),
+        KeptPart::Active(_, messages) => write_some(0, messages, skip, most, output, patience),
     }
 }
 
@@ -136,11 +150,17 @@ fn write_file<S: SealedFile, W: Write>(
     faults: &mut Faults<S>,
 ) -> Result<u64, ExportRefusal>
     requires { at ≤ length snapshot.now.shelf.sealed }
-    ensures grows { Grows (W.contents output.old) (W.contents output.new) }
+    // On every disk.
+    ensures count { (file : KeptFile) → slice_get (kept_by_file snapshot.now.shelf) at ≡ Some file
+        → IfOk result (λ n. n ≡ asked_count skip most (length file.messages)) }
     ensures most { IfOk result (λ n. n ≤ most) }
-    ensures count { IsTrue snapshot.now.honest → (file : KeptFile)
-        → slice_get (kept_by_file snapshot.now.shelf) at ≡ Some file
-        → IfOk result (λ n. n ≡ length (take most (drop skip file.messages))) }
+    ensures whole { (file : KeptFile) → slice_get (kept_by_file snapshot.now.shelf) at ≡ Some file
+        → OnOk result (Writes (AreMessages (asked_count skip most (length file.messages))) (W.contents output.old)
+        (W.contents output.new)) }
+    ensures part { (file : KeptFile) → slice_get (kept_by_file snapshot.now.shelf) at ≡ Some file
+        → OnErr result (WritesSome (AreMessages (asked_count skip most (length file.messages)))
+        (W.contents output.old) (W.contents output.new)) }
+    // On honest ones.
     ensures all { IsTrue snapshot.now.honest → (file : KeptFile)
         → slice_get (kept_by_file snapshot.now.shelf) at ≡ Some file → OnOk result (Appends (W.contents output.old)
         (W.contents output.new) (joined (take most (drop skip file.messages)))) }
@@ -172,7 +192,13 @@ fn write_kept<S: SealedFile, W: Write>(
     patience: &mut Patience,
     faults: &mut Faults<S>,
 ) -> Result<(), ExportRefusal>
-    ensures grows { Grows (W.contents output.old) (W.contents output.new) }
+    // On every disk: as many as are asked for, of those that the files are to have, each whole.
+    ensures whole { OnOk result (Writes (AreMessages (asked_count skip most
+        (length (messages_of (kept_by_file snapshot.now.shelf))))) (W.contents output.old) (W.contents output.new)) }
+    ensures part { OnErr result (WritesSome (AreMessages (asked_count skip most
+        (length (messages_of (kept_by_file snapshot.now.shelf))))) (W.contents output.old)
+        (W.contents output.new)) }
+    // On honest ones they are these.
     ensures all { IsTrue snapshot.now.honest → OnOk result (Appends (W.contents output.old) (W.contents output.new)
         (joined (take most (drop skip (messages_of (kept_by_file snapshot.now.shelf)))))) }
     ensures some { IsTrue snapshot.now.honest → OnErr result (AppendsFront (W.contents output.old)
@@ -203,9 +229,12 @@ pub fn write_messages<S: SealedFile, W: Write>(
     output: &mut W,
     faults: &mut Faults<S>,
 ) -> Result<(), ExportRefusal>
-    // On every disk: messages that restate some templates, and some octets after them, or a prefix of these.
-    ensures written { OnOk result (Writes IsExport (W.contents output.old) (W.contents output.new)) }
-    ensures some { IfErr result (WritesUpTo IsExport (W.contents output.old) (W.contents output.new)) }
+    // On every disk: messages that restate some templates, and after them just as many messages as are asked for, of
+    // those that the files are to have, each whole by its own header; or a prefix of such octets.
+    ensures written { OnOk result (Writes (IsExport (asked_count skip most (length (kept_of snapshot.now.shelf))))
+        (W.contents output.old) (W.contents output.new)) }
+    ensures some { IfErr result (WritesUpTo (IsExport (asked_count skip most (length (kept_of snapshot.now.shelf))))
+        (W.contents output.old) (W.contents output.new)) }
     // On honest ones: just what is asked for, or a prefix of it.
     ensures exact { IsTrue snapshot.now.honest → OnOk result
         (Writes (IsExportOf snapshot.now.shelf skip most) (W.contents output.old) (W.contents output.new)) }

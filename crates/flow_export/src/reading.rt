@@ -1,6 +1,6 @@
 //! A sealed segment, read whole.
 
-ghost use Rattle.std.specs.Prelude.{◌≡◌, ⊤, IfOk, IsTrue};
+ghost use Rattle.std.specs.Prelude.{◌≡◌, ⊤, length, IfOk, IsTrue};
 ghost use Rattle.std.specs.List.{AllByRecursion};
 ghost use Rattle.flow_codec.specs.Cutting.{IsCutOff};
 ghost use Rattle.flow_disk.specs.Cause.{HasCause};
@@ -34,13 +34,15 @@ fn shared_messages(alloc: Global, messages: Vec<Vec<u8>>) -> Result<Vec<Bytes>, 
     Ok(shared)
 }
 
-/// The messages of a sealed segment. One that has none isn't read.
+/// The messages of a sealed segment, as many as there are to be. One that has none isn't read.
 pub(crate) fn read_messages<S: SealedFile>(
     alloc: Global,
     part: &SealedPart<S>,
     faults: &mut Faults<S>,
 ) -> Result<Vec<Bytes>, ReadRefusal>
     ensures cause { HasCause ReadRefusal.Fault faults.old faults.new result }
+    // On every disk as many as there are to be.
+    ensures count { IfOk result (λ messages. length messages.items ≡ length (segment_of part.now).messages) }
     ensures found { IsTrue (is_honest part.now)
         → IfOk result (λ messages. messages.items ≡ (segment_of part.now).messages) }
     ensures given { IsTrue (is_honest part.now) → AllByRecursion IsCutOff (segment_of part.now).messages
@@ -50,6 +52,9 @@ pub(crate) fn read_messages<S: SealedFile>(
         return Ok(Vec::new(alloc));
     }
     let messages = messages_of(alloc, part, faults)?;
+    if messages.len() as u64 != part.messages {
+        return Err(ReadRefusal::Damaged(part.reader.file(), part.length));
+    }
     Ok(shared_messages(alloc, messages)?)
 }
 

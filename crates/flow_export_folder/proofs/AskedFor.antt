@@ -1,14 +1,15 @@
 -- An archive that is asked what it passes on, and for its messages.
-use Rattle.std.proofs.Common.{◌≡◌, ◌≢◌, ◌∙◌, ◌-◌, ℕ, List, Option, Some, ap, subst, sym, ◌⊎◌, inl, inr, arith}
-use Rattle.std.specs.Prelude.{true, IsTrue, Result, Ok, Err, IfErr, IsErrAnd, MatchResult, OnOk}
+use Rattle.std.proofs.Common.{◌≡◌, ◌≢◌, ◌∙◌, ◌≤◌, ◌+◌, ◌-◌, ℕ, List, Option, Some, ap, subst, sym, ◌⊎◌, inl, inr, arith}
+use Rattle.std.proofs.Common.{length}
+use Rattle.std.specs.Prelude.{min, true, IsTrue, Result, Ok, Err, IfErr, IsErrAnd, MatchResult, OnOk}
 use Rattle.std.proofs.KnownBytes.{Keeps-refl}
 use Rattle.flow_disk.specs.Cause.{HasCause}
-use Rattle.flow_disk.proofs.Results.{on_ok_by}
+use Rattle.flow_disk.proofs.Results.{if_err_by, on_ok_by}
 use Rattle.flow_folder.specs.declared.system.FolderError.{FolderError}
 use Rattle.flow_manifest.specs.declared.error.OpenError.{OpenError}
 use Rattle.flow_manifest.specs.declared.error.OpenError.TheVariants as open_error
 use Rattle.flow_measure.specs.View.{View}
-use Rattle.flow_model.specs.Shelf.{Shelf}
+use Rattle.flow_model.specs.Shelf.{kept_of, Shelf}
 use Rattle.flow_model.specs.Shelved.{shelf_of}
 use Rattle.flow_model.specs.Standing.{StandsFor}
 use Rattle.flow_model.specs.State.{State}
@@ -17,16 +18,17 @@ use Rattle.flow_recover.specs.Opening.{IsDeviceOrMemory, StandsForNone}
 use Rattle.flow_snapshot.specs.ShelfSeen.{ShelfSeen}
 use Rattle.flow_export.specs.declared.refusal.ExportRefusal.{ExportRefusal}
 use Rattle.flow_export.specs.declared.refusal.ExportRefusal.TheVariants as export
-use Rattle.flow_export.specs.Export.{AreTemplatesAfter, IsBlameless, IsExportOf, Writes, WritesOrNot as WritesOrKeeps}
-use Rattle.flow_export.specs.Export.{WritesUpTo as WritesOrEnds}
+use Rattle.flow_export.specs.Export.{asked_count, AreTemplatesAfter, IsBlameless, IsExport, IsExportOf, Writes}
+use Rattle.flow_export.specs.Export.{WritesOrNot as WritesOrKeeps, WritesUpTo as WritesOrEnds}
 use Rattle.flow_export.proofs.HandingOn.{handed}
 use Rattle.flow_export.proofs.ReadBack.{read_back}
 use Rattle.flow_export_folder.specs.declared.refusal.ArchiveExportRefusal.{ArchiveExportRefusal}
 use Rattle.flow_export_folder.specs.declared.refusal.ArchiveExportRefusal.TheVariants as refusal
 use Rattle.flow_export_folder.specs.declared.span.MessageSpan.{MessageSpan}
-use Rattle.flow_export_folder.specs.Asked.{cut_in, last_before, of_export, AreTemplatesOf, AreUnexported, AreUnwritten}
-use Rattle.flow_export_folder.specs.Asked.{IsCutIn, IsExportRead, IsNoFault, IsOfAsking, IsSpanExport}
-use Rattle.flow_export_folder.specs.Asked.{IsAway, IsUnopened, WritesOrNot, WritesUpTo}
+use Rattle.flow_export_folder.specs.Asked.{cut_in, last_before, last_in, of_export, AreTemplatesOf, AreUnexported}
+use Rattle.flow_export_folder.specs.Asked.{AreUnwritten, IsAway, IsCountedExport, IsCutIn, IsExportOfSome}
+use Rattle.flow_export_folder.specs.Asked.{IsExportRead, IsNoFault, IsOfAsking, IsSpanExport, IsUnopened, WritesOrNot}
+use Rattle.flow_export_folder.specs.Asked.{WritesUpTo}
 use Rattle.flow_export_folder.proofs.Cut.{cut_is}
 
 -- ---- refusals, as they are passed on
@@ -65,6 +67,29 @@ span_exported s span cut before most text is first taken own = (
   subst (λ (k : ℕ). IsExportOf s (before - k) (span.to - before) text) is
       (subst (λ (m : ℕ). IsExportOf s (before - cut) m text) taken own),
 )
+
+-- by its counts
+pub span_counted : (s : Shelf) (span : MessageSpan) (cut before most : ℕ) (text : List ℕ) → cut ≡ cut_in s → cut ≤ before
+    → last_before span cut ≡ Some before → most ≡ span.to - before
+    → IsExport (asked_count (before - cut) most (length (kept_of s))) text
+    → IsCountedExport (cut_in s) (last_in s) span text
+span_counted s span cut before most text is least first taken own =
+    let many : asked_count (before - cut) most (length (kept_of s)) ≡ min span.to (last_in s) - before =
+    omega (arith, is, least, taken) in (
+      before,
+      subst (λ (k : ℕ). last_before span k ≡ Some before) is first,
+      subst (λ (n : ℕ). IsExport n text) many own,
+    )
+
+-- whatever is written, and whatever is answered where it isn't
+pub ended_as : (are also : List ℕ → Type 0) (span : MessageSpan) (old new : Option (List ℕ)) (e : ArchiveExportRefusal)
+    → ((text : List ℕ) → are text → also text) → WritesUpTo are span old new e → WritesUpTo also span old new e
+ended_as are also span old new (refusal.Query e) also_are (inl kept) = inl kept
+ended_as are also span old new (refusal.Query e) also_are (inr (text, is, some)) = inr (text, also_are text is, some)
+ended_as are also span old new (refusal.Write failed) also_are (text, is, some) = (text, also_are text is, some)
+ended_as are also span old new (refusal.Opening e) also_are kept = kept
+ended_as are also span old new (refusal.Folder e) also_are kept = kept
+ended_as are also span old new (refusal.Rolled cut) also_are rolled = rolled
 
 pub written_as : (are also : List ℕ → Type 0) (old new : Option (List ℕ)) → ((text : List ℕ) → are text → also text)
     → Writes are old new → Writes also old new
@@ -182,6 +207,43 @@ module _ (sight directory : ShelfSeen) (is : sight ≡ directory) (s : State)
             unexported reads s stands v view span old new e asking none
             (subst (λ (shelf : Shelf). IsCutIn shelf e) shelf_here cut)
             (subst (λ (shelf : Shelf). WritesUpTo (IsSpanExport shelf span) span old new e) shelf_here some)
+
+-- on every disk
+module _ (sight directory : ShelfSeen) (is : sight ≡ directory) (s : State) (shown : directory.shelf ≡ shelf_of s)
+    (span : MessageSpan) (old new : Option (List ℕ)) (r : Result (Unit {0}) ArchiveExportRefusal) where
+  same_shelf : sight.shelf ≡ shelf_of s
+  same_shelf = ap (λ (d : ShelfSeen). d.shelf) is ∙ shown
+
+  pub counted_here : OnOk r (Writes (IsCountedExport (cut_in sight.shelf) (last_in sight.shelf) span) old new)
+      → OnOk r (Writes (IsCountedExport (cut_in (shelf_of s)) (last_in (shelf_of s)) span) old new)
+  counted_here given =
+      subst (λ (shelf : Shelf). OnOk r (Writes (IsCountedExport (cut_in shelf) (last_in shelf) span) old new))
+      same_shelf given
+
+  pub ended_here : IfErr r (WritesUpTo (IsCountedExport (cut_in sight.shelf) (last_in sight.shelf) span) span old new)
+      → IfErr r (WritesUpTo (IsCountedExport (cut_in (shelf_of s)) (last_in (shelf_of s)) span) span old new)
+  ended_here given =
+      subst (λ (shelf : Shelf). IfErr r (WritesUpTo (IsCountedExport (cut_in shelf) (last_in shelf) span) span old new))
+      same_shelf given
+
+-- of some archive
+module _ (cut last : ℕ) (span : MessageSpan) (old new : Option (List ℕ)) (r : Result (Unit {0}) ArchiveExportRefusal)
+  where
+    counted_of_some : (text : List ℕ) → IsCountedExport cut last span text → IsExportOfSome span text
+    counted_of_some text is = (cut, last, is)
+
+    pub some_written : OnOk r (Writes (IsCountedExport cut last span) old new)
+        → OnOk r (Writes (IsExportOfSome span) old new)
+    some_written given =
+        on_ok_by r (Writes (IsCountedExport cut last span) old new) (Writes (IsExportOfSome span) old new)
+        (written_as (IsCountedExport cut last span) (IsExportOfSome span) old new counted_of_some) given
+
+    pub some_ended : IfErr r (WritesUpTo (IsCountedExport cut last span) span old new)
+        → IfErr r (WritesUpTo (IsExportOfSome span) span old new)
+    some_ended given =
+        if_err_by r (WritesUpTo (IsCountedExport cut last span) span old new)
+        (WritesUpTo (IsExportOfSome span) span old new)
+        (λ e. ended_as (IsCountedExport cut last span) (IsExportOfSome span) span old new e counted_of_some) given
 
 -- ---- an archive that isn't opened
 

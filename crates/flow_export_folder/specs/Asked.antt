@@ -1,5 +1,6 @@
 -- What is exported of the archive on a disk.
-use Rattle.std.specs.Prelude.{◌≡◌, ◌⊎◌, ⊤, ℕ, ◌-◌, IsTrue, List, Option, Some, None, drop, min, nat_le, take}
+use Rattle.std.specs.Prelude.{◌≡◌, ◌⊎◌, ⊤, ℕ, ◌+◌, ◌-◌, IsTrue, List, Option, Some, None, drop, length, min, nat_le}
+use Rattle.std.specs.Prelude.{take}
 use Rattle.std.specs.Prelude.{if◌then◌else◌, Result, Err, MatchResult}
 use Rattle.std.specs.Option.{option_map_or}
 use Rattle.std.specs.Io.KnownBytes.{Keeps}
@@ -8,7 +9,7 @@ use Rattle.flow_disk.specs.Calls.{LeavesOnly}
 use Rattle.flow_disk.specs.Disk.{AllImages}
 use Rattle.flow_export.specs.declared.refusal.ExportRefusal.{ExportRefusal}
 use Rattle.flow_export.specs.declared.refusal.ExportRefusal.TheVariants as export
-use Rattle.flow_export.specs.Export.{IsExportOf, IsReadAs, Writes}
+use Rattle.flow_export.specs.Export.{IsExport, IsExportOf, IsReadAs, Writes}
 use Rattle.flow_export_folder.specs.declared.refusal.ArchiveExportRefusal.{ArchiveExportRefusal}
 use Rattle.flow_export_folder.specs.declared.refusal.ArchiveExportRefusal.TheVariants.{Folder, Opening, Query, Rolled}
 use Rattle.flow_export_folder.specs.declared.refusal.ArchiveExportRefusal.TheVariants.{Write}
@@ -18,7 +19,7 @@ use Rattle.flow_manifest.specs.Slots.{reads_of}
 use Rattle.flow_measure.specs.History.{templates_from}
 use Rattle.flow_measure.specs.View.{View}
 use Rattle.flow_model.specs.Chain.{HandsOn}
-use Rattle.flow_model.specs.Shelf.{cut_of, Shelf}
+use Rattle.flow_model.specs.Shelf.{cut_of, kept_of, Shelf}
 use Rattle.flow_model.specs.Shelved.{shelf_of}
 use Rattle.flow_model.specs.Standing.{StandsFor, StandsForEither}
 use Rattle.flow_model.specs.State.{State}
@@ -48,6 +49,23 @@ abbrev pub IsSpanExport : Shelf → MessageSpan → List ℕ → Type 0
 IsSpanExport s span text =
     (before : ℕ) × (last_before span (cut_in s) ≡ Some before)
     × IsExportOf s (before - cut_in s) (span.to - before) text
+
+-- ---- on every disk
+
+-- the number of the last message there is, by the counts of a shelf
+abbrev pub last_in : Shelf → ℕ
+last_in s = cut_in s + length (kept_of s)
+
+-- Octets are an export of an archive of which messages up to `cut` are in sums alone, and whose last one is `last`:
+-- messages that restate some templates, and then one message for each number that is asked for and is there, each whole
+-- by its own header.
+abbrev pub IsCountedExport : ℕ → ℕ → MessageSpan → List ℕ → Type 0
+IsCountedExport cut last span text =
+    (before : ℕ) × (last_before span cut ≡ Some before) × IsExport (min span.to last - before) text
+
+-- of some archive
+abbrev pub IsExportOfSome : MessageSpan → List ℕ → Type 0
+IsExportOfSome span text = (cut : ℕ) × (last : ℕ) × IsCountedExport cut last span text
 
 -- ---- on an honest disk
 

@@ -2,13 +2,15 @@
 
 ghost use Rattle.std.specs.Prelude.{◌≡◌, ℕ, false, IsTrue, List, OnOk, IfErr};
 ghost use Rattle.flow_disk.specs.Cause.{HasCause};
-ghost use Rattle.flow_export.specs.Export.{AreTemplates, IsExport, Writes};
+ghost use Rattle.flow_export.specs.Export.{AreTemplates, Writes};
 ghost use Rattle.flow_export_folder.specs.declared.refusal.ArchiveExportRefusal.TheVariants as refusal;
-ghost use Rattle.flow_export_folder.specs.Asked.{AreTemplatesOf, AreUnexported, AreUnwritten, ExportsIn, IsCutIn};
-ghost use Rattle.flow_export_folder.specs.Asked.{IsExportRead, IsNoFault, IsOfAsking, IsSpanExport, KeepsArchive};
+ghost use Rattle.flow_export_folder.specs.Asked.{cut_in, last_in, AreTemplatesOf, AreUnexported, AreUnwritten};
+ghost use Rattle.flow_export_folder.specs.Asked.{ExportsIn, IsCountedExport, IsCutIn, IsExportOfSome, IsExportRead};
+ghost use Rattle.flow_export_folder.specs.Asked.{IsNoFault, IsOfAsking, IsSpanExport, KeepsArchive};
 ghost use Rattle.flow_export_folder.specs.Asked.{TemplatesIn, WritesOrNot, WritesUpTo};
 ghost use Rattle.flow_manifest.specs.Slots.{reads_of};
 ghost use Rattle.flow_measure.specs.View.{View};
+ghost use Rattle.flow_model.specs.Shelved.{shelf_of};
 ghost use Rattle.flow_model.specs.Standing.{StandsFor};
 ghost use Rattle.flow_model.specs.Views.{IsViewOf};
 
@@ -135,8 +137,10 @@ fn write_span<S: SealedFile, W: Write>(
     ensures rolled { IfErr result (IsCutIn snapshot.now.shelf) }
     ensures blameless { IsTrue snapshot.now.honest → (v : View) → IsViewOf snapshot.now.shelf v
         → IfErr result IsNoFault }
-    ensures written { OnOk result (Writes IsExport (W.contents output.old) (W.contents output.new)) }
-    ensures some { IfErr result (WritesUpTo IsExport span.now (W.contents output.old) (W.contents output.new)) }
+    ensures written { OnOk result (Writes (IsCountedExport (cut_in snapshot.now.shelf) (last_in snapshot.now.shelf)
+        span.now) (W.contents output.old) (W.contents output.new)) }
+    ensures some { IfErr result (WritesUpTo (IsCountedExport (cut_in snapshot.now.shelf) (last_in snapshot.now.shelf)
+        span.now) span.now (W.contents output.old) (W.contents output.new)) }
     ensures asking { IfErr result IsOfAsking }
     ensures cause { HasCause (refusal.Query ReadRefusal.Fault) faults.old faults.new result }
 {
@@ -164,8 +168,11 @@ fn ask_messages<D: Disk, W: Write>(
         → OnOk result (Writes (IsExportRead reads span.now) (W.contents output.old) (W.contents output.new)) }
     ensures refused { IsTrue (D.honest archive.old.disk) → (reads : ℕ → List ℕ) → StandsFor reads archive.old.state
         → IfErr result (AreUnexported reads span.now (W.contents output.old) (W.contents output.new)) }
-    ensures written { OnOk result (Writes IsExport (W.contents output.old) (W.contents output.new)) }
-    ensures some { IfErr result (WritesUpTo IsExport span.now (W.contents output.old) (W.contents output.new)) }
+    // On every disk as many as the counts of the archive's files say.
+    ensures written { OnOk result (Writes (IsCountedExport (cut_in (shelf_of archive.old.state))
+        (last_in (shelf_of archive.old.state)) span.now) (W.contents output.old) (W.contents output.new)) }
+    ensures some { IfErr result (WritesUpTo (IsCountedExport (cut_in (shelf_of archive.old.state))
+        (last_in (shelf_of archive.old.state)) span.now) span.now (W.contents output.old) (W.contents output.new)) }
     ensures asking { IfErr result IsOfAsking }
     ensures cause { HasCause (refusal.Query ReadRefusal.Fault) faults.old faults.new result }
 {
@@ -193,9 +200,11 @@ pub fn export<D: Disk, W: Write>(
         (W.contents output.old) (W.contents output.new)) }
     ensures refused { IsTrue (D.honest disk) → IfErr result.1
         (AreUnexported (reads_of (D.held disk)) span.now (W.contents output.old) (W.contents output.new)) }
-    // And whatever the disk:
-    ensures written { OnOk result.1 (Writes IsExport (W.contents output.old) (W.contents output.new)) }
-    ensures some { IfErr result.1 (WritesUpTo IsExport span.now (W.contents output.old) (W.contents output.new)) }
+    // And whatever the disk: messages that restate some templates, and then one for each number that is asked for and
+    // is there, each whole; or a prefix of such octets, or nothing.
+    ensures written { OnOk result.1 (Writes (IsExportOfSome span.now) (W.contents output.old) (W.contents output.new)) }
+    ensures some { IfErr result.1 (WritesUpTo (IsExportOfSome span.now) span.now (W.contents output.old)
+        (W.contents output.new)) }
     ensures honest { D.honest result.0 ≡ D.honest disk }
     // A stop at any moment leaves what opens as the archive that was there.
     ensures any_moment { KeepsArchive D.Disk disk result.0 }
@@ -222,8 +231,9 @@ fn export_alone<D: Disk, W: Write>(
 ) -> Result<(), ArchiveExportRefusal>
     requires { (n : ℕ) → (D.marks disk n).frozen ≡ false }
     ensures asked { ExportsIn D.Disk span.now (W.contents output.old) (W.contents output.new) result }
-    ensures written { OnOk result (Writes IsExport (W.contents output.old) (W.contents output.new)) }
-    ensures some { IfErr result (WritesUpTo IsExport span.now (W.contents output.old) (W.contents output.new)) }
+    ensures written { OnOk result (Writes (IsExportOfSome span.now) (W.contents output.old) (W.contents output.new)) }
+    ensures some { IfErr result (WritesUpTo (IsExportOfSome span.now) span.now (W.contents output.old)
+        (W.contents output.new)) }
 {
     let faults = &mut Faults::new();
     let (_disk, asked) = export(alloc, disk, span, output, faults);
@@ -242,8 +252,9 @@ where
     H::File: FileExt + Lockable,
     ensures asked { ExportsIn ⟦<FolderView<'a, H> as Disk>⟧ span.now (W.contents output.old) (W.contents output.new)
         result }
-    ensures written { OnOk result (Writes IsExport (W.contents output.old) (W.contents output.new)) }
-    ensures some { IfErr result (WritesUpTo IsExport span.now (W.contents output.old) (W.contents output.new)) }
+    ensures written { OnOk result (Writes (IsExportOfSome span.now) (W.contents output.old) (W.contents output.new)) }
+    ensures some { IfErr result (WritesUpTo (IsExportOfSome span.now) span.now (W.contents output.old)
+        (W.contents output.new)) }
 {
     let view = FolderView::noting(rt, folder, first_fault)?;
     export_alone(rt.alloc(), view, span, output)

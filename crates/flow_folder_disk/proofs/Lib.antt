@@ -1,4 +1,5 @@
 pub mod Ended
+pub mod Found
 pub mod Inserting
 pub mod Kept
 pub mod Knowing
@@ -6,6 +7,7 @@ pub mod Leaving
 pub mod Lent
 pub mod Listed
 pub mod Marks
+pub mod Ranged
 pub mod Removing
 pub mod Reports
 pub mod Synced

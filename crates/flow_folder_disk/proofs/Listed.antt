@@ -1,7 +1,7 @@
 -- Which files are listed.
 use Rattle.std.proofs.Common.{◌≡◌, ◌≢◌, ◌⊎◌, ⊎_elim, inl, inr, ℕ, ◌+◌, ◌<◌, Bool, true, false, ◌||◌, ◌&&◌, List}
 use Rattle.std.proofs.Common.{length, take, get_or}
-use Rattle.std.proofs.Common.{◌↔◌, Contains, Option, None, Some, is_some, refl, sym, ◌∙◌, ap, subst, arith}
+use Rattle.std.proofs.Common.{◌↔◌, Contains, refl, sym, ◌∙◌, ap, subst, arith}
 use Rattle.std.proofs.lemmas.Bool.{cases_eq, false≢true}
 use Rattle.std.proofs.lemmas.Bool.Decides.{nat_tests}
 use Rattle.std.proofs.lemmas.List.Folds.{list_any_more}
@@ -13,12 +13,10 @@ use Rattle.std.specs.BTreeSet.{BTreeSet, contains, Updates}
 use Rattle.std.specs.List.{list_any}
 use Rattle.std.specs.Bool.{Decides}
 use Rattle.std.proofs.lemmas.Map.Made.{is_member-Decides}
-use Rattle.flow_folder_disk.specs.declared.reported.Reported.{Reported}
 use Rattle.flow_disk.specs.Disk.{Marks}
-use Rattle.flow_folder_disk.specs.Table.{marks_of_some}
 
 -- whether a number is this one
-same_is : (k : ℕ) → is_eq (nat_cmp k k) ≡ true
+pub same_is : (k : ℕ) → is_eq (nat_cmp k k) ≡ true
 same_is k = by_order (nat_cmp k k) refl
   where
     by_order : (o : Ordering) → nat_cmp k k ≡ o → is_eq o ≡ true
@@ -26,7 +24,7 @@ same_is k = by_order (nat_cmp k k) refl
     by_order Greater is = absurd (grind (arith, nat_tests))
     by_order Equal is = refl
 
-other_is : (k n : ℕ) → n ≢ k → is_eq (nat_cmp k n) ≡ false
+pub other_is : (k n : ℕ) → n ≢ k → is_eq (nat_cmp k n) ≡ false
 other_is k n differs = by_order (nat_cmp k n) refl
   where
     by_order : (o : Ordering) → nat_cmp k n ≡ o → is_eq o ≡ false
@@ -34,7 +32,7 @@ other_is k n differs = by_order (nat_cmp k n) refl
     by_order Greater is = refl
     by_order Equal is = absurd (differs (sym (exact_unsigned k n is)))
 
-or_true : (b : Bool) → (b || true) ≡ true
+pub or_true : (b : Bool) → (b || true) ≡ true
 or_true true = refl
 or_true false = refl
 
@@ -85,16 +83,6 @@ added_more first old new list i n listed lt so_far added =
     list i 0)) listed
     ∙ ap (λ (b : Bool). contains nat_cmp first n || (b && listed))
     (sym (list_any_more (eq_by_cmp nat_cmp n) list i 0 lt))
-
--- a file that is listed was reported
-pub listed_is : (o : Option Reported) → (marks_of_some o).listed ≡ true → is_some o ≡ true
-listed_is None is = absurd (false≢true is)
-listed_is (Some r) is = refl
-
--- and so was one that is settled
-pub settled_is : (o : Option Reported) → (marks_of_some o).settled ≡ true → is_some o ≡ true
-settled_is None is = absurd (false≢true is)
-settled_is (Some r) is = refl
 
 -- one file is added, where it is listed
 pub and_here : (marks : ℕ → Marks) (n file : ℕ) → (marks file).listed ≡ true
@@ -155,7 +143,7 @@ or_is : (b l : Bool) → (b ≡ true) ⊎ (l ≡ true) → (b || l) ≡ true
 or_is true l any = refl
 or_is false l any = ⊎_elim (λ no. absurd (false≢true no)) (λ is. is) any
 
-is_or : (b l : Bool) → (b || l) ≡ true → (b ≡ true) ⊎ (l ≡ true)
+pub is_or : (b l : Bool) → (b || l) ≡ true → (b ≡ true) ⊎ (l ≡ true)
 is_or true l is = inl refl
 is_or false l is = inr is
 

@@ -7,6 +7,8 @@ mod ending;
 mod folder;
 mod listing;
 mod names;
+mod number_range;
+mod numbers;
 mod reported;
 mod reporting;
 mod sealed;

@@ -1,6 +1,7 @@
 // What a disk has reported of its files.
-ghost use Rattle.std.specs.Prelude.{◌≡◌, ◌≤◌, ◌^◌, ℕ};
+ghost use Rattle.std.specs.Prelude.{◌≡◌, ◌≤◌, ◌<◌, ◌-◌, ◌^◌, ℕ, IsTrue};
 
+use crate::numbers::Numbers;
 use std::alloc::{AllocError, Global};
 use std::collections::{BTreeMap, BTreeSet};
 
@@ -14,10 +15,34 @@ pub struct Reported {
     ghost within: { size ≤ 2 ^ 62 },
 }
 
+impl Reported {
+    ghost use Rattle.flow_folder_disk.specs.Table.{marks_of, removed};
+
+    /// Whether it is what is reported of a file that was removed.
+    fn is_of_removed(&self) -> bool
+        ensures { IsTrue result → marks_of self.now ≡ removed }
+    {
+        self.size == 0 && self.settled && !self.frozen && !self.listed
+    }
+}
+
+/// What was reported of one file.
+#[derive(Clone, Copy)]
+struct Named {
+    file: u64,
+    reported: Reported,
+}
+
 /// What was reported of each file. Of a file that no call has named, only that it isn't frozen.
 #[derive(Drop)]
 pub struct Table {
+    alloc: Global,
+    /// The file that was named last: one that is written again and again isn't looked up.
+    last: Option<Named>,
+    /// Others, but for those that were removed.
     reported: BTreeMap<u64, Reported>,
+    /// Files that were removed. They take no memory each.
+    removed: Numbers,
 }
 
 impl Table {
@@ -26,7 +51,7 @@ impl Table {
     ghost use Rattle.std.specs.Ordering.{nat_cmp, eq_by_cmp};
     ghost use Rattle.std.specs.BTreeSet.{contains};
     ghost use Rattle.flow_disk.specs.Disk.{Changes, Stays};
-    ghost use Rattle.flow_folder_disk.specs.Table.{marks_of, marks_in, reported_in};
+    ghost use Rattle.flow_folder_disk.specs.Table.{marks_of, marks_in, others_in, removed, reported_in};
 
     /// No call has named a file.
     pub fn new(alloc: Global) -> Self
@@ -34,7 +59,10 @@ impl Table {
         ensures settled { (n : ℕ) → (marks_in result n).settled ≡ false }
     {
         Table {
+            alloc,
+            last: None,
             reported: BTreeMap::new(alloc),
+            removed: Numbers::new(alloc),
         }
     }
 
@@ -42,11 +70,21 @@ impl Table {
     pub fn of(&self, file: u64) -> Reported
         ensures { marks_of result ≡ marks_in self.now file }
     {
+        match self.last {
+            Some(named) if named.file == file => named.reported,
+            _ => self.of_other(file),
+        }
+    }
+
+    /// What was reported of a file that wasn't named last.
+    fn of_other(&self, file: u64) -> Reported
+        ensures { marks_of result ≡ others_in self.now file }
+    {
         match self.reported.get(&file) {
             Some(reported) => *reported,
             None => Reported {
                 size: 0,
-                settled: false,
+                settled: self.removed.has(file),
                 frozen: false,
                 listed: false,
             },
@@ -58,10 +96,49 @@ impl Table {
         ensures done { OnOk result (Changes (marks_in self.old) (marks_in self.new) file (marks_of reported)) }
         ensures failed { OnErr result (Stays (marks_in self.old) (marks_in self.new)) }
     {
+        self.make_way(file)?;
+        self.last = Some(Named { file, reported });
+        Ok(())
+    }
+
+    /// Puts the file that was named last among the others, unless it is this one.
+    fn make_way(&mut self, file: u64) -> Result<(), NoRoom>
+        ensures done { OnOk result ((n : ℕ) → n ≢ file → others_in self.new n ≡ marks_in self.old n) }
+        ensures failed { OnErr result (Stays (marks_in self.old) (marks_in self.new)) }
+    {
+        match self.last {
+            Some(named) if named.file != file => self.put(named.file, named.reported),
+            _ => Ok(()),
+        }
+    }
+
+    /// Puts a file among the others.
+    fn put(&mut self, file: u64, reported: Reported) -> Result<(), NoRoom>
+        ensures last { self.new.last ≡ self.old.last }
+        ensures done { OnOk result (Changes (others_in self.old) (others_in self.new) file (marks_of reported)) }
+        ensures failed { OnErr result (Stays (others_in self.old) (others_in self.new)) }
+    {
+        if file < u64::MAX && reported.is_of_removed() {
+            return self.put_removed(file);
+        }
         match self.reported.insert(file, reported) {
             Ok(_) => Ok(()),
             Err(_) => Err(NoRoom),
         }
+    }
+
+    /// Puts a file that was removed among the others.
+    fn put_removed(&mut self, file: u64) -> Result<(), NoRoom>
+        requires { file < 2 ^ 64 - 1 }
+        ensures last { self.new.last ≡ self.old.last }
+        ensures done { OnOk result (Changes (others_in self.old) (others_in self.new) file removed) }
+        ensures failed { OnErr result (Stays (others_in self.old) (others_in self.new)) }
+    {
+        if self.removed.add(self.alloc, file).is_err() {
+            return Err(NoRoom);
+        }
+        self.reported.remove(&file);
+        Ok(())
     }
 
     /// Adds the files that were reported as listed to these numbers.
@@ -103,7 +180,12 @@ impl Table {
         ensures settled { IfOk result (λ files. (n : ℕ) → (marks_in self.now n).settled ≡ true
             → list_any (eq_by_cmp nat_cmp n) files.items ≡ true) }
     {
-        Ok(self.reported.keys().copied().collect(alloc)?)
+        let mut files = self.reported.keys().copied().collect(alloc)?;
+        self.removed.list(&mut files)?;
+        if let Some(named) = self.last {
+            files.push(named.file)?;
+        }
+        Ok(files)
     }
 }
 

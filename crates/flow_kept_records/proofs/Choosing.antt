@@ -9,8 +9,8 @@ use Rattle.std.proofs.lemmas.List.Sums.{sum_by-cons, sum_by_push}
 use Rattle.std.proofs.lemmas.List.Elements.{filter-append}
 use Rattle.flow_codec.specs.declared.message.Header.{Header}
 use Rattle.flow_codec.specs.Raw.{raw, under, Placed, RawRecord, Took}
-use Rattle.flow_report.specs.declared.records.RecordFormat.{RecordFormat}
-use Rattle.flow_report.specs.Records.{record_text, Started}
+use Rattle.flow_columns.specs.Lines.{line_text, Line}
+use Rattle.flow_report.specs.Records.{Started}
 use Rattle.flow_kept_records.specs.declared.chosen.ChosenRecord.{ChosenRecord}
 use Rattle.flow_kept_records.specs.declared.chosen.ChosenRecords.{ChosenRecords}
 use Rattle.flow_kept_records.specs.Holding.{held, held_in, AreWhole, HasTaken}
@@ -114,28 +114,28 @@ held_are header records old new none empty took =
 
 -- ---- their lines
 
-abbrev pub held_text : RecordFormat → List ChosenRecord → List ℕ → List ℕ
-held_text format rs octets = flat_map (record_text format) (held_in rs octets)
+abbrev pub held_text : Line → List ChosenRecord → List ℕ → List ℕ
+held_text format rs octets = flat_map (line_text format) (held_in rs octets)
 
-pub lines_held : (format : RecordFormat) (xs : List Placed)
-    → flat_map (record_text format) (map started xs) ≡ lines_of format xs
+pub lines_held : (format : Line) (xs : List Placed)
+    → flat_map (line_text format) (map started xs) ≡ lines_of format xs
 lines_held format [] = refl
 lines_held format (x ∷ xs) = ap (λ (l : List ℕ). line_of format x ++ l) (lines_held format xs)
 
-pub next_record : (format : RecordFormat) (rs : List ChosenRecord) (i : ℕ) (r : ChosenRecord)
+pub next_record : (format : Line) (rs : List ChosenRecord) (i : ℕ) (r : ChosenRecord)
     (octets front back : List ℕ) → i < length rs → r ≡ get_or rs i r
     → front ≡ take (min r.len (length octets)) octets → back ≡ drop (min r.len (length octets)) octets
     → held_text format (drop i rs) octets
-    ≡ record_text format (r.start, (r.header, raw r.id r.definition front)) ++ held_text format (drop (i + 1) rs) back
+    ≡ line_text format (r.start, (r.header, raw r.id r.definition front)) ++ held_text format (drop (i + 1) rs) back
 next_record format rs i r octets front back lt is one two =
     let split : drop i rs ≡ get_or rs i r ∷ drop (i + 1) rs = rw add-one (drop-cons rs i r lt) in
     let same : drop i rs ≡ r ∷ drop (i + 1) rs = split ∙ ap (λ (x : ChosenRecord). x ∷ drop (i + 1) rs) (sym is) in
-    let line : List ℕ → List ℕ = λ l. record_text format (r.start, (r.header, raw r.id r.definition l)) in
+    let line : List ℕ → List ℕ = λ l. line_text format (r.start, (r.header, raw r.id r.definition l)) in
     ap (λ (l : List ChosenRecord). held_text format l octets) same
     ∙ ap (λ (l : List ℕ). line l ++ held_text format (drop (i + 1) rs) (drop r.len octets))
     (sym (one ∙ take_min r.len octets))
     ∙ ap (λ (l : List ℕ). line front ++ held_text format (drop (i + 1) rs) l) (sym (two ∙ drop_min r.len octets))
 
-pub no_record : (format : RecordFormat) (rs : List ChosenRecord) (i : ℕ) (octets : List ℕ) → length rs ≤ i
+pub no_record : (format : Line) (rs : List ChosenRecord) (i : ℕ) (octets : List ℕ) → length rs ≤ i
     → held_text format (drop i rs) octets ≡ []
 no_record format rs i octets le = let none : drop i rs ≡ [] = drop_all i rs le in rw none refl

@@ -18,8 +18,8 @@ use Rattle.flow_disk.specs.Window.{Window, IsOn}
 use Rattle.flow_measure.specs.History.{templates_from, Accepted, AreAcceptedFrom}
 use Rattle.flow_refusals.specs.declared.read_refusal.ReadRefusal.{ReadRefusal}
 use Rattle.flow_refusals.specs.declared.read_refusal.ReadRefusal.TheVariants as read
-use Rattle.flow_report.specs.declared.records.RecordFormat.{RecordFormat}
-use Rattle.flow_report.specs.Records.{record_text, Started}
+use Rattle.flow_columns.specs.Lines.{line_text, Line}
+use Rattle.flow_report.specs.Records.{Started}
 use Rattle.flow_report.specs.Telling.{Tells, TellsFront}
 use Rattle.flow_report.proofs.Joining.{holds_more, none_told, stops_more, stops_then, tells_then}
 use Rattle.flow_segment.specs.Carry.{octets_of}
@@ -48,7 +48,7 @@ stays_then old mid new a b =
 pub stays_here : (old : Listing) → StaysSo old old
 stays_here old = record { format = refl; from = refl; to = refl }
 
-both_lines : (format : RecordFormat) (xs ys : List Placed)
+both_lines : (format : Line) (xs ys : List Placed)
     → lines_of format xs ++ lines_of format ys ≡ lines_of format (xs ++ ys)
 both_lines format xs ys = sym (flat_map-append (line_of format) xs ys)
 
@@ -60,29 +60,29 @@ same_within old mid zs same = λ i. records_within (same.from i) (same.to i) zs
 module _ (old mid new : Listing) (was now next : Option (List ℕ)) (xs ys : List Placed) (same : StaysSo old mid) where
   pub told_more : TellsOf old was now mid xs → TellsOf mid now next new ys → TellsOf old was next new (xs ++ ys)
   told_more first more =
-      subst (Tells was old.lines.held next new.lines.held) (both_lines old.lines.format xs ys)
-      (tells_then was now next old.lines.held mid.lines.held new.lines.held (lines_of old.lines.format xs)
-      (lines_of old.lines.format ys) first
-      (subst (λ (f : RecordFormat). Tells now mid.lines.held next new.lines.held (lines_of f ys)) same.format more))
+      subst (Tells was old.lines.held next new.lines.held) (both_lines old.lines.line xs ys)
+      (tells_then was now next old.lines.held mid.lines.held new.lines.held (lines_of old.lines.line xs)
+      (lines_of old.lines.line ys) first
+      (subst (λ (f : Line). Tells now mid.lines.held next new.lines.held (lines_of f ys)) same.format more))
 
   pub told_cut : TellsOf old was now mid xs → TellsFrontOf mid now next ys → TellsFrontOf old was next (xs ++ ys)
   told_cut first more =
-      subst (TellsFront was old.lines.held next) (both_lines old.lines.format xs ys)
-      (stops_then was now next old.lines.held mid.lines.held (lines_of old.lines.format xs)
-      (lines_of old.lines.format ys) first
-      (subst (λ (f : RecordFormat). TellsFront now mid.lines.held next (lines_of f ys)) same.format more))
+      subst (TellsFront was old.lines.held next) (both_lines old.lines.line xs ys)
+      (stops_then was now next old.lines.held mid.lines.held (lines_of old.lines.line xs)
+      (lines_of old.lines.line ys) first
+      (subst (λ (f : Line). TellsFront now mid.lines.held next (lines_of f ys)) same.format more))
 
 pub cut_longer : (old : Listing) (was now : Option (List ℕ)) (xs ys : List Placed) → TellsFrontOf old was now xs
     → TellsFrontOf old was now (xs ++ ys)
 cut_longer old was now xs ys front =
-    subst (TellsFront was old.lines.held now) (both_lines old.lines.format xs ys)
-    (stops_more was now old.lines.held (lines_of old.lines.format xs) (lines_of old.lines.format ys) front)
+    subst (TellsFront was old.lines.held now) (both_lines old.lines.line xs ys)
+    (stops_more was now old.lines.held (lines_of old.lines.line xs) (lines_of old.lines.line ys) front)
 
 pub told_none : (old : Listing) (was : Option (List ℕ)) → TellsOf old was was old []
 told_none old was = holds_more was old.lines.held [] old.lines.held (sym (append-nil old.lines.held))
 
 pub cut_none : (old : Listing) (was : Option (List ℕ)) (xs : List Placed) → TellsFrontOf old was was xs
-cut_none old was xs = none_told was old.lines.held (lines_of old.lines.format xs)
+cut_none old was xs = none_told was old.lines.held (lines_of old.lines.line xs)
 
 -- ---- of some records
 
@@ -174,9 +174,9 @@ other_cause first now e (Err x) is differs same = record {
 
 -- ---- one message
 
-pub lines_taken : (format : RecordFormat) (held : List Started) (xs : List Placed) → held ≡ map started xs
-    → flat_map (record_text format) held ≡ lines_of format xs
-lines_taken format held xs is = ap (flat_map (record_text format)) is ∙ lines_held format xs
+pub lines_taken : (format : Line) (held : List Started) (xs : List Placed) → held ≡ map started xs
+    → flat_map (line_text format) held ≡ lines_of format xs
+lines_taken format held xs is = ap (flat_map (line_text format)) is ∙ lines_held format xs
 
 -- of an accepted message no damage is reported
 pub walk_blameless : {X : Type 0} (takes : X → RawMessage → Type 0) (file at : ℕ) (octets : List ℕ)

@@ -1,15 +1,16 @@
 -- The data records of kept messages whose flows start in a span, and their lines.
-use Rattle.std.specs.Prelude.{◌≡◌, ℕ, ◌&&◌, not, nat_le, nat_lt, Bool, List, filter}
+use Rattle.std.specs.Prelude.{◌≡◌, ◌++◌, ℕ, ◌&&◌, not, nat_le, nat_lt, Bool, List, filter}
 use Rattle.std.specs.List.{flat_map, AllPass, AllZip}
 use Rattle.flow_codec.specs.Message.{interpreted}
 use Rattle.flow_codec.specs.Plan.{values_of}
 use Rattle.flow_codec.specs.Raw.{Placed}
 use Rattle.flow_codec.specs.Templates.{AllTemplates}
+use Rattle.flow_columns.specs.declared.names.LineFormat.{LineFormat}
+use Rattle.flow_columns.specs.Lines.{heading, line_by, line_text, Line}
 use Rattle.flow_measure.specs.Flows.{flow_from}
 use Rattle.flow_measure.specs.History.{Accepted, AreAcceptedFrom}
 use Rattle.flow_measure.specs.View.{View}
-use Rattle.flow_report.specs.declared.records.RecordFormat.{RecordFormat}
-use Rattle.flow_report.specs.Records.{record_text, Started}
+use Rattle.flow_report.specs.Records.{Started}
 use Rattle.flow_segment.specs.Carry.{octets_of}
 use Rattle.flow_segment.specs.PartFlows.{records_in}
 use Rattle.flow_segment.specs.Prefix.{IsRestated}
@@ -36,11 +37,15 @@ records_in_view from to v = records_within from to (records_in v.kept)
 
 -- ---- lines
 
-abbrev pub line_of : RecordFormat → Placed → List ℕ
-line_of format x = record_text format (started x)
+abbrev pub line_of : Line → Placed → List ℕ
+line_of line x = line_text line (started x)
 
-abbrev pub lines_of : RecordFormat → List Placed → List ℕ
-lines_of format records = flat_map (line_of format) records
+abbrev pub lines_of : Line → List Placed → List ℕ
+lines_of line records = flat_map (line_of line) records
+
+-- the heading, and the lines of these records
+abbrev pub records_text : LineFormat → List Placed → List ℕ
+records_text format records = heading format ++ lines_of (line_by format) records
 
 -- records of flows that start within
 abbrev pub AreChosen : ℕ → ℕ → List Placed → Type 0

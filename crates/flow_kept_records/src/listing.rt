@@ -18,9 +18,9 @@ use crate::active::tell_active;
 use crate::chosen::ChosenRecords;
 use crate::part::tell_segment;
 use crate::refusal::RecordsRefusal;
+use flow_columns::{LineFormat, ListLines};
 use flow_disk::{Faults, SealedFile};
 use flow_refusals::ReadRefusal;
-use flow_report::{RecordFormat, RecordLines};
 use flow_snapshot::{KeptPart, Snapshot};
 use std::alloc::Global;
 use std::io::Write;
@@ -29,7 +29,7 @@ use std::io::Write;
 #[derive(Drop)]
 pub(crate) struct Listing {
     pub(crate) chosen: ChosenRecords,
-    pub(crate) lines: RecordLines,
+    pub(crate) lines: ListLines,
 }
 
 /// Takes the lines of one file's records, of flows that start within.
@@ -102,25 +102,25 @@ pub fn write_records<S: SealedFile, W: Write>(
     snapshot: &Snapshot<S>,
     from: u64,
     to: u64,
-    format: RecordFormat,
+    format: &LineFormat<'_>,
     output: &mut W,
     faults: &mut Faults<S>,
 ) -> Result<(), RecordsRefusal>
     ensures cause { HasCause (Query ReadRefusal.Fault) faults.old faults.new result }
     // On every disk: lines of some records whose flows start in the span, or a prefix of such lines.
-    ensures all { OnOk result (WritesRecords format from to (W.contents output.old) (W.contents output.new)) }
-    ensures some { OnErr result (WritesSomeRecords format from to (W.contents output.old) (W.contents output.new)) }
+    ensures all { OnOk result (WritesRecords format.now from to (W.contents output.old) (W.contents output.new)) }
+    ensures some { OnErr result (WritesSomeRecords format.now from to (W.contents output.old) (W.contents output.new)) }
     // On honest ones, damaged or not, each file was read whole.
-    ensures found { IsTrue snapshot.now.honest → OnOk result (WritesOwnRecords format from to
+    ensures found { IsTrue snapshot.now.honest → OnOk result (WritesOwnRecords format.now from to
         (kept_by_file snapshot.now.shelf) (W.contents output.old) (W.contents output.new)) }
     // Of files with a view: the lines are those of the view, or a prefix of these, and no damage is reported.
     ensures told { IsTrue snapshot.now.honest → (v : View) → IsViewOf snapshot.now.shelf v
-        → OnOk result (Appends (W.contents output.old) (W.contents output.new) (records_lines format from to v)) }
+        → OnOk result (Appends (W.contents output.old) (W.contents output.new) (records_lines format.now from to v)) }
     ensures cut { IsTrue snapshot.now.honest → (v : View) → IsViewOf snapshot.now.shelf v
         → IfErr result (λ e. IsBlameless e
-        × AppendsFront (W.contents output.old) (W.contents output.new) (records_lines format from to v)) }
+        × AppendsFront (W.contents output.old) (W.contents output.new) (records_lines format.now from to v)) }
 {
-    let lines = RecordLines::new(alloc, format)?;
+    let lines = ListLines::new(alloc, format)?;
     let chosen = ChosenRecords::new(alloc, from, to);
     let mut listing = Listing { chosen, lines };
     tell_files(alloc, snapshot, &mut listing, output, faults)?;

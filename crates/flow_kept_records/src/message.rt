@@ -5,7 +5,7 @@ ghost use Rattle.std.specs.List.{flat_map};
 ghost use Rattle.flow_codec.specs.Message.{IsAccepted};
 ghost use Rattle.flow_codec.specs.Raw.{under, RawMessage};
 ghost use Rattle.flow_codec.specs.Templates.{AllTemplates};
-ghost use Rattle.flow_report.specs.Records.{record_text};
+ghost use Rattle.flow_columns.specs.Lines.{line_text};
 ghost use Rattle.flow_report.specs.Telling.{Tells, TellsFront};
 ghost use Rattle.flow_segment.specs.PartFlows.{IsWalkedInto};
 ghost use Rattle.flow_kept_records.specs.declared.refusal.RecordsRefusal.TheVariants.{Query};
@@ -17,8 +17,9 @@ use crate::chosen::{ChosenRecord, ChosenRecords};
 use crate::listing::Listing;
 use crate::refusal::RecordsRefusal;
 use flow_codec::{MessageError, Templates, WalkError, walk_message};
+use flow_columns::ListLines;
 use flow_refusals::ReadRefusal;
-use flow_report::{RecordLines, TextError};
+use flow_report::TextError;
 use std::alloc::Global;
 use std::io::Write;
 
@@ -49,14 +50,14 @@ fn choose(
 fn tell_chosen<W: Write>(
     records: &[ChosenRecord],
     octets: &[u8],
-    lines: &mut RecordLines,
+    lines: &mut ListLines,
     output: &mut W,
 ) -> Result<(), TextError>
-    ensures format { lines.new.format ≡ lines.old.format }
+    ensures format { lines.new.line ≡ lines.old.line }
     ensures told { OnOk result (Tells (W.contents output.old) lines.old.held (W.contents output.new) lines.new.held
-        (flat_map (record_text lines.old.format) (held_in records.now octets.now))) }
+        (flat_map (line_text lines.old.line) (held_in records.now octets.now))) }
     ensures front { OnErr result (TellsFront (W.contents output.old) lines.old.held (W.contents output.new)
-        (flat_map (record_text lines.old.format) (held_in records.now octets.now))) }
+        (flat_map (line_text lines.old.line) (held_in records.now octets.now))) }
 {
     let mut rest = octets;
     for record in records {

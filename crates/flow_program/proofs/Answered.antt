@@ -3,6 +3,7 @@ use Rattle.std.proofs.Common.{◌≡◌, ◌∙◌, ◌⊎◌, inl, inr, refl, s
 use Rattle.std.proofs.Common.{List, [], Option, Some, None, codes}
 use Rattle.std.specs.Prelude.{⊤, IfErr, IfOk, ok_or, is_some}
 use Rattle.std.specs.Prelude.{option_map, if◌then◌else◌}
+use Rattle.std.specs.Option.{option_map_or}
 use Rattle.std.specs.Str.{bytes_eq}
 use Rattle.clap.specs.Walk.{Row, Text}
 use Rattle.clap.specs.Walk.{rows_of}
@@ -27,8 +28,10 @@ use Rattle.flow_program.specs.declared.request.LineError.{LineError}
 use Rattle.flow_program.specs.declared.request.LineError.TheVariants as line
 use Rattle.flow_program.specs.Arguments.{requested, request_in}
 use Rattle.flow_program.specs.CommandLine.{asked, flowvault}
-use Rattle.flow_program.specs.Arguments.{are_swapped, format_in}
-use Rattle.flow_program.specs.Requested.{IsLineError, wrong_values, wrong_values_in, wrong_values_of}
+use Rattle.flow_columns.specs.Columns.{first_unknown}
+use Rattle.flow_program.specs.Arguments.{are_swapped, fields_in, format_in, is_set}
+use Rattle.flow_program.specs.Requested.{formatted_values, wrong_names, wrong_others, wrong_records, wrong_values}
+use Rattle.flow_program.specs.Requested.{wrong_values_in, wrong_values_of, IsLineError}
 use Rattle.flow_program.proofs.Walking.{Fails}
 use Rattle.flow_program.proofs.Verdicts.{Verdict, verdict}
 
@@ -103,6 +106,7 @@ IsOurs line.Files = ⊤
 IsOurs line.Number = ⊤
 IsOurs line.Messages = ⊤
 IsOurs line.Formats = ⊤
+IsOurs (line.Field name) = ⊤
 IsOurs line.OutOfMemory = ⊤
 IsOurs (line.Parser e) = ⊥
 
@@ -134,12 +138,29 @@ named_ours name =
     (either_ours (bytes_eq (codes "explain") name) line.Number exported tt
     (either_ours (bytes_eq (codes "export") name) line.Messages line.Width tt tt))))))))))
 
+formatted_ours : (name : Text) (rows : List Row) → IsOurs (formatted_values name rows)
+formatted_ours name rows =
+    either_ours (are_swapped rows) line.Swapped (wrong_values_of name) tt (named_ours name)
+
+field_ours : (unknown : Option Text) (other : LineError) → IsOurs other
+    → IsOurs (option_map_or line.Field unknown other)
+field_ours None other is = is
+field_ours (Some name) other is = tt
+
+records_ours : (rows : List Row) (names : Option Text)
+    → IsOurs (option_map_or (wrong_names rows) names (formatted_values (codes "records") rows))
+records_ours rows None = formatted_ours (codes "records") rows
+records_ours rows (Some names) =
+    let other = formatted_values (codes "records") rows in
+    either_ours (is_set (codes "json") rows) line.Formats (option_map_or line.Field (first_unknown names) other) tt
+    (field_ours (first_unknown names) other (formatted_ours (codes "records") rows))
+
 values_ours : (command : Option (Text × List Row)) → IsOurs (wrong_values command)
 values_ours None = tt
 values_ours (Some c) =
-    let named : LineError = if are_swapped c.1 then line.Swapped else wrong_values_of c.0 in
-    either_ours (is_some (format_in c.1)) named line.Formats
-    (either_ours (are_swapped c.1) line.Swapped (wrong_values_of c.0) tt (named_ours c.0)) tt
+    either_ours (bytes_eq (codes "records") c.0) (wrong_records c.1) (wrong_others c.0 c.1)
+    (records_ours c.1 (fields_in c.1))
+    (either_ours (is_some (format_in c.1)) (formatted_values c.0 c.1) line.Formats (formatted_ours c.0 c.1) tt)
 
 -- what is said of the values of the command that the parser finds, by its name and its rows
 pub values_named : (m : ArgMatches) (name : Text) (rows : List Row) → Some name ≡ subcommand_name_of m
@@ -171,6 +192,7 @@ wrong_words asking line.Files is none = (none, is)
 wrong_words asking line.Number is none = (none, is)
 wrong_words asking line.Messages is none = (none, is)
 wrong_words asking line.Formats is none = (none, is)
+wrong_words asking (line.Field name) is none = (none, is)
 wrong_words asking line.OutOfMemory is none = tt
 wrong_words asking (line.Parser e) is none =
     absurd (subst IsOurs (sym is) (values_ours (subcommand_of flowvault asking)))

@@ -15,7 +15,9 @@ use Rattle.flow_commands.specs.ArchiveFiles.{ListsNoFiles}
 use Rattle.flow_commands.specs.Asking.{Writes}
 use Rattle.flow_commands.specs.Check.{standing_line, standing_of, IsChecked, IsCheckRefused, TellsState}
 use Rattle.flow_disk.specs.declared.disk.Disk.{Ghosts}
+use Rattle.flow_disk.specs.Cause.{HasCause}
 use Rattle.flow_folder.specs.declared.system.FolderError.{FolderError}
+use Rattle.flow_manifest.specs.declared.error.OpenError.TheVariants as open_error
 use Rattle.flow_report.specs.declared.patient.WriteFailed.{WriteFailed}
 use Rattle.flow_report.specs.declared.refusal.Refusal.TheVariants as refusal
 use Rattle.flow_report.specs.Printed.{printed}
@@ -83,6 +85,53 @@ module _ (made old : List ℕ) (empty : old ≡ []) where
 pub no_memory : (files : Bool) (reads : ℕ → List ℕ) → IsNotChecked files reads refused.OutOfMemory
 no_memory true reads = tt
 no_memory false reads = tt
+
+-- ---- what a fault of opening is of
+
+abbrev opening_fault : ArchiveRefusal
+opening_fault = refused.Opening open_error.Fault
+
+-- lines were made, or others
+pub cause_of_lines : {X Y : Type 0} (before after : ℕ) (x : X) (y : Y)
+    → HasCause {T = X} opening_fault before after (Ok x) → HasCause {T = Y} opening_fault before after (Ok y)
+cause_of_lines before after x y is =
+    record { later = is.later; done = is.done; risen = λ never. absurd cc; other = tt }
+
+-- no memory was left for them
+pub cause_of_no_memory : {X Y : Type 0} (before after : ℕ) (x : X) → HasCause {T = X} opening_fault before after (Ok x)
+    → HasCause {T = Y} opening_fault before after (Err refused.OutOfMemory)
+cause_of_no_memory before after x is =
+    record { later = is.later; done = tt; risen = λ never. absurd cc; other = λ _. is.done }
+
+-- a refusal, as it is
+pub cause_of_refusal : {X Y : Type 0} (before after : ℕ) (e : ArchiveRefusal)
+    → HasCause {T = X} opening_fault before after (Err e) → HasCause {T = Y} opening_fault before after (Err e)
+cause_of_refusal before after e is = record {
+  later = is.later;
+  done = tt;
+  risen = λ told. let same : e ≡ opening_fault = cc in is.risen (ap Err same);
+  other = is.other;
+}
+
+no_room_either : (e : ArchiveRefusal) → (without_room e ≡ opening_fault → e ≡ opening_fault)
+    × (e ≡ opening_fault → without_room e ≡ opening_fault)
+no_room_either (refused.Write failed) = (λ is. absurd cc, λ is. absurd cc)
+no_room_either (refused.Opening e) = (λ is. is, λ is. is)
+no_room_either (refused.Query e) = (λ is. is, λ is. is)
+no_room_either (refused.Archive e) = (λ is. is, λ is. is)
+no_room_either (refused.Folder why) = (λ is. is, λ is. is)
+no_room_either refused.OutOfMemory = (λ is. is, λ is. is)
+
+-- a refusal of what writes a text into memory
+pub cause_without_room : {X Y : Type 0} (before after : ℕ) (e made : ArchiveRefusal) → made ≡ without_room e
+    → HasCause {T = X} opening_fault before after (Err e) → HasCause {T = Y} opening_fault before after (Err made)
+cause_without_room before after e made this is = record {
+  later = is.later;
+  done = tt;
+  risen = λ told. let same : made ≡ opening_fault = cc in
+      is.risen (ap Err ((no_room_either e).0 (sym this ∙ same)));
+  other = λ differs. is.other (λ same. differs (this ∙ (no_room_either e).1 same));
+}
 
 -- ---- one archive after the other
 

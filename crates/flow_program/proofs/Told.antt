@@ -1,5 +1,5 @@
 -- What is reported on standard error.
-use Rattle.std.proofs.Common.{◌≡◌, ℕ, List, Option, refl, sym, ap}
+use Rattle.std.proofs.Common.{◌≡◌, ℕ, List, [], ◌∷◌, Option, refl, sym, ap}
 use Rattle.std.proofs.Common.{subst, arith, append_assoc, ◌∙◌}
 use Rattle.std.specs.Prelude.{◌++◌, codes}
 use Rattle.std.proofs.KnownBytes.{Appends-nil}
@@ -7,7 +7,7 @@ use Rattle.clap.specs.declared.error.kind.ErrorKind.{ErrorKind}
 use Rattle.clap.specs.declared.error.kind.ErrorKind.TheVariants as kind
 use Rattle.flow_report.specs.declared.refusal.Refusal.{Refusal}
 use Rattle.flow_report.specs.Printed.{printed, line_of}
-use Rattle.flow_program.specs.Printed.{first_word, kind_text, told_lines}
+use Rattle.flow_program.specs.Printed.{field_text, first_word, kind_text, told_lines}
 use Rattle.flow_report.specs.Writing.{AppendsFront}
 use Rattle.flow_program.specs.Run.{IsArchiveTold, IsRefusalTold}
 use Rattle.flow_commands.specs.declared.archive_refusal.ArchiveRefusal.{ArchiveRefusal}
@@ -42,6 +42,19 @@ two_lines text word bytes e f =
     e ∙ ap (λ (w : List ℕ). told_bytes text w) f
     ∙ ap (λ (x : List ℕ). codes "flowvault: " ++ x)
     (sym (append_assoc text (codes "\n") (line_of (codes "see: flowvault explain " ++ first_word text))))
+
+-- ---- the line for a name that no field has
+
+abbrev named_bytes : List ℕ → List ℕ
+named_bytes name =
+    codes "flowvault: --csv names fields as --json does: no field is named '" ++ (name ++ codes "'\n")
+
+pub field_told : (given name bytes : List ℕ) → bytes ≡ named_bytes given → given ≡ name
+    → bytes ≡ line_of (field_text name)
+field_told given name bytes e same =
+    e ∙ ap named_bytes same
+    ∙ ap (λ (x : List ℕ). codes "flowvault: --csv names fields as --json does: no field is named '" ++ x)
+    (sym (append_assoc name (codes "'") (10 ∷ [])))
 
 -- ---- the line of each kind of wrong words
 

@@ -18,6 +18,9 @@ use Rattle.flow_program.specs.declared.arguments.MomentSpan.{MomentSpan}
 use Rattle.flow_moments.specs.declared.moment.Moment.{Moment}
 use Rattle.flow_moments.specs.declared.moment.Moment.TheVariants.{Ago, Second}
 use Rattle.flow_moments.specs.Moments.{is_relative, moment_of, second_at}
+use Rattle.flow_columns.specs.declared.names.LineFormat.{LineFormat}
+use Rattle.flow_columns.specs.declared.names.LineFormat.TheVariants.{Columns, Whole}
+use Rattle.flow_columns.specs.Columns.{first_unknown}
 use Rattle.flow_report.specs.declared.format.Format.{Format}
 use Rattle.flow_report.specs.declared.format.Layout.{Layout}
 use Rattle.flow_report.specs.declared.format.Layout.TheVariants.{Lines, Csv, Json}
@@ -53,12 +56,26 @@ times_in rows = if is_set (codes "utc") rows then Dates else Seconds
 abbrev pub format_in : List Row → Option Format
 format_in rows = option_map (λ layout. record { layout = layout; times = times_in rows }) (layout_in rows)
 
--- how `records` writes: as JSON where that is asked for
+-- how `records` writes all fields: as JSON where that is asked for
 abbrev pub record_format_in : List Row → RecordFormat
 record_format_in rows = record {
   layout = if is_set (codes "json") rows then records.Json else records.Lines;
   times = times_in rows;
 }
+
+-- the names of the fields that `records` writes
+abbrev pub fields_in : List Row → Option Text
+fields_in rows = first_of (codes "FIELDS") rows
+
+-- as CSV the fields that are named, where each name is known, and JSON isn't asked for
+abbrev pub columns_in : List Row → Text → Option LineFormat
+columns_in rows names =
+    if is_set (codes "json") rows || is_some (first_unknown names) then None
+    else Some (Columns names (times_in rows))
+
+-- how `records` writes: the fields that are named, or all
+abbrev pub line_format_in : List Row → Option LineFormat
+line_format_in rows = option_map_or (columns_in rows) (fields_in rows) (Some (Whole (record_format_in rows)))
 
 -- what `measure` asks for
 abbrev pub measured_in : List Row → Option Request
@@ -205,8 +222,8 @@ listed_in rows = option_and_then (λ words. option_and_then (λ span. option_and
 -- what `records` asks for
 abbrev pub recorded_in : List Row → Option Request
 recorded_in rows =
-    option_and_then (λ folder. option_map (λ span. Records folder span (record_format_in rows)) (span_in rows))
-    (folder_in rows)
+    option_and_then (λ folder. option_and_then (λ span. option_map (Records folder span) (line_format_in rows))
+    (span_in rows)) (folder_in rows)
 
 -- how many of the newest files are left
 abbrev pub keep_in : List Row → Option ℕ
@@ -220,6 +237,12 @@ rolled_in request rows = option_and_then (λ folder. option_map (request folder)
 abbrev pub kept_or : ℕ → List Row → Option ℕ
 kept_or usual rows = option_map_or (number_between 0 4294967295) (first_of (codes "KEEP") rows) (Some usual)
 
+-- how many of the newest rolled files are left, where older ones are merged
+abbrev pub merge_in : List Row → Option (Option ℕ)
+merge_in rows =
+    option_map_or (λ word. option_map Some (number_between 0 4294967295 word)) (first_of (codes "LEFT") rows)
+    (Some None)
+
 -- how many of the first messages of a File are only read: none where nothing is asked for
 abbrev pub passed_in : List Row → Option ℕ
 passed_in rows = option_map_or (number_between 0 (too_many_messages - 1)) (first_of (codes "COUNT") rows) (Some 0)
@@ -227,12 +250,13 @@ passed_in rows = option_map_or (number_between 0 (too_many_messages - 1)) (first
 -- how Files are fed: of the segments 8 are left where nothing else is asked for
 abbrev pub feeding_in : List Row → Option FeedPlan
 feeding_in rows =
-    option_and_then (λ keep. option_map (λ passed. record {
+    option_and_then (λ keep. option_and_then (λ merge. option_map (λ passed. record {
       keep = keep;
+      merge = merge;
       passed = passed;
       warn = is_set (codes "warn") rows;
       datagrams = is_set (codes "datagrams") rows;
-    }) (passed_in rows)) (kept_or 8 rows)
+    }) (passed_in rows)) (merge_in rows)) (kept_or 8 rows)
 
 -- Messages of one File alone are passed: `--from`, whatever its number, goes with no other File, and with no datagrams.
 abbrev pub fed_alone : Bool → Text → FeedPlan → List Text → Option Request
@@ -276,7 +300,9 @@ explained_in rows =
 
 -- what `shell` asks for: all segments are left where nothing else is asked for
 abbrev pub shelled_in : List Row → Option Request
-shelled_in rows = option_and_then (λ folder. option_map (Shell folder) (kept_or 4294967295 rows)) (folder_in rows)
+shelled_in rows =
+    option_and_then (λ folder. option_and_then (λ keep. option_map (Shell folder keep) (merge_in rows))
+    (kept_or 4294967295 rows)) (folder_in rows)
 
 -- the number of the first message that `export` asks for, where one is given, and that of the last, or else the greatest
 abbrev pub first_in : List Row → Option (Option ℕ)

@@ -5,14 +5,16 @@ use Rattle.std.specs.Fmt.{decimal}
 use Rattle.std.specs.Io.KnownBytes.{Appends, Keeps}
 use Rattle.std.specs.List.{AllZip}
 use Rattle.flow_commands.specs.declared.archive_refusal.ArchiveRefusal.{ArchiveRefusal}
-use Rattle.flow_commands.specs.declared.archive_refusal.ArchiveRefusal.TheVariants.{OutOfMemory, Write}
+use Rattle.flow_commands.specs.declared.archive_refusal.ArchiveRefusal.TheVariants.{Opening, OutOfMemory, Write}
 use Rattle.flow_commands.specs.declared.checking.Standing.{Standing}
 use Rattle.flow_commands.specs.ArchiveFiles.{AreFileLines, AreListings}
 use Rattle.flow_commands.specs.Archives.{archive_status, of_folder}
 use Rattle.flow_commands.specs.Asking.{IsNotAsked, IsNotFound}
 use Rattle.flow_commands.specs.Check.{standing_line, standing_of}
 use Rattle.flow_disk.specs.declared.disk.Disk.{Ghosts}
+use Rattle.flow_disk.specs.Cause.{HasCause}
 use Rattle.flow_folder.specs.declared.system.FolderError.{FolderError}
+use Rattle.flow_manifest.specs.declared.error.OpenError.TheVariants.{Fault as OpenFault}
 use Rattle.flow_manifest.specs.Slots.{reads_of}
 use Rattle.flow_model.specs.Standing.{StandsFor}
 use Rattle.flow_model.specs.State.{State}
@@ -54,15 +56,21 @@ AreCheckLines true text = AreListings text
 abbrev pub Outcome : Type 0
 Outcome = Result (List ℕ) ArchiveRefusal
 
+-- A fault of opening is answered exactly where a call of the disk failed, which was one and is another.
+abbrev pub HasOpeningCause : {D S X : Type 0} → Ghosts D S X → D → Outcome → Type 0
+HasOpeningCause {D} g before o = (after : D) × HasCause (Opening OpenFault) (g.faults before) (g.faults after) o
+
 -- Of the folder at a path: the lines of what is read of its disk; or it can't be opened, or the archive is refused.
 abbrev pub IsOutcome : {D S X : Type 0} → Ghosts D S X → (Path → D → Type 0) → (Path → FolderError → Type 0) → Bool
     → Path → Outcome → Type 0
 IsOutcome {D} g opens refuses files path (Ok text) =
     AreCheckLines files text
-    × ((d : D) × opens path d × (IsTrue (g.honest d) → AreChecked files (reads_of (g.held d)) text))
+    × ((d : D) × opens path d × HasOpeningCause g d (Ok text)
+    × (IsTrue (g.honest d) → AreChecked files (reads_of (g.held d)) text))
 IsOutcome {D} g opens refuses files path (Err e) =
     ((why : FolderError) × refuses path why × (e ≡ of_folder why))
-    ⊎ ((d : D) × opens path d × (IsTrue (g.honest d) → IsNotChecked files (reads_of (g.held d)) e))
+    ⊎ ((d : D) × opens path d × HasOpeningCause g d (Err e)
+    × (IsTrue (g.honest d) → IsNotChecked files (reads_of (g.held d)) e))
 
 -- whatever the disks
 abbrev pub MayBeOutcome : Bool → Path → Outcome → Type 0

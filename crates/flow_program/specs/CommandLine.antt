@@ -95,7 +95,8 @@ moments_shape name = record (span_shape name) { rules = (span_shape name).rules 
 -- `records`
 abbrev pub records_shape : Shape
 records_shape = record (moments_shape (codes "records")) {
-  rules = (moments_shape (codes "records")).rules ++ flag (codes "json") ∷ flag (codes "utc") ∷ [];
+  rules = (moments_shape (codes "records")).rules
+      ++ option (codes "FIELDS") (codes "csv") ∷ flag (codes "json") ∷ flag (codes "utc") ∷ [];
 }
 
 -- the folders that `totals` and `flows` ask, and after them a span by numbers, or moments in their place
@@ -119,16 +120,20 @@ totals_shape = record summed_shape {
 abbrev pub keep_shape : Text → Shape
 keep_shape name = record (new_shape name) { rules = folder_rule ∷ needed (codes "KEEP") ∷ [] }
 
--- the arguments of `feed` but for its last ones
+-- the first arguments of `feed`
 abbrev pub kept_shape : Shape
 kept_shape = record (new_shape (codes "feed")) {
   rules = folder_rule ∷ several (codes "FILE") ∷ option (codes "KEEP") (codes "keep") ∷ [];
 }
 
--- but for its very last one
+-- one more
+abbrev pub merging_shape : Shape
+merging_shape = record kept_shape { rules = kept_shape.rules ++ option (codes "LEFT") (codes "merge") ∷ [] }
+
+-- all but its very last one
 abbrev pub passing_shape : Shape
-passing_shape = record kept_shape {
-  rules = kept_shape.rules ++ option (codes "COUNT") (codes "from") ∷ flag (codes "warn") ∷ [];
+passing_shape = record merging_shape {
+  rules = merging_shape.rules ++ option (codes "COUNT") (codes "from") ∷ flag (codes "warn") ∷ [];
 }
 
 abbrev pub feed_shape : Shape
@@ -144,7 +149,7 @@ templates_shape = record (new_shape (codes "templates")) { rules = folder_rule �
 
 abbrev pub shell_shape : Shape
 shell_shape = record (new_shape (codes "shell")) {
-  rules = folder_rule ∷ option (codes "KEEP") (codes "keep") ∷ [];
+  rules = folder_rule ∷ option (codes "KEEP") (codes "keep") ∷ option (codes "LEFT") (codes "merge") ∷ [];
 }
 
 abbrev pub program : App

@@ -6,12 +6,12 @@ use Rattle.flow_commands.specs.declared.archive_refusal.ArchiveRefusal.{ArchiveR
 use Rattle.flow_commands.specs.declared.archive_refusal.ArchiveRefusal.TheVariants as archive
 use Rattle.flow_commands.specs.Archives.{archive_printed, archive_status, of_folder, of_opening, of_query}
 use Rattle.flow_disk.specs.declared.disk.Disk.{Ghosts}
-use Rattle.flow_export.specs.Export.{AreTemplates, IsExport, Writes}
+use Rattle.flow_export.specs.Export.{AreTemplates, Writes}
 use Rattle.flow_export_folder.specs.declared.refusal.ArchiveExportRefusal.{ArchiveExportRefusal}
 use Rattle.flow_export_folder.specs.declared.refusal.ArchiveExportRefusal.TheVariants.{Folder, Opening, Query}
 use Rattle.flow_export_folder.specs.declared.refusal.ArchiveExportRefusal.TheVariants.{Rolled, Write}
 use Rattle.flow_export_folder.specs.declared.span.MessageSpan.{MessageSpan}
-use Rattle.flow_export_folder.specs.Asked.{ExportsIn, TemplatesIn, WritesOrNot, WritesUpTo}
+use Rattle.flow_export_folder.specs.Asked.{ExportsIn, IsExportOfSome, TemplatesIn, WritesOrNot, WritesUpTo}
 use Rattle.flow_refusals.specs.declared.code.RefusalCode.TheVariants as code
 use Rattle.flow_refusals.specs.Table.{code_text, row_of}
 use Rattle.flow_report.specs.Writing.{AppendsFront}
@@ -54,15 +54,17 @@ ExportEnds done refused before after status =
     ((status ≡ 0) × Keeps before after × done)
     ⊎ ((e : ArchiveExportRefusal) × (status ≡ export_status e) × IsExportReported e before after × refused e)
 
--- `export` of these messages: of a folder that is read as some disk of the kind `g` just these, and whatever the disk
--- messages that restate some templates, and then some octets
+-- `export` of these messages: of a folder that is read as some disk of the kind `g` just these. Whatever the disk:
+-- messages that restate some templates, and then one message for each number that is asked for and is there, each whole
+-- by its own header, of an archive with some cut and some last message; or a prefix of such octets, or nothing.
 abbrev pub MessagesEnd : {D S X : Type 0} → Ghosts D S X → MessageSpan → Option (List ℕ) → Option (List ℕ)
     → Option (List ℕ) → Option (List ℕ) → ℕ → Type 0
 MessagesEnd g span old new before after status =
-    ExportEnds (Writes IsExport old new × ExportsIn g span old new (Ok tt))
-    (λ e. WritesUpTo IsExport span old new e × ExportsIn g span old new (Err e)) before after status
+    ExportEnds (Writes (IsExportOfSome span) old new × ExportsIn g span old new (Ok tt))
+    (λ e. WritesUpTo (IsExportOfSome span) span old new e × ExportsIn g span old new (Err e)) before after status
 
--- `templates`, likewise: just those in force, and whatever the disk messages that restate some templates
+-- `templates`, likewise: just those in force, and whatever the disk messages that restate some templates, and nothing
+-- else; or a prefix of such octets, or nothing
 abbrev pub TemplatesEnd : {D S X : Type 0} → Ghosts D S X → Option (List ℕ) → Option (List ℕ) → Option (List ℕ)
     → Option (List ℕ) → ℕ → Type 0
 TemplatesEnd g old new before after status =

@@ -15,6 +15,10 @@ kind_text MissingRequiredArgument =
     codes "an argument is missing: flowvault help COMMAND lists them"
 kind_text _ = codes "a word isn't understood: flowvault help COMMAND lists what it takes; measure and dump read standard input"
 
+-- a name that no field has
+abbrev pub field_text : List ℕ → List ℕ
+field_text name = codes "--csv names fields as --json does: no field is named '" ++ name ++ codes "'"
+
 abbrev pub words_text : LineError → List ℕ
 words_text (line.Parser error) = kind_text (kind_of error)
 words_text line.Width = codes "WIDTH is 1 to 86400, digits alone, as in: flowvault measure 300 < FILE"
@@ -35,11 +39,12 @@ words_text line.Swapped = codes "--since is later than --until: the span ends be
 words_text line.Keep = codes "KEEP is how many of the newest files are left, digits alone, 0 to 4294967295"
 words_text line.Files =
     codes "FILE is given 1 to 8 times, but once with --from, 0 to 281474976710655, and without --datagrams; "
-    ++ codes "--keep is how many of the newest segments are left, 0 to 4294967295"
+    ++ codes "--keep and --merge are how many of the newest segments, and rolled files, are left, 0 to 4294967295"
 words_text line.Number = codes "no refusal has this NUMBER: they are 1 to 11, 14 to 17, 20 to 27, 30 to 32, 40 to 52"
 words_text line.Messages =
     codes "--from is 1 to 281474976710655, --to up to 281474976710655 and at least --from less 1, digits alone"
 words_text line.Formats = codes "--csv and --json are two formats: one of them is taken, not both"
+words_text (line.Field name) = field_text name
 words_text line.OutOfMemory = codes "11 OutOfMemory"
 
 -- the text before its first space: of a refusal's text its number

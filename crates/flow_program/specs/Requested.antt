@@ -8,9 +8,11 @@ use Rattle.clap.specs.Simple.{subcommand_of}
 use Rattle.clap.specs.Walk.{Row, Text}
 use Rattle.flow_program.specs.declared.request.LineError.{LineError}
 use Rattle.flow_program.specs.declared.request.LineError.TheVariants.{Parser, Width, Plan, Span, Keep, Files}
-use Rattle.flow_program.specs.declared.request.LineError.TheVariants.{Flows, Folders, Formats, Messages, Number}
+use Rattle.flow_program.specs.declared.request.LineError.TheVariants.{Field, Flows, Folders, Formats, Messages}
+use Rattle.flow_program.specs.declared.request.LineError.TheVariants.{Number}
 use Rattle.flow_program.specs.declared.request.LineError.TheVariants.{OutOfMemory, Swapped, Totals}
-use Rattle.flow_program.specs.Arguments.{are_swapped, format_in}
+use Rattle.flow_columns.specs.Columns.{first_unknown}
+use Rattle.flow_program.specs.Arguments.{are_swapped, fields_in, format_in, is_set}
 use Rattle.flow_program.specs.CommandLine.{asked, flowvault}
 
 -- what is said of the values of a command, by its name
@@ -33,9 +35,24 @@ wrong_values_of name =
 abbrev pub formatted_values : Text → List Row → LineError
 formatted_values name rows = if are_swapped rows then Swapped else wrong_values_of name
 
--- what is said of the values of a command: that two formats are asked for, or what is said of those of one format
+-- of the names of the fields that `records` writes: that two formats are asked for, or which name is none of a field
+abbrev pub wrong_names : List Row → Text → LineError
+wrong_names rows names =
+    if is_set (codes "json") rows then Formats
+    else option_map_or Field (first_unknown names) (formatted_values (codes "records") rows)
+
+-- of the values of `records`
+abbrev pub wrong_records : List Row → LineError
+wrong_records rows = option_map_or (wrong_names rows) (fields_in rows) (formatted_values (codes "records") rows)
+
+-- of those of any other command: that two formats are asked for, or what is said of those of one format
+abbrev pub wrong_others : Text → List Row → LineError
+wrong_others name rows = if is_some (format_in rows) then formatted_values name rows else Formats
+
+-- what is said of the values of a command
 abbrev pub wrong_values_in : Text → List Row → LineError
-wrong_values_in name rows = if is_some (format_in rows) then formatted_values name rows else Formats
+wrong_values_in name rows =
+    if bytes_eq (codes "records") name then wrong_records rows else wrong_others name rows
 
 -- what is said of the values of what the parser finds
 abbrev pub wrong_values : Option (Text × List Row) → LineError
@@ -61,4 +78,5 @@ IsLineError words Files = IsOfValues words Files
 IsLineError words Number = IsOfValues words Number
 IsLineError words Messages = IsOfValues words Messages
 IsLineError words Formats = IsOfValues words Formats
+IsLineError words (Field name) = IsOfValues words (Field name)
 IsLineError words (Parser error) = (asked words ≡ None) × HasKind (fault_of flowvault words) error

@@ -11,7 +11,7 @@ use Rattle.flow_report.specs.declared.refusal.Refusal.TheVariants as refusal
 use Rattle.flow_program.specs.declared.request.LineError.{LineError}
 use Rattle.flow_program.specs.declared.request.LineError.TheVariants.{Parser, Width, Plan, Span, Keep, Files}
 use Rattle.flow_program.specs.declared.request.LineError.TheVariants.{Formats, Messages, Number, OutOfMemory, Swapped}
-use Rattle.flow_program.specs.declared.request.LineError.TheVariants.{Flows as FlowsWrong, Folders}
+use Rattle.flow_program.specs.declared.request.LineError.TheVariants.{Field, Flows as FlowsWrong, Folders}
 use Rattle.flow_program.specs.declared.request.LineError.TheVariants.{Totals as TotalsWrong}
 use Rattle.flow_program.specs.declared.request.Request.{Request}
 use Rattle.flow_program.specs.declared.request.Request.TheVariants.{Measure, Dump, Inspect, InspectFiles}
@@ -35,8 +35,8 @@ use Rattle.flow_commands.specs.Asking.{AreFlowsIn, AreRowsIn, Writes, WritesOrNo
 use Rattle.flow_shell.specs.Asked.{MayKeep}
 use Rattle.flow_shell.specs.Endings.{ShellsIn}
 use Rattle.flow_kept_records.specs.Listing.{AreRecordsIn}
+use Rattle.flow_columns.specs.declared.names.LineFormat.{LineFormat}
 use Rattle.flow_report.specs.declared.format.Format.{Format}
-use Rattle.flow_report.specs.declared.records.RecordFormat.{RecordFormat}
 use Rattle.flow_program.specs.Arguments.{has_input, span_at}
 use Rattle.flow_program.specs.declared.arguments.MomentSpan.{MomentSpan}
 use Rattle.flow_program.specs.Checks.{ChecksEnd, MayBeOutcome}
@@ -111,7 +111,7 @@ abbrev pub AreFlowsAsked : Format → MomentSpan → List ℕ → Type 0
 AreFlowsAsked format span text = (now : ℕ) × AreFlowsIn format (span_at now span) text
 
 -- and lines of the data records of flows that start in it
-abbrev pub AreRecordsAsked : RecordFormat → MomentSpan → List ℕ → Type 0
+abbrev pub AreRecordsAsked : LineFormat → MomentSpan → List ℕ → Type 0
 AreRecordsAsked format span text =
     (now : ℕ) × AreRecordsIn format (span_at now span).from (span_at now span).to text
 
@@ -130,12 +130,12 @@ FeedEnds g octets plan files input old new before after status =
     × FeedsIn g octets plan (input_given files input) files old new (Err e)) before after status
 
 -- `shell`: what it answers is written on standard output, and nothing on standard error; or it was refused. Meanwhile
--- one rolled who keeps as many segments as was asked for, at first or by a line of the input.
-abbrev pub ShellEnds : {D S X : Type 0} → Ghosts D S X → ℕ → Option (List ℕ) → Option (List ℕ) → Option (List ℕ)
-    → Option (List ℕ) → Option (List ℕ) → ℕ → Type 0
-ShellEnds g keep input old new before after status =
-    (Keeps before after × ShellsIn g (MayKeep keep input) old new (Ok status))
-    ⊎ IsEndedBy (λ e. ShellsIn g (MayKeep keep input) old new (Err e)) before after status
+-- one rolled who keeps and merges as many files as was asked for, at first or by a line of the input.
+abbrev pub ShellEnds : {D S X : Type 0} → Ghosts D S X → ℕ → Option ℕ → Option (List ℕ) → Option (List ℕ)
+    → Option (List ℕ) → Option (List ℕ) → Option (List ℕ) → ℕ → Type 0
+ShellEnds g keep merge input old new before after status =
+    (Keeps before after × ShellsIn g (MayKeep keep merge input) old new (Ok status))
+    ⊎ IsEndedBy (λ e. ShellsIn g (MayKeep keep merge input) old new (Err e)) before after status
 
 -- Text is shown on standard output, with status 0 and nothing on standard error; or it couldn't be, and that is
 -- reported.
@@ -205,8 +205,8 @@ Runs g view octets (Records folder span format) input left old new before after 
     Keeps input left × ListEnds (AreRecordsAsked format span) old new before after status
 Runs g view octets (Feed folder plan files) input left old new before after status =
     (has_input files ≡ false → Keeps input left) × FeedEnds g octets plan files input old new before after status
-Runs g view octets (Shell folder keep) input left old new before after status =
-    ShellEnds g keep input old new before after status
+Runs g view octets (Shell folder keep merge) input left old new before after status =
+    ShellEnds g keep merge input old new before after status
 Runs g view octets (RollAsked folder keep) input left old new before after status =
     Keeps input left × JobEnds g Roll keep old new before after status
 Runs g view octets (MergeAsked folder keep) input left old new before after status =
@@ -260,6 +260,7 @@ IsTold Files old new before after status = IsWrong Files old new before after st
 IsTold Number old new before after status = IsWrong Number old new before after status
 IsTold Messages old new before after status = IsWrong Messages old new before after status
 IsTold Formats old new before after status = IsWrong Formats old new before after status
+IsTold (Field name) old new before after status = IsWrong (Field name) old new before after status
 IsTold OutOfMemory old new before after status =
     (status ≡ 4) × Keeps old new × IsRefusalTold refusal.OutOfMemory before after
 

@@ -13,6 +13,7 @@ ghost use Rattle.flow_program.specs.Run.{FeedEnds, JobEnds, input_given, ListEnd
 
 use crate::arguments::{FileNames, FolderName, MomentSpan};
 use crate::telling::{DONE, tell_of_archive};
+use flow_columns::LineFormat;
 use flow_commands::{
     ArchiveRefusal, FeedPlan, FolderFault, NewArchive, Progress, StartSpan, Workers,
     check_files_in, check_in, create_in, feed_in, flows_in, roll_in, totals_in, warn_of_wide,
@@ -21,7 +22,7 @@ use flow_disk::Disk;
 use flow_folder::{FirstFault, FolderDisk, Lockable};
 use flow_manifest::JobKind;
 use flow_records::records_in;
-use flow_report::{Format, RecordFormat};
+use flow_report::Format;
 use flow_shell::shell_in;
 use std::alloc::AllocGlobal;
 use std::fs::Files;
@@ -235,15 +236,15 @@ fn write_records<H: Files + AllocGlobal + Clock + Clone + Drop, W: Write>(
     folder: &FolderName<'_>,
     first_fault: &FirstFault,
     span: MomentSpan,
-    format: RecordFormat,
+    format: &LineFormat<'_>,
     output: &mut W,
 ) -> Result<(), ArchiveRefusal>
 where
     H::File: FileExt + Lockable,
-    ensures written { OnOk result (Writes (AreRecordsAsked format span) (W.contents output.old)
+    ensures written { OnOk result (Writes (AreRecordsAsked format.now span) (W.contents output.old)
         (W.contents output.new)) }
     ensures kept { IfErr result
-        (λ e. WritesUpTo (AreRecordsAsked format span) e (W.contents output.old) (W.contents output.new)) }
+        (λ e. WritesUpTo (AreRecordsAsked format.now span) e (W.contents output.old) (W.contents output.new)) }
 {
     let span = seconds_of(rt, span)?;
     records_in(rt, folder.path, first_fault, &span, format, output)
@@ -255,13 +256,13 @@ pub(crate) fn run_records<H: Files + AllocGlobal + Clock + Clone + Drop, W: Writ
     folder: &FolderName<'_>,
     first_fault: &FirstFault,
     span: MomentSpan,
-    format: RecordFormat,
+    format: &LineFormat<'_>,
     output: &mut W,
     errors: &mut E,
 ) -> u8
 where
     H::File: FileExt + Lockable,
-    ensures runs { ListEnds (AreRecordsAsked format span) (W.contents output.old) (W.contents output.new)
+    ensures runs { ListEnds (AreRecordsAsked format.now span) (W.contents output.old) (W.contents output.new)
         (E.contents errors.old) (E.contents errors.new) result }
     ensures quiet { result ≡ 0 → Keeps (E.contents errors.old) (E.contents errors.new) }
     ensures status { result ≤ 5 }
@@ -357,6 +358,7 @@ pub(crate) fn run_shell<
     folder: &FolderName<'a>,
     first_fault: &'a FirstFault,
     keep: u32,
+    merge: Option<u32>,
     input: &mut R,
     output: &mut W,
     errors: &mut E,
@@ -364,13 +366,13 @@ pub(crate) fn run_shell<
 where
     H::File: FileExt + Lockable + Send + Sync,
     H::Dir: Send + Sync,
-    ensures runs { ShellEnds ⟦<FolderDisk<'a, H> as Disk>⟧ keep (R.remaining input.old) (W.contents output.old)
+    ensures runs { ShellEnds ⟦<FolderDisk<'a, H> as Disk>⟧ keep merge (R.remaining input.old) (W.contents output.old)
         (W.contents output.new) (E.contents errors.old) (E.contents errors.new) result }
     ensures quiet { result ≡ 0 → Keeps (E.contents errors.old) (E.contents errors.new) }
     ensures status { result ≤ 5 }
     ensures other { result ≢ 2 }
 {
-    match shell_in(rt, folder.path, first_fault, keep, input, output) {
+    match shell_in(rt, folder.path, first_fault, keep, merge, input, output) {
         Ok(status) => status,
         Err(refusal) => tell_of_archive(rt.alloc(), errors, &refusal),
     }

@@ -8,8 +8,8 @@ ghost use Rattle.clap.specs.Walk.{all_of, rows_of};
 ghost use Rattle.flow_program.specs.Arguments.{explained_in, few_of, folder_in, limit_in, plan_in, second_in, span_in};
 ghost use Rattle.flow_program.specs.Arguments.{wide_in};
 ghost use Rattle.flow_program.specs.Arguments.{feeding_in, files_in, format_in, given_in, is_given, is_set, keep_in};
-ghost use Rattle.flow_program.specs.Arguments.{are_swapped, forward, is_later, kept_or};
-ghost use Rattle.flow_program.specs.Arguments.{layout_in, record_format_in, times_in};
+ghost use Rattle.flow_program.specs.Arguments.{are_swapped, fields_in, forward, is_later, kept_or, merge_in};
+ghost use Rattle.flow_program.specs.Arguments.{layout_in, line_format_in, record_format_in, times_in};
 ghost use Rattle.flow_program.specs.Arguments.{moment_in, numbered_span_in, passed_in, worded_span_in};
 ghost use Rattle.flow_program.specs.Arguments.{folders_of, is_by_moments, last_span_of, span_of, totals_span_in};
 ghost use Rattle.flow_program.specs.Arguments.{width_in, workers_in};
@@ -18,6 +18,7 @@ ghost use Rattle.flow_manifest.specs.Limits.{greatest_limit, least_limit};
 
 use crate::explaining::Explanation;
 use clap::ArgMatches;
+use flow_columns::{FieldNames, LineFormat, first_unknown};
 use flow_commands::{FeedPlan, NewArchive, StartSpan, Workers};
 use flow_manifest::{GREATEST_LIMIT, GREATEST_WIDTH, LEAST_LIMIT, MOST_MESSAGES};
 use flow_moments::{Moment, moment_of};
@@ -417,8 +418,8 @@ pub(crate) fn format_in(arguments: &ArgMatches<'_>) -> Option<Format>
     Some(Format { layout, times })
 }
 
-/// How `records` writes, among its arguments.
-pub(crate) fn record_format_in(arguments: &ArgMatches<'_>) -> RecordFormat
+/// How `records` writes all fields, among its arguments.
+fn record_format_in(arguments: &ArgMatches<'_>) -> RecordFormat
     ensures { result ≡ record_format_in (rows_of (found_of arguments.now)) }
 {
     let layout = if is_set(arguments, "json") {
@@ -428,6 +429,31 @@ pub(crate) fn record_format_in(arguments: &ArgMatches<'_>) -> RecordFormat
     };
     let times = times_in(arguments);
     RecordFormat { layout, times }
+}
+
+/// The names of the fields that `records` writes, among its arguments, where they are given.
+#[tactic(auto, using(crate::proofs::Reading::first_value_is))]
+pub(crate) fn fields_in<'a>(arguments: &ArgMatches<'a>) -> Option<&'a str>
+    ensures { option_map (λ names. names.now) result ≡ fields_in (rows_of (found_of arguments.now)) }
+{
+    arguments.get_str("FIELDS")
+}
+
+/// How `records` writes, among its arguments: `None` where two formats are asked for, or where no field has a name that
+/// is given.
+pub(crate) fn line_format_in<'a>(arguments: &ArgMatches<'a>) -> Option<LineFormat<'a>>
+    ensures { result ≡ line_format_in (rows_of (found_of arguments.now)) }
+{
+    let Some(names) = fields_in(arguments) else {
+        return Some(LineFormat::Whole(record_format_in(arguments)));
+    };
+    if is_set(arguments, "json") {
+        return None;
+    }
+    match first_unknown(names) {
+        Some(_) => None,
+        None => Some(LineFormat::Columns(FieldNames::new(names), times_in(arguments))),
+    }
 }
 
 /// How many workers scan, among the arguments of `totals`, where that is said.
@@ -463,6 +489,18 @@ fn kept_or(arguments: &ArgMatches<'_>, usual: u32) -> Option<u32>
     Some(keep as u32)
 }
 
+/// How many of the newest rolled files are left, among the arguments of `feed` and `shell`, where others are merged.
+#[tactic(auto, using(crate::proofs::Reading::first_value_is))]
+pub(crate) fn merge_in(arguments: &ArgMatches<'_>) -> Option<Option<u32>>
+    ensures { result ≡ merge_in (rows_of (found_of arguments.now)) }
+{
+    let Some(word) = arguments.get_str("LEFT") else {
+        return Some(None);
+    };
+    let keep = number_between(0, MOST_KEEP, word.as_bytes())?;
+    Some(Some(keep as u32))
+}
+
 /// How many of the newest segments `shell` leaves, among its arguments: all of them where nothing is said.
 pub(crate) fn kept_in_shell(arguments: &ArgMatches<'_>) -> Option<u32>
     ensures { result ≡ kept_or 4294967295 (rows_of (found_of arguments.now)) }
@@ -493,11 +531,13 @@ pub(crate) fn feeding_in(arguments: &ArgMatches<'_>) -> Option<FeedPlan>
     ensures { result ≡ feeding_in (rows_of (found_of arguments.now)) }
 {
     let keep = kept_or(arguments, USUAL_KEEP)?;
+    let merge = merge_in(arguments)?;
     let passed = passed_in(arguments)?;
     let warn = is_set(arguments, "warn");
     let datagrams = is_set(arguments, "datagrams");
     Some(FeedPlan {
         keep,
+        merge,
         passed,
         warn,
         datagrams,

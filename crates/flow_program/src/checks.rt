@@ -3,6 +3,8 @@
 ghost use Rattle.std.specs.Prelude.{◌≡◌, ◌≢◌, ◌≤◌, ◌++◌, ◌∷◌, [], ℕ, List, max, true, false, IsTrue, OnOk};
 ghost use Rattle.std.specs.Prelude.{IfOk, IfErr, Ok, Err};
 ghost use Rattle.std.specs.Io.KnownBytes.{Appends, Keeps};
+ghost use Rattle.flow_commands.specs.declared.archive_refusal.ArchiveRefusal.TheVariants as refused;
+ghost use Rattle.flow_disk.specs.Cause.{HasCause};
 ghost use Rattle.flow_manifest.specs.Slots.{reads_of};
 ghost use Rattle.flow_report.specs.declared.patient.WriteFailed.{WriteFailed};
 ghost use Rattle.flow_report.specs.declared.refusal.Refusal.TheVariants as refusal;
@@ -19,6 +21,7 @@ use crate::several::report_archive;
 use crate::telling::{DONE, tell};
 use flow_commands::{ArchiveRefusal, check, check_files};
 use flow_disk::{Disk, Faults};
+use flow_manifest::OpenError;
 use flow_report::{Patience, Refusal, write_patiently};
 use flow_several_folders::Opener;
 use itoa::Buffer;
@@ -42,6 +45,8 @@ fn check_line<D: Disk>(alloc: Global, disk: D) -> Result<Vec<u8>, ArchiveRefusal
         → IfOk result (λ text. AreChecked false (reads_of (D.held disk)) text.items) }
     ensures refused { IsTrue (D.honest disk) → IfErr result (IsNotChecked false (reads_of (D.held disk))) }
     ensures written { IfOk result (λ text. AreCheckLines false text.items) }
+    // It is a fault of opening exactly where a call of the disk failed.
+    ensures cause { (after : D) × HasCause (refused.Opening OpenError.Fault) (D.faults disk) (D.faults after) result }
 {
     let mut disk = disk;
     let mut text = Vec::new(alloc);
@@ -58,6 +63,7 @@ fn check_listing<D: Disk>(alloc: Global, disk: D) -> Result<Vec<u8>, ArchiveRefu
         → IfOk result (λ text. AreChecked true (reads_of (D.held disk)) text.items) }
     ensures refused { IsTrue (D.honest disk) → IfErr result (IsNotChecked true (reads_of (D.held disk))) }
     ensures written { IfOk result (λ text. AreCheckLines true text.items) }
+    ensures cause { (after : D) × HasCause (refused.Opening OpenError.Fault) (D.faults disk) (D.faults after) result }
 {
     let mut text = Vec::new(alloc);
     match check_files(alloc, disk, &mut text, &mut Faults::new()) {
@@ -73,6 +79,7 @@ fn check_text<D: Disk>(alloc: Global, disk: D, files: bool) -> Result<Vec<u8>, A
         → IfOk result (λ text. AreChecked files (reads_of (D.held disk)) text.items) }
     ensures refused { IsTrue (D.honest disk) → IfErr result (IsNotChecked files (reads_of (D.held disk))) }
     ensures written { IfOk result (λ text. AreCheckLines files text.items) }
+    ensures cause { (after : D) × HasCause (refused.Opening OpenError.Fault) (D.faults disk) (D.faults after) result }
 {
     if files {
         check_listing(alloc, disk)

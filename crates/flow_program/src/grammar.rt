@@ -5,7 +5,7 @@ ghost use Rattle.clap.specs.Walk.{rule_of};
 ghost use Rattle.clap.specs.Simple.{app_of, shape_of};
 ghost use Rattle.clap.specs.declared.builder.command.Command.TheViews.{out-Command as fields_of};
 ghost use Rattle.flow_program.specs.CommandLine.{any_number, check_shape, create_shape, dump_shape, explain_shape};
-ghost use Rattle.flow_program.specs.CommandLine.{feed_shape, flag, passing_shape};
+ghost use Rattle.flow_program.specs.CommandLine.{feed_shape, flag, merging_shape, passing_shape};
 ghost use Rattle.flow_program.specs.CommandLine.{flowvault, folder_rule, keep_shape, measure_shape, needed, option};
 ghost use Rattle.flow_program.specs.CommandLine.{moments_shape, optional, program, several, sized_shape, span_shape};
 ghost use Rattle.flow_program.specs.CommandLine.{since_rule, until_rule};
@@ -161,12 +161,18 @@ const RECORDS_HELP: &str =
      FROM on and before TO, in the order in which they were taken in: START as of\n\
      flows, then the record as of dump. With --json an object each: start, domain and\n\
      template, then all fields by their names, numbers as numbers, addresses and\n\
-     octets in quotes. Records of Options Templates are no flows, and aren't written.\n\
+     octets in quotes. With --csv a line of the names that are given, then a line\n\
+     each of these fields: start, domain, template, or names as of --json.\n\
+     Records of Options Templates are no flows, and aren't written.\n\
      --since and --until are those of totals. A damaged archive is reported as of\n\
      check: status 5.\n\
      \n\
      Examples: flowvault records flows 1700000000 1700003600\n\
-     \x20         flowvault records flows --since 1h --json";
+     \x20         flowvault records flows --since 1h --json\n\
+     \x20         flowvault records flows --since 1h --csv start,octetDeltaCount";
+
+/// What `--csv` does of records.
+const FIELDS: &str = "CSV (RFC 4180) of these fields: FIELD,FIELD..";
 
 /// What `--utc` does of records.
 const RECORDS_UTC: &str = "START as a date of UTC: 2026-11-25T06:00:00Z";
@@ -185,11 +191,13 @@ const FEED_HELP: &str =
      --from MESSAGES passes over what was taken in, where there is one FILE.\n\
      Meanwhile sealed segments but the newest --keep are rolled, as of roll; no more\n\
      than these are left in the end, and sums of the others: --keep 4294967295 rolls\n\
-     nothing. A terminal on standard error is shown how much is read, the octet at\n\
-     which a File stopped, which records it lacks: those without a template in force,\n\
-     and those that Sequence Numbers leave out, and how many messages are in sums\n\
-     alone in the end; --warn shows these anywhere, but for how much is read. What a\n\
-     File lacks so far is said while it is read too, once a minute.\n\
+     nothing. With --merge rolled files but the newest --merge are merged, as of\n\
+     merge, whenever there are 1,024 of them. A terminal on standard error is shown\n\
+     how much is read, the octet at which a File stopped, which records it lacks:\n\
+     those without a template in force, and those that Sequence Numbers leave out,\n\
+     and how many messages are in sums alone in the end; --warn shows these anywhere,\n\
+     but for how much is read. What a File lacks so far is said while it is read too,\n\
+     once a minute.\n\
      With --datagrams each read gives one message, as of a socket of datagrams. One\n\
      that isn't accepted, or is empty, is passed over; --warn says how many were, by\n\
      their refusals.\n\
@@ -215,12 +223,15 @@ const SHELL_HELP: &str =
      \x20                 domain N (of the first), gaps N and records N (missing by\n\
      \x20                 Sequence Numbers), datagrams COUNT NUMBER NAME (passed over)\n\
      \x20 keep N          from now on sealed segments but the newest N are rolled\n\
+     \x20 merge N         from now on rolled files but the newest N are merged, whenever\n\
+     \x20                 there are 1,024 of them\n\
      \x20 wait            answered when all Files have ended\n\
      \x20 quit            answered last: Files end with what was read of them\n\
      An answer ends with done STATUS: 0, or as an exit status, after refused NUMBER\n\
      NAME; 2 is no request. Between two answers the line of a File that has ended is\n\
      written, as of feed. No answer waits for a File. Nothing is rolled before a\n\
-     keep, unless --keep says how many segments aren't.\n\
+     keep, unless --keep says how many segments aren't, and nothing merged before a\n\
+     merge, unless --merge says so.\n\
      \n\
      Example: flowvault shell flows --keep 24 < REQUESTS";
 
@@ -277,6 +288,9 @@ const WARN: &str = "Says on standard error where FILEs stop and what they lack";
 
 /// What `--datagrams` asks for.
 const DATAGRAMS: &str = "Each read gives one message: others are passed over";
+
+/// What `--merge` asks for.
+const MERGE: &str = "Newest rolled files not merged: 0 to 4294967295 [all]";
 
 /// What `--json` asks for.
 const JSON: &str = "As JSON, an object a line";
@@ -523,6 +537,7 @@ fn records_command<'a>(alloc: Global) -> Result<Command<'a>, AllocError>
     ensures own { IfOk result (λ command. (fields_of command).has_globals ≡ false) }
 {
     moments_command(alloc, "records", RECORDS_ABOUT, RECORDS_HELP)?
+        .arg(option(alloc, "FIELDS", "csv", FIELDS))?
         .arg(flag(alloc, "json", JSON))?
         .arg(flag(alloc, "utc", RECORDS_UTC))
 }
@@ -573,7 +588,7 @@ fn totals_command<'a>(alloc: Global) -> Result<Command<'a>, AllocError>
         .arg(flag(alloc, "each", EACH))
 }
 
-/// The command `feed` but for its last arguments.
+/// The command `feed` with its first arguments.
 fn kept_command<'a>(alloc: Global) -> Result<Command<'a>, AllocError>
     ensures shape { IfOk result (λ command. shape_of command ≡ kept_shape) }
     ensures own { IfOk result (λ command. (fields_of command).has_globals ≡ false) }
@@ -595,12 +610,20 @@ fn kept_command<'a>(alloc: Global) -> Result<Command<'a>, AllocError>
         ))
 }
 
+/// The same, and one more.
+fn merging_command<'a>(alloc: Global) -> Result<Command<'a>, AllocError>
+    ensures shape { IfOk result (λ command. shape_of command ≡ merging_shape) }
+    ensures own { IfOk result (λ command. (fields_of command).has_globals ≡ false) }
+{
+    kept_command(alloc)?.arg(option(alloc, "LEFT", "merge", MERGE))
+}
+
 /// The command `feed` but for its very last argument.
 fn passing_command<'a>(alloc: Global) -> Result<Command<'a>, AllocError>
     ensures shape { IfOk result (λ command. shape_of command ≡ passing_shape) }
     ensures own { IfOk result (λ command. (fields_of command).has_globals ≡ false) }
 {
-    kept_command(alloc)?
+    merging_command(alloc)?
         .arg(option(
             alloc,
             "COUNT",
@@ -632,7 +655,8 @@ fn shell_command<'a>(alloc: Global) -> Result<Command<'a>, AllocError>
             "KEEP",
             "keep",
             "Newest segments that aren't rolled: 0 to 4294967295 [all]",
-        ))
+        ))?
+        .arg(option(alloc, "LEFT", "merge", MERGE))
 }
 
 /// A command that sums files of an archive but the newest, with its help.

@@ -5,13 +5,14 @@ ghost use Rattle.std.specs.Prelude.{string_bytes};
 ghost use Rattle.std.specs.Io.KnownBytes.{Appends, Keeps};
 ghost use Rattle.flow_report.specs.Printed.{line_of};
 ghost use Rattle.flow_report.specs.Writing.{AppendsFront};
-ghost use Rattle.flow_program.specs.Printed.{kind_text, words_text};
+ghost use Rattle.flow_program.specs.Printed.{field_text, kind_text, words_text};
 ghost use Rattle.flow_program.specs.Run.{AreWordsLines, AreWordsTold, IsHelp, IsShown, IsTold};
 
 use crate::request::LineError;
 use crate::telling::{DONE, tell, tell_line, write_octets};
 use clap::Error;
 use clap::error::ErrorKind;
+use flow_columns::FieldNames;
 use flow_report::Refusal;
 use std::alloc::{AllocError, Global};
 use std::fmt::Display;
@@ -55,7 +56,7 @@ const WRONG_KEEP: &str =
 /// The line for too many Files, or of a number of segments that can't be left.
 const WRONG_FILES: &str =
     "flowvault: FILE is given 1 to 8 times, but once with --from, 0 to 281474976710655, and without --datagrams; \
-     --keep is how many of the newest segments are left, 0 to 4294967295\n";
+     --keep and --merge are how many of the newest segments, and rolled files, are left, 0 to 4294967295\n";
 
 /// The line for a number that no refusal has.
 const WRONG_NUMBER: &str =
@@ -82,10 +83,29 @@ const NO_ARGUMENT: &str = "flowvault: an argument is missing: flowvault help COM
 const WRONG_WORDS: &str =
     "flowvault: a word isn't understood: flowvault help COMMAND lists what it takes; measure and dump read \
      standard input\n";
+
+/// The line for a name that no field has.
+fn field_line(alloc: Global, name: &FieldNames<'_>) -> Result<String, AllocError>
+    ensures { IfOk result (λ line. string_bytes line ≡ line_of (field_text name.now)) }
+{
+    let name = name.text();
+    format!(in alloc; "flowvault: --csv names fields as --json does: no field is named '{name}'\n")
+}
+
+/// Reports a name that no field has. Where there is no memory for the line nothing is.
+fn tell_field<E: Write>(alloc: Global, errors: &mut E, name: &FieldNames<'_>)
+    ensures { AppendsFront (E.contents errors.old) (E.contents errors.new) (line_of (field_text name.now)) }
+{
+    let Ok(line) = field_line(alloc, name) else {
+        return;
+    };
+    tell_line(errors, line.as_bytes());
+}
+
 /// Tells why a command line asks for nothing, or shows the help that it asks for. It answers the exit status.
 pub(crate) fn refuse<W: Write, E: Write>(
     alloc: Global,
-    error: &LineError,
+    error: &LineError<'_>,
     output: &mut W,
     errors: &mut E,
 ) -> u8
@@ -147,6 +167,10 @@ pub(crate) fn refuse<W: Write, E: Write>(
         }
         LineError::Formats => {
             tell_line(errors, WRONG_FORMATS.as_bytes());
+            WRONG_LINE
+        }
+        LineError::Field(name) => {
+            tell_field(alloc, errors, name);
             WRONG_LINE
         }
         LineError::OutOfMemory => tell(alloc, errors, &Refusal::OutOfMemory),

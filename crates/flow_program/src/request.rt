@@ -10,24 +10,26 @@ ghost use Rattle.flow_program.specs.Arguments.{inspected_in};
 ghost use Rattle.flow_program.specs.Arguments.{listed, listed_in, queried, request_in, requested, totalled};
 ghost use Rattle.flow_program.specs.Arguments.{totalled_in, without_list};
 ghost use Rattle.flow_program.specs.CommandLine.{asked};
-ghost use Rattle.flow_program.specs.Requested.{formatted_values, wrong_values, wrong_values_in, wrong_values_of};
-ghost use Rattle.flow_program.specs.Requested.{IsLineError};
+ghost use Rattle.flow_program.specs.Requested.{formatted_values, wrong_others, wrong_records, wrong_values};
+ghost use Rattle.flow_program.specs.Requested.{wrong_values_in, wrong_values_of, IsLineError};
 ghost use Rattle.clap.specs.declared.error.kind.ErrorKind.TheVariants as ErrorKind;
 ghost use Rattle.flow_program.specs.declared.request.LineError.TheVariants as LineError;
 
 use crate::arguments::{
     FileNames, FolderName, FolderNames, MomentSpan, are_swapped, explained_in, feeding_in,
-    files_in, folder_in, folders_of, format_in, given_in, is_set, keep_in, kept_in_shell, passes,
-    plan_in, record_format_in, span_in, totals_span_in, width_in, words_in, workers_in,
+    fields_in, files_in, folder_in, folders_of, format_in, given_in, is_set, keep_in,
+    kept_in_shell, line_format_in, merge_in, passes, plan_in, span_in, totals_span_in, width_in,
+    words_in, workers_in,
 };
 use crate::explaining::Explanation;
 use crate::export_words::exporting;
 use crate::grammar::command_line;
 use clap::error::ErrorKind;
 use clap::{ArgMatches, Error};
+use flow_columns::{FieldNames, LineFormat, first_unknown};
 use flow_commands::{FeedPlan, NewArchive, Workers};
 use flow_export_folder::MessageSpan;
-use flow_report::{Format, RecordFormat, Width};
+use flow_report::{Format, Width};
 use std::alloc::{AllocError, Global};
 use std::convert::AsStr;
 
@@ -104,7 +106,7 @@ pub enum Request<'a> {
     Records {
         folder: FolderName<'a>,
         span: MomentSpan,
-        format: RecordFormat,
+        format: LineFormat<'a>,
     },
     /// Files are taken into the archive of a folder.
     Feed {
@@ -116,6 +118,7 @@ pub enum Request<'a> {
     Shell {
         folder: FolderName<'a>,
         keep: u32,
+        merge: Option<u32>,
     },
     /// All sealed segments but the newest become one rolled file.
     Roll {
@@ -144,7 +147,7 @@ pub enum Request<'a> {
 
 /// Why a command line asks for nothing.
 #[derive(Drop)]
-pub enum LineError {
+pub enum LineError<'a> {
     /// The parser of the command line says why, or has the help that was asked for.
     Parser(Error),
     /// The width of `measure` isn't digits alone, from 1 to 86,400.
@@ -164,8 +167,9 @@ pub enum LineError {
     Swapped,
     /// How many files are left isn't digits alone, or is past 2^32 - 1.
     Keep,
-    /// There are more than 8 Files, or how many segments are left isn't digits alone, or is past 2^32 - 1; or how many
-    /// messages are passed isn't digits alone, or is past 2^48 - 1, or is said of several Files or of datagrams.
+    /// There are more than 8 Files, or how many segments or rolled files are left isn't digits alone, or is past 2^32 -
+    /// 1; or how many messages are passed isn't digits alone, or is past 2^48 - 1, or is said of several Files or of
+    /// datagrams.
     Files,
     /// No refusal has the number.
     Number,
@@ -174,11 +178,13 @@ pub enum LineError {
     Messages,
     /// Two formats are asked for.
     Formats,
+    /// No field has this name, among those that `records` is to write.
+    Field(FieldNames<'a>),
     OutOfMemory,
 }
 
 /// Why the parser of the command line stopped.
-fn line_error(error: Error) -> LineError
+fn line_error<'a>(error: Error) -> LineError<'a>
     ensures memory { kind_of error ≡ ErrorKind.OutOfMemory → result ≡ LineError.OutOfMemory }
     ensures other { kind_of error ≢ ErrorKind.OutOfMemory → result ≡ LineError.Parser error }
     ensures either { (result ≡ LineError.OutOfMemory) ⊎ (result ≡ LineError.Parser error) }
@@ -248,6 +254,7 @@ fn changing<'a>(name: &str, arguments: &ArgMatches<'a>) -> Option<Request<'a>>
         "shell" => Some(Request::Shell {
             folder: folder_in(arguments)?,
             keep: kept_in_shell(arguments)?,
+            merge: merge_in(arguments)?,
         }),
         _ => exporting(name, arguments),
     }
@@ -261,7 +268,7 @@ fn queried<'a>(name: &str, arguments: &ArgMatches<'a>) -> Option<Request<'a>>
         "records" => Some(Request::Records {
             folder: folder_in(arguments)?,
             span: span_in(arguments)?,
-            format: record_format_in(arguments),
+            format: line_format_in(arguments)?,
         }),
         "explain" => Some(Request::Explain {
             refusal: explained_in(arguments)?,
@@ -461,7 +468,7 @@ fn found<'a>(alloc: Global, matches: &ArgMatches<'a>) -> Result<Option<Request<'
 }
 
 /// What is wrong with the values of the command of this name.
-fn wrong_values_of(name: &str) -> LineError
+fn wrong_values_of<'a>(name: &str) -> LineError<'a>
     ensures { result ≡ wrong_values_of name.now }
 {
     match name {
@@ -481,7 +488,7 @@ fn wrong_values_of(name: &str) -> LineError
 }
 
 /// What is wrong with the values of a command that have one format, by its name and its arguments.
-fn formatted_values(name: &str, arguments: &ArgMatches<'_>) -> LineError
+fn formatted_values<'a>(name: &str, arguments: &ArgMatches<'a>) -> LineError<'a>
     ensures { result ≡ formatted_values name.now (rows_of (found_of arguments.now)) }
 {
     if are_swapped(arguments) {
@@ -490,9 +497,25 @@ fn formatted_values(name: &str, arguments: &ArgMatches<'_>) -> LineError
     wrong_values_of(name)
 }
 
-/// What is wrong with the values of a command, by its name and its arguments.
-fn wrong_values_in(name: &str, arguments: &ArgMatches<'_>) -> LineError
-    ensures { result ≡ wrong_values_in name.now (rows_of (found_of arguments.now)) }
+/// What is wrong with the values of `records`.
+fn wrong_records<'a>(arguments: &ArgMatches<'a>) -> LineError<'a>
+    ensures { result ≡ wrong_records (rows_of (found_of arguments.now)) }
+{
+    let Some(names) = fields_in(arguments) else {
+        return formatted_values("records", arguments);
+    };
+    if is_set(arguments, "json") {
+        return LineError::Formats;
+    }
+    match first_unknown(names) {
+        Some(name) => LineError::Field(FieldNames::new(name)),
+        None => formatted_values("records", arguments),
+    }
+}
+
+/// What is wrong with the values of any other command, by its name and its arguments.
+fn wrong_others<'a>(name: &str, arguments: &ArgMatches<'a>) -> LineError<'a>
+    ensures { result ≡ wrong_others name.now (rows_of (found_of arguments.now)) }
 {
     match format_in(arguments) {
         Some(_) => formatted_values(name, arguments),
@@ -500,8 +523,18 @@ fn wrong_values_in(name: &str, arguments: &ArgMatches<'_>) -> LineError
     }
 }
 
+/// What is wrong with the values of a command, by its name and its arguments.
+fn wrong_values_in<'a>(name: &str, arguments: &ArgMatches<'a>) -> LineError<'a>
+    ensures { result ≡ wrong_values_in name.now (rows_of (found_of arguments.now)) }
+{
+    match name {
+        "records" => wrong_records(arguments),
+        _ => wrong_others(name, arguments),
+    }
+}
+
 /// What is wrong with the values that a command line has.
-fn wrong_values(matches: &ArgMatches<'_>) -> LineError
+fn wrong_values<'a>(matches: &ArgMatches<'a>) -> LineError<'a>
     ensures { result ≡ wrong_values (subcommand_rows_of matches.now) }
 {
     match matches.subcommand() {
@@ -515,7 +548,7 @@ pub fn parse<'a, S: AsStr>(
     alloc: Global,
     version: &'a str,
     words: &'a [S],
-) -> Result<Request<'a>, LineError>
+) -> Result<Request<'a>, LineError<'a>>
     ensures found { IfOk result (λ request. asked (map S.text words.now) ≡ Some request) }
     ensures refused { IfErr result (λ e. IsLineError (map S.text words.now) e) }
 {

@@ -218,15 +218,17 @@ where
             folder,
             span,
             format,
-        } => run_records(rt, &folder, first_fault, span, format, output, errors),
+        } => run_records(rt, &folder, first_fault, span, &format, output, errors),
         Request::Feed {
             folder,
             plan,
             files,
         } => run_feed(rt, &folder, plan, &files, input, output, errors, progress),
-        Request::Shell { folder, keep } => {
-            run_shell(rt, &folder, first_fault, keep, input, output, errors)
-        }
+        Request::Shell {
+            folder,
+            keep,
+            merge,
+        } => run_shell(rt, &folder, first_fault, keep, merge, input, output, errors),
         Request::Roll { folder, keep } => run_job(
             rt,
             &folder,

@@ -5,6 +5,7 @@ use Rattle.std.proofs.KnownBytes.{Appends-nil, Keeps-refl}
 use Rattle.std.specs.Prelude.{true, IfErr, IsErrOf, IsTrue, OnOk, Result, Ok, Err}
 use Rattle.std.proofs.lemmas.List.Elements.{All-nil}
 use Rattle.flow_codec.specs.Raw.{Placed}
+use Rattle.flow_columns.specs.declared.names.LineFormat.{LineFormat}
 use Rattle.flow_commands.specs.declared.archive_refusal.ArchiveRefusal.{ArchiveRefusal}
 use Rattle.flow_commands.specs.declared.archive_refusal.ArchiveRefusal.TheVariants as refusal
 use Rattle.flow_commands.specs.Archives.{of_opening}
@@ -16,14 +17,13 @@ use Rattle.flow_kept_records.specs.declared.refusal.RecordsRefusal.{RecordsRefus
 use Rattle.flow_kept_records.specs.declared.refusal.RecordsRefusal.TheVariants.{Query, Text}
 use Rattle.flow_kept_records.specs.Listing.{records_lines, AreRecordsIn, WritesSomeRecords}
 use Rattle.flow_kept_records.specs.Listing.{IsBlameless as IsBlamelessBelow}
-use Rattle.flow_kept_records.specs.Records.{is_chosen, lines_of, AreChosen}
+use Rattle.flow_kept_records.specs.Records.{is_chosen, records_text, AreChosen}
 use Rattle.flow_manifest.specs.declared.error.OpenError.{OpenError}
 use Rattle.flow_manifest.specs.declared.error.OpenError.TheVariants as opening
 use Rattle.flow_measure.specs.View.{View}
 use Rattle.flow_model.specs.Views.{IsViewOf}
 use Rattle.flow_records.specs.Refused.{of_records}
 use Rattle.flow_refusals.specs.declared.read_refusal.ReadRefusal.TheVariants as query
-use Rattle.flow_report.specs.declared.records.RecordFormat.{RecordFormat}
 use Rattle.flow_report.specs.declared.text_error.TextError.TheVariants as text
 use Rattle.flow_report.specs.Writing.{AppendsFront}
 use Rattle.flow_snapshot.specs.ShelfSeen.{ShelfSeen}
@@ -36,19 +36,20 @@ none_alone output text = (0, omega arith, Appends-nil output)
 
 -- ---- refusals
 
-pub up_to : (format : RecordFormat) (span : Span) (e : ArchiveRefusal) (old new : Option (List ℕ)) (records : List Placed)
-    → AreChosen span.from span.to records → IsWhileAsking e → AppendsFront old new (lines_of format records)
+pub up_to : (format : LineFormat) (span : Span) (e : ArchiveRefusal) (old new : Option (List ℕ)) (records : List Placed)
+    → AreChosen span.from span.to records → IsWhileAsking e → AppendsFront old new (records_text format records)
     → WritesUpTo (AreRecordsIn format span.from span.to) e old new
-up_to format span (refusal.Query e) old new records all asking front = (lines_of format records, (records, all, refl), front)
+up_to format span (refusal.Query e) old new records all asking front =
+    (records_text format records, (records, all, refl), front)
 up_to format span (refusal.Write failed) old new records all asking front =
-    (lines_of format records, (records, all, refl), front)
+    (records_text format records, (records, all, refl), front)
 up_to format span refusal.OutOfMemory old new records all asking front =
-    (lines_of format records, (records, all, refl), front)
+    (records_text format records, (records, all, refl), front)
 up_to format span (refusal.Opening e) old new records all asking front = absurd asking
 up_to format span (refusal.Archive e) old new records all asking front = absurd asking
 up_to format span (refusal.Folder why) old new records all asking front = absurd asking
 
-told_up_to : (format : RecordFormat) (span : Span) (reads : ℕ → List ℕ) (v : View) (e : ArchiveRefusal)
+told_up_to : (format : LineFormat) (span : Span) (reads : ℕ → List ℕ) (v : View) (e : ArchiveRefusal)
     (old new : Option (List ℕ)) → IsViewRead reads v → IsWhileAsking e
     → IsBlameless e × AppendsFront old new (records_lines format span.from span.to v)
     → TellsUpTo (records_lines format span.from span.to) Always reads old new e
@@ -89,7 +90,7 @@ blameless (Query query.OutOfMemory) is = tt
 blameless (Text text.OutOfMemory) is = tt
 blameless (Text (text.Write failed)) is = tt
 
-pub some_up_to : (format : RecordFormat) (span : Span) (e : RecordsRefusal) (old new : Option (List ℕ))
+pub some_up_to : (format : LineFormat) (span : Span) (e : RecordsRefusal) (old new : Option (List ℕ))
     → WritesSomeRecords format span.from span.to old new
     → WritesUpTo (AreRecordsIn format span.from span.to) (of_records e) old new
 some_up_to format span (Query (query.Damaged file at)) old new some = some
@@ -129,7 +130,7 @@ cause_of {X} {Y} before now e r is c = record {
 
 -- ---- what a command answers
 
-pub lines_told : {A : Type 0} (format : RecordFormat) (span : Span) (reads : ℕ → List ℕ) (sight : ShelfSeen) (width : ℕ)
+pub lines_told : {A : Type 0} (format : LineFormat) (span : Span) (reads : ℕ → List ℕ) (sight : ShelfSeen) (width : ℕ)
     (r : Result A ArchiveRefusal) (old new : Option (List ℕ)) → IsReadAs reads sight width
     → (IsTrue sight.honest → (v : View) → IsViewOf sight.shelf v
     → OnOk r (Appends old new (records_lines format span.from span.to v)))
@@ -138,7 +139,7 @@ lines_told format span reads sight width (Err e) old new is told = tt
 lines_told format span reads sight width (Ok x) old new (v, read, (honest, view, wide)) told =
     (records_lines format span.from span.to v, (v, read, refl), told honest v view)
 
-pub up_to_told : {A : Type 0} (format : RecordFormat) (span : Span) (reads : ℕ → List ℕ) (sight : ShelfSeen) (width : ℕ)
+pub up_to_told : {A : Type 0} (format : LineFormat) (span : Span) (reads : ℕ → List ℕ) (sight : ShelfSeen) (width : ℕ)
     (r : Result A ArchiveRefusal) (old new : Option (List ℕ)) → IsReadAs reads sight width
     → IfErr r (λ e. IsWhileAsking e × WritesUpTo (AreRecordsIn format span.from span.to) e old new)
     → (IsTrue sight.honest → (v : View) → IsViewOf sight.shelf v
@@ -148,38 +149,44 @@ up_to_told format span reads sight width (Ok x) old new is some cut = tt
 up_to_told format span reads sight width (Err e) old new (v, read, (honest, view, wide)) some cut =
     told_up_to format span reads v e old new read some.0 (cut honest v view)
 
-pub written_up_to : {A : Type 0} (format : RecordFormat) (span : Span) (r : Result A ArchiveRefusal) (old new : Option (List ℕ))
+pub written_up_to : {A : Type 0} (format : LineFormat) (span : Span) (r : Result A ArchiveRefusal)
+    (old new : Option (List ℕ))
     → IfErr r (λ e. IsWhileAsking e × WritesUpTo (AreRecordsIn format span.from span.to) e old new)
     → IfErr r (λ e. WritesUpTo (AreRecordsIn format span.from span.to) e old new)
 written_up_to format span (Ok x) old new some = tt
 written_up_to format span (Err e) old new some = some.1
 
-pub no_opening : {A : Type 0} (format : RecordFormat) (span : Span) (r : Result A ArchiveRefusal) (old new : Option (List ℕ))
+pub no_opening : {A : Type 0} (format : LineFormat) (span : Span) (r : Result A ArchiveRefusal)
+    (old new : Option (List ℕ))
     → IfErr r (λ e. IsWhileAsking e × WritesUpTo (AreRecordsIn format span.from span.to) e old new)
     → IfErr r (λ e. e ≢ refusal.Opening opening.Fault)
 no_opening format span (Ok x) old new some = tt
 no_opening format span (Err e) old new some = asking_is_no_opening e some.0
 
 -- nothing was written
-pub none_up_to : (format : RecordFormat) (span : Span) (output : Option (List ℕ)) (e : ArchiveRefusal)
+pub none_up_to : (format : LineFormat) (span : Span) (output : Option (List ℕ)) (e : ArchiveRefusal)
     → WritesUpTo (AreRecordsIn format span.from span.to) e output output
 none_up_to format span output (refusal.Query e) =
-    up_to format span (refusal.Query e) output output [] (no_records_in span) tt (none_alone output (lines_of format []))
+    up_to format span (refusal.Query e) output output [] (no_records_in span) tt
+    (none_alone output (records_text format []))
 none_up_to format span output (refusal.Write failed) =
-    up_to format span (refusal.Write failed) output output [] (no_records_in span) tt (none_alone output (lines_of format []))
+    up_to format span (refusal.Write failed) output output [] (no_records_in span) tt
+    (none_alone output (records_text format []))
 none_up_to format span output refusal.OutOfMemory =
-    up_to format span refusal.OutOfMemory output output [] (no_records_in span) tt (none_alone output (lines_of format []))
+    up_to format span refusal.OutOfMemory output output [] (no_records_in span) tt
+    (none_alone output (records_text format []))
 none_up_to format span output (refusal.Opening e) = Keeps-refl output
 none_up_to format span output (refusal.Archive e) = Keeps-refl output
 none_up_to format span output (refusal.Folder why) = Keeps-refl output
 
-pub away_up_to : {A : Type 0} (format : RecordFormat) (span : Span) (r : Result A ArchiveRefusal) (output : Option (List ℕ))
+pub away_up_to : {A : Type 0} (format : LineFormat) (span : Span) (r : Result A ArchiveRefusal)
+    (output : Option (List ℕ))
     → IfErr r (λ e. WritesUpTo (AreRecordsIn format span.from span.to) e output output)
 away_up_to format span (Ok x) output = tt
 away_up_to format span (Err e) output = none_up_to format span output e
 
 -- an archive that isn't opened
-pub unopened_up_to : (format : RecordFormat) (span : Span) (reads : ℕ → List ℕ) (output : Option (List ℕ)) (e : OpenError)
+pub unopened_up_to : (format : LineFormat) (span : Span) (reads : ℕ → List ℕ) (output : Option (List ℕ)) (e : OpenError)
     → IsUnopened reads e → TellsUpTo (records_lines format span.from span.to) Always reads output output (of_opening e)
 unopened_up_to format span reads output (opening.Damaged file at) told = (told, Keeps-refl output)
 unopened_up_to format span reads output (opening.Format file) told = (told, Keeps-refl output)

@@ -18,6 +18,7 @@ ghost use Rattle.flow_records.specs.Refused.{of_records};
 ghost use Rattle.flow_report.specs.Writing.{AppendsFront};
 
 use flow_archive::{Archive, Refused};
+use flow_columns::LineFormat;
 use flow_commands::{ArchiveRefusal, StartSpan, ended, to_ask};
 use flow_disk::{Disk, Faults, SealedFile};
 use flow_folder::{FirstFault, Lockable};
@@ -25,7 +26,6 @@ use flow_folder_view::FolderView;
 use flow_kept_records::{RecordsRefusal, write_records};
 use flow_manifest::OpenError;
 use flow_refusals::ReadRefusal;
-use flow_report::RecordFormat;
 use flow_snapshot::Snapshot;
 use std::alloc::{AllocGlobal, Global};
 use std::fs::Files;
@@ -47,22 +47,22 @@ fn write_asked<S: SealedFile, W: Write>(
     alloc: Global,
     snapshot: &Snapshot<S>,
     span: &StartSpan,
-    format: RecordFormat,
+    format: &LineFormat<'_>,
     output: &mut W,
     faults: &mut Faults<S>,
 ) -> Result<(), ArchiveRefusal>
     // On every disk: the lines of some records of the span, or a prefix of such lines.
-    ensures written { OnOk result (Writes (AreRecordsIn format span.now.from span.now.to) (W.contents output.old)
+    ensures written { OnOk result (Writes (AreRecordsIn format.now span.now.from span.now.to) (W.contents output.old)
         (W.contents output.new)) }
-    ensures some { IfErr result (λ e. IsWhileAsking e × WritesUpTo (AreRecordsIn format span.now.from span.now.to) e
+    ensures some { IfErr result (λ e. IsWhileAsking e × WritesUpTo (AreRecordsIn format.now span.now.from span.now.to) e
         (W.contents output.old) (W.contents output.new)) }
     // On honest ones: those of each view of the files, or a prefix of these, and no damage is reported.
     ensures told { IsTrue snapshot.now.honest → (v : View) → IsViewOf snapshot.now.shelf v
         → OnOk result (Appends (W.contents output.old) (W.contents output.new)
-        (records_lines format span.now.from span.now.to v)) }
+        (records_lines format.now span.now.from span.now.to v)) }
     ensures cut { IsTrue snapshot.now.honest → (v : View) → IsViewOf snapshot.now.shelf v
         → IfErr result (λ e. IsBlameless e × AppendsFront (W.contents output.old) (W.contents output.new)
-        (records_lines format span.now.from span.now.to v)) }
+        (records_lines format.now span.now.from span.now.to v)) }
     ensures cause { HasCause (refusal.Query ReadRefusal.Fault) faults.old faults.new result }
 {
     match write_records(
@@ -84,21 +84,21 @@ fn list<D: Disk, W: Write>(
     alloc: Global,
     archive: &mut Archive<D>,
     span: &StartSpan,
-    format: RecordFormat,
+    format: &LineFormat<'_>,
     output: &mut W,
     faults: &mut Faults<D::Sealed>,
 ) -> Result<(), ArchiveRefusal>
     ensures asked { IsAsked archive.old archive.new }
     ensures told { IsTrue (D.honest archive.old.disk) → (reads : ℕ → List ℕ) → StandsFor reads archive.old.state
-        → OnOk result (TellsLines (records_lines format span.now.from span.now.to) reads (W.contents output.old)
+        → OnOk result (TellsLines (records_lines format.now span.now.from span.now.to) reads (W.contents output.old)
         (W.contents output.new)) }
     ensures refused { IsTrue (D.honest archive.old.disk) → (reads : ℕ → List ℕ) → StandsFor reads archive.old.state
-        → IfErr result (TellsUpTo (records_lines format span.now.from span.now.to) Always reads (W.contents output.old)
-        (W.contents output.new)) }
-    ensures written { OnOk result (Writes (AreRecordsIn format span.now.from span.now.to) (W.contents output.old)
+        → IfErr result (TellsUpTo (records_lines format.now span.now.from span.now.to) Always reads
+        (W.contents output.old) (W.contents output.new)) }
+    ensures written { OnOk result (Writes (AreRecordsIn format.now span.now.from span.now.to) (W.contents output.old)
         (W.contents output.new)) }
     ensures kept { IfErr result
-        (λ e. WritesUpTo (AreRecordsIn format span.now.from span.now.to) e (W.contents output.old)
+        (λ e. WritesUpTo (AreRecordsIn format.now span.now.from span.now.to) e (W.contents output.old)
         (W.contents output.new)) }
     ensures opened { IfErr result (λ e. e ≢ refusal.Opening OpenError.Fault) }
     ensures cause { HasCause (refusal.Query ReadRefusal.Fault) faults.old faults.new result }
@@ -116,7 +116,7 @@ pub fn records<D: Disk, W: Write>(
     alloc: Global,
     disk: D,
     span: &StartSpan,
-    format: RecordFormat,
+    format: &LineFormat<'_>,
     output: &mut W,
     faults: &mut Faults<D::Sealed>,
 ) -> Result<Archive<D>, Refused<D, ArchiveRefusal>>
@@ -124,16 +124,16 @@ pub fn records<D: Disk, W: Write>(
     // On an honest disk the lines are those of the one view of what was read, and no damage is reported once it is
     // open.
     ensures told { IsTrue (D.honest disk) → OnOk result
-        (TellsLines (records_lines format span.now.from span.now.to) (reads_of (D.held disk)) (W.contents output.old)
-        (W.contents output.new)) }
+        (TellsLines (records_lines format.now span.now.from span.now.to) (reads_of (D.held disk))
+        (W.contents output.old) (W.contents output.new)) }
     ensures refused { IsTrue (D.honest disk) → IfErr result
-        (λ r. TellsUpTo (records_lines format span.now.from span.now.to) Always (reads_of (D.held disk))
+        (λ r. TellsUpTo (records_lines format.now span.now.from span.now.to) Always (reads_of (D.held disk))
         (W.contents output.old) (W.contents output.new) r.error) }
     // And whatever the disk:
-    ensures written { OnOk result (Writes (AreRecordsIn format span.now.from span.now.to) (W.contents output.old)
+    ensures written { OnOk result (Writes (AreRecordsIn format.now span.now.from span.now.to) (W.contents output.old)
         (W.contents output.new)) }
     ensures kept { IfErr result
-        (λ r. WritesUpTo (AreRecordsIn format span.now.from span.now.to) r.error (W.contents output.old)
+        (λ r. WritesUpTo (AreRecordsIn format.now span.now.from span.now.to) r.error (W.contents output.old)
         (W.contents output.new)) }
     ensures honest { D.honest (disk_of result) ≡ D.honest disk }
     // A stop at any moment leaves what opens as the archive that was there, and that is the one that is handed on.
@@ -170,15 +170,15 @@ pub fn records_in<H: Files + AllocGlobal + Clone + Drop, W: Write>(
     folder: &str,
     first_fault: &FirstFault,
     span: &StartSpan,
-    format: RecordFormat,
+    format: &LineFormat<'_>,
     output: &mut W,
 ) -> Result<(), ArchiveRefusal>
 where
     H::File: FileExt + Lockable,
-    ensures written { OnOk result (Writes (AreRecordsIn format span.now.from span.now.to) (W.contents output.old)
+    ensures written { OnOk result (Writes (AreRecordsIn format.now span.now.from span.now.to) (W.contents output.old)
         (W.contents output.new)) }
     ensures kept { IfErr result
-        (λ e. WritesUpTo (AreRecordsIn format span.now.from span.now.to) e (W.contents output.old)
+        (λ e. WritesUpTo (AreRecordsIn format.now span.now.from span.now.to) e (W.contents output.old)
         (W.contents output.new)) }
 {
     let view = FolderView::noting(rt, folder, first_fault)?;

@@ -8,10 +8,11 @@ use Rattle.flow_disk.specs.declared.disk.Disk.{Ghosts}
 use Rattle.flow_model.specs.Shelf.{Shelf}
 use Rattle.flow_turns.specs.declared.turn.Turn.{Turn}
 use Rattle.flow_turns.specs.declared.turn.Turn.TheVariants.{Idle}
+use Rattle.flow_roller.specs.Asked.{Asked}
 use Rattle.flow_roller.specs.Rolling.{IsRound, IsTurnRefused, RollsBeside, Round}
 
 -- a turn was refused
-pub stopped : {D S X R : Type 0} (g : Ghosts D S X) (opening : Shelf) (asked : ℕ → Type 0) (rounds : List Round)
+pub stopped : {D S X R : Type 0} (g : Ghosts D S X) (opening : Shelf) (asked : Asked → Type 0) (rounds : List Round)
     (e : ArchiveError) (result : Result R ArchiveError) → IsErrAnd result (λ x. x ≡ e)
     → AllByRecursion (IsRound g opening asked) rounds → IsTurnRefused g opening asked e
     → RollsBeside g opening asked rounds result
@@ -23,7 +24,7 @@ stopped g opening asked rounds e (Err x) is made turn = record {
 }
 
 -- the last turn of the newest round had nothing to do
-pub idle : {D S X R : Type 0} (g : Ghosts D S X) (opening : Shelf) (asked : ℕ → Type 0) (round : Round)
+pub idle : {D S X R : Type 0} (g : Ghosts D S X) (opening : Shelf) (asked : Asked → Type 0) (round : Round)
     (rounds : List Round) (r : R) → round.last ≡ Idle → IsRound g opening asked round
     → AllByRecursion (IsRound g opening asked) rounds
     → RollsBeside {R = R} g opening asked (round ∷ rounds) (Ok r)
@@ -37,8 +38,8 @@ idle g opening asked round rounds r is one made = record {
 }
 
 -- as many rounds were made as are made at most
-pub most : {D S X R : Type 0} (g : Ghosts D S X) (opening : Shelf) (asked : ℕ → Type 0) (rounds : List Round) (r : R)
-    → length rounds ≡ 1000000 → AllByRecursion (IsRound g opening asked) rounds
+pub most : {D S X R : Type 0} (g : Ghosts D S X) (opening : Shelf) (asked : Asked → Type 0) (rounds : List Round)
+    (r : R) → length rounds ≡ 18446744073709551615 → AllByRecursion (IsRound g opening asked) rounds
     → RollsBeside {R = R} g opening asked rounds (Ok r)
 most g opening asked rounds r is made = record {
   made = made;

@@ -12,6 +12,8 @@ ghost use Rattle.flow_model.specs.Changes.{Change};
 ghost use Rattle.flow_model.specs.Shelf.{position_of};
 ghost use Rattle.flow_model.specs.Shelved.{shelf_of};
 ghost use Rattle.flow_manifest.specs.declared.following.JobKind.TheVariants.{Merge, Roll};
+ghost use Rattle.flow_manifest.specs.declared.manifest.Kind.TheVariants.{Rolled};
+ghost use Rattle.flow_manifest.specs.Following.{count_of};
 ghost use Rattle.flow_turns.specs.Turns.{due, IsTurn};
 ghost use Rattle.flow_shared.specs.Calls.{added_by, by, AppendsOnce, AppendsSealed, Appends, IsClosedBy};
 ghost use Rattle.flow_shared.specs.Calls.{IsRefusedBefore, IsSeal, IsTurnedBy};
@@ -189,6 +191,13 @@ where
         ensures { result.now ≡ self.now.made }
     {
         &self.told
+    }
+
+    /// How many rolled files there are, without those over wide intervals.
+    pub(crate) fn rolled_count(&self) -> usize
+        ensures { result ≡ count_of Rolled self.now.core.state.manifest.entries }
+    {
+        self.archive.rolled_count()
     }
 
     /// Whether all steps are made.

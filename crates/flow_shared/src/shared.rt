@@ -8,6 +8,8 @@ ghost use Rattle.flow_gate.specs.Steps.{slices};
 ghost use Rattle.flow_model.specs.Shelved.{shelf_of};
 ghost use Rattle.flow_shared.specs.Calls.{by};
 ghost use Rattle.flow_manifest.specs.declared.following.JobKind.TheVariants.{Merge, Roll};
+ghost use Rattle.flow_manifest.specs.declared.manifest.Kind.TheVariants.{Rolled};
+ghost use Rattle.flow_manifest.specs.Following.{count_of};
 ghost use Rattle.flow_shared.specs.Known.{Adds, IsAppendBy, Refreshes, Says, Seals, Turns, WasCalled, WasSeen};
 ghost use Rattle.flow_shared.specs.UnderLock.{LockState};
 ghost use Rattle.flow_shared.specs.Told.{after, HasAdded, HasOwn};
@@ -63,6 +65,16 @@ where
         let locked = self.lock.lock(rt);
         locked.facts();
         locked.made().again()
+    }
+
+    /// How many rolled files there are, without those over wide intervals.
+    pub fn rolled_count(&self, rt: &W) -> usize
+        ensures calls { WasSeen D.Disk J.opening
+            (λ (now : LockState D). result ≡ count_of Rolled now.core.state.manifest.entries) }
+    {
+        let locked = self.lock.lock(rt);
+        locked.facts();
+        locked.rolled_count()
     }
 
     /// Adds messages, from 1 to 64, all of them or none, and answers the number of the last one with what readers then

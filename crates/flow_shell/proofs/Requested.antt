@@ -3,14 +3,14 @@ use Rattle.std.proofs.Common.{◌≡◌, ℕ, zero, suc, List, [], ◌++◌, Opt
 use Rattle.std.specs.Prelude.{IfSome}
 use Rattle.std.specs.Io.BufRead.{drop_through, strip_last, take_through, DropsThrough}
 use Rattle.flow_commands.specs.declared.plan.InputKind.{InputKind}
-use Rattle.flow_shell.specs.declared.asked.ShellRequest.TheVariants.{Keep}
-use Rattle.flow_shell.specs.Asked.{feed_in, request_in, HasLine}
+use Rattle.flow_roller.specs.Asked.{Asked}
+use Rattle.flow_shell.specs.Asked.{feed_in, rolling_in, HasLine}
 
 -- a line of no octets asks for nothing
-pub no_line : (asked : ℕ → Type 0) (line : List ℕ) (keep : ℕ) → line ≡ [] → request_in line ≡ Some (Keep keep)
-    → ∥ asked keep ∥₁
-no_line asked line keep none is =
-    let no : request_in [] ≡ Some (Keep keep) = ap request_in (sym none) ∙ is in absurd cc
+pub no_line : (asked : Asked → Type 0) (line : List ℕ) (any : Asked) → line ≡ [] → rolling_in line ≡ Some any
+    → ∥ asked any ∥₁
+no_line asked line any none is =
+    let no : rolling_in [] ≡ Some any = ap rolling_in (sym none) ∙ is in absurd cc
 
 pub no_feed : (to_feed : List ℕ → InputKind → Type 0) (line path : List ℕ) (kind : InputKind) → line ≡ []
     → feed_in line ≡ Some (path, kind) → ∥ to_feed path kind ∥₁

@@ -9,10 +9,12 @@ use Rattle.flow_manifest.specs.Limits.{too_many_messages}
 use Rattle.flow_commands.specs.Plans.{Span}
 use Rattle.flow_commands.specs.declared.plan.InputKind.{InputKind}
 use Rattle.flow_commands.specs.declared.plan.InputKind.TheVariants.{File, Datagrams}
+use Rattle.flow_roller.specs.Asked.{to_keep, to_merge, Asked}
 use Rattle.flow_shell.specs.declared.asked.Query.{Query}
 use Rattle.flow_shell.specs.declared.asked.Query.TheVariants.{Totals, Flows, Message, Check}
 use Rattle.flow_shell.specs.declared.asked.ShellRequest.{ShellRequest}
-use Rattle.flow_shell.specs.declared.asked.ShellRequest.TheVariants.{Ask, Feed, Collect, Keep, Losses, Wait, Quit}
+use Rattle.flow_shell.specs.declared.asked.ShellRequest.TheVariants.{Ask, Feed, Collect, Keep, Merge, Losses, Wait}
+use Rattle.flow_shell.specs.declared.asked.ShellRequest.TheVariants.{Quit}
 
 -- the part of a line before its first space, and what comes after that
 abbrev pub name_of : List ℕ → List ℕ
@@ -65,6 +67,7 @@ abbrev pub by_name : List ℕ → List ℕ → Option ShellRequest
 by_name name rest =
     if bytes_eq (codes "feed") name then file_in rest
     else if bytes_eq (codes "keep") name then option_map Keep (keep_in rest)
+    else if bytes_eq (codes "merge") name then option_map Merge (keep_in rest)
     else option_map Ask (query_by_name name rest)
 
 -- what a line asks for
@@ -82,6 +85,7 @@ feed_of (Feed path) = Some (path, File 0)
 feed_of (Collect path) = Some (path, Datagrams)
 feed_of (Ask query) = None
 feed_of (Keep keep) = None
+feed_of (Merge keep) = None
 feed_of Losses = None
 feed_of Wait = None
 feed_of Quit = None
@@ -89,6 +93,21 @@ feed_of Quit = None
 -- the same of a line
 abbrev pub feed_in : List ℕ → Option (List ℕ × InputKind)
 feed_in line = option_and_then feed_of (request_in line)
+
+-- what a request asks of the roller
+abbrev pub rolling_of : ShellRequest → Option Asked
+rolling_of (Keep keep) = Some (to_keep keep)
+rolling_of (Merge keep) = Some (to_merge (Some keep))
+rolling_of (Ask query) = None
+rolling_of (Feed path) = None
+rolling_of (Collect path) = None
+rolling_of Losses = None
+rolling_of Wait = None
+rolling_of Quit = None
+
+-- the same of a line
+abbrev pub rolling_in : List ℕ → Option Asked
+rolling_in line = option_and_then rolling_of (request_in line)
 
 -- ---- what an input asks for
 
@@ -107,14 +126,14 @@ abbrev pub HasLine : (List ℕ → Type 0) → Option (List ℕ) → Type 0
 HasLine is None = ⊤
 HasLine is (Some octets) = (n : ℕ) × is (first_piece 10 (after_lines n octets))
 
--- A line of the input asks that so many segments are kept.
-abbrev pub AsksToKeep : Option (List ℕ) → ℕ → Type 0
-AsksToKeep input keep = HasLine (λ line. request_in line ≡ Some (Keep keep)) input
+-- A line of the input asks this of the roller: that so many segments are kept, or so many rolled files.
+abbrev pub AsksToRoll : Option (List ℕ) → Asked → Type 0
+AsksToRoll input any = HasLine (λ line. rolling_in line ≡ Some any) input
 
 -- A line of the input asks that the File at this path is fed so.
 abbrev pub AsksToFeed : Option (List ℕ) → List ℕ → InputKind → Type 0
 AsksToFeed input path kind = HasLine (λ line. feed_in line ≡ Some (path, kind)) input
 
--- So many may be kept: as many as at first, or as a line of the input asks for.
-abbrev pub MayKeep : ℕ → Option (List ℕ) → ℕ → Type 0
-MayKeep first input keep = (keep ≡ first) ⊎ AsksToKeep input keep
+-- So many segments and rolled files may be kept: as many as at first, or as a line of the input asks for.
+abbrev pub MayKeep : ℕ → Option ℕ → Option (List ℕ) → Asked → Type 0
+MayKeep keep merge input any = (any ≡ to_keep keep) ⊎ (any ≡ to_merge merge) ⊎ AsksToRoll input any

@@ -7,6 +7,7 @@ use Rattle.flow_model.specs.Shelf.{Shelf}
 use Rattle.flow_model.specs.Shelved.{shelf_of}
 use Rattle.flow_model.specs.Standing.{StandsFor}
 use Rattle.flow_model.specs.State.{State}
+use Rattle.flow_roller.specs.Asked.{Asked}
 use Rattle.flow_roller.specs.Rolling.{RollsBeside, Round}
 use Rattle.flow_archive.specs.declared.refusal.ArchiveError.{ArchiveError}
 use Rattle.flow_commands.specs.Archives.{of_archive}
@@ -41,9 +42,9 @@ answer_by (Some error) = Err error
 
 -- ---- what is kept
 
--- Rounds of turns were made by one who keeps as many segments as was asked for, until there was nothing left to do, or
--- up to this refusal.
-abbrev pub RollsAsked : {D S X : Type 0} → Ghosts D S X → Shelf → (ℕ → Type 0) → Option ArchiveError → Type 0
+-- Rounds of turns were made by one who keeps and merges as many files as was asked for, until there was nothing left to
+-- do, or up to this refusal.
+abbrev pub RollsAsked : {D S X : Type 0} → Ghosts D S X → Shelf → (Asked → Type 0) → Option ArchiveError → Type 0
 RollsAsked g opening asked refused = (rounds : List Round) × RollsBeside g opening asked rounds (answer_by refused)
 
 -- an answer couldn't be made, or written
@@ -57,7 +58,7 @@ IsUnanswered (Query e) = ⊥
 
 -- Requests were answered, or an answer couldn't be made or written, while the rolling beside them kept what was asked
 -- for; and both ended so.
-pub record IsServed {D S X : Type 0} (g : Ghosts D S X) (opening : Shelf) (asked : ℕ → Type 0)
+pub record IsServed {D S X : Type 0} (g : Ghosts D S X) (opening : Shelf) (asked : Asked → Type 0)
     (result : Result ℕ ArchiveRefusal) : Type 0 where
   pub status : Result ℕ ArchiveRefusal
   pub answered : IfErr status IsUnanswered
@@ -80,7 +81,7 @@ abbrev pub IsUnserved : Option (List ℕ) → Option (List ℕ) → Result ℕ A
 IsUnserved old new result = IsUnbegun result × Keeps old new
 
 -- The archive that was read was opened, and requests about it were answered; or none was.
-abbrev pub ShellsOn : {D S X : Type 0} → Ghosts D S X → D → (ℕ → Type 0) → Option (List ℕ) → Option (List ℕ)
+abbrev pub ShellsOn : {D S X : Type 0} → Ghosts D S X → D → (Asked → Type 0) → Option (List ℕ) → Option (List ℕ)
     → Result ℕ ArchiveRefusal → Type 0
 ShellsOn g disk asked old new result =
     ((state : State) × (IsTrue (g.honest disk) → StandsFor (reads_of (g.held disk)) state)
@@ -88,6 +89,6 @@ ShellsOn g disk asked old new result =
     ⊎ IsUnserved old new result
 
 -- The same of the archive in a folder, on some disk of its kind.
-abbrev pub ShellsIn : {D S X : Type 0} → Ghosts D S X → (ℕ → Type 0) → Option (List ℕ) → Option (List ℕ)
+abbrev pub ShellsIn : {D S X : Type 0} → Ghosts D S X → (Asked → Type 0) → Option (List ℕ) → Option (List ℕ)
     → Result ℕ ArchiveRefusal → Type 0
 ShellsIn {D} g asked old new result = ((disk : D) × ShellsOn g disk asked old new result) ⊎ IsUnserved old new result

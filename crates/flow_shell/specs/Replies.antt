@@ -12,7 +12,8 @@ use Rattle.flow_shared.specs.Meaning.{HasView}
 use Rattle.flow_feed.specs.declared.batch.Fed.{Fed}
 use Rattle.flow_shell.specs.declared.asked.Query.{Query}
 use Rattle.flow_shell.specs.declared.asked.ShellRequest.{ShellRequest}
-use Rattle.flow_shell.specs.declared.asked.ShellRequest.TheVariants.{Ask, Feed, Collect, Keep, Losses, Wait, Quit}
+use Rattle.flow_shell.specs.declared.asked.ShellRequest.TheVariants.{Ask, Feed, Collect, Keep, Merge, Losses, Wait}
+use Rattle.flow_shell.specs.declared.asked.ShellRequest.TheVariants.{Quit}
 use Rattle.flow_shell.specs.Answers.{query_lines}
 use Rattle.flow_shell.specs.declared.losses.FeedCounts.{FeedCounts}
 use Rattle.flow_shell.specs.Asked.{after_lines, request_in}
@@ -25,7 +26,7 @@ use Rattle.flow_shell.specs.Written.{began_line, done_line, HasTold, IsAnswer}
 abbrev pub no_request : List ℕ
 no_request =
     codes "refused no request: one of feed FILE [datagrams], totals FROM TO, flows FROM TO, message N, check, "
-    ++ codes "losses, keep N, wait, quit\n"
+    ++ codes "losses, keep N, merge N, wait, quit\n"
 
 -- What a query is answered by the steps that are shown: on an honest disk its lines and their end, or a refusal.
 abbrev pub IsAnswered : Bool → Shelf → ℕ → List Change → Query → Option (List ℕ) → Option (List ℕ) → Type 0
@@ -52,6 +53,7 @@ IsReply said had answered (Some (Ask query)) old new = answered query old new
 IsReply said had answered (Some (Feed path)) old new = IsBegun old new
 IsReply said had answered (Some (Collect path)) old new = IsBegun old new
 IsReply said had answered (Some (Keep keep)) old new = Appends old new (done_line 0)
+IsReply said had answered (Some (Merge keep)) old new = Appends old new (done_line 0)
 IsReply said had answered (Some Losses) old new = HasLosses had old new
 IsReply said had answered (Some Wait) old new = IsSettled said old new
 IsReply said had answered (Some Quit) old new = new ≡ old

@@ -53,6 +53,8 @@ pub enum ShellRequest<'a> {
     Collect(FileName<'a>),
     /// `keep N`: so many of the newest segments are left as they are from now on.
     Keep(u32),
+    /// `merge N`: so many of the newest rolled files are from now on, and older ones are merged.
+    Merge(u32),
     /// `losses`: what all Files so far show not to be read.
     Losses,
     /// `wait`: answered when all Files that are fed have ended.
@@ -89,7 +91,7 @@ fn message_of(word: &str) -> Option<u64>
     number_between(0, MOST_MESSAGES, word.as_bytes())
 }
 
-/// How many segments are left as they are.
+/// How many segments, or rolled files, are left as they are.
 fn keep_of(word: &str) -> Option<u32>
     ensures { result ≡ keep_in word.now }
 {
@@ -150,6 +152,7 @@ fn by_name<'a>(name: &str, rest: &'a str) -> Option<ShellRequest<'a>>
     match name {
         "feed" => file_of(rest),
         "keep" => Some(ShellRequest::Keep(keep_of(rest)?)),
+        "merge" => Some(ShellRequest::Merge(keep_of(rest)?)),
         _ => Some(ShellRequest::Ask(query_by_name(name, rest)?)),
     }
 }

@@ -5,8 +5,9 @@ ghost use Rattle.std.specs.Io.BufRead.{strip_last};
 ghost use Rattle.std.specs.Io.KnownBytes.{IsAtEnd};
 ghost use Rattle.std.specs.Str.{IsUtf8};
 ghost use Rattle.flow_commands.specs.declared.plan.InputKind.{InputKind};
-ghost use Rattle.flow_shell.specs.Asked.{feed_in, feed_of, request_in, AsksToFeed, AsksToKeep, IsNextLine};
-ghost use Rattle.flow_shell.specs.declared.asked.ShellRequest.TheVariants as asked;
+ghost use Rattle.flow_roller.specs.Asked.{Asked};
+ghost use Rattle.flow_shell.specs.Asked.{feed_in, feed_of, request_in, rolling_in, rolling_of, AsksToFeed, AsksToRoll};
+ghost use Rattle.flow_shell.specs.Asked.{IsNextLine};
 
 use crate::asked::{ShellRequest, request_of};
 use crate::board::Ends;
@@ -25,7 +26,7 @@ fn strip_feed(line: &mut Vec<u8>)
 }
 
 /// The lines of an input, of which the one that was read last is at hand. What one of them says was asked for: that so
-/// many segments are kept, and that the File at a path is fed so.
+/// many segments, or rolled files, are kept, and that the File at a path is fed so.
 #[derive(Drop)]
 pub(crate) struct Lines<K: Keeping, B: Ends, I: BufRead + Drop> {
     input: I,
@@ -34,8 +35,8 @@ pub(crate) struct Lines<K: Keeping, B: Ends, I: BufRead + Drop> {
     is_read: bool,
     keeping: PhantomData<K>,
     feeding: PhantomData<B>,
-    ghost left: { is_read ≡ true → (keep : ℕ) → AsksToKeep (I.remaining input) keep → ∥ K.asked keep ∥₁ },
-    ghost here: { (keep : ℕ) → request_in line.items ≡ Some (asked.Keep keep) → ∥ K.asked keep ∥₁ },
+    ghost left: { is_read ≡ true → (any : Asked) → AsksToRoll (I.remaining input) any → ∥ K.asked any ∥₁ },
+    ghost here: { (any : Asked) → rolling_in line.items ≡ Some any → ∥ K.asked any ∥₁ },
     ghost feeds_left: { is_read ≡ true
         → (path : List ℕ) (kind : InputKind) → AsksToFeed (I.remaining input) path kind → ∥ B.to_feed path kind ∥₁ },
     ghost feed_here: { (path : List ℕ) (kind : InputKind) → feed_in line.items ≡ Some (path, kind)
@@ -47,7 +48,7 @@ impl<K: Keeping, B: Ends, I: BufRead + Drop> Lines<K, B, I> {
     #[tactic(auto, using(crate::proofs::Requested::no_line, crate::proofs::Requested::no_feed))]
     pub(crate) fn new(input: I, line: Vec<u8>) -> Lines<K, B, I>
         requires none { line.items ≡ [] }
-        requires asked { (keep : ℕ) → AsksToKeep (I.remaining input) keep → ∥ K.asked keep ∥₁ }
+        requires asked { (any : Asked) → AsksToRoll (I.remaining input) any → ∥ K.asked any ∥₁ }
         requires to_feed { (path : List ℕ) (kind : InputKind) → AsksToFeed (I.remaining input) path kind
             → ∥ B.to_feed path kind ∥₁ }
         ensures { result.is_read ≡ true }
@@ -90,7 +91,7 @@ impl<K: Keeping, B: Ends, I: BufRead + Drop> Lines<K, B, I> {
     pub(crate) fn request(&self) -> Option<ShellRequest<'_>>
         ensures value { IsUtf8 self.now.line.items → result ≡ request_in self.now.line.items }
         ensures text { IfSome result (λ _. IsUtf8 self.now.line.items) }
-        ensures asked { (keep : ℕ) → result ≡ Some (asked.Keep keep) → ∥ K.asked keep ∥₁ }
+        ensures asked { (any : Asked) → option_and_then rolling_of result ≡ Some any → ∥ K.asked any ∥₁ }
         ensures to_feed { (path : List ℕ) (kind : InputKind) → option_and_then feed_of result ≡ Some (path, kind)
             → ∥ B.to_feed path kind ∥₁ }
     {

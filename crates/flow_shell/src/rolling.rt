@@ -13,7 +13,7 @@ use std::alloc::Global;
 use std::marker::PhantomData;
 use std::sync::Wait;
 
-/// How rolling ended beside the shell: after rounds by one who keeps as many as was asked for.
+/// How rolling ended beside the shell: after rounds by one who keeps and merges as many as was asked for.
 #[derive(Drop)]
 pub(crate) struct RollEnd<D: Disk, J: Naming, K: Keeping> {
     /// The first refusal, if any.

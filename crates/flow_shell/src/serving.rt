@@ -4,12 +4,12 @@ ghost use Rattle.std.specs.Prelude.{◌≡◌, ◌≢◌, ◌≤◌, ⊤, ℕ, I
 ghost use Rattle.std.specs.Prelude.{option_and_then, string_bytes};
 ghost use Rattle.std.specs.Io.KnownBytes.{Appends};
 ghost use Rattle.flow_shell.specs.Written.{began_line, HasTold};
-ghost use Rattle.flow_shell.specs.Asked.{feed_of};
+ghost use Rattle.flow_roller.specs.Asked.{Asked};
+ghost use Rattle.flow_shell.specs.Asked.{feed_of, rolling_of};
 ghost use mathlib.Core.List.{IsPrefix};
 ghost use Rattle.flow_shell.specs.Fed.{EndsBy, EndsSo};
 ghost use Rattle.flow_shell.specs.Replies.{AreAnswered, IsAnswered, IsBegun, IsLineReplied, IsReply};
 ghost use Rattle.flow_shell.specs.Replies.{IsSettled};
-ghost use Rattle.flow_shell.specs.declared.asked.ShellRequest.TheVariants as asked;
 ghost use Rattle.flow_shell.specs.Endings.{end_status, end_text, IsUnanswered, RollsAsked};
 ghost use Rattle.flow_commands.specs.declared.plan.InputKind.{InputKind as Kind};
 ghost use Rattle.flow_feed.specs.declared.batch.Fed.{Fed as FedFile};
@@ -43,7 +43,7 @@ const WRONG_LINE: u8 = 2;
 /// What a line that is no request is answered.
 const WRONG_REQUEST: &str =
     "refused no request: one of feed FILE [datagrams], totals FROM TO, flows FROM TO, message N, check, \
-     losses, keep N, wait, quit\n";
+     losses, keep N, merge N, wait, quit\n";
 
 /// A File is fed from its first message on.
 const FROM_FIRST: InputKind = InputKind::File(0);
@@ -178,7 +178,7 @@ where
     H::Dir: Send + Sync,
     D::Sealed: Send + Sync,
     requires said { (number : ℕ) (fed : FedFile) → EndsSo D.Disk J.opening B.to_feed fed → ∥ B.said number fed ∥₁ }
-    requires asked { (keep : ℕ) → request ≡ Some (asked.Keep keep) → ∥ K.asked keep ∥₁ }
+    requires asked { (any : Asked) → option_and_then rolling_of request ≡ Some any → ∥ K.asked any ∥₁ }
     requires to_feed { (path : List ℕ) (kind : Kind) → option_and_then feed_of request ≡ Some (path, kind)
         → ∥ B.to_feed path kind ∥₁ }
     ensures later { IsPrefix asking.old.reader asking.new.reader }
@@ -194,6 +194,10 @@ where
         Some(ShellRequest::Ask(query)) => answer_query(rt, alloc, asking, &query, output),
         Some(ShellRequest::Keep(keep)) => {
             bell.set_keep(rt, keep);
+            end_answer(DONE, output)
+        }
+        Some(ShellRequest::Merge(keep)) => {
+            bell.set_merge(rt, Some(keep));
             end_answer(DONE, output)
         }
         Some(ShellRequest::Losses) => answer_losses(rt, alloc, board, output),

@@ -3,6 +3,7 @@
 ghost use Rattle.std.specs.Prelude.{◌≡◌, ◌≢◌, ◌≤◌, ◌⊎◌, ℕ, false, IsTrue, IfOk};
 ghost use Rattle.flow_directory.specs.File.{entry};
 ghost use Rattle.flow_model.specs.Shelved.{shelf_of};
+ghost use Rattle.flow_roller.specs.Asked.{Asked};
 ghost use Rattle.flow_shell.specs.Asked.{MayKeep};
 ghost use Rattle.flow_shell.specs.Endings.{shell_ended, IsServed, IsUnserved, ShellsIn, ShellsOn};
 
@@ -54,6 +55,7 @@ fn serve_reader<
     shared: &SharedArchive<D, J, H>,
     limit: u32,
     keep: u32,
+    merge: Option<u32>,
     readers: &mut Vec<ArchiveReader<D::Sealed, J>>,
     width: u32,
     input: &mut R,
@@ -64,7 +66,7 @@ where
     H::Dir: Send + Sync,
     D::Sealed: Send + Sync,
     // As many as at first, or as a line of the input says, may be kept.
-    requires { (kept : ℕ) → MayKeep keep (R.remaining input.old) kept → ∥ K.asked kept ∥₁ }
+    requires { (any : Asked) → MayKeep keep merge (R.remaining input.old) any → ∥ K.asked any ∥₁ }
     ensures served { IsServed D.Disk J.opening K.asked result
         ⊎ IsUnserved (W.contents output.old) (W.contents output.new) result }
     ensures most { IfOk result (λ status. status ≤ 5) }
@@ -83,7 +85,7 @@ where
         workers: Workers::of_processors(rt),
     };
     let lines: Lines<K, Brand, BufReader<&mut R>> = Lines::new(input, Vec::new(alloc));
-    let bell: Bell<K> = Bell::new(keep);
+    let bell: Bell<K> = Bell::new(keep, merge);
     let (status, refused) = serve_beside(rt, shared, &bell, limit, &mut asking, lines, output);
     ended(status, refused)
 }
@@ -100,6 +102,7 @@ fn serve_archive<
     archive: Archive<D>,
     opened: Opened,
     keep: u32,
+    merge: Option<u32>,
     input: &mut R,
     output: &mut W,
 ) -> Result<u8, ArchiveRefusal>
@@ -110,7 +113,7 @@ where
     requires book { opened.seen.book ≡ J.book }
     requires opening { shelf_of archive.state ≡ J.opening }
     requires honest { D.honest archive.disk ≡ J.honest }
-    ensures asked { IsServed D.Disk J.opening (MayKeep keep (R.remaining input.old)) result
+    ensures asked { IsServed D.Disk J.opening (MayKeep keep merge (R.remaining input.old)) result
         ⊎ IsUnserved (W.contents output.old) (W.contents output.new) result }
     ensures most { IfOk result (λ status. status ≤ 5) }
     ensures other { IfOk result (λ status. status ≢ 2) }
@@ -126,6 +129,7 @@ where
         &shared,
         limit,
         keep,
+        merge,
         &mut readers,
         width,
         input,
@@ -141,13 +145,20 @@ fn serve_disk<
     D: Disk + Leave + Send,
     R: Read,
     W: Write,
->(rt: &H, disk: D, keep: u32, input: &mut R, output: &mut W) -> Result<u8, ArchiveRefusal>
+>(
+    rt: &H,
+    disk: D,
+    keep: u32,
+    merge: Option<u32>,
+    input: &mut R,
+    output: &mut W,
+) -> Result<u8, ArchiveRefusal>
 where
     H::File: Send + Sync,
     H::Dir: Send + Sync,
     D::Sealed: Send + Sync,
     requires { (n : ℕ) → (D.marks disk n).frozen ≡ false }
-    ensures asked { ShellsOn D.Disk disk (MayKeep keep (R.remaining input.old)) (W.contents output.old)
+    ensures asked { ShellsOn D.Disk disk (MayKeep keep merge (R.remaining input.old)) (W.contents output.old)
         (W.contents output.new) result }
     ensures most { IfOk result (λ status. status ≤ 5) }
     ensures other { IfOk result (λ status. status ≢ 2) }
@@ -158,6 +169,7 @@ where
             archive,
             Opened::new(),
             keep,
+            merge,
             input,
             output,
         ),
@@ -171,7 +183,14 @@ fn serve_over<
     S: Directory + Send,
     R: Read,
     W: Write,
->(rt: &H, system: S, keep: u32, input: &mut R, output: &mut W) -> Result<u8, ArchiveRefusal>
+>(
+    rt: &H,
+    system: S,
+    keep: u32,
+    merge: Option<u32>,
+    input: &mut R,
+    output: &mut W,
+) -> Result<u8, ArchiveRefusal>
 where
     H::File: Send + Sync,
     H::Dir: Send + Sync,
@@ -180,20 +199,21 @@ where
     <S::Reader as FileReader>::Error: Send,
     requires found { IsTrue (S.honest system) → (n : ℕ) → (S.files system n).lost entry ≡ false }
     requires free { IsTrue (S.honest system) → (n : ℕ) → (S.files system n).lent ≡ false }
-    ensures asked { ShellsIn ⟦<flow_folder_disk::FolderDisk<S> as Disk>⟧ (MayKeep keep (R.remaining input.old))
+    ensures asked { ShellsIn ⟦<flow_folder_disk::FolderDisk<S> as Disk>⟧ (MayKeep keep merge (R.remaining input.old))
         (W.contents output.old) (W.contents output.new) result }
     ensures most { IfOk result (λ status. status ≤ 5) }
     ensures other { IfOk result (λ status. status ≢ 2) }
 {
     let disk = flow_folder_disk::FolderDisk::new(rt.alloc(), system);
-    serve_disk(rt, disk, keep, input, output)
+    serve_disk(rt, disk, keep, merge, input, output)
 }
 
 /// Opens the archive of a folder, and answers the requests that `input` has, a line each, in their order: with their
 /// lines, and `done STATUS`. Files that are asked for are fed meanwhile, at most 8 at once, and the line of one that
 /// has ended is written before the next answer. The newest `keep` sealed segments are left as they are, or as many as a
-/// request says from then on; older ones are rolled meanwhile. After `quit`, and at the end of the input, Files end
-/// with what was read of them.
+/// request says from then on; older ones are rolled meanwhile. Of the rolled files the newest `merge` are, likewise,
+/// where that is some number or a request says so, and older ones are merged, whenever there are 1,024. After `quit`,
+/// and at the end of the input, Files end with what was read of them.
 pub fn shell_in<
     'a,
     H: Files + AllocGlobal + Clone + Drop + Threads + Wait + Send + Sync,
@@ -204,17 +224,18 @@ pub fn shell_in<
     folder: &'a str,
     first_fault: &'a FirstFault,
     keep: u32,
+    merge: Option<u32>,
     input: &mut R,
     output: &mut W,
 ) -> Result<u8, ArchiveRefusal>
 where
     H::File: FileExt + Lockable + Send + Sync,
     H::Dir: Send + Sync,
-    ensures asked { ShellsIn ⟦<FolderDisk<'a, H> as Disk>⟧ (MayKeep keep (R.remaining input.old))
+    ensures asked { ShellsIn ⟦<FolderDisk<'a, H> as Disk>⟧ (MayKeep keep merge (R.remaining input.old))
         (W.contents output.old) (W.contents output.new) result }
     ensures most { IfOk result (λ status. status ≤ 5) }
     ensures other { IfOk result (λ status. status ≢ 2) }
 {
     let system = SystemDirectory::open(rt, folder, Some(first_fault))?;
-    serve_over(rt, system, keep, input, output)
+    serve_over(rt, system, keep, merge, input, output)
 }

@@ -1,21 +1,25 @@
-use Rattle.std.proofs.Common.{◌≡◌, [], ap, drop, length, sym, subst, take}
-use Rattle.std.proofs.KnownBytes.{Appends-nil}
+use Rattle.std.proofs.Common.{◌≡◌, arith, drop, length, sym, subst, take}
 use Rattle.std.specs.Prelude.{IfOk, OnErr, OnOk}
 use Rattle.std.specs.Io.KnownBytes.{Appends}
 use Rattle.flow_codec.specs.Message.{joined}
 use Rattle.flow_report.specs.Writing.{AppendsFront}
 use Rattle.flow_snapshot.specs.Found.{kept_by_file, KeptFile}
 use Rattle.flow_export.proofs.Choosing.{found_there, none_asked, none_written}
-use Rattle.flow_export.proofs.Viewed.{no_more, own_cut_off, own_file}
+use Rattle.flow_export.specs.Export.{asked_count, AreMessages, Writes, WritesSome}
+use Rattle.flow_export.proofs.Viewed.{no_more, none_asked_for, own_cut_off, own_file}
+use Rattle.flow_export.proofs.WholeMessages.{none_whole}
 use Rattle.flow_export.proofs.exporting.write_file.Goals as goal
 
-pub returns-then-count-skip-clause-grows : goal.returns-then-count-skip-clause-grows
-returns-then-count-skip-clause-grows g c = ([], Appends-nil (g.W.Write.contents c.args.output.now))
-
 pub returns-then-count-skip-clause-count : goal.returns-then-count-skip-clause-count
-returns-then-count-skip-clause-count g c = λ honest file there.
-    sym (ap length (no_more c.args.snapshot.now.shelf c.args.at _ file c.args.most c.args.skip
-    c.message_count-count.result c.kept_part.ensures.file there c.message_count-count.ensures c.if-count-skip.true))
+returns-then-count-skip-clause-count g c = λ file there.
+    sym (none_asked_for c.args.snapshot.now.shelf c.args.at _ file c.args.most c.args.skip c.message_count-count.result
+    c.kept_part.ensures.file there c.message_count-count.ensures c.if-count-skip.true)
+
+pub returns-then-count-skip-clause-whole : goal.returns-then-count-skip-clause-whole
+returns-then-count-skip-clause-whole g c = λ file there.
+    none_whole _ (g.W.Write.contents c.args.output.now)
+    (none_asked_for c.args.snapshot.now.shelf c.args.at _ file c.args.most c.args.skip c.message_count-count.result
+    c.kept_part.ensures.file there c.message_count-count.ensures c.if-count-skip.true)
 
 pub returns-then-count-skip-clause-all : goal.returns-then-count-skip-clause-all
 returns-then-count-skip-clause-all g c = λ honest file there.
@@ -23,12 +27,12 @@ returns-then-count-skip-clause-all g c = λ honest file there.
     (no_more c.args.snapshot.now.shelf c.args.at _ file c.args.most c.args.skip
     c.message_count-count.result c.kept_part.ensures.file there c.message_count-count.ensures c.if-count-skip.true)
 
-pub returns-then-most-eq0-clause-grows : goal.returns-then-most-eq0-clause-grows
-returns-then-most-eq0-clause-grows g c = ([], Appends-nil (g.W.Write.contents c.args.output.now))
-
 pub returns-then-most-eq0-clause-count : goal.returns-then-most-eq0-clause-count
-returns-then-most-eq0-clause-count g c = λ honest file there.
-    sym (ap length (none_asked c.args.most c.args.skip file.messages c.if-most-eq0.true))
+returns-then-most-eq0-clause-count g c = λ file there. omega (arith, c.if-most-eq0.true)
+
+pub returns-then-most-eq0-clause-whole : goal.returns-then-most-eq0-clause-whole
+returns-then-most-eq0-clause-whole g c = λ file there.
+    none_whole _ (g.W.Write.contents c.args.output.now) (omega (arith, c.if-most-eq0.true))
 
 pub returns-then-most-eq0-clause-all : goal.returns-then-most-eq0-clause-all
 returns-then-most-eq0-clause-all g c = λ honest file there.
@@ -36,11 +40,26 @@ returns-then-most-eq0-clause-all g c = λ honest file there.
     (none_asked c.args.most c.args.skip file.messages c.if-most-eq0.true)
 
 pub returns-clause-count : goal.returns-clause-count
-returns-clause-count g c = λ honest file there.
+returns-clause-count g c = λ file there.
     let files = kept_by_file c.args.snapshot.now.shelf in
-    subst (λ (f : KeptFile). IfOk c.write_part.result (λ n. n ≡ length (take c.args.most (drop c.args.skip f.messages))))
-    (found_there files c.args.at file _ c.kept_part-part.ensures.file there)
-    (c.write_part.ensures.count (c.kept_part-part.ensures.honest honest))
+    subst (λ (f : KeptFile). IfOk c.write_part.result (λ n. n ≡ asked_count c.args.skip c.args.most (length f.messages)))
+    (found_there files c.args.at file _ c.kept_part-part.ensures.file there) c.write_part.ensures.count
+
+pub returns-clause-whole : goal.returns-clause-whole
+returns-clause-whole g c = λ file there.
+    let files = kept_by_file c.args.snapshot.now.shelf in
+    subst (λ (f : KeptFile). OnOk c.write_part.result
+    (Writes (AreMessages (asked_count c.args.skip c.args.most (length f.messages)))
+    (g.W.Write.contents c.args.output.now) (g.W.Write.contents c.write_part.new.output)))
+    (found_there files c.args.at file _ c.kept_part-part.ensures.file there) c.write_part.ensures.whole
+
+pub returns-clause-part : goal.returns-clause-part
+returns-clause-part g c = λ file there.
+    let files = kept_by_file c.args.snapshot.now.shelf in
+    subst (λ (f : KeptFile). OnErr c.write_part.result
+    (WritesSome (AreMessages (asked_count c.args.skip c.args.most (length f.messages)))
+    (g.W.Write.contents c.args.output.now) (g.W.Write.contents c.write_part.new.output)))
+    (found_there files c.args.at file _ c.kept_part-part.ensures.file there) c.write_part.ensures.part
 
 pub returns-clause-all : goal.returns-clause-all
 returns-clause-all g c = λ honest file there.

@@ -3,7 +3,7 @@ use Rattle.std.specs.Prelude.{IsTrue}
 use Rattle.std.specs.Io.KnownBytes.{Appends}
 use Rattle.flow_codec.specs.Message.{joined}
 use Rattle.flow_snapshot.specs.Found.{kept_by_file}
-use Rattle.flow_export.specs.Export.{messages_of, Grows}
+use Rattle.flow_export.specs.Export.{asked_count, messages_of, AreMessages, Writes}
 use Rattle.flow_export.proofs.exporting.write_kept.Given as goal
 
 -- of the files so far the messages are written
@@ -14,8 +14,8 @@ invariant-loop-at g l =
     let ms = messages_of (take l.at (kept_by_file l.fn.snapshot.shelf)) in
     record {
       faults : l.faults ≡ l.fn.faults;
-      grows : Grows old now;
       skip : l.skip ≡ l.fn.skip - length ms;
-      left : IsTrue l.fn.snapshot.honest → l.left ≡ l.fn.most - length (drop l.fn.skip ms);
+      left : l.left ≡ l.fn.most - length (drop l.fn.skip ms);
+      whole : Writes (AreMessages (asked_count l.fn.skip l.fn.most (length ms))) old now;
       written : IsTrue l.fn.snapshot.honest → Appends old now (joined (take l.fn.most (drop l.fn.skip ms)));
     }

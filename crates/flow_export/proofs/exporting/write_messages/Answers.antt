@@ -1,17 +1,20 @@
-use Rattle.std.proofs.Common.{◌≢◌, inl}
+use Rattle.std.proofs.Common.{◌≢◌, inl, ℕ, List, length, subst}
 use Rattle.std.proofs.KnownBytes.{Keeps-refl}
 use Rattle.flow_disk.proofs.Results.{on_ok_by, passed_on}
+use Rattle.flow_model.specs.Shelf.{kept_of}
 use Rattle.flow_refusals.specs.declared.read_refusal.ReadRefusal.TheVariants as query
 use Rattle.flow_export.specs.declared.refusal.ExportRefusal.TheVariants as refusal
-use Rattle.flow_export.specs.Export.{IsBlameless, IsExport, IsExportOf, Writes, WritesUpTo}
-use Rattle.flow_export.proofs.Written.{all_exported, exported, if_err_always, messages_cut, on_ok_always, some_exported}
-use Rattle.flow_export.proofs.Written.{quiet_cause, some_of, templates_cut, whole_up_to}
+use Rattle.flow_export.specs.Export.{asked_count, AreMessages, IsBlameless, IsExport, IsExportOf, Writes, WritesSome}
+use Rattle.flow_export.specs.Export.{WritesUpTo}
+use Rattle.flow_export.proofs.Choosing.{all_kept}
+use Rattle.flow_export.proofs.Written.{all_exported, exported, exported_part, messages_cut, some_exported}
+use Rattle.flow_export.proofs.Written.{quiet_cause, some_of, templates_cut}
 use Rattle.flow_export.proofs.exporting.write_messages.Goals as goal
 
 pub returns-in_err-carry-clause-some : goal.returns-in_err-carry-clause-some
 returns-in_err-carry-clause-some g c =
     let output = g.W.Write.contents c.args.output.now in
-    passed_on c.from_residual.result (refusal.Query (c.in_err-carry.field-0).0) (WritesUpTo IsExport output output)
+    passed_on c.from_residual.result (refusal.Query (c.in_err-carry.field-0).0) (WritesUpTo (IsExport _) output output)
     c.from_residual.ensures.1 (inl (Keeps-refl output))
 
 pub returns-in_err-carry-clause-cut : goal.returns-in_err-carry-clause-cut
@@ -31,9 +34,9 @@ returns-in_err-write_restated-clause-some g c =
     let old = g.W.Write.contents c.args.output.now in
     let new = g.W.Write.contents c.write_restated.new.output in
     let e = (c.in_err-write_restated.field-0).0 in
-    passed_on c.from_residual-in_err-write_restated.result e (WritesUpTo IsExport old new)
+    passed_on c.from_residual-in_err-write_restated.result e (WritesUpTo (IsExport _) old new)
     c.from_residual-in_err-write_restated.ensures.1
-    (templates_cut c.in_ok-carry.carry old new c.write_restated.ensures.carry e c.in_err-write_restated.ensures.some)
+    (templates_cut _ c.in_ok-carry.carry old new c.write_restated.ensures.carry e c.in_err-write_restated.ensures.some)
 
 pub returns-in_err-write_restated-clause-cut : goal.returns-in_err-write_restated-clause-cut
 returns-in_err-write_restated-clause-cut g c = λ honest.
@@ -53,22 +56,29 @@ returns-in_err-write_restated-clause-blameless g c = λ honest v view.
 
 pub returns-clause-written : goal.returns-clause-written
 returns-clause-written g c =
+    let s = c.args.snapshot.now.shelf in
     let old = g.W.Write.contents c.args.output.now in
     let mid = g.W.Write.contents c.write_restated.new.output in
     let new = g.W.Write.contents c.write_kept.new.output in
-    on_ok_always c.write_kept.result (Writes IsExport old new)
-    (exported c.in_ok-carry.carry old mid new c.in_ok-write_restated.ensures.all c.write_restated.ensures.carry
-    c.write_kept.ensures.grows)
+    on_ok_by c.write_kept.result _
+    (Writes (IsExport (asked_count c.args.skip c.args.most (length (kept_of s)))) old new)
+    (λ whole. exported c.in_ok-carry.carry old mid new c.in_ok-write_restated.ensures.all
+    (asked_count c.args.skip c.args.most (length (kept_of s))) c.write_restated.ensures.carry
+    (subst (λ (ms : List (List ℕ)). Writes (AreMessages (asked_count c.args.skip c.args.most (length ms))) mid new)
+    (all_kept s) whole)) c.write_kept.ensures.whole
 
 pub returns-clause-some : goal.returns-clause-some
 returns-clause-some g c =
+    let s = c.args.snapshot.now.shelf in
     let old = g.W.Write.contents c.args.output.now in
     let mid = g.W.Write.contents c.write_restated.new.output in
     let new = g.W.Write.contents c.write_kept.new.output in
-    if_err_always c.write_kept.result (WritesUpTo IsExport old new)
-    (whole_up_to IsExport old new
-    (exported c.in_ok-carry.carry old mid new c.in_ok-write_restated.ensures.all c.write_restated.ensures.carry
-    c.write_kept.ensures.grows))
+    some_of c.write_kept.result _
+    (WritesUpTo (IsExport (asked_count c.args.skip c.args.most (length (kept_of s)))) old new)
+    (λ part. exported_part c.in_ok-carry.carry old mid new c.in_ok-write_restated.ensures.all
+    (asked_count c.args.skip c.args.most (length (kept_of s))) c.write_restated.ensures.carry
+    (subst (λ (ms : List (List ℕ)). WritesSome (AreMessages (asked_count c.args.skip c.args.most (length ms))) mid new)
+    (all_kept s) part)) c.write_kept.ensures.part
 
 pub returns-clause-exact : goal.returns-clause-exact
 returns-clause-exact g c = λ honest.

@@ -2,10 +2,10 @@ use Rattle.std.proofs.Common.{inl}
 use Rattle.std.proofs.KnownBytes.{Keeps-refl}
 use Rattle.flow_disk.proofs.Results.{passed_on}
 use Rattle.flow_refusals.specs.declared.read_refusal.ReadRefusal.TheVariants as query
-use Rattle.flow_export.specs.Export.{IsExport}
 use Rattle.flow_export_folder.specs.declared.refusal.ArchiveExportRefusal.TheVariants as refusal
 use Rattle.flow_export_folder.specs.Asked.{AreUnexported, WritesUpTo}
-use Rattle.flow_export_folder.proofs.AskedFor.{all_exported, all_unexported, honest_here, viewed_here}
+use Rattle.flow_export_folder.proofs.AskedFor.{all_exported, all_unexported, counted_here, ended_here, honest_here}
+use Rattle.flow_export_folder.proofs.AskedFor.{viewed_here}
 use Rattle.flow_export_folder.proofs.asking.ask_messages.Goals as goal
 
 pub returns-in_err-directory-clause-refused : goal.returns-in_err-directory-clause-refused
@@ -17,7 +17,7 @@ returns-in_err-directory-clause-refused g c = λ honest reads stands.
 pub returns-in_err-directory-clause-some : goal.returns-in_err-directory-clause-some
 returns-in_err-directory-clause-some g c =
     let output = g.W.Write.contents c.args.output.now in
-    passed_on c.from_residual.result (refusal.Query query.OutOfMemory) (WritesUpTo IsExport c.args.span.now output output)
+    passed_on c.from_residual.result (refusal.Query query.OutOfMemory) (WritesUpTo _ c.args.span.now output output)
     c.from_residual.ensures.1 (inl (Keeps-refl output))
 
 pub returns-clause-exact : goal.returns-clause-exact
@@ -45,3 +45,15 @@ returns-clause-refused g c = λ honest reads stands.
     (g.W.Write.contents c.write_span.new.output) c.write_span.result c.write_span.ensures.asking
     (c.write_span.ensures.blameless here seen.0 (viewed_here sight d is s shown seen.0 seen.1))
     c.write_span.ensures.rolled (c.write_span.ensures.cut here)
+
+pub returns-clause-written : goal.returns-clause-written
+returns-clause-written g c =
+    counted_here c.into_snapshot-snapshot.result c.in_ok-directory.directory c.into_snapshot-snapshot.ensures
+    c.args.archive.now.state c.in_ok-directory.ensures.every c.args.span.now (g.W.Write.contents c.args.output.now)
+    (g.W.Write.contents c.write_span.new.output) c.write_span.result c.write_span.ensures.written
+
+pub returns-clause-some : goal.returns-clause-some
+returns-clause-some g c =
+    ended_here c.into_snapshot-snapshot.result c.in_ok-directory.directory c.into_snapshot-snapshot.ensures
+    c.args.archive.now.state c.in_ok-directory.ensures.every c.args.span.now (g.W.Write.contents c.args.output.now)
+    (g.W.Write.contents c.write_span.new.output) c.write_span.result c.write_span.ensures.some

@@ -1,7 +1,7 @@
 use Rattle.std.proofs.Common.{◌∙◌, ap, subst, sym}
 use Rattle.flow_manifest.specs.Slots.{reads_of}
 use Rattle.flow_export_folder.specs.Asked.{AreUnexported, KeepsArchive}
-use Rattle.flow_export_folder.proofs.AskedFor.{asked_alone, unopened_messages}
+use Rattle.flow_export_folder.proofs.AskedFor.{asked_alone, some_ended, some_written, unopened_messages}
 use Rattle.flow_export_folder.proofs.asking.export.Goals as goal
 
 pub returns-in-Ok-clause-exact : goal.returns-in-Ok-clause-exact
@@ -31,3 +31,14 @@ returns-in-Err-clause-refused g c = λ honest.
     let reads = reads_of (g.D.Disk.held c.args.disk) in
     subst (λ e. AreUnexported reads c.args.span.now output output e) (sym c.from.ensures)
     (unopened_messages reads output c.in-Err.refused.error (c.in-Err.ensures.told honest) c.args.span.now)
+
+pub returns-in-Ok-clause-written : goal.returns-in-Ok-clause-written
+returns-in-Ok-clause-written g c =
+    some_written _ _ c.args.span.now (g.W.Write.contents c.args.output.now)
+    (g.W.Write.contents c.ask_messages-asked.new.output) c.ask_messages-asked.result
+    c.ask_messages-asked.ensures.written
+
+pub returns-in-Ok-clause-some : goal.returns-in-Ok-clause-some
+returns-in-Ok-clause-some g c =
+    some_ended _ _ c.args.span.now (g.W.Write.contents c.args.output.now)
+    (g.W.Write.contents c.ask_messages-asked.new.output) c.ask_messages-asked.result c.ask_messages-asked.ensures.some

@@ -6,8 +6,8 @@ use Rattle.flow_kept_records.proofs.message.tell_chosen.Given as goal
 -- the lines of the records so far came
 abbrev pub invariant-loop-record : goal.invariant-loop-record
 invariant-loop-record g l = record {
-  format : l.lines.format ≡ l.fn.lines.format;
+  format : l.lines.line ≡ l.fn.lines.line;
   telling : IsTelling (g.W.Write.contents l.fn.output) l.fn.lines.held (g.W.Write.contents l.output) l.lines.held
-      (held_text l.fn.lines.format l.records l.octets)
-      (held_text l.fn.lines.format (drop l.record-index l.records) l.rest);
+      (held_text l.fn.lines.line l.records l.octets)
+      (held_text l.fn.lines.line (drop l.record-index l.records) l.rest);
 }

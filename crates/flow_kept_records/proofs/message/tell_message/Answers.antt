@@ -66,7 +66,7 @@ returns-clause-found g c =
       m,
       x.1,
       subst (Tells (g.W.Write.contents c.args.output.now) old.lines.held (g.W.Write.contents c.tell_chosen.new.output)
-          c.tell_chosen.new.lines.held) (lines_taken old.lines.format (held c.choose.new.chosen) xs x.2) told,
+          c.tell_chosen.new.lines.held) (lines_taken old.lines.line (held c.choose.new.chosen) xs x.2) told,
     )
 
 pub returns-in_err-tell_chosen-clause-some : goal.returns-in_err-tell_chosen-clause-some
@@ -79,7 +79,7 @@ returns-in_err-tell_chosen-clause-some g c =
     let front = rw (c.as_slice-records.ensures.value, c.as_slice-octets.ensures.value) at c.in_err-tell_chosen.ensures.front in
     on_err c.from_residual-in_err-tell_chosen.result _ _ c.from_residual-in_err-tell_chosen.ensures.1
     (some_cut_within old was next records
-    (subst (TellsFront was old.lines.held next) (lines_taken old.lines.format (held c.choose.new.chosen)
+    (subst (TellsFront was old.lines.held next) (lines_taken old.lines.line (held c.choose.new.chosen)
     (records_within old.chosen.from old.chosen.to records) x.2) front))
 
 pub returns-in_err-tell_chosen-clause-cut : goal.returns-in_err-tell_chosen-clause-cut
@@ -95,7 +95,7 @@ returns-in_err-tell_chosen-clause-cut g c = λ m after is.
     let xs = records_within from to (under m.header m.records) in
     let front = rw (c.as_slice-records.ensures.value, c.as_slice-octets.ensures.value) at c.in_err-tell_chosen.ensures.front in
     let told = subst (TellsFront was old.lines.held next)
-    (lines_taken old.lines.format (held c.choose.new.chosen) own x.2) front in
+    (lines_taken old.lines.line (held c.choose.new.chosen) own x.2) front in
     passed_on c.from_residual-in_err-tell_chosen.result (Text e) (λ e. IsBlameless e × TellsFrontOf old was next xs)
     c.from_residual-in_err-tell_chosen.ensures.1 (
       tt,

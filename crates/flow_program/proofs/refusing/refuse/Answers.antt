@@ -49,3 +49,6 @@ returns-in-Formats-clause-told g c =
 pub returns-in-Swapped-clause-told : goal.returns-in-Swapped-clause-told
 returns-in-Swapped-clause-told g c =
     rw c.in-Swapped.is (refl, Keeps-refl _, rw c.as_bytes-in-Swapped.ensures.value at c.tell_line-in-Swapped.ensures)
+
+pub returns-in-Field-clause-told : goal.returns-in-Field-clause-told
+returns-in-Field-clause-told g c = rw c.in-Field.is (refl, Keeps-refl _, c.tell_field.ensures)

@@ -30,11 +30,13 @@ returns-in-Err-clause-refused g c = λ honest.
     let output = g.W.Write.contents c.args.output.now in
     let reads = reads_of (g.D.Disk.held c.args.disk) in
     subst (λ (e : ArchiveRefusal).
-    TellsUpTo (records_lines c.args.format c.args.span.now.from c.args.span.now.to) Always reads output output e) (sym c.from.ensures)
-    (unopened_up_to c.args.format c.args.span.now reads output c.in-Err.refused.error (c.in-Err.ensures.told honest))
+    TellsUpTo (records_lines c.args.format.now c.args.span.now.from c.args.span.now.to) Always reads output output e)
+    (sym c.from.ensures) (unopened_up_to c.args.format.now c.args.span.now reads output c.in-Err.refused.error
+    (c.in-Err.ensures.told honest))
 
 pub returns-in-Err-clause-kept : goal.returns-in-Err-clause-kept
-returns-in-Err-clause-kept g c = none_up_to c.args.format c.args.span.now (g.W.Write.contents c.args.output.now) c.from.result
+returns-in-Err-clause-kept g c =
+    none_up_to c.args.format.now c.args.span.now (g.W.Write.contents c.args.output.now) c.from.result
 
 pub returns-in-Err-list-clause-unchanged : goal.returns-in-Err-list-clause-unchanged
 returns-in-Err-list-clause-unchanged g c =
@@ -43,8 +45,8 @@ returns-in-Err-list-clause-unchanged g c =
     let old = g.W.Write.contents c.args.output.now in
     let new = g.W.Write.contents c.list.new.output in
     asked_keeps D c.args.disk c.into_disk.result c.in-Ok.archive.state
-    (TellsUpTo (records_lines c.args.format c.args.span.now.from c.args.span.now.to) Always reads old new) (λ e told. told.0)
-    c.in-Ok.ensures.read c.in-Err-list.error
+    (TellsUpTo (records_lines c.args.format.now c.args.span.now.from c.args.span.now.to) Always reads old new)
+    (λ e told. told.0) c.in-Ok.ensures.read c.in-Err-list.error
     (λ honest. c.in-Err-list.ensures.refused (subst IsTrue (sym c.in-Ok.ensures.honest) honest) reads
     (c.in-Ok.ensures.read honest))
 

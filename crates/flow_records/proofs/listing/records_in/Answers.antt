@@ -9,20 +9,22 @@ pub returns-clause-written : goal.returns-clause-written
 returns-clause-written g c =
     let old = g.W.Write.contents c.args.output.now in
     let new = g.W.Write.contents c.records.new.output in
-    on_ended c.records.result c.ended.result (Writes (AreRecordsIn c.args.format c.args.span.now.from c.args.span.now.to) old new) c.ended.ensures
+    on_ended c.records.result c.ended.result
+    (Writes (AreRecordsIn c.args.format.now c.args.span.now.from c.args.span.now.to) old new) c.ended.ensures
     c.records.ensures.written
 
 pub returns-clause-kept : goal.returns-clause-kept
 returns-clause-kept g c =
     let old = g.W.Write.contents c.args.output.now in
     let new = g.W.Write.contents c.records.new.output in
-    if_refused c.records.result c.ended.result (λ e. WritesUpTo (AreRecordsIn c.args.format c.args.span.now.from c.args.span.now.to) e old new)
+    if_refused c.records.result c.ended.result
+    (λ e. WritesUpTo (AreRecordsIn c.args.format.now c.args.span.now.from c.args.span.now.to) e old new)
     c.ended.ensures c.records.ensures.kept
 
 pub returns-in_err-view-clause-kept : goal.returns-in_err-view-clause-kept
 returns-in_err-view-clause-kept g c =
     let output = g.W.Write.contents c.args.output.now in
     let kept : IfErr c.from_residual.result
-    (λ e. WritesUpTo (AreRecordsIn c.args.format c.args.span.now.from c.args.span.now.to) e output output) =
-    away_up_to c.args.format c.args.span.now c.from_residual.result output in
+    (λ e. WritesUpTo (AreRecordsIn c.args.format.now c.args.span.now.from c.args.span.now.to) e output output) =
+    away_up_to c.args.format.now c.args.span.now c.from_residual.result output in
     kept

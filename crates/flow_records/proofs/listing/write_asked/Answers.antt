@@ -20,8 +20,9 @@ returns-in-Err-clause-some g c =
     let new = g.W.Write.contents c.write_records.new.output in
     let e = c.in-Err.refusal in
     let some = rw (c.from.ensures, c.to.ensures) at c.in-Err.ensures.some in
-    subst (λ (r : ArchiveRefusal). IsWhileAsking r × WritesUpTo (AreRecordsIn c.args.format span.from span.to) r old new)
-    (sym c.refusal_of.ensures) (asks e, some_up_to c.args.format span e old new some)
+    subst (λ (r : ArchiveRefusal). IsWhileAsking r
+    × WritesUpTo (AreRecordsIn c.args.format.now span.from span.to) r old new)
+    (sym c.refusal_of.ensures) (asks e, some_up_to c.args.format.now span e old new some)
 
 pub returns-in-Err-clause-cut : goal.returns-in-Err-clause-cut
 returns-in-Err-clause-cut g c = λ honest v is.
@@ -31,7 +32,7 @@ returns-in-Err-clause-cut g c = λ honest v is.
     let e = c.in-Err.refusal in
     let x = (rw (c.from.ensures, c.to.ensures) at c.in-Err.ensures.cut) honest v is in
     subst (λ (r : ArchiveRefusal). IsBlameless r
-    × AppendsFront old new (records_lines c.args.format span.from span.to v)) (sym c.refusal_of.ensures)
+    × AppendsFront old new (records_lines c.args.format.now span.from span.to v)) (sym c.refusal_of.ensures)
     (blameless e x.0, x.1)
 
 pub returns-in-Err-clause-cause : goal.returns-in-Err-clause-cause

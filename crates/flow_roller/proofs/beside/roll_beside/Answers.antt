@@ -1,4 +1,4 @@
-use Rattle.std.proofs.Common.{rules, inl, inr, ◌≡◌, ◌+◌, ◌∙◌, ◌∷◌, List, arith, length}
+use Rattle.std.proofs.Common.{rules, ◌≡◌, ◌+◌, ◌∙◌, ◌∷◌, List, arith, length}
 use Rattle.flow_turns.specs.declared.turn.Turn.TheVariants.{Idle}
 use Rattle.flow_roller.specs.Rolling.{IsRound, Round}
 use Rattle.flow_roller.proofs.Rounds.{idle, most, stopped}
@@ -8,12 +8,18 @@ pub loop-preserved : goal.loop-preserved
 loop-preserved g c =
     let rounds = c.loop.invariant.rounds.0 in
     let worked = c.in_ok-last.ensures.worked in
-    let round : Round = record { keep = c.keep-keep.result; last = c.in_ok-last.last } in
+    let round : Round = record {
+      keep = c.keep-keep.result;
+      merge = c.merge-merged.result;
+      last = c.in_ok-last.last;
+    } in
     let one : IsRound g.D.Disk g.J.Naming.opening g.K.Keeping.asked round = record {
       is_asked = c.keep-keep.ensures;
+      is_merge_asked = c.merge-merged.ensures;
       turns = worked.0;
       made = worked.1;
       sixteen = worked.2;
+      merged = c.in_ok-last.ensures.merged;
       last_made = c.in_ok-last.ensures.last;
     } in
     let counted : length rounds ≡ c.loop.counter = c.loop.invariant.rounds.2 in
@@ -25,30 +31,38 @@ loop-preserved g c =
 pub returns-clause-rounds : goal.returns-clause-rounds
 returns-clause-rounds g c =
     let rounds = c.loop.invariant.rounds.0 in
-    let all : length rounds ≡ 1000000 = search rules in
+    let all : length rounds ≡ 18446744073709551615 = search rules in
     (rounds, most g.D.Disk g.J.Naming.opening g.K.Keeping.asked rounds tt all c.loop.invariant.rounds.1)
 
 pub returns-in_err-last-clause-rounds : goal.returns-in_err-last-clause-rounds
 returns-in_err-last-clause-rounds g c = (
   c.loop.invariant.rounds.0,
   stopped g.D.Disk g.J.Naming.opening g.K.Keeping.asked c.loop.invariant.rounds.0 (c.in_err-last.field-0).0
-      c.from_residual.result c.from_residual.ensures.1 c.loop.invariant.rounds.1
-      (elim c.in_err-last.ensures.refused [
-        | inl own ↦ inl (c.keep-keep.result, c.keep-keep.ensures, own)
-        | inr none ↦ inr none
-      ]),
+      c.from_residual.result c.from_residual.ensures.1 c.loop.invariant.rounds.1 (
+        c.keep-keep.result,
+        c.merge-merged.result,
+        c.keep-keep.ensures,
+        c.merge-merged.ensures,
+        c.in_err-last.ensures.refused,
+      ),
 )
 
 pub returns-then-is_done-clause-rounds : goal.returns-then-is_done-clause-rounds
 returns-then-is_done-clause-rounds g c =
     let rounds = c.loop.invariant.rounds.0 in
     let worked = c.in_ok-last.ensures.worked in
-    let round : Round = record { keep = c.keep-keep.result; last = c.in_ok-last.last } in
+    let round : Round = record {
+      keep = c.keep-keep.result;
+      merge = c.merge-merged.result;
+      last = c.in_ok-last.last;
+    } in
     let one : IsRound g.D.Disk g.J.Naming.opening g.K.Keeping.asked round = record {
       is_asked = c.keep-keep.ensures;
+      is_merge_asked = c.merge-merged.ensures;
       turns = worked.0;
       made = worked.1;
       sixteen = worked.2;
+      merged = c.in_ok-last.ensures.merged;
       last_made = c.in_ok-last.ensures.last;
     } in
     let none : round.last ≡ Idle = search rules in (

@@ -1,8 +1,8 @@
 use Rattle.std.proofs.Common.{◌≡◌, ◌∙◌, ℕ, List, ap, sym}
 use Rattle.std.specs.Prelude.{Some}
 use Rattle.flow_commands.specs.declared.plan.InputKind.{InputKind}
-use Rattle.flow_shell.specs.declared.asked.ShellRequest.TheVariants.{Keep}
-use Rattle.flow_shell.specs.Asked.{feed_in, request_in}
+use Rattle.flow_roller.specs.Asked.{Asked}
+use Rattle.flow_shell.specs.Asked.{feed_in, rolling_in}
 use Rattle.flow_shell.proofs.Requested.{line_here, lines_left}
 use Rattle.flow_shell.proofs.lines.Lines.read.Goals as goal
 
@@ -13,13 +13,13 @@ invariant_of-self-in-Ok g c =
     let before = c.clear.new.self.items in
     let read = c.read_until.new.buf.items in
     let line = sym {A = List ℕ} c.strip_feed.ensures in
-    let keeps = λ (keep : ℕ) (line : List ℕ). request_in line ≡ Some (Keep keep) in
+    let asks = λ (any : Asked) (line : List ℕ). rolling_in line ≡ Some any in
     let feeds = λ (path : List ℕ) (kind : InputKind) (line : List ℕ). feed_in line ≡ Some (path, kind) in
     record {
-      left = λ is keep. lines_left (∥ g.K.Keeping.asked keep ∥₁) (keeps keep) old new c.in-Ok.ensures.rest
-          (c.args.self.now.left is keep);
-      here = λ keep asks. line_here (∥ g.K.Keeping.asked keep ∥₁) (keeps keep) old before read c.clear.ensures.items
-          c.in-Ok.ensures.bytes (c.args.self.now.left c.if-not-self.false keep) (ap request_in line ∙ asks);
+      left = λ is any. lines_left (∥ g.K.Keeping.asked any ∥₁) (asks any) old new c.in-Ok.ensures.rest
+          (c.args.self.now.left is any);
+      here = λ any has. line_here (∥ g.K.Keeping.asked any ∥₁) (asks any) old before read c.clear.ensures.items
+          c.in-Ok.ensures.bytes (c.args.self.now.left c.if-not-self.false any) (ap rolling_in line ∙ has);
       feeds_left = λ is path kind. lines_left (∥ g.B.Ends.to_feed path kind ∥₁) (feeds path kind) old new
           c.in-Ok.ensures.rest (c.args.self.now.feeds_left is path kind);
       feed_here = λ path kind asks. line_here (∥ g.B.Ends.to_feed path kind ∥₁) (feeds path kind) old before read
