@@ -23,7 +23,7 @@ _flowvault() {
         records) words='--since --until --csv --json --utc' paths=-d ;;
         export) words='--from --to' paths=-d ;;
         templates) paths=-d ;;
-        feed) words='--keep --merge --from --warn --datagrams' paths=-f ;;
+        feed) words='--keep --merge --from --warn --datagrams --end-on' paths=-f ;;
         shell) words='--keep --merge' paths=-d ;;
         roll | merge) paths=-d ;;
         explain) ;;

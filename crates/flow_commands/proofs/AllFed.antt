@@ -11,9 +11,9 @@ use Rattle.flow_disk.specs.declared.disk.Disk.{Ghosts}
 use Rattle.flow_model.specs.Shelf.{Shelf}
 use Rattle.flow_feed.specs.declared.batch.Fed.{Fed}
 use Rattle.flow_commands.specs.declared.plan.FeedPlan.{FeedPlan}
-use Rattle.flow_commands.specs.declared.plan.InputKind.{InputKind}
-use Rattle.flow_commands.specs.Feeding.{unfed, AreFed, AreFilesFed, IsFedAt, IsFedFrom, IsInputAt, IsInputFed}
-use Rattle.flow_commands.specs.Plans.{input_kind_in, kind_in}
+use Rattle.flow_commands.specs.declared.plan.InputPlan.{InputPlan}
+use Rattle.flow_commands.specs.Feeding.{unfed, AreFed, AreFilesFed, IsFedAt, IsFedBy, IsInputAt, IsInputFed}
+use Rattle.flow_commands.specs.Plans.{input_kind_in, kind_in, planned}
 
 -- what a list of equal elements has
 at_replicate : {A : Type 0} (n k : ℕ) (x : A) → get_or (replicate n x) k x ≡ x
@@ -85,7 +85,7 @@ moved P a b x y first second is = subst (λ z. P x z) second (subst (λ z. P z b
 
 -- what each call left at its place, of Files of which nothing was taken in before
 pub each_fed : {D S X F P : Type 0} (g : Ghosts D S X) (octets : F → Option (List ℕ)) (opening : Shelf)
-    (kind : InputKind) (text : P → List ℕ) (paths : List P) (old new : List Fed) → old ≡ replicate (length paths) unfed
+    (kind : InputPlan) (text : P → List ℕ) (paths : List P) (old new : List Fed) → old ≡ replicate (length paths) unfed
     → length new ≡ length old
     → ((k : ℕ) (path : P) → slice_get paths k ≡ Some path
     → IsFedAt g octets opening kind (text path) (get_or old k unfed) (get_or new k unfed))
@@ -120,7 +120,7 @@ one_input paths j k a b = elim (cases_lt j k) [
 -- standard input was read, and is the File at this place
 pub with_input : {D S X F : Type 0} (g : Ghosts D S X) (octets : F → Option (List ℕ)) (opening : Shelf)
     (plan : FeedPlan) (known : Option (List ℕ)) (paths : List (List ℕ)) (place : ℕ) (feds : List Fed) (own : Fed)
-    → AreFilesFed g octets opening (kind_in plan) paths feds → IsInputAt paths place
+    → AreFilesFed g octets opening (planned plan (kind_in plan)) paths feds → IsInputAt paths place
     → IsInputFed g opening plan known own → AreFed g octets opening plan (Some known) paths (set feds place own)
 with_input g octets opening plan known paths place feds own all here streamed =
     let within : place < length feds =
@@ -146,7 +146,7 @@ with_input g octets opening plan known paths place feds own all here streamed =
 -- standard input isn't given, or is none of the Files
 pub without_input : {D S X F : Type 0} (g : Ghosts D S X) (octets : F → Option (List ℕ))
     (opening : Shelf) (plan : FeedPlan) (given : Option (Option (List ℕ))) (paths : List (List ℕ)) (feds : List Fed)
-    → AreFilesFed g octets opening (kind_in plan) paths feds
+    → AreFilesFed g octets opening (planned plan (kind_in plan)) paths feds
     → (IsTrue (is_some given) → (k : ℕ) → slice_get paths k ≢ Some (codes "-"))
     → AreFed g octets opening plan given paths feds
 without_input g octets opening plan given paths feds all none = record {
@@ -163,14 +163,14 @@ without_input g octets opening plan given paths feds all none = record {
     by (Some known) apart = λ k fed is there. absurd (apart refl k is.here)
 
 pub without_given : {D S X F : Type 0} (g : Ghosts D S X) (octets : F → Option (List ℕ)) (opening : Shelf)
-    (plan : FeedPlan) (paths : List (List ℕ)) (feds : List Fed) → AreFilesFed g octets opening (kind_in plan) paths feds
+    (plan : FeedPlan) (paths : List (List ℕ)) (feds : List Fed) → AreFilesFed g octets opening (planned plan (kind_in plan)) paths feds
     → AreFed g octets opening plan None paths feds
 without_given g octets opening plan paths feds all =
     without_input g octets opening plan None paths feds all (λ given. absurd cc)
 
 -- standard input was read by its kind
 pub by_kind : {D S X : Type 0} (g : Ghosts D S X) (opening : Shelf) (plan : FeedPlan) (known : Option (List ℕ))
-    (kind : InputKind) (own : Fed) → (is_socket : Bool) × (kind ≡ input_kind_in is_socket plan)
-    → IsFedFrom g opening kind known own → IsInputFed g opening plan known own
-by_kind g opening plan known kind own (is_socket, is) fed =
-    (is_socket, subst (λ (k : InputKind). IsFedFrom g opening k known own) is fed)
+    (kind : InputPlan) (own : Fed) → (is_socket : Bool) × (kind ≡ planned plan (input_kind_in is_socket plan))
+    → ((left : Option (List ℕ)) × IsFedBy g opening kind known left own) → IsInputFed g opening plan known own
+by_kind g opening plan known kind own (is_socket, is) (left, fed) =
+    (is_socket, left, subst (λ (k : InputPlan). IsFedBy g opening k known left own) is fed)

@@ -18,6 +18,7 @@ use Rattle.flow_model.specs.State.{State}
 use Rattle.flow_feed.specs.Datagrams.{AreInSteps, AreNone, AreReadFrom}
 use Rattle.flow_feed.specs.Feed.{IsFed}
 use Rattle.flow_feed.specs.Shared.{IsGivenShared, IsInSteps, Known}
+use Rattle.flow_feed.specs.Until.{AreReadUntil, AreStepsUntil, IsFedUntil}
 use Rattle.flow_feed.specs.declared.batch.Fed.{Fed}
 use Rattle.flow_feed.specs.declared.collecting.Collected.{Collected}
 use Rattle.flow_feed.specs.declared.refused.RefusedDatagrams.{RefusedDatagrams}
@@ -34,7 +35,8 @@ use Rattle.flow_commands.specs.declared.archive_refusal.ArchiveRefusal.TheVarian
 use Rattle.flow_commands.specs.declared.plan.FeedPlan.{FeedPlan}
 use Rattle.flow_commands.specs.declared.plan.InputKind.{InputKind}
 use Rattle.flow_commands.specs.declared.plan.InputKind.TheVariants.{File, Datagrams, Socket}
-use Rattle.flow_commands.specs.Plans.{input_kind_in, kind_in, IsPlanned}
+use Rattle.flow_commands.specs.declared.plan.InputPlan.{InputPlan}
+use Rattle.flow_commands.specs.Plans.{input_kind_in, kind_in, planned, IsPlanned}
 use Rattle.flow_commands.specs.Archives.{of_archive}
 use Rattle.flow_commands.specs.Asking.{IsUnopened as IsNotOpened}
 
@@ -110,16 +112,60 @@ abbrev pub IsFedFrom : {D S X : Type 0} → Ghosts D S X → Shelf → InputKind
 IsFedFrom g opening kind octets fed =
     (refused : RefusedDatagrams) × IsStreamed g opening kind octets (record { fed = fed; refused = refused })
 
+-- What was taken in by datagrams up to where feeding was asked to end, of an input of these octets, which has these left.
+abbrev pub AreTakenUntil : {D S X : Type 0} → Ghosts D S X → Shelf → Type 0 → Bool → Known → Known → Option (List ℕ)
+    → Option (List ℕ) → Collected → Type 0
+AreTakenUntil g opening asked is_socket old new octets left collected =
+    AreReadUntil (IsGivenShared g opening) asked is_socket old new octets left collected
+    × (new.whole ≡ true → AreStepsUntil g opening asked is_socket old new octets left collected)
+
+-- What was taken in of an input of these octets, by its kind, up to its end, to where it stopped, or to where feeding was
+-- asked to end: then nothing is lost of what it gave, and these octets are left in it.
+abbrev pub IsInputTakenUntil : {D S X : Type 0} → Ghosts D S X → Shelf → Type 0 → InputKind → Known → Known
+    → Option (List ℕ) → Option (List ℕ) → Collected → Type 0
+IsInputTakenUntil g opening asked (File passed) old new octets left collected =
+    IsFedUntil (IsGivenShared g opening) asked passed old new octets left collected.fed
+    × AreNone collected.refused.counts
+    × (new.whole ≡ true → IsInSteps passed old.steps new.steps octets collected.fed)
+IsInputTakenUntil g opening asked Datagrams old new octets left collected =
+    AreTakenUntil g opening asked false old new octets left collected
+IsInputTakenUntil g opening asked Socket old new octets left collected =
+    AreTakenUntil g opening asked true old new octets left collected
+
+-- The input was taken in so by a thread that knows the steps of its batches from the beginning on. Whether feeding was
+-- asked to end no contract knows.
+pub record IsStreamedUntil {D S X : Type 0} (g : Ghosts D S X) (opening : Shelf) (kind : InputKind)
+    (octets left : Option (List ℕ)) (collected : Collected) : Type 0 where
+  pub old : Known
+  pub new : Known
+  pub whole : old.whole ≡ true
+  pub taken : IsInputTakenUntil g opening ⊤ kind old new octets left collected
+
+-- where feeding may be asked to end; and where it may not
+abbrev pub IsStreamedIf : {D S X : Type 0} → Ghosts D S X → Shelf → Bool → InputKind → Option (List ℕ)
+    → Option (List ℕ) → Collected → Type 0
+IsStreamedIf g opening true kind octets left collected = IsStreamedUntil g opening kind octets left collected
+IsStreamedIf g opening false kind octets left collected = IsStreamed g opening kind octets collected
+
+-- An input of these octets was fed as is planned, and so much of it is reported in its line: all but how many datagrams
+-- were refused. Where feeding may be asked to end, these are left in it.
+abbrev pub IsFedBy : {D S X : Type 0} → Ghosts D S X → Shelf → InputPlan → Option (List ℕ) → Option (List ℕ) → Fed
+    → Type 0
+IsFedBy g opening plan octets left fed =
+    (refused : RefusedDatagrams)
+    × IsStreamedIf g opening plan.ends plan.kind octets left (record { fed = fed; refused = refused })
+
 -- A file was opened, and its messages were taken in; or none could be opened.
-abbrev pub IsPathFed : {D S X F : Type 0} → Ghosts D S X → (F → Option (List ℕ)) → Shelf → InputKind → Fed → Type 0
-IsPathFed {F = F} g octets opening kind fed =
-    ((file : F) × IsFedFrom g opening kind (octets file) fed)
+abbrev pub IsPathFed : {D S X F : Type 0} → Ghosts D S X → (F → Option (List ℕ)) → Shelf → InputPlan → Fed → Type 0
+IsPathFed {F = F} g octets opening plan fed =
+    ((file : F) × (left : Option (List ℕ)) × IsFedBy g opening plan (octets file) left fed)
     ⊎ ((why : FeedStop) × (fed ≡ unopened why))
 
 -- Standard input, which is a socket or isn't, was taken in as the plan says.
 abbrev pub IsInputFed : {D S X : Type 0} → Ghosts D S X → Shelf → FeedPlan → Option (List ℕ) → Fed → Type 0
 IsInputFed g opening plan octets fed =
-    (is_socket : Bool) × IsFedFrom g opening (input_kind_in is_socket plan) octets fed
+    (is_socket : Bool) × (left : Option (List ℕ))
+    × IsFedBy g opening (planned plan (input_kind_in is_socket plan)) octets left fed
 
 -- by a refusal, if any
 abbrev pub answer_by : Option ArchiveError → Result (Unit {0}) ArchiveError
@@ -152,16 +198,16 @@ pub record IsInputAt (paths : List (List ℕ)) (k : ℕ) : Type 0 where
 -- What came of the File at this path, where that was there before: of one at the path `-` that, and of others what
 -- feeding it gives.
 pub record IsFedAt {D S X F : Type 0} (g : Ghosts D S X) (octets : F → Option (List ℕ)) (opening : Shelf)
-    (kind : InputKind) (path : List ℕ) (old new : Fed) : Type 0 where
+    (how : InputPlan) (path : List ℕ) (old new : Fed) : Type 0 where
   pub input : path ≡ codes "-" → new ≡ old
-  pub file : path ≢ codes "-" → IsPathFed g octets opening kind new
+  pub file : path ≢ codes "-" → IsPathFed g octets opening how new
 
 -- What came of the Files at these paths, of each at its place, before standard input was read.
 pub record AreFilesFed {D S X F : Type 0} (g : Ghosts D S X) (octets : F → Option (List ℕ)) (opening : Shelf)
-    (kind : InputKind) (paths : List (List ℕ)) (feds : List Fed) : Type 0 where
+    (how : InputPlan) (paths : List (List ℕ)) (feds : List Fed) : Type 0 where
   pub count : length feds ≡ length paths
   pub each : (k : ℕ) (path : List ℕ) (fed : Fed) → slice_get paths k ≡ Some path → slice_get feds k ≡ Some fed
-      → IsFedAt g octets opening kind path unfed fed
+      → IsFedAt g octets opening how path unfed fed
 
 -- What came of the Files at these paths, of each at its place, as the plan says. Where standard input is given, which has
 -- these octets, the first one at `-` is that; nothing is taken in of others at `-`.
@@ -169,7 +215,7 @@ pub record AreFed {D S X F : Type 0} (g : Ghosts D S X) (octets : F → Option (
     (plan : FeedPlan) (input : Option (Option (List ℕ))) (paths : List (List ℕ)) (feds : List Fed) : Type 0 where
   pub count : length feds ≡ length paths
   pub files : (k : ℕ) (path : List ℕ) (fed : Fed) → slice_get paths k ≡ Some path → slice_get feds k ≡ Some fed
-      → path ≢ codes "-" → IsPathFed g octets opening (kind_in plan) fed
+      → path ≢ codes "-" → IsPathFed g octets opening (planned plan (kind_in plan)) fed
   pub input_fed : IfSome input (λ known. (k : ℕ) (fed : Fed) → IsInputAt paths k → slice_get feds k ≡ Some fed
       → IsInputFed g opening plan known fed)
   pub others : (k : ℕ) (fed : Fed) → slice_get paths k ≡ Some (codes "-") → slice_get feds k ≡ Some fed

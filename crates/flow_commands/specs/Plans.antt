@@ -3,6 +3,7 @@ use Rattle.std.specs.Prelude.{◌≡◌, ℕ, ◌≤◌, ◌%◌, ◌&&◌, nat_
 use Rattle.flow_manifest.specs.Limits.{greatest_width, least_limit, greatest_limit}
 use Rattle.flow_commands.specs.declared.plan.FeedPlan.{FeedPlan}
 use Rattle.flow_commands.specs.declared.plan.InputKind.{InputKind}
+use Rattle.flow_commands.specs.declared.plan.InputPlan.{InputPlan}
 use Rattle.flow_commands.specs.declared.plan.InputKind.TheVariants.{File, Datagrams, Socket}
 use Rattle.flow_roller.specs.Asked.{to_keep, to_merge, Asked}
 
@@ -47,3 +48,7 @@ kind_in plan = if plan.datagrams then Datagrams else File plan.passed
 -- how standard input is read, which is a socket or isn't
 abbrev pub input_kind_in : Bool → FeedPlan → InputKind
 input_kind_in is_socket plan = if plan.datagrams && is_socket then Socket else kind_in plan
+
+-- how an input that is read so is fed
+abbrev pub planned : FeedPlan → InputKind → InputPlan
+planned plan kind = record { kind = kind; ends = plan.ends }

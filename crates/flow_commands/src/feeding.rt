@@ -11,7 +11,7 @@ ghost use Rattle.flow_commands.specs.Feeding.{unfed};
 use crate::archive_refusal::ArchiveRefusal;
 use crate::ending::Leave;
 use crate::feed_line::{fed_line, stop_status};
-use crate::plan::FeedPlan;
+use crate::plan::{EndPath, FeedPlan};
 use crate::progress::Progress;
 use crate::side_by_side::feed_beside;
 use crate::warning::{RolledMessages, StoppedFile};
@@ -160,6 +160,7 @@ fn feed_files<
     archive: Archive<D>,
     opened: Opened,
     plan: FeedPlan,
+    end_on: EndPath<'_>,
     paths: &[S],
     feds: Vec<Fed>,
     input: Option<&mut R>,
@@ -191,7 +192,7 @@ where
     drop(places);
     let faults = &mut Faults::new();
     let (feds, refused) = feed_beside::<H, D, J, Brand, S, R, P>(
-        rt, &shared, span, plan, paths, input, progress, feds, faults,
+        rt, &shared, span, plan, end_on, paths, input, progress, feds, faults,
     );
     progress.clear(rt);
     warn_of_stops(rt, paths, feds.as_slice(), progress);
@@ -211,6 +212,7 @@ fn feed_on<
     rt: &H,
     disk: D,
     plan: FeedPlan,
+    end_on: &str,
     paths: &[S],
     input: Option<&mut R>,
     output: &mut W,
@@ -239,6 +241,7 @@ where
                 archive,
                 Opened::new(),
                 plan,
+                EndPath { path: end_on },
                 paths,
                 feds,
                 input,
@@ -262,6 +265,7 @@ fn feed_over<
     rt: &H,
     system: D,
     plan: FeedPlan,
+    end_on: &str,
     paths: &[S],
     input: Option<&mut R>,
     output: &mut W,
@@ -286,14 +290,14 @@ where
     ensures other { IfOk result (λ status. status ≢ 2) }
 {
     let disk = flow_folder_disk::FolderDisk::new(rt.alloc(), system);
-    feed_on(rt, disk, plan, paths, input, output, progress)
+    feed_on(rt, disk, plan, end_on, paths, input, output, progress)
 }
 
 /// Takes Files into the archive of a folder, at most 8, side by side, and writes a line for each. The path `-` is
 /// standard input's, where `input` is given. The archive is opened before a File is read. As many of the newest sealed
 /// segments are kept as the plan says; older ones are rolled meanwhile, and where the plan says so rolled files but the
 /// newest are merged, whenever there are 1,024 of them. It answers the exit status: that of the first File that
-/// stopped.
+/// stopped. Where the plan says so, feeding ends between two messages once a file is at the path `end_on`.
 pub fn feed_in<
     'a,
     H: Files + AllocGlobal + Clock + Clone + Drop + Threads + Wait + Send + Sync,
@@ -305,6 +309,7 @@ pub fn feed_in<
     rt: &'a H,
     folder: &'a str,
     plan: FeedPlan,
+    end_on: &str,
     paths: &[S],
     input: Option<&mut R>,
     output: &mut W,
@@ -326,5 +331,5 @@ where
         progress.warn(rt);
     }
     let system = SystemDirectory::open(rt, folder, Some(progress.first_fault()))?;
-    feed_over(rt, system, plan, paths, input, output, progress)
+    feed_over(rt, system, plan, end_on, paths, input, output, progress)
 }

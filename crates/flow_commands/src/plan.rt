@@ -2,7 +2,7 @@
 
 ghost use Rattle.std.specs.Prelude.{◌≡◌, ◌≤◌, ◌%◌, IfSome};
 ghost use Rattle.flow_manifest.specs.Limits.{greatest_limit, greatest_width, least_limit};
-ghost use Rattle.flow_commands.specs.Plans.{input_kind_in, is_in, kind_in, IsPlan};
+ghost use Rattle.flow_commands.specs.Plans.{input_kind_in, is_in, kind_in, planned, IsPlan};
 
 use std::marker::Model;
 use std::thread;
@@ -127,6 +127,8 @@ pub struct FeedPlan {
     pub warn: bool,
     /// Whether each read of a File gives one message.
     pub datagrams: bool,
+    /// Whether feeding ends between two messages where a file says so.
+    pub ends: bool,
 }
 
 /// How an input is read.
@@ -140,24 +142,48 @@ pub enum InputKind {
     Socket,
 }
 
+/// How an input is fed.
+#[derive(Clone, Copy, Debug, PartialEq, Eq)]
+pub(crate) struct InputPlan {
+    pub(crate) kind: InputKind,
+    /// Whether feeding ends between two messages where a file says so.
+    pub(crate) ends: bool,
+}
+
+/// The path of the file that says that feeding is to end.
+#[derive(Clone, Copy, Debug)]
+pub(crate) struct EndPath<'a> {
+    pub(crate) path: &'a str,
+}
+
 impl FeedPlan {
-    /// How Files at paths are read.
-    pub(crate) fn kind(self) -> InputKind
-        ensures { result ≡ kind_in self }
+    /// How an input that is read so is fed.
+    fn planned(self, kind: InputKind) -> InputPlan
+        ensures { result ≡ planned self kind }
     {
-        if self.datagrams {
-            InputKind::Datagrams
-        } else {
-            InputKind::File(self.passed)
+        InputPlan {
+            kind,
+            ends: self.ends,
         }
     }
 
-    /// How standard input is read, which is a socket or isn't.
-    pub(crate) fn input_kind(self, is_socket: bool) -> InputKind
-        ensures { result ≡ input_kind_in is_socket self }
+    /// How Files at paths are fed.
+    pub(crate) fn kind(self) -> InputPlan
+        ensures { result ≡ planned self (kind_in self) }
+    {
+        if self.datagrams {
+            self.planned(InputKind::Datagrams)
+        } else {
+            self.planned(InputKind::File(self.passed))
+        }
+    }
+
+    /// How standard input is fed, which is a socket or isn't.
+    pub(crate) fn input_kind(self, is_socket: bool) -> InputPlan
+        ensures { result ≡ planned self (input_kind_in is_socket self) }
     {
         if self.datagrams && is_socket {
-            InputKind::Socket
+            self.planned(InputKind::Socket)
         } else {
             self.kind()
         }

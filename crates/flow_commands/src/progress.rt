@@ -2,15 +2,21 @@
 
 ghost use Rattle.std.specs.Prelude.{◌≡◌};
 
+use flow_feed::FeedWatch;
 use flow_folder::FirstFault;
 use flow_roller::{Bell, Keeping};
 use std::fmt::Display;
-use std::io;
+use std::fs::Files;
 use std::io::{Read, Write};
 use std::sync::{Mutex, Wait};
+use std::time::{Clock, Instant};
+use std::{fs, io};
 
 /// How many octets of Files are shown at once.
 const STEP: u64 = 1 << 20;
+
+/// The milliseconds in which it is looked at most once whether feeding is to end.
+const LOOK_EACH: u128 = 100;
 
 /// What is shown.
 #[derive(Drop)]
@@ -130,16 +136,49 @@ impl<W: Write + Drop> Progress<W> {
     }
 }
 
-/// A File, which shows each mebibyte that is read of it, and rings a bell for each `span` octets.
+/// Shows each mebibyte that is read of a File, and rings a bell for each `span` octets.
 #[derive(Drop)]
-pub(crate) struct Watched<'a, H: Wait, K: Keeping, R: Read, W: Write + Drop> {
+struct Shower<'a, H: Wait, K: Keeping, W: Write + Drop> {
     rt: &'a H,
-    input: &'a mut R,
     progress: &'a Progress<W>,
     bell: &'a Bell<K>,
     span: u32,
     /// How many were read.
     octets: u64,
+}
+
+impl<'a, H: Wait, K: Keeping, W: Write + Drop> Shower<'a, H, K, W> {
+    /// Nothing is read.
+    fn new(rt: &'a H, progress: &'a Progress<W>, bell: &'a Bell<K>, span: u32) -> Self {
+        Shower {
+            rt,
+            progress,
+            bell,
+            span: span.max(1),
+            octets: 0,
+        }
+    }
+
+    /// So many octets more were read.
+    fn add(&mut self, count: usize) {
+        let before = self.octets;
+        self.octets = self.octets.saturating_add(count as u64);
+        if self.octets / STEP > before / STEP {
+            self.progress
+                .add(self.rt, self.octets / STEP - before / STEP);
+        }
+        let span = u64::from(self.span.max(1));
+        if self.octets / span > before / span {
+            self.bell.ring(self.rt);
+        }
+    }
+}
+
+/// A File, which shows each mebibyte that is read of it, and rings a bell for each `span` octets.
+#[derive(Drop)]
+pub(crate) struct Watched<'a, H: Wait, K: Keeping, R: Read, W: Write + Drop> {
+    input: &'a mut R,
+    shower: Shower<'a, H, K, W>,
 }
 
 impl<'a, H: Wait, K: Keeping, R: Read, W: Write + Drop> Watched<'a, H, K, R, W> {
@@ -154,12 +193,8 @@ impl<'a, H: Wait, K: Keeping, R: Read, W: Write + Drop> Watched<'a, H, K, R, W> 
         ensures { result.input.now ≡ input.old }
     {
         Watched {
-            rt,
             input,
-            progress,
-            bell,
-            span: span.max(1),
-            octets: 0,
+            shower: Shower::new(rt, progress, bell, span),
         }
     }
 }
@@ -169,16 +204,66 @@ impl<H: Wait, K: Keeping, R: Read, W: Write + Drop> Read for Watched<'_, H, K, R
 
     fn read(&mut self, buf: &mut [u8]) -> io::Result<usize> {
         let count = self.input.read(buf)?;
-        let before = self.octets;
-        self.octets = self.octets.saturating_add(count as u64);
-        if self.octets / STEP > before / STEP {
-            self.progress
-                .add(self.rt, self.octets / STEP - before / STEP);
-        }
-        let span = u64::from(self.span.max(1));
-        if self.octets / span > before / span {
-            self.bell.ring(self.rt);
-        }
+        self.shower.add(count);
         Ok(count)
+    }
+}
+
+/// Shows the same, and looks whether a file is there that says that feeding is to end: not again within 100 milliseconds.
+#[derive(Drop)]
+pub(crate) struct EndWatch<'a, H: Clock + Wait, K: Keeping, W: Write + Drop> {
+    shower: Shower<'a, H, K, W>,
+    /// The file's path.
+    end_on: &'a str,
+    /// When it looked last.
+    looked: Option<Instant>,
+}
+
+impl<'a, H: Clock + Wait, K: Keeping, W: Write + Drop> EndWatch<'a, H, K, W> {
+    /// Nothing is read, and it hasn't looked yet.
+    pub(crate) fn new(
+        rt: &'a H,
+        progress: &'a Progress<W>,
+        bell: &'a Bell<K>,
+        span: u32,
+        end_on: &'a str,
+    ) -> Self {
+        EndWatch {
+            shower: Shower::new(rt, progress, bell, span),
+            end_on,
+            looked: None,
+        }
+    }
+
+    /// Whether it looked within the last 100 milliseconds. Where no clock can be read it didn't.
+    fn looked_lately(&mut self) -> bool {
+        let Ok(now) = Instant::now(self.shower.rt) else {
+            return false;
+        };
+        if let Some(last) = self.looked {
+            if now.duration_since(last).as_millis() < LOOK_EACH {
+                return true;
+            }
+        }
+        self.looked = Some(now);
+        false
+    }
+}
+
+impl<H: Files + Clock + Wait, K: Keeping, W: Write + Drop> FeedWatch for EndWatch<'_, H, K, W> {
+    ghost use Rattle.std.specs.Prelude.{⊤};
+
+    // No contract knows which files are there.
+    ghost asked = { λ _. ⊤ };
+
+    fn note_read(&mut self, octets: usize) {
+        self.shower.add(octets);
+    }
+
+    fn is_asked(&mut self) -> bool {
+        if self.looked_lately() {
+            return false;
+        }
+        fs::metadata(self.shower.rt, self.end_on).is_ok()
     }
 }

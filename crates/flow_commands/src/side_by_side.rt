@@ -1,12 +1,12 @@
 //! Files are taken in side by side, while another thread rolls and merges.
 
-ghost use Rattle.std.specs.Prelude.{◌≡◌, ◌≢◌, ◌<◌, ℕ, Bool, Some, length, codes, map, replicate, slice_get, IfNone, IfSome};
-ghost use Rattle.flow_commands.specs.Feeding.{AreFed, AreFilesFed, IsFedAt, IsFedFrom, IsInputAt, IsRollEnd};
+ghost use Rattle.std.specs.Prelude.{◌≡◌, ◌≢◌, ◌<◌, ℕ, Bool, List, Option, Some, length, codes, map, replicate, slice_get, IfNone, IfSome};
+ghost use Rattle.flow_commands.specs.Feeding.{AreFed, AreFilesFed, IsFedAt, IsFedBy, IsInputAt, IsRollEnd};
 ghost use Rattle.flow_commands.specs.Feeding.{octets_given, unfed};
-ghost use Rattle.flow_commands.specs.Plans.{input_kind_in};
+ghost use Rattle.flow_commands.specs.Plans.{input_kind_in, planned};
 ghost use Rattle.flow_roller.specs.Asked.{to_keep, to_merge};
 
-use crate::plan::{FeedPlan, InputKind};
+use crate::plan::{EndPath, FeedPlan, InputPlan};
 use crate::progress::Progress;
 use crate::streaming::{feed_named, feed_path};
 use flow_archive::ArchiveError;
@@ -66,7 +66,8 @@ fn feed_at<
     paths: &[S],
     i: usize,
     progress: &Progress<P>,
-    kind: InputKind,
+    kind: InputPlan,
+    end_on: &str,
     before: Fed,
 ) -> Fed
     requires { i < length paths.now }
@@ -78,7 +79,7 @@ fn feed_at<
         return before;
     }
     let number = (i as u64).saturating_add(1);
-    feed_path(rt, shared, bell, span, number, path, progress, kind)
+    feed_path(rt, shared, bell, span, number, path, progress, kind, end_on)
 }
 
 /// Takes the Files at these paths but standard input into an archive that threads share, each by a thread of its own
@@ -97,7 +98,8 @@ fn feed_each<
     span: u32,
     paths: &[S],
     progress: &Progress<P>,
-    kind: InputKind,
+    kind: InputPlan,
+    end_on: &str,
     feds: Vec<Fed>,
 ) -> Vec<Fed>
 where
@@ -115,7 +117,9 @@ where
         ensures { (path : S) → slice_get paths.entry.now i ≡ Some path
             → IsFedAt D.Disk H.File.remaining J.opening kind (S.text path) fed.old fed.new }
     {
-        *fed = feed_at(rt, shared, bell, span, paths, i, progress, kind, *fed);
+        *fed = feed_at(
+            rt, shared, bell, span, paths, i, progress, kind, end_on, *fed,
+        );
     };
     thread::for_each_mut(rt, feds.as_mut_slice(), MOST_FILES, &one);
     feds
@@ -130,8 +134,8 @@ fn input_is_socket<H: Files>(rt: &H) -> bool {
 }
 
 /// How standard input is read.
-fn input_kind<H: Files>(rt: &H, plan: FeedPlan) -> InputKind
-    ensures { (is_socket : Bool) × (result ≡ input_kind_in is_socket plan) }
+fn input_kind<H: Files>(rt: &H, plan: FeedPlan) -> InputPlan
+    ensures { (is_socket : Bool) × (result ≡ planned plan (input_kind_in is_socket plan)) }
 {
     plan.input_kind(plan.datagrams && input_is_socket(rt))
 }
@@ -170,6 +174,7 @@ fn feed_with_input<
     input: &mut R,
     progress: &Progress<P>,
     plan: FeedPlan,
+    end_on: &str,
     feds: Vec<Fed>,
 ) -> Vec<Fed>
 where
@@ -195,9 +200,10 @@ where
             ensures count { length result.items ≡ length paths.entry.now }
             ensures fed { AreFilesFed D.Disk H.File.remaining J.opening files (map S.text paths.entry.now)
                 result.items }
-        { feed_each(rt, shared, bell, span, paths, progress, files, feds) },
+        { feed_each(rt, shared, bell, span, paths, progress, files, end_on, feds) },
         move || -> Fed
-            ensures { IsFedFrom D.Disk J.opening kind (R.remaining input.entry.now) result }
+            ensures { (left : Option (List ℕ))
+                × IsFedBy D.Disk J.opening kind (R.remaining input.entry.now) left result }
         {
             feed_named(
                 rt,
@@ -209,6 +215,7 @@ where
                 input,
                 progress,
                 kind,
+                end_on,
             )
         },
     );
@@ -236,6 +243,7 @@ fn feed_all<
     input: Option<&mut R>,
     progress: &Progress<P>,
     plan: FeedPlan,
+    end_on: &str,
     feds: Vec<Fed>,
 ) -> Vec<Fed>
 where
@@ -250,11 +258,11 @@ where
 {
     let files = plan.kind();
     match input {
-        None => feed_each(rt, shared, bell, span, paths, progress, files, feds),
+        None => feed_each(rt, shared, bell, span, paths, progress, files, end_on, feds),
         Some(input) => match place_of_input(paths) {
-            None => feed_each(rt, shared, bell, span, paths, progress, files, feds),
+            None => feed_each(rt, shared, bell, span, paths, progress, files, end_on, feds),
             Some(place) => feed_with_input(
-                rt, shared, bell, span, paths, place, input, progress, plan, feds,
+                rt, shared, bell, span, paths, place, input, progress, plan, end_on, feds,
             ),
         },
     }
@@ -275,6 +283,7 @@ pub(crate) fn feed_beside<
     shared: &SharedArchive<D, J, H>,
     span: u32,
     plan: FeedPlan,
+    end_on: EndPath<'_>,
     paths: &[S],
     input: Option<&mut R>,
     progress: &Progress<P>,
@@ -310,7 +319,18 @@ where
             ensures fed { AreFed D.Disk H.File.remaining J.opening plan
                 (octets_given R.remaining input.entry) (map S.text paths.entry.now) result.items }
         {
-            let feds = feed_all(rt, shared, rung, span, paths, input, progress, plan, feds);
+            let feds = feed_all(
+                rt,
+                shared,
+                rung,
+                span,
+                paths,
+                input,
+                progress,
+                plan,
+                end_on.path,
+                feds,
+            );
             rung.end(rt);
             feds
         },

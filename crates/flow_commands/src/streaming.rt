@@ -1,21 +1,22 @@
 //! One File is taken into an archive that threads share.
 
 ghost use Rattle.std.specs.Prelude.{◌≡◌, ◌≢◌};
-ghost use Rattle.flow_commands.specs.Feeding.{unopened, IsFedFrom, IsInputTaken, IsPathFed, IsStreamed};
+ghost use Rattle.flow_commands.specs.Feeding.{unopened, IsFedBy, IsInputTaken, IsInputTakenUntil, IsPathFed, IsStreamed};
+ghost use Rattle.flow_commands.specs.Feeding.{IsStreamedIf, IsStreamedUntil};
 ghost use Rattle.flow_feed.specs.declared.batch.FeedStop.{FeedStop as WhyStopped};
 ghost use Rattle.flow_feed.specs.declared.batch.FeedStop.TheVariants as stop;
 ghost use Rattle.std.specs.IoError.{error_kind};
 ghost use Rattle.std.specs.declared.io.ErrorKind.TheVariants as io_kind;
 
-use crate::plan::InputKind;
-use crate::progress::{Progress, Watched};
+use crate::plan::{InputKind, InputPlan};
+use crate::progress::{EndWatch, Progress, Watched};
 use crate::warner::Warner;
 use crate::warning::{LossyFile, NamedFile, PassedFile, RefusedFile, UnopenedFile, WHOLE};
 use flow_codec::Losses;
 use flow_disk::Disk;
 use flow_feed::{
-    Collected, Counter, Fed, FeedStop, RefusedDatagrams, SharedAppender, feed_datagrams,
-    feed_shared,
+    Collected, Counter, Fed, FeedStop, FeedWatch, RefusedDatagrams, SharedAppender, feed_datagrams,
+    feed_datagrams_until, feed_shared, feed_shared_until,
 };
 use flow_roller::{Bell, Keeping};
 use flow_shared::{Naming, SharedArchive};
@@ -81,11 +82,94 @@ fn stream<
     Streamed { collected, losses }
 }
 
-/// Takes what `input` gives into an archive that threads share, by its kind, as the File of this number and path, shows
+/// Takes what an input gives into an archive that threads share, by its kind, up to where feeding is asked to end.
+fn take_until<D: Disk, J: Naming, W: Wait, C: Counter + Drop, R: Read, F: FeedWatch>(
+    appender: &mut SharedAppender<'_, D, J, W, C>,
+    alloc: Global,
+    input: &mut R,
+    kind: InputKind,
+    watch: &mut F,
+) -> Collected
+    ensures { IsInputTakenUntil D.Disk J.opening (F.asked watch.new) kind appender.old appender.new
+        (R.remaining input.old) (R.remaining input.new) result }
+{
+    match kind {
+        InputKind::File(passed) => Collected {
+            fed: feed_shared_until(appender, alloc, input, passed, watch),
+            refused: RefusedDatagrams::none(),
+        },
+        InputKind::Datagrams => feed_datagrams_until(appender, alloc, input, false, watch),
+        InputKind::Socket => feed_datagrams_until(appender, alloc, input, true, watch),
+    }
+}
+
+/// The same as `stream`, up to where a file at the path `end_on` says that feeding is to end.
+fn stream_until<
+    H: Files + AllocGlobal + Clock + Wait,
+    D: Disk,
+    J: Naming,
+    K: Keeping,
+    C: Counter + Drop,
+    R: Read,
+    P: Write + Drop,
+>(
+    rt: &H,
+    shared: &SharedArchive<D, J, H>,
+    bell: &Bell<K>,
+    span: u32,
+    counter: C,
+    input: &mut R,
+    progress: &Progress<P>,
+    kind: InputKind,
+    end_on: &str,
+) -> Streamed
+    ensures { IsStreamedUntil D.Disk J.opening kind (R.remaining input.old) (R.remaining input.new)
+        result.collected }
+{
+    let mut watch = EndWatch::new(rt, progress, bell, span, end_on);
+    let mut appender = SharedAppender::new(rt, shared, counter);
+    let collected = take_until(&mut appender, rt.alloc(), input, kind, &mut watch);
+    let losses = appender.losses();
+    Streamed { collected, losses }
+}
+
+/// Takes what `input` gives into an archive that threads share, as is planned.
+fn stream_by<
+    H: Files + AllocGlobal + Clock + Wait,
+    D: Disk,
+    J: Naming,
+    K: Keeping,
+    C: Counter + Drop,
+    R: Read,
+    P: Write + Drop,
+>(
+    rt: &H,
+    shared: &SharedArchive<D, J, H>,
+    bell: &Bell<K>,
+    span: u32,
+    counter: C,
+    input: &mut R,
+    progress: &Progress<P>,
+    plan: InputPlan,
+    end_on: &str,
+) -> Streamed
+    ensures { IsStreamedIf D.Disk J.opening plan.ends plan.kind (R.remaining input.old) (R.remaining input.new)
+        result.collected }
+{
+    let kind = plan.kind;
+    if plan.ends {
+        return stream_until(
+            rt, shared, bell, span, counter, input, progress, kind, end_on,
+        );
+    }
+    stream(rt, shared, bell, span, counter, input, progress, kind)
+}
+
+/// Takes what `input` gives into an archive that threads share, as is planned, as the File of this number and path, shows
 /// its progress, and rings the bell for each `span` octets that are read. It warns of records that its messages show not
 /// to be read, and of datagrams that aren't accepted, while it is read and after its end.
 pub(crate) fn feed_named<
-    H: AllocGlobal + Clock + Wait,
+    H: Files + AllocGlobal + Clock + Wait,
     D: Disk,
     J: Naming,
     K: Keeping,
@@ -100,13 +184,16 @@ pub(crate) fn feed_named<
     path: &str,
     input: &mut R,
     progress: &Progress<P>,
-    kind: InputKind,
+    plan: InputPlan,
+    end_on: &str,
 ) -> Fed
-    ensures { IsFedFrom D.Disk J.opening kind (R.remaining input.old) result }
+    ensures { IsFedBy D.Disk J.opening plan (R.remaining input.old) (R.remaining input.new) result }
 {
     let file = NamedFile { number, path };
     let warner = Warner::new(rt, progress, file);
-    let streamed = stream(rt, shared, bell, span, warner, input, progress, kind);
+    let streamed = stream_by(
+        rt, shared, bell, span, warner, input, progress, plan, end_on,
+    );
     let collected = streamed.collected;
     if let Some(line) = RefusedFile::of(file, WHOLE, collected.refused) {
         progress.say(rt, &line);
@@ -114,7 +201,7 @@ pub(crate) fn feed_named<
     if let Some(line) = LossyFile::of(file, WHOLE, streamed.losses) {
         progress.say(rt, &line);
     }
-    if let Some(line) = PassedFile::of(number, path, collected.fed, kind) {
+    if let Some(line) = PassedFile::of(number, path, collected.fed, plan.kind) {
         progress.tell(rt, &line);
     }
     collected.fed
@@ -168,15 +255,16 @@ pub(crate) fn feed_path<
     number: u64,
     path: &str,
     progress: &Progress<P>,
-    kind: InputKind,
+    plan: InputPlan,
+    end_on: &str,
 ) -> Fed
-    ensures { IsPathFed D.Disk H.File.remaining J.opening kind result }
+    ensures { IsPathFed D.Disk H.File.remaining J.opening plan result }
 {
     match File::open(rt, path) {
         Ok(file) => {
             let mut file = file;
             feed_named(
-                rt, shared, bell, span, number, path, &mut file, progress, kind,
+                rt, shared, bell, span, number, path, &mut file, progress, plan, end_on,
             )
         }
         Err(error) => {

@@ -3,3 +3,4 @@ mod Readings
 mod Batches
 mod Sharing
 mod EachGiven
+mod Wholes

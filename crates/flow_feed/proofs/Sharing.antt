@@ -1,9 +1,12 @@
 -- The steps of the messages that a thread was acknowledged.
-use Rattle.std.proofs.Common.{◌≡◌, ◌⊎◌, ⊎_elim, ◌∙◌, ℕ, Bool, true, false, List, [], ◌∷◌, ◌++◌, Option}
+use Rattle.std.proofs.Common.{◌≡◌, ◌⊎◌, ⊎_elim, ◌∙◌, ℕ, Bool, true, false, List, [], ◌∷◌, ◌++◌, length, Option}
+use Rattle.std.proofs.Common.{Some, None}
 use Rattle.std.proofs.Common.{Result, Ok, Err, ◌↔◌, IsTrue, inl, inr, refl, sym, ap, subst, append-nil, append_assoc}
 use Rattle.std.specs.Prelude.{⊤}
 use mathlib.Core.Bool.{not}
 use mathlib.Core.List.{IsPrefix}
+use Rattle.std.specs.Io.KnownBytes.{Consumes, IsAtEnd}
+use Rattle.flow_codec.specs.Message.{joined}
 use Rattle.flow_disk.specs.declared.disk.Disk.{Ghosts}
 use Rattle.flow_model.specs.Changes.{Change}
 use Rattle.flow_model.specs.Changes.Change.{added}
@@ -14,11 +17,13 @@ use Rattle.flow_shared.specs.Known.{IsAppendBy, Says}
 use Rattle.flow_shared.specs.Told.{HasAdded}
 use Rattle.flow_shared.specs.UnderLock.{LockState}
 use Rattle.flow_feed.specs.declared.batch.Fed.{Fed}
+use Rattle.flow_feed.specs.declared.batch.FeedStop.{FeedStop}
 use Rattle.flow_feed.specs.declared.collecting.Collected.{Collected}
 use Rattle.flow_feed.specs.Datagrams.{AreInSteps, AreReadFrom}
-use Rattle.flow_feed.specs.Feed.{IsFed}
+use Rattle.flow_feed.specs.Feed.{IsEnd, IsFed}
 use Rattle.flow_feed.specs.Given.{acknowledged, acknowledged_in, AreGiven, Given}
 use Rattle.flow_feed.specs.Shared.{AreAdded, HasSteps, IsGivenShared, IsInSteps, IsLate, IsRefusedShared, Known}
+use Rattle.flow_feed.specs.Until.{AreReadUntil, AreStepsUntil, IsFedUntil}
 
 -- ---- an append
 
@@ -148,3 +153,45 @@ collected_steps g opening is_socket old new octets collected read whole = record
   steps = subst (λ (l : List (List ℕ)). HasSteps old.steps new.steps l) read.1.taken.messages_are
       (given_steps g opening old new read.1.taken.given read.1.taken.run whole).1;
 }
+
+-- ---- up to where feeding is asked to end
+
+pub until_steps : {D S X : Type 0} (g : Ghosts D S X) (opening : Shelf) (asked : Type 0) (is_socket : Bool)
+    (old new : Known) (octets left : Option (List ℕ)) (collected : Collected)
+    → AreReadUntil (IsGivenShared g opening) asked is_socket old new octets left collected → new.whole ≡ true
+    → AreStepsUntil g opening asked is_socket old new octets left collected
+until_steps g opening asked is_socket old new octets left collected read whole = record {
+  read = read;
+  steps = subst (λ (l : List (List ℕ)). HasSteps old.steps new.steps l) read.collected_are.taken.messages_are
+      (given_steps g opening old new read.collected_are.taken.given read.collected_are.taken.run whole).1;
+}
+
+-- the octets of a File that is read to its end
+whole_given : (given octets : List ℕ) (rest : Option (List ℕ)) → Consumes (Some given) rest octets → IsAtEnd rest
+    → given ≡ octets
+whole_given given octets None read end = absurd read
+whole_given given octets (Some more) read end =
+    read ∙ ap (λ (l : List ℕ). octets ++ l) end ∙ append-nil octets
+
+pub fed_until_steps : {D S X : Type 0} (g : Ghosts D S X) (opening : Shelf) (asked : Type 0) (first : ℕ)
+    (old new : Known) (octets after : Option (List ℕ)) (fed : Fed)
+    → IsFedUntil (IsGivenShared g opening) asked first old new octets after fed → new.whole ≡ true
+    → IsInSteps first old.steps new.steps octets fed
+fed_until_steps g opening asked first old new octets after fed (inl is) whole =
+    fed_steps g opening first old new octets fed is whole
+fed_until_steps g opening asked first old new octets after fed (inr (ends, so_far)) whole =
+    let is = so_far.fed_given in
+    let front = joined (is.passed ++ is.messages) in
+    let end : IsAtEnd is.rest =
+    subst (λ (o : Option FeedStop). IsEnd (length front) o is.rest) so_far.whole is.ended in
+    record {
+      passed = is.passed;
+      most_passed = is.most_passed;
+      messages = is.messages;
+      count = is.count;
+      rest = after;
+      read = subst (λ (l : List ℕ). Consumes octets after l) (whole_given so_far.given front is.rest is.front end)
+          so_far.read;
+      steps = subst (λ (l : List (List ℕ)). HasSteps old.steps new.steps l) is.taken.messages_are
+          (given_steps g opening old new is.taken.given is.taken.run whole).1;
+    }

@@ -23,7 +23,7 @@ IsEnd place (Some (File stream.NumbersSpent)) rest = IsMessageNext rest
 IsEnd place (Some (Archive error)) rest = IsMessageNext rest
 IsEnd place (Some OutOfMemory) rest = ⊤
 IsEnd place (Some Unopened) rest = ⊥
-IsEnd place (Some (Unreceived failed)) rest = ⊥
+IsEnd place (Some (Unreceived failed)) rest = ⊤
 
 -- the refusal of the archive that a File stopped by
 abbrev pub refusal_in : Option FeedStop → Option ArchiveError

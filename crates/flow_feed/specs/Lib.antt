@@ -3,3 +3,5 @@ pub mod Feed
 pub mod Given
 pub mod Stopped
 pub mod Shared
+pub mod Until
+pub mod Whole

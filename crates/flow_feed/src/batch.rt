@@ -20,7 +20,7 @@ pub enum FeedStop {
     OutOfMemory,
     /// The File can't be opened (31). `feed`, which is given an open one, never answers this.
     Unopened,
-    /// Receiving a datagram failed (31).
+    /// Receiving a datagram failed, or reading an input that is fed up to where feeding is asked to end (31).
     Unreceived(ReceiveFailed),
 }
 

@@ -38,7 +38,7 @@ fn fault_of(error: ArchiveError) -> Option<MessageError>
 }
 
 /// Gives a datagram by itself. Where it isn't accepted it is passed over, and its fault is answered.
-fn take_datagram<A: Appender>(
+pub(crate) fn take_datagram<A: Appender>(
     appender: &mut A,
     alloc: Global,
     datagram: &[u8],
@@ -59,14 +59,14 @@ fn take_datagram<A: Appender>(
 
 /// What came of datagrams so far.
 #[derive(Clone, Copy)]
-struct Tally {
-    messages: u64,
-    refused: RefusedDatagrams,
+pub(crate) struct Tally {
+    pub(crate) messages: u64,
+    pub(crate) refused: RefusedDatagrams,
 }
 
 impl Tally {
     /// One more was taken in, or isn't accepted for this fault.
-    fn note(&mut self, fault: Option<MessageError>)
+    pub(crate) fn note(&mut self, fault: Option<MessageError>)
         ensures { IsNoted fault self.old self.new }
     {
         match fault {
@@ -76,7 +76,7 @@ impl Tally {
     }
 
     /// No more are received.
-    fn ended(self, stop: Option<FeedStop>) -> Collected
+    pub(crate) fn ended(self, stop: Option<FeedStop>) -> Collected
         ensures { result ≡ record { fed = record { messages = self.messages; stop = stop }; refused = self.refused } }
     {
         Collected {

@@ -12,7 +12,7 @@ use std::alloc::{AllocError, Global};
 use std::io::Read;
 
 /// The most messages that are taken in together.
-const MOST_TOGETHER: u64 = 64;
+pub(crate) const MOST_TOGETHER: u64 = 64;
 
 /// Messages that were read together, and what follows them: more, unless the File is at its end or stops there.
 #[derive(Drop)]
@@ -37,7 +37,11 @@ pub(crate) fn slices_of<'a>(
 }
 
 /// Holds a copy of a message.
-fn hold(alloc: Global, messages: &mut Vec<Vec<u8>>, message: &[u8]) -> Result<(), AllocError>
+pub(crate) fn hold(
+    alloc: Global,
+    messages: &mut Vec<Vec<u8>>,
+    message: &[u8],
+) -> Result<(), AllocError>
     ensures held { OnOk result (texts messages.new.items ≡ texts messages.old.items ++ message.now ∷ []) }
     ensures count { OnOk result (length messages.new.items ≡ length messages.old.items + 1) }
     ensures kept { IfErr result (λ _. messages.new.items ≡ messages.old.items) }
@@ -48,7 +52,7 @@ fn hold(alloc: Global, messages: &mut Vec<Vec<u8>>, message: &[u8]) -> Result<()
 }
 
 /// Messages after which no others are read.
-fn last_batch(messages: Vec<Vec<u8>>, stop: Option<FeedStop>) -> Batch
+pub(crate) fn last_batch(messages: Vec<Vec<u8>>, stop: Option<FeedStop>) -> Batch
     ensures { result ≡ record { messages = messages; is_last = true; stop = stop } }
 {
     Batch {
@@ -59,7 +63,7 @@ fn last_batch(messages: Vec<Vec<u8>>, stop: Option<FeedStop>) -> Batch
 }
 
 /// Messages after which others may be read.
-fn next_batch(messages: Vec<Vec<u8>>) -> Batch
+pub(crate) fn next_batch(messages: Vec<Vec<u8>>) -> Batch
     ensures { result ≡ record { messages = messages; is_last = false; stop = None } }
 {
     Batch {

@@ -256,12 +256,17 @@ feeding_in rows =
       passed = passed;
       warn = is_set (codes "warn") rows;
       datagrams = is_set (codes "datagrams") rows;
+      ends = is_given (codes "PATH") rows;
     }) (passed_in rows)) (merge_in rows)) (kept_or 8 rows)
 
 -- Messages of one File alone are passed: `--from`, whatever its number, goes with no other File, and with no datagrams.
-abbrev pub fed_alone : Bool → Text → FeedPlan → List Text → Option Request
-fed_alone passes folder plan files =
-    if passes && (plan.datagrams || nat_lt 1 (length files)) then None else Some (Feed folder plan files)
+abbrev pub fed_alone : Bool → Text → FeedPlan → Option Text → List Text → Option Request
+fed_alone passes folder plan end_on files =
+    if passes && (plan.datagrams || nat_lt 1 (length files)) then None else Some (Feed folder plan end_on files)
+
+-- the file that ends a feed, where one is given
+abbrev pub end_in : List Row → Option Text
+end_in rows = first_of (codes "PATH") rows
 
 -- at most 8 Files
 abbrev pub few_of : List Text → Option (List Text)
@@ -289,7 +294,7 @@ inspected_in rows = option_map (inspected_of (given_in rows)) (format_in rows)
 -- what `feed` asks for
 abbrev pub fed_in : List Row → Option Request
 fed_in rows = option_and_then (λ folder. option_and_then (λ plan.
-    option_and_then (fed_alone (is_given (codes "COUNT") rows) folder plan) (files_in rows)) (feeding_in rows))
+    option_and_then (fed_alone (is_given (codes "COUNT") rows) folder plan (end_in rows)) (files_in rows)) (feeding_in rows))
     (folder_in rows)
 
 -- what `explain` asks for: the number of a refusal

@@ -130,14 +130,16 @@ kept_shape = record (new_shape (codes "feed")) {
 abbrev pub merging_shape : Shape
 merging_shape = record kept_shape { rules = kept_shape.rules ++ option (codes "LEFT") (codes "merge") ∷ [] }
 
--- all but its very last one
+-- all but its very last ones
 abbrev pub passing_shape : Shape
 passing_shape = record merging_shape {
   rules = merging_shape.rules ++ option (codes "COUNT") (codes "from") ∷ flag (codes "warn") ∷ [];
 }
 
 abbrev pub feed_shape : Shape
-feed_shape = record passing_shape { rules = passing_shape.rules ++ flag (codes "datagrams") ∷ [] }
+feed_shape = record passing_shape {
+  rules = passing_shape.rules ++ flag (codes "datagrams") ∷ option (codes "PATH") (codes "end-on") ∷ [];
+}
 
 abbrev pub export_shape : Shape
 export_shape = record (new_shape (codes "export")) {

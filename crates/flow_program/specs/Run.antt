@@ -203,7 +203,7 @@ Runs g view octets (FlowsOfSeveral folders span format) input left old new befor
     Keeps input left × SeveralEnd (length folders) span FlowsOfEach format old new before after status
 Runs g view octets (Records folder span format) input left old new before after status =
     Keeps input left × ListEnds (AreRecordsAsked format span) old new before after status
-Runs g view octets (Feed folder plan files) input left old new before after status =
+Runs g view octets (Feed folder plan end_on files) input left old new before after status =
     (has_input files ≡ false → Keeps input left) × FeedEnds g octets plan files input old new before after status
 Runs g view octets (Shell folder keep merge) input left old new before after status =
     ShellEnds g keep merge input old new before after status

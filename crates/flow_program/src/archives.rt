@@ -11,7 +11,7 @@ ghost use Rattle.flow_program.specs.Arguments.{depends_on_now, has_input, span_a
 ghost use Rattle.flow_program.specs.Run.{AreFlowsAsked, AreRecordsAsked, AreRowsAsked, AskEnds, CheckEnds, CreateEnds};
 ghost use Rattle.flow_program.specs.Run.{FeedEnds, JobEnds, input_given, ListEnds, ShellEnds};
 
-use crate::arguments::{FileNames, FolderName, MomentSpan};
+use crate::arguments::{EndName, FileNames, FolderName, MomentSpan};
 use crate::telling::{DONE, tell_of_archive};
 use flow_columns::LineFormat;
 use flow_commands::{
@@ -285,6 +285,7 @@ fn feed_files<
     rt: &'a H,
     folder: &FolderName<'a>,
     plan: FeedPlan,
+    end_on: &EndName<'_>,
     files: &FileNames<'_>,
     input: &mut R,
     output: &mut W,
@@ -304,12 +305,23 @@ where
     ensures most { IfOk result (λ status. status ≤ 5) }
     ensures other { IfOk result (λ status. status ≢ 2) }
 {
+    let folder = folder.path;
     let paths = files.paths.as_slice();
+    let end_on = end_on.path.unwrap_or("");
     if files.has_input() {
-        return feed_in(rt, folder.path, plan, paths, Some(input), output, progress);
+        return feed_in(
+            rt,
+            folder,
+            plan,
+            end_on,
+            paths,
+            Some(input),
+            output,
+            progress,
+        );
     }
     let none: Option<&mut Empty> = None;
-    feed_in(rt, folder.path, plan, paths, none, output, progress)
+    feed_in(rt, folder, plan, end_on, paths, none, output, progress)
 }
 
 /// Runs `feed`.
@@ -324,6 +336,7 @@ pub(crate) fn run_feed<
     rt: &'a H,
     folder: &FolderName<'a>,
     plan: FeedPlan,
+    end_on: &EndName<'_>,
     files: &FileNames<'_>,
     input: &mut R,
     output: &mut W,
@@ -340,7 +353,7 @@ where
     ensures status { result ≤ 5 }
     ensures other { result ≢ 2 }
 {
-    match feed_files(rt, folder, plan, files, input, output, progress) {
+    match feed_files(rt, folder, plan, end_on, files, input, output, progress) {
         Ok(status) => status,
         Err(refusal) => tell_of_archive(rt.alloc(), errors, &refusal),
     }

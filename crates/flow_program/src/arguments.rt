@@ -6,7 +6,7 @@ ghost use Rattle.std.specs.Str.{bytes_eq};
 ghost use Rattle.clap.specs.Matches.{found_of};
 ghost use Rattle.clap.specs.Walk.{all_of, rows_of};
 ghost use Rattle.flow_program.specs.Arguments.{explained_in, few_of, folder_in, limit_in, plan_in, second_in, span_in};
-ghost use Rattle.flow_program.specs.Arguments.{wide_in};
+ghost use Rattle.flow_program.specs.Arguments.{end_in, wide_in};
 ghost use Rattle.flow_program.specs.Arguments.{feeding_in, files_in, format_in, given_in, is_given, is_set, keep_in};
 ghost use Rattle.flow_program.specs.Arguments.{are_swapped, fields_in, forward, is_later, kept_or, merge_in};
 ghost use Rattle.flow_program.specs.Arguments.{layout_in, line_format_in, record_format_in, times_in};
@@ -95,6 +95,20 @@ impl<'a> Model for FileNames<'a> {
     ghost Value = { List (List ℕ) };
 
     ghost view = { λ f. map (λ s. s.now) f.paths.items };
+}
+
+/// The path of the file that ends a feed, where one is given.
+#[derive(Drop)]
+pub struct EndName<'a> {
+    pub(crate) path: Option<&'a str>,
+}
+
+impl<'a> Model for EndName<'a> {
+    ghost use Rattle.std.specs.Prelude.{ℕ, List, Option, option_map};
+
+    ghost Value = { Option (List ℕ) };
+
+    ghost view = { λ e. option_map (λ s. s.now) e.path };
 }
 
 impl FileNames<'_> {
@@ -526,6 +540,16 @@ fn passed_in(arguments: &ArgMatches<'_>) -> Option<u64>
     number_between(0, MOST_MESSAGES, word.as_bytes())
 }
 
+/// The path of the file that ends it, among the arguments of `feed`.
+#[tactic(auto, using(crate::proofs::Reading::first_value_is))]
+pub(crate) fn end_in<'a>(arguments: &ArgMatches<'a>) -> EndName<'a>
+    ensures { result ≡ end_in (rows_of (found_of arguments.now)) }
+{
+    EndName {
+        path: arguments.get_str("PATH"),
+    }
+}
+
 /// How the Files are fed, among the arguments of `feed`.
 pub(crate) fn feeding_in(arguments: &ArgMatches<'_>) -> Option<FeedPlan>
     ensures { result ≡ feeding_in (rows_of (found_of arguments.now)) }
@@ -535,12 +559,14 @@ pub(crate) fn feeding_in(arguments: &ArgMatches<'_>) -> Option<FeedPlan>
     let passed = passed_in(arguments)?;
     let warn = is_set(arguments, "warn");
     let datagrams = is_set(arguments, "datagrams");
+    let ends = is_given(arguments, "PATH");
     Some(FeedPlan {
         keep,
         merge,
         passed,
         warn,
         datagrams,
+        ends,
     })
 }
 

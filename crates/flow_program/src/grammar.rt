@@ -201,6 +201,9 @@ const FEED_HELP: &str =
      With --datagrams each read gives one message, as of a socket of datagrams. One\n\
      that isn't accepted, or is empty, is passed over; --warn says how many were, by\n\
      their refusals.\n\
+     With --end-on feeding ends between two messages once a file is at PATH, which\n\
+     is looked for each time before more is read: what was read is taken in, and the\n\
+     rest is left to the next reader of the input. No read that waits is broken off.\n\
      The exit status is that of the first File that stopped. An archive that can't be\n\
      opened is reported on standard error before a File is read.\n\
      \n\
@@ -284,10 +287,13 @@ const FILES: &str = "List the archive's files too, each of which is read";
 const MEASURE_WARN: &str = "Says on standard error which records the File lacks";
 
 /// What `--warn` asks for.
-const WARN: &str = "Says on standard error where FILEs stop and what they lack";
+const WARN: &str = "Says on standard error where FILEs stop, what they lack";
 
 /// What `--datagrams` asks for.
 const DATAGRAMS: &str = "Each read gives one message: others are passed over";
+
+/// What `--end-on` asks for.
+const END_ON: &str = "Ends between two messages once this file is there";
 
 /// What `--merge` asks for.
 const MERGE: &str = "Newest rolled files not merged: 0 to 4294967295 [all]";
@@ -618,7 +624,7 @@ fn merging_command<'a>(alloc: Global) -> Result<Command<'a>, AllocError>
     kept_command(alloc)?.arg(option(alloc, "LEFT", "merge", MERGE))
 }
 
-/// The command `feed` but for its very last argument.
+/// The command `feed` but for its very last arguments.
 fn passing_command<'a>(alloc: Global) -> Result<Command<'a>, AllocError>
     ensures shape { IfOk result (λ command. shape_of command ≡ passing_shape) }
     ensures own { IfOk result (λ command. (fields_of command).has_globals ≡ false) }
@@ -638,7 +644,9 @@ fn feed_command<'a>(alloc: Global) -> Result<Command<'a>, AllocError>
     ensures shape { IfOk result (λ command. shape_of command ≡ feed_shape) }
     ensures own { IfOk result (λ command. (fields_of command).has_globals ≡ false) }
 {
-    passing_command(alloc)?.arg(flag(alloc, "datagrams", DATAGRAMS))
+    passing_command(alloc)?
+        .arg(flag(alloc, "datagrams", DATAGRAMS))?
+        .arg(option(alloc, "PATH", "end-on", END_ON))
 }
 
 /// The command `shell`, with its help.

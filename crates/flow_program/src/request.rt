@@ -16,8 +16,8 @@ ghost use Rattle.clap.specs.declared.error.kind.ErrorKind.TheVariants as ErrorKi
 ghost use Rattle.flow_program.specs.declared.request.LineError.TheVariants as LineError;
 
 use crate::arguments::{
-    FileNames, FolderName, FolderNames, MomentSpan, are_swapped, explained_in, feeding_in,
-    fields_in, files_in, folder_in, folders_of, format_in, given_in, is_set, keep_in,
+    EndName, FileNames, FolderName, FolderNames, MomentSpan, are_swapped, end_in, explained_in,
+    feeding_in, fields_in, files_in, folder_in, folders_of, format_in, given_in, is_set, keep_in,
     kept_in_shell, line_format_in, merge_in, passes, plan_in, span_in, totals_span_in, width_in,
     words_in, workers_in,
 };
@@ -108,10 +108,11 @@ pub enum Request<'a> {
         span: MomentSpan,
         format: LineFormat<'a>,
     },
-    /// Files are taken into the archive of a folder.
+    /// Files are taken into the archive of a folder, up to where a file says that feeding is to end, where one is given.
     Feed {
         folder: FolderName<'a>,
         plan: FeedPlan,
+        end_on: EndName<'a>,
         files: FileNames<'a>,
     },
     /// Requests about the archive of a folder are answered, and Files taken in meanwhile.
@@ -298,9 +299,10 @@ fn fed_alone<'a>(
     passes: bool,
     folder: FolderName<'a>,
     plan: FeedPlan,
+    end_on: EndName<'a>,
     files: FileNames<'a>,
 ) -> Option<Request<'a>>
-    ensures { result ≡ fed_alone passes folder.entry plan files.entry }
+    ensures { result ≡ fed_alone passes folder.entry plan end_on.entry files.entry }
 {
     if passes && (plan.datagrams || files.paths.len() > 1) {
         return None;
@@ -308,6 +310,7 @@ fn fed_alone<'a>(
     Some(Request::Feed {
         folder,
         plan,
+        end_on,
         files,
     })
 }
@@ -319,7 +322,8 @@ fn fed_in<'a>(alloc: Global, arguments: &ArgMatches<'a>) -> Result<Option<Reques
     let files = files_in(alloc, arguments)?;
     match (folder_in(arguments), feeding_in(arguments), files) {
         (Some(folder), Some(plan), Some(files)) => {
-            Ok(fed_alone(passes(arguments), folder, plan, files))
+            let end_on = end_in(arguments);
+            Ok(fed_alone(passes(arguments), folder, plan, end_on, files))
         }
         _ => Ok(None),
     }

@@ -222,8 +222,11 @@ where
         Request::Feed {
             folder,
             plan,
+            end_on,
             files,
-        } => run_feed(rt, &folder, plan, &files, input, output, errors, progress),
+        } => run_feed(
+            rt, &folder, plan, &end_on, &files, input, output, errors, progress,
+        ),
         Request::Shell {
             folder,
             keep,

@@ -19,6 +19,7 @@ use flow_several::SeveralRefusal;
 use flow_several_folders::{FoldersRefusal, Opener, Question, Wanted, ask_folders};
 use std::alloc::{AllocError, AllocGlobal, Global};
 use std::io::Write;
+use std::thread::Threads;
 use std::time::Clock;
 
 /// The status where no memory was found.
@@ -139,8 +140,8 @@ pub(crate) fn totals_wanted(each: bool) -> Wanted
 /// Runs `totals` or `flows` over the archives of these folders.
 pub(crate) fn run_several<
     'a,
-    H: AllocGlobal + Clock,
-    D: Disk,
+    H: AllocGlobal + Clock + Threads + Sync,
+    D: Disk + Send,
     O: Opener<'a, D>,
     W: Write,
     E: Write,
@@ -154,6 +155,8 @@ pub(crate) fn run_several<
     output: &mut W,
     errors: &mut E,
 ) -> u8
+where
+    D::Sealed: Send + Sync,
     ensures folders { FoldersEnd D.Disk O.opens O.refuses folders.now span wanted format (W.contents output.old)
         (W.contents output.new) (E.contents errors.old) (E.contents errors.new) result }
     ensures runs { SeveralEnd (length folders.now) span wanted format (W.contents output.old) (W.contents output.new)
@@ -170,7 +173,7 @@ pub(crate) fn run_several<
     let question = question_of(&seconds, wanted, format);
     let paths = folders.paths.as_slice();
     let faults = &mut Faults::new();
-    match ask_folders(alloc, opener, paths, &question, output, faults) {
+    match ask_folders(rt, alloc, opener, paths, &question, output, faults) {
         Ok(()) => DONE,
         Err(refusal) => report_folders(alloc, errors, refusal),
     }

@@ -15,35 +15,27 @@ use Rattle.flow_report.specs.declared.format.Format.{Format}
 use Rattle.flow_report.specs.Writing.{AppendsFront}
 use Rattle.flow_snapshot.specs.declared.shares.PartSums.{PartSums}
 use Rattle.flow_snapshot.specs.Totals.{wide_table_in, SumsFit}
-use Rattle.flow_together.specs.declared.error.TogetherError.{TogetherError}
 use Rattle.flow_together.specs.declared.error.TogetherError.TheVariants as together
-use Rattle.flow_together.specs.Together.{rows_of_sums, width_of_sums, AreSumsOf, IsAddingRefused, IsUnmade}
+use Rattle.flow_together.specs.Together.{rows_of_sums, width_of_sums, AreSumsOf, IsUnmade}
 use Rattle.flow_together.specs.Together.{OneTableFits}
 use Rattle.flow_several.specs.declared.refusal.SeveralRefusal.{SeveralRefusal}
 use Rattle.flow_several.specs.declared.refusal.SeveralRefusal.TheVariants.{Archive, OutOfMemory, SumSpent, Write}
 use Rattle.flow_several.specs.declared.refusal.SummingRefusal.{SummingRefusal}
 use Rattle.flow_several.specs.declared.refusal.SummingRefusal.TheVariants.{Opening, Sums}
 use Rattle.flow_several.specs.Each.{archive_lines, archive_totals, each_lines, each_totals, IsEachRefused}
-use Rattle.flow_several.specs.Each.{IsLineRefusal, IsRefusedAlone, IsArchiveUnanswered, WritesEach}
+use Rattle.flow_several.specs.Each.{IsLineRefusal, IsArchiveUnanswered, WritesEach}
 use Rattle.flow_several.specs.Each.{WritesEachRows, WritesSomeRows}
 use Rattle.flow_several.specs.Refusals.{of_rows}
-use Rattle.flow_several.specs.Several.{IsNotSummed, IsReadFault, IsViewRead, DiskReading}
-use Rattle.flow_several.proofs.OneByOne.{zip_then}
+use Rattle.flow_several.specs.Several.{IsNotSummedAlone, IsReadFault, IsSummedAlone, IsViewRead, DiskReading}
+use Rattle.flow_several.proofs.OneByOne.{zip_length, zip_then}
 
 -- ---- one archive alone
 
--- these are the sums of the archive that was read
-abbrev pub IsOwnOf : DiskReading → Option PartSums → Type 0
-IsOwnOf reads sums = (v : View) × IsViewRead reads v × AreSumsOf sums (v ∷ [])
-
-alone : (first : ℕ) (v : View) (e : TogetherError) → IsAddingRefused first [] v e → IsRefusedAlone first v e
-alone first v (together.Query e) h = h
-alone first v together.OtherWidths h = h tt
-alone first v together.SumSpent h = λ fit. h.1 (fit.narrow, fit.wide)
-
-unanswered : (reads : DiskReading) (e : SummingRefusal) → IsNotSummed reads [] e → IsArchiveUnanswered reads e
-unanswered reads (Opening e) h = h
-unanswered reads (Sums e) (s, v, stands, view, not) = (s, v, stands, view, alone _ v e not)
+alone : (reads : DiskReading) (e : SummingRefusal) → IsNotSummedAlone reads e → IsArchiveUnanswered reads e
+alone reads (Opening e) h = h
+alone reads (Sums (together.Query e)) h = h
+alone reads (Sums together.OtherWidths) h = absurd h
+alone reads (Sums together.SumSpent) h = absurd h
 
 both_fit : (sums : Option PartSums) (v : View) → AreSumsOf sums (v ∷ []) → SumsFit v → OneTableFits sums
 both_fit None v are fit = absurd are
@@ -51,7 +43,7 @@ both_fit (Some s) v (widths, narrow, wide) fit = λ same.
     subst AllFit (ap (λ (t : Table). merged t (wide_table_in v)) (sym narrow) ∙ ap (merged s.narrow) (sym wide))
     (fit.both (sym (ap (λ (t : Table). t.width) narrow) ∙ same ∙ ap (λ (t : Table). t.width) wide))
 
-unfit : (reads : DiskReading) (sums : Option PartSums) → IsOwnOf reads sums → (e : SummingRefusal)
+unfit : (reads : DiskReading) (sums : Option PartSums) → IsSummedAlone reads sums → (e : SummingRefusal)
     → e ≡ Sums together.SumSpent → (OneTableFits sums → ⊥) → IsArchiveUnanswered reads e
 unfit reads sums (v, (s, stands, view), are) e is not =
     subst (IsArchiveUnanswered reads) (sym is) (s, v, stands, view, λ fit. not (both_fit sums v are fit))
@@ -65,7 +57,7 @@ module _ (format : Format) (from to : ℕ) where
       (ap (λ (t : Table). rows_of_both from to t s.wide) narrow ∙ ap (rows_of_both from to (narrow_table_in v)) wide)
 
   -- the views of what was read, and their lines
-  views_of : (reads : List DiskReading) (all : List (Option PartSums)) (number : ℕ) → AllZip IsOwnOf reads all
+  views_of : (reads : List DiskReading) (all : List (Option PartSums)) (number : ℕ) → AllZip IsSummedAlone reads all
       → (vs : List View) × AllZip IsViewRead reads vs
       × (each_lines format from to number all ≡ each_totals format from to number vs)
   views_of [] [] number h = ([], tt, refl)
@@ -103,21 +95,38 @@ front_then a b c text more whole (n, within, grown) = (
 
 -- ---- so many archives, one after the other
 
+-- These are the sums of the first archives that were read, each by itself, and the others are waited for.
+pub record Taken (reads : List DiskReading) (waits : List DiskReading → Type 0) (all : List (Option PartSums)) : Type 0
+  where
+    pub before : List DiskReading
+    pub rest : List DiskReading
+    pub parts : reads ≡ before ++ rest
+    pub own : AllZip IsSummedAlone before all
+    pub waiting : waits rest
+
 -- The lines of so many archives are written; where all disks are honest, each has the sums of what was read.
-pub record Written (format : Format) (from to : ℕ) (reads : List DiskReading) (honest : Type 0) (n : ℕ)
-    (old now : Option (List ℕ)) : Type 0 where
+pub record Written (format : Format) (from to : ℕ) (reads : List DiskReading) (honest : Type 0)
+    (waits : List DiskReading → Type 0) (n : ℕ) (old now : Option (List ℕ)) : Type 0 where
   pub all : List (Option PartSums)
   pub count : length all ≡ n
   pub lines : Appends old now (each_lines format from to 1 all)
-  pub own : honest → AllZip IsOwnOf (take n reads) all
+  pub own : honest → Taken reads waits all
 
 module _ (format : Format) (from to : ℕ) (reads : List DiskReading) (honest : Type 0) where
-  pub none_written : (known : Option (List ℕ)) → Written format from to reads honest 0 known known
-  none_written known = record { all = []; count = refl; lines = Appends-nil known; own = λ h. tt }
+  pub none_written : (waits : List DiskReading → Type 0) (known : Option (List ℕ)) → (honest → waits reads)
+      → Written format from to reads honest waits 0 known known
+  none_written waits known all = record {
+    all = [];
+    count = refl;
+    lines = Appends-nil known;
+    own = λ h. record { before = []; rest = reads; parts = refl; own = tt; waiting = all h };
+  }
 
   -- one archive more
-  module _ (n number : ℕ) (old now : Option (List ℕ)) (so_far : Written format from to reads honest n old now)
-      (place : number ≡ n + 1) (sums : Option PartSums) (own : DiskReading) where
+  module _ (waits later : List DiskReading → Type 0) (n number : ℕ) (old now : Option (List ℕ))
+      (so_far : Written format from to reads honest waits n old now) (place : number ≡ n + 1) (sums : Option PartSums)
+      (next : (rs : List DiskReading) → waits rs → (own : DiskReading) × (rest : List DiskReading) × (rs ≡ own ∷ rest)
+      × IsSummedAlone own sums × later rest) where
     abbrev text : List ℕ
     text = archive_lines format number (width_of_sums sums) (rows_of_sums from to sums)
 
@@ -128,19 +137,27 @@ module _ (format : Format) (from to : ℕ) (reads : List DiskReading) (honest : 
         ∙ ap (λ (k : ℕ). each_lines format from to 1 so_far.all
         ++ archive_lines format k (width_of_sums sums) (rows_of_sums from to sums)) here
 
-    more_own : (m : ℕ) → take m reads ≡ take n reads ++ own ∷ [] → (honest → IsOwnOf own sums) → honest
-        → AllZip IsOwnOf (take m reads) (so_far.all ++ sums ∷ [])
-    more_own m parts are h = subst (λ (rs : List DiskReading). AllZip IsOwnOf rs (so_far.all ++ sums ∷ [])) (sym parts)
-        (zip_then IsOwnOf (take n reads) so_far.all own sums (so_far.own h) (are h))
+    taken_more : honest → Taken reads later (so_far.all ++ sums ∷ [])
+    taken_more h =
+        let t = so_far.own h in
+        let a = next t.rest t.waiting in
+        record {
+          before = t.before ++ a.0 ∷ [];
+          rest = a.1;
+          parts = t.parts ∙ ap (λ (rs : List DiskReading). t.before ++ rs) a.2
+              ∙ sym (append_assoc t.before (a.0 ∷ []) a.1);
+          own = zip_then IsSummedAlone t.before so_far.all a.0 sums t.own a.3;
+          waiting = a.4;
+        }
 
-    pub one_written : (m : ℕ) → m ≡ n + 1 → take m reads ≡ take n reads ++ own ∷ [] → (honest → IsOwnOf own sums)
-        → (new : Option (List ℕ)) → Appends now new text → Written format from to reads honest m old new
-    one_written m next parts are new grown = record {
+    pub one_written : (m : ℕ) → m ≡ n + 1 → (new : Option (List ℕ)) → Appends now new text
+        → Written format from to reads honest later m old new
+    one_written m is new grown = record {
       all = so_far.all ++ sums ∷ [];
-      count = length-append so_far.all (sums ∷ []) ∙ omega (arith, so_far.count, next);
+      count = length-append so_far.all (sums ∷ []) ∙ omega (arith, so_far.count, is);
       lines = subst (Appends old new) (sym more_lines)
           (Appends-trans old now new (each_lines format from to 1 so_far.all) text so_far.lines grown);
-      own = more_own m parts are;
+      own = taken_more;
     }
 
     -- writing failed in its lines
@@ -162,73 +179,82 @@ module _ (format : Format) (from to : ℕ) (reads : List DiskReading) (honest : 
     some_cut new (Write failed) cut = (so_far.all ++ sums ∷ [], one_cut new cut)
 
     -- the same where all disks are honest
-    pub each_cut : (after : List DiskReading) → reads ≡ take n reads ++ own ∷ after → length (take n reads) ≡ n
-        → (honest → IsOwnOf own sums) → honest → (new : Option (List ℕ)) (e : SeveralRefusal)
+    pub each_cut : honest → (new : Option (List ℕ)) (e : SeveralRefusal)
         → IsLineRefusal number (OneTableFits sums) text now new e → IsEachRefused format from to reads old new e
-    each_cut after parts few are h new (Archive k e) (same, is, not, kept) =
-        let vs = views_of format from to (take n reads) so_far.all 1 (so_far.own h) in
+    each_cut h new (Archive k e) (same, is, not, kept) =
+        let t = so_far.own h in
+        let a = next t.rest t.waiting in
+        let vs = views_of format from to t.before so_far.all 1 t.own in
         record {
-          before = take n reads;
-          own = own;
-          after = after;
+          before = t.before;
+          own = a.0;
+          after = a.1;
           views = vs.0;
-          all = parts;
-          place = omega (arith, same, place, few);
+          all = t.parts ∙ ap (λ (rs : List DiskReading). t.before ++ rs) a.2;
+          place = omega (arith, same, place, so_far.count, zip_length IsSummedAlone t.before so_far.all t.own);
           answered = vs.1;
-          unanswered = unfit own sums (are h) e is not;
+          unanswered = unfit a.0 sums a.3 e is not;
           written = subst (Appends old new) vs.2
               (Appends-kept old now new (each_lines format from to 1 so_far.all) so_far.lines kept);
         }
-    each_cut after parts few are h new SumSpent e = absurd e
-    each_cut after parts few are h new OutOfMemory kept =
-        let vs = views_of format from to (take n reads) so_far.all 1 (so_far.own h) in (
+    each_cut h new SumSpent e = absurd e
+    each_cut h new OutOfMemory kept =
+        let t = so_far.own h in
+        let vs = views_of format from to t.before so_far.all 1 t.own in (
           each_lines format from to 1 so_far.all,
-          (take n reads, own ∷ after, vs.0, parts, vs.1, vs.2),
+          (t.before, t.rest, vs.0, t.parts, vs.1, vs.2),
           Appends-kept old now new (each_lines format from to 1 so_far.all) so_far.lines kept,
         )
-    each_cut after parts few are h new (Write failed) cut =
-        let both = take n reads ++ own ∷ [] in
-        let vs = views_of format from to both (so_far.all ++ sums ∷ []) 1
-        (zip_then IsOwnOf (take n reads) so_far.all own sums (so_far.own h) (are h)) in (
+    each_cut h new (Write failed) cut =
+        let t = taken_more h in
+        let vs = views_of format from to t.before (so_far.all ++ sums ∷ []) 1 t.own in (
           each_lines format from to 1 (so_far.all ++ sums ∷ []),
-          (both, after, vs.0, parts ∙ sym (append_assoc (take n reads) (own ∷ []) after), vs.1, vs.2),
+          (t.before, t.rest, vs.0, t.parts, vs.1, vs.2),
           one_cut new cut,
         )
 
   -- an archive that isn't asked
-  module _ (n number : ℕ) (old now : Option (List ℕ)) (so_far : Written format from to reads honest n old now)
-      (place : number ≡ n + 1) (e : SummingRefusal) where
+  module _ (waits : List DiskReading → Type 0) (n number : ℕ) (old now : Option (List ℕ))
+      (so_far : Written format from to reads honest waits n old now) (place : number ≡ n + 1) (e : SummingRefusal) where
     pub some_refused : WritesSomeRows format from to old now (Archive number e)
     some_refused = (so_far.all, omega (arith, so_far.count, place), so_far.lines)
 
-    pub each_refused : (own : DiskReading) (after : List DiskReading) → reads ≡ take n reads ++ own ∷ after
-        → length (take n reads) ≡ n → honest → IsNotSummed own [] e
-        → IsEachRefused format from to reads old now (Archive number e)
-    each_refused own after parts few h not =
-        let vs = views_of format from to (take n reads) so_far.all 1 (so_far.own h) in
+    pub each_refused : ((rs : List DiskReading) → waits rs → (own : DiskReading) × (rest : List DiskReading)
+        × (rs ≡ own ∷ rest) × IsNotSummedAlone own e)
+        → honest → IsEachRefused format from to reads old now (Archive number e)
+    each_refused next h =
+        let t = so_far.own h in
+        let a = next t.rest t.waiting in
+        let vs = views_of format from to t.before so_far.all 1 t.own in
         record {
-          before = take n reads;
-          own = own;
-          after = after;
+          before = t.before;
+          own = a.0;
+          after = a.1;
           views = vs.0;
-          all = parts;
-          place = omega (arith, place, few);
+          all = t.parts ∙ ap (λ (rs : List DiskReading). t.before ++ rs) a.2;
+          place = omega (arith, place, so_far.count, zip_length IsSummedAlone t.before so_far.all t.own);
           answered = vs.1;
-          unanswered = unanswered own e not;
+          unanswered = alone a.0 e a.3;
           written = subst (Appends old now) vs.2 so_far.lines;
         }
 
   -- all archives
-  pub all_written : (n : ℕ) (old now : Option (List ℕ)) → Written format from to reads honest n old now
-      → take n reads ≡ reads → honest → WritesEach format from to reads old now
-  all_written n old now so_far whole h =
-      let vs = views_of format from to reads so_far.all 1
-      (subst (λ (rs : List DiskReading). AllZip IsOwnOf rs so_far.all) whole (so_far.own h)) in
-      (vs.0, vs.1, subst (Appends old now) vs.2 so_far.lines)
+  pub all_written : (waits : List DiskReading → Type 0) (n : ℕ) (old now : Option (List ℕ))
+      → Written format from to reads honest waits n old now → ((rs : List DiskReading) → waits rs → rs ≡ [])
+      → honest → WritesEach format from to reads old now
+  all_written waits n old now so_far end h =
+      let t = so_far.own h in
+      let vs = views_of format from to t.before so_far.all 1 t.own in
+      let whole : reads ≡ t.before =
+      t.parts ∙ ap (λ (rs : List DiskReading). t.before ++ rs) (end t.rest t.waiting) ∙ append-nil t.before in (
+        vs.0,
+        subst (λ (rs : List DiskReading). AllZip IsViewRead rs vs.0) (sym whole) vs.1,
+        subst (Appends old now) vs.2 so_far.lines,
+      )
 
-  pub rows_written : (n count : ℕ) (old now : Option (List ℕ)) → Written format from to reads honest n old now
-      → n ≡ count → WritesEachRows format from to count old now
-  rows_written n count old now so_far is = (so_far.all, so_far.count ∙ is, so_far.lines)
+  pub rows_written : (waits : List DiskReading → Type 0) (n count : ℕ) (old now : Option (List ℕ))
+      → Written format from to reads honest waits n old now → n ≡ count → WritesEachRows format from to count old now
+  rows_written waits n count old now so_far is = (so_far.all, so_far.count ∙ is, so_far.lines)
 
 -- ---- refusals
 

@@ -1,5 +1,5 @@
 -- Which refusals are failed reads.
-use Rattle.std.proofs.Common.{◌≡◌, ◌≢◌, ◌∙◌, ℕ, refl, sym, ap, subst, arith}
+use Rattle.std.proofs.Common.{◌≡◌, ◌≢◌, ◌≤◌, ◌∙◌, ℕ, refl, sym, ap, subst, arith}
 use Rattle.std.specs.Prelude.{IsErrAnd, OnOk, Result, Ok, Err, IfErr}
 use Rattle.flow_disk.specs.Cause.{HasCause, HasRisen}
 use Rattle.flow_manifest.specs.declared.error.OpenError.TheVariants as opening
@@ -33,6 +33,44 @@ refused_by {X} {Z} number e old before after r same is cause = record {
       (cause.risen (is ∙ ap (λ (x : SummingRefusal). Err x) (fault_is number e fault)));
   other = λ not. subst (λ (r : Result X SummingRefusal). IfErr r (λ x. x ≢ read_fault → after ≡ before)) is cause.other
       (λ fault. not (subst (λ (x : SummingRefusal). IsReadFault (Archive number x)) (sym fault) tt)) ∙ same;
+}
+
+-- a count of one's own, added to another
+pub cause_added : {X : Type 0} (raised before after : ℕ) (r : Result X SummingRefusal) → HasCause read_fault 0 raised r
+    → (raised ≡ 0 → after ≡ before) → (HasRisen 0 raised → HasRisen before after) → before ≤ after
+    → HasCause read_fault before after r
+cause_added raised before after (Ok x) h none some later = record {
+  later = later;
+  done = none h.done;
+  risen = λ is. some (h.risen is);
+  other = tt;
+}
+cause_added raised before after (Err e) h none some later = record {
+  later = later;
+  done = tt;
+  risen = λ is. some (h.risen is);
+  other = λ different. none (h.other different);
+}
+
+-- the refusal of an answer, handed on, and one of sums that are made
+pub cause_passed : {X Z : Type 0} (e : SummingRefusal) (before now : ℕ) (r : Result Z SummingRefusal)
+    → IsErrAnd r (λ x. x ≡ e) → HasCause {T = X} read_fault before now (Err e) → HasCause read_fault before now r
+cause_passed {X} {Z} e before now (Ok z) is h = absurd is
+cause_passed {X} {Z} e before now (Err x) is h = record {
+  later = h.later;
+  done = tt;
+  risen = λ fault. let same : e ≡ read_fault = cc in h.risen (ap (λ (x : SummingRefusal). Err x) same);
+  other = λ different. h.other (λ same. different (is ∙ same));
+}
+
+pub cause_quiet : {Z : Type 0} (e : SummingRefusal) (before now : ℕ) (r : Result Z SummingRefusal)
+    → IsErrAnd r (λ x. x ≡ e) → e ≢ read_fault → now ≡ before → HasCause read_fault before now r
+cause_quiet {Z} e before now (Ok z) is not same = absurd is
+cause_quiet {Z} e before now (Err x) is not same = record {
+  later = omega (arith, same);
+  done = tt;
+  risen = λ fault. absurd (not (let this : e ≡ read_fault = cc in this));
+  other = λ different. same;
 }
 
 pub none_failed : {X : Type 0} (x : X) (before after : ℕ) (r : Result X SummingRefusal) → r ≡ Ok x

@@ -1,4 +1,5 @@
 pub mod OneByOne
+pub mod InTurn
 pub mod Faults
 pub mod LinesWritten
 pub mod EachLines

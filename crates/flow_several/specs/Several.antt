@@ -1,6 +1,6 @@
 -- What is answered of several archives, and what is written.
 use Rattle.std.specs.Prelude.{◌≡◌, ◌⊎◌, ⊤, ℕ, ◌+◌, ◌≤◌, List, ◌∷◌, [], ◌++◌, length, map, Option, Result, OnOk, IfErr}
-use Rattle.std.specs.Prelude.{IsTrue}
+use Rattle.std.specs.Prelude.{IsTrue, MatchResult}
 use Rattle.std.specs.Io.KnownBytes.{Appends, Keeps}
 use Rattle.std.specs.List.{AllZip}
 use Rattle.flow_disk.specs.Calls.{LeavesOnly}
@@ -19,10 +19,11 @@ use Rattle.flow_report.specs.declared.format.Format.{Format}
 use Rattle.flow_report.specs.ArchiveLines.{rows_text}
 use Rattle.flow_report.specs.Writing.{AppendsFront}
 use Rattle.flow_snapshot.specs.declared.shares.PartSums.{PartSums}
-use Rattle.flow_snapshot.specs.Totals.{first_file}
+use Rattle.flow_snapshot.specs.Totals.{first_file, IsTotalsRefusal}
 use Rattle.flow_together.specs.declared.error.TogetherError.TheVariants as together
+use Rattle.flow_together.specs.declared.together.Together.{Together}
 use Rattle.flow_together.specs.Together.{first_width, rows_of_sums, totals_in_views, width_of_sums, AreSumsOf}
-use Rattle.flow_together.specs.Together.{BothFitTogether, IsAddingRefused}
+use Rattle.flow_together.specs.Together.{BothFitTogether, FitTogether, IsAddingRefused}
 use Rattle.flow_several.specs.declared.refusal.SeveralRefusal.{SeveralRefusal}
 use Rattle.flow_several.specs.declared.refusal.SeveralRefusal.TheVariants.{Archive, OutOfMemory, SumSpent, Write}
 use Rattle.flow_several.specs.declared.refusal.SummingRefusal.{SummingRefusal}
@@ -41,6 +42,24 @@ readings g disks = map (λ d. reads_of (g.held d)) disks
 -- What was read is that of a state, whose view this is.
 abbrev pub IsViewRead : DiskReading → View → Type 0
 IsViewRead reads v = (s : State) × StandsFor reads s × IsViewOf (shelf_of s) v
+
+-- these are the sums of the archive that was read, by itself
+abbrev pub IsSummedAlone : DiskReading → Option PartSums → Type 0
+IsSummedAlone reads sums = (v : View) × IsViewRead reads v × AreSumsOf sums (v ∷ [])
+
+-- Why an archive isn't summed by itself: the device failed, or memory ran out; what is read represents none; or a read
+-- failed, memory ran out, or its sums don't fit their types.
+abbrev pub IsNotSummedAlone : DiskReading → SummingRefusal → Type 0
+IsNotSummedAlone reads (Opening e) = IsDeviceOrMemory e ⊎ StandsForNone reads
+IsNotSummedAlone reads (Sums (together.Query e)) =
+    (s : State) × (v : View) × StandsFor reads s × IsViewOf (shelf_of s) v
+    × IsTotalsRefusal (first_file (shelf_of s)) (FitTogether (v ∷ [])) e
+IsNotSummedAlone reads (Sums together.OtherWidths) = ⊥
+IsNotSummedAlone reads (Sums together.SumSpent) = ⊥
+
+-- what is answered of the archive that was read, by itself
+abbrev pub IsOwnAnswer : DiskReading → Result Together SummingRefusal → Type 0
+IsOwnAnswer reads result = MatchResult result (λ one. IsSummedAlone reads one.sums) (IsNotSummedAlone reads)
 
 -- these are the sums of the archives of these views, and of the one whose view was read
 abbrev pub IsSummedWith : DiskReading → List View → Option PartSums → Type 0

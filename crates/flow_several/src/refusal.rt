@@ -10,7 +10,7 @@ ghost use Rattle.flow_several.specs.declared.refusal.SummingRefusal.TheVariants.
 
 use flow_manifest::OpenError;
 use flow_measure::SumError;
-use flow_refusals::RefusalCode;
+use flow_refusals::{ReadRefusal, RefusalCode};
 use flow_report::{TextError, WriteFailed};
 use flow_together::TogetherError;
 use std::alloc::AllocError;
@@ -112,6 +112,14 @@ impl From<TogetherError> for SummingRefusal {
 
     fn from(error: TogetherError) -> SummingRefusal {
         SummingRefusal::Sums(error)
+    }
+}
+
+impl From<ReadRefusal> for SummingRefusal {
+    ghost from_gives = { λ e r. r ≡ Sums (together.Query e) };
+
+    fn from(error: ReadRefusal) -> SummingRefusal {
+        SummingRefusal::Sums(TogetherError::Query(error))
     }
 }
 

@@ -1,6 +1,6 @@
-//! The sums of archives, opened one after the other.
+//! The sums of archives.
 
-ghost use Rattle.std.specs.Prelude.{◌≡◌, ◌≢◌, ℕ, false, IsTrue, IfOk, IfErr, List, MatchResult};
+ghost use Rattle.std.specs.Prelude.{◌≡◌, ◌≢◌, ℕ, false, IsTrue, IfOk, IfErr, List, OnOk, IsOk, MatchResult};
 ghost use Rattle.std.specs.List.{All};
 ghost use Rattle.flow_disk.specs.Cause.{HasCause};
 ghost use Rattle.flow_manifest.specs.Slots.{reads_of};
@@ -9,10 +9,11 @@ ghost use Rattle.flow_model.specs.Standing.{StandsFor};
 ghost use Rattle.flow_together.specs.Together.{AreSumsOf};
 ghost use Rattle.flow_together.specs.declared.error.TogetherError.TheVariants as together;
 ghost use Rattle.flow_several.specs.declared.refusal.SummingRefusal.TheVariants as summing;
-ghost use Rattle.flow_several.specs.Several.{readings, AreSummed, HasReadCause, IsFirstRefused, IsNotSummed};
-ghost use Rattle.flow_several.specs.Several.{IsOfAnArchive, IsSummedWith, KeepsArchive};
+ghost use Rattle.flow_several.specs.Several.{readings, AreSummed, DiskReading, HasReadCause, IsFirstRefused};
+ghost use Rattle.flow_several.specs.Several.{IsNotSummed, IsOfAnArchive, IsOwnAnswer, IsSummedWith, KeepsArchive};
 
 use crate::refusal::{SeveralRefusal, SummingRefusal};
+use crate::side_by_side::SumsOfEach;
 use flow_archive::Archive;
 use flow_disk::{Disk, Faults};
 use flow_manifest::OpenError;
@@ -20,40 +21,35 @@ use flow_model::one_view_of_a_state;
 use flow_refusals::ReadRefusal;
 use flow_together::Together;
 use std::alloc::Global;
+use std::thread::Threads;
 
-/// Adds the sums of an archive to those of others.
+/// The sums of an archive.
 fn sum_archive<D: Disk>(
     alloc: Global,
     archive: &mut Archive<D>,
-    all: Together,
     faults: &mut Faults<D::Sealed>,
 ) -> Result<Together, SummingRefusal>
     ensures disk { archive.new.disk ≡ archive.old.disk }
     ensures summed { IsTrue (D.honest archive.old.disk) → (reads : ℕ → List ℕ) → StandsFor reads archive.old.state
-        → (vs : List View) → AreSumsOf all.sums vs
-        → MatchResult result (λ more. IsSummedWith reads vs more.sums) (IsNotSummed reads vs) }
+        → IsOwnAnswer reads result }
     ensures opened { IfErr result (λ e. e ≢ summing.Opening OpenError.Fault) }
     ensures cause { HasCause (summing.Sums (together.Query ReadRefusal.Fault)) faults.old faults.new result }
 {
     one_view_of_a_state();
     let directory = archive.directory(alloc)?;
     let snapshot = directory.into_snapshot();
-    let more = all.add(alloc, &snapshot, faults)?;
-    Ok(more)
+    let one = Together::of(alloc, &snapshot, faults)?;
+    Ok(one)
 }
 
-/// Opens the archive on a disk, of which nothing is frozen, and adds its sums to those of others. It gives the disk
-/// back.
+/// Opens the archive on a disk, of which nothing is frozen, and sums it. It gives the disk back.
 pub(crate) fn open_and_sum<D: Disk>(
     alloc: Global,
     disk: D,
-    all: Together,
     faults: &mut Faults<D::Sealed>,
 ) -> (D, Result<Together, SummingRefusal>)
     requires { (n : ℕ) → (D.marks disk n).frozen ≡ false }
-    ensures summed { IsTrue (D.honest disk) → (vs : List View) → AreSumsOf all.sums vs
-        → MatchResult result.1 (λ more. IsSummedWith (reads_of (D.held disk)) vs more.sums)
-        (IsNotSummed (reads_of (D.held disk)) vs) }
+    ensures summed { IsTrue (D.honest disk) → IsOwnAnswer (reads_of (D.held disk)) result.1 }
     ensures honest { D.honest result.0 ≡ D.honest disk }
     // A stop at any moment leaves what opens as the archive that was there.
     ensures any_moment { KeepsArchive D.Disk disk result.0 }
@@ -64,19 +60,40 @@ pub(crate) fn open_and_sum<D: Disk>(
     match Archive::open(alloc, disk) {
         Ok(archive) => {
             let mut archive = archive;
-            let summed = sum_archive(alloc, &mut archive, all, faults);
+            let summed = sum_archive(alloc, &mut archive, faults);
             (archive.into_disk(), summed)
         }
         Err(refused) => (refused.disk, Err(SummingRefusal::from(refused.error))),
     }
 }
 
-/// The sums of the archives on these disks: each is opened, asked and closed, one after the other.
-pub(crate) fn sum_all<D: Disk>(
+/// The sums of some archives and of the one that answered this.
+fn sums_with(
+    all: Together,
+    answer: Result<Together, SummingRefusal>,
+) -> Result<Together, SummingRefusal>
+    ensures summed { (reads : DiskReading) → IsOwnAnswer reads answer → (vs : List View) → AreSumsOf all.sums vs
+        → MatchResult result (λ more. IsSummedWith reads vs more.sums) (IsNotSummed reads vs) }
+    ensures done { OnOk result (IsOk answer) }
+    ensures cause { (before now : ℕ)
+        → HasCause (summing.Sums (together.Query ReadRefusal.Fault)) before now answer
+        → HasCause (summing.Sums (together.Query ReadRefusal.Fault)) before now result }
+{
+    let one = answer?;
+    let more = all.join(one)?;
+    Ok(more)
+}
+
+/// The sums of the archives on these disks. As many as there are processors are opened, summed and closed at once;
+/// their sums are added in the order of the disks.
+pub(crate) fn sum_all<D: Disk + Send, R: Threads + Sync>(
+    rt: &R,
     alloc: Global,
     disks: Vec<D>,
     faults: &mut Faults<D::Sealed>,
 ) -> Result<Together, SeveralRefusal>
+where
+    D::Sealed: Send + Sync,
     requires { All (λ d. (n : ℕ) → (D.marks d n).frozen ≡ false) disks.items }
     ensures summed { All (λ d. IsTrue (D.honest d)) disks.items
         → IfOk result (λ all. AreSummed (readings D.Disk disks.items) all.sums) }
@@ -87,9 +104,9 @@ pub(crate) fn sum_all<D: Disk>(
 {
     let mut all = Together::new();
     let mut place: u64 = 0;
-    for disk in disks {
-        let (_disk, summed) = open_and_sum(alloc, disk, all, faults);
-        match summed {
+    let mut sums = SumsOfEach::of(alloc, disks);
+    'answers: while let Some(answer) = sums.next(rt, alloc, faults) {
+        match sums_with(all, answer) {
             Ok(more) => all = more,
             Err(error) => return Err(SeveralRefusal::Archive(place + 1, error)),
         }

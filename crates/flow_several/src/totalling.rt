@@ -7,19 +7,22 @@ ghost use Rattle.flow_several.specs.Several.{readings, HasReadCause, IsRefusedOf
 ghost use Rattle.flow_several.specs.Several.{WritesTotals};
 
 use crate::refusal::SeveralRefusal;
-use crate::summing::{open_and_sum, sum_all};
+use crate::side_by_side::SumsOfEach;
+use crate::summing::sum_all;
 use crate::writing::{write_archive, write_sums};
 use flow_disk::{Disk, Faults};
 use flow_report::Format;
-use flow_together::Together;
 use std::alloc::Global;
 use std::io::Write;
+use std::thread::Threads;
 
 /// Sums the archives on these disks, of which nothing is frozen, and writes the totals lines of the intervals that
 /// start from `from` on and before `to`, one for each interval, domain and protocol of all of them: as `totals` writes
-/// those of one archive. Each archive is opened, asked and closed, one after the other. Nothing is written unless all
-/// are summed; the first that isn't is named.
-pub fn totals_of<D: Disk, W: Write>(
+/// those of one archive. As many archives as there are processors, at most 64, are opened, asked and closed at once,
+/// each in a thread of its own where one can be made. Nothing is written unless all are summed; the first that isn't is
+/// named.
+pub fn totals_of<D: Disk + Send, R: Threads + Sync, W: Write>(
+    rt: &R,
     alloc: Global,
     disks: Vec<D>,
     from: u64,
@@ -28,6 +31,8 @@ pub fn totals_of<D: Disk, W: Write>(
     output: &mut W,
     faults: &mut Faults<D::Sealed>,
 ) -> Result<(), SeveralRefusal>
+where
+    D::Sealed: Send + Sync,
     requires { All (λ d. (n : ℕ) → (D.marks d n).frozen ≡ false) disks.items }
     // On honest disks the lines are those of the sums of all that was read.
     ensures totals { All (λ d. IsTrue (D.honest d)) disks.items → OnOk result
@@ -40,15 +45,16 @@ pub fn totals_of<D: Disk, W: Write>(
     // It is a fault of asking exactly where a read of an archive's file failed.
     ensures cause { HasReadCause faults.old faults.new result }
 {
-    let all = sum_all(alloc, disks, faults)?;
+    let all = sum_all(rt, alloc, disks, faults)?;
     write_sums(alloc, all, from, to, format, output)
 }
 
-/// Opens the archives on these disks, of which nothing is frozen, one after the other, and writes the totals lines of
-/// each, of the intervals that start from `from` on and before `to`: as `totals` writes them, with the archive's number
-/// before the others, from 1 on. In CSV the names of the values are the first line. It ends with the first archive that
-/// can't be asked, which is named, after the lines of those before it.
-pub fn totals_of_each<D: Disk, W: Write>(
+/// Opens the archives on these disks, of which nothing is frozen, as `totals_of` does, and writes the totals lines of
+/// each, in the order of the disks, of the intervals that start from `from` on and before `to`: as `totals` writes
+/// them, with the archive's number before the others, from 1 on. In CSV the names of the values are the first line. It
+/// ends with the first archive that can't be asked, which is named, after the lines of those before it.
+pub fn totals_of_each<D: Disk + Send, R: Threads + Sync, W: Write>(
+    rt: &R,
     alloc: Global,
     disks: Vec<D>,
     from: u64,
@@ -57,6 +63,8 @@ pub fn totals_of_each<D: Disk, W: Write>(
     output: &mut W,
     faults: &mut Faults<D::Sealed>,
 ) -> Result<(), SeveralRefusal>
+where
+    D::Sealed: Send + Sync,
     requires { All (λ d. (n : ℕ) → (D.marks d n).frozen ≡ false) disks.items }
     // On honest disks the lines are those of what was read of each.
     ensures totals { All (λ d. IsTrue (D.honest d)) disks.items → OnOk result
@@ -72,9 +80,9 @@ pub fn totals_of_each<D: Disk, W: Write>(
     ensures cause { HasReadCause faults.old faults.new result }
 {
     let mut place: u64 = 0;
-    for disk in disks {
-        let (_disk, summed) = open_and_sum(alloc, disk, Together::new(), faults);
-        match summed {
+    let mut sums = SumsOfEach::of(alloc, disks);
+    'answers: while let Some(answer) = sums.next(rt, alloc, faults) {
+        match answer {
             Ok(one) => write_archive(alloc, place + 1, one, from, to, format, output)?,
             Err(error) => return Err(SeveralRefusal::Archive(place + 1, error)),
         }

@@ -14,6 +14,7 @@ use flow_report::Format;
 use flow_several::{SeveralRefusal, flows_of_each, totals_of, totals_of_each};
 use std::alloc::Global;
 use std::io::Write;
+use std::thread::Threads;
 
 /// What is asked of several archives.
 #[derive(Clone, Copy)]
@@ -36,13 +37,16 @@ pub struct Question {
 }
 
 /// Writes the answer of the archives on these disks, of which nothing is frozen.
-fn answer<D: Disk, W: Write>(
+fn answer<D: Disk + Send, R: Threads + Sync, W: Write>(
+    rt: &R,
     alloc: Global,
     disks: Vec<D>,
     question: &Question,
     output: &mut W,
     faults: &mut Faults<D::Sealed>,
 ) -> Result<(), SeveralRefusal>
+where
+    D::Sealed: Send + Sync,
     requires { All (λ d. (n : ℕ) → (D.marks d n).frozen ≡ false) disks.items }
     ensures answered { All (λ d. IsTrue (D.honest d)) disks.items → OnOk result
         (Answers question.now (readings D.Disk disks.items) (W.contents output.old) (W.contents output.new)) }
@@ -60,15 +64,19 @@ fn answer<D: Disk, W: Write>(
         format,
     } = *question;
     match wanted {
-        Wanted::Totals => totals_of(alloc, disks, from, to, format, output, faults),
-        Wanted::TotalsOfEach => totals_of_each(alloc, disks, from, to, format, output, faults),
+        Wanted::Totals => totals_of(rt, alloc, disks, from, to, format, output, faults),
+        Wanted::TotalsOfEach => {
+            totals_of_each(rt, alloc, disks, from, to, format, output, faults)
+        }
         Wanted::FlowsOfEach => flows_of_each(alloc, disks, from, to, format, output, faults),
     }
 }
 
-/// Opens folders, and then asks their archives, one after the other, in the order of the folders. A folder that can't
-/// be opened is named, the first by its number, and then nothing is asked.
-pub fn ask_folders<'a, D: Disk, O: Opener<'a, D>, W: Write>(
+/// Opens folders, and then asks their archives: for flows one after the other, for totals as many at once as there are
+/// processors, and the answers are taken in the order of the folders. A folder that can't be opened is named, the first
+/// by its number, and then nothing is asked.
+pub fn ask_folders<'a, D: Disk + Send, R: Threads + Sync, O: Opener<'a, D>, W: Write>(
+    rt: &R,
     alloc: Global,
     opener: &O,
     folders: &[&'a str],
@@ -76,6 +84,8 @@ pub fn ask_folders<'a, D: Disk, O: Opener<'a, D>, W: Write>(
     output: &mut W,
     faults: &mut Faults<D::Sealed>,
 ) -> Result<(), FoldersRefusal>
+where
+    D::Sealed: Send + Sync,
     // The disk at each place is that of the folder there; where all are honest the lines are those of what was read.
     ensures answered { OnOk result (AnswersFolders D.Disk O.opens question.now
         (map (λ folder. folder.now) folders.now) (W.contents output.old) (W.contents output.new)) }
@@ -90,6 +100,6 @@ pub fn ask_folders<'a, D: Disk, O: Opener<'a, D>, W: Write>(
     ensures cause { HasFoldersCause faults.old faults.new result }
 {
     let disks = open_all(alloc, opener, folders)?;
-    answer(alloc, disks, question, output, faults)?;
+    answer(rt, alloc, disks, question, output, faults)?;
     Ok(())
 }

@@ -1,5 +1,5 @@
 -- One archive more.
-use Rattle.std.proofs.Common.{◌≡◌, ◌∙◌, ℕ, zero, suc, List, [], ◌∷◌, ◌++◌, length, map, refl, sym, ap, subst}
+use Rattle.std.proofs.Common.{◌≡◌, ◌≢◌, ◌∙◌, ℕ, zero, suc, List, [], ◌∷◌, ◌++◌, length, map, refl, sym, ap, subst}
 use Rattle.std.proofs.Common.{arith}
 use Rattle.std.specs.Prelude.{Bool, true, false, ◌==◌, ◌&&◌, Option, Some, None, Result, Ok, Err, MatchResult}
 use Rattle.std.specs.Prelude.{IsErrAnd}
@@ -20,15 +20,16 @@ use Rattle.flow_model.specs.Views.{IsViewOf}
 use Rattle.flow_snapshot.specs.declared.shares.PartSums.{PartSums}
 use Rattle.flow_snapshot.specs.Shares.{narrow_turn, own, summed, turn_after, AllPartsFit, AreNarrow, AreWide}
 use Rattle.flow_snapshot.specs.Shares.{IsOwnRead}
-use Rattle.flow_snapshot.specs.Totals.{wide_table_in, IsTotalsRefusal}
+use Rattle.flow_snapshot.specs.Totals.{wide_table_in, IsMade, IsTotalsRefusal}
 use Rattle.flow_snapshot.proofs.Dealt.{all_read}
 use Rattle.flow_snapshot.proofs.ViewParts.{parts_of}
 use Rattle.flow_together.specs.declared.error.TogetherError.{TogetherError}
 use Rattle.flow_together.specs.declared.error.TogetherError.TheVariants.{OtherWidths, Query}
 use Rattle.flow_together.specs.Together.{added, first_width, narrow_of, of_sums, rows_of_sums, totals_in_views, wide_of}
 use Rattle.flow_together.specs.Together.{width_of_sums}
-use Rattle.flow_together.specs.Together.{same_widths, AreSumsOf, AreWithParts, BothFit, BothFitTogether}
-use Rattle.flow_together.specs.Together.{HaveWidths, IsJoint, IsJointWith, IsAddingRefused, IsUnmade, OneTableFits}
+use Rattle.flow_together.specs.Together.{same_widths, AreJoined, AreNotJoined, ArePartSums, AreSumsOf, BothFit}
+use Rattle.flow_together.specs.Together.{BothFitTogether, FitTogether}
+use Rattle.flow_together.specs.Together.{HaveWidths, IsJoiningRefused, IsJoint, IsJointWith, IsUnmade, OneTableFits}
 
 -- ---- tables
 
@@ -91,42 +92,36 @@ module _ (s : Shelf) (v : View) (is : IsViewOf s v) where
         made.0 ∙ ap (summed s.wide) (own_all p.wide) ∙ p.wide_is,
       )
 
-  pub unshared : (first : ℕ) (vs : List View) (e : ReadRefusal)
+  pub unshared : (first : ℕ) (e : ReadRefusal)
       → ((wide narrow : List (FinMap key_cmp Sums)) → AreWide s wide → AreNarrow s narrow
       → IsTotalsRefusal first (AllPartsFit s wide narrow) e)
-      → IsAddingRefused first vs v (Query e)
-  unshared first vs (query.Damaged file at) given =
+      → IsTotalsRefusal first (FitTogether (v ∷ [])) e
+  unshared first (query.Damaged file at) given =
       let p = parts_of s v is in
       let told = given p.wide p.narrow p.are_wide p.are_narrow in (
         told.0,
         told.1,
         λ fit. told.2 (subst AllFit (sym p.wide_is) fit.1, subst AllFit (sym p.narrow_is) fit.0),
       )
-  unshared first vs query.Fault given = tt
-  unshared first vs query.OutOfMemory given = tt
+  unshared first query.Fault given = tt
+  unshared first query.OutOfMemory given = tt
 
 -- the one share that was answered is that of all parts
-pub with_parts : (s : Shelf) (old : Option PartSums) (more all : PartSums) → IsOwnRead s 1 0
+pub of_parts : (s : Shelf) (sums : PartSums) → IsOwnRead s 1 0
     → ((wide narrow : List (FinMap key_cmp Sums)) → AreWide s wide → AreNarrow s narrow
-    → (more.wide ≡ summed s.wide (own 1 0 0 wide)) × (more.narrow ≡ summed s.width (own 1 0 (narrow_turn s 1) narrow)))
-    → IsJoint old more (Ok all) → AreWithParts old s (Some all)
-with_parts s old more all read given joint =
+    → (sums.wide ≡ summed s.wide (own 1 0 0 wide)) × (sums.narrow ≡ summed s.width (own 1 0 (narrow_turn s 1) narrow)))
+    → ArePartSums s sums
+of_parts s sums read given =
     let parts = all_read s 1 (omega arith)
     (λ n few. let none : 0 ≡ n = omega (arith, few) in subst (IsOwnRead s 1) none read) in
     let made = given parts.0 parts.1 parts.2 parts.3 in (
-      more,
-      all,
-      (
-        parts.0,
-        parts.1,
-        parts.2,
-        parts.3,
-        made.0 ∙ ap (summed s.wide) (own_all parts.0),
-        made.1 ∙ ap (λ (t : ℕ). summed s.width (own 1 0 t parts.1)) (one_turn (length s.merged))
-            ∙ ap (summed s.width) (own_all parts.1),
-      ),
-      joint,
-      refl,
+      parts.0,
+      parts.1,
+      parts.2,
+      parts.3,
+      made.0 ∙ ap (summed s.wide) (own_all parts.0),
+      made.1 ∙ ap (λ (t : ℕ). summed s.width (own 1 0 t parts.1)) (one_turn (length s.merged))
+          ∙ ap (summed s.width) (own_all parts.1),
     )
 
 -- ---- sums of some archives and of one more
@@ -177,7 +172,7 @@ module _ (all more : PartSums) (v u : View) (vs : List View) (narrow : all.narro
   wide_then = wide-more v u vs ∙ ap (λ (t : Table). merged t (wide_table_in u)) (sym wide)
       ∙ ap (merged all.wide) (sym own.1)
 
-pub joint_views : (all : Option PartSums) (more s : PartSums) (u : View) (vs : List View) → AreSumsOf all vs
+joint_views : (all : Option PartSums) (more s : PartSums) (u : View) (vs : List View) → AreSumsOf all vs
     → (more.narrow ≡ narrow_table_in u) × (more.wide ≡ wide_table_in u) → IsJoint all more (Ok s)
     → AreSumsOf (Some s) (vs ++ u ∷ [])
 joint_views None more s u [] are own is =
@@ -195,15 +190,15 @@ joint_views (Some all) more s u (v ∷ vs) (widths, narrow, wide) own is = by (s
       is_wide ∙ sym (wide_then all more v u vs narrow wide own),
     )
 
-pub joint_refused : (first : ℕ) (all : Option PartSums) (more : PartSums) (u : View) (vs : List View)
+joint_refused : (all : Option PartSums) (more : PartSums) (u : View) (vs : List View)
     (e : TogetherError) → AreSumsOf all vs → (more.narrow ≡ narrow_table_in u) × (more.wide ≡ wide_table_in u)
-    → IsJoint all more (Err e) → IsAddingRefused first vs u e
-joint_refused first None more u vs e are own is = absurd cc
-joint_refused first (Some all) more u [] e are own is = absurd are
-joint_refused first (Some all) more u (v ∷ vs) e (widths, narrow, wide) own is = by (same_widths all more) refl is
+    → IsJoint all more (Err e) → IsJoiningRefused vs u e
+joint_refused None more u vs e are own is = absurd cc
+joint_refused (Some all) more u [] e are own is = absurd are
+joint_refused (Some all) more u (v ∷ vs) e (widths, narrow, wide) own is = by (same_widths all more) refl is
   where
     unmade : same_widths all more ≡ true → (why : SumError) → IsUnmade (BothFit all more) why
-        → IsAddingRefused first (v ∷ vs) u (of_sums why)
+        → IsJoiningRefused (v ∷ vs) u (of_sums why)
     unmade w measure.SumSpent h = (
       same_as_first all more v u vs narrow wide own w,
       λ fit. h (
@@ -211,13 +206,45 @@ joint_refused first (Some all) more u (v ∷ vs) e (widths, narrow, wide) own is
         subst AllFit (wide_then all more v u vs narrow wide own) fit.1,
       ),
     )
-    unmade w measure.OutOfMemory h = tt
+    unmade w measure.OutOfMemory h = refl
 
-    by : (b : Bool) → same_widths all more ≡ b → IsJointWith b all more (Err e) → IsAddingRefused first (v ∷ vs) u e
-    by true w (why, h, other) = subst (IsAddingRefused first (v ∷ vs) u) (sym other) (unmade w why h)
+    by : (b : Bool) → same_widths all more ≡ b → IsJointWith b all more (Err e) → IsJoiningRefused (v ∷ vs) u e
+    by true w (why, h, other) = subst (IsJoiningRefused (v ∷ vs) u) (sym other) (unmade w why h)
     by false w h =
         let other : e ≡ OtherWidths = cc in
-        subst (IsAddingRefused first (v ∷ vs) u) (sym other) (other_than_first all more v u vs narrow wide own w)
+        subst (IsJoiningRefused (v ∷ vs) u) (sym other) (other_than_first all more v u vs narrow wide own w)
+
+-- no read is a part of it
+joint_quiet : (all : Option PartSums) (more : PartSums) (e : TogetherError) → IsJoint all more (Err e)
+    → e ≢ Query query.Fault
+joint_quiet None more e is = absurd cc
+joint_quiet (Some all) more e is = by (same_widths all more) is
+  where
+    unmade : (why : SumError) → of_sums why ≢ Query query.Fault
+    unmade measure.SumSpent = λ same. absurd cc
+    unmade measure.OutOfMemory = λ same. absurd cc
+
+    by : (b : Bool) → IsJointWith b all more (Err e) → e ≢ Query query.Fault
+    by true (why, h, other) = λ same. unmade why (sym other ∙ same)
+    by false h = λ same. absurd cc
+
+-- ---- sums of some archives and of more, which are those of one
+
+pub joined_views : (all more new : Option PartSums) (u : View) → AreSumsOf more (u ∷ []) → (vs : List View)
+    → AreSumsOf all vs → AreJoined all more new → AreSumsOf new (vs ++ u ∷ [])
+joined_views all None new u one vs are is = absurd one
+joined_views all (Some more) new u one vs are (sums, joint, is) =
+    subst (λ (o : Option PartSums). AreSumsOf o (vs ++ u ∷ [])) (sym is)
+    (joint_views all more sums u vs are (one.1, one.2) joint)
+
+pub joined_refused : (all more : Option PartSums) (e : TogetherError) (u : View) → AreSumsOf more (u ∷ [])
+    → (vs : List View) → AreSumsOf all vs → AreNotJoined all more e → IsJoiningRefused vs u e
+joined_refused all None e u one vs are is = absurd one
+joined_refused all (Some more) e u one vs are is = joint_refused all more u vs e are (one.1, one.2) is
+
+pub joined_quiet : (all more : Option PartSums) (e : TogetherError) → AreNotJoined all more e → e ≢ Query query.Fault
+joined_quiet all None e is = absurd is
+joined_quiet all (Some more) e is = joint_quiet all more e is
 
 -- ---- rows
 
@@ -254,7 +281,12 @@ rows_of_views {X} items (Some s) from to r made (v ∷ vs) (widths, narrow, wide
 
 -- ---- answers
 
-pub err_matched : {X : Type 0} (r : Result X TogetherError) (e : TogetherError) (P : X → Type 0)
-    (Q : TogetherError → Type 0) → IsErrAnd r (λ x. x ≡ e) → Q e → MatchResult r P Q
+pub err_matched : {X E : Type 0} (r : Result X E) (e : E) (P : X → Type 0) (Q : E → Type 0)
+    → IsErrAnd r (λ x. x ≡ e) → Q e → MatchResult r P Q
 err_matched (Ok x) e P Q is q = absurd is
 err_matched (Err x) e P Q is q = subst Q (sym is) q
+
+pub err_made : {X : Type 0} (first : ℕ) (fit : Type 0) (P : X → Type 0) (r : Result X ReadRefusal) (e : ReadRefusal)
+    → IsErrAnd r (λ x. x ≡ e) → IsTotalsRefusal first fit e → IsMade first fit P r
+err_made first fit P (Ok x) e is h = absurd is
+err_made first fit P (Err x) e is h = subst (IsTotalsRefusal first fit) (sym is) h

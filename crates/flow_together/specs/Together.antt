@@ -103,6 +103,12 @@ IsAddingRefused first vs u (Query e) = IsTotalsRefusal first (FitTogether (u ∷
 IsAddingRefused first vs u OtherWidths = HasSameWidths vs u → ⊥
 IsAddingRefused first vs u SumSpent = HasSameWidths vs u × (FitTogether (vs ++ u ∷ []) → ⊥)
 
+-- Why its sums, which are made, aren't: memory ran out; or the last two.
+abbrev pub IsJoiningRefused : List View → View → TogetherError → Type 0
+IsJoiningRefused vs u (Query e) = e ≡ query.OutOfMemory
+IsJoiningRefused vs u OtherWidths = HasSameWidths vs u → ⊥
+IsJoiningRefused vs u SumSpent = HasSameWidths vs u × (FitTogether (vs ++ u ∷ []) → ⊥)
+
 -- ---- sums of two
 
 abbrev pub same_widths : PartSums → PartSums → Bool
@@ -126,6 +132,16 @@ abbrev pub IsJoint : Option PartSums → PartSums → Result PartSums TogetherEr
 IsJoint None more r = r ≡ Ok more
 IsJoint (Some all) more r = IsJointWith (same_widths all more) all more r
 
+-- the sums of some archives and of more
+abbrev pub AreJoined : Option PartSums → Option PartSums → Option PartSums → Type 0
+AreJoined old None new = new ≡ old
+AreJoined old (Some more) new = (all : PartSums) × IsJoint old more (Ok all) × (new ≡ Some all)
+
+-- why there are none
+abbrev pub AreNotJoined : Option PartSums → Option PartSums → TogetherError → Type 0
+AreNotJoined old None e = ⊥
+AreNotJoined old (Some more) e = IsJoint old more (Err e)
+
 -- ---- of files, damaged or not
 
 -- the sums of all parts of an archive, each of which was read whole, with its own prefix
@@ -134,10 +150,10 @@ ArePartSums s sums =
     (wide : List (FinMap key_cmp Sums)) × (narrow : List (FinMap key_cmp Sums)) × AreWide s wide × AreNarrow s narrow
     × (sums.wide ≡ summed s.wide wide) × (sums.narrow ≡ summed s.width narrow)
 
--- the sums of some archives, and those of all parts of one more
-abbrev pub AreWithParts : Option PartSums → Shelf → Option PartSums → Type 0
-AreWithParts old s new =
-    (more : PartSums) × (all : PartSums) × ArePartSums s more × IsJoint old more (Ok all) × (new ≡ Some all)
+-- the sums of one archive, of all its parts
+abbrev pub AreOfParts : Shelf → Option PartSums → Type 0
+AreOfParts s None = ⊥
+AreOfParts s (Some sums) = ArePartSums s sums
 
 -- ---- of histories
 

@@ -1,13 +1,14 @@
 //! Sums of several archives.
 
-ghost use Rattle.std.specs.Prelude.{◌≡◌, IsTrue, List, [], ◌∷◌, ◌++◌, MatchResult, IfOk};
+ghost use Rattle.std.specs.Prelude.{◌≡◌, ◌≢◌, IsTrue, List, [], ◌∷◌, ◌++◌, MatchResult, IfOk, IfErr};
 ghost use Rattle.flow_disk.specs.Cause.{HasCause};
 ghost use Rattle.flow_measure.specs.View.{View};
 ghost use Rattle.flow_model.specs.Views.{IsViewOf};
-ghost use Rattle.flow_snapshot.specs.Totals.{first_file};
+ghost use Rattle.flow_snapshot.specs.Totals.{first_file, IsMade};
 ghost use Rattle.flow_together.specs.Together.{first_width, rows_of_sums, same_widths, totals_in_views, width_of_sums};
-ghost use Rattle.flow_together.specs.Together.{AreBoth, AreSumsOf, AreWithParts, BothFit, BothFitTogether, IsJoint};
-ghost use Rattle.flow_together.specs.Together.{IsAddingRefused, IsUnmade, OneTableFits};
+ghost use Rattle.flow_together.specs.Together.{AreBoth, AreJoined, AreNotJoined, AreOfParts, AreSumsOf, BothFit};
+ghost use Rattle.flow_together.specs.Together.{BothFitTogether, FitTogether, IsJoiningRefused, IsJoint, IsUnmade};
+ghost use Rattle.flow_together.specs.Together.{OneTableFits};
 ghost use Rattle.flow_together.specs.declared.error.TogetherError.TheVariants as together;
 
 use crate::error::TogetherError;
@@ -53,6 +54,19 @@ fn joint(all: Option<PartSums>, more: PartSums) -> Result<PartSums, TogetherErro
     }
 }
 
+/// The sums of some archives and of more.
+fn joined(all: Option<PartSums>, more: Option<PartSums>) -> Result<Option<PartSums>, TogetherError>
+    ensures { MatchResult result (AreJoined all more) (AreNotJoined all more) }
+{
+    match more {
+        None => Ok(all),
+        Some(more) => {
+            let sums = joint(all, more)?;
+            Ok(Some(sums))
+        }
+    }
+}
+
 /// The rows of sums by both widths that start from `from` on and before `to`; none where there are no sums.
 fn rows_of(alloc: Global, sums: Option<PartSums>, from: u64, to: u64) -> Result<Vec<Row>, SumError>
     ensures { MatchResult result (λ rows. rows.items ≡ rows_of_sums from to sums)
@@ -82,28 +96,37 @@ impl Together {
         Together { sums: None }
     }
 
-    /// The same with those of one more archive. Each of its files is read once. It refuses as `Snapshot::totals` does,
-    /// and where the archive has other widths, or a sum of all would pass its type.
-    pub fn add<S: SealedFile>(
-        self,
+    /// Those of one archive. Each of its files is read once. It refuses as `Snapshot::totals` does.
+    pub fn of<S: SealedFile>(
         alloc: Global,
         snapshot: &Snapshot<S>,
         faults: &mut Faults<S>,
-    ) -> Result<Together, TogetherError>
-        ensures cause { HasCause (together.Query ReadRefusal.Fault) faults.old faults.new result }
-        // On honest disks, also where files are damaged: with the sums of all parts, each of which was read whole.
-        ensures found { IsTrue snapshot.now.honest
-            → IfOk result (λ all. AreWithParts self.sums snapshot.now.shelf all.sums) }
-        // Where these are the sums of some views: those of one more, which is that of the archive's files.
-        ensures added { IsTrue snapshot.now.honest → (v : View) → IsViewOf snapshot.now.shelf v → (vs : List View)
-            → AreSumsOf self.sums vs
-            → MatchResult result (λ all. AreSumsOf all.sums (vs ++ v ∷ []))
-            (λ e. IsAddingRefused (first_file snapshot.now.shelf) vs v e) }
+    ) -> Result<Together, ReadRefusal>
+        ensures cause { HasCause ReadRefusal.Fault faults.old faults.new result }
+        // On honest disks, also where files are damaged: the sums of all parts, each of which was read whole.
+        ensures found { IsTrue snapshot.now.honest → IfOk result (λ one. AreOfParts snapshot.now.shelf one.sums) }
+        // The sums of the view of the archive's files.
+        ensures summed { IsTrue snapshot.now.honest → (v : View) → IsViewOf snapshot.now.shelf v
+            → IsMade (first_file snapshot.now.shelf) (FitTogether (v ∷ [])) (λ one. AreSumsOf one.sums (v ∷ []))
+            result }
     {
         let first = snapshot.first_file();
-        let more = snapshot.share(alloc, first, 1, 0, faults)?;
-        let sums = joint(self.sums, more)?;
+        let sums = snapshot.share(alloc, first, 1, 0, faults)?;
         Ok(Together { sums: Some(sums) })
+    }
+
+    /// The sums of these archives and of more. It refuses where those have other widths, or a sum of all would pass its
+    /// type.
+    pub fn join(self, more: Together) -> Result<Together, TogetherError>
+        ensures joined { MatchResult result (λ all. AreJoined self.sums more.sums all.sums)
+            (AreNotJoined self.sums more.sums) }
+        // Where these are the sums of some views, and more are those of one: those of one view more.
+        ensures views { (v : View) → AreSumsOf more.sums (v ∷ []) → (vs : List View) → AreSumsOf self.sums vs
+            → MatchResult result (λ all. AreSumsOf all.sums (vs ++ v ∷ [])) (IsJoiningRefused vs v) }
+        ensures quiet { IfErr result (λ e. e ≢ together.Query ReadRefusal.Fault) }
+    {
+        let sums = joined(self.sums, more.sums)?;
+        Ok(Together { sums })
     }
 
     /// The width of the first archive's intervals, in seconds; 0 before the first.

@@ -2,7 +2,6 @@ use Rattle.std.proofs.Common.{refl, subst}
 use Rattle.std.proofs.KnownBytes.{Appends-nil, Keeps-refl}
 use Rattle.std.specs.Io.KnownBytes.{Appends}
 use Rattle.std.specs.Prelude.{Ok, Err}
-use Rattle.flow_report.specs.Writing.{AppendsFront}
 use Rattle.flow_program.proofs.checks.check_one.Goals as goal
 
 pub returns-in-Err-clause-done : goal.returns-in-Err-clause-done

@@ -1,7 +1,7 @@
 use Rattle.std.proofs.Common.{ap₂, ◌≡◌, ◌∙◌, codes}
 use Rattle.std.proofs.lemmas.Result.{IfOk-weaker}
 use Rattle.clap.specs.Simple.{app_of, with_subcommand}
-use Rattle.flow_program.specs.CommandLine.{asking_shape, records_shape, totals_shape, with_archives}
+use Rattle.flow_program.specs.CommandLine.{asking_shape, totals_shape, with_archives}
 use Rattle.flow_program.proofs.grammar.with_queries.Goals as goal
 
 pub returns : goal.returns

@@ -1,13 +1,13 @@
 use Rattle.std.proofs.Common.{◌∙◌, ap, subst, sym}
 use Rattle.flow_manifest.specs.Slots.{reads_of}
-use Rattle.flow_several.specs.Several.{IsNotSummed, KeepsArchive}
+use Rattle.flow_several.specs.Several.{IsNotSummedAlone, KeepsArchive}
 use Rattle.flow_several.proofs.Faults.{asked_alone}
 use Rattle.flow_several.proofs.summing.open_and_sum.Goals as goal
 
 pub returns-in-Ok-clause-summed : goal.returns-in-Ok-clause-summed
-returns-in-Ok-clause-summed g c = λ honest vs are.
+returns-in-Ok-clause-summed g c = λ honest.
     c.sum_archive-summed.ensures.summed (c.in-Ok.ensures.honest ∙ honest) (reads_of (g.D.Disk.held c.args.disk))
-    (c.in-Ok.ensures.read honest) vs are
+    (c.in-Ok.ensures.read honest)
 
 pub returns-in-Ok-clause-any_moment : goal.returns-in-Ok-clause-any_moment
 returns-in-Ok-clause-any_moment g c =
@@ -15,9 +15,8 @@ returns-in-Ok-clause-any_moment g c =
     (sym (c.into_disk.ensures ∙ c.sum_archive-summed.ensures.disk)) c.in-Ok.ensures.any_moment
 
 pub returns-in-Err-clause-summed : goal.returns-in-Err-clause-summed
-returns-in-Err-clause-summed g c = λ honest vs are.
-    subst (λ e. IsNotSummed (reads_of (g.D.Disk.held c.args.disk)) vs e) (sym c.from.ensures)
-    (c.in-Err.ensures.told honest)
+returns-in-Err-clause-summed g c = λ honest.
+    subst (IsNotSummedAlone (reads_of (g.D.Disk.held c.args.disk))) (sym c.from.ensures) (c.in-Err.ensures.told honest)
 
 pub returns-in-Ok-clause-opening : goal.returns-in-Ok-clause-opening
 returns-in-Ok-clause-opening g c =

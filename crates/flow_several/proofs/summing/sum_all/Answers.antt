@@ -1,54 +1,70 @@
-use Rattle.std.proofs.Common.{◌≡◌, ◌∙◌, ◌+◌, [], ◌∷◌, ◌++◌, ℕ, length, sym, ap, subst}
-use Rattle.std.specs.Prelude.{IsTrue, MatchResult}
-use Rattle.std.proofs.lemmas.List.{length_push}
-use Rattle.std.proofs.lemmas.Iterator.Adapters.{YieldsList-from_vec}
-use Rattle.std.proofs.lemmas.Iterator.Consumers.{YieldsList-turn}
-use Rattle.flow_manifest.specs.Slots.{reads_of}
-use Rattle.flow_several.specs.Several.{readings, IsFirstNotSummed, IsNotSummed, IsSummedWith}
-use Rattle.flow_several.proofs.Faults.{none_failed, refused_by}
-use Rattle.flow_several.proofs.OneByOne.{at_turn, first_refused, summed_more}
+use Rattle.std.proofs.Common.{◌≡◌, ◌∙◌, ◌+◌, Ok, ap, arith, length, refl, subst, sym}
+use Rattle.std.specs.Prelude.{IsOk, OnOk}
+use Rattle.flow_several.specs.Several.{readings}
+use Rattle.flow_several.specs.Turns.{Awaits}
+use Rattle.flow_several.proofs.Faults.{none_failed, nothing_failed, refused_by}
+use Rattle.flow_several.proofs.InTurn.{all_left, joined_err, joined_ok, ready_first, when_done}
+use Rattle.flow_several.proofs.OneByOne.{all_summed, first_refused, none_summed, summed_more}
 use Rattle.flow_several.proofs.summing.sum_all.Goals as goal
+
+pub answers-init : goal.answers-init
+answers-init g c =
+    let disks = c.args.disks.items in
+    let sums = c.of-sums.result in
+    let none = c.of-sums.ensures.answers in
+    let left = c.of-sums.ensures.left in
+    record {
+      count = omega (arith, ap length none, ap length left);
+      summed = λ honest.
+          none_summed (readings g.D.Disk disks) (Awaits g.D.Disk sums.answers.items sums.left.items)
+          c.new-all.result.sums c.new-all.ensures
+          (all_left g.D.Disk sums.answers.items sums.left.items disks none left honest);
+      ready = ready_first g.D.Disk sums.answers.items sums.left.items disks none left c.requires;
+      faults = refl;
+    }
+
+pub answers-preserved : goal.answers-preserved
+answers-preserved g c =
+    let old = c.answers.sums in
+    let new = c.next.new.self in
+    let waits = Awaits g.D.Disk old.answers.items old.left.items in
+    let later = Awaits g.D.Disk new.answers.items new.left.items in
+    let done = subst (λ r. OnOk r (IsOk c.in-Some.answer)) c.in-Ok.is c.sums_with.ensures.done in
+    let few = when_done c.in-Some.answer _ done c.in-Some.ensures.count in
+    record {
+      count = omega (arith, few, c.answers.invariant.count);
+      summed = λ honest.
+          summed_more (readings g.D.Disk c.args.disks.items) waits c.answers.place c.answers.all.sums
+          (c.answers.invariant.summed honest) later c.in-Ok.more.sums
+          (joined_ok waits later c.in-Some.answer c.in-Some.ensures.answer c.answers.all c.sums_with.result
+          c.sums_with.ensures.summed c.in-Ok.more c.in-Ok.is c.sums_with.ensures.done);
+      ready = c.next.ensures.ready;
+      faults = none_failed c.in-Ok.more _ _ c.sums_with.result c.in-Ok.is
+          (c.sums_with.ensures.cause _ _ c.in-Some.ensures.cause) ∙ c.answers.invariant.faults;
+    }
 
 pub returns-in-Err-clause-refused : goal.returns-in-Err-clause-refused
 returns-in-Err-clause-refused g c = λ honest.
-    let disks = c.args.disks.items in
-    let n = length c.loop-disk.yielded in
-    let gives = c.into_iter-disk-iterator.ensures.into_iter_gives in
-    let turn = YieldsList-turn (YieldsList-from_vec {s = c.into_iter-disk-iterator.result} disks gives.0
-    (gives.1 ∙ c.args.disks.ok.0)) c.loop-disk.yielded c.loop-disk.disk-iterator c.loop-disk.yielded_by
-    c.next.result c.next.new.self c.in-Some.disk c.in-Some.is c.next.ensures.steps in
-    let own = at_turn (λ d. IsTrue (g.D.Disk.honest d)) disks n c.in-Some.disk turn.0 turn.1 honest in
-    subst (λ k. IsFirstNotSummed (readings g.D.Disk disks) (k + 1) c.in-Err.error) (sym c.loop-disk.invariant.place)
-    (first_refused (λ d. reads_of (g.D.Disk.held d)) disks n c.in-Some.disk c.loop-disk.all.sums c.in-Err.error turn.0
-    turn.1 (c.loop-disk.invariant.summed honest) (λ vs are.
-    subst (λ r. MatchResult r (λ more. IsSummedWith (reads_of (g.D.Disk.held c.in-Some.disk)) vs more.sums)
-    (IsNotSummed (reads_of (g.D.Disk.held c.in-Some.disk)) vs)) c.in-Err.is
-    (c.open_and_sum-disk.ensures.summed own vs are)))
+    let old = c.answers.sums in
+    let new = c.next.new.self in
+    let waits = Awaits g.D.Disk old.answers.items old.left.items in
+    let later = Awaits g.D.Disk new.answers.items new.left.items in
+    first_refused (readings g.D.Disk c.args.disks.items) waits c.answers.place c.answers.all.sums
+    (c.answers.invariant.summed honest) c.in-Err.error
+    (joined_err waits later c.in-Some.answer c.in-Some.ensures.answer c.answers.all c.sums_with.result
+    c.sums_with.ensures.summed c.in-Err.error c.in-Err.is)
 
 pub returns-in-Err-clause-cause : goal.returns-in-Err-clause-cause
 returns-in-Err-clause-cause g c =
-    refused_by _ c.in-Err.error _ _ _ _ c.loop-disk.invariant.faults c.in-Err.is c.open_and_sum-disk.ensures.cause
+    refused_by _ c.in-Err.error _ _ _ _ c.answers.invariant.faults c.in-Err.is
+    (c.sums_with.ensures.cause _ _ c.in-Some.ensures.cause)
 
-pub loop-disk-preserved : goal.loop-disk-preserved
-loop-disk-preserved g c =
-    let disks = c.args.disks.items in
-    let n = length c.loop-disk.yielded in
-    let gives = c.into_iter-disk-iterator.ensures.into_iter_gives in
-    let turn = YieldsList-turn (YieldsList-from_vec {s = c.into_iter-disk-iterator.result} disks gives.0
-    (gives.1 ∙ c.args.disks.ok.0)) c.loop-disk.yielded c.loop-disk.disk-iterator c.loop-disk.yielded_by
-    c.next.result c.next.new.self c.in-Some.disk c.in-Some.is c.next.ensures.steps in
-    let longer : length (c.loop-disk.yielded ++ c.in-Some.disk ∷ []) ≡ n + 1 =
-    length_push c.loop-disk.yielded c.in-Some.disk in
-    record {
-      place = ap (λ (k : ℕ). k + 1) c.loop-disk.invariant.place ∙ sym longer;
-      summed = λ honest.
-          let own = at_turn (λ d. IsTrue (g.D.Disk.honest d)) disks n c.in-Some.disk turn.0 turn.1 honest in
-          summed_more (λ d. reads_of (g.D.Disk.held d)) disks n
-          (length (c.loop-disk.yielded ++ c.in-Some.disk ∷ [])) c.in-Some.disk c.loop-disk.all.sums c.in-Ok.more.sums
-          turn.0 turn.1 longer (c.loop-disk.invariant.summed honest) (λ vs are.
-          subst (λ r. MatchResult r (λ more. IsSummedWith (reads_of (g.D.Disk.held c.in-Some.disk)) vs more.sums)
-          (IsNotSummed (reads_of (g.D.Disk.held c.in-Some.disk)) vs)) c.in-Ok.is
-          (c.open_and_sum-disk.ensures.summed own vs are));
-      faults = none_failed c.in-Ok.more _ _ (c.open_and_sum-disk.result).1 c.in-Ok.is c.open_and_sum-disk.ensures.cause
-          ∙ c.loop-disk.invariant.faults;
-    }
+pub returns-clause-summed : goal.returns-clause-summed
+returns-clause-summed g c = λ honest.
+    let old = c.answers.sums in
+    all_summed (readings g.D.Disk c.args.disks.items) (Awaits g.D.Disk old.answers.items old.left.items)
+    c.answers.place c.answers.all.sums (c.answers.invariant.summed honest) c.in_default.ensures.end
+
+pub returns-clause-cause : goal.returns-clause-cause
+returns-clause-cause g c =
+    nothing_failed _ _ (Ok c.answers.all) (c.in_default.ensures.still ∙ c.answers.invariant.faults) tt

@@ -1,15 +1,21 @@
-use Rattle.std.proofs.Common.{◌≡◌, length, map, take}
+use Rattle.std.proofs.Common.{◌≡◌, ◌+◌, length}
 use Rattle.std.specs.Prelude.{IsTrue}
 use Rattle.std.specs.List.{All}
-use Rattle.flow_manifest.specs.Slots.{reads_of}
-use Rattle.flow_several.specs.Several.{AreSummed}
+use Rattle.flow_several.specs.Several.{readings}
+use Rattle.flow_several.specs.Turns.{AreReady, Awaits}
+use Rattle.flow_several.proofs.OneByOne.{Summed}
 use Rattle.flow_several.proofs.summing.sum_all.Given as goal
 
--- the archives so far are summed
-abbrev pub invariant-loop-disk : goal.invariant-loop-disk
-invariant-loop-disk g l = record {
-  place : l.place ≡ length l.yielded;
+-- the archives so far are summed, and the others are waited for
+abbrev pub invariant-answers : goal.invariant-answers
+invariant-answers g l = record {
+  count : l.place + (length l.sums.answers.items + length l.sums.left.items) ≡ length l.fn.disks.items;
   summed : All (λ d. IsTrue (g.D.Disk.honest d)) l.fn.disks.items
-      → AreSummed (map (λ d. reads_of (g.D.Disk.held d)) (take (length l.yielded) l.fn.disks.items)) l.all.sums;
+      → Summed (readings g.D.Disk l.fn.disks.items) (Awaits g.D.Disk l.sums.answers.items l.sums.left.items) l.place
+      l.all.sums;
+  ready : AreReady g.D.Disk l.sums.answers.items l.sums.left.items;
   faults : l.faults ≡ l.fn.faults;
 }
+
+abbrev pub decreases-answers : goal.decreases-answers
+decreases-answers g l = length l.sums.answers.items + length l.sums.left.items

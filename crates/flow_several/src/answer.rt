@@ -1,0 +1,12 @@
+//! What an archive answers by itself.
+
+use crate::refusal::SummingRefusal;
+use flow_disk::{Faults, SealedFile};
+use flow_together::Together;
+
+/// What an archive answers by itself, and how many of its reads failed.
+#[derive(Drop)]
+pub(crate) struct Answer<S: SealedFile> {
+    pub sums: Result<Together, SummingRefusal>,
+    pub faults: Faults<S>,
+}
