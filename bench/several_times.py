@@ -1,9 +1,9 @@
 #!/usr/bin/env python3
 """several_times.py PROGRAM [ARCHIVES [OCTETS [FOLDER]]]: `totals` of several archives (4, of 100 MB of messages each,
-nothing rolled), of all together and of each with its number, by one processor and by four, which the program asks the
-system for; and one after the other of each alone. Prints the least wall time of several turns, the most memory of each,
-and the ratio of the times by one and by four; fails where not all of them have the same lines. The archives are made
-in FOLDER (the system's for temporary files), which is left empty."""
+nothing rolled, copies of one), of all together and of each with its number, by one processor and by four, which the
+program asks the system for; and of one alone. Prints the least wall time of several turns, the most memory of each, and
+how many times as long it takes by one as by four; fails where these differ in what they write. The archives are made in
+FOLDER (the system's for temporary files), which is left empty."""
 import hashlib
 import os
 import shutil
@@ -61,8 +61,9 @@ def main():
     place = tempfile.mkdtemp(prefix="several.", dir=sys.argv[4] if len(sys.argv) > 4 else None)
     try:
         folders = [os.path.join(place, "archive%d" % n) for n in range(count)]
-        for folder in folders:
-            archive(program, folder, octets)
+        archive(program, folders[0], octets)
+        for folder in folders[1:]:
+            shutil.copytree(folders[0], folder)
         ways = {}
         for question, words in (("together", []), ("each", ["--each"])):
             for processors in (1, 4):
