@@ -21,7 +21,7 @@ _flowvault() {
         totals) words='--since --until --csv --json --utc --workers --each' paths=-d ;;
         flows) words='--since --until --csv --json --utc' paths=-d ;;
         records) words='--since --until --csv --json --utc' paths=-d ;;
-        export) words='--from --to' paths=-d ;;
+        export) words='--from --to --since --until' paths=-d ;;
         templates) paths=-d ;;
         feed) words='--keep --merge --from --warn --datagrams --end-on' paths=-f ;;
         shell) words='--keep --merge' paths=-d ;;

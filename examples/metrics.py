@@ -32,11 +32,14 @@ METRICS = (
     ("flowvault_sets_without_template_total", "counter", "Data Sets without a template in force, which aren't read."),
     ("flowvault_sequence_gaps_total", "counter", "Messages whose Sequence Number is past the one that was due."),
     ("flowvault_missing_records_total", "counter", "Records that Sequence Numbers leave out."),
+    ("flowvault_placed_flows_total", "counter", "Flows without a start time of their own, summed at the Export Time."),
+    ("flowvault_uncounted_flows_total", "counter", "Flows whose octets or packets are only in elements not summed."),
+    ("flowvault_sampled_flows_total", "counter", "Flows with a sampling rate, which no sum is multiplied by."),
     ("flowvault_refused_datagrams_total", "counter", "Datagrams that were passed over, by their refusal."),
     ("flowvault_ended_files_total", "counter", "FILEs that ended: fed, or by the refusal that stopped them."),
 )
 OF_CHECK = [name for name, _, _ in METRICS[3:7]]
-OF_LOSSES = dict(zip(("sets", "gaps", "records"), [name for name, _, _ in METRICS[9:12]]))
+OF_LOSSES = dict(zip(("sets", "gaps", "records", "placed", "uncounted", "sampled"), [it[0] for it in METRICS[9:15]]))
 
 
 class Samples:
@@ -83,7 +86,7 @@ def of_check(samples, folder, line):
 
 
 def of_losses(samples, folder, lines):
-    """The lines `sets N`, `gaps N`, `records N`, and `datagrams N NUMBER NAME`."""
+    """The lines of counts, as `sets N`, and `datagrams N NUMBER NAME`."""
     for kind, count, *refusal in map(str.split, lines):
         if kind in OF_LOSSES:
             samples.set(OF_LOSSES[kind], int(count), archive=folder)

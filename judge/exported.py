@@ -6,6 +6,11 @@ of messages of each. What comes must be, to the octet, the templates that an ind
 is fed to a new archive, which must take all of it in, and whose flows and totals must be those of just these messages.
 `templates` must be the export of no message, after all. Messages that are rolled must be refused by 52.
 
+Spans of time are exported likewise: what comes must be the messages of which some flow starts in the span, by the same
+reader, and between the first and the last of these those with Sets of templates, after the templates in force before
+the first. 52 must come exactly where an interval of the sums of rolled messages, which are merged in the end, meets the
+span.
+
 Other readers of IPFIX are given some of the Files: tshark, libfixbuf's ipfixDump, and python3-ipfix, where they are
 installed; they must count as many messages as the independent reader, and find nothing malformed.
 
@@ -20,11 +25,12 @@ import struct
 import subprocess
 import sys
 import tempfile
+import time
 
 sys.path.insert(0, os.path.join(os.path.dirname(os.path.abspath(__file__)), "..", "examples"))
 import read_archive  # noqa: E402
 
-SECONDS, WIDTH, LEAST = 120, 300, 65_535
+SECONDS, WIDTH, WIDE, LEAST = 120, 300, 86_400, 65_535
 ALL = ("0", "4294967296")
 TIME = 1_700_000_000
 
@@ -112,6 +118,27 @@ def sums_of(flows):
                    for key, row in sorted(rows.items()))
 
 
+def meets(flows, width, span):
+    """Whether an interval of the sums of these flows has a second of a span."""
+    starts = (flow[0] - flow[0] % width for flow in flows)
+    return any(max(span[0], start) < min(span[1], start + width) for start in starts)
+
+
+def has_templates(message):
+    """Whether a message has a Template Set or an Options Template Set."""
+    at = 16
+    while at < len(message):
+        number, length = struct.unpack(">HH", message[at:at + 4])
+        if number in (2, 3):
+            return True
+        at += length
+    return False
+
+
+def moment(second):
+    return time.strftime("%Y-%m-%dT%H:%M:%SZ", time.gmtime(second))
+
+
 def messages_of(octets):
     found, at = [], 0
     while at < len(octets):
@@ -196,7 +223,7 @@ class Trials:
         got = self.run("feed", folder, "-", "--keep", 2**32 - 1, given=b"".join(messages))
         return got.stdout == b"fed 1 %d\n" % len(messages)
 
-    def feeds_again(self, what, octets, flows):
+    def feeds_again(self, what, octets, flows, span=ALL):
         """What was exported is taken in by a new archive, whose flows are those of the messages."""
         with tempfile.TemporaryDirectory() as folder:
             again = os.path.join(folder, "again")
@@ -205,6 +232,8 @@ class Trials:
                 return print("%s: isn't taken in" % what)
             self.answers(what + ", flows", self.run("flows", again, *ALL), lines_of(flows).encode())
             self.answers(what + ", totals", self.run("totals", again, *ALL), sums_of(flows).encode())
+            within = [flow for flow in flows if int(span[0]) <= flow[0] < int(span[1])]
+            self.answers(what + ", of the span", self.run("flows", again, *span), lines_of(within).encode())
             path = os.path.join(folder, "part")
             with open(path, "wb") as file:
                 file.write(octets)
@@ -229,25 +258,56 @@ class Trials:
         if self.answers(what, got, wanted):
             self.feeds_again(what, wanted, [flow for flows in model.flows[begin:end] for flow in flows])
 
+    def exports_by_time(self, archive, seed, messages, model, cuts, span):
+        """The messages of a span of time; `cuts` are how many are in sums over wide intervals, and in sums at all."""
+        self.cases += 1
+        words = ["--since", moment(span[0])] * (span[0] > 0) + ["--until", moment(span[1])] * (span[1] < 2**32)
+        what = "archive %d: %s" % (seed, " ".join(words))
+        got = self.run("export", archive, *words)
+        wide, summed = ([flow for flows in model.flows[a:b] for flow in flows] for a, b in ((0, cuts[0]), cuts))
+        if meets(wide, WIDE, span) or meets(summed, WIDTH, span):
+            said = b"flowvault: 52 Rolled %d\nflowvault: see: flowvault explain 52\n" % cuts[1]
+            return self.answers(what, got, b"", 1, said)
+        has = [i for i in range(cuts[1], len(messages)) if any(span[0] <= flow[0] < span[1] for flow in model.flows[i])]
+        taken = [i for i in range(has[0], has[-1] + 1) if i in has or has_templates(messages[i])] if has else []
+        wanted = model.before[has[0] if has else -1] + b"".join(messages[i] for i in taken)
+        if self.answers(what, got, wanted):
+            self.feeds_again(what, wanted, [flow for i in taken for flow in model.flows[i]], span)
+
+    def rolls(self, archive, keep, merged):
+        """Rolls all segments but so many, after all that is rolled was merged, where that is asked for. It answers how
+        many messages are in sums over wide intervals then, and in sums at all."""
+        cut = int(self.run("check", archive).stdout.split()[2])
+        if merged:
+            self.run("merge", archive, 0)
+        self.run("roll", archive, keep)
+        return (cut if merged else 0), int(self.run("check", archive).stdout.split()[2])
+
     def archive(self, seed, folder):
-        """An archive of random messages, exported by spans, before some segments are rolled and after it."""
+        """An archive of random messages, exported by numbers and by time, before some segments are rolled, after it,
+        and once these are merged."""
         chosen, exporter = random.Random(-seed), Exporter(seed)
         messages = [exporter.message() for _ in range(chosen.choice((1, 2, 40, 150)))]
         model, archive = Model(messages), os.path.join(folder, "a")
         if not self.make(archive, messages):
             self.differ += 1
             return print("archive %d: isn't fed" % seed)
-        cut = 0
-        for _ in range(2):
+        wide, cut = 0, 0
+        for merged in (False, True, None):
             self.exports(archive, seed, messages, model, cut, None, None)
             self.exports(archive, seed, messages, model, cut, len(messages) + 1, None)
-            for _ in range(8):
+            for _ in range(5):
                 first = chosen.randrange(1, len(messages) + 2)
                 last = chosen.choice((None, first - 1, chosen.randrange(first, len(messages) + 3)))
                 self.exports(archive, seed, messages, model, cut, chosen.choice((first, first, None)), last)
+            for _ in range(5):
+                first = chosen.choice((0, TIME + chosen.randrange(-20_000, 120_000)))
+                last = chosen.choice((2**32, max(first, TIME) + chosen.choice((1, 30, 300, 3_000, 100_000))))
+                if (first, last) != (0, 2**32):
+                    self.exports_by_time(archive, seed, messages, model, (wide, cut), (first, last))
             self.answers("archive %d: templates" % seed, self.run("templates", archive), model.before[-1])
-            self.run("roll", archive, chosen.randrange(3))
-            cut = int(self.run("check", archive).stdout.split()[2])
+            if merged is not None:
+                wide, cut = self.rolls(archive, chosen.randrange(3), merged)
 
 
 def main():

@@ -3,9 +3,9 @@
 datagrams, that stay open. What was written to them is counted before they end, each count goes up and never down, and
 after the end of one of them its counts are still there.
 
-Beside it `PROGRAM feed` reads two pipes that stay open, of messages and of datagrams, with `--warn` and without: more
-than a minute after they were begun the next message brings a line of what they lack so far, where warnings are asked
-for, and none before; a minute without more brings none.
+Beside it `PROGRAM feed` reads pipes that stay open, of messages and of datagrams, with `--warn` and without: more than a
+minute after they were begun the next message brings a line of what they lack so far, and of flows that are summed
+otherwise, where warnings are asked for, and none before; a minute without more brings none.
 
 It prints each difference, and ends with 'N cases of losses: M differ'; its status is 0 where M is 0, else 1."""
 import os
@@ -18,7 +18,7 @@ import time
 
 SECONDS = 30
 TIME = 1_700_000_000
-NONE = ["sets 0", "gaps 0", "records 0", "done 0"]
+NONE = ["sets 0", "gaps 0", "records 0", "placed 0", "uncounted 0", "sampled 0", "done 0"]
 
 
 def message(domain, sequence, sets):
@@ -27,6 +27,8 @@ def message(domain, sequence, sets):
 
 FLOW = struct.pack(">HHIBII", 256, 17, TIME, 6, 1500, 10)
 TEMPLATE = struct.pack(">12H", 2, 24, 256, 4, 150, 4, 4, 1, 1, 4, 2, 4)
+# Of two flows: without a start, octets in octetTotalCount alone, and a sampling interval.
+OTHERWISE = struct.pack(">8H", 2, 16, 257, 2, 85, 4, 34, 4) + struct.pack(">HHIIII", 257, 20, 1500, 10, 1500, 10)
 
 
 class Shell:
@@ -67,7 +69,7 @@ def counts_of(lines):
     for words in (line.split() for line in lines):
         if words[0] == "datagrams":
             counts[" ".join(words[2:])] = int(words[1])
-        elif words[0] in ("sets", "gaps", "records"):
+        elif words[0] in ("sets", "gaps", "records", "placed", "uncounted", "sampled"):
             counts[words[0]] = int(words[1])
     return counts
 
@@ -83,16 +85,19 @@ def asked(shell, folder):
         ends.append(os.open(path, os.O_WRONLY))
     stream, packets = ends
     os.write(stream, message(7, 0, FLOW))
-    wanted = ["sets 1", "domain 7", "gaps 0", "records 0", "done 0"]
+    wanted = ["sets 1", "domain 7", *NONE[1:]]
     yield "after one message", *both(shell.until(wanted), wanted)
     # In domain 7, 1 is due, and 5 comes.
     os.write(stream, message(7, 0, TEMPLATE + FLOW))
     os.write(stream, message(7, 5, FLOW))
-    wanted = ["sets 1", "domain 7", "gaps 1", "records 4", "done 0"]
+    wanted[2:4] = ["gaps 1", "records 4"]
     yield "after a gap", *both(shell.until(wanted), wanted)
     os.write(packets, b"\x00")
-    wanted[4:] = ["datagrams 1 1 Short", "done 0"]
+    wanted[7:] = ["datagrams 1 1 Short", "done 0"]
     yield "after a datagram", *both(shell.until(wanted), wanted)
+    os.write(stream, message(7, 6, OTHERWISE))
+    wanted[4:7] = ["placed 2", "uncounted 2", "sampled 2"]
+    yield "after flows that are summed otherwise", *both(shell.until(wanted), wanted)
     os.write(packets, message(8, 0, FLOW))
     wanted[0] = "sets 2"
     yield "after a message of another domain", *both(shell.until(wanted), wanted)
@@ -106,7 +111,7 @@ def asked(shell, folder):
     wanted[0] = "sets 3"
     yield "after more of the other", *both(shell.until(wanted), wanted)
     os.close(stream)
-    yield "the end of both", shell.ask("wait"), ["fed 1 4", "done 0"], False
+    yield "the end of both", shell.ask("wait"), ["fed 1 5", "done 0"], False
     yield "after the end of both", shell.ask("losses"), wanted, False
     yield "quit", shell.ask("quit"), ["done 0"], False
 
@@ -162,17 +167,20 @@ LATER = 63
 
 
 def begun(program, place):
-    """Feeds that are under way, each with a message that lacks a template."""
+    """Feeds that are under way: each has a message that lacks a template, a datagram that is refused, a message that
+    lacks nothing, or flows that are summed otherwise."""
     feeds = {
         "warned": Feeding(program, place, "warned", ["--warn"]),
         "not warned": Feeding(program, place, "quiet", []),
         "datagrams": Feeding(program, place, "datagrams", ["--warn", "--datagrams"]),
         "nothing lacks": Feeding(program, place, "whole", ["--warn"]),
+        "summed otherwise": Feeding(program, place, "otherwise", ["--warn"]),
     }
     for name in ("warned", "not warned"):
         feeds[name].write(message(7, 0, FLOW))
     feeds["datagrams"].write(b"\x00")
     feeds["nothing lacks"].write(message(7, 0, TEMPLATE + FLOW))
+    feeds["summed otherwise"].write(message(7, 0, OTHERWISE))
     return feeds
 
 
@@ -186,12 +194,16 @@ def warned(feeds):
         feeds[name].write(message(8, 0, FLOW))
     feeds["datagrams"].write(message(7, 0, TEMPLATE + FLOW))
     feeds["nothing lacks"].write(message(7, 1, FLOW))
+    feeds["summed otherwise"].write(message(7, 2, OTHERWISE))
+    flows = ("4 flows have no start time of their own; 4 flows have octets or packets only in elements that aren't summed; "
+             "4 flows have a sampling rate")
     lacks = ": 1 data sets of domain 7 had no template, and 1 of other domains"
     wanted = {
         "warned": [first + " so far" + lacks],
         "datagrams": [first + " so far: datagrams passed over: 1 by 1 Short"],
         "not warned": [],
         "nothing lacks": [],
+        "summed otherwise": [first + " so far: " + flows],
     }
     for name, lines in wanted.items():
         yield name, feeds[name].lines_at(LATER, lines), lines
@@ -202,6 +214,7 @@ def warned(feeds):
         "datagrams": ["fed 1 1\n", *wanted["datagrams"], first + ": datagrams passed over: 1 by 1 Short"],
         "not warned": ["fed 1 3\n"],
         "nothing lacks": ["fed 1 2\n"],
+        "summed otherwise": ["fed 1 2\n", *wanted["summed otherwise"], first + ": " + flows],
     }
     for name, lines in at_end.items():
         yield name + ", at the end", feeds[name].ended(), lines

@@ -21,6 +21,7 @@ LIMIT = 1 << 20
 
 # How often a command goes through all files: an opening does once, and what is asked then, times of flows among it,
 # once more. An export goes through the file of its first message twice more: for the templates before it, and to write.
+# One by a span of time goes through all that may have flows of it before that, to find its messages.
 RUNS = (
     (1, ("check", "a")),
     (2, ("check", "a", "--files")),
@@ -29,6 +30,7 @@ RUNS = (
     (2, ("flows", "a", *ALL)),
     (2, ("records", "a", *ALL)),
     (3, ("export", "a")),
+    (4, ("export", "a", "--since", "1970-01-01")),
     (1, ("templates", "a")),
     (2, ("shell", "a")),
     (2, ("roll", "a", "0")),

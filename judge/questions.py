@@ -26,7 +26,7 @@ import time
 SECONDS = 120
 ALL = ("0", "4294967296")
 QUESTIONS = (("check",), ("check", "--files"), ("totals", *ALL), ("totals", *ALL, "--workers", "1"), ("records", *ALL),
-             ("export",), ("templates",), ("flows", *ALL))
+             ("export",), ("export", "--until", "2023-11-14"), ("templates",), ("flows", *ALL))
 NOTHING = "4294967295"
 IN_USE = ("flowvault: 30 Fault\nflowvault: the folder is in use, by a flowvault that still runs\n"
           "flowvault: see: flowvault explain 30\n")

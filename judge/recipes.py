@@ -144,9 +144,12 @@ def measured(trial, words):
 
 def metrics(trial, messages):
     """What metrics.py writes, in turn of archives that are well, in use, damaged and not there, and of one to which
-    Files are fed that lack a template and a message, and what is none."""
+    Files are fed that lack a template and a message, and what is none, and two flows without a start, whose octets are in
+    octetTotalCount alone, with a sampling interval."""
+    sets = struct.pack(">8H", 2, 16, 257, 2, 85, 4, 34, 4) + struct.pack(">HHIIII", 257, 20, 1500, 10, 1500, 10)
+    otherwise = struct.pack(">HHIII", 10, 16 + len(sets), FROM, 0, 8) + sets
     for name, octets in (("three", b"".join(messages[:3])), ("lacking", messages[1] + messages[0] + messages[2]),
-                         ("octet", b"\x00"), ("cut", messages[0][:20])):
+                         ("octet", b"\x00"), ("cut", messages[0][:20]), ("otherwise", otherwise)):
         with open(os.path.join(trial.place, name), "wb") as file:
             file.write(octets)
     trial.run("for it in watched lossy; do mkdir $it && flowvault create $it 300; done && flowvault feed watched three"
@@ -168,6 +171,8 @@ def metrics(trial, messages):
          {"sets_without_template_total": 1, "sequence_gaps_total": 1, "missing_records_total": FLOWS}),
         ("octet --datagrams", 0, "fed 1 0", "fed", {'refused_datagrams_total{refusal="1 Short"}': 1}),
         ("cut", 1, "stopped 1 0 15 Cut", "15 Cut", {}),
+        ("otherwise", 0, "fed 1 1", "fed", {"messages_total": 4, "placed_flows_total": 2, "uncounted_flows_total": 2,
+                                            "sampled_flows_total": 2}),
     ):
         wanted = {**well, **lost, 'ended_files_total{ending="%s"}' % ending: 1}
         trial.compare("metrics, fed " + words, (status, line + "\n", wanted), measured(trial, "lossy --feed " + words))

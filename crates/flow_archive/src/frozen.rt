@@ -25,7 +25,7 @@ ghost use Rattle.flow_archive.specs.Frozen as own;
 
 use crate::sources::{add_file, add_segment};
 use bytes::Bytes;
-use flow_disk::{Faults, SealedFile};
+use flow_disk::{Faults, SealedFile, Window};
 use flow_manifest::{Entry, Kind, Manifest};
 use flow_measure::{PartSpan, Rows};
 use flow_refusals::SumRefusal;
@@ -171,12 +171,13 @@ impl<S: SealedFile> FrozenFile<S> {
     }
 
     /// Adds what it holds to sums, and answers its greatest Export Time, in seconds since 1970-01-01 00:00 UTC. A file
-    /// of sums was rolled by `width` seconds. It is read once, a piece at a time. A refusal leaves the sums as they
-    /// were.
+    /// of sums was rolled by `width` seconds. It is read once, a piece at a time, a sealed segment in the memory of
+    /// `window`. A refusal leaves the sums as they were.
     pub(crate) fn add_to(
         &self,
         alloc: Global,
         width: u32,
+        window: &mut Window,
         rows: &mut Rows,
         faults: &mut Faults<S>,
     ) -> Result<u32, SumRefusal>
@@ -194,7 +195,7 @@ impl<S: SealedFile> FrozenFile<S> {
             → IsRead kind m p rows.old rows.new result }
     {
         match &self.held {
-            FrozenPart::Sealed(part) => add_segment(alloc, part.value(), rows, faults),
+            FrozenPart::Sealed(part) => add_segment(alloc, part.value(), window, rows, faults),
             FrozenPart::Rolled(part) => add_file(alloc, part.value(), width, rows, faults),
             FrozenPart::Wide(part) => add_file(alloc, part.value(), width, rows, faults),
         }

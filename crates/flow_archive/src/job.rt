@@ -6,7 +6,7 @@ ghost use Rattle.flow_model.specs.Jobs.{width_made};
 ghost use Rattle.flow_archive.specs.Answers.{job_generations};
 ghost use Rattle.flow_archive.specs.UnderWay.{fresh, job_in, frozen_staged_in, status_of};
 
-use flow_disk::SealedFile;
+use flow_disk::{SealedFile, Window};
 use flow_manifest::{Entry, JobKind, Kind, Manifest, count_of};
 use flow_measure::Rows;
 use std::alloc::Global;
@@ -21,6 +21,8 @@ pub(crate) struct RunningJob<S: SealedFile> {
     pub(crate) sources: u32,
     /// How many of them have been read.
     pub(crate) read: u32,
+    /// The memory that sources are read into, one after the other.
+    pub(crate) window: Window,
     /// Their sums.
     pub(crate) rows: Rows,
     /// The greatest Export Time in them, in seconds since 1970-01-01 00:00 UTC.
@@ -58,6 +60,7 @@ impl<S: SealedFile> RunningJob<S> {
             kind,
             sources,
             read: 0,
+            window: Window::new(alloc, 0, 0),
             rows: Rows::new(alloc, width),
             time: 0,
             staged: None,

@@ -201,7 +201,7 @@ fn take_source<S: SealedFile>(
         → IsJobSum job.old.kind m parts job.old.rows → IsJobTime job.old.kind parts job.old.time
         → IsTakenIn job.old.kind m (parts ++ p ∷ []) result job.new }
 {
-    let time = source.add_to(alloc, width, &mut job.rows, faults)?;
+    let time = source.add_to(alloc, width, &mut job.window, &mut job.rows, faults)?;
     job.time = job.time.max(time);
     job.read += 1;
     Ok(())

@@ -18,7 +18,7 @@ ghost use Rattle.flow_archive.specs.Sources.{IsFileRefusal, IsFileSum, IsSegment
 ghost use Rattle.flow_archive.specs.Sources.{IsMerged, IsNotTakenUp, IsTakenUp};
 
 use crate::refusal::ArchiveError;
-use flow_disk::{Faults, SealedFile};
+use flow_disk::{Faults, SealedFile, Window};
 use flow_measure::{Rows, Trial};
 use flow_refusals::SumRefusal;
 use flow_rolled::{RolledPart, sum_rows};
@@ -49,10 +49,12 @@ pub(crate) fn of_source(error: SumRefusal, first: u64, file: u64) -> ArchiveErro
 }
 
 /// Adds the flows of a sealed segment to sums, and answers the greatest Export Time of its messages, in seconds since
-/// 1970-01-01 00:00 UTC. Its file is read once, a piece at a time. A refusal leaves the sums as they were.
+/// 1970-01-01 00:00 UTC. Its file is read once, a piece at a time, in the memory of `window`. A refusal leaves the sums
+/// as they were.
 pub(crate) fn add_segment<S: SealedFile>(
     alloc: Global,
     part: &SealedPart<S>,
+    window: &mut Window,
     rows: &mut Rows,
     faults: &mut Faults<S>,
 ) -> Result<u32, SumRefusal>
@@ -82,7 +84,7 @@ pub(crate) fn add_segment<S: SealedFile>(
         rows: Trial::new(alloc, replace(rows, none)),
         spent: false,
     };
-    match add_flows(alloc, part, &mut templates, &mut adding, faults) {
+    match add_flows(alloc, part, window, &mut templates, &mut adding, faults) {
         Ok(time) => {
             *rows = adding.rows.keep();
             Ok(time)

@@ -1,4 +1,4 @@
 //! What the program is built from: `./renew-release --stamp` writes this file.
 
 /// The version, and the first digits of the sum of the sources.
-pub const VERSION: &str = "1.7.0 (sources 3ad43fefb786)";
+pub const VERSION: &str = "1.8.0 (sources b7956c31dcf1)";

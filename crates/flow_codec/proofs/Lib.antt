@@ -48,5 +48,6 @@ pub mod Restating
 pub mod RestatingAll
 pub mod Writing
 pub mod InPlace
+mod ElementsLoop
 mod Pieces
 mod Files

@@ -12,6 +12,7 @@ pub mod Reading
 pub mod Extent
 pub mod Walk
 pub mod Unread
+pub mod Caveats
 pub mod Replaced
 pub mod Losses
 pub mod ShortList

@@ -1,12 +1,31 @@
--- What messages show of records that aren't read.
+-- What messages show of records that aren't read, or are summed otherwise than their exporter may mean.
 use Rattle.std.specs.Prelude.{ℕ, ◌+◌, ◌-◌, ◌%◌, ◌^◌, ◌≤◌, List, [], ◌∷◌, min, Option, Some, None, nat_eq, nat_lt}
 use Rattle.std.specs.Prelude.{if◌then◌else◌}
 use Rattle.std.specs.Option.{option_or}
+use Rattle.flow_codec.specs.declared.losses.CaveatCounts.{CaveatCounts}
 use Rattle.flow_codec.specs.declared.losses.Losses.{Losses}
 use Rattle.flow_codec.specs.declared.walk.Walked.{Walked}
 
+-- counts stop at 2^64 - 1
+abbrev pub up_to : ℕ → ℕ
+up_to count = min count (2 ^ 64 - 1)
+
+-- ---- flows that are summed otherwise
+
+abbrev pub no_caveats : CaveatCounts
+no_caveats = record { placed = 0; uncounted = 0; sampled = 0 }
+
+abbrev pub both_caveats : CaveatCounts → CaveatCounts → CaveatCounts
+both_caveats a b = record {
+  placed = up_to (a.placed + b.placed);
+  uncounted = up_to (a.uncounted + b.uncounted);
+  sampled = up_to (a.sampled + b.sampled);
+}
+
+-- ---- messages
+
 abbrev pub no_losses : Losses
-no_losses = record { unread = 0; domain = None; elsewhere = 0; gaps = 0; missing = 0 }
+no_losses = record { unread = 0; domain = None; elsewhere = 0; gaps = 0; missing = 0; caveats = no_caveats }
 
 -- how far a Sequence Number is past the due one, modulo 2^32
 abbrev pub distance : ℕ → ℕ → ℕ
@@ -20,7 +39,7 @@ abbrev pub gap_at : ℕ → Option ℕ → ℕ
 gap_at sequence None = 0
 gap_at sequence (Some due) = gap_of (distance due sequence)
 
--- those of a message, at which a Sequence Number was due, or any was right
+-- those of a message, at which a Sequence Number was due, or any was right, without what its flows are summed as
 abbrev pub losses_of : Walked → Option ℕ → Losses
 losses_of walked due = record {
   unread = walked.unread.sets;
@@ -28,6 +47,7 @@ losses_of walked due = record {
   elsewhere = 0;
   gaps = if nat_eq (gap_at walked.header.sequence due) 0 then 0 else 1;
   missing = gap_at walked.header.sequence due;
+  caveats = no_caveats;
 }
 
 abbrev pub elsewhere_than : ℕ → Option ℕ → Losses → ℕ
@@ -39,10 +59,6 @@ abbrev pub elsewhere_of : Option ℕ → Losses → ℕ
 elsewhere_of None more = more.elsewhere
 elsewhere_of (Some first) more = elsewhere_than first more.domain more
 
--- counts stop at 2^64 - 1
-abbrev pub up_to : ℕ → ℕ
-up_to count = min count (2 ^ 64 - 1)
-
 -- those of messages, and of one message after them
 abbrev pub both_losses : Losses → Losses → Losses
 both_losses a b = record {
@@ -51,6 +67,7 @@ both_losses a b = record {
   elsewhere = up_to (a.elsewhere + elsewhere_of a.domain b);
   gaps = up_to (a.gaps + b.gaps);
   missing = up_to (a.missing + b.missing);
+  caveats = both_caveats a.caveats b.caveats;
 }
 
 -- ---- of messages that are counted by pieces, as those of several batches
@@ -62,7 +79,7 @@ losses_from a (message ∷ messages) = losses_from (both_losses a message) messa
 
 -- what counts messages after these begins with their first domain, and with nothing else
 abbrev pub none_after : Losses → Losses
-none_after a = record { unread = 0; domain = a.domain; elsewhere = 0; gaps = 0; missing = 0 }
+none_after a = record no_losses { domain = a.domain }
 
 -- those of messages, and those of a piece of messages after them, which was counted from `none_after` on
 abbrev pub joined_losses : Losses → Losses → Losses
@@ -72,8 +89,11 @@ joined_losses a piece = record {
   elsewhere = up_to (a.elsewhere + piece.elsewhere);
   gaps = up_to (a.gaps + piece.gaps);
   missing = up_to (a.missing + piece.missing);
+  caveats = both_caveats a.caveats piece.caveats;
 }
 
 -- counts that stopped at 2^64 - 1
 abbrev pub AreCounts : Losses → Type 0
-AreCounts a = (a.unread ≤ 2 ^ 64 - 1) × (a.elsewhere ≤ 2 ^ 64 - 1) × (a.gaps ≤ 2 ^ 64 - 1) × (a.missing ≤ 2 ^ 64 - 1)
+AreCounts a =
+    (a.unread ≤ 2 ^ 64 - 1) × (a.elsewhere ≤ 2 ^ 64 - 1) × (a.gaps ≤ 2 ^ 64 - 1) × (a.missing ≤ 2 ^ 64 - 1)
+    × (a.caveats.placed ≤ 2 ^ 64 - 1) × (a.caveats.uncounted ≤ 2 ^ 64 - 1) × (a.caveats.sampled ≤ 2 ^ 64 - 1)

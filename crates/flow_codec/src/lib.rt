@@ -10,6 +10,7 @@
 //! none, leave just these in their order.
 #![tactic(auto)]
 
+mod caveats;
 mod count;
 mod definitions;
 mod error;
@@ -43,7 +44,7 @@ pub use laws::{
     files_and_fronts, losses_by_pieces, message_bounds, one_answer, one_division,
     replaced_definitions, restated_templates, template_changes, unread_sets,
 };
-pub use losses::Losses;
+pub use losses::{CaveatCounts, Losses};
 pub use message::{DataRecord, Field, Header, Message};
 pub use patient::ReadFailed;
 pub use plan::{FieldStep, Place, Places, Plan, Role, VARIABLE, Way};

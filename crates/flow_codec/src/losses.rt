@@ -1,16 +1,51 @@
-//! What messages show of records that aren't read.
+//! What messages show of records that aren't read, or are summed otherwise than their exporter may mean.
 
 ghost use Rattle.std.specs.Prelude.{◌≡◌};
-ghost use Rattle.flow_codec.specs.Losses.{both_losses, elsewhere_of, gap_of, joined_losses, losses_of, no_losses};
-ghost use Rattle.flow_codec.specs.Losses.{none_after};
+ghost use Rattle.flow_codec.specs.Losses.{both_caveats, both_losses, elsewhere_of, gap_of, joined_losses, losses_of};
+ghost use Rattle.flow_codec.specs.Losses.{no_caveats, no_losses, none_after};
 
 use crate::walk::Walked;
 
 /// A Sequence Number that is so far past the due one, modulo 2^32, or farther, is before it.
 const HALF: u32 = 0x8000_0000;
 
+/// Flows whose sums may be other than their exporter means. Counts stop at 2^64 - 1.
+#[derive(Clone, Copy, Debug, PartialEq, Eq)]
+pub struct CaveatCounts {
+    /// Flows that start at the Export Time of their message: their record has no start that counts.
+    pub placed: u64,
+    /// Flows whose octets or packets are counted by an element that isn't summed.
+    pub uncounted: u64,
+    /// Flows whose record has a sampling rate, which no sum is multiplied by.
+    pub sampled: u64,
+}
+
+impl CaveatCounts {
+    /// Those of no flow.
+    pub fn none() -> CaveatCounts
+        ensures { result ≡ no_caveats }
+    {
+        CaveatCounts {
+            placed: 0,
+            uncounted: 0,
+            sampled: 0,
+        }
+    }
+
+    /// With those of other flows.
+    pub fn and(self, more: CaveatCounts) -> CaveatCounts
+        ensures { result ≡ both_caveats self more }
+    {
+        CaveatCounts {
+            placed: self.placed.saturating_add(more.placed),
+            uncounted: self.uncounted.saturating_add(more.uncounted),
+            sampled: self.sampled.saturating_add(more.sampled),
+        }
+    }
+}
+
 /// What messages show of records that aren't read: they are in a Set without a definition in force, or Sequence Numbers
-/// leave them out. Counts stop at 2^64 - 1.
+/// leave them out; and of flows that are summed otherwise than their exporter may mean. Counts stop at 2^64 - 1.
 #[derive(Clone, Copy, Debug, PartialEq, Eq)]
 pub struct Losses {
     /// Data Sets without a definition in force.
@@ -23,6 +58,8 @@ pub struct Losses {
     pub gaps: u64,
     /// How many records are missing there.
     pub missing: u64,
+    /// Flows that are summed otherwise.
+    pub caveats: CaveatCounts,
 }
 
 impl Losses {
@@ -36,10 +73,11 @@ impl Losses {
             elsewhere: 0,
             gaps: 0,
             missing: 0,
+            caveats: CaveatCounts::none(),
         }
     }
 
-    /// Those of a message, at which a Sequence Number was due, or any was right.
+    /// Those of a message, at which a Sequence Number was due, or any was right, without what its flows are summed as.
     pub fn of(walked: &Walked, due: Option<u32>) -> Losses
         ensures { result ≡ losses_of walked.now due }
     {
@@ -58,6 +96,7 @@ impl Losses {
             elsewhere: 0,
             gaps: if past == 0 { 0 } else { 1 },
             missing: u64::from(past),
+            caveats: CaveatCounts::none(),
         }
     }
 
@@ -83,6 +122,7 @@ impl Losses {
                 .saturating_add(elsewhere_of(self.domain, message)),
             gaps: self.gaps.saturating_add(message.gaps),
             missing: self.missing.saturating_add(message.missing),
+            caveats: self.caveats.and(message.caveats),
         }
     }
 
@@ -96,6 +136,7 @@ impl Losses {
             elsewhere: self.elsewhere.saturating_add(piece.elsewhere),
             gaps: self.gaps.saturating_add(piece.gaps),
             missing: self.missing.saturating_add(piece.missing),
+            caveats: self.caveats.and(piece.caveats),
         }
     }
 }

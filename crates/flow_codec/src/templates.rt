@@ -3,6 +3,7 @@
 ghost use Rattle.std.specs.Prelude.{◌≡◌, ◌↔◌, IsTrue, false, [], OnOk, OnErr, IfOk, ◌<◌, ◌≤◌, ◌^◌, ◌+◌, length, nat_lt};
 ghost use Rattle.std.specs.Option.{is_some, option_copied};
 ghost use Rattle.std.specs.Map.{lookup};
+ghost use Rattle.flow_codec.specs.Caveats.{are_uncounted, elements_of};
 ghost use Rattle.flow_codec.specs.Layout.{Layout, IsLayout, is_options, definition_size};
 ghost use Rattle.flow_codec.specs.Plan.{plan_of};
 ghost use Rattle.flow_codec.specs.Templates.{changed, definition_of, definitions_of, domain_size, is_empty};
@@ -13,6 +14,7 @@ ghost use Rattle.std.specs.HashMap.{spare};
 ghost use Rattle.indexmap.specs.IndexMap.{insert_entry};
 ghost use Rattle.flow_codec.specs.declared.templates.DomainTemplates.{DomainTemplates};
 
+use crate::caveats::{are_uncounted, elements_of};
 use crate::definitions::{Definitions, make_changes};
 use crate::kind::TemplateKind;
 use crate::plan::{Plan, plan_of};
@@ -43,6 +45,10 @@ struct Parts {
     fields: ShortList<(ElementId, u16)>,
     plan: Plan,
     size: usize,
+    /// Octets or packets are counted by an element that isn't summed.
+    uncounted: bool,
+    /// The records have a sampling rate.
+    sampled: bool,
 }
 
 impl Model for Definition {
@@ -51,6 +57,7 @@ impl Model for Definition {
     ghost use Rattle.flow_codec.specs.Layout.{Layout, definition_size};
     ghost use Rattle.flow_codec.specs.Plan.{plan_of};
     ghost use Rattle.flow_codec.specs.Parts.{layout_of};
+    ghost use Rattle.flow_codec.specs.Caveats.{are_uncounted, elements_of};
 
     ghost Value = { Layout };
 
@@ -59,7 +66,9 @@ impl Model for Definition {
     ghost invariant = { λ d. (length (arc_value d.shared).fields < 2 ^ 16)
         × ((arc_value d.shared).plan ≡ plan_of (arc_value d.shared).fields)
         × ((arc_value d.shared).size ≡ definition_size (layout_of (arc_value d.shared)))
-        × ((arc_value d.shared).size < 2 ^ 20) };
+        × ((arc_value d.shared).size < 2 ^ 20)
+        × ((arc_value d.shared).uncounted ≡ are_uncounted (elements_of (arc_value d.shared).fields))
+        × ((arc_value d.shared).sampled ≡ (elements_of (arc_value d.shared).fields).rate) };
 }
 
 impl Clone for Definition {
@@ -100,12 +109,15 @@ impl Definition {
         let options = kind.is_options();
         let plan = plan_of(alloc, fields.as_slice())?;
         let size = size_of(options, fields.as_slice());
+        let elements = elements_of(fields.as_slice());
         let parts = Parts {
             options,
             scope,
             fields,
             plan,
             size,
+            uncounted: are_uncounted(elements),
+            sampled: elements.rate,
         };
         Ok(Definition {
             shared: Arc::new(alloc, parts)?,
@@ -149,6 +161,22 @@ impl Definition {
         ensures bound { result < 2 ^ 20 }
     {
         self.shared.size
+    }
+
+    /// Whether octets or packets are counted by an element alone that isn't summed: postOctetDeltaCount,
+    /// octetTotalCount or layer2OctetDeltaCount, postPacketDeltaCount or packetTotalCount.
+    pub fn is_uncounted(&self) -> bool
+        ensures { result ≡ are_uncounted (elements_of self.now.fields) }
+    {
+        self.shared.uncounted
+    }
+
+    /// Whether the records have a sampling rate: samplingInterval, samplerRandomInterval, or a parameter of a sampling
+    /// method (RFC 5477, section 8.2).
+    pub fn is_sampled(&self) -> bool
+        ensures { result ≡ (elements_of self.now.fields).rate }
+    {
+        self.shared.sampled
     }
 
     /// How each record is stepped over.

@@ -16,3 +16,4 @@ mod OneEach
 mod RollEnds
 mod Spans
 mod SpanStarts
+mod WarningParts

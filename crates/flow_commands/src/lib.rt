@@ -44,4 +44,4 @@ pub use progress::Progress;
 pub use rolling::{roll, roll_in, roll_on};
 pub use streaming::{take_input, unopened};
 pub use totalling::{ask_rows, totals, totals_in};
-pub use warning::{tell_fault, warn_of_input, warn_of_wide};
+pub use warning::{shows_more, tell_fault, warn_of_input, warn_of_wide};

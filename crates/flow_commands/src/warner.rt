@@ -1,7 +1,7 @@
 //! What is warned of while a File is read.
 
 use crate::progress::Progress;
-use crate::warning::{LossyFile, NamedFile, RefusedFile, SO_FAR};
+use crate::warning::{LossyFile, NamedFile, RefusedFile, SO_FAR, shows_more};
 use flow_codec::{Losses, MessageError};
 use flow_feed::{Counter, RefusedDatagrams};
 use std::io::Write;
@@ -11,9 +11,9 @@ use std::time::{Clock, Instant};
 /// The seconds between two warnings of a File.
 const PERIOD: u64 = 60;
 
-/// Counts what the messages of a File show not to be read, and its datagrams that are passed over, and warns of all so
-/// far while it is read: at most once in 60 seconds, and where more was counted since. It does so when the next batch or
-/// datagram comes, by a clock that is read where something is to be warned of.
+/// Counts what the messages of a File show not to be read, or to be summed otherwise, and its datagrams that are passed
+/// over, and warns of all so far while it is read: at most once in 60 seconds, and where more was counted since. It does
+/// so when the next batch or datagram comes, by a clock that is read where something is to be warned of.
 #[derive(Drop)]
 pub(crate) struct Warner<'a, H: Clock + Wait, P: Write + Drop> {
     rt: &'a H,
@@ -79,7 +79,7 @@ impl<'a, H: Clock + Wait, P: Write + Drop> Warner<'a, H, P> {
 impl<H: Clock + Wait, P: Write + Drop> Counter for Warner<'_, H, P> {
     fn add_losses(&mut self, piece: Losses) {
         self.losses = self.losses.and_piece(piece);
-        self.has_more = self.has_more || piece.unread > 0 || piece.gaps > 0;
+        self.has_more = self.has_more || shows_more(piece);
         self.warn();
     }
 

@@ -1,13 +1,14 @@
-//! What a warning says of a File that stopped, or whose messages show that records aren't read.
+//! What a warning says of a File that stopped, or whose messages show that records aren't read, or are summed otherwise
+//! than their exporter may mean.
 
 ghost use Rattle.std.specs.Prelude.{◌≡◌, Some};
-ghost use Rattle.flow_commands.specs.Warnings.{gap_part, gap_text, lacks_of, lacks_text, message_place, place_text};
-ghost use Rattle.flow_commands.specs.Warnings.{stop_place, stream_place, unread_part, unread_text};
+ghost use Rattle.flow_commands.specs.Warnings.{gap_part, lacks_of, lacks_text, message_place, part_text, parts_of};
+ghost use Rattle.flow_commands.specs.Warnings.{place_text, shows_more, stop_place, stream_place, unread_part};
 
 use crate::plan::InputKind;
 use crate::progress::Progress;
 use flow_archive::ArchiveError;
-use flow_codec::{FileError, Losses, MessageError, StreamError};
+use flow_codec::{CaveatCounts, FileError, Losses, MessageError, StreamError};
 use flow_feed::{Fed, FeedStop, RefusedDatagrams};
 use flow_refusals::RefusalCode;
 use std::io::Write;
@@ -284,117 +285,140 @@ pub fn tell_fault<H: Wait, P: Write + Drop>(rt: &H, progress: &Progress<P>) {
     }
 }
 
-/// Data Sets of a File without a definition in force.
-#[derive(Clone, Copy, Debug, PartialEq, Eq)]
-enum UnreadPart {
-    Nothing,
-    /// So many of this domain.
+/// One part of what a warning says of messages.
+#[derive(Clone, Copy, Debug)]
+enum LackPart {
+    /// So many data Sets of this domain had no definition in force.
     OfDomain(u64, u32),
     /// So many of this domain, and so many of others.
     OfDomains(u64, u32, u64),
+    /// Sequence Numbers leave so many records out, in so many gaps.
+    Gaps(u64, u64),
+    /// So many flows start at the Export Time of their message.
+    Placed(u64),
+    /// The octets or packets of so many flows are counted by an element alone that isn't summed.
+    Uncounted(u64),
+    /// So many flows have a sampling rate.
+    Sampled(u64),
 }
 
-impl fmt::Display for UnreadPart {
-    ghost output = { λ part. Some (unread_text part) };
+impl fmt::Display for LackPart {
+    ghost output = { λ part. Some (part_text part) };
 
     fn fmt<W: fmt::Write>(&self, f: &mut fmt::Formatter<W>) -> fmt::Result {
         match self {
-            UnreadPart::Nothing => write!(f, ""),
-            UnreadPart::OfDomain(sets, domain) => {
+            LackPart::OfDomain(sets, domain) => {
                 write!(f, "{sets} data sets of domain {domain} had no template")
             }
-            UnreadPart::OfDomains(sets, domain, others) => write!(
+            LackPart::OfDomains(sets, domain, others) => write!(
                 f,
                 "{sets} data sets of domain {domain} had no template, and {others} of other domains"
             ),
-        }
-    }
-}
-
-/// What is said of Sets without a definition in force.
-fn unread_part(losses: Losses) -> UnreadPart
-    ensures { result ≡ unread_part losses }
-{
-    match losses.domain {
-        None => UnreadPart::Nothing,
-        Some(domain) => {
-            let own = losses.unread.saturating_sub(losses.elsewhere);
-            if losses.elsewhere == 0 {
-                UnreadPart::OfDomain(own, domain)
-            } else {
-                UnreadPart::OfDomains(own, domain, losses.elsewhere)
-            }
-        }
-    }
-}
-
-/// Records that a File's Sequence Numbers leave out.
-#[derive(Clone, Copy, Debug, PartialEq, Eq)]
-enum GapPart {
-    Nothing,
-    /// So many records, in so many gaps.
-    Gaps(u64, u64),
-}
-
-impl fmt::Display for GapPart {
-    ghost output = { λ part. Some (gap_text part) };
-
-    fn fmt<W: fmt::Write>(&self, f: &mut fmt::Formatter<W>) -> fmt::Result {
-        match self {
-            GapPart::Nothing => write!(f, ""),
-            GapPart::Gaps(missing, gaps) => {
+            LackPart::Gaps(missing, gaps) => {
                 write!(
                     f,
                     "{missing} records are missing, in {gaps} gaps of sequence numbers"
                 )
             }
+            LackPart::Placed(flows) => write!(f, "{flows} flows have no start time of their own"),
+            LackPart::Uncounted(flows) => write!(
+                f,
+                "{flows} flows have octets or packets only in elements that aren't summed"
+            ),
+            LackPart::Sampled(flows) => write!(f, "{flows} flows have a sampling rate"),
         }
+    }
+}
+
+/// What is said of Sets without a definition in force.
+fn unread_part(losses: Losses) -> Option<LackPart>
+    ensures { result ≡ unread_part losses }
+{
+    let domain = losses.domain?;
+    let own = losses.unread.saturating_sub(losses.elsewhere);
+    if losses.elsewhere == 0 {
+        Some(LackPart::OfDomain(own, domain))
+    } else {
+        Some(LackPart::OfDomains(own, domain, losses.elsewhere))
     }
 }
 
 /// What is said of Sequence Numbers.
-fn gap_part(losses: Losses) -> GapPart
+fn gap_part(losses: Losses) -> Option<LackPart>
     ensures { result ≡ gap_part losses }
 {
     if losses.gaps == 0 {
-        GapPart::Nothing
+        None
     } else {
-        GapPart::Gaps(losses.missing, losses.gaps)
+        Some(LackPart::Gaps(losses.missing, losses.gaps))
     }
 }
 
-/// What messages show of records that aren't read.
+/// All that may be said, in its order.
+fn parts_of(losses: Losses) -> [Option<LackPart>; 5]
+    ensures { result ≡ parts_of losses }
+{
+    let CaveatCounts {
+        placed,
+        uncounted,
+        sampled,
+    } = losses.caveats;
+    [
+        unread_part(losses),
+        gap_part(losses),
+        (placed > 0).then_some(LackPart::Placed(placed)),
+        (uncounted > 0).then_some(LackPart::Uncounted(uncounted)),
+        (sampled > 0).then_some(LackPart::Sampled(sampled)),
+    ]
+}
+
+/// What messages show of records that aren't read, or are summed otherwise than their exporter may mean.
 #[derive(Clone, Copy, Debug)]
 struct Lacks {
-    unread: UnreadPart,
-    gaps: GapPart,
+    parts: [Option<LackPart>; 5],
 }
 
 impl Lacks {
-    /// Nothing where they don't.
+    /// Nothing where there is no part.
     fn of(losses: Losses) -> Option<Lacks>
         ensures { result ≡ lacks_of losses }
     {
-        match (unread_part(losses), gap_part(losses)) {
-            (UnreadPart::Nothing, GapPart::Nothing) => None,
-            (unread, gaps) => Some(Lacks { unread, gaps }),
+        let parts = parts_of(losses);
+        if parts.iter().all(|part| part.is_none()) {
+            return None;
         }
+        Some(Lacks { parts })
     }
 }
 
 impl fmt::Display for Lacks {
-    ghost output = { λ lacks. Some (lacks_text lacks.unread lacks.gaps) };
+    ghost output = { λ lacks. Some (lacks_text lacks) };
 
     fn fmt<W: fmt::Write>(&self, f: &mut fmt::Formatter<W>) -> fmt::Result {
-        match (self.unread, self.gaps) {
-            (UnreadPart::Nothing, gaps) => write!(f, "{gaps}"),
-            (unread, GapPart::Nothing) => write!(f, "{unread}"),
-            (unread, gaps) => write!(f, "{unread}; {gaps}"),
+        let mut before = "";
+        'parts: for part in &self.parts {
+            if let Some(part) = part {
+                write!(f, "{before}{part}")?;
+                before = "; ";
+            }
         }
+        Ok(())
     }
 }
 
-/// The messages of a File, all or so far, show that records aren't read.
+/// Whether a piece of messages shows anything of which a warning or a count says more.
+pub fn shows_more(piece: Losses) -> bool
+    ensures { result ≡ shows_more piece }
+{
+    let caveats = piece.caveats;
+    piece.unread > 0
+        || piece.gaps > 0
+        || caveats.placed > 0
+        || caveats.uncounted > 0
+        || caveats.sampled > 0
+}
+
+/// The messages of a File, all or so far, show that records aren't read, or are summed otherwise.
 #[derive(Debug, Drop)]
 pub(crate) struct LossyFile<'a> {
     file: NamedFile<'a>,
@@ -424,7 +448,7 @@ impl fmt::Display for LossyFile<'_> {
     }
 }
 
-/// The messages of the File on standard input show that records aren't read.
+/// The messages of the File on standard input show that records aren't read, or are summed otherwise.
 #[derive(Debug, Drop)]
 struct LossyInput {
     lacks: Lacks,
@@ -436,8 +460,8 @@ impl fmt::Display for LossyInput {
     }
 }
 
-/// Warns of records of the File on standard input that its messages show not to be read: on a terminal, or anywhere
-/// where that is asked for.
+/// Warns of what the messages of the File on standard input show not to be read, or to be summed otherwise: on a
+/// terminal, or anywhere where that is asked for.
 pub fn warn_of_input<H: Wait, P: Write + Drop>(
     rt: &H,
     is_asked: bool,

@@ -16,7 +16,7 @@ pub const LIMIT: u64 = 1 << 62;
 
 /// Files of octets, named by numbers. A file never written is an empty file.
 ///
-/// Each call but `read` and `files` takes no memory, and answers Ok or `Fault`. A fault is answered only where the
+/// Each call but `read`, `read_into` and `files` takes no memory, and answers Ok or `Fault`. A fault is answered only where the
 /// count of failures rose in that call. A call that fails leaves of its file what a stop inside the call may leave.
 pub trait Disk: Drop {
     /// A frozen file of this disk.
@@ -53,7 +53,19 @@ pub trait Disk: Drop {
         ensures time { IsTrue (honest self.old) → Passes moment left_since self.old self.new (held self.old) }
         ensures cause { FailsOnlyByFault (faults self.old) (faults self.new) result };
 
-    /// Reads `count` octets of a file from place `at` on.
+    /// Reads octets of a file from place `at` on, over all those that are lent. After an `Err` these may be any.
+    fn read_into(&mut self, file: u64, at: u64, octets: &mut [u8]) -> Result<(), DiskError>
+        requires { at + length octets.old ≤ (marks self.old file).size }
+        ensures honest { honest self.new ≡ honest self.old }
+        ensures clock { moment self.old ≤ moment self.new }
+        ensures octets { IsTrue (honest self.old)
+            → OnOk result (octets.new ≡ take (length octets.old) (drop at (held self.old file).reads)) }
+        ensures marks { Stays (marks self.old) (marks self.new) }
+        ensures held { IsTrue (honest self.old) → Stays (held self.old) (held self.new) }
+        ensures time { IsTrue (honest self.old) → Passes moment left_since self.old self.new (held self.old) }
+        ensures cause { HasCause DiskError.Fault (faults self.old) (faults self.new) result };
+
+    /// Reads `count` octets of a file from place `at` on, into memory of their own.
     fn read(
         &mut self,
         alloc: Global,
@@ -70,7 +82,12 @@ pub trait Disk: Drop {
         ensures marks { Stays (marks self.old) (marks self.new) }
         ensures held { IsTrue (honest self.old) → Stays (held self.old) (held self.new) }
         ensures time { IsTrue (honest self.old) → Passes moment left_since self.old self.new (held self.old) }
-        ensures cause { HasCause DiskError.Fault (faults self.old) (faults self.new) result };
+        ensures cause { HasCause DiskError.Fault (faults self.old) (faults self.new) result }
+    {
+        let mut octets = vec![in alloc; 0u8; count]?;
+        self.read_into(file, at, &mut octets)?;
+        Ok(octets)
+    }
 
     /// Writes octets over those at place `at`, and past the end. Until the next sync a stop may leave anything in their
     /// range, and anything past the end that was last settled where the range passes that end.

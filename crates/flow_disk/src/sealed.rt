@@ -1,5 +1,6 @@
 // A frozen file.
-ghost use Rattle.std.specs.Prelude.{◌≡◌, ℕ, ◌+◌, ◌≤◌, Bool, IsTrue, List, length, take, drop, IfOk, IsErrOf, vec_len};
+ghost use Rattle.std.specs.Prelude.{◌≡◌, ℕ, ◌+◌, ◌≤◌, Bool, IsTrue, List, length, take, drop, IfOk, OnOk, IsErrOf};
+ghost use Rattle.std.specs.Prelude.{vec_len};
 ghost use Rattle.flow_disk.specs.Cause.{HasCause};
 
 use crate::{DiskError, Faults};
@@ -38,8 +39,22 @@ pub trait SealedFile: MayFail + Drop {
     fn length(&self) -> u64
         ensures { result ≡ size self.now };
 
-    /// Reads `count` octets from place `at` on. Answers `OutOfMemory`, or `Fault` exactly where this read failed and
-    /// has raised `faults`.
+    /// Reads octets from place `at` on, over all those of `buffer`. Answers `OutOfMemory`, or `Fault` exactly where this
+    /// read failed and has raised `faults`. After an `Err` those of `buffer` may be any.
+    fn read_into(
+        &self,
+        faults: &mut Faults<Self>,
+        at: u64,
+        buffer: &mut [u8],
+    ) -> Result<(), DiskError>
+        requires { at + length buffer.old ≤ size self.now }
+        ensures octets { IsTrue (honest self.now)
+            → OnOk result (buffer.new ≡ take (length buffer.old) (drop at (octets self.now))) }
+        ensures cause { HasCause DiskError.Fault faults.old faults.new result }
+        ensures able { IsErrOf result DiskError.Fault → can_fail self.now at (length buffer.old) };
+
+    /// Reads `count` octets from place `at` on, into memory of their own. Answers `OutOfMemory`, or `Fault` exactly
+    /// where this read failed and has raised `faults`.
     fn read(
         &self,
         alloc: Global,
@@ -52,7 +67,12 @@ pub trait SealedFile: MayFail + Drop {
         ensures octets { IfOk result (λ got. IsTrue (honest self.now)
             → got.items ≡ take count (drop at (octets self.now))) }
         ensures cause { HasCause DiskError.Fault faults.old faults.new result }
-        ensures able { IsErrOf result DiskError.Fault → can_fail self.now at count };
+        ensures able { IsErrOf result DiskError.Fault → can_fail self.now at count }
+    {
+        let mut octets = vec![in alloc; 0u8; count]?;
+        self.read_into(faults, at, &mut octets)?;
+        Ok(octets)
+    }
 
     /// An honest file has its octets.
     ghost whole: { (file : Self) → IsTrue (honest file) → length (octets file) ≡ size file };

@@ -7,15 +7,19 @@ ghost use Rattle.flow_disk.specs.Window.{fed, passed, IsReady, IsOn, IsFilled};
 use crate::{DiskError, Faults, SealedFile};
 use std::alloc::Global;
 use std::marker::Model;
+use std::mem::swap;
 
 /// How many octets are read at a time.
 pub const PIECE: u64 = 262_144;
 
 /// The octets of a part of a file that were read and are ahead, and those that were passed last. It has one piece of
-/// the file.
+/// the file, and memory for the next one.
 #[derive(Drop)]
 pub struct Window {
     piece: Vec<u8>,
+    /// What the next piece is read into, so that this one stays as it is where that read fails. It is the memory of the
+    /// piece before this one.
+    spare: Vec<u8>,
     /// The first octet in the piece that was passed last.
     from: usize,
     /// How many were passed last; those ahead come after them.
@@ -51,11 +55,23 @@ impl Window {
     {
         Window {
             piece: Vec::new(alloc),
+            spare: Vec::new(alloc),
             from: 0,
             held: 0,
             place: from,
             end,
         }
+    }
+
+    /// Goes to the first octet of another part, of this file or another one. Its memory stays.
+    pub fn go_to(&mut self, from: u64, end: u64)
+        requires { from ≤ end }
+        ensures { self.new ≡ record { held = []; ahead = []; place = from; end = end } }
+    {
+        self.from = self.piece.len();
+        self.held = 0;
+        self.place = from;
+        self.end = end;
     }
 
     /// The octets that were passed last.
@@ -124,11 +140,11 @@ impl Window {
     }
 
     /// Reads a piece of a frozen file where fewer than `most` octets are ahead and there are more before the part's
-    /// end. After an `Err` all is as it was.
+    /// end. After an `Err` all is as it was. It takes memory, which is filled with zeros, for the first two pieces; from
+    /// then on each is read into that of the piece before the last.
     pub fn fill<F: SealedFile>(
         &mut self,
         most: usize,
-        alloc: Global,
         file: &F,
         faults: &mut Faults<F>,
     ) -> Result<(), DiskError>
@@ -144,8 +160,11 @@ impl Window {
         let Some(count) = self.missing(most) else {
             return Ok(());
         };
-        let piece = file.read(alloc, faults, self.place, count)?;
-        self.feed(piece);
+        self.spare.resize(count, 0)?;
+        file.read_into(faults, self.place, &mut self.spare)?;
+        swap(&mut self.piece, &mut self.spare);
+        self.from = 0;
+        self.held = 0;
         Ok(())
     }
 }

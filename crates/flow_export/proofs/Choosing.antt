@@ -170,7 +170,7 @@ parted_after files i file within is =
 
 -- ---- where no messages are chosen
 
-dropped : {A : Type 0} (n : ℕ) (xs : List A) → length xs ≤ n → drop n xs ≡ []
+pub dropped : {A : Type 0} (n : ℕ) (xs : List A) → length xs ≤ n → drop n xs ≡ []
 dropped zero [] few = refl
 dropped zero (x ∷ xs) few = absurd (omega (arith, few))
 dropped (suc n) [] few = refl
@@ -201,6 +201,10 @@ none_written output chosen none =
 pub found_there : (files : List KeptFile) (i : ℕ) (file own : KeptFile) → slice_get files i ≡ Some own
     → slice_get files i ≡ Some file → own ≡ file
 found_there files i file own is there = same_of own file (sym is ∙ there)
+
+pub same_count : (files : List KeptFile) (i : ℕ) (one other : KeptFile) → slice_get files i ≡ Some one
+    → slice_get files i ≡ Some other → length one.messages ≡ length other.messages
+same_count files i one other is there = ap (λ (f : KeptFile). length f.messages) (found_there files i other one is there)
 
 -- ---- messages of a list, by the places of the first and of the one after the last
 

@@ -6,3 +6,12 @@ mod Viewed
 mod WholeMessages
 mod Written
 pub mod ReadBack
+mod Spanning
+mod FindingSpans
+mod Between
+mod FoundInBoth
+mod ViewFiles
+mod ChosenText
+mod SpanWritten
+mod SumsMet
+mod Unrolled

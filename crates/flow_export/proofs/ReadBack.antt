@@ -32,14 +32,14 @@ use Rattle.flow_export.proofs.Choosing.{all_kept, joined_then, none_at, same_of}
 
 -- ---- the file at a place
 
-own_and_more : (files : List KeptFile) (i : ℕ) (own : KeptFile) → i < length files → slice_get files i ≡ Some own
+pub own_and_more : (files : List KeptFile) (i : ℕ) (own : KeptFile) → i < length files → slice_get files i ≡ Some own
     → drop i files ≡ own ∷ drop (i + 1) files
 own_and_more files i own within there =
     drop_more files i none_at within
     ∙ ap (λ (f : KeptFile). f ∷ drop (i + 1) files)
     (same_of (get_or files i none_at) own (sym (slice_get-get_or files i none_at within) ∙ there))
 
-own_restated : (t : AllTemplates) (gs : List Segment) (active own : KeptFile) (i : ℕ)
+pub own_restated : (t : AllTemplates) (gs : List Segment) (active own : KeptFile) (i : ℕ)
     → slice_get (map kept_file gs ++ active ∷ []) i ≡ Some own → AreRestated t (drop i gs) active.prefix
     → IsRestated own.prefix t
 own_restated t [] active own zero there r =
@@ -49,14 +49,14 @@ own_restated t (g ∷ gs) active own zero there r =
     subst (λ (f : KeptFile). IsRestated f.prefix t) (same_of (kept_file g) own there) r.0
 own_restated t (g ∷ gs) active own (suc i) there r = own_restated t gs active own i there r
 
-before_it : (gs : List Segment) (active : KeptFile) (i : ℕ) → i ≤ length gs
+pub before_it : (gs : List Segment) (active : KeptFile) (i : ℕ) → i ≤ length gs
     → messages_of (take i (map kept_file gs ++ active ∷ [])) ≡ messages_in (take i gs)
 before_it gs active zero most = refl
 before_it [] active (suc i) most = absurd (omega (arith, most))
 before_it (g ∷ gs) active (suc i) most =
     ap (λ (ms : List (List ℕ)). g.messages ++ ms) (before_it gs active i (omega (arith, most)))
 
-files_parted : (files : List KeptFile) (i : ℕ)
+pub files_parted : (files : List KeptFile) (i : ℕ)
     → messages_of files ≡ messages_of (take i files) ++ messages_of (drop i files)
 files_parted files i =
     ap messages_of (sym (take-append-drop i files))
@@ -121,7 +121,7 @@ passed_templates own first carry t list (begun, (ms, read, is), (taken, octets, 
     (moved, subst IsCarry (sym whole) good.0)
 
 module _ (s : Shelf) (v : View) (view : IsViewOf s v) where
-  all_octets : octets_of v.kept ≡ messages_of (kept_by_file s)
+  pub all_octets : octets_of v.kept ≡ messages_of (kept_by_file s)
   all_octets = view.kept ∙ sym (all_kept s)
 
   in_force : (skip : ℕ) (carry : Carry) → IsCarryBefore (kept_by_file s) skip carry
@@ -166,27 +166,23 @@ module _ (s : Shelf) (v : View) (view : IsViewOf s v) where
       (flows-in_fields a.message ∙ ap (λ (rs : List RawRecord). flows_of_records (under a.message.header rs)) none.0)
       ∙ no_flows_of front none.1
 
-  -- an export of the files of a view
-  pub read_back : (skip most : ℕ) (text : List ℕ) → IsExportOf s skip most text
-      → IsReadAs text (templates_from v.templates (take skip v.kept)) (take most (drop skip v.kept))
-  read_back skip most text (carry, before, is) =
+  -- messages that are accepted after those before a place, after what restates the templates there
+  pub read_with : (skip : ℕ) (messages : List Accepted) (carry : Carry) (text : List ℕ)
+      → IsCarryBefore (kept_by_file s) skip carry
+      → AreAcceptedFrom (templates_from v.templates (take skip v.kept)) messages
+      → text ≡ prefix_of carry ++ joined (octets_of messages)
+      → IsReadAs text (templates_from v.templates (take skip v.kept)) messages
+  read_with skip messages carry text before later is =
       let known = in_force skip carry before in
       let back = is_read_back carry known.1 in
       let front = restated carry in
-      let messages = take most (drop skip v.kept) in
       let t = templates_from v.templates (take skip v.kept) in
-      let later : AreAcceptedFrom t messages =
-      accepted_first t most (drop skip v.kept) (accepted_rest v.templates skip v.kept view.accepted) in
       let led : templates_from [] front ≡ t = back.templates ∙ known.0 in
       let all : AreAcceptedFrom [] (front ++ messages) =
       accepted_then [] front messages back.accepted
       (subst (λ (x : AllTemplates). AreAcceptedFrom x messages) (sym led) later) in
-      let own : octets_of messages ≡ take most (drop skip (kept_of s)) =
-      sym (take-map (λ (a : Accepted). a.octets) most (drop skip v.kept))
-      ∙ ap (take most) (sym (drop-map (λ (a : Accepted). a.octets) skip v.kept) ∙ ap (drop skip) view.kept) in
       let whole : text ≡ joined (octets_of (front ++ messages)) =
-      is ∙ ap (λ (ms : List (List ℕ)). prefix_of carry ++ joined ms) (sym own)
-      ∙ ap (λ (ms : List (List ℕ)). joined ms ++ joined (octets_of messages)) (sym back.octets)
+      is ∙ ap (λ (ms : List (List ℕ)). joined ms ++ joined (octets_of messages)) (sym back.octets)
       ∙ sym (joined_then (octets_of front) (octets_of messages))
       ∙ ap joined (sym (map-append (λ (a : Accepted). a.octets) front messages)) in
       record {
@@ -203,3 +199,17 @@ module _ (s : Shelf) (v : View) (view : IsViewOf s v) where
         flows = flows-append front messages
             ∙ ap (λ (fs : List Flow). fs ++ flows_in messages) (no_flows_of front back.none);
       }
+
+  -- an export of the files of a view
+  pub read_back : (skip most : ℕ) (text : List ℕ) → IsExportOf s skip most text
+      → IsReadAs text (templates_from v.templates (take skip v.kept)) (take most (drop skip v.kept))
+  read_back skip most text (carry, before, is) =
+      let messages = take most (drop skip v.kept) in
+      let t = templates_from v.templates (take skip v.kept) in
+      let later : AreAcceptedFrom t messages =
+      accepted_first t most (drop skip v.kept) (accepted_rest v.templates skip v.kept view.accepted) in
+      let own : octets_of messages ≡ take most (drop skip (kept_of s)) =
+      sym (take-map (λ (a : Accepted). a.octets) most (drop skip v.kept))
+      ∙ ap (take most) (sym (drop-map (λ (a : Accepted). a.octets) skip v.kept) ∙ ap (drop skip) view.kept) in
+      read_with skip messages carry text before later
+      (is ∙ ap (λ (ms : List (List ℕ)). prefix_of carry ++ joined ms) (sym own))

@@ -50,7 +50,7 @@ fn file_of_message<S: SealedFile>(snapshot: &Snapshot<S>, skip: u64) -> (u64, u6
 }
 
 /// What is passed on to the kept message after so many others.
-fn carry_before<S: SealedFile>(
+pub(crate) fn carry_before<S: SealedFile>(
     alloc: Global,
     snapshot: &Snapshot<S>,
     skip: u64,

@@ -179,7 +179,7 @@ module _ (sight directory : ShelfSeen) (is : sight ≡ directory) (s : State)
   pub honest_here : IsTrue sight.honest
   honest_here = ap (λ (d : ShelfSeen). d.honest) is ∙ shown.1
 
-  shelf_here : sight.shelf ≡ shelf_of s
+  pub shelf_here : sight.shelf ≡ shelf_of s
   shelf_here = ap (λ (d : ShelfSeen). d.shelf) is ∙ shown.0
 
   pub viewed_here : (v : View) → IsViewOf (shelf_of s) v → IsViewOf sight.shelf v

@@ -1,2 +1,3 @@
 mod AskedFor
+mod ByTime
 mod Cut

@@ -22,7 +22,7 @@ pub enum ArchiveExportRefusal {
     Opening(OpenError),
     /// A file of the archive can't be read: 20, 30, or 11.
     Query(ReadRefusal),
-    /// Messages up to this one are in sums alone, and one of them is asked for: 52.
+    /// Messages up to this one are in sums alone, and one of them is asked for, or may have a flow of the span: 52.
     Rolled(u64),
     /// Writing failed: 32.
     Write(WriteFailed),
@@ -52,6 +52,14 @@ impl From<ExportRefusal> for ArchiveExportRefusal {
             ExportRefusal::Query(error) => ArchiveExportRefusal::Query(error),
             ExportRefusal::Write(failed) => ArchiveExportRefusal::Write(failed),
         }
+    }
+}
+
+impl From<ReadRefusal> for ArchiveExportRefusal {
+    ghost from_gives = { λ e r. r ≡ Query e };
+
+    fn from(error: ReadRefusal) -> ArchiveExportRefusal {
+        ArchiveExportRefusal::Query(error)
     }
 }
 

@@ -25,6 +25,15 @@ IsEnd place (Some OutOfMemory) rest = ⊤
 IsEnd place (Some Unopened) rest = ⊥
 IsEnd place (Some (Unreceived failed)) rest = ⊤
 
+-- a stop that reading a File by itself may have: it is open, and no datagram is received
+abbrev pub IsOfFile : Option FeedStop → Type 0
+IsOfFile None = ⊤
+IsOfFile (Some (File error)) = ⊤
+IsOfFile (Some (Archive error)) = ⊤
+IsOfFile (Some OutOfMemory) = ⊤
+IsOfFile (Some Unopened) = ⊥
+IsOfFile (Some (Unreceived failed)) = ⊥
+
 -- the refusal of the archive that a File stopped by
 abbrev pub refusal_in : Option FeedStop → Option ArchiveError
 refusal_in None = None

@@ -1,8 +1,8 @@
 //! A File into an archive.
 
-ghost use Rattle.std.specs.Prelude.{◌≡◌, None, true};
+ghost use Rattle.std.specs.Prelude.{◌≡◌, None, true, IfSome};
 ghost use Rattle.flow_codec.specs.Stream.{progress};
-ghost use Rattle.flow_feed.specs.Feed.{ArePassed, IsFed};
+ghost use Rattle.flow_feed.specs.Feed.{ArePassed, IsFed, IsOfFile};
 ghost use Rattle.flow_feed.specs.Shared.{IsGivenShared, IsInSteps};
 
 use crate::appender::{Appender, SharedAppender};
@@ -21,8 +21,9 @@ use std::sync::Wait;
 /// then how it ended.
 fn pass<R: Read>(reader: &mut MessageReader, input: &mut R, first: u64) -> Option<Fed>
     requires { reader.old.stopped ≡ None }
-    ensures { ArePassed first (progress reader.old (R.remaining input.old))
+    ensures passed { ArePassed first (progress reader.old (R.remaining input.old))
         (progress reader.new (R.remaining input.new)) result }
+    ensures stop { IfSome result (λ fed. IsOfFile fed.stop) }
 {
     for _ in 0..first {
         match reader.advance(input) {
@@ -49,7 +50,8 @@ fn pass<R: Read>(reader: &mut MessageReader, input: &mut R, first: u64) -> Optio
 /// together, up to 64 messages, and is given as soon as it is read; one that is refused by what its messages are is
 /// given message by message. What is reported counts the messages of the File, those that were only read too.
 pub fn feed<A: Appender, R: Read>(appender: &mut A, alloc: Global, input: &mut R, first: u64) -> Fed
-    ensures { IsFed A.appends first appender.old appender.new (R.remaining input.old) result }
+    ensures fed { IsFed A.appends first appender.old appender.new (R.remaining input.old) result }
+    ensures stop { IsOfFile result.stop }
 {
     let Ok(mut reader) = MessageReader::new(alloc) else {
         return Fed {
@@ -94,6 +96,7 @@ pub fn feed_shared<D: Disk, J: Naming, W: Wait, C: Counter + Drop, R: Read>(
     first: u64,
 ) -> Fed
     ensures fed { IsFed (IsGivenShared D.Disk J.opening) first appender.old appender.new (R.remaining input.old) result }
+    ensures stop { IsOfFile result.stop }
     ensures steps { appender.new.whole ≡ true
         → IsInSteps first appender.old.steps appender.new.steps (R.remaining input.old) result }
 {

@@ -4,7 +4,7 @@ ghost use Rattle.std.specs.Prelude.{◌≡◌, ◌≤◌, ◌<◌, ◌+◌, ◌�
 ghost use Rattle.flow_codec.specs.Stream.{progress};
 ghost use Rattle.flow_gate.specs.Scan.{texts};
 ghost use Rattle.flow_gate.specs.Steps.{slices};
-ghost use Rattle.flow_feed.specs.Feed.{AreRead};
+ghost use Rattle.flow_feed.specs.Feed.{AreRead, IsOfFile};
 
 use crate::batch::FeedStop;
 use flow_codec::MessageReader;
@@ -81,6 +81,7 @@ pub(crate) fn read_batch<R: Read>(alloc: Global, reader: &mut MessageReader, inp
         result.stop (progress reader.new (R.remaining input.new)) }
     ensures few { length result.messages.items ≤ 64 }
     ensures some { result.is_last ≡ false → 0 < length result.messages.items }
+    ensures stop { IsOfFile result.stop }
 {
     let mut messages = Vec::new(alloc);
     for _ in 0..MOST_TOGETHER {

@@ -147,14 +147,8 @@ impl<S: Directory> Disk for FolderDisk<S> {
         self.measure(file)
     }
 
-    fn read(
-        &mut self,
-        alloc: Global,
-        file: u64,
-        at: u64,
-        count: usize,
-    ) -> Result<Vec<u8>, DiskError> {
-        self.copy_out(alloc, file, at, count)
+    fn read_into(&mut self, file: u64, at: u64, octets: &mut [u8]) -> Result<(), DiskError> {
+        self.fill(file, at, octets)
     }
 
     fn write_at(&mut self, file: u64, at: u64, octets: &[u8]) -> Result<(), DiskError> {

@@ -1,6 +1,6 @@
 // What each call on a disk does to its folder, and what it reports.
 ghost use Rattle.std.specs.Prelude.{◌≡◌, ◌≢◌, ◌+◌, ◌<◌, ◌≤◌, ◌^◌, ◌↔◌, ◌||◌, ℕ, max, true, false, IsTrue, is_some};
-ghost use Rattle.std.specs.Prelude.{[], Contains, length, take, drop, vec_len, OnOk, OnErr, IfOk};
+ghost use Rattle.std.specs.Prelude.{[], Contains, length, take, drop, OnOk, OnErr, IfOk};
 ghost use Rattle.std.specs.Ordering.{nat_cmp};
 ghost use Rattle.std.specs.BTreeMap.{get};
 ghost use Rattle.std.specs.List.Sorted.{IsStrictlyIncreasing};
@@ -71,32 +71,8 @@ impl<S: Directory> FolderDisk<S> {
         }
     }
 
-    /// Reads `count` octets of a file from place `at` on.
-    pub(crate) fn copy_out(
-        &mut self,
-        alloc: Global,
-        file: u64,
-        at: u64,
-        count: usize,
-    ) -> Result<Vec<u8>, DiskError>
-        ensures honest { S.honest self.new.folder.system ≡ S.honest self.old.folder.system }
-        ensures table { self.new.table ≡ self.old.table }
-        ensures count { IfOk result (λ octets. vec_len octets ≡ count) }
-        ensures octets { IsTrue (S.honest self.old.folder.system) → IfOk result
-            (λ octets. octets.items ≡ take count (drop at (S.files self.old.folder.system file).held.reads)) }
-        ensures seen { IsTrue (S.honest self.old.folder.system)
-            → (n : ℕ) → IsSeen (S.files self.old.folder.system n) (S.files self.new.folder.system n) }
-        ensures time { IsTrue (S.honest self.old.folder.system) → Passes S.moment S.left_since
-            self.old.folder.system self.new.folder.system (held_of (S.files self.old.folder.system)) }
-        ensures cause { HasCause DiskError.Fault self.old.failed self.new.failed result }
-    {
-        let mut octets = vec![in alloc; 0u8; count]?;
-        self.fill(file, at, &mut octets)?;
-        Ok(octets)
-    }
-
     /// Reads octets of a file from a place on: as many as asked.
-    fn fill(&mut self, file: u64, at: u64, octets: &mut [u8]) -> Result<(), DiskError>
+    pub(crate) fn fill(&mut self, file: u64, at: u64, octets: &mut [u8]) -> Result<(), DiskError>
         ensures honest { S.honest self.new.folder.system ≡ S.honest self.old.folder.system }
         ensures table { self.new.table ≡ self.old.table }
         ensures octets { IsTrue (S.honest self.old.folder.system) → OnOk result

@@ -3,7 +3,6 @@ ghost use Rattle.std.specs.Prelude.{◌≡◌, IsTrue, length};
 
 use flow_directory::{CallError, FileReader};
 use flow_disk::{DiskError, Faults, MayFail, SealedFile};
-use std::alloc::Global;
 
 /// Evidence that a read of a `FolderSealed` failed.
 #[derive(Drop)]
@@ -55,16 +54,14 @@ impl<R: FileReader> SealedFile for FolderSealed<R> {
         self.size
     }
 
-    fn read(
+    fn read_into(
         &self,
-        alloc: Global,
         faults: &mut Faults<Self>,
         at: u64,
-        count: usize,
-    ) -> Result<Vec<u8>, DiskError> {
-        let mut octets = vec![in alloc; 0u8; count]?;
-        match self.reader.read(at, &mut octets) {
-            Ok(()) => Ok(octets),
+        buffer: &mut [u8],
+    ) -> Result<(), DiskError> {
+        match self.reader.read(at, buffer) {
+            Ok(()) => Ok(()),
             Err(error) if error.is_out_of_memory() => Err(DiskError::OutOfMemory),
             Err(_) => {
                 faults.raise(&ReadFailed { _made_here: () });

@@ -195,16 +195,9 @@ where
         }
     }
 
-    fn read(
-        &mut self,
-        alloc: Global,
-        file: u64,
-        at: u64,
-        count: usize,
-    ) -> Result<Vec<u8>, DiskError> {
-        let mut octets = vec![in alloc; 0u8; count]?;
-        match self.files.read(file, at, &mut octets) {
-            Ok(()) => Ok(octets),
+    fn read_into(&mut self, file: u64, at: u64, octets: &mut [u8]) -> Result<(), DiskError> {
+        match self.files.read(file, at, octets) {
+            Ok(()) => Ok(()),
             Err(e) if e.kind() == ErrorKind::OutOfMemory => Err(DiskError::OutOfMemory),
             Err(error) => Err(self.fault_of(&error)),
         }

@@ -44,7 +44,8 @@ use Rattle.flow_inspect.specs.declared.lasting.Lasted.{Lasted}
 use Rattle.flow_inspect.specs.declared.span.Span.{Span}
 use Rattle.flow_inspect.specs.declared.tally.Tally.{Tally}
 use Rattle.flow_inspect.specs.Lasting.{lasted_after, lastings_of, none_lasted}
-use Rattle.flow_inspect.specs.Caveats.{is_placed, is_sampled, is_uncounted}
+use Rattle.flow_codec.specs.Caveats.{is_sampled, is_uncounted}
+use Rattle.flow_measure.specs.Caveats.{is_placed}
 use Rattle.flow_inspect.specs.Counting.{HasCounted, HasRisen, Inspected, counts_of, is_flow, is_option, starts_of}
 use Rattle.flow_inspect.specs.Counting.{walked_of, widened}
 use Rattle.flow_report.specs.declared.format.Format.{Format}

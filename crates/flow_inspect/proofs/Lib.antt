@@ -1,4 +1,3 @@
-pub mod ElementsLoop
 pub mod EndsLoop
 pub mod Following
 pub mod Alone

@@ -17,7 +17,8 @@ use Rattle.flow_measure.proofs.SinkSteps.{one_more, none_more}
 use Rattle.flow_inspect.specs.declared.counting.RecordCounts.{RecordCounts}
 use Rattle.flow_inspect.specs.declared.span.Span.{Span}
 use Rattle.flow_inspect.specs.declared.lasting.Lasted.{Lasted}
-use Rattle.flow_inspect.specs.Caveats.{are_uncounted, elements_of, has_no_start, is_placed, is_sampled, is_uncounted}
+use Rattle.flow_codec.specs.Caveats.{are_uncounted, elements_of, is_sampled, is_uncounted}
+use Rattle.flow_measure.specs.Caveats.{has_no_start, is_placed}
 use Rattle.flow_inspect.specs.Lasting.{ends_of, lasted_after, lasting, lasting_of, lastings_of, with_lasting}
 use Rattle.flow_inspect.specs.Counting.{HasCounted, is_flow, is_option, starts_of, widened}
 

@@ -7,7 +7,8 @@ use Rattle.flow_codec.specs.Unread.{counted}
 use Rattle.flow_measure.specs.Flows.{flows_of_records}
 use Rattle.flow_inspect.specs.declared.counting.RecordCounts.{RecordCounts}
 use Rattle.flow_inspect.specs.declared.span.Span.{Span}
-use Rattle.flow_inspect.specs.Caveats.{is_placed, is_sampled, is_uncounted}
+use Rattle.flow_codec.specs.Caveats.{is_sampled, is_uncounted}
+use Rattle.flow_measure.specs.Caveats.{is_placed}
 use Rattle.flow_inspect.specs.Lasting.{lasted_after, lastings_of, none_lasted}
 
 -- a record of a Template, and one of an Options Template

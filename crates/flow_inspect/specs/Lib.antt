@@ -1,4 +1,3 @@
-pub mod Caveats
 pub mod Lasting
 pub mod Counting
 pub mod Reports

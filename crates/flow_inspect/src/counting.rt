@@ -4,11 +4,10 @@ ghost use Rattle.std.specs.Prelude.{◌≡◌, ◌+◌, ◌-◌, ◌^◌, min, i
 ghost use Rattle.flow_codec.specs.Fields.{fields_in};
 ghost use Rattle.flow_inspect.specs.Lasting.{ends_of, lasting, with_lasting};
 
-use crate::caveats::{are_uncounted, elements_of, has_no_start};
 use crate::lasting::{Lasted, lasted_after, lasting};
 use crate::span::{Span, widened};
 use flow_codec::{Definition, Header, RecordSink};
-use flow_measure::flow_of;
+use flow_measure::{flow_of, has_no_start};
 use std::convert::Infallible;
 
 /// How many data records a message has, by the kind of their definition, when their flows start, how long they last,
@@ -75,10 +74,9 @@ impl RecordSink for RecordCounts {
             self.records = self.records.saturating_add(1);
             self.starts = widened(self.starts, flow_of(header, definition, octets).start);
             self.lasted = with_flow(self.lasted, definition, octets);
-            self.placed = risen(self.placed, has_no_start(header, definition, octets));
-            let elements = elements_of(definition);
-            self.uncounted = risen(self.uncounted, are_uncounted(elements));
-            self.sampled = risen(self.sampled, elements.rate);
+            self.placed = risen(self.placed, has_no_start(definition, octets));
+            self.uncounted = risen(self.uncounted, definition.is_uncounted());
+            self.sampled = risen(self.sampled, definition.is_sampled());
         }
         Ok(())
     }

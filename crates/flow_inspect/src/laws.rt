@@ -3,7 +3,7 @@
 ghost use Rattle.std.specs.Prelude.{◌≡◌, ℕ, List, Option, nat_eq, unwrap_or};
 ghost use Rattle.std.specs.Map.{lookup};
 ghost use Rattle.flow_measure.specs.Flows.{start_of};
-ghost use Rattle.flow_inspect.specs.Caveats.{own_start};
+ghost use Rattle.flow_measure.specs.Caveats.{own_start};
 ghost use Rattle.flow_inspect.specs.Counting.{Inspected};
 ghost use Rattle.flow_inspect.specs.Reports.{own, report_of, reports_of};
 

@@ -10,7 +10,6 @@
 //! domains together comes last. Memory holds one message, and some 190 octets for each domain.
 #![tactic(auto)]
 
-mod caveats;
 mod counting;
 mod inspecting;
 mod lasting;

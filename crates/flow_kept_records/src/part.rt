@@ -57,7 +57,7 @@ fn tell_messages<S: SealedFile, W: Write>(
     let mut count = 0;
     'messages: loop {
         let at = window.place();
-        if !advance(&mut window, alloc, &part.reader, faults)? {
+        if !advance(&mut window, &part.reader, faults)? {
             if count != part.messages {
                 let file = part.reader.file();
                 return Err(RecordsRefusal::Query(ReadRefusal::Damaged(file, part.length)));

@@ -185,6 +185,12 @@ flow_of_counts header vs =
       milliseconds_after no_counts vs,
     ) refl
 
+-- what the starts alone decide
+pub by_starts : (own : Option ℕ → Option ℕ → Bool) (vs : List (Role × List ℕ))
+    → own (counts_with no_counts vs).milliseconds (counts_with no_counts vs).seconds
+    ≡ own (number_in Milliseconds vs) (number_in Seconds vs)
+by_starts own vs = rw (milliseconds_after no_counts vs, seconds_after no_counts vs) refl
+
 -- ---- the fields of a record, one after the other
 
 module _ (fields : List Field) (i : ℕ) (counts : Counts) (all : Counts) where

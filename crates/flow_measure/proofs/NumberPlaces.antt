@@ -1,6 +1,7 @@
 -- The numbers at the places of a plan are those of the first values that count.
 use Rattle.std.proofs.Common.{◌≡◌, ℕ, ◌<◌, ◌≤◌, Bool, true, false, cond, inl, inr, List, [], ◌∷◌, ◌++◌}
-use Rattle.std.proofs.Common.{length, take, drop, Option, Some, None, refl, sym, ap, subst, ◌∙◌, eqb, arith}
+use Rattle.std.proofs.Common.{length, take, drop, Option, Some, None, refl, sym, ap, ap₂, subst, ◌∙◌, eqb}
+use Rattle.std.proofs.Common.{arith}
 use Rattle.std.specs.Prelude.{nat_le, nat_lt, ◌&&◌, option_map}
 use Rattle.std.proofs.lemmas.Bool.{ltb-true, leb-true}
 use Rattle.std.proofs.lemmas.List.{length-append, take_at, drop_at, drop-drop}
@@ -159,3 +160,13 @@ module _ (fs : List (ElementId × ℕ)) (octets : List ℕ) (xs : List Field) (h
         (same Milliseconds fs octets xs h fixed).0,
       ) refl in
       at_places ∙ ap (λ (ys : List Field). flow_from header (values_of ys)) (fields_are fs octets xs h)
+
+  -- what the starts alone decide
+  pub by_starts_at_places : (own : Option ℕ → Option ℕ → Bool)
+      → own (number_at octets (place_of Milliseconds fs)) (number_at octets (place_of Seconds fs))
+      ≡ own (number_in Milliseconds (values_of (fields_in fs octets))) (number_in Seconds (values_of (fields_in fs octets)))
+  unfolding AreSame
+  by_starts_at_places own =
+      ap₂ own (same Milliseconds fs octets xs h fixed).0 (same Seconds fs octets xs h fixed).0
+      ∙ ap (λ (ys : List Field). own (number_in Milliseconds (values_of ys)) (number_in Seconds (values_of ys)))
+      (fields_are fs octets xs h)

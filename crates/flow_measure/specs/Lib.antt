@@ -8,3 +8,4 @@ pub mod View
 pub mod Query
 pub mod Printed
 pub mod Span
+pub mod Caveats

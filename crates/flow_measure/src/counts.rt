@@ -1,6 +1,7 @@
 //! The numbers that count in a data record.
 
 ghost use Rattle.std.specs.Prelude.{◌≡◌, ◌≤◌, length};
+ghost use Rattle.std.specs.Option.{is_none};
 ghost use Rattle.std.specs.List.{AllByRecursion};
 ghost use Rattle.flow_codec.specs.Fields.{fields_in};
 ghost use Rattle.flow_codec.specs.Plan.{most_of, values_by, values_of};
@@ -8,6 +9,7 @@ ghost use Rattle.flow_codec.specs.Raw.{IsWholeRecord};
 ghost use Rattle.flow_elements.specs.Values.{number_of};
 ghost use Rattle.flow_measure.specs.Counting.{no_counts, with_value, counts_with, flow_by, step_values, step_rest};
 ghost use Rattle.flow_measure.specs.Counting.{IsStep, IsPlace, IsWide, ArePlaces, number_at, counts_at};
+ghost use Rattle.flow_measure.specs.Caveats.{has_no_start, own_start};
 ghost use Rattle.flow_measure.specs.Flows.{start_of, flow_from};
 
 use crate::flow::Flow;
@@ -103,6 +105,18 @@ fn start_of(time: u32, milliseconds: Option<u64>, seconds: Option<u32>) -> u32
         }
     }
     seconds.unwrap_or(time)
+}
+
+/// Whether there is neither a start in milliseconds that fit in 32 bits of seconds, nor one in seconds.
+fn has_none(milliseconds: Option<u64>, seconds: Option<u32>) -> bool
+    ensures { result ≡ is_none (own_start milliseconds seconds) }
+{
+    if let Some(n) = milliseconds {
+        if n / 1000 <= 4294967295 {
+            return false;
+        }
+    }
+    seconds.is_none()
 }
 
 /// The numbers that count under these steps.
@@ -230,5 +244,32 @@ pub fn start_of_flow(header: &Header, definition: &Definition, octets: &[u8]) ->
     match &definition.plan().way {
         Way::ByPlaces(places) => start_at(header, octets, places),
         Way::BySteps(steps) => counts_by(steps.as_slice(), octets).flow(header).start,
+    }
+}
+
+/// Whether the record whose numbers are at these places has no start.
+#[inline(always)]
+fn has_none_at(octets: &[u8], places: &Places) -> bool
+    requires { ArePlaces octets.now places.now }
+    ensures { result ≡ is_none (own_start (counts_at octets.now places.now).milliseconds
+        (counts_at octets.now places.now).seconds) }
+{
+    let milliseconds = milliseconds_at(octets, places.milliseconds);
+    has_none(milliseconds, seconds_at(octets, places.seconds))
+}
+
+/// Whether a whole record of a Template has no start that counts, so that its flow starts at the Export Time of its
+/// message. Where each field is of fixed length, nothing else of it is read.
+#[inline(always)]
+pub fn has_no_start(definition: &Definition, octets: &[u8]) -> bool
+    requires { IsWholeRecord definition.now octets.now }
+    ensures { result ≡ has_no_start (values_of (fields_in definition.now.fields octets.now)) }
+{
+    match &definition.plan().way {
+        Way::ByPlaces(places) => has_none_at(octets, places),
+        Way::BySteps(steps) => {
+            let counts = counts_by(steps.as_slice(), octets);
+            has_none(counts.milliseconds, counts.seconds)
+        }
     }
 }

@@ -1,5 +1,6 @@
 // Frozen files of which some reads fail.
-ghost use Rattle.std.specs.Prelude.{◌≡◌, ◌⊎◌, ◌↔◌, ◌+◌, ◌≤◌, IsTrue, IfOk, IsErrOf, take, drop, vec_len};
+ghost use Rattle.std.specs.Prelude.{◌≡◌, ◌⊎◌, ◌↔◌, ◌+◌, ◌≤◌, IsTrue, IfOk, OnOk, IsErrOf, take, drop};
+ghost use Rattle.std.specs.Prelude.{length, vec_len};
 ghost use Rattle.flow_disk.specs.Cause.{HasCause};
 ghost use Rattle.flow_memory_disk.specs.Failing.{Reaches};
 
@@ -50,6 +51,33 @@ impl<S: SealedFile> SealedFile for FusedFile<S> {
 
     fn length(&self) -> u64 {
         self.sealed.length()
+    }
+
+    fn read_into(
+        &self,
+        faults: &mut Faults<Self>,
+        at: u64,
+        buffer: &mut [u8],
+    ) -> Result<(), DiskError>
+        requires { at + length buffer.old ≤ S.size self.now.sealed }
+        ensures octets { IsTrue (S.honest self.now.sealed)
+            → OnOk result (buffer.new ≡ take (length buffer.old) (drop at (S.octets self.now.sealed))) }
+        ensures cause { HasCause DiskError.Fault faults.old faults.new result }
+        ensures able { IsErrOf result DiskError.Fault
+            → Reaches self.now.bad at (length buffer.old) ⊎ S.can_fail self.now.sealed at (length buffer.old) }
+        // A read that reaches a bad octet fails.
+        ensures bad { Reaches self.now.bad at (length buffer.old) → IsErrOf result DiskError.Fault }
+    {
+        let answer = if self.reaches(at, buffer.len()) {
+            Err(DiskError::Fault)
+        } else {
+            let mut below = Faults::<S>::new();
+            self.sealed.read_into(&mut below, at, buffer)
+        };
+        if answer == Err(DiskError::Fault) {
+            faults.raise(&BadRead { _made_here: () });
+        }
+        answer
     }
 
     fn read(

@@ -68,6 +68,24 @@ impl Disk for MemoryDisk {
         Ok(self.octets(file).len() as u64)
     }
 
+    fn read_into(&mut self, file: u64, at: u64, octets: &mut [u8]) -> Result<(), DiskError>
+        requires { at + length octets.old ≤ ((story_of self.old).marks file).size }
+        ensures clock { moment_of self.old ≤ moment_of self.new }
+        ensures octets { OnOk result
+            (octets.new ≡ take (length octets.old) (drop at (held_of (story_of self.old) file).reads)) }
+        ensures marks { Stays (story_of self.old).marks (story_of self.new).marks }
+        ensures held { Stays (held_of (story_of self.old)) (held_of (story_of self.new)) }
+        ensures time { Passes moment_of left_after_stop self.old self.new (held_of (story_of self.old)) }
+        ensures cause { HasCause DiskError.Fault self.old.faults self.new.faults result }
+        ensures done { is_err result ≡ false }
+        ensures same { self.new ≡ self.old }
+    {
+        let at = at as usize;
+        let count = octets.len();
+        octets.copy_from_slice(&self.octets(file)[at..at + count]);
+        Ok(())
+    }
+
     fn read(
         &mut self,
         alloc: Global,

@@ -179,6 +179,26 @@ impl<D: Disk, W: When> Disk for FailingDisk<D, W> {
         self.disk.length(file)
     }
 
+    fn read_into(&mut self, file: u64, at: u64, octets: &mut [u8]) -> Result<(), DiskError>
+        requires { at + length octets.old ≤ (D.marks self.old.disk file).size }
+        ensures honest { D.honest self.new.disk ≡ D.honest self.old.disk }
+        ensures clock { D.moment self.old.disk ≤ D.moment self.new.disk }
+        ensures octets { IsTrue (D.honest self.old.disk)
+            → OnOk result (octets.new ≡ take (length octets.old) (drop at (D.held self.old.disk file).reads)) }
+        ensures marks { Stays (D.marks self.old.disk) (D.marks self.new.disk) }
+        ensures held { IsTrue (D.honest self.old.disk) → Stays (D.held self.old.disk) (D.held self.new.disk) }
+        ensures time { IsTrue (D.honest self.old.disk)
+            → Passes D.moment D.left_since self.old.disk self.new.disk (D.held self.old.disk) }
+        ensures cause { HasCause DiskError.Fault (self.old.failed + D.faults self.old.disk)
+            (self.new.failed + D.faults self.new.disk) result }
+        ensures turn { TakesTurn W.fails W.next D.faults self.old self.new result }
+    {
+        if fails(&mut self.when, &mut self.failed) {
+            return Err(DiskError::Fault);
+        }
+        self.disk.read_into(file, at, octets)
+    }
+
     fn read(
         &mut self,
         alloc: Global,

@@ -1,6 +1,6 @@
 // A disk that lies.
-ghost use Rattle.std.specs.Prelude.{◌≡◌, ◌≤◌, ℕ, None, IfOk, vec_len};
-ghost use Rattle.flow_disk.specs.Cause.{HasCause, HasRisen};
+ghost use Rattle.std.specs.Prelude.{◌≡◌, ◌≤◌, ℕ, None};
+ghost use Rattle.flow_disk.specs.Cause.{HasRisen};
 ghost use Rattle.flow_memory_disk.specs.Lying.{told_of};
 
 use crate::lie::Lie;
@@ -34,22 +34,6 @@ fn distort(octets: &mut [u8], seed: u64) {
         }
         _ => {}
     }
-}
-
-/// The answer to a read: the octets that were read, then zeros up to the count that was asked for, all of them changed
-/// as a seed chooses.
-fn told_octets(
-    got: Result<Vec<u8>, DiskError>,
-    count: usize,
-    seed: u64,
-) -> Result<Vec<u8>, DiskError>
-    ensures count { IfOk result (λ octets. vec_len octets ≡ count) }
-    ensures cause { (was now : ℕ) → HasCause DiskError.Fault was now got → HasCause DiskError.Fault was now result }
-{
-    let mut octets = got?;
-    octets.resize(count, 0)?;
-    distort(&mut octets, seed);
-    Ok(octets)
 }
 
 /// A disk that lies, as a seed chooses: what is read of it, frozen files too, may be changed, forgotten or invented,
@@ -148,19 +132,14 @@ impl<D: Disk> Disk for LyingDisk<D> {
         Ok(self.lie.choose(file, real, self.seed))
     }
 
-    fn read(
-        &mut self,
-        alloc: Global,
-        file: u64,
-        at: u64,
-        count: usize,
-    ) -> Result<Vec<u8>, DiskError> {
+    fn read_into(&mut self, file: u64, at: u64, octets: &mut [u8]) -> Result<(), DiskError> {
         self.seed = following(self.seed);
-        let got = match self.lie.of(file) {
-            None => self.disk.read(alloc, file, at, count),
-            Some(_) => read_there(&mut self.disk, alloc, file, at, count),
-        };
-        told_octets(got, count, self.seed)
+        match self.lie.of(file) {
+            None => self.disk.read_into(file, at, octets)?,
+            Some(_) => read_there(&mut self.disk, file, at, octets)?,
+        }
+        distort(octets, self.seed);
+        Ok(())
     }
 
     fn write_at(&mut self, file: u64, at: u64, octets: &[u8]) -> Result<(), DiskError> {
@@ -251,21 +230,25 @@ impl<S: SealedFile> SealedFile for LyingFile<S> {
         self.told
     }
 
-    fn read(
+    fn read_into(
         &self,
-        alloc: Global,
         faults: &mut Faults<Self>,
         at: u64,
-        count: usize,
-    ) -> Result<Vec<u8>, DiskError> {
+        buffer: &mut [u8],
+    ) -> Result<(), DiskError> {
         let real = self.sealed.length();
         let place = at.min(real);
-        let there = (count as u64).min(real - place) as usize;
+        let there = (buffer.len() as u64).min(real - place) as usize;
+        buffer[there..].fill(0);
         let mut below = Faults::<S>::new();
-        let got = self.sealed.read(alloc, &mut below, place, there);
+        let got = self
+            .sealed
+            .read_into(&mut below, place, &mut buffer[..there]);
         if got == Err(DiskError::Fault) {
             faults.raise(&ReadBelow { _made_here: () });
         }
-        told_octets(got, count, following(self.seed.wrapping_add(at)))
+        got?;
+        distort(buffer, following(self.seed.wrapping_add(at)));
+        Ok(())
     }
 }

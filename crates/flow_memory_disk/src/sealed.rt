@@ -3,7 +3,6 @@ ghost use Rattle.std.specs.Prelude.{◌≡◌, true, length};
 ghost use Rattle.std.specs.Arc.{arc_value};
 
 use flow_disk::{DiskError, Faults, MayFail, SealedFile};
-use std::alloc::Global;
 use std::convert::Infallible;
 use std::sync::Arc;
 
@@ -49,14 +48,15 @@ impl SealedFile for MemorySealed {
         self.octets.len() as u64
     }
 
-    fn read(
+    fn read_into(
         &self,
-        alloc: Global,
         _faults: &mut Faults<Self>,
         at: u64,
-        count: usize,
-    ) -> Result<Vec<u8>, DiskError> {
+        buffer: &mut [u8],
+    ) -> Result<(), DiskError> {
         let at = at as usize;
-        Ok(self.octets[at..at + count].to_vec(alloc)?)
+        let end = at + buffer.len();
+        buffer.copy_from_slice(&self.octets[at..end]);
+        Ok(())
     }
 }

@@ -6,16 +6,14 @@ ghost use Rattle.flow_disk.specs.Files.{MarkedByWrite};
 ghost use Rattle.flow_memory_disk.specs.Lying.{resized};
 
 use flow_disk::{Disk, DiskError};
-use std::alloc::Global;
 
-/// Reads, of so many octets from a place on, those that the file has.
+/// Reads from a place on those octets that the file has, and zeros after them.
 pub(crate) fn read_there<D: Disk>(
     disk: &mut D,
-    alloc: Global,
     file: u64,
     at: u64,
-    count: usize,
-) -> Result<Vec<u8>, DiskError>
+    octets: &mut [u8],
+) -> Result<(), DiskError>
     ensures clock { D.moment disk.old ≤ D.moment disk.new }
     ensures marks { Changes (D.marks disk.old) (D.marks disk.new) file
         (resized (Some (D.marks disk.new file).size) (D.marks disk.old file)) }
@@ -23,8 +21,9 @@ pub(crate) fn read_there<D: Disk>(
 {
     let real = disk.length(file)?;
     let place = at.min(real);
-    let there = (count as u64).min(real - place) as usize;
-    disk.read(alloc, file, place, there)
+    let there = (octets.len() as u64).min(real - place) as usize;
+    octets[there..].fill(0);
+    disk.read_into(file, place, &mut octets[..there])
 }
 
 /// Writes octets at a place, or at the end where that comes first.

@@ -1,6 +1,6 @@
 -- What a command asks for, by its name and the values that were found for its arguments.
 use Rattle.std.specs.Prelude.{ℕ, ◌%◌, ◌==◌, ◌&&◌, ◌||◌, is_some, List, Option, Some, None, option_map, option_and_then}
-use Rattle.std.specs.Prelude.{codes, ◌-◌, if◌then◌else◌, [], get_or, length, nat_lt, not, take, Bool, true, false}
+use Rattle.std.specs.Prelude.{codes, ◌-◌, if◌then◌else◌, [], get_or, length, nat_le, nat_lt, not, take, Bool, true, false}
 use Rattle.std.specs.List.{list_any}
 use Rattle.std.specs.Option.{option_map_or}
 use Rattle.std.specs.Str.{bytes_eq}
@@ -11,7 +11,7 @@ use Rattle.flow_program.specs.declared.request.Request.TheVariants.{Measure, Dum
 use Rattle.flow_program.specs.declared.request.Request.TheVariants.{Create, Check, CheckFiles, CheckSeveral}
 use Rattle.flow_program.specs.declared.request.Request.TheVariants.{Totals, TotalsOfSeveral, Flows, FlowsOfSeveral, Records}
 use Rattle.flow_program.specs.declared.request.Request.TheVariants.{Feed, Shell, Roll, Merge, Explain}
-use Rattle.flow_program.specs.declared.request.Request.TheVariants.{Export, Templates}
+use Rattle.flow_program.specs.declared.request.Request.TheVariants.{Export, ExportByTime, Templates}
 use Rattle.flow_export_folder.specs.declared.span.MessageSpan.{MessageSpan}
 use Rattle.flow_refusals.specs.Table.{is_refusal}
 use Rattle.flow_program.specs.declared.arguments.MomentSpan.{MomentSpan}
@@ -328,9 +328,30 @@ messages_in rows =
     option_and_then (λ from. option_and_then (λ to. ordered (record { from = from; to = to })) (last_in rows))
     (first_in rows)
 
--- what `export` asks for
+-- messages are asked for by their numbers
+abbrev pub is_by_numbers : List Row → Bool
+is_by_numbers rows = is_given (codes "N") rows || is_given (codes "M") rows
+
+-- the first of two moments isn't before the second, whatever second it is now
+abbrev pub is_not_before : Moment → Moment → Bool
+is_not_before (Second a) (Second b) = nat_le b a
+is_not_before (Ago a) (Ago b) = nat_le a b
+is_not_before (Second a) (Ago b) = false
+is_not_before (Ago a) (Second b) = false
+
+-- a span that begins before it ends
+abbrev pub lasting : MomentSpan → Option MomentSpan
+lasting span = if is_not_before span.from span.to then None else Some span
+
+-- `--since` and `--until`, the first before the second, and no number of a message beside them
+abbrev pub time_in : List Row → Option MomentSpan
+time_in rows = if is_by_numbers rows then None else option_and_then lasting (worded_span_in rows)
+
+-- what `export` asks for: messages by their numbers, or those of a span of time
 abbrev pub exported_in : List Row → Option Request
-exported_in rows = option_and_then (λ folder. option_map (Export folder) (messages_in rows)) (folder_in rows)
+exported_in rows =
+    option_and_then (λ folder. if is_by_moments rows then option_map (ExportByTime folder) (time_in rows)
+    else option_map (Export folder) (messages_in rows)) (folder_in rows)
 
 -- what the name of a command that exports an archive, and the values of its arguments, ask for
 abbrev pub exporting : Text → List Row → Option Request

@@ -141,10 +141,15 @@ feed_shape = record passing_shape {
   rules = passing_shape.rules ++ flag (codes "datagrams") ∷ option (codes "PATH") (codes "end-on") ∷ [];
 }
 
-abbrev pub export_shape : Shape
-export_shape = record (new_shape (codes "export")) {
+-- the arguments of `export` that ask by numbers
+abbrev pub numbered_shape : Shape
+numbered_shape = record (new_shape (codes "export")) {
   rules = folder_rule ∷ option (codes "N") (codes "from") ∷ option (codes "M") (codes "to") ∷ [];
 }
+
+-- and by moments
+abbrev pub export_shape : Shape
+export_shape = record numbered_shape { rules = numbered_shape.rules ++ moment_rules }
 
 abbrev pub templates_shape : Shape
 templates_shape = record (new_shape (codes "templates")) { rules = folder_rule ∷ [] }

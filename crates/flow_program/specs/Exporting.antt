@@ -1,21 +1,27 @@
 -- What a run of `export` or `templates` answers.
-use Rattle.std.specs.Prelude.{◌≡◌, ◌⊎◌, ℕ, ◌++◌, List, Option, Result, Ok, Err, codes}
+use Rattle.std.specs.Prelude.{◌≡◌, ◌⊎◌, ℕ, ◌++◌, true, List, Option, Result, Ok, Err, codes}
 use Rattle.std.specs.Fmt.{decimal}
 use Rattle.std.specs.Io.KnownBytes.{Keeps}
 use Rattle.flow_commands.specs.declared.archive_refusal.ArchiveRefusal.{ArchiveRefusal}
 use Rattle.flow_commands.specs.declared.archive_refusal.ArchiveRefusal.TheVariants as archive
 use Rattle.flow_commands.specs.Archives.{archive_printed, archive_status, of_folder, of_opening, of_query}
 use Rattle.flow_disk.specs.declared.disk.Disk.{Ghosts}
+use Rattle.flow_export.specs.declared.starting.TimeSpan.{TimeSpan}
 use Rattle.flow_export.specs.Export.{AreTemplates, Writes}
+use Rattle.flow_export.specs.Span.{IsSomeExport}
 use Rattle.flow_export_folder.specs.declared.refusal.ArchiveExportRefusal.{ArchiveExportRefusal}
 use Rattle.flow_export_folder.specs.declared.refusal.ArchiveExportRefusal.TheVariants.{Folder, Opening, Query}
 use Rattle.flow_export_folder.specs.declared.refusal.ArchiveExportRefusal.TheVariants.{Rolled, Write}
 use Rattle.flow_export_folder.specs.declared.span.MessageSpan.{MessageSpan}
 use Rattle.flow_export_folder.specs.Asked.{ExportsIn, IsExportOfSome, TemplatesIn, WritesOrNot, WritesUpTo}
+use Rattle.flow_export_folder.specs.ByTime.{ExportsByTimeIn, WritesByTime}
 use Rattle.flow_refusals.specs.declared.code.RefusalCode.TheVariants as code
 use Rattle.flow_refusals.specs.Table.{code_text, row_of}
 use Rattle.flow_report.specs.Writing.{AppendsFront}
+use Rattle.flow_program.specs.Arguments.{depends_on_now, span_at}
+use Rattle.flow_program.specs.declared.arguments.MomentSpan.{MomentSpan}
 use Rattle.flow_program.specs.Printed.{told_lines}
+use Rattle.flow_program.specs.Several.{no_clock}
 
 -- messages up to this one are in sums alone
 abbrev pub rolled_printed : ℕ → List ℕ
@@ -62,6 +68,32 @@ abbrev pub MessagesEnd : {D S X : Type 0} → Ghosts D S X → MessageSpan → O
 MessagesEnd g span old new before after status =
     ExportEnds (Writes (IsExportOfSome span) old new × ExportsIn g span old new (Ok tt))
     (λ e. WritesUpTo (IsExportOfSome span) span old new e × ExportsIn g span old new (Err e)) before after status
+
+-- the seconds of a span, where it is now the second `now`
+abbrev pub time_at : ℕ → MomentSpan → TimeSpan
+time_at now span = record { from = (span_at now span).from; to = (span_at now span).to }
+
+-- `export` of a span, likewise: just the messages of it, and whatever the disk messages that restate some templates,
+-- and then whole messages; or a prefix of such octets, or nothing.
+abbrev pub TimeEnd : {D S X : Type 0} → Ghosts D S X → TimeSpan → Option (List ℕ) → Option (List ℕ)
+    → Option (List ℕ) → Option (List ℕ) → ℕ → Type 0
+TimeEnd g span old new before after status =
+    ExportEnds (Writes IsSomeExport old new × ExportsByTimeIn g span old new (Ok tt))
+    (λ e. WritesByTime old new e × ExportsByTimeIn g span old new (Err e)) before after status
+
+-- no time is known, on which the span depends
+abbrev pub HasNoTime : MomentSpan → Option (List ℕ) → Option (List ℕ) → Option (List ℕ) → Option (List ℕ) → ℕ → Type 0
+HasNoTime span old new before after status =
+    (depends_on_now span ≡ true) × (status ≡ archive_status no_clock)
+    × AppendsFront before after (told_lines (archive_printed no_clock)) × Keeps old new
+
+-- Its seconds are those of some second that it is now, of which no contract knows more; of a span that doesn't depend
+-- on it they are its own.
+abbrev pub ByTimeEnd : {D S X : Type 0} → Ghosts D S X → MomentSpan → Option (List ℕ) → Option (List ℕ)
+    → Option (List ℕ) → Option (List ℕ) → ℕ → Type 0
+ByTimeEnd g span old new before after status =
+    ((now : ℕ) × TimeEnd g (time_at now span) old new before after status)
+    ⊎ HasNoTime span old new before after status
 
 -- `templates`, likewise: just those in force, and whatever the disk messages that restate some templates, and nothing
 -- else; or a prefix of such octets, or nothing

@@ -42,7 +42,9 @@ words_text line.Files =
     ++ codes "--keep and --merge are how many of the newest segments, and rolled files, are left, 0 to 4294967295"
 words_text line.Number = codes "no refusal has this NUMBER: they are 1 to 11, 14 to 17, 20 to 27, 30 to 32, 40 to 52"
 words_text line.Messages =
-    codes "--from is 1 to 281474976710655, --to up to 281474976710655 and at least --from less 1, digits alone"
+    codes "--from is 1 to 281474976710655, --to up to 281474976710655 and at least --from less 1, digits alone; "
+    ++ codes "--since and --until, in their place, are as 2026-11-25, 2026-11-25T06:00, 1d, 6h or now, "
+    ++ codes "the first earlier"
 words_text line.Formats = codes "--csv and --json are two formats: one of them is taken, not both"
 words_text (line.Field name) = field_text name
 words_text line.OutOfMemory = codes "11 OutOfMemory"

@@ -18,7 +18,7 @@ use Rattle.flow_program.specs.declared.request.Request.TheVariants.{Measure, Dum
 use Rattle.flow_program.specs.declared.request.Request.TheVariants.{Create, Check, CheckFiles, Totals, Flows}
 use Rattle.flow_program.specs.declared.request.Request.TheVariants.{CheckSeveral, TotalsOfSeveral, FlowsOfSeveral, Records}
 use Rattle.flow_program.specs.declared.request.Request.TheVariants.{Feed, Shell, Roll as RollAsked, Merge as MergeAsked}
-use Rattle.flow_program.specs.declared.request.Request.TheVariants.{Explain, Export, Templates}
+use Rattle.flow_program.specs.declared.request.Request.TheVariants.{Explain, Export, ExportByTime, Templates}
 use Rattle.flow_commands.specs.declared.archive_refusal.ArchiveRefusal.{ArchiveRefusal}
 use Rattle.flow_commands.specs.Archives.{archive_printed, archive_status}
 use Rattle.flow_commands.specs.Check.{IsChecked, KeepsOrChecks}
@@ -41,7 +41,7 @@ use Rattle.flow_program.specs.Arguments.{has_input, span_at}
 use Rattle.flow_program.specs.declared.arguments.MomentSpan.{MomentSpan}
 use Rattle.flow_program.specs.Checks.{ChecksEnd, MayBeOutcome}
 use Rattle.flow_program.specs.CommandLine.{asked}
-use Rattle.flow_program.specs.Exporting.{MessagesEnd, TemplatesEnd}
+use Rattle.flow_program.specs.Exporting.{ByTimeEnd, MessagesEnd, TemplatesEnd}
 use Rattle.flow_program.specs.Inspecting.{InspectEnds}
 use Rattle.flow_program.specs.Requested.{IsLineError}
 use Rattle.flow_program.specs.Several.{totals_wanted, SeveralEnd}
@@ -213,6 +213,8 @@ Runs g view octets (MergeAsked folder keep) input left old new before after stat
     Keeps input left × JobEnds g Merge keep old new before after status
 Runs g view octets (Export folder span) input left old new before after status =
     Keeps input left × MessagesEnd view span old new before after status
+Runs g view octets (ExportByTime folder span) input left old new before after status =
+    Keeps input left × ByTimeEnd view span old new before after status
 Runs g view octets (Templates folder) input left old new before after status =
     Keeps input left × TemplatesEnd view old new before after status
 Runs g view octets (Explain number) input left old new before after status = Keeps input left × IsShown before after status

@@ -259,14 +259,14 @@ fn moment_in(arguments: &ArgMatches<'_>, id: &str, usual: Moment) -> Option<Mome
 
 /// Whether an argument is among a command's arguments.
 #[tactic(auto, using(crate::proofs::Reading::first_value_is))]
-fn is_given(arguments: &ArgMatches<'_>, id: &str) -> bool
+pub(crate) fn is_given(arguments: &ArgMatches<'_>, id: &str) -> bool
     ensures { result ≡ is_given id.now (rows_of (found_of arguments.now)) }
 {
     arguments.get_str(id).is_some()
 }
 
 /// The span that `--since` and `--until` give, among the arguments of a command that asks for one.
-fn worded_span_in(arguments: &ArgMatches<'_>) -> Option<MomentSpan>
+pub(crate) fn worded_span_in(arguments: &ArgMatches<'_>) -> Option<MomentSpan>
     ensures { result ≡ worded_span_in (rows_of (found_of arguments.now)) }
 {
     if is_given(arguments, "FROM") {
@@ -310,7 +310,7 @@ pub(crate) fn are_swapped(arguments: &ArgMatches<'_>) -> bool
 }
 
 /// Whether a span is given by moments, among the arguments of a command that asks for one.
-fn is_by_moments(arguments: &ArgMatches<'_>) -> bool
+pub(crate) fn is_by_moments(arguments: &ArgMatches<'_>) -> bool
     ensures { result ≡ is_by_moments (rows_of (found_of arguments.now)) }
 {
     is_given(arguments, "SINCE") || is_given(arguments, "UNTIL")

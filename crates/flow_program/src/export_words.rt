@@ -5,15 +5,17 @@ ghost use Rattle.clap.specs.Matches.{found_of};
 ghost use Rattle.clap.specs.Simple.{app_of, shape_of};
 ghost use Rattle.clap.specs.Walk.{rows_of};
 ghost use Rattle.clap.specs.declared.builder.command.Command.TheViews.{out-Command as fields_of};
-ghost use Rattle.flow_program.specs.Arguments.{exporting, first_in, last_in, messages_in, ordered};
-ghost use Rattle.flow_program.specs.CommandLine.{export_shape, templates_shape, with_exports};
+ghost use Rattle.flow_program.specs.Arguments.{exported_in, exporting, first_in, is_by_numbers, is_not_before, last_in};
+ghost use Rattle.flow_program.specs.Arguments.{lasting, messages_in, ordered, time_in};
+ghost use Rattle.flow_program.specs.CommandLine.{export_shape, numbered_shape, templates_shape, with_exports};
 
-use crate::arguments::folder_in;
+use crate::arguments::{MomentSpan, folder_in, is_by_moments, is_given, worded_span_in};
 use crate::grammar::{folder_argument, option, with_queries};
 use crate::request::Request;
 use clap::{ArgMatches, Command};
 use flow_export_folder::MessageSpan;
 use flow_manifest::MOST_MESSAGES;
+use flow_moments::Moment;
 use flow_report::number_between;
 use std::alloc::{AllocError, Global};
 
@@ -31,7 +33,20 @@ const EXPORT_HELP: &str =
      are refused: 52 Rolled CUT, status 1. A damaged archive is reported as of check:\n\
      status 5; what was written before is a prefix.\n\
      \n\
-     Example: flowvault export flows --from 1000 --to 1999 > part.ipfix";
+     With --since or --until, in place of numbers, they are those of which some flow\n\
+     starts in the span, and, between the first and the last of these, those that\n\
+     define or withdraw templates. Messages are whole: flows of other times may be\n\
+     among them, and all that start in the span are. Where an interval of sums of\n\
+     rolled messages meets the span it is refused likewise, since they may have more.\n\
+     \n\
+     Examples: flowvault export flows --from 1000 --to 1999 > part.ipfix\n\
+     \x20         flowvault export flows --since 2026-11-25 > since.ipfix";
+
+/// What `--since` asks for.
+const EXPORT_SINCE: &str = "In place of numbers, flows from it on: a day, 1d, 6h, now";
+
+/// What `--until` asks for.
+const EXPORT_UNTIL: &str = "In place of numbers, flows before it, likewise [no end]";
 
 /// What `templates` does, in a line or two.
 const TEMPLATES_ABOUT: &str =
@@ -46,9 +61,9 @@ const TEMPLATES_HELP: &str =
      \n\
      Example: flowvault templates monday | flowvault feed tuesday -";
 
-/// The command `export`, with its help.
-fn export_command<'a>(alloc: Global) -> Result<Command<'a>, AllocError>
-    ensures shape { IfOk result (λ command. shape_of command ≡ export_shape) }
+/// The command `export` with the arguments that ask by numbers, and its help.
+fn numbered_command<'a>(alloc: Global) -> Result<Command<'a>, AllocError>
+    ensures shape { IfOk result (λ command. shape_of command ≡ numbered_shape) }
     ensures own { IfOk result (λ command. (fields_of command).has_globals ≡ false) }
 {
     Command::new(alloc, "export")
@@ -67,6 +82,16 @@ fn export_command<'a>(alloc: Global) -> Result<Command<'a>, AllocError>
             "to",
             "Number of the last message [the last of all]",
         ))
+}
+
+/// The command `export`, with its help.
+fn export_command<'a>(alloc: Global) -> Result<Command<'a>, AllocError>
+    ensures shape { IfOk result (λ command. shape_of command ≡ export_shape) }
+    ensures own { IfOk result (λ command. (fields_of command).has_globals ≡ false) }
+{
+    numbered_command(alloc)?
+        .arg(option(alloc, "SINCE", "since", EXPORT_SINCE))?
+        .arg(option(alloc, "UNTIL", "until", EXPORT_UNTIL))
 }
 
 /// The command `templates`, with its help.
@@ -131,15 +156,64 @@ fn messages_in(arguments: &ArgMatches<'_>) -> Option<MessageSpan>
     ordered(MessageSpan { from, to })
 }
 
+/// Whether messages are asked for by their numbers, among the arguments of `export`.
+fn is_by_numbers(arguments: &ArgMatches<'_>) -> bool
+    ensures { result ≡ is_by_numbers (rows_of (found_of arguments.now)) }
+{
+    is_given(arguments, "N") || is_given(arguments, "M")
+}
+
+/// Whether the first of two moments isn't before the second, whatever second it is now.
+fn is_not_before(from: Moment, to: Moment) -> bool
+    ensures { result ≡ is_not_before from to }
+{
+    match (from, to) {
+        (Moment::Second(from), Moment::Second(to)) => to <= from,
+        (Moment::Ago(from), Moment::Ago(to)) => from <= to,
+        (Moment::Second(_), Moment::Ago(_)) => false,
+        (Moment::Ago(_), Moment::Second(_)) => false,
+    }
+}
+
+/// A span that begins before it ends.
+fn lasting(span: MomentSpan) -> Option<MomentSpan>
+    ensures { result ≡ lasting span }
+{
+    if is_not_before(span.from, span.to) {
+        return None;
+    }
+    Some(span)
+}
+
+/// The span of time among the arguments of `export`, beside which no number is.
+fn time_in(arguments: &ArgMatches<'_>) -> Option<MomentSpan>
+    ensures { result ≡ time_in (rows_of (found_of arguments.now)) }
+{
+    if is_by_numbers(arguments) {
+        return None;
+    }
+    lasting(worded_span_in(arguments)?)
+}
+
+/// What `export` asks for: messages by their numbers, or those of a span of time.
+fn exported_in<'a>(arguments: &ArgMatches<'a>) -> Option<Request<'a>>
+    ensures { result ≡ exported_in (rows_of (found_of arguments.now)) }
+{
+    let folder = folder_in(arguments)?;
+    if is_by_moments(arguments) {
+        let span = time_in(arguments)?;
+        return Some(Request::ExportByTime { folder, span });
+    }
+    let span = messages_in(arguments)?;
+    Some(Request::Export { folder, span })
+}
+
 /// What a command that exports an archive asks for, by its name and its arguments.
 pub(crate) fn exporting<'a>(name: &str, arguments: &ArgMatches<'a>) -> Option<Request<'a>>
     ensures { result ≡ exporting name.now (rows_of (found_of arguments.now)) }
 {
     match name {
-        "export" => Some(Request::Export {
-            folder: folder_in(arguments)?,
-            span: messages_in(arguments)?,
-        }),
+        "export" => exported_in(arguments),
         "templates" => Some(Request::Templates {
             folder: folder_in(arguments)?,
         }),

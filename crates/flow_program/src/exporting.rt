@@ -3,14 +3,18 @@
 ghost use Rattle.std.specs.Prelude.{◌≡◌, ◌≢◌, ◌≤◌, IfOk, string_bytes};
 ghost use Rattle.std.specs.Io.KnownBytes.{Keeps};
 ghost use Rattle.flow_program.specs.Exporting.{archive_refusal, export_status, rolled_printed, IsExportReported};
-ghost use Rattle.flow_program.specs.Exporting.{MessagesEnd, TemplatesEnd};
+ghost use Rattle.flow_program.specs.Exporting.{ByTimeEnd, MessagesEnd, TemplatesEnd, TimeEnd};
 
-use crate::arguments::FolderName;
+use crate::archives::seconds_of;
+use crate::arguments::{FolderName, MomentSpan};
 use crate::several::report_text;
 use crate::telling::{DONE, tell_of_archive};
-use flow_commands::ArchiveRefusal;
+use flow_commands::{ArchiveRefusal, StartSpan};
 use flow_disk::Disk;
-use flow_export_folder::{ArchiveExportRefusal, MessageSpan, export_in, templates_in};
+use flow_export::TimeSpan;
+use flow_export_folder::{
+    ArchiveExportRefusal, MessageSpan, export_by_time_in, export_in, templates_in,
+};
 use flow_folder::{FirstFault, Lockable};
 use flow_folder_view::FolderView;
 use flow_refusals::RefusalCode;
@@ -18,6 +22,7 @@ use std::alloc::{AllocError, AllocGlobal, Global};
 use std::fs::Files;
 use std::io::Write;
 use std::os::unix::fs::FileExt;
+use std::time::Clock;
 
 /// The text of why messages up to this one, which are in sums alone, aren't exported.
 fn rolled_text(alloc: Global, cut: u64) -> Result<String, AllocError>
@@ -77,6 +82,70 @@ where
     match export_in(rt, folder.path, first_fault, span, output) {
         Ok(()) => DONE,
         Err(refusal) => report_export(rt.alloc(), errors, refusal),
+    }
+}
+
+/// The seconds of a span of time.
+fn time_of(span: &StartSpan) -> TimeSpan
+    ensures { result ≡ record { from = span.now.from; to = span.now.to } }
+{
+    TimeSpan {
+        from: span.from(),
+        to: span.to(),
+    }
+}
+
+/// Runs `export` of the messages of a span of time, by its seconds.
+fn export_time<'a, H: Files + AllocGlobal + Clone + Drop, W: Write, E: Write>(
+    rt: &'a H,
+    folder: &FolderName<'a>,
+    first_fault: &'a FirstFault,
+    span: TimeSpan,
+    output: &mut W,
+    errors: &mut E,
+) -> u8
+where
+    H::File: FileExt + Lockable,
+    ensures runs { TimeEnd ⟦<FolderView<'a, H> as Disk>⟧ span (W.contents output.old) (W.contents output.new)
+        (E.contents errors.old) (E.contents errors.new) result }
+    ensures quiet { result ≡ 0 → Keeps (E.contents errors.old) (E.contents errors.new) }
+    ensures status { result ≤ 5 }
+    ensures other { result ≢ 2 }
+{
+    match export_by_time_in(rt, folder.path, first_fault, span, output) {
+        Ok(()) => DONE,
+        Err(refusal) => report_export(rt.alloc(), errors, refusal),
+    }
+}
+
+/// Runs `export` of the messages of a span of time.
+pub(crate) fn run_export_by_time<
+    'a,
+    H: Files + AllocGlobal + Clock + Clone + Drop,
+    W: Write,
+    E: Write,
+>(
+    rt: &'a H,
+    folder: &FolderName<'a>,
+    first_fault: &'a FirstFault,
+    span: MomentSpan,
+    output: &mut W,
+    errors: &mut E,
+) -> u8
+where
+    H::File: FileExt + Lockable,
+    ensures runs { ByTimeEnd ⟦<FolderView<'a, H> as Disk>⟧ span (W.contents output.old) (W.contents output.new)
+        (E.contents errors.old) (E.contents errors.new) result }
+    ensures quiet { result ≡ 0 → Keeps (E.contents errors.old) (E.contents errors.new) }
+    ensures status { result ≤ 5 }
+    ensures other { result ≢ 2 }
+{
+    match seconds_of(rt, span) {
+        Ok(seconds) => {
+            let time = time_of(&seconds);
+            export_time(rt, folder, first_fault, time, output, errors)
+        }
+        Err(refusal) => tell_of_archive(rt.alloc(), errors, &refusal),
     }
 }
 

@@ -195,9 +195,10 @@ const FEED_HELP: &str =
      merge, whenever there are 1,024 of them. A terminal on standard error is shown\n\
      how much is read, the octet at which a File stopped, which records it lacks:\n\
      those without a template in force, and those that Sequence Numbers leave out,\n\
-     and how many messages are in sums alone in the end; --warn shows these anywhere,\n\
-     but for how much is read. What a File lacks so far is said while it is read too,\n\
-     once a minute.\n\
+     how many flows have no start time of their own, octets or packets only in\n\
+     elements that aren't summed, or a sampling rate, and how many messages are in\n\
+     sums alone in the end; --warn shows these anywhere, but for how much is read.\n\
+     What a File lacks so far is said while it is read too, once a minute.\n\
      With --datagrams each read gives one message, as of a socket of datagrams. One\n\
      that isn't accepted, or is empty, is passed over; --warn says how many were, by\n\
      their refusals.\n\
@@ -224,7 +225,8 @@ const SHELL_HELP: &str =
      \x20 check           ok POSITION CUT ROLLED SEALED, as of check\n\
      \x20 losses          what isn't read of all Files so far: sets N (no template),\n\
      \x20                 domain N (of the first), gaps N and records N (missing by\n\
-     \x20                 Sequence Numbers), datagrams COUNT NUMBER NAME (passed over)\n\
+     \x20                 Sequence Numbers), placed N, uncounted N, sampled N (flows, as\n\
+     \x20                 of inspect), datagrams COUNT NUMBER NAME (passed over)\n\
      \x20 keep N          from now on sealed segments but the newest N are rolled\n\
      \x20 merge N         from now on rolled files but the newest N are merged, whenever\n\
      \x20                 there are 1,024 of them\n\

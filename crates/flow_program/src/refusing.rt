@@ -65,9 +65,10 @@ const WRONG_NUMBER: &str =
 /// The line for a span that ends before it begins.
 const SWAPPED: &str = "flowvault: --since is later than --until: the span ends before it begins\n";
 
-/// The line for numbers that no messages have.
+/// The line for numbers that no messages have, and moments that no span of theirs has.
 const WRONG_MESSAGES: &str =
-    "flowvault: --from is 1 to 281474976710655, --to up to 281474976710655 and at least --from less 1, digits alone\n";
+    "flowvault: --from is 1 to 281474976710655, --to up to 281474976710655 and at least --from less 1, digits alone; \
+     --since and --until, in their place, are as 2026-11-25, 2026-11-25T06:00, 1d, 6h or now, the first earlier\n";
 
 /// What is reported of two formats.
 const WRONG_FORMATS: &str =

@@ -136,6 +136,11 @@ pub enum Request<'a> {
         folder: FolderName<'a>,
         span: MessageSpan,
     },
+    /// The messages of a span of time, of which some flow starts in it, after the templates in force before them.
+    ExportByTime {
+        folder: FolderName<'a>,
+        span: MomentSpan,
+    },
     /// The templates in force in the archive of a folder.
     Templates {
         folder: FolderName<'a>,
@@ -175,7 +180,8 @@ pub enum LineError<'a> {
     /// No refusal has the number.
     Number,
     /// A number of a message isn't digits alone, or out of its range, or the last one is before the one that comes
-    /// before the first.
+    /// before the first; or one of the moments in their place is none, or the first isn't before the second, or numbers
+    /// are beside them.
     Messages,
     /// Two formats are asked for.
     Formats,

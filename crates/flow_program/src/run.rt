@@ -10,7 +10,7 @@ use crate::archives::{
 };
 use crate::checks::run_checks;
 use crate::explaining::Explanation;
-use crate::exporting::{run_export, run_templates};
+use crate::exporting::{run_export, run_export_by_time, run_templates};
 use crate::inspecting::run_inspect_files;
 use crate::refusing::refuse;
 use crate::request::{Request, parse};
@@ -246,6 +246,9 @@ where
         }
         Request::Export { folder, span } => {
             run_export(rt, &folder, first_fault, &span, output, errors)
+        }
+        Request::ExportByTime { folder, span } => {
+            run_export_by_time(rt, &folder, first_fault, span, output, errors)
         }
         Request::Templates { folder } => run_templates(rt, &folder, first_fault, output, errors),
         Request::Explain { refusal } => run_explain(rt.alloc(), &refusal, output, errors),

@@ -1,7 +1,7 @@
 //! What the files of an archive hold.
 
 ghost use Rattle.std.specs.Prelude.{◌≡◌, ◌≢◌, ℕ, ◌+◌, ◌^◌, ◌<◌, ◌≤◌, map, true, false, IsTrue, List, [], length, OnOk};
-ghost use Rattle.std.specs.Prelude.{IfOk, IfErr, IfSome, IfNone, Option, None};
+ghost use Rattle.std.specs.Prelude.{IfOk, IfErr, IfSome, IfNone, Option, None, vec_len};
 ghost use Rattle.std.specs.List.{All, AllByRecursion, sum_by};
 ghost use Rattle.flow_disk.specs.Disk.{IsDiskImage, Stays};
 ghost use Rattle.flow_disk.specs.Calls.{LeavesOnly};
@@ -30,7 +30,7 @@ use flow_gate::scan;
 use flow_manifest::{Entry, MOST_MESSAGES, Manifest, OpenError};
 use flow_measure::PartSpan;
 use flow_segment::Carry;
-use std::alloc::Global;
+use std::alloc::{AllocError, Global};
 
 /// One more than the most messages of an archive.
 const TOO_MANY_MESSAGES: u64 = MOST_MESSAGES + 1;
@@ -196,22 +196,36 @@ fn read_entries<D: Disk>(
         (reads_of (D.held disk.old)) manifest.now entries.now spans.new.items) }
 {
     let mut called = None;
+    let mut buffer = Vec::new(alloc);
     'entries: for entry in entries {
-        let read = read_part(alloc, disk, manifest, called, *entry)?;
+        let read = read_part(alloc, disk, manifest, called, *entry, &mut buffer)?;
         called = read.called;
         spans.push(read.span)?;
     }
     Ok(called)
 }
 
+/// Makes a buffer of just this length, where it is shorter. Its memory is given back before more is taken.
+fn lengthen(alloc: Global, buffer: &mut Vec<u8>, count: usize) -> Result<(), AllocError>
+    ensures { OnOk result (count ≤ vec_len buffer.new) }
+{
+    if buffer.len() < count {
+        *buffer = Vec::new(alloc);
+        *buffer = vec![in alloc; 0u8; count]?;
+    }
+    Ok(())
+}
+
 /// Reads and checks the file of an entry. `called` is the prefix that the next segment must have, if a segment is
-/// before it; the answer is the same after this file.
+/// before it; the answer is the same after this file. The file is read into `buffer`, which grows where the file is
+/// longer: so one buffer serves all files, and is filled with zeros only where it grows.
 fn read_part<D: Disk>(
     alloc: Global,
     disk: &mut D,
     manifest: &Manifest,
     called: Option<Vec<u8>>,
     entry: Entry,
+    buffer: &mut Vec<u8>,
 ) -> Result<Checked, OpenError>
     requires width { 0 < manifest.now.width }
     requires wide { 0 < manifest.now.wide }
@@ -241,6 +255,9 @@ fn read_part<D: Disk>(
     if entry.length > size {
         return Err(OpenError::Damaged(entry.file, size));
     }
-    let octets = disk.read(alloc, entry.file, 0, entry.length as usize)?;
-    kept_of(alloc, manifest, called, entry, &octets)
+    let count = entry.length as usize;
+    lengthen(alloc, buffer, count)?;
+    let octets = &mut buffer[..count];
+    disk.read_into(entry.file, 0, octets)?;
+    kept_of(alloc, manifest, called, entry, octets)
 }

@@ -135,14 +135,8 @@ impl<D: Disk> Disk for WornDisk<D> {
         self.disk.length(file)
     }
 
-    fn read(
-        &mut self,
-        alloc: Global,
-        file: u64,
-        at: u64,
-        count: usize,
-    ) -> Result<Vec<u8>, DiskError> {
-        self.disk.read(alloc, file, at, count)
+    fn read_into(&mut self, file: u64, at: u64, octets: &mut [u8]) -> Result<(), DiskError> {
+        self.disk.read_into(file, at, octets)
     }
 
     fn write_at(&mut self, file: u64, at: u64, octets: &[u8]) -> Result<(), DiskError> {
@@ -202,22 +196,21 @@ impl<S: SealedFile> SealedFile for WornFile<S> {
         self.sealed.length()
     }
 
-    fn read(
+    fn read_into(
         &self,
-        alloc: Global,
         faults: &mut Faults<Self>,
         at: u64,
-        count: usize,
-    ) -> Result<Vec<u8>, DiskError> {
+        buffer: &mut [u8],
+    ) -> Result<(), DiskError> {
         let mut below = Faults::<S>::new();
-        let got = self.sealed.read(alloc, &mut below, at, count);
+        let got = self.sealed.read_into(&mut below, at, buffer);
         if got == Err(DiskError::Fault) {
             faults.raise(&WornRead { _made_here: () });
         }
-        let mut piece = got?;
+        got?;
         if let Some(wear) = &self.wear {
-            wear.change(self.sealed.file(), at, &mut piece);
+            wear.change(self.sealed.file(), at, buffer);
         }
-        Ok(piece)
+        Ok(())
     }
 }

@@ -45,7 +45,6 @@ impl Cursor {
     /// all is as it was.
     pub(crate) fn fill<S: SealedFile>(
         &mut self,
-        alloc: Global,
         part: &RolledPart<S>,
         faults: &mut Faults<S>,
     ) -> Result<(), DiskError>
@@ -56,8 +55,7 @@ impl Cursor {
             → IsOn part.now.octets self.new.window }
         ensures cause { HasCause DiskError.Fault faults.old faults.new result }
     {
-        self.window
-            .fill(GREATEST_MESSAGE, alloc, &part.reader, faults)
+        self.window.fill(GREATEST_MESSAGE, &part.reader, faults)
     }
 
     /// The rows of the next message, of the file with this number; none of a head. `None` at the end of the file.

@@ -82,7 +82,7 @@ impl<'a, S: SealedFile> RowReader<'a, S> {
         ensures gives { IsTrue self.old.part.honest → (rows : List RolledRow) → HasRead self.old rows
             → Gives self.old rows result self.new }
     {
-        self.cursor.fill(alloc, self.part, faults)?;
+        self.cursor.fill(self.part, faults)?;
         self.cursor.step(alloc, self.part.file())
     }
 }

@@ -12,4 +12,5 @@ pub mod FewMessages
 pub mod FlowsFit
 pub mod Batches
 pub mod NotingStarts
+mod NotingCaveats
 pub mod Sure

@@ -1,10 +1,17 @@
 -- When the flows of a segment start.
 use Rattle.std.specs.Prelude.{◌≡◌, ℕ, ◌+◌, ◌%◌, ◌^◌, Bool, true, false, List, length, Option, Some, None, option_map}
+use Rattle.flow_codec.specs.declared.losses.CaveatCounts.{CaveatCounts}
+use Rattle.flow_codec.specs.Caveats.{are_uncounted, elements_of}
 use Rattle.flow_codec.specs.Fault.{IsOctets}
+use Rattle.flow_codec.specs.Fields.{fields_in}
+use Rattle.flow_codec.specs.Layout.{Layout}
 use Rattle.flow_codec.specs.Message.{in_fields, joined}
+use Rattle.flow_codec.specs.Plan.{values_of}
 use Rattle.flow_codec.specs.Raw.{Placed, RawMessage}
+use Rattle.flow_codec.specs.Replaced.{one_if}
 use Rattle.flow_codec.specs.Templates.{AllTemplates}
 use Rattle.flow_measure.specs.declared.span.PartSpan.{PartSpan}
+use Rattle.flow_measure.specs.Caveats.{has_no_start, with_caveats}
 use Rattle.flow_measure.specs.Flows.{flows_of, flows_of_records}
 use Rattle.flow_measure.specs.History.{Accepted, AreAcceptedFrom, flows_in}
 use Rattle.flow_measure.specs.Span.{is_outside, span_of, starts_of, with_starts}
@@ -27,6 +34,19 @@ abbrev pub HasNoted : ℕ → Option PartSpan → List Placed → ℕ → Option
 HasNoted start_records start_span taken records span =
     (records % 2 ^ 32 ≡ (start_records + length taken) % 2 ^ 32)
     × (span ≡ option_map (λ s. with_starts s (starts_of (flows_of_records taken))) start_span)
+
+-- of the flow of a record of a Template: whether it is summed otherwise
+abbrev pub caveats_of : Layout → List ℕ → CaveatCounts
+caveats_of layout octets = record {
+  placed = one_if (has_no_start (values_of (fields_in layout.fields octets)));
+  uncounted = one_if (are_uncounted (elements_of layout.fields));
+  sampled = one_if (elements_of layout.fields).rate;
+}
+
+-- Flows that are summed otherwise than their exporter may mean were counted, where starts aren't noted.
+abbrev pub AreCaveatsNoted : Option PartSpan → CaveatCounts → List Placed → CaveatCounts → Type 0
+AreCaveatsNoted None start taken now = now ≡ with_caveats start taken
+AreCaveatsNoted (Some span) start taken now = now ≡ start
 
 -- ---- a segment
 

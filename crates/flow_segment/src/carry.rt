@@ -3,16 +3,20 @@
 ghost use Rattle.std.specs.Prelude.{◌≡◌, ◌⊎◌, ◌<◌, ◌^◌, nat_eq, OnOk, OnErr, IfOk, IfErr};
 ghost use Rattle.indexmap.specs.IndexMap.{spare};
 ghost use Rattle.flow_codec.specs.Fault.{IsFault};
+ghost use Rattle.flow_codec.specs.Losses.{no_caveats};
 ghost use Rattle.flow_codec.specs.Message.{IsAccepted};
+ghost use Rattle.flow_codec.specs.Raw.{under};
 ghost use Rattle.flow_measure.specs.History.{Accepted};
 ghost use Rattle.flow_segment.specs.Batch.{restored};
 ghost use Rattle.flow_segment.specs.Carry.{no_carry, prefix_of, AreNext, IsCarry, IsCounted, IsTaken};
 ghost use Rattle.flow_segment.specs.Carry.{IsTakenAs, TakesOnly};
-ghost use Rattle.flow_segment.specs.Spans.{noted};
+ghost use Rattle.flow_segment.specs.Spans.{noted, AreCaveatsNoted};
 
 use crate::batch::Undo;
 use crate::sinks::Noting;
-use flow_codec::{Losses, MessageError, Templates, WalkError, Walked, walk_sets, write_templates};
+use flow_codec::{
+    CaveatCounts, Losses, MessageError, Templates, WalkError, Walked, walk_sets, write_templates,
+};
 use flow_measure::PartSpan;
 use indexmap::IndexMap;
 use std::alloc::{AllocError, Global};
@@ -26,8 +30,8 @@ pub struct Carry {
     templates: Templates,
     due: IndexMap<u32, u32>,
     time: u32,
-    /// What the messages that were taken in since the last `replace_losses` show of records that aren't read. It is passed
-    /// on to nobody.
+    /// What the messages that were taken in since the last `replace_losses` show of records that aren't read, or are
+    /// summed otherwise than their exporter may mean. It is passed on to nobody.
     losses: Losses,
 }
 
@@ -92,9 +96,12 @@ impl Carry {
         ensures unnoted { IfErr result (λ _. span.new ≡ span.old) }
     {
         self.due.reserve(1)?;
-        let (walked, count) = counted(&mut self.templates, alloc, octets, span)?;
+        let (walked, count, caveats) = counted(&mut self.templates, alloc, octets, span)?;
         let header = walked.header;
-        let losses = Losses::of(&walked, self.due.get(&header.domain).copied());
+        let losses = Losses {
+            caveats,
+            ..Losses::of(&walked, self.due.get(&header.domain).copied())
+        };
         let due = header.sequence.wrapping_add(count);
         put_due(&mut self.due, &self.templates, header.domain, due);
         self.time = header.time;
@@ -123,8 +130,8 @@ impl Carry {
         })
     }
 
-    /// What the messages that were taken in show of records that aren't read, counted from what was put here last;
-    /// from now on they are counted from these on. Those of a batch that was refused show nothing.
+    /// What the messages that were taken in show of records that aren't read, or are summed otherwise, counted from what
+    /// was put here last; from now on they are counted from these on. Those of a batch that was refused show nothing.
     pub fn replace_losses(&mut self, losses: Losses) -> Losses
         ensures { self.new ≡ self.old }
     {
@@ -169,13 +176,13 @@ impl Carry {
 }
 
 /// Takes a message's templates in, counts its data records modulo 2^32, and notes when its flows start, where a span is
-/// given.
+/// given; else it counts those that are summed otherwise than their exporter may mean.
 fn counted(
     templates: &mut Templates,
     alloc: Global,
     octets: &[u8],
     span: &mut Option<PartSpan>,
-) -> Result<(Walked, u32), MessageError>
+) -> Result<(Walked, u32, CaveatCounts), MessageError>
     ensures found { IfOk result (λ x. IsCounted octets.now templates.old templates.new x.0.header x.1) }
     ensures only { (a : Accepted) → IsAccepted octets.now templates.old a.message a.after
         → IfErr result (λ e. e ≡ MessageError.OutOfMemory) }
@@ -184,15 +191,18 @@ fn counted(
     ensures noted { OnOk result ((a : Accepted) → IsAccepted octets.now templates.old a.message a.after
         → span.new ≡ noted a.message span.old) }
     ensures unnoted { OnErr result (span.new ≡ span.old) }
+    ensures caveats { IfOk result (λ x. (a : Accepted) → IsAccepted octets.now templates.old a.message a.after
+        → AreCaveatsNoted span.old no_caveats (under a.message.header a.message.records) x.2) }
 {
     let mut noting = Noting {
         records: 0,
         span: *span,
+        caveats: CaveatCounts::none(),
     };
     match walk_sets(templates, alloc, octets, &mut noting) {
         Ok(walked) => {
             *span = noting.span;
-            Ok((walked, noting.records))
+            Ok((walked, noting.records, noting.caveats))
         }
         Err(WalkError::Message(fault)) => Err(fault),
         Err(WalkError::Sink(never)) => match never {},

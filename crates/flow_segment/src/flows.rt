@@ -14,7 +14,7 @@ use crate::sealed::SealedPart;
 use crate::sinks::{Adding, Chosen};
 use crate::walking::walk_part;
 use flow_codec::Templates;
-use flow_disk::{Faults, SealedFile};
+use flow_disk::{Faults, SealedFile, Window};
 use flow_measure::{Adder, Flow, Flows};
 use flow_refusals::{ReadRefusal, SumRefusal};
 use std::alloc::Global;
@@ -22,7 +22,8 @@ use std::mem::replace;
 
 /// Adds the flows of the messages of a sealed segment to rows, and takes the messages' templates in: those given are in
 /// force before the first message, as `templates_of` or the segment before leaves them. It keeps no list of flows or of
-/// messages, and holds one piece of the file at a time.
+/// messages, and holds one piece of the file at a time, in the memory of `window`, which any part may have been read by
+/// before.
 ///
 /// Where the octets are no accepted message it answers `Damaged`, with the file and the place; where there is another
 /// count of messages, with the file and its length; `SumSpent` where all messages are accepted and a sum would pass its
@@ -34,6 +35,7 @@ use std::mem::replace;
 pub fn add_flows<S: SealedFile, T: Adder>(
     alloc: Global,
     part: &SealedPart<S>,
+    window: &mut Window,
     templates: &mut Templates,
     adding: &mut Adding<T>,
     faults: &mut Faults<S>,
@@ -61,7 +63,7 @@ pub fn add_flows<S: SealedFile, T: Adder>(
         → ArePartMessages (part_octets part.now.prefix part.now.length (S.octets part.now.reader)) templates.old
         part.now.messages messages → IfOk result (λ time. time ≡ greatest_time messages) }
 {
-    let time = walk_part(alloc, part, templates, adding, faults)?;
+    let time = walk_part(alloc, part, window, templates, adding, faults)?;
     if adding.spent {
         return Err(SumRefusal::SumSpent);
     }
@@ -105,7 +107,8 @@ pub fn collect_flows<S: SealedFile>(
         from,
         to,
     };
-    walk_part(alloc, part, templates, &mut chosen, faults)?;
+    let mut window = Window::new(alloc, part.prefix, part.length);
+    walk_part(alloc, part, &mut window, templates, &mut chosen, faults)?;
     *flows = chosen.flows;
     Ok(())
 }
@@ -136,6 +139,7 @@ pub fn flows_of<S: SealedFile>(
 {
     let mut templates = templates_of(alloc, part, faults)?;
     let mut flows = Flows::new(alloc);
-    walk_part(alloc, part, &mut templates, &mut flows, faults)?;
+    let mut window = Window::new(alloc, part.prefix, part.length);
+    walk_part(alloc, part, &mut window, &mut templates, &mut flows, faults)?;
     Ok(flows.flows)
 }

@@ -56,7 +56,6 @@ fn keep_field(octets: &[u8])
 /// It reads 262,144 octets at a time, so the device is read once for many messages.
 pub fn advance<F: SealedFile>(
     window: &mut Window,
-    alloc: Global,
     file: &F,
     faults: &mut Faults<F>,
 ) -> Result<bool, ReadRefusal>
@@ -73,7 +72,7 @@ pub fn advance<F: SealedFile>(
         → IsOn (F.octets file.now) window.new
         × IsPartStep (F.octets file.now) (F.number file.now) window.old result window.new }
 {
-    window.fill(GREATEST_MESSAGE, alloc, file, faults)?;
+    window.fill(GREATEST_MESSAGE, file, faults)?;
     step(window, file.file())
 }
 

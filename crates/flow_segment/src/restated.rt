@@ -112,7 +112,7 @@ fn read_prefix<S: SealedFile>(
     let mut templates = Templates::new(alloc);
     'messages: loop {
         let at = window.place();
-        if !advance(&mut window, alloc, &part.reader, faults)? {
+        if !advance(&mut window, &part.reader, faults)? {
             return Ok(templates);
         }
         restate(&mut templates, alloc, window.held(), part.reader.file(), at)?;

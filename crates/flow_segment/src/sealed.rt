@@ -85,7 +85,7 @@ impl<'a, S: SealedFile> PartReader<'a, S> {
         ensures next { IsTrue self.old.honest → IsNext self.old result self.new }
     {
         let at = self.window.place();
-        if !advance(&mut self.window, alloc, &self.part.reader, faults)? {
+        if !advance(&mut self.window, &self.part.reader, faults)? {
             return Ok(None);
         }
         match Vec::from_slice(alloc, self.window.held()) {

@@ -1,9 +1,12 @@
 //! What takes the flows of a part's data records.
 
 ghost use Rattle.std.specs.Prelude.{◌≡◌, nat_le, nat_lt, ◌&&◌};
+ghost use Rattle.flow_codec.specs.Raw.{IsWholeRecord};
+ghost use Rattle.flow_codec.specs.Replaced.{one_if};
+ghost use Rattle.flow_segment.specs.Spans.{caveats_of};
 
-use flow_codec::{Definition, Header, RecordSink};
-use flow_measure::{Adder, Flow, PartSpan, SumError, flow_of, start_of_flow};
+use flow_codec::{CaveatCounts, Definition, Header, RecordSink};
+use flow_measure::{Adder, Flow, PartSpan, SumError, flow_of, has_no_start, start_of_flow};
 use std::alloc::AllocError;
 use std::convert::Infallible;
 
@@ -107,23 +110,46 @@ impl RecordSink for Chosen {
     }
 }
 
-/// Counts data records, and notes when the flows among them start, where it is given a span.
+/// Counts data records, and notes when the flows among them start, where it is given a span; else it counts those that
+/// are summed otherwise than their exporter may mean.
 #[derive(Drop)]
 pub struct Noting {
     /// How many records were taken, modulo 2^32.
     pub records: u32,
     /// When their flows start, with those of before; none where starts aren't noted.
     pub span: Option<PartSpan>,
+    /// Flows that are summed otherwise, where starts aren't noted.
+    pub caveats: CaveatCounts,
+}
+
+/// One where this holds.
+fn one_if(test: bool) -> u64
+    ensures { result ≡ one_if test }
+{
+    if test { 1 } else { 0 }
+}
+
+/// What is counted of the flow of a whole record of a Template.
+fn caveats_of(definition: &Definition, octets: &[u8]) -> CaveatCounts
+    requires { IsWholeRecord definition.now octets.now }
+    ensures { result ≡ caveats_of definition.now octets.now }
+{
+    CaveatCounts {
+        placed: one_if(has_no_start(definition, octets)),
+        uncounted: one_if(definition.is_uncounted()),
+        sampled: one_if(definition.is_sampled()),
+    }
 }
 
 impl RecordSink for Noting {
-    ghost use Rattle.flow_segment.specs.Spans.{HasNoted};
+    ghost use Rattle.flow_segment.specs.Spans.{HasNoted, AreCaveatsNoted};
 
     type Error = Infallible;
 
     type Kept = ();
 
-    ghost holds = { λ start taken now. HasNoted start.records start.span taken now.records now.span };
+    ghost holds = { λ start taken now. HasNoted start.records start.span taken now.records now.span
+        × AreCaveatsNoted start.span start.caveats taken now.caveats };
 
     ghost refuses = { λ _ _ _ _. ⊥ };
 
@@ -137,14 +163,16 @@ impl RecordSink for Noting {
         octets: &[u8],
     ) -> Result<(), Infallible> {
         self.records = self.records.wrapping_add(1);
-        let Some(span) = self.span else {
-            return Ok(());
-        };
         if definition.options() {
             return Ok(());
         }
-        let start = start_of_flow(header, definition, octets);
-        self.span = Some(span.with(start));
+        match self.span {
+            Some(span) => {
+                let start = start_of_flow(header, definition, octets);
+                self.span = Some(span.with(start));
+            }
+            None => self.caveats = self.caveats.and(caveats_of(definition, octets)),
+        }
         Ok(())
     }
 }

@@ -39,8 +39,9 @@ fn hand_over<R: RecordSink<Error = AllocError>>(
 }
 
 /// Passes the data records of the messages of a sealed segment to a sink, in order, and takes their templates in: those
-/// given are in force before the first message. A piece of the file is held at a time. It answers the greatest Export
-/// Time of the messages, in seconds since 1970-01-01 00:00 UTC, and 0 where there are none.
+/// given are in force before the first message. A piece of the file is held at a time, in the memory of `window`, which
+/// any part may have been read by before. It answers the greatest Export Time of the messages, in seconds since
+/// 1970-01-01 00:00 UTC, and 0 where there are none.
 ///
 /// Where the octets are no accepted message it answers `Damaged`, with the file and the place; where there is another
 /// count of messages, with the file and its length; `Fault` exactly where a read has raised `faults`; and
@@ -48,6 +49,7 @@ fn hand_over<R: RecordSink<Error = AllocError>>(
 pub(crate) fn walk_part<S: SealedFile, R: RecordSink<Error = AllocError>>(
     alloc: Global,
     part: &SealedPart<S>,
+    window: &mut Window,
     templates: &mut Templates,
     sink: &mut R,
     faults: &mut Faults<S>,
@@ -70,12 +72,12 @@ pub(crate) fn walk_part<S: SealedFile, R: RecordSink<Error = AllocError>>(
     // What the sink keeps is as it was, whatever is answered.
     ensures same { R.kept sink.new ≡ R.kept sink.old }
 {
-    let mut window = Window::new(alloc, part.prefix, part.length);
+    window.go_to(part.prefix, part.length);
     let mut count = 0;
     let mut time = 0;
     'messages: loop {
         let at = window.place();
-        if !advance(&mut window, alloc, &part.reader, faults)? {
+        if !advance(window, &part.reader, faults)? {
             if count != part.messages {
                 return Err(ReadRefusal::Damaged(part.reader.file(), part.length));
             }

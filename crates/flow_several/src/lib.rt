@@ -4,8 +4,8 @@
 //! of what is read of each of them, or nothing where one can't be summed, which is then named: the first, by its
 //! number. `totals_of_each` and `flows_of_each` write those of each archive, with its number first, up to the first
 //! that can't be asked. Whatever the disks, lines of rows, or of flows, of the span are written, or nothing, or a
-//! prefix where writing failed. For totals as many archives as there are processors are asked at once, each in a thread
-//! of its own; what is answered is what one thread would answer.
+//! prefix where writing failed. As many archives as there are processors are asked at once, or for flows opened, each in
+//! a thread of its own; what is answered is what one thread would answer.
 #![tactic(auto)]
 
 mod answer;

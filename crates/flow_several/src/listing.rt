@@ -1,7 +1,7 @@
 //! The flows of several archives.
 
 ghost use Rattle.std.specs.Prelude.{◌≡◌, ◌≤◌, ℕ, List, Some, false, length, slice_get, IsTrue, IfOk, IfErr, OnOk};
-ghost use Rattle.std.specs.Prelude.{MatchResult};
+ghost use Rattle.std.specs.Prelude.{IsOk, MatchResult};
 ghost use Rattle.std.specs.Io.KnownBytes.{Appends};
 ghost use Rattle.std.specs.List.{flat_map, All};
 ghost use Rattle.flow_disk.specs.Cause.{HasCause};
@@ -20,20 +20,23 @@ ghost use Rattle.flow_several.specs.Flows.{IsListedUpTo, IsNoBlame, IsWhileListe
 ghost use Rattle.flow_several.specs.Flows.{StartIn, WritesFlows, WritesFlowsOf, WritesLines, WritesLinesFront};
 ghost use Rattle.flow_several.specs.Flows.{WritesSomeFlows};
 ghost use Rattle.flow_several.specs.Several.{readings, HasReadCause, KeepsArchive};
+ghost use Rattle.flow_several.specs.Turns.{IsOpened};
 
 use crate::flow_lines::{write_flows, write_names};
 use crate::listing_refusal::ListingRefusal;
 use crate::refusal::SeveralRefusal;
-use flow_archive::Archive;
+use flow_archive::{Archive, Refused};
 use flow_disk::{Disk, Faults, SealedFile};
 use flow_manifest::OpenError;
 use flow_measure::Flow;
 use flow_model::one_view_of_a_state;
 use flow_refusals::ReadRefusal;
 use flow_report::Format;
+use flow_side_by_side::{Asking, InTurn};
 use flow_snapshot::Snapshot;
-use std::alloc::Global;
+use std::alloc::{AllocError, Global};
 use std::io::Write;
+use std::thread::Threads;
 
 /// What is listed of an archive: the flows that start from `from` on and before `to`, with its number.
 #[derive(Clone, Copy)]
@@ -166,16 +169,16 @@ fn list_archive<D: Disk, W: Write>(
     list_snapshot(alloc, &snapshot, listing, output, faults)
 }
 
-/// Opens the archive on a disk, of which nothing is frozen, and writes the lines of its flows. It gives the disk back.
-fn open_and_list<D: Disk, W: Write>(
+/// Writes the lines of the flows of an archive that came of opening a disk, and gives the disk back.
+fn list_opened<D: Disk, W: Write>(
     alloc: Global,
-    disk: D,
+    opened: Result<Archive<D>, Refused<D, OpenError>>,
     listing: &Listing,
     output: &mut W,
     faults: &mut Faults<D::Sealed>,
 ) -> (D, Result<(), ListingRefusal>)
-    requires { (n : ℕ) → (D.marks disk n).frozen ≡ false }
-    ensures listed { IsTrue (D.honest disk) → MatchResult result.1 (λ _. Lists listing.now.format listing.now.number
+    ensures listed { (disk : D) → IsOpened D.Disk disk opened → IsTrue (D.honest disk) → MatchResult result.1
+        (λ _. Lists listing.now.format listing.now.number
         (AreFlowsRead listing.now.from listing.now.to (reads_of (D.held disk))) (W.contents output.old)
         (W.contents output.new))
         (IsListedUpTo listing.now.format listing.now.number listing.now.from listing.now.to (reads_of (D.held disk))
@@ -184,14 +187,15 @@ fn open_and_list<D: Disk, W: Write>(
         (StartIn listing.now.from listing.now.to) (W.contents output.old) (W.contents output.new)) }
     ensures some { IfErr result.1 (ListsUpTo listing.now.format listing.now.number
         (StartIn listing.now.from listing.now.to) (W.contents output.old) (W.contents output.new)) }
-    ensures honest { D.honest result.0 ≡ D.honest disk }
-    // A stop at any moment leaves what opens as the archive that was there.
-    ensures any_moment { KeepsArchive D.Disk disk result.0 }
+    ensures honest { (disk : D) → IsOpened D.Disk disk opened → D.honest result.0 ≡ D.honest disk }
+    // A stop at any moment since it was opened leaves what opens as the archive that was there.
+    ensures any_moment { (disk : D) → IsOpened D.Disk disk opened → KeepsArchive D.Disk disk result.0 }
     // It is a fault of opening exactly where a call of the disk failed, and one of asking exactly where a read failed.
-    ensures opening { HasCause (refusal.Opening OpenError.Fault) (D.faults disk) (D.faults result.0) result.1 }
+    ensures opening { (disk : D) → IsOpened D.Disk disk opened
+        → HasCause (refusal.Opening OpenError.Fault) (D.faults disk) (D.faults result.0) result.1 }
     ensures cause { HasCause (refusal.Query ReadRefusal.Fault) faults.old faults.new result.1 }
 {
-    match Archive::open(alloc, disk) {
+    match opened {
         Ok(archive) => {
             let mut archive = archive;
             let listed = list_archive(alloc, &mut archive, listing, output, faults);
@@ -201,12 +205,63 @@ fn open_and_list<D: Disk, W: Write>(
     }
 }
 
-/// Opens the archives on these disks, of which nothing is frozen, one after the other, and writes the lines of the
-/// flows of each that aren't rolled and start from `from` on and before `to`: as `flows` writes them, with the number
-/// of the archive before the others, from 1 on. In CSV the names of the values are the first line. They are written
-/// while the files are read. It ends with the first archive that can't be opened, or whose flows can't all be read,
-/// which is named, after the lines of those before it and a prefix of its own.
-pub fn flows_of_each<D: Disk, W: Write>(
+/// What is asked of each archive before its flows are: that it is opened.
+#[derive(Clone, Copy)]
+struct Opening {
+    alloc: Global,
+}
+
+impl<D: Disk> Asking<D, Result<Archive<D>, Refused<D, OpenError>>> for Opening {
+    ghost use Rattle.std.specs.Prelude.{◌≡◌, ℕ, false};
+    ghost use Rattle.flow_several.specs.Turns.{IsOpened};
+
+    ghost may_ask = { λ opening disk. (n : ℕ) → (D.marks disk n).frozen ≡ false };
+
+    ghost answers = { λ opening disk opened. IsOpened D.Disk disk opened };
+
+    fn ask(&self, disk: D) -> Result<Archive<D>, Refused<D, OpenError>> {
+        Archive::open(self.alloc, disk)
+    }
+}
+
+/// Writes the lines of the flows of an archive that came of opening a disk, unless memory ran out for that.
+fn list_answer<D: Disk, W: Write>(
+    alloc: Global,
+    answer: Result<Result<Archive<D>, Refused<D, OpenError>>, AllocError>,
+    listing: &Listing,
+    output: &mut W,
+    faults: &mut Faults<D::Sealed>,
+) -> Result<(), ListingRefusal>
+    ensures listed { (disk : D) → IfOk answer (IsOpened D.Disk disk) → IsTrue (D.honest disk) → MatchResult result
+        (λ _. Lists listing.now.format listing.now.number
+        (AreFlowsRead listing.now.from listing.now.to (reads_of (D.held disk))) (W.contents output.old)
+        (W.contents output.new))
+        (IsListedUpTo listing.now.format listing.now.number listing.now.from listing.now.to (reads_of (D.held disk))
+        (W.contents output.old) (W.contents output.new)) }
+    ensures done { OnOk result (IsOk answer) }
+    ensures all { OnOk result (Lists listing.now.format listing.now.number
+        (StartIn listing.now.from listing.now.to) (W.contents output.old) (W.contents output.new)) }
+    ensures some { IfErr result (ListsUpTo listing.now.format listing.now.number
+        (StartIn listing.now.from listing.now.to) (W.contents output.old) (W.contents output.new)) }
+    ensures cause { HasCause (refusal.Query ReadRefusal.Fault) faults.old faults.new result }
+{
+    match answer {
+        Ok(opened) => {
+            let (_disk, listed) = list_opened(alloc, opened, listing, output, faults);
+            listed
+        }
+        Err(_) => Err(ListingRefusal::Opening(OpenError::OutOfMemory)),
+    }
+}
+
+/// Opens the archives on these disks, of which nothing is frozen, and writes the lines of the flows of each that aren't
+/// rolled and start from `from` on and before `to`, one archive after the other: as `flows` writes them, with the
+/// number of the archive before the others, from 1 on. In CSV the names of the values are the first line. As many
+/// archives as there are processors, at most 64, are opened at once, each in a thread of its own where one can be made;
+/// their lines are written while their files are read. It ends with the first archive that can't be opened, or whose
+/// flows can't all be read, which is named, after the lines of those before it and a prefix of its own.
+pub fn flows_of_each<D: Disk + Send, R: Threads + Sync, W: Write>(
+    rt: &R,
     alloc: Global,
     disks: Vec<D>,
     from: u64,
@@ -215,6 +270,8 @@ pub fn flows_of_each<D: Disk, W: Write>(
     output: &mut W,
     faults: &mut Faults<D::Sealed>,
 ) -> Result<(), SeveralRefusal>
+where
+    D::Sealed: Send + Sync,
     requires { All (λ d. (n : ℕ) → (D.marks d n).frozen ≡ false) disks.items }
     // On honest disks the lines are those of what was read of each, and of one that is open no damage is reported.
     ensures flows { All (λ d. IsTrue (D.honest d)) disks.items → OnOk result
@@ -229,16 +286,17 @@ pub fn flows_of_each<D: Disk, W: Write>(
     // It is a fault of asking exactly where a read of an archive's file failed.
     ensures cause { HasReadCause faults.old faults.new result }
 {
+    let opening = Opening { alloc };
+    let mut archives = InTurn::of(alloc, disks);
     let mut place: u64 = 0;
-    for disk in disks {
+    'answers: while let Some(answer) = archives.next(rt, &opening) {
         let listing = Listing {
             number: place + 1,
             from,
             to,
             format,
         };
-        let (_disk, listed) = open_and_list(alloc, disk, &listing, output, faults);
-        match listed {
+        match list_answer(alloc, answer, &listing, output, faults) {
             Ok(()) => {}
             Err(error) => return Err(error.numbered(place + 1)),
         }

@@ -1,8 +1,6 @@
 //! The sums of several archives, each by itself, made side by side.
 
-ghost use Rattle.std.specs.Prelude.{◌≡◌, ◌<◌, ◌+◌, ℕ, List, [], ◌∷◌, ◌++◌, false, length, IfNone, IfOk, IfSome, OnErr};
-ghost use Rattle.std.specs.Prelude.{OnOk};
-ghost use Rattle.std.specs.List.{All, AllZip};
+ghost use Rattle.std.specs.Prelude.{◌≡◌, ◌+◌, ℕ, List, [], ◌∷◌, false, length, IfNone, IfSome, OnOk};
 ghost use Rattle.flow_disk.specs.Cause.{HasCause};
 ghost use Rattle.flow_refusals.specs.declared.read_refusal.ReadRefusal.TheVariants as query;
 ghost use Rattle.flow_several.specs.declared.refusal.SummingRefusal.TheVariants as summing;
@@ -15,77 +13,38 @@ use crate::refusal::SummingRefusal;
 use crate::summing::open_and_sum;
 use flow_disk::{Disk, Faults};
 use flow_manifest::OpenError;
+use flow_side_by_side::{Asking, InTurn};
 use flow_together::Together;
-use std::alloc::{AllocError, Global};
-use std::collections::VecDeque;
-use std::marker::PhantomData;
+use std::alloc::Global;
 use std::thread::Threads;
-use std::{mem, thread};
 
-/// The most archives that are asked at once.
-const MOST_AT_ONCE: usize = 64;
-
-/// How many archives are asked at once: as many as there are processors that the program may use, up to 64.
-fn at_once<R: Threads>(rt: &R) -> usize
-    ensures { 0 < result }
-{
-    match thread::available_parallelism(rt) {
-        Ok(count) => count.get().min(MOST_AT_ONCE),
-        Err(_) => 1,
-    }
-}
-
-/// Opens, sums and closes the archive on a disk, of which nothing is frozen.
-fn ask<D: Disk>(alloc: Global, disk: D) -> Answer<D::Sealed>
-    requires { (n : ℕ) → (D.marks disk n).frozen ≡ false }
-    ensures { IsAnswerOf D.Disk disk result }
-{
-    let mut faults = Faults::new();
-    let (_disk, sums) = open_and_sum(alloc, disk, &mut faults);
-    Answer { sums, faults }
-}
-
-/// The answers of the archives on these disks, in their order: each is asked in a thread of its own where one can be
-/// made, and all have ended.
-fn ask_side_by_side<D: Disk + Send, R: Threads + Sync>(
-    rt: &R,
+/// What is asked of each archive: its sums.
+#[derive(Clone, Copy)]
+struct Summing {
     alloc: Global,
-    disks: Vec<D>,
-) -> Result<Vec<Answer<D::Sealed>>, AllocError>
-where
-    D::Sealed: Send + Sync,
-    requires { All (λ d. (n : ℕ) → (D.marks d n).frozen ≡ false) disks.items }
-    ensures { IfOk result (λ answers. AllZip (IsAnswerOf D.Disk) disks.items answers.items) }
-{
-    // A closure is to name what its answers are of.
-    let kind: PhantomData<Answer<D::Sealed>> = PhantomData;
-    let one = |disk: D| -> Answer<D::Sealed>
-        requires { (n : ℕ) → (D.marks disk n).frozen ≡ false }
-        ensures { IsAnswerOf D.Disk disk result }
-    {
-        let _kind = kind;
-        ask(alloc, disk)
-    };
-    thread::map_vec(rt, disks, &one)
 }
 
-/// The first of these disks, at most so many, which are taken out.
-fn first_of<D: Disk>(disks: &mut Vec<D>, count: usize) -> Result<Vec<D>, AllocError>
-    requires { 0 < count }
-    ensures parts { IfOk result (λ first. disks.old.items ≡ first.items ++ disks.new.items) }
-    ensures some { IfOk result (λ first. 0 < length disks.old.items → 0 < length first.items) }
-    ensures same { OnErr result (disks.new.items ≡ disks.old.items) }
-{
-    let rest = disks.split_off(count.min(disks.len()))?;
-    Ok(mem::replace(disks, rest))
+impl<D: Disk> Asking<D, Answer<D::Sealed>> for Summing {
+    ghost use Rattle.std.specs.Prelude.{◌≡◌, ℕ, false};
+    ghost use Rattle.flow_several.specs.Turns.{IsAnswerOf};
+
+    ghost may_ask = { λ summing disk. (n : ℕ) → (D.marks disk n).frozen ≡ false };
+
+    ghost answers = { λ summing disk answer. IsAnswerOf D.Disk disk answer };
+
+    /// Opens, sums and closes the archive on a disk.
+    fn ask(&self, disk: D) -> Answer<D::Sealed> {
+        let mut faults = Faults::new();
+        let (_disk, sums) = open_and_sum(self.alloc, disk, &mut faults);
+        Answer { sums, faults }
+    }
 }
 
 /// The sums of several archives, each by itself, in the order of their disks. So many are opened, summed and closed at
 /// once, each in a thread of its own, before the first of them is taken.
 #[derive(Drop)]
 pub(crate) struct SumsOfEach<D: Disk> {
-    answers: VecDeque<Answer<D::Sealed>>,
-    left: Vec<D>,
+    archives: InTurn<D, Answer<D::Sealed>>,
 }
 
 impl<D: Disk + Send> SumsOfEach<D>
@@ -94,50 +53,11 @@ where
 {
     /// Those of the archives on these disks, of which none was asked.
     pub(crate) fn of(alloc: Global, disks: Vec<D>) -> Self
-        ensures answers { result.answers.items ≡ [] }
-        ensures left { result.left.items ≡ disks.items }
+        ensures answers { result.archives.answers.items ≡ [] }
+        ensures left { result.archives.left.items ≡ disks.items }
     {
         SumsOfEach {
-            answers: VecDeque::new(alloc),
-            left: disks,
-        }
-    }
-
-    /// Asks the next archives, where no answer is left.
-    fn ask_more<R: Threads + Sync>(&mut self, rt: &R, alloc: Global) -> Result<(), AllocError>
-        requires ready { AreReady D.Disk self.old.answers.items self.old.left.items }
-        requires none { length self.old.answers.items ≡ 0 }
-        requires some { 0 < length self.old.left.items }
-        ensures ready { AreReady D.Disk self.new.answers.items self.new.left.items }
-        ensures answers { OnOk result ((reads : List DiskReading)
-            → Awaits D.Disk self.old.answers.items self.old.left.items reads
-            → Awaits D.Disk self.new.answers.items self.new.left.items reads) }
-        ensures count { OnOk result (length self.new.answers.items + length self.new.left.items
-            ≡ length self.old.left.items) }
-        ensures some { OnOk result (0 < length self.new.answers.items) }
-    {
-        let disks = first_of(&mut self.left, at_once(rt))?;
-        let answers = ask_side_by_side(rt, alloc, disks)?;
-        self.answers = VecDeque::from(answers);
-        Ok(())
-    }
-
-    /// The same, unless an answer or no archive is left.
-    fn refill<R: Threads + Sync>(&mut self, rt: &R, alloc: Global) -> Result<(), AllocError>
-        requires { AreReady D.Disk self.old.answers.items self.old.left.items }
-        ensures ready { AreReady D.Disk self.new.answers.items self.new.left.items }
-        ensures answers { OnOk result ((reads : List DiskReading)
-            → Awaits D.Disk self.old.answers.items self.old.left.items reads
-            → Awaits D.Disk self.new.answers.items self.new.left.items reads) }
-        ensures count { OnOk result (length self.new.answers.items + length self.new.left.items
-            ≡ length self.old.answers.items + length self.old.left.items) }
-        ensures some { OnOk result (length self.new.answers.items ≡ 0 → length self.new.left.items ≡ 0) }
-        ensures refused { OnErr result (0 < length self.old.left.items) }
-    {
-        if self.answers.len() == 0 && self.left.len() > 0 {
-            self.ask_more(rt, alloc)
-        } else {
-            Ok(())
+            archives: InTurn::of(alloc, disks),
         }
     }
 
@@ -149,31 +69,32 @@ where
         alloc: Global,
         faults: &mut Faults<D::Sealed>,
     ) -> Option<Result<Together, SummingRefusal>>
-        requires { AreReady D.Disk self.old.answers.items self.old.left.items }
-        ensures ready { AreReady D.Disk self.new.answers.items self.new.left.items }
+        requires { AreReady D.Disk self.old.archives.answers.items self.old.archives.left.items }
+        ensures ready { AreReady D.Disk self.new.archives.answers.items self.new.archives.left.items }
         ensures answer { IfSome result (λ answer. (reads : List DiskReading)
-            → Awaits D.Disk self.old.answers.items self.old.left.items reads
+            → Awaits D.Disk self.old.archives.answers.items self.old.archives.left.items reads
             → (own : DiskReading) × (rest : List DiskReading) × (reads ≡ own ∷ rest) × IsOwnAnswer own answer
-            × OnOk answer (Awaits D.Disk self.new.answers.items self.new.left.items rest)) }
+            × OnOk answer (Awaits D.Disk self.new.archives.answers.items self.new.archives.left.items rest)) }
         ensures end { IfNone result ((reads : List DiskReading)
-            → Awaits D.Disk self.old.answers.items self.old.left.items reads → reads ≡ []) }
+            → Awaits D.Disk self.old.archives.answers.items self.old.archives.left.items reads → reads ≡ []) }
         ensures count { IfSome result (λ answer. OnOk answer
-            (length self.new.answers.items + length self.new.left.items + 1
-            ≡ length self.old.answers.items + length self.old.left.items)) }
-        ensures ended { IfNone result (length self.old.answers.items + length self.old.left.items ≡ 0) }
+            (length self.new.archives.answers.items + length self.new.archives.left.items + 1
+            ≡ length self.old.archives.answers.items + length self.old.archives.left.items)) }
+        ensures ended { IfNone result
+            (length self.old.archives.answers.items + length self.old.archives.left.items ≡ 0) }
         ensures cause { IfSome result
             (HasCause (summing.Sums (together.Query query.Fault)) faults.old faults.new) }
         ensures still { IfNone result (faults.new ≡ faults.old) }
     {
-        match self.refill(rt, alloc) {
-            Ok(()) => match self.answers.pop_front() {
-                None => None,
-                Some(answer) => {
-                    faults.add(answer.faults);
-                    Some(answer.sums)
+        match self.archives.next(rt, &Summing { alloc }) {
+            None => None,
+            Some(answer) => match answer {
+                Ok(own) => {
+                    faults.add(own.faults);
+                    Some(own.sums)
                 }
+                Err(_) => Some(Err(SummingRefusal::Opening(OpenError::OutOfMemory))),
             },
-            Err(_) => Some(Err(SummingRefusal::Opening(OpenError::OutOfMemory))),
         }
     }
 }

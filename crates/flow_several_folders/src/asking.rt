@@ -68,13 +68,13 @@ where
         Wanted::TotalsOfEach => {
             totals_of_each(rt, alloc, disks, from, to, format, output, faults)
         }
-        Wanted::FlowsOfEach => flows_of_each(alloc, disks, from, to, format, output, faults),
+        Wanted::FlowsOfEach => flows_of_each(rt, alloc, disks, from, to, format, output, faults),
     }
 }
 
-/// Opens folders, and then asks their archives: for flows one after the other, for totals as many at once as there are
-/// processors, and the answers are taken in the order of the folders. A folder that can't be opened is named, the first
-/// by its number, and then nothing is asked.
+/// Opens folders, and then asks their archives, as many at once as there are processors: for flows they are opened at
+/// once, and then listed one after the other. The answers are taken in the order of the folders. A folder that can't be
+/// opened is named, the first by its number, and then nothing is asked.
 pub fn ask_folders<'a, D: Disk + Send, R: Threads + Sync, O: Opener<'a, D>, W: Write>(
     rt: &R,
     alloc: Global,

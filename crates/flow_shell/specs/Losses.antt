@@ -1,4 +1,4 @@
--- What the Files that were fed show not to be read, and the answer to `losses`.
+-- What the Files that were fed show not to be read, or to be summed otherwise, and the answer to `losses`.
 use Rattle.std.specs.Prelude.{◌≡◌, ◌⊎◌, ℕ, ◌+◌, List, [], ◌++◌, Option, Some, None, codes, get_or, nat_eq}
 use Rattle.std.specs.Prelude.{if◌then◌else◌}
 use Rattle.std.specs.Fmt.{decimal}
@@ -7,7 +7,8 @@ use Rattle.std.specs.Io.KnownBytes.{Appends}
 use Rattle.flow_refusals.specs.Table.{code_text, row_of}
 use Rattle.flow_refusals.specs.declared.code.RefusalCode.{RefusalCode}
 use Rattle.flow_refusals.specs.declared.code.RefusalCode.TheVariants as code
-use Rattle.flow_codec.specs.Losses.{up_to}
+use Rattle.flow_codec.specs.Losses.{both_caveats, no_caveats, up_to}
+use Rattle.flow_codec.specs.declared.losses.CaveatCounts.{CaveatCounts}
 use Rattle.flow_codec.specs.declared.losses.Losses.{Losses}
 use Rattle.flow_feed.specs.Datagrams.{AreNone, IsOneMore}
 use Rattle.flow_shell.specs.declared.losses.FeedCounts.{FeedCounts}
@@ -18,10 +19,10 @@ use Rattle.flow_shell.specs.Written.{done_line}
 -- ---- what is counted
 
 -- of no File
-abbrev pub IsUncounted : FeedCounts → Type 0
-IsUncounted counts =
+abbrev pub IsOfNoFile : FeedCounts → Type 0
+IsOfNoFile counts =
     (counts.sets ≡ 0) × (counts.domain ≡ None) × (counts.gaps ≡ 0) × (counts.records ≡ 0)
-    × AreNone counts.refused.counts
+    × (counts.caveats ≡ no_caveats) × AreNone counts.refused.counts
 
 -- with what a batch shows; the domain is that of the first Set of all
 abbrev pub with_losses : Losses → FeedCounts → FeedCounts
@@ -30,6 +31,7 @@ with_losses losses old = record {
   domain = option_or old.domain losses.domain;
   gaps = up_to (old.gaps + losses.gaps);
   records = up_to (old.records + losses.missing);
+  caveats = both_caveats old.caveats losses.caveats;
   refused = old.refused;
 }
 
@@ -44,6 +46,12 @@ IsCounted (Datagram fault) old new =
 unfoldable pub domain_text : Option ℕ → List ℕ
 domain_text None = []
 domain_text (Some domain) = codes "domain " ++ decimal domain ++ codes "\n"
+
+-- flows that are summed otherwise than their exporter may mean
+unfoldable pub caveats_text : CaveatCounts → List ℕ
+caveats_text caveats =
+    codes "placed " ++ decimal caveats.placed ++ codes "\nuncounted " ++ decimal caveats.uncounted
+    ++ codes "\nsampled " ++ decimal caveats.sampled ++ codes "\n"
 
 -- datagrams that were passed over by this refusal, where there are any
 unfoldable pub passed_text : List ℕ → RefusalCode → List ℕ
@@ -64,7 +72,8 @@ abbrev pub losses_text : FeedCounts → List ℕ
 losses_text counts =
     codes "sets " ++ decimal counts.sets ++ codes "\n" ++ domain_text counts.domain
     ++ codes "gaps " ++ decimal counts.gaps ++ codes "\n"
-    ++ codes "records " ++ decimal counts.records ++ codes "\n" ++ refused_text counts.refused.counts
+    ++ codes "records " ++ decimal counts.records ++ codes "\n" ++ caveats_text counts.caveats
+    ++ refused_text counts.refused.counts
 
 -- What `losses` is answered: counts that the board had, and done 0; or that there is no memory for the lines.
 abbrev pub HasLosses : (FeedCounts → Type 0) → Option (List ℕ) → Option (List ℕ) → Type 0

@@ -55,7 +55,7 @@ pub enum ShellRequest<'a> {
     Keep(u32),
     /// `merge N`: so many of the newest rolled files are from now on, and older ones are merged.
     Merge(u32),
-    /// `losses`: what all Files so far show not to be read.
+    /// `losses`: what all Files so far show not to be read, or to be summed otherwise.
     Losses,
     /// `wait`: answered when all Files that are fed have ended.
     Wait,

@@ -2,7 +2,7 @@
 
 ghost use Rattle.std.specs.Prelude.{◌≡◌, ◌≢◌, ◌↔◌, IfSome, IsTrue};
 ghost use Rattle.std.specs.Sync.Mutex.{mutex_guard_value};
-ghost use Rattle.flow_shell.specs.Losses.{IsCounted, IsUncounted};
+ghost use Rattle.flow_shell.specs.Losses.{IsCounted, IsOfNoFile};
 ghost use Rattle.flow_shell.specs.declared.losses.FeedCounts.{FeedCounts as Counts};
 ghost use Rattle.flow_shell.specs.Places.{AreSaid, Begins, Frees, HasFed, IsFirst, Replaces};
 
@@ -168,8 +168,8 @@ impl<B: Ends> Table<B> {
     /// No File is fed, and nothing is counted.
     #[tactic(auto, using(crate::proofs::Said::none_ended))]
     fn new() -> Table<B>
-        requires { (counts : Counts) → IsUncounted counts → ∥ B.had counts ∥₁ }
-        ensures { IsUncounted result.counts }
+        requires { (counts : Counts) → IsOfNoFile counts → ∥ B.had counts ∥₁ }
+        ensures { IsOfNoFile result.counts }
     {
         let places = Places {
             places: [Place::Free; MOST_FILES],
@@ -220,7 +220,7 @@ impl<B: Ends> Table<B> {
         self.places.take_ended()
     }
 
-    /// Counts what a File shows not to be read.
+    /// Counts what a File shows not to be read, or to be summed otherwise.
     fn add(&mut self, missed: Missed)
         ensures counted { IsCounted missed self.old.counts self.new.counts }
         ensures places { self.new.places ≡ self.old.places }
@@ -255,7 +255,7 @@ pub(crate) struct Board<B: Ends> {
 impl<B: Ends> Board<B> {
     /// No File is fed, and nothing is counted.
     pub(crate) fn new() -> Board<B>
-        requires { (counts : Counts) → IsUncounted counts → ∥ B.had counts ∥₁ }
+        requires { (counts : Counts) → IsOfNoFile counts → ∥ B.had counts ∥₁ }
     {
         Board {
             table: Mutex::new(Table::new()),
@@ -285,7 +285,7 @@ impl<B: Ends> Board<B> {
         self.table.lock(rt).take_ended()
     }
 
-    /// Counts what a File shows not to be read.
+    /// Counts what a File shows not to be read, or to be summed otherwise.
     pub(crate) fn add<H: Wait>(&self, rt: &H, missed: Missed) {
         self.table.lock(rt).add(missed);
     }

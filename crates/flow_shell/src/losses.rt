@@ -1,14 +1,16 @@
-//! What the Files that were fed show of records that aren't read, and the answer to `losses`.
+//! What the Files that were fed show of records that aren't read, or are summed otherwise than their exporter may mean,
+//! and the answer to `losses`.
 
 ghost use Rattle.std.specs.Prelude.{◌≡◌, IfErr, IfOk, OnOk, Some, string_bytes};
 ghost use Rattle.flow_shell.specs.Endings.{IsUnanswered};
-ghost use Rattle.flow_shell.specs.Losses.{domain_text, losses_text, passed_text, refused_text, with_losses};
-ghost use Rattle.flow_shell.specs.Losses.{HasLosses, IsCounted, IsUncounted};
+ghost use Rattle.flow_codec.specs.Losses.{no_caveats};
+ghost use Rattle.flow_shell.specs.Losses.{caveats_text, domain_text, losses_text, passed_text, refused_text};
+ghost use Rattle.flow_shell.specs.Losses.{with_losses, HasLosses, IsCounted, IsOfNoFile};
 
 use crate::board::{Board, Ends};
 use crate::finishing::{DONE, NO_MEMORY, WITHOUT_MEMORY, answer_text};
-use flow_codec::{Losses, MessageError};
-use flow_commands::ArchiveRefusal;
+use flow_codec::{CaveatCounts, Losses, MessageError};
+use flow_commands::{ArchiveRefusal, shows_more};
 use flow_feed::{Counter, RefusedDatagrams};
 use flow_refusals::RefusalCode;
 use std::alloc::{AllocError, Global};
@@ -16,16 +18,16 @@ use std::fmt;
 use std::io::Write;
 use std::sync::Wait;
 
-/// What a File that is fed shows not to be read.
+/// What a File that is fed shows not to be read, or to be summed otherwise.
 #[derive(Clone, Copy, Debug, PartialEq, Eq)]
 pub(crate) enum Missed {
-    /// Records, by a batch that was taken in.
+    /// Records, and flows that are summed otherwise, by a batch that was taken in.
     Records(Losses),
     /// A datagram, which isn't accepted for this fault.
     Datagram(MessageError),
 }
 
-/// What all Files so far show not to be read. Counts stop at 2^64 - 1.
+/// What all Files so far show not to be read, or to be summed otherwise. Counts stop at 2^64 - 1.
 #[derive(Clone, Copy, Debug, PartialEq, Eq)]
 pub(crate) struct FeedCounts {
     /// Data Sets without a definition in force.
@@ -36,6 +38,8 @@ pub(crate) struct FeedCounts {
     gaps: u64,
     /// How many records are missing there.
     records: u64,
+    /// Flows that are summed otherwise than their exporter may mean.
+    caveats: CaveatCounts,
     /// Datagrams that were passed over.
     refused: RefusedDatagrams,
 }
@@ -43,13 +47,14 @@ pub(crate) struct FeedCounts {
 impl FeedCounts {
     /// Of no File.
     pub(crate) fn none() -> FeedCounts
-        ensures { IsUncounted result }
+        ensures { IsOfNoFile result }
     {
         FeedCounts {
             sets: 0,
             domain: None,
             gaps: 0,
             records: 0,
+            caveats: CaveatCounts::none(),
             refused: RefusedDatagrams::none(),
         }
     }
@@ -63,11 +68,12 @@ impl FeedCounts {
             domain: self.domain.or(losses.domain),
             gaps: self.gaps.saturating_add(losses.gaps),
             records: self.records.saturating_add(losses.missing),
+            caveats: self.caveats.and(losses.caveats),
             refused: self.refused,
         }
     }
 
-    /// Adds what is shown not to be read.
+    /// Adds what is shown.
     pub(crate) fn add(&mut self, missed: Missed)
         ensures { IsCounted missed self.old self.new }
     {
@@ -93,6 +99,29 @@ impl fmt::Display for DomainLine {
             None => write!(f, ""),
             Some(domain) => write!(f, "domain {domain}\n"),
         }
+    }
+}
+
+/// The lines of the flows that are summed otherwise.
+#[derive(Clone, Copy, Debug)]
+struct CaveatLines {
+    caveats: CaveatCounts,
+}
+
+impl fmt::Display for CaveatLines {
+    ghost output = { λ lines. Some (caveats_text lines.caveats) };
+
+    #[tactic(auto, unfolding(crate::specs::Losses::caveats_text))]
+    fn fmt<W: fmt::Write>(&self, f: &mut fmt::Formatter<W>) -> fmt::Result {
+        let CaveatCounts {
+            placed,
+            uncounted,
+            sampled,
+        } = self.caveats;
+        write!(
+            f,
+            "placed {placed}\nuncounted {uncounted}\nsampled {sampled}\n"
+        )
     }
 }
 
@@ -179,13 +208,16 @@ impl fmt::Display for FeedCounts {
     fn fmt<W: fmt::Write>(&self, f: &mut fmt::Formatter<W>) -> fmt::Result {
         write!(
             f,
-            "sets {}\n{}gaps {}\nrecords {}\n{}",
+            "sets {}\n{}gaps {}\nrecords {}\n{}{}",
             self.sets,
             DomainLine {
                 domain: self.domain
             },
             self.gaps,
             self.records,
+            CaveatLines {
+                caveats: self.caveats
+            },
             PassedLines {
                 refused: self.refused
             }
@@ -200,7 +232,7 @@ fn losses_lines(alloc: Global, counts: &FeedCounts) -> Result<String, AllocError
     format!(in alloc; "{counts}")
 }
 
-/// Answers what all Files so far show not to be read, those that are fed too.
+/// Answers what all Files so far show not to be read, or to be summed otherwise, those that are fed too.
 #[tactic(auto, using(crate::proofs::Unanswered::written))]
 pub(crate) fn answer_losses<B: Ends, H: Wait, W: Write>(
     rt: &H,
@@ -218,7 +250,7 @@ pub(crate) fn answer_losses<B: Ends, H: Wait, W: Write>(
     answer_text(lines.as_str(), DONE, output)
 }
 
-/// Counts on a board what a File that is fed shows not to be read, as soon as it is shown.
+/// Counts on a board what a File that is fed shows not to be read, or to be summed otherwise, as soon as it is shown.
 #[derive(Drop)]
 pub(crate) struct Noting<'a, B: Ends, H: Wait> {
     pub(crate) rt: &'a H,
@@ -227,7 +259,7 @@ pub(crate) struct Noting<'a, B: Ends, H: Wait> {
 
 impl<B: Ends, H: Wait> Counter for Noting<'_, B, H> {
     fn add_losses(&mut self, piece: Losses) {
-        if piece.unread > 0 || piece.gaps > 0 {
+        if shows_more(piece) {
             self.board.add(self.rt, Missed::Records(piece));
         }
     }

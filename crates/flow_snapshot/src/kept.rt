@@ -16,7 +16,9 @@ ghost use Rattle.flow_snapshot.specs.Found.{kept_file, AppendsOwnFlows, AreAccep
 ghost use Rattle.flow_snapshot.specs.Answered.{IsAnswered};
 
 use bytes::Bytes;
-use flow_codec::{MessageError, RecordSink, Templates, WalkError, front_of, walk_message};
+use flow_codec::{
+    CaveatCounts, MessageError, RecordSink, Templates, WalkError, front_of, walk_message,
+};
 use flow_disk::{Faults, SealedFile};
 use flow_measure::{Flow, PartSpan};
 use flow_refusals::ReadRefusal;
@@ -198,26 +200,34 @@ pub fn span_in_memory(alloc: Global, prefix: &[u8], messages: &[Bytes]) -> Optio
     let Ok(mut templates) = restated(alloc, prefix) else {
         return None;
     };
-    let mut noting = Noting {
-        records: 0,
-        span: Some(PartSpan::none()),
-    };
+    let mut span = PartSpan::none();
     for message in messages {
-        if !is_noted(alloc, &mut templates, message.as_slice(), &mut noting) {
+        if !is_noted(alloc, &mut templates, message.as_slice(), &mut span) {
             return None;
         }
     }
-    noting.span
+    Some(span)
 }
 
 /// Notes the starts of a message's flows; `false` where memory is refused, or the message isn't accepted.
-fn is_noted(alloc: Global, templates: &mut Templates, octets: &[u8], noting: &mut Noting) -> bool
+fn is_noted(alloc: Global, templates: &mut Templates, octets: &[u8], span: &mut PartSpan) -> bool
     ensures { result ≡ true → IsOctets octets.now × (a : Accepted) × (a.octets ≡ octets.now)
         × IsAccepted octets.now templates.old a.message a.after × (templates.new ≡ a.after)
-        × (noting.new.span ≡ noted a.message noting.old.span) }
+        × (Some span.new ≡ noted a.message (Some span.old)) }
 {
-    match walk_message(templates, alloc, octets, noting) {
-        Ok(_) => true,
+    let mut noting = Noting {
+        records: 0,
+        span: Some(*span),
+        caveats: CaveatCounts::none(),
+    };
+    match walk_message(templates, alloc, octets, &mut noting) {
+        Ok(_) => match noting.span {
+            Some(now) => {
+                *span = now;
+                true
+            }
+            None => false,
+        },
         Err(_) => false,
     }
 }

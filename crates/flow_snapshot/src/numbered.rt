@@ -37,7 +37,7 @@ fn message_behind<S: SealedFile>(
     let mut window = Window::new(alloc, part.prefix, part.length);
     let mut left = skipped;
     'messages: loop {
-        if !advance(&mut window, alloc, &part.reader, faults)? {
+        if !advance(&mut window, &part.reader, faults)? {
             return Err(ReadRefusal::Damaged(part.reader.file(), part.length));
         }
         if left == 0 {

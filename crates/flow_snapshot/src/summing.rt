@@ -21,7 +21,7 @@ ghost use Rattle.flow_model.specs.Views.{AreRolled};
 use crate::kept::hand_over;
 use bytes::Bytes;
 use flow_codec::Templates;
-use flow_disk::{Faults, SealedFile};
+use flow_disk::{Faults, SealedFile, Window};
 use flow_measure::Rows;
 use flow_refusals::{ReadRefusal, SumRefusal};
 use flow_rolled::{RolledPart, sum_rows};
@@ -119,7 +119,8 @@ pub(crate) fn add_part<S: SealedFile>(
         rows: replace(rows, none),
         spent: false,
     };
-    match add_flows(alloc, part, templates, &mut adding, faults) {
+    let mut window = Window::new(alloc, part.prefix, part.length);
+    match add_flows(alloc, part, &mut window, templates, &mut adding, faults) {
         Ok(_) => {
             *rows = adding.rows;
             Ok(())

@@ -10,12 +10,12 @@ use Rattle.flow_feed.proofs.Batches.{ends_early, few_texts, ends_last, ends_refu
 use Rattle.flow_feed.proofs.Batches.{texts_long}
 use Rattle.flow_feed.proofs.feeding.feed.Goals as goal
 
-pub returns-in_default : goal.returns-in_default
-returns-in_default g c =
+pub returns-in_default-clause-fed : goal.returns-in_default-clause-fed
+returns-in_default-clause-fed g c =
     fed_nothing g.A.Appender.appends c.args.first c.args.appender.now (g.R.Read.remaining c.args.input.now)
 
-pub returns-in_default-give : goal.returns-in_default-give
-returns-in_default-give g c =
+pub returns-in_default-give-clause-fed : goal.returns-in_default-give-clause-fed
+returns-in_default-give-clause-fed g c =
     let known = g.R.Read.remaining in
     rw c.count-before.ensures.value
     (ends_early g.A.Appender.appends c.args.first c.args.appender.now c.batches.appender c.give.new.appender
@@ -23,22 +23,22 @@ returns-in_default-give g c =
     (progress c.read_batch-batch.new.reader (known c.read_batch-batch.new.input)) c.batches.reader.count
     c.batches.invariant c.in_default-give.ensures.refused)
 
-pub returns-in-Some : goal.returns-in-Some
-returns-in-Some g c =
+pub returns-in-Some-clause-fed : goal.returns-in-Some-clause-fed
+returns-in-Some-clause-fed g c =
     let known = g.R.Read.remaining in
     fed_passed g.A.Appender.appends c.args.first c.args.appender.now (known c.args.input.now)
     (progress c.in-Ok.reader (known c.args.input.now)) (progress c.pass.new.reader (known c.pass.new.input)) c.in-Some.ended
-    (opened c.in-Ok.reader (known c.args.input.now) c.in-Ok.ensures) c.in-Some.ensures
+    (opened c.in-Ok.reader (known c.args.input.now) c.in-Ok.ensures) c.in-Some.ensures.passed
 
 pub batches-init : goal.batches-init
 batches-init g c =
     let known = g.R.Read.remaining in
     started g.A.Appender.appends c.args.first c.args.appender.now (known c.args.input.now)
     (progress c.in-Ok.reader (known c.args.input.now)) (progress c.pass.new.reader (known c.pass.new.input))
-    (opened c.in-Ok.reader (known c.args.input.now) c.in-Ok.ensures) c.in_default-pass.ensures
+    (opened c.in-Ok.reader (known c.args.input.now) c.in-Ok.ensures) c.in_default-pass.ensures.passed
 
-pub returns-in-Some-stop : goal.returns-in-Some-stop
-returns-in-Some-stop g c =
+pub returns-in-Some-stop-clause-fed : goal.returns-in-Some-stop-clause-fed
+returns-in-Some-stop-clause-fed g c =
     let known = g.R.Read.remaining in
     let appends = g.A.Appender.appends in
     let mid = c.batches.appender in
@@ -60,8 +60,8 @@ returns-in-Some-stop g c =
     (subst (λ (ms : List (Vec ℕ Global)). HasTaken appends (AreGivenInTurn (batch_of (texts ms))) mid new (take n (texts ms)) (Some c.in-Some-stop.error))
     c.as_slice.ensures.value told))
 
-pub returns-then-batch : goal.returns-then-batch
-returns-then-batch g c =
+pub returns-then-batch-clause-fed : goal.returns-then-batch-clause-fed
+returns-then-batch-clause-fed g c =
     let known = g.R.Read.remaining in
     let appends = g.A.Appender.appends in
     let mid = c.batches.appender in

@@ -22,3 +22,7 @@ returns-in-Export-clause-runs g c =
 pub returns-in-Templates-clause-runs : goal.returns-in-Templates-clause-runs
 returns-in-Templates-clause-runs g c =
     rw c.in-Templates.is (Keeps-refl (g.R.Read.remaining c.args.input.now), c.run_templates.ensures.runs)
+
+pub returns-in-ExportByTime-clause-runs : goal.returns-in-ExportByTime-clause-runs
+returns-in-ExportByTime-clause-runs g c =
+    rw c.in-ExportByTime.is (Keeps-refl (g.R.Read.remaining c.args.input.now), c.run_export_by_time.ensures.runs)

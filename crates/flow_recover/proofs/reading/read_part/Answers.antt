@@ -1,4 +1,4 @@
-use Rattle.std.proofs.Common.{◌≡◌, inr, ℕ, IsTrue, List, take, sym, ◌∙◌, ap, subst, arith, length-take}
+use Rattle.std.proofs.Common.{◌≡◌, inr, ℕ, IsTrue, List, length, take, sym, ◌∙◌, ap, subst, arith, length-take}
 use Rattle.std.proofs.lemmas.List.{take-take}
 use Rattle.flow_disk.specs.Disk.{Held}
 use Rattle.flow_disk.proofs.Results.{if_ok_by, if_err_by}
@@ -33,9 +33,12 @@ returns-clause-found g c h before calls =
     let e = c.args.entry in
     let h1 = subst IsTrue (sym c.length.ensures.honest) h in
     let reads = (D.held c.args.disk.now e.file).reads in
-    let read : c.deref.result.now ≡ take e.length reads = c.deref.ensures.value ∙ c.in_ok-octets.ensures.octets h1
+    let size : length (take e.length c.deref_mut.result.now) ≡ e.length =
+    omega (arith, length-take e.length c.deref_mut.result.now, c.deref_mut.ensures.len, c.in_ok-lengthen.ensures) in
+    let read : c.read_into.new.octets ≡ take e.length reads = c.in_ok-read_into.ensures.octets h1
+    ∙ ap (λ (n : ℕ). take n (D.held c.length.new.self e.file).reads) size
     ∙ ap (λ (f : Held). take e.length f.reads) (c.length.ensures.held h e.file) in
-    if_ok_by c.kept_of.result (λ (next : Checked). IsKeptAs m e.kind c.deref.result.now e before next.called)
+    if_ok_by c.kept_of.result (λ (next : Checked). IsKeptAs m e.kind c.read_into.new.octets e before next.called)
     (λ (next : Checked). IsKeptAs m e.kind reads e before next.called)
     (λ next is. (
       is.0,
@@ -53,7 +56,10 @@ returns-clause-refused g c h before calls p after stands behind =
     let e = c.args.entry in
     let h1 = subst IsTrue (sym c.length.ensures.honest) h in
     let reads = (D.held c.args.disk.now e.file).reads in
-    let read : c.deref.result.now ≡ take e.length reads = c.deref.ensures.value ∙ c.in_ok-octets.ensures.octets h1
+    let size : length (take e.length c.deref_mut.result.now) ≡ e.length =
+    omega (arith, length-take e.length c.deref_mut.result.now, c.deref_mut.ensures.len, c.in_ok-lengthen.ensures) in
+    let read : c.read_into.new.octets ≡ take e.length reads = c.in_ok-read_into.ensures.octets h1
+    ∙ ap (λ (n : ℕ). take n (D.held c.length.new.self e.file).reads) size
     ∙ ap (λ (f : Held). take e.length f.reads) (c.length.ensures.held h e.file) in
     if_err_by c.kept_of.result _ IsDeviceOrMemory (λ x is. inr is)
     (c.kept_of.ensures.refused before calls p after (subst (λ (l : List ℕ). StandsAs e.kind l e p) (sym read)
@@ -67,10 +73,13 @@ returns-clause-spanned g c h =
     let e = c.args.entry in
     let h1 = subst IsTrue (sym c.length.ensures.honest) h in
     let reads = (D.held c.args.disk.now e.file).reads in
-    let read : c.deref.result.now ≡ take e.length reads = c.deref.ensures.value ∙ c.in_ok-octets.ensures.octets h1
+    let size : length (take e.length c.deref_mut.result.now) ≡ e.length =
+    omega (arith, length-take e.length c.deref_mut.result.now, c.deref_mut.ensures.len, c.in_ok-lengthen.ensures) in
+    let read : c.read_into.new.octets ≡ take e.length reads = c.in_ok-read_into.ensures.octets h1
+    ∙ ap (λ (n : ℕ). take n (D.held c.length.new.self e.file).reads) size
     ∙ ap (λ (f : Held). take e.length f.reads) (c.length.ensures.held h e.file) in
     if_ok_by c.kept_of.result
-    (λ (r : Checked). (p : Part) → StandsAs e.kind c.deref.result.now e p → IsSpanOf m e.kind p r.span)
+    (λ (r : Checked). (p : Part) → StandsAs e.kind c.read_into.new.octets e p → IsSpanOf m e.kind p r.span)
     (λ (r : Checked). (p : Part) → StandsAs e.kind reads e p → IsSpanOf m e.kind p r.span)
     (λ r is p stands. is p (subst (λ (l : List ℕ). StandsAs e.kind l e p) (sym read)
     (part_cut e.kind e.length reads (take e.length reads) e p (omega arith) (all_to_front e.length reads) stands)))

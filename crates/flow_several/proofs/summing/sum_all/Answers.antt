@@ -1,4 +1,4 @@
-use Rattle.std.proofs.Common.{◌≡◌, ◌∙◌, ◌+◌, Ok, ap, arith, length, refl, subst, sym}
+use Rattle.std.proofs.Common.{◌∙◌, Ok, ap, arith, length, refl, subst}
 use Rattle.std.specs.Prelude.{IsOk, OnOk}
 use Rattle.flow_several.specs.Several.{readings}
 use Rattle.flow_several.specs.Turns.{Awaits}
@@ -16,10 +16,10 @@ answers-init g c =
     record {
       count = omega (arith, ap length none, ap length left);
       summed = λ honest.
-          none_summed (readings g.D.Disk disks) (Awaits g.D.Disk sums.answers.items sums.left.items)
+          none_summed (readings g.D.Disk disks) (Awaits g.D.Disk sums.archives.answers.items sums.archives.left.items)
           c.new-all.result.sums c.new-all.ensures
-          (all_left g.D.Disk sums.answers.items sums.left.items disks none left honest);
-      ready = ready_first g.D.Disk sums.answers.items sums.left.items disks none left c.requires;
+          (all_left g.D.Disk sums.archives.answers.items sums.archives.left.items disks none left honest);
+      ready = ready_first g.D.Disk sums.archives.answers.items sums.archives.left.items disks none left c.requires;
       faults = refl;
     }
 
@@ -27,8 +27,8 @@ pub answers-preserved : goal.answers-preserved
 answers-preserved g c =
     let old = c.answers.sums in
     let new = c.next.new.self in
-    let waits = Awaits g.D.Disk old.answers.items old.left.items in
-    let later = Awaits g.D.Disk new.answers.items new.left.items in
+    let waits = Awaits g.D.Disk old.archives.answers.items old.archives.left.items in
+    let later = Awaits g.D.Disk new.archives.answers.items new.archives.left.items in
     let done = subst (λ r. OnOk r (IsOk c.in-Some.answer)) c.in-Ok.is c.sums_with.ensures.done in
     let few = when_done c.in-Some.answer _ done c.in-Some.ensures.count in
     record {
@@ -47,8 +47,8 @@ pub returns-in-Err-clause-refused : goal.returns-in-Err-clause-refused
 returns-in-Err-clause-refused g c = λ honest.
     let old = c.answers.sums in
     let new = c.next.new.self in
-    let waits = Awaits g.D.Disk old.answers.items old.left.items in
-    let later = Awaits g.D.Disk new.answers.items new.left.items in
+    let waits = Awaits g.D.Disk old.archives.answers.items old.archives.left.items in
+    let later = Awaits g.D.Disk new.archives.answers.items new.archives.left.items in
     first_refused (readings g.D.Disk c.args.disks.items) waits c.answers.place c.answers.all.sums
     (c.answers.invariant.summed honest) c.in-Err.error
     (joined_err waits later c.in-Some.answer c.in-Some.ensures.answer c.answers.all c.sums_with.result
@@ -62,7 +62,7 @@ returns-in-Err-clause-cause g c =
 pub returns-clause-summed : goal.returns-clause-summed
 returns-clause-summed g c = λ honest.
     let old = c.answers.sums in
-    all_summed (readings g.D.Disk c.args.disks.items) (Awaits g.D.Disk old.answers.items old.left.items)
+    all_summed (readings g.D.Disk c.args.disks.items) (Awaits g.D.Disk old.archives.answers.items old.archives.left.items)
     c.answers.place c.answers.all.sums (c.answers.invariant.summed honest) c.in_default.ensures.end
 
 pub returns-clause-cause : goal.returns-clause-cause

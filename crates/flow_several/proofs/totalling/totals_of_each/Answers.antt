@@ -1,4 +1,4 @@
-use Rattle.std.proofs.Common.{◌≡◌, ◌∙◌, ◌+◌, ap, arith, length, refl, subst, sym}
+use Rattle.std.proofs.Common.{◌∙◌, ◌+◌, ap, arith, length, refl, subst, sym}
 use Rattle.std.specs.Prelude.{IsOk, IsTrue}
 use Rattle.std.specs.List.{All}
 use Rattle.flow_disk.proofs.Results.{passed_on}
@@ -19,10 +19,10 @@ answers-init g c =
     record {
       count = omega (arith, ap length none, ap length left);
       lines = none_written c.args.format c.args.from c.args.to (readings g.D.Disk disks)
-          (All (λ d. IsTrue (g.D.Disk.honest d)) disks) (Awaits g.D.Disk sums.answers.items sums.left.items)
+          (All (λ d. IsTrue (g.D.Disk.honest d)) disks) (Awaits g.D.Disk sums.archives.answers.items sums.archives.left.items)
           (g.W.Write.contents c.args.output.now)
-          (all_left g.D.Disk sums.answers.items sums.left.items disks none left);
-      ready = ready_first g.D.Disk sums.answers.items sums.left.items disks none left c.requires;
+          (all_left g.D.Disk sums.archives.answers.items sums.archives.left.items disks none left);
+      ready = ready_first g.D.Disk sums.archives.answers.items sums.archives.left.items disks none left c.requires;
       faults = refl;
     }
 
@@ -30,8 +30,8 @@ pub returns-in_err-write_archive-in-Ok-clause-refused : goal.returns-in_err-writ
 returns-in_err-write_archive-in-Ok-clause-refused g c = λ honest.
     let disks = c.args.disks.items in
     let reads = readings g.D.Disk disks in
-    let waits = Awaits g.D.Disk c.answers.sums.answers.items c.answers.sums.left.items in
-    let later = Awaits g.D.Disk c.next.new.self.answers.items c.next.new.self.left.items in
+    let waits = Awaits g.D.Disk c.answers.sums.archives.answers.items c.answers.sums.archives.left.items in
+    let later = Awaits g.D.Disk c.next.new.self.archives.answers.items c.next.new.self.archives.left.items in
     let old = g.W.Write.contents c.args.output.now in
     let now = g.W.Write.contents c.answers.output in
     let new = g.W.Write.contents c.write_archive.new.output in
@@ -47,8 +47,8 @@ pub returns-in_err-write_archive-in-Ok-clause-kept : goal.returns-in_err-write_a
 returns-in_err-write_archive-in-Ok-clause-kept g c =
     let disks = c.args.disks.items in
     let reads = readings g.D.Disk disks in
-    let waits = Awaits g.D.Disk c.answers.sums.answers.items c.answers.sums.left.items in
-    let later = Awaits g.D.Disk c.next.new.self.answers.items c.next.new.self.left.items in
+    let waits = Awaits g.D.Disk c.answers.sums.archives.answers.items c.answers.sums.archives.left.items in
+    let later = Awaits g.D.Disk c.next.new.self.archives.answers.items c.next.new.self.archives.left.items in
     let old = g.W.Write.contents c.args.output.now in
     let now = g.W.Write.contents c.answers.output in
     let new = g.W.Write.contents c.write_archive.new.output in
@@ -64,8 +64,8 @@ pub returns-in-Err-clause-refused : goal.returns-in-Err-clause-refused
 returns-in-Err-clause-refused g c = λ honest.
     let disks = c.args.disks.items in
     let reads = readings g.D.Disk disks in
-    let waits = Awaits g.D.Disk c.answers.sums.answers.items c.answers.sums.left.items in
-    let later = Awaits g.D.Disk c.next.new.self.answers.items c.next.new.self.left.items in
+    let waits = Awaits g.D.Disk c.answers.sums.archives.answers.items c.answers.sums.archives.left.items in
+    let later = Awaits g.D.Disk c.next.new.self.archives.answers.items c.next.new.self.archives.left.items in
     let old = g.W.Write.contents c.args.output.now in
     let now = g.W.Write.contents c.answers.output in
     each_refused c.args.format c.args.from c.args.to reads (All (λ d. IsTrue (g.D.Disk.honest d)) disks) waits
@@ -76,8 +76,8 @@ pub answers-preserved : goal.answers-preserved
 answers-preserved g c =
     let disks = c.args.disks.items in
     let reads = readings g.D.Disk disks in
-    let waits = Awaits g.D.Disk c.answers.sums.answers.items c.answers.sums.left.items in
-    let later = Awaits g.D.Disk c.next.new.self.answers.items c.next.new.self.left.items in
+    let waits = Awaits g.D.Disk c.answers.sums.archives.answers.items c.answers.sums.archives.left.items in
+    let later = Awaits g.D.Disk c.next.new.self.archives.answers.items c.next.new.self.archives.left.items in
     let old = g.W.Write.contents c.args.output.now in
     let now = g.W.Write.contents c.answers.output in
     let new = g.W.Write.contents c.write_archive.new.output in
@@ -96,7 +96,7 @@ answers-preserved g c =
 pub returns-clause-totals : goal.returns-clause-totals
 returns-clause-totals g c = λ honest.
     let disks = c.args.disks.items in
-    let waits = Awaits g.D.Disk c.answers.sums.answers.items c.answers.sums.left.items in
+    let waits = Awaits g.D.Disk c.answers.sums.archives.answers.items c.answers.sums.archives.left.items in
     all_written c.args.format c.args.from c.args.to (readings g.D.Disk disks)
     (All (λ d. IsTrue (g.D.Disk.honest d)) disks) waits c.answers.place (g.W.Write.contents c.args.output.now)
     (g.W.Write.contents c.answers.output) c.answers.invariant.lines c.in_default.ensures.end honest

@@ -15,5 +15,5 @@ returns-else-options-clause-taken c = λ start taken h.
     c.widened-self.ensures c.with_flow-self.result c.with_flow-self.ensures
     c.risen-self.result c.risen-self-else-options.result c.risen-self-else-options-2.result
     (rw c.has_no_start.ensures at c.risen-self.ensures)
-    (rw (c.are_uncounted.ensures, c.elements_of-elements.ensures) at c.risen-self-else-options.ensures)
-    (rw c.elements_of-elements.ensures at c.risen-self-else-options-2.ensures)
+    (rw c.is_uncounted.ensures at c.risen-self-else-options.ensures)
+    (rw c.is_sampled.ensures at c.risen-self-else-options-2.ensures)

@@ -2,7 +2,7 @@ use Rattle.std.proofs.Common.{◌≢◌, ◌++◌, [], ◌∷◌}
 use Rattle.flow_disk.proofs.Results.{passed_on}
 use Rattle.flow_refusals.specs.declared.read_refusal.ReadRefusal.TheVariants as query
 use Rattle.flow_together.specs.declared.error.TogetherError.TheVariants.{Query}
-use Rattle.flow_together.specs.Together.{AreNotJoined, AreSumsOf, IsJoiningRefused}
+use Rattle.flow_together.specs.Together.{AreSumsOf, IsJoiningRefused}
 use Rattle.flow_together.proofs.Adding.{err_matched, joined_quiet, joined_refused, joined_views}
 use Rattle.flow_together.proofs.together.Together.join.Goals as goal
 
