@@ -1,9 +1,9 @@
 #!/usr/bin/env python3
 """several_times.py PROGRAM [ARCHIVES [OCTETS [FOLDER]]]: `totals` of several archives (4, of 100 MB of messages each,
-nothing rolled, copies of one), of all together and of each with its number, by one processor and by four, which the
-program asks the system for; and of one alone. Prints the least wall time of several turns, the most memory of each, and
-how many times as long it takes by one as by four; fails where these differ in what they write. The archives are made in
-FOLDER (the system's for temporary files), which is left empty."""
+nothing rolled, copies of one), of all together and of each with its number, and `check` of them, by one processor and
+by four, which the program asks the system for; and of one alone. Prints the least wall time of several turns, the most
+memory of each, and how many times as long it takes by one as by four; fails where these differ in what they write. The
+archives are made in FOLDER (the system's for temporary files), which is left empty."""
 import hashlib
 import os
 import shutil
@@ -64,15 +64,18 @@ def main():
         archive(program, folders[0], octets)
         for folder in folders[1:]:
             shutil.copytree(folders[0], folder)
+        questions = {"together": ["totals", *folders, *SPAN], "each": ["totals", *folders, *SPAN, "--each"],
+                     "check": ["check", *folders]}
         ways = {}
-        for question, words in (("together", []), ("each", ["--each"])):
+        for question, words in questions.items():
             for processors in (1, 4):
-                ways[question, processors] = ([program, "totals", *folders, *SPAN, *words], processors)
+                ways[question, processors] = ([program, *words], processors)
         ways["one of them", 1] = ([program, "totals", folders[0], *SPAN, "--workers", "1"], 1)
+        ways["check of one", 1] = ([program, "check", folders[0]], 1)
         best = least(ways)
         for (question, processors), (took, memory, _) in best.items():
             print("%-12s %d processors %7.3f s %7.1f MB" % (question, processors, took, memory / 1e6))
-        for question in ("together", "each"):
+        for question in questions:
             if best[question, 1][2] != best[question, 4][2]:
                 sys.exit("%s: other lines by four" % question)
             print("%-12s by one and by four: %.2f" % (question, best[question, 1][0] / best[question, 4][0]))

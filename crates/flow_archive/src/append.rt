@@ -2,6 +2,7 @@
 
 ghost use Rattle.std.specs.Prelude.{◌≡◌, ◌≤◌, [], ◌∷◌, ◌⊎◌, ◌+◌, ◌<◌, ◌++◌, true, IfOk, length, OnOk, OnErr, IfErr};
 ghost use Rattle.std.specs.Prelude.{IfSome, IfNone, vec_len, vec_capacity};
+ghost use Rattle.flow_codec.specs.Message.{joined};
 ghost use Rattle.flow_disk.specs.Cause.{HasCause};
 ghost use Rattle.flow_gate.specs.Steps.{slices};
 ghost use Rattle.flow_model.specs.State.{appended};
@@ -142,7 +143,7 @@ fn admitted(
     if messages.len() as u64 > positions {
         return Err(judged(alloc, carry, messages, ArchiveError::NumbersSpent));
     }
-    let copies = copies_of(alloc, messages)?;
+    let copies = copies_of(alloc, messages, count)?;
     take_in(carry, alloc, messages)?;
     Ok(Batch { copies, count })
 }
@@ -163,15 +164,29 @@ fn count_within(messages: &[&[u8]], room: u64) -> Option<u64>
     Some(count)
 }
 
-/// Copies of the messages of a batch.
-fn copies_of(alloc: Global, messages: &[&[u8]]) -> Result<Vec<Bytes>, AllocError>
+/// Copies of the messages of a batch, which have so many octets. One piece of memory holds all of them, until the last
+/// one is dropped: an allocation for each would cost more than judging it.
+fn copies_of(alloc: Global, messages: &[&[u8]], count: u64) -> Result<Vec<Bytes>, AllocError>
     ensures { IfOk result (λ copies. copies.items ≡ slices messages.now) }
 {
-    let mut copies = Vec::with_capacity(alloc, messages.len())?;
+    let mut octets = Vec::with_capacity(alloc, count as usize)?;
     for message in messages {
-        copies.push_reserved(Bytes::copy_from_slice(alloc, message)?);
+        octets.extend_from_slice(message)?;
     }
-    Ok(copies)
+    parts_of(alloc, Bytes::from_vec(octets)?, messages)
+}
+
+/// The parts of octets that are those of these messages, one after the other: a part for each.
+fn parts_of(alloc: Global, octets: Bytes, messages: &[&[u8]]) -> Result<Vec<Bytes>, AllocError>
+    requires { octets ≡ joined (slices messages.now) }
+    ensures { IfOk result (λ parts. parts.items ≡ slices messages.now) }
+{
+    let mut rest = octets;
+    let mut parts = Vec::with_capacity(alloc, messages.len())?;
+    for message in messages {
+        parts.push_reserved(rest.split_to(message.len())?);
+    }
+    Ok(parts)
 }
 
 /// Appends messages to those kept, which have room for them.

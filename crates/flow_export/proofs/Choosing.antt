@@ -1,11 +1,11 @@
 -- Messages of files, chosen by their places, and written one file after the other.
 use Rattle.std.proofs.Common.{◌≡◌, ◌∙◌, ◌≤◌, ◌<◌, ℕ, zero, suc, ◌+◌, ◌-◌, List, [], ◌∷◌, ◌++◌, Option, Some, length}
-use Rattle.std.proofs.Common.{take}
+use Rattle.std.proofs.Common.{None, take}
 use Rattle.std.proofs.Common.{drop, get_or, map, refl, sym, ap, ap₂, subst, append-nil, append_assoc, arith}
 use Rattle.std.specs.Prelude.{min, slice_get}
-use Rattle.std.specs.Io.KnownBytes.{Appends}
+use Rattle.std.specs.Io.KnownBytes.{Appends, Keeps}
 use Rattle.std.proofs.KnownBytes.{Appends-nil, Appends-trans}
-use Rattle.std.proofs.lemmas.List.{length-append, length-drop, length-take, take-append-drop, take_more}
+use Rattle.std.proofs.lemmas.List.{length-append, length-drop, take-append-drop, take_more}
 use Rattle.std.proofs.lemmas.List.Concat.{flat_map-append}
 use Rattle.std.proofs.lemmas.Option.{slice_get-get_or}
 use Rattle.flow_codec.specs.Message.{joined}
@@ -80,6 +80,14 @@ prefix_of_more a b text more (n, most, front) =
 
 pub none_is_prefix : (output : Option (List ℕ)) (text : List ℕ) → AppendsFront output output text
 none_is_prefix output text = (0, omega arith, Appends-nil output)
+
+kept_as_it_was : (a b : Option (List ℕ)) → Keeps a b → Appends a b []
+kept_as_it_was None b kept = tt
+kept_as_it_was (Some x) None kept = absurd kept
+kept_as_it_was (Some x) (Some y) kept = kept ∙ sym (append-nil x)
+
+pub kept_is_prefix : (a b : Option (List ℕ)) (text : List ℕ) → Keeps a b → AppendsFront a b text
+kept_is_prefix a b text kept = (0, omega arith, kept_as_it_was a b kept)
 
 -- ---- files, one after the other
 

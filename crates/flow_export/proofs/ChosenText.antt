@@ -1,6 +1,6 @@
 -- The text of the messages that are written of a span, message by message and file by file.
 use Rattle.std.proofs.Common.{◌≡◌, ◌∙◌, ◌<◌, ◌≤◌, ℕ, zero, suc, ◌+◌, List, [], ◌∷◌, ◌++◌, length, take, drop, refl, sym, ap}
-use Rattle.std.proofs.Common.{Bool, true, false, Option, Some, subst, append-nil, append_assoc, arith, get_or, inl, inr}
+use Rattle.std.proofs.Common.{Bool, true, false, Option, subst, append-nil, arith, get_or, inl, inr}
 use Rattle.std.specs.Prelude.{◌||◌, ◌&&◌, ◌-◌, if◌then◌else◌, filter, min, nat_le, Err}
 use Rattle.std.specs.Io.KnownBytes.{Appends}
 use Rattle.std.specs.List.{list_any}
@@ -22,7 +22,7 @@ use Rattle.flow_segment.specs.Carry.{carry_from, octets_of, Carry}
 use Rattle.flow_segment.specs.PartFlows.{IsWalkedInto}
 use Rattle.flow_segment.proofs.Batches.{templates_carried}
 use Rattle.flow_snapshot.specs.Answered.{IsNoDamage}
-use Rattle.flow_export.specs.Span.{has_flow, holds_templates, is_of_span, starts_within, text_between}
+use Rattle.flow_export.specs.Span.{holds_templates, is_of_span, starts_within, text_between}
 use Rattle.flow_export.proofs.Choosing.{drop_both, dropped, first_ones, joined_then, none_is_prefix, prefix_after}
 use Rattle.flow_export.proofs.Choosing.{prefix_of_more, take_both}
 use Rattle.flow_export.proofs.FindingSpans.{next_taken, walk_blameless}

@@ -1,19 +1,17 @@
 -- The messages of a span: accepted after those before them, with all flows that start in it.
-use Rattle.std.proofs.Common.{◌≡◌, ◌≢◌, ◌∙◌, inl, inr, ℕ, zero, suc, ◌+◌, ◌<◌, ◌≤◌, ◌^◌, List, [], ◌∷◌, ◌++◌, length}
-use Rattle.std.proofs.Common.{take, drop, refl, sym, ap, subst, append-nil, append_assoc, length-append, length-drop, arith}
+use Rattle.std.proofs.Common.{◌≡◌, ◌≢◌, ◌∙◌, ℕ, zero, suc, ◌+◌, ◌<◌, ◌≤◌, List, [], ◌∷◌, ◌++◌, length}
+use Rattle.std.proofs.Common.{take, drop, refl, sym, ap, subst, append-nil, length-append, length-drop, arith}
 use Rattle.std.proofs.Common.{Bool, true, false, true≢false}
 use Rattle.std.specs.Prelude.{◌||◌, ◌==◌, ◌-◌, min, not, nat_lt, filter, cond, if◌then◌else◌}
-use Rattle.std.specs.Int.{w16, from_be_bytes, to_be_bytes}
 use Rattle.std.specs.List.{flat_map, list_any}
-use Rattle.std.proofs.lemmas.Bool.{cases_lt, le-ltb, lt-ltb, ne_eqb}
-use Rattle.std.proofs.lemmas.List.{drop_at, drop_min, take_all, take_at}
+use Rattle.std.proofs.lemmas.Bool.{le-ltb, lt-ltb, ne_eqb}
+use Rattle.std.proofs.lemmas.List.{drop_at, drop_min, take_all}
 use Rattle.std.proofs.lemmas.List.Concat.{flat_map-cons}
 use Rattle.std.proofs.lemmas.List.Elements.{filter-append}
 use Rattle.flow_codec.specs.Cutting.{length_of}
-use Rattle.flow_codec.specs.Message.{content, header_octets, in_fields, set_octets, AreSets, Division, IsSet}
+use Rattle.flow_codec.specs.Message.{header_octets, in_fields, set_octets, AreSets, Division, IsSet}
 use Rattle.flow_codec.specs.Raw.{under, RawMessage, RawRecord, Took}
 use Rattle.flow_codec.specs.Templates.{AllTemplates}
-use Rattle.flow_codec.proofs.NumberLaws.{wide16}
 use Rattle.flow_measure.specs.declared.flow.Flow.{Flow}
 use Rattle.flow_measure.specs.Flows.{flows_of, flows_of_records}
 use Rattle.flow_measure.proofs.SinkSteps.{flows-in_fields}
@@ -26,6 +24,7 @@ use Rattle.flow_model.proofs.Accepting.{accepted_rest}
 use Rattle.flow_segment.specs.declared.sinks.Chosen.{Chosen}
 use Rattle.flow_segment.specs.Batch.{id_of, LeavesTemplates}
 use Rattle.flow_segment.specs.PartFlows.{flows_within, HasChosen}
+use Rattle.flow_segment.proofs.Batches.{head_of, set_leaves as plain_leaves}
 use Rattle.flow_export.specs.Export.{IsReadAs}
 use Rattle.flow_export.specs.Span.{before_first, has_flow, holds_templates, is_of_span, is_of_templates, set_ids}
 use Rattle.flow_export.specs.Span.{span_messages, starts_within, up_to_last, IsSpanExportOf}
@@ -61,37 +60,14 @@ flows_taken m old new none took =
 
 -- ---- octets without Sets of template records
 
--- the header of a Set, as it is read
-record IsHead (set : Division) (octets rest : List ℕ) : Type 0 where
-  pub id : id_of octets ≡ set.id
-  pub len : length_of octets ≡ 4 + length (content set)
-  pub after : drop (4 + length (content set)) octets ≡ rest
-
-head_of : (set : Division) (octets rest : List ℕ) → set.id < 2 ^ 16 → 4 + length (content set) < 2 ^ 16
-    → octets ≡ set_octets set ++ rest → IsHead set octets rest
-head_of set octets rest id_below len_below is =
-    let n = 4 + length (content set) in
-    let tail = to_be_bytes w16 n ++ (content set ++ rest) in
-    let flat : octets ≡ to_be_bytes w16 set.id ++ tail = is ∙ simp append_assoc in
-    record {
-      id = ap id_of flat ∙ ap (from_be_bytes w16) (take_at (to_be_bytes w16 set.id) tail 2 refl)
-          ∙ wide16.again set.id id_below;
-      len = ap length_of flat ∙ ap (λ (t : List ℕ). from_be_bytes w16 (take 2 t))
-          (drop_at (to_be_bytes w16 set.id) tail 2 refl)
-          ∙ ap (from_be_bytes w16) (take_at (to_be_bytes w16 n) (content set ++ rest) 2 refl)
-          ∙ wide16.again n len_below;
-      after = ap (drop n) is ∙ drop_at (set_octets set) rest n (omega arith);
-    }
-
+-- a Set that isn't of template records
 set_leaves : (domain : ℕ) (before : AllTemplates) (set : Division) (records : List RawRecord) (after : AllTemplates)
     → IsSet domain before set records after → is_of_templates set.id ≡ false → after ≡ before
 set_leaves domain before set records after is other =
     let each = both_false (set.id == 2) (set.id == 3) other in
     let plain : set.id ≢ 2 = λ e. true≢false (sym (ap (λ (id : ℕ). id == 2) e) ∙ each.0) in
-    let options : set.id ≢ 3 = λ e. true≢false (sym (ap (λ (id : ℕ). id == 3) e) ∙ each.1) in elim (cases_lt set.id 256) [
-      | inl small ↦ (is.other plain options small).2
-      | inr large ↦ (is.«data» large).1
-    ]
+    let options : set.id ≢ 3 = λ e. true≢false (sym (ap (λ (id : ℕ). id == 3) e) ∙ each.1) in
+    plain_leaves domain before set records after is plain options
 
 ids_more : (most : ℕ) (octets : List ℕ) → 4 ≤ length octets
     → set_ids (suc most) octets ≡ id_of octets ∷ set_ids most (drop (length_of octets) octets)

@@ -5,23 +5,21 @@ use Rattle.std.specs.Prelude.{◌||◌, ◌==◌, ◌-◌, ◌%◌, is_some}
 use Rattle.std.specs.FinMap.{FinMap, entries}
 use Rattle.std.specs.List.{flat_map, list_any, AllZip}
 use Rattle.std.proofs.lemmas.Bool.{cases_lt, eq-eqb, ne_eqb}
-use Rattle.std.proofs.lemmas.List.{take-append-drop, take-append-le, take_all}
-use Rattle.std.proofs.lemmas.List.Concat.{flat_map-append}
+use Rattle.std.proofs.lemmas.List.{take-append-le, take_all}
 use Rattle.std.proofs.lemmas.List.Folds.{list_any-append}
 use Rattle.std.proofs.lemmas.Nat.{mod-mul-add}
 use Rattle.flow_measure.specs.declared.rows.Key.{Key}
 use Rattle.flow_measure.specs.declared.rows.Sums.{Sums}
-use Rattle.flow_measure.specs.History.{flows_in}
-use Rattle.flow_measure.specs.Sums.{gathered, is_key, key_cmp, sums_by, Table}
+use Rattle.flow_measure.specs.Sums.{gathered, is_key, key_cmp, Table}
 use Rattle.flow_measure.specs.View.{gathered_all, View}
-use Rattle.flow_measure.proofs.Gathering.{gathered-both, get-gathered, joined, one, sum_at, sum_at-append}
+use Rattle.flow_measure.proofs.Gathering.{get-gathered, joined, one, sum_at, sum_at-append}
 use Rattle.flow_measure.proofs.Gathering.{sum_at-entries}
 use Rattle.flow_measure.proofs.Keys.{is_key-refl, same_key}
-use Rattle.flow_model.specs.Shelf.{Rollup, Shelf}
-use Rattle.flow_model.specs.Views.{AreRolled, IsViewOf}
+use Rattle.flow_model.specs.Shelf.{Shelf}
+use Rattle.flow_model.specs.Views.{IsViewOf}
 use Rattle.flow_snapshot.specs.declared.shares.PartSums.{PartSums}
-use Rattle.flow_snapshot.specs.Shares.{narrow_turn, next_turn, own, summed, turn_after, IsFileSum}
-use Rattle.flow_snapshot.proofs.ViewParts.{own_sums, PartsOf}
+use Rattle.flow_snapshot.specs.Shares.{narrow_turn, next_turn, own, summed, turn_after}
+use Rattle.flow_snapshot.proofs.ViewParts.{parts_of, PartsOf}
 use Rattle.flow_export.specs.Span.{has_row, meets, meets_sums}
 use Rattle.flow_export.proofs.FindingSpans.{either, neither}
 use Rattle.flow_export.proofs.Spanning.{both_false}
@@ -206,42 +204,6 @@ zip_length P (x ∷ xs) [] h = absurd h
 zip_length P (x ∷ xs) (y ∷ ys) h = ap suc (zip_length P xs ys h.1)
 
 -- ---- the parts of a view
-
-pub file_sums : (width : ℕ) (rs : List Rollup) (ms : List (FinMap key_cmp Sums)) → AreRolled width rs ms
-    → AllZip (IsFileSum width) rs ms
-file_sums width [] [] h = tt
-file_sums width [] (m ∷ ms) h = absurd h
-file_sums width (r ∷ rs) [] h = absurd h
-file_sums width (r ∷ rs) (m ∷ ms) h = (h.0, file_sums width rs ms h.1)
-
--- those of rolled files are the view's own
-abbrev pub parts_of : (s : Shelf) (v : View) → IsViewOf s v → PartsOf s v
-parts_of s v is =
-    let kept = own_sums s.width v.templates s.sealed s.prefix s.active v.kept is.accepted is.kept is.prefixes in
-    let others = kept.sealed ++ kept.last ∷ [] in
-    record {
-      wide = is.merged.0;
-      narrow = v.rolled ++ others;
-      are_wide = file_sums s.wide s.merged is.merged.0 is.merged.1;
-      are_narrow = record {
-        rolled = v.rolled;
-        sealed = kept.sealed;
-        active = kept.last;
-        of_rolled = file_sums s.width s.rolled v.rolled is.rolled;
-        of_sealed = kept.of_sealed;
-        of_active = kept.of_last;
-        all = refl;
-      };
-      wide_is = λ i. record { width = sym is.wide i; sums = sym is.merged.2 i };
-      narrow_is = λ i. record {
-        width = sym is.width i;
-        sums = (ap gathered (flat_map-append entries v.rolled others)
-            ∙ sym (gathered-both (flat_map entries v.rolled) (flat_map entries others))
-            ∙ ap (λ (m : FinMap key_cmp Sums). gathered (entries (gathered_all v.rolled) ++ entries m)) kept.all
-            ∙ ap (λ (w : ℕ). gathered (entries (gathered_all v.rolled) ++ entries (sums_by w (flows_in v.kept))))
-            (sym is.width)) i;
-      };
-    }
 
 -- the first parts, so many, have no row of an interval that meets the span
 pub record NoneMet (s : Shelf) (v : View) (view : IsViewOf s v) (from to k : ℕ) : Type 0 where

@@ -1,8 +1,7 @@
 -- Where no sums meet a span, none of its flows is in sums alone.
-use Rattle.std.proofs.Common.{◌≡◌, ◌∙◌, ◌<◌, ◌≤◌, ℕ, zero, suc, ◌+◌, ◌-◌, ◌%◌, List, [], ◌∷◌, ◌++◌, length, map, take, drop}
-use Rattle.std.proofs.Common.{Bool, true, false, refl, sym, ap, subst, arith, true≢false}
-use Rattle.std.specs.Prelude.{◌||◌, ◌&&◌, filter, max, min, nat_le, nat_lt, sum}
-use Rattle.std.specs.FinMap.{FinMap, entries}
+use Rattle.std.proofs.Common.{◌≡◌, ◌∙◌, ◌<◌, ◌≤◌, ℕ, zero, suc, ◌+◌, ◌-◌, List, [], ◌∷◌, ◌++◌, length, map, take, drop}
+use Rattle.std.proofs.Common.{Bool, true, false, refl, sym, ap, arith, true≢false}
+use Rattle.std.specs.Prelude.{◌||◌, ◌&&◌, max, min, nat_le, nat_lt, sum}
 use Rattle.std.specs.List.{list_any}
 use Rattle.std.proofs.lemmas.Bool.{leb-true, lt-ltb, ltb-true}
 use Rattle.std.proofs.lemmas.List.{length-drop, length-take, take-append-drop}
@@ -14,7 +13,7 @@ use Rattle.flow_measure.specs.declared.rows.Key.{Key}
 use Rattle.flow_measure.specs.declared.rows.Sums.{Sums}
 use Rattle.flow_measure.specs.History.{flows_in, Accepted, History, IsHistory}
 use Rattle.flow_measure.specs.Query.{flows_in_view}
-use Rattle.flow_measure.specs.Sums.{counted, key_cmp, key_of, sums_by}
+use Rattle.flow_measure.specs.Sums.{counted, key_of, sums_by}
 use Rattle.flow_measure.specs.View.{messages_between_cuts, parted, view_of, AreCountsOf}
 use Rattle.flow_measure.proofs.ViewLaws.{flows-append}
 use Rattle.flow_segment.specs.PartFlows.{flows_within}

@@ -1,10 +1,10 @@
 -- Messages that are whole by their own headers, and prefixes of such ones.
 use Rattle.std.proofs.Common.{◌≡◌, ◌∙◌, ◌≤◌, ◌<◌, ℕ, zero, suc, ◌+◌, ◌-◌, List, [], ◌∷◌, ◌++◌, Option, Some, length, take}
-use Rattle.std.proofs.Common.{drop}
+use Rattle.std.proofs.Common.{◌⊎◌, drop, inl, inr}
 use Rattle.std.proofs.Common.{get_or, refl, sym, ap, ap₂, subst, append-nil, arith}
 use Rattle.std.specs.Prelude.{min, slice_get}
 use Rattle.std.specs.List.{AllByRecursion}
-use Rattle.std.specs.Io.KnownBytes.{Appends}
+use Rattle.std.specs.Io.KnownBytes.{Appends, Keeps}
 use Rattle.std.proofs.KnownBytes.{Appends-nil, Appends-trans}
 use Rattle.std.proofs.lemmas.List.{length-append, length-drop, length-take, take_more}
 use Rattle.flow_codec.specs.Cutting.{IsCutOff}
@@ -13,14 +13,14 @@ use Rattle.flow_report.specs.Writing.{AppendsFront}
 use Rattle.flow_snapshot.specs.Found.{KeptFile}
 use Rattle.flow_export.specs.Export.{asked_count, messages_of, AreMessages, Writes, WritesSome}
 use Rattle.flow_export.proofs.Choosing.{file_more, joined_then, none_is_prefix, parted_after, prefix_after}
-use Rattle.flow_export.proofs.Choosing.{prefix_of_more}
+use Rattle.flow_export.proofs.Choosing.{kept_is_prefix, prefix_of_more}
 
 -- ---- messages of a list
 
-pub all_then : (xs ys : List (List ℕ)) → AllByRecursion IsCutOff xs → AllByRecursion IsCutOff ys
-    → AllByRecursion IsCutOff (xs ++ ys)
-all_then [] ys all more = more
-all_then (x ∷ xs) ys all more = (all.0, all_then xs ys all.1 more)
+pub all_then : {A : Type 0} (P : A → Type 0) (xs ys : List A) → AllByRecursion P xs → AllByRecursion P ys
+    → AllByRecursion P (xs ++ ys)
+all_then P [] ys all more = more
+all_then P (x ∷ xs) ys all more = (all.0, all_then P xs ys all.1 more)
 
 all_first : (n : ℕ) (xs : List (List ℕ)) → AllByRecursion IsCutOff xs → AllByRecursion IsCutOff (take n xs)
 all_first zero xs all = tt
@@ -51,7 +51,7 @@ whole_more chosen i item octets within is same all whole =
     let own : take (i + 1) chosen ≡ take i chosen ++ octets ∷ [] =
     take_more chosen i item within
     ∙ ap (λ (x : List ℕ). take i chosen ++ x ∷ []) (sym is ∙ sym same) in
-    subst (AllByRecursion IsCutOff) (sym own) (all_then (take i chosen) (octets ∷ []) all (whole, tt))
+    subst (AllByRecursion IsCutOff) (sym own) (all_then IsCutOff (take i chosen) (octets ∷ []) all (whole, tt))
 
 -- ---- so many messages
 
@@ -79,16 +79,19 @@ bares_count (suc n) = ap suc (bares_count n)
 pub some_messages : (n : ℕ) → (text : List ℕ) × AreMessages n text
 some_messages n = (joined (bares n), (bares n, bares_whole n, bares_count n, refl))
 
-pub no_messages_more : AreMessages 0 []
+no_messages_more : AreMessages 0 []
 no_messages_more = ([], tt, refl, refl)
 
-pub messages_both : (a b n : ℕ) (x y : List ℕ) → a + b ≡ n → AreMessages a x → AreMessages b y → AreMessages n (x ++ y)
+pub joined_both : (ms ns : List (List ℕ)) (x y : List ℕ) → x ≡ joined ms → y ≡ joined ns → x ++ y ≡ joined (ms ++ ns)
+joined_both ms ns x y text other = ap₂ (λ (s : List ℕ) (t : List ℕ). s ++ t) text other ∙ sym (joined_then ms ns)
+
+messages_both : (a b n : ℕ) (x y : List ℕ) → a + b ≡ n → AreMessages a x → AreMessages b y → AreMessages n (x ++ y)
 messages_both a b n x y is (ms, whole, many, text) (ns, more, few, other) =
     let long = length-append ms ns in (
       ms ++ ns,
-      all_then ms ns whole more,
+      all_then IsCutOff ms ns whole more,
       omega (arith, is, many, few, long),
-      ap₂ (λ (s : List ℕ) (t : List ℕ). s ++ t) text other ∙ sym (joined_then ms ns),
+      joined_both ms ns x y text other,
     )
 
 pub written_both : (a b n : ℕ) (old mid new : Option (List ℕ)) → a + b ≡ n → Writes (AreMessages a) old mid
@@ -119,10 +122,12 @@ pub none_whole : (n : ℕ) (output : Option (List ℕ)) → n ≡ 0 → Writes (
 none_whole n output none =
     subst (λ (k : ℕ). Writes (AreMessages k) output output) (sym none) ([], no_messages_more, Appends-nil output)
 
--- a message that is whole was cut
-pub one_cut : (octets : List ℕ) (old new : Option (List ℕ)) → IsCutOff octets → AppendsFront old new octets
+-- a message that is whole was cut, or nothing of it was written
+pub one_cut : (octets : List ℕ) (old new : Option (List ℕ)) → Keeps old new ⊎ IsCutOff octets → AppendsFront old new octets
     → WritesSome (AreMessages 1) old new
-one_cut octets old new whole some =
+one_cut octets old new (inl kept) some =
+    let text = some_messages 1 in (text.0, text.1, kept_is_prefix old new text.0 kept)
+one_cut octets old new (inr whole) some =
     (octets, (octets ∷ [], (whole, tt), refl, sym (append-nil octets)), some)
 
 -- ---- the messages of a file, from one place on and up to another

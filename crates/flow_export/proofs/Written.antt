@@ -1,8 +1,8 @@
 -- What was written, and what was not.
-use Rattle.std.proofs.Common.{◌≡◌, ◌≢◌, ◌∙◌, inl, inr, ℕ, List, ◌++◌, Option, refl, ap, subst}
+use Rattle.std.proofs.Common.{◌≡◌, ◌≢◌, inl, inr, ℕ, List, ◌++◌, Option, refl, ap, subst}
 use Rattle.std.proofs.Common.{take}
 use Rattle.std.proofs.Common.{drop, arith}
-use Rattle.std.specs.Prelude.{Result, Ok, Err, IfErr, OnErr, OnOk}
+use Rattle.std.specs.Prelude.{Result, Ok, Err, IfErr, OnErr}
 use Rattle.std.specs.Io.KnownBytes.{Appends}
 use Rattle.std.proofs.KnownBytes.{Appends-trans}
 use Rattle.flow_codec.specs.Message.{joined}

@@ -1,14 +1,14 @@
 -- What is exported of a span of time: the messages of which some flow starts in it, and those between that define or
 -- withdraw templates.
-use Rattle.std.specs.Prelude.{◌≡◌, ◌==◌, ◌++◌, ◌&&◌, ◌||◌, ℕ, zero, suc, nat_le, nat_lt, Bool, List, [], ◌∷◌, length}
-use Rattle.std.specs.Prelude.{drop, filter, if◌then◌else◌, true, false, Option, Some, None, ◌+◌, take, min, max}
+use Rattle.std.specs.Prelude.{◌≡◌, ◌⊎◌, ◌==◌, ◌++◌, ◌&&◌, ◌||◌, ℕ, zero, suc, nat_le, nat_lt, Bool, List, [], ◌∷◌}
+use Rattle.std.specs.Prelude.{length, drop, filter, if◌then◌else◌, true, false, Option, Some, None, ◌+◌, take, min, max}
 use Rattle.std.specs.FinMap.{FinMap, entries}
-use Rattle.std.specs.List.{list_any}
-use Rattle.flow_codec.specs.Cutting.{length_of}
-use Rattle.flow_codec.specs.Message.{in_fields, joined}
+use Rattle.std.specs.List.{list_any, AllByRecursion}
+use Rattle.flow_codec.specs.Cutting.{length_of, IsCutOff}
+use Rattle.flow_codec.specs.Message.{in_fields, joined, IsAccepted}
 use Rattle.flow_codec.specs.Templates.{AllTemplates}
 use Rattle.flow_export.specs.declared.finding.Found.{Found}
-use Rattle.flow_export.specs.Export.{AreMessages, IsCarryBefore, IsExport}
+use Rattle.flow_export.specs.Export.{IsCarryBefore}
 use Rattle.flow_measure.specs.declared.flow.Flow.{Flow}
 use Rattle.flow_measure.specs.declared.rows.Key.{Key}
 use Rattle.flow_measure.specs.declared.rows.Sums.{Sums}
@@ -18,7 +18,7 @@ use Rattle.flow_measure.specs.Sums.{key_cmp}
 use Rattle.flow_measure.specs.View.{View}
 use Rattle.flow_model.specs.Shelf.{Shelf}
 use Rattle.flow_segment.specs.Batch.{id_of}
-use Rattle.flow_segment.specs.Carry.{octets_of, prefix_of, Carry}
+use Rattle.flow_segment.specs.Carry.{octets_of, prefix_of, Carry, IsCarry}
 use Rattle.flow_snapshot.specs.Found.{kept_by_file}
 
 -- ---- messages with Sets of template records
@@ -112,10 +112,24 @@ FindsIn from to octets before now found =
 
 -- ---- on every disk
 
--- whole messages, one after the other
-abbrev pub AreSomeMessages : List ℕ → Type 0
-AreSomeMessages text = (count : ℕ) × AreMessages count text
+-- A message that holds Sets of template records; or that is accepted under some templates, and has a flow that starts
+-- in the span.
+abbrev pub IsMessageOfSpan : ℕ → ℕ → List ℕ → Type 0
+IsMessageOfSpan from to octets =
+    (holds_templates octets ≡ true)
+    ⊎ ((before : AllTemplates) × (a : Accepted) × (a.octets ≡ octets) × IsAccepted octets before a.message a.after
+    × (has_flow from to a ≡ true))
 
--- messages that restate some templates in force, and then whole messages
-abbrev pub IsSomeExport : List ℕ → Type 0
-IsSomeExport text = (count : ℕ) × IsExport count text
+-- such a message, cut off by its own header
+abbrev pub IsWholeOfSpan : ℕ → ℕ → List ℕ → Type 0
+IsWholeOfSpan from to octets = IsCutOff octets × IsMessageOfSpan from to octets
+
+-- whole messages of a span, one after the other
+abbrev pub AreSpanMessages : ℕ → ℕ → List ℕ → Type 0
+AreSpanMessages from to text =
+    (messages : List (List ℕ)) × AllByRecursion (IsWholeOfSpan from to) messages × (text ≡ joined messages)
+
+-- messages that restate some templates in force, and then whole messages of a span
+abbrev pub IsSomeSpanExport : ℕ → ℕ → List ℕ → Type 0
+IsSomeSpanExport from to text =
+    (carry : Carry) × (more : List ℕ) × IsCarry carry × AreSpanMessages from to more × (text ≡ prefix_of carry ++ more)

@@ -7,8 +7,9 @@
 //! then just as many messages as are asked for, of those that the snapshot counts, each whole by its own header.
 //!
 //! `write_span` writes the messages of which some flow starts in a span of time, and those between that define or
-//! withdraw templates, after the templates in force before the first of them. `meets_sums` answers whether messages
-//! that are in sums alone may have flows of the span.
+//! withdraw templates, after the templates in force before the first of them. Whatever the disk, each message that it
+//! writes after the templates is whole, and holds template records or has, under some templates, a flow of the span.
+//! `meets_sums` answers whether messages that are in sums alone may have flows of the span.
 #![tactic(auto)]
 
 mod exporting;

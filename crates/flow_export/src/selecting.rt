@@ -1,15 +1,15 @@
 //! The messages of a span, written as they are.
 
-ghost use Rattle.std.specs.Prelude.{◌≡◌, ◌≢◌, ◌≤◌, ◌-◌, ◌&&◌, ◌||◌, List, [], length, nat_le, slice_get, Some, IfErr};
-ghost use Rattle.std.specs.Prelude.{if◌then◌else◌, IsTrue, OnErr, OnOk};
+ghost use Rattle.std.specs.Prelude.{◌≡◌, ◌≢◌, ◌≤◌, ◌-◌, ◌&&◌, ◌||◌, ℕ, List, [], length, nat_le, slice_get, Some};
+ghost use Rattle.std.specs.Prelude.{if◌then◌else◌, IfErr, IsTrue, OnErr, OnOk};
 ghost use Rattle.std.specs.Io.KnownBytes.{Appends};
 ghost use Rattle.flow_codec.specs.Cutting.{IsCutOff};
 ghost use Rattle.flow_codec.specs.Templates.{AllTemplates};
 ghost use Rattle.flow_disk.specs.Cause.{HasCause};
 ghost use Rattle.flow_export.specs.declared.refusal.ExportRefusal.TheVariants as refusal;
 ghost use Rattle.flow_export.specs.Export.{IsBlameless, Writes, WritesSome, WritesUpTo};
-ghost use Rattle.flow_export.specs.Span.{holds_templates, text_between, AreSomeMessages, IsSomeExport};
-ghost use Rattle.flow_export.specs.Span.{IsFound, IsSpanExportOf};
+ghost use Rattle.flow_export.specs.Span.{holds_templates, text_between, AreSpanMessages, IsSomeSpanExport};
+ghost use Rattle.flow_export.specs.Span.{IsFound, IsMessageOfSpan, IsSpanExportOf};
 ghost use Rattle.flow_measure.specs.History.{Accepted, AreAcceptedFrom};
 ghost use Rattle.flow_measure.specs.View.{View};
 ghost use Rattle.flow_model.specs.Views.{IsViewOf};
@@ -62,9 +62,11 @@ fn write_if<W: Write>(
     output: &mut W,
     patience: &mut Patience,
 ) -> Result<(), ExportRefusal>
-    // Whatever the octets are: whole messages, or a prefix of such.
-    ensures whole { OnOk result (Writes AreSomeMessages (W.contents output.old) (W.contents output.new)) }
-    ensures part { OnErr result (WritesSome AreSomeMessages (W.contents output.old) (W.contents output.new)) }
+    // Whatever the octets are, where those that are chosen are a message of a span: whole ones, or a prefix of such.
+    ensures whole { (from to : ℕ) → (IsTrue chosen → IsMessageOfSpan from to octets.now) → OnOk result
+        (Writes (AreSpanMessages from to) (W.contents output.old) (W.contents output.new)) }
+    ensures part { (from to : ℕ) → (IsTrue chosen → IsMessageOfSpan from to octets.now) → OnErr result
+        (WritesSome (AreSpanMessages from to) (W.contents output.old) (W.contents output.new)) }
     ensures all { OnOk result (Appends (W.contents output.old) (W.contents output.new)
         (if chosen then octets.now else [])) }
     ensures some { OnErr result (AppendsFront (W.contents output.old) (W.contents output.new)
@@ -90,9 +92,11 @@ fn write_chosen<W: Write>(
     output: &mut W,
     patience: &mut Patience,
 ) -> Result<(), ExportRefusal>
-    // On every disk: whole messages, or a prefix of such.
-    ensures whole { OnOk result (Writes AreSomeMessages (W.contents output.old) (W.contents output.new)) }
-    ensures part { OnErr result (WritesSome AreSomeMessages (W.contents output.old) (W.contents output.new)) }
+    // On every disk: whole messages of the span, or a prefix of such.
+    ensures whole { OnOk result (Writes (AreSpanMessages asked.span.from asked.span.to) (W.contents output.old)
+        (W.contents output.new)) }
+    ensures part { OnErr result (WritesSome (AreSpanMessages asked.span.from asked.span.to) (W.contents output.old)
+        (W.contents output.new)) }
     // Of accepted ones just these, or a prefix of them.
     ensures all { (list : List Accepted) → AreAcceptedFrom templates.old list → octets_of list ≡ messages.now
         → OnOk result (Appends (W.contents output.old) (W.contents output.new)
@@ -126,8 +130,10 @@ fn write_sealed<S: SealedFile, W: Write>(
     patience: &mut Patience,
     faults: &mut Faults<S>,
 ) -> Result<(), ExportRefusal>
-    ensures whole { OnOk result (Writes AreSomeMessages (W.contents output.old) (W.contents output.new)) }
-    ensures part { OnErr result (WritesSome AreSomeMessages (W.contents output.old) (W.contents output.new)) }
+    ensures whole { OnOk result (Writes (AreSpanMessages asked.span.from asked.span.to) (W.contents output.old)
+        (W.contents output.new)) }
+    ensures part { OnErr result (WritesSome (AreSpanMessages asked.span.from asked.span.to) (W.contents output.old)
+        (W.contents output.new)) }
     ensures all { IsTrue (is_honest part.now) → (before : AllTemplates) (list : List Accepted)
         → IsRestated (segment_of part.now).prefix before → AreAcceptedFrom before list
         → octets_of list ≡ (segment_of part.now).messages → OnOk result (Appends (W.contents output.old)
@@ -165,8 +171,10 @@ fn write_active<W: Write>(
     output: &mut W,
     patience: &mut Patience,
 ) -> Result<(), ExportRefusal>
-    ensures whole { OnOk result (Writes AreSomeMessages (W.contents output.old) (W.contents output.new)) }
-    ensures part { OnErr result (WritesSome AreSomeMessages (W.contents output.old) (W.contents output.new)) }
+    ensures whole { OnOk result (Writes (AreSpanMessages asked.span.from asked.span.to) (W.contents output.old)
+        (W.contents output.new)) }
+    ensures part { OnErr result (WritesSome (AreSpanMessages asked.span.from asked.span.to) (W.contents output.old)
+        (W.contents output.new)) }
     ensures all { (before : AllTemplates) (list : List Accepted) → IsRestated prefix.now before
         → AreAcceptedFrom before list → octets_of list ≡ messages.now → OnOk result (Appends
         (W.contents output.old) (W.contents output.new)
@@ -201,8 +209,10 @@ fn write_chosen_part<S: SealedFile, W: Write>(
     patience: &mut Patience,
     faults: &mut Faults<S>,
 ) -> Result<(), ExportRefusal>
-    ensures whole { OnOk result (Writes AreSomeMessages (W.contents output.old) (W.contents output.new)) }
-    ensures part { OnErr result (WritesSome AreSomeMessages (W.contents output.old) (W.contents output.new)) }
+    ensures whole { OnOk result (Writes (AreSpanMessages asked.span.from asked.span.to) (W.contents output.old)
+        (W.contents output.new)) }
+    ensures part { OnErr result (WritesSome (AreSpanMessages asked.span.from asked.span.to) (W.contents output.old)
+        (W.contents output.new)) }
     ensures all { IsTrue (is_honest_part part.entry) → (before : AllTemplates) (list : List Accepted)
         → IsRestated (file_of part.entry).prefix before → AreAcceptedFrom before list
         → octets_of list ≡ (file_of part.entry).messages → OnOk result (Appends (W.contents output.old)
@@ -235,8 +245,10 @@ fn write_chosen_file<S: SealedFile, W: Write>(
     faults: &mut Faults<S>,
 ) -> Result<(), ExportRefusal>
     requires { at ≤ length snapshot.now.shelf.sealed }
-    ensures whole { OnOk result (Writes AreSomeMessages (W.contents output.old) (W.contents output.new)) }
-    ensures part { OnErr result (WritesSome AreSomeMessages (W.contents output.old) (W.contents output.new)) }
+    ensures whole { OnOk result (Writes (AreSpanMessages asked.span.from asked.span.to) (W.contents output.old)
+        (W.contents output.new)) }
+    ensures part { OnErr result (WritesSome (AreSpanMessages asked.span.from asked.span.to) (W.contents output.old)
+        (W.contents output.new)) }
     ensures all { IsTrue snapshot.now.honest → (file : KeptFile)
         → slice_get (kept_by_file snapshot.now.shelf) at ≡ Some file → (before : AllTemplates) (list : List Accepted)
         → IsRestated file.prefix before → AreAcceptedFrom before list → octets_of list ≡ file.messages
@@ -286,8 +298,10 @@ fn write_asked<S: SealedFile, W: Write>(
     patience: &mut Patience,
     faults: &mut Faults<S>,
 ) -> Result<(), ExportRefusal>
-    ensures whole { OnOk result (Writes AreSomeMessages (W.contents output.old) (W.contents output.new)) }
-    ensures part { OnErr result (WritesSome AreSomeMessages (W.contents output.old) (W.contents output.new)) }
+    ensures whole { OnOk result (Writes (AreSpanMessages asked.span.from asked.span.to) (W.contents output.old)
+        (W.contents output.new)) }
+    ensures part { OnErr result (WritesSome (AreSpanMessages asked.span.from asked.span.to) (W.contents output.old)
+        (W.contents output.new)) }
     ensures all { IsTrue snapshot.now.honest → (v : View) → IsViewOf snapshot.now.shelf v
         → OnOk result (Appends (W.contents output.old) (W.contents output.new)
         (text_between asked.span.from asked.span.to asked.skip asked.end v.kept)) }
@@ -318,8 +332,10 @@ fn write_found<S: SealedFile, W: Write>(
     output: &mut W,
     faults: &mut Faults<S>,
 ) -> Result<(), ExportRefusal>
-    ensures written { OnOk result (Writes IsSomeExport (W.contents output.old) (W.contents output.new)) }
-    ensures some { IfErr result (WritesUpTo IsSomeExport (W.contents output.old) (W.contents output.new)) }
+    ensures written { OnOk result (Writes (IsSomeSpanExport span.from span.to) (W.contents output.old)
+        (W.contents output.new)) }
+    ensures some { IfErr result (WritesUpTo (IsSomeSpanExport span.from span.to) (W.contents output.old)
+        (W.contents output.new)) }
     ensures exact { IsTrue snapshot.now.honest → (v : View) → IsViewOf snapshot.now.shelf v
         → IsFound span.from span.to v.kept (Some found) → OnOk result
         (Writes (IsSpanExportOf snapshot.now.shelf v span.from span.to) (W.contents output.old)
@@ -356,9 +372,12 @@ pub fn write_span<S: SealedFile, W: Write>(
     output: &mut W,
     faults: &mut Faults<S>,
 ) -> Result<(), ExportRefusal>
-    // On every disk: messages that restate some templates, and after them whole messages; or a prefix of such octets.
-    ensures written { OnOk result (Writes IsSomeExport (W.contents output.old) (W.contents output.new)) }
-    ensures some { IfErr result (WritesUpTo IsSomeExport (W.contents output.old) (W.contents output.new)) }
+    // On every disk: messages that restate some templates, and after them whole messages, each of which holds Sets of
+    // template records, or has a flow of the span under some templates; or a prefix of such octets.
+    ensures written { OnOk result (Writes (IsSomeSpanExport span.from span.to) (W.contents output.old)
+        (W.contents output.new)) }
+    ensures some { IfErr result (WritesUpTo (IsSomeSpanExport span.from span.to) (W.contents output.old)
+        (W.contents output.new)) }
     // On honest ones: just the messages of the span, or a prefix of them.
     ensures exact { IsTrue snapshot.now.honest → (v : View) → IsViewOf snapshot.now.shelf v → OnOk result
         (Writes (IsSpanExportOf snapshot.now.shelf v span.from span.to) (W.contents output.old)

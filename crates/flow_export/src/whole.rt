@@ -1,10 +1,10 @@
 //! A message that is whole, by its own header.
 
-ghost use Rattle.std.specs.Prelude.{◌≡◌, ◌≢◌, true, OnOk, OnErr, IfErr};
-ghost use Rattle.std.specs.Io.KnownBytes.{Appends};
+ghost use Rattle.std.specs.Prelude.{◌≡◌, ◌≢◌, ◌⊎◌, true, OnOk, OnErr, IfErr};
+ghost use Rattle.std.specs.Io.KnownBytes.{Appends, Keeps};
 ghost use Rattle.flow_codec.specs.Cutting.{IsCutOff};
 ghost use Rattle.flow_export.specs.declared.refusal.ExportRefusal.TheVariants as refusal;
-ghost use Rattle.flow_export.specs.Export.{AreMessages, IsBlameless, WritesSome};
+ghost use Rattle.flow_export.specs.Export.{IsBlameless};
 ghost use Rattle.flow_report.specs.Writing.{AppendsFront};
 
 use crate::refusal::ExportRefusal;
@@ -38,7 +38,8 @@ pub(crate) fn write_whole<W: Write>(
     ensures whole { OnOk result (IsCutOff octets.now) }
     ensures all { OnOk result (Appends (W.contents output.old) (W.contents output.new) octets.now) }
     ensures some { OnErr result (AppendsFront (W.contents output.old) (W.contents output.new) octets.now) }
-    ensures part { OnErr result (WritesSome (AreMessages 1) (W.contents output.old) (W.contents output.new)) }
+    // Of octets that are no whole message nothing is written.
+    ensures part { OnErr result (Keeps (W.contents output.old) (W.contents output.new) ⊎ IsCutOff octets.now) }
     ensures blameless { IsCutOff octets.now → IfErr result IsBlameless }
     ensures quiet { IfErr result (λ e. e ≢ refusal.Query ReadRefusal.Fault) }
 {

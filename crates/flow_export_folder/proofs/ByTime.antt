@@ -8,7 +8,7 @@ use Rattle.flow_export.specs.declared.refusal.ExportRefusal.{ExportRefusal}
 use Rattle.flow_export.specs.declared.refusal.ExportRefusal.TheVariants as export
 use Rattle.flow_export.specs.declared.starting.TimeSpan.{TimeSpan}
 use Rattle.flow_export.specs.Export.{IsBlameless, IsReadAs, Writes, WritesSome, WritesUpTo as WritesOrEnds}
-use Rattle.flow_export.specs.Span.{before_first, meets_sums, span_messages, IsSomeExport, IsSpanExportOf}
+use Rattle.flow_export.specs.Span.{before_first, meets_sums, span_messages, IsSomeSpanExport, IsSpanExportOf}
 use Rattle.flow_export_folder.specs.declared.refusal.ArchiveExportRefusal.{ArchiveExportRefusal}
 use Rattle.flow_export_folder.specs.declared.refusal.ArchiveExportRefusal.TheVariants as refusal
 use Rattle.flow_export_folder.specs.Asked.{of_export}
@@ -76,10 +76,10 @@ module _ (s : Shelf) (v : View) (span : TimeSpan) (none : meets_sums span.from s
       (inr (text, (none, is), some))
   time_refused old new (export.Write failed) blameless (text, is, some) = (text, (none, is), some)
 
-pub ended_by_time : (old new : Option (List ℕ)) (e : ExportRefusal) → WritesOrEnds IsSomeExport old new e
-    → WritesByTime old new (of_export e)
-ended_by_time old new (export.Query e) some = some
-ended_by_time old new (export.Write failed) some = some
+pub ended_by_time : (span : TimeSpan) (old new : Option (List ℕ)) (e : ExportRefusal)
+    → WritesOrEnds (IsSomeSpanExport span.from span.to) old new e → WritesByTime span old new (of_export e)
+ended_by_time span old new (export.Query e) some = some
+ended_by_time span old new (export.Write failed) some = some
 
 -- ---- what was read is that of a state
 

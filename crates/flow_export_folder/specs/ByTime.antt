@@ -4,7 +4,7 @@ use Rattle.std.specs.Io.KnownBytes.{Keeps}
 use Rattle.flow_disk.specs.declared.disk.Disk.{Ghosts}
 use Rattle.flow_export.specs.declared.starting.TimeSpan.{TimeSpan}
 use Rattle.flow_export.specs.Export.{IsReadAs, Writes, WritesSome}
-use Rattle.flow_export.specs.Span.{before_first, meets_sums, span_messages, IsSomeExport, IsSpanExportOf}
+use Rattle.flow_export.specs.Span.{before_first, meets_sums, span_messages, IsSomeSpanExport, IsSpanExportOf}
 use Rattle.flow_export_folder.specs.declared.refusal.ArchiveExportRefusal.{ArchiveExportRefusal}
 use Rattle.flow_export_folder.specs.declared.refusal.ArchiveExportRefusal.TheVariants.{Folder, Opening, Query, Rolled}
 use Rattle.flow_export_folder.specs.declared.refusal.ArchiveExportRefusal.TheVariants.{Write}
@@ -89,13 +89,13 @@ IsUnexportedByTime reads span old new (Folder e) = ⊥
 -- ---- on every disk
 
 -- What is written where a span isn't exported: nothing, or a prefix of messages that restate some templates and of
--- whole messages after them, where reading failed; a prefix, where writing did; else nothing.
-abbrev pub WritesByTime : Option (List ℕ) → Option (List ℕ) → ArchiveExportRefusal → Type 0
-WritesByTime old new (Query e) = Keeps old new ⊎ WritesSome IsSomeExport old new
-WritesByTime old new (Write failed) = WritesSome IsSomeExport old new
-WritesByTime old new (Rolled cut) = Keeps old new
-WritesByTime old new (Opening e) = Keeps old new
-WritesByTime old new (Folder e) = Keeps old new
+-- whole messages of the span after them, where reading failed; a prefix, where writing did; else nothing.
+abbrev pub WritesByTime : TimeSpan → Option (List ℕ) → Option (List ℕ) → ArchiveExportRefusal → Type 0
+WritesByTime span old new (Query e) = Keeps old new ⊎ WritesSome (IsSomeSpanExport span.from span.to) old new
+WritesByTime span old new (Write failed) = WritesSome (IsSomeSpanExport span.from span.to) old new
+WritesByTime span old new (Rolled cut) = Keeps old new
+WritesByTime span old new (Opening e) = Keeps old new
+WritesByTime span old new (Folder e) = Keeps old new
 
 -- ---- in a folder
 

@@ -3,7 +3,7 @@
 ghost use Rattle.std.specs.Prelude.{◌≡◌, ℕ, false, IsTrue, List, OnOk, IfErr};
 ghost use Rattle.flow_disk.specs.Cause.{HasCause};
 ghost use Rattle.flow_export.specs.Export.{Writes};
-ghost use Rattle.flow_export.specs.Span.{IsSomeExport};
+ghost use Rattle.flow_export.specs.Span.{IsSomeSpanExport};
 ghost use Rattle.flow_export_folder.specs.declared.refusal.ArchiveExportRefusal.TheVariants as refusal;
 ghost use Rattle.flow_export_folder.specs.Asked.{IsOfAsking, KeepsArchive};
 ghost use Rattle.flow_export_folder.specs.ByTime.{ExportsByTimeIn, IsTimeExport, IsTimeExportRead, IsTimeRefusal};
@@ -41,8 +41,9 @@ fn write_by_time<S: SealedFile, W: Write>(
         (Writes (IsTimeExport snapshot.now.shelf v span) (W.contents output.old) (W.contents output.new)) }
     ensures refused { IsTrue snapshot.now.honest → (v : View) → IsViewOf snapshot.now.shelf v → IfErr result
         (IsTimeRefusal snapshot.now.shelf v span (W.contents output.old) (W.contents output.new)) }
-    ensures written { OnOk result (Writes IsSomeExport (W.contents output.old) (W.contents output.new)) }
-    ensures some { IfErr result (WritesByTime (W.contents output.old) (W.contents output.new)) }
+    ensures written { OnOk result (Writes (IsSomeSpanExport span.from span.to) (W.contents output.old)
+        (W.contents output.new)) }
+    ensures some { IfErr result (WritesByTime span (W.contents output.old) (W.contents output.new)) }
     ensures asking { IfErr result IsOfAsking }
     ensures cause { HasCause (refusal.Query ReadRefusal.Fault) faults.old faults.new result }
 {
@@ -66,8 +67,9 @@ fn ask_by_time<D: Disk, W: Write>(
         → OnOk result (Writes (IsTimeExportRead reads span) (W.contents output.old) (W.contents output.new)) }
     ensures refused { IsTrue (D.honest archive.old.disk) → (reads : ℕ → List ℕ) → StandsFor reads archive.old.state
         → IfErr result (IsUnexportedByTime reads span (W.contents output.old) (W.contents output.new)) }
-    ensures written { OnOk result (Writes IsSomeExport (W.contents output.old) (W.contents output.new)) }
-    ensures some { IfErr result (WritesByTime (W.contents output.old) (W.contents output.new)) }
+    ensures written { OnOk result (Writes (IsSomeSpanExport span.from span.to) (W.contents output.old)
+        (W.contents output.new)) }
+    ensures some { IfErr result (WritesByTime span (W.contents output.old) (W.contents output.new)) }
     ensures asking { IfErr result IsOfAsking }
     ensures cause { HasCause (refusal.Query ReadRefusal.Fault) faults.old faults.new result }
 {
@@ -96,10 +98,11 @@ pub fn export_by_time<D: Disk, W: Write>(
         (W.contents output.old) (W.contents output.new)) }
     ensures refused { IsTrue (D.honest disk) → IfErr result.1
         (IsUnexportedByTime (reads_of (D.held disk)) span (W.contents output.old) (W.contents output.new)) }
-    // And whatever the disk: messages that restate some templates, and then whole messages; or a prefix of such octets,
-    // or nothing.
-    ensures written { OnOk result.1 (Writes IsSomeExport (W.contents output.old) (W.contents output.new)) }
-    ensures some { IfErr result.1 (WritesByTime (W.contents output.old) (W.contents output.new)) }
+    // And whatever the disk: messages that restate some templates, and then whole messages, each of which holds Sets of
+    // template records, or has a flow of the span under some templates; or a prefix of such octets, or nothing.
+    ensures written { OnOk result.1 (Writes (IsSomeSpanExport span.from span.to) (W.contents output.old)
+        (W.contents output.new)) }
+    ensures some { IfErr result.1 (WritesByTime span (W.contents output.old) (W.contents output.new)) }
     ensures honest { D.honest result.0 ≡ D.honest disk }
     // A stop at any moment leaves what opens as the archive that was there.
     ensures any_moment { KeepsArchive D.Disk disk result.0 }
@@ -126,8 +129,9 @@ fn by_time_alone<D: Disk, W: Write>(
 ) -> Result<(), ArchiveExportRefusal>
     requires { (n : ℕ) → (D.marks disk n).frozen ≡ false }
     ensures asked { ExportsByTimeIn D.Disk span (W.contents output.old) (W.contents output.new) result }
-    ensures written { OnOk result (Writes IsSomeExport (W.contents output.old) (W.contents output.new)) }
-    ensures some { IfErr result (WritesByTime (W.contents output.old) (W.contents output.new)) }
+    ensures written { OnOk result (Writes (IsSomeSpanExport span.from span.to) (W.contents output.old)
+        (W.contents output.new)) }
+    ensures some { IfErr result (WritesByTime span (W.contents output.old) (W.contents output.new)) }
 {
     let faults = &mut Faults::new();
     let (_disk, asked) = export_by_time(alloc, disk, span, output, faults);
@@ -147,8 +151,9 @@ where
     H::File: FileExt + Lockable,
     ensures asked { ExportsByTimeIn ⟦<FolderView<'a, H> as Disk>⟧ span (W.contents output.old) (W.contents output.new)
         result }
-    ensures written { OnOk result (Writes IsSomeExport (W.contents output.old) (W.contents output.new)) }
-    ensures some { IfErr result (WritesByTime (W.contents output.old) (W.contents output.new)) }
+    ensures written { OnOk result (Writes (IsSomeSpanExport span.from span.to) (W.contents output.old)
+        (W.contents output.new)) }
+    ensures some { IfErr result (WritesByTime span (W.contents output.old) (W.contents output.new)) }
 {
     let view = FolderView::noting(rt, folder, first_fault)?;
     by_time_alone(rt.alloc(), view, span, output)

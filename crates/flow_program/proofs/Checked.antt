@@ -18,6 +18,7 @@ use Rattle.flow_disk.specs.declared.disk.Disk.{Ghosts}
 use Rattle.flow_disk.specs.Cause.{HasCause}
 use Rattle.flow_folder.specs.declared.system.FolderError.{FolderError}
 use Rattle.flow_manifest.specs.declared.error.OpenError.TheVariants as open_error
+use Rattle.flow_manifest.specs.Slots.{reads_of}
 use Rattle.flow_report.specs.declared.patient.WriteFailed.{WriteFailed}
 use Rattle.flow_report.specs.declared.refusal.Refusal.TheVariants as refusal
 use Rattle.flow_report.specs.Printed.{printed}
@@ -32,6 +33,7 @@ use Rattle.flow_program.specs.Checks.{without_room, AreChecked, AreCheckLines, A
 use Rattle.flow_program.specs.Checks.{IsNotChecked, IsOutcome, IsReported}
 use Rattle.flow_program.specs.Checks.{MayBeOutcome, Outcome}
 use Rattle.flow_program.specs.Printed.{told_lines}
+use Rattle.flow_program.specs.SideBySide.{IsReportedAs}
 
 -- ---- lines with a number
 
@@ -132,6 +134,18 @@ cause_without_room before after e made this is = record {
       is.risen (ap Err ((no_room_either e).0 (sym this ∙ same)));
   other = λ differs. is.other (λ same. differs (this ∙ (no_room_either e).1 same));
 }
+
+-- its outcome, as it is reported
+pub reported_is : {D S X : Type 0} (g : Ghosts D S X) (opens : Path → D → Type 0)
+    (refuses : Path → FolderError → Type 0) (files : Bool) (path : Path) (outcome o : Outcome) → IsReportedAs outcome o
+    → IsOutcome g opens refuses files path outcome → IsOutcome g opens refuses files path o
+reported_is g opens refuses files path (Ok text) o (inl same) is =
+    subst (IsOutcome g opens refuses files path) (sym same) is
+reported_is g opens refuses files path (Ok text) o (inr none) (lines, (d, opened, (after, cause), told)) =
+    subst (IsOutcome g opens refuses files path) (sym none)
+    (inr (d, opened, (after, cause_of_no_memory _ _ _ cause), λ honest. no_memory files (reads_of (g.held d))))
+reported_is g opens refuses files path (Err e) o same is =
+    subst (IsOutcome g opens refuses files path) (sym same) is
 
 -- ---- one archive after the other
 

@@ -10,3 +10,4 @@ pub mod CommandWords
 pub mod Verdicts
 pub mod Walking
 mod Checked
+mod Ahead

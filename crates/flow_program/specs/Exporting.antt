@@ -8,7 +8,7 @@ use Rattle.flow_commands.specs.Archives.{archive_printed, archive_status, of_fol
 use Rattle.flow_disk.specs.declared.disk.Disk.{Ghosts}
 use Rattle.flow_export.specs.declared.starting.TimeSpan.{TimeSpan}
 use Rattle.flow_export.specs.Export.{AreTemplates, Writes}
-use Rattle.flow_export.specs.Span.{IsSomeExport}
+use Rattle.flow_export.specs.Span.{IsSomeSpanExport}
 use Rattle.flow_export_folder.specs.declared.refusal.ArchiveExportRefusal.{ArchiveExportRefusal}
 use Rattle.flow_export_folder.specs.declared.refusal.ArchiveExportRefusal.TheVariants.{Folder, Opening, Query}
 use Rattle.flow_export_folder.specs.declared.refusal.ArchiveExportRefusal.TheVariants.{Rolled, Write}
@@ -74,12 +74,13 @@ abbrev pub time_at : ℕ → MomentSpan → TimeSpan
 time_at now span = record { from = (span_at now span).from; to = (span_at now span).to }
 
 -- `export` of a span, likewise: just the messages of it, and whatever the disk messages that restate some templates,
--- and then whole messages; or a prefix of such octets, or nothing.
+-- and then whole messages, each of which holds Sets of template records, or has a flow that starts in the span under
+-- some templates; or a prefix of such octets, or nothing.
 abbrev pub TimeEnd : {D S X : Type 0} → Ghosts D S X → TimeSpan → Option (List ℕ) → Option (List ℕ)
     → Option (List ℕ) → Option (List ℕ) → ℕ → Type 0
 TimeEnd g span old new before after status =
-    ExportEnds (Writes IsSomeExport old new × ExportsByTimeIn g span old new (Ok tt))
-    (λ e. WritesByTime old new e × ExportsByTimeIn g span old new (Err e)) before after status
+    ExportEnds (Writes (IsSomeSpanExport span.from span.to) old new × ExportsByTimeIn g span old new (Ok tt))
+    (λ e. WritesByTime span old new e × ExportsByTimeIn g span old new (Err e)) before after status
 
 -- no time is known, on which the span depends
 abbrev pub HasNoTime : MomentSpan → Option (List ℕ) → Option (List ℕ) → Option (List ℕ) → Option (List ℕ) → ℕ → Type 0

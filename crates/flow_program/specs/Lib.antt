@@ -5,5 +5,6 @@ pub mod Printed
 pub mod Inspecting
 pub mod Several
 pub mod Checks
+pub mod SideBySide
 pub mod Exporting
 pub mod Run

@@ -7,6 +7,7 @@
 
 mod archives;
 mod arguments;
+mod checking;
 mod checks;
 mod explaining;
 mod export_words;
@@ -17,6 +18,7 @@ mod refusing;
 mod request;
 mod run;
 mod several;
+mod side_by_side;
 mod telling;
 
 pub use run::run_line;

@@ -158,7 +158,7 @@ where
         Request::Check { folder } => run_check(rt, &folder, first_fault, output, errors),
         Request::CheckFiles { folder } => run_check_files(rt, &folder, first_fault, output, errors),
         Request::CheckSeveral { folders, files } => run_checks(
-            rt.alloc(),
+            rt,
             &FolderViews::new(rt, first_fault),
             &folders,
             files,

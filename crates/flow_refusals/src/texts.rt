@@ -237,4 +237,4 @@ What to do: ask archives of the same widths together, the others apart.\n";
 
 pub(crate) const ROLLED: &str = "52 Rolled CUT: messages that are asked for are in sums alone.\n\
 Usual cause: they were rolled: of the first CUT messages no octets are kept.\n\
-What to do: ask from message CUT + 1 on.\n";
+What to do: ask from message CUT + 1 on, or for a span that no interval of sums meets.\n";

@@ -112,12 +112,12 @@ SetsLeave octets = (domain : ℕ) → (before : AllTemplates) → (sets : List D
     → after ≡ before
 
 -- the header of a Set, as it is read
-record IsHead (set : Division) (octets rest : List ℕ) : Type 0 where
+pub record IsHead (set : Division) (octets rest : List ℕ) : Type 0 where
   pub id : id_of octets ≡ set.id
   pub len : length_of octets ≡ 4 + length (content set)
-  pub behind : drop (4 + length (content set)) octets ≡ rest
+  pub after : drop (4 + length (content set)) octets ≡ rest
 
-head_of : (set : Division) (octets rest : List ℕ) → set.id < 2 ^ 16 → 4 + length (content set) < 2 ^ 16
+pub head_of : (set : Division) (octets rest : List ℕ) → set.id < 2 ^ 16 → 4 + length (content set) < 2 ^ 16
     → octets ≡ set_octets set ++ rest → IsHead set octets rest
 head_of set octets rest id_below len_below is =
     let n = 4 + length (content set) in
@@ -130,11 +130,11 @@ head_of set octets rest id_below len_below is =
           (drop_at (to_be_bytes w16 set.id) tail 2 refl)
           ∙ ap (from_be_bytes w16) (take_at (to_be_bytes w16 n) (content set ++ rest) 2 refl)
           ∙ wide16.again n len_below;
-      behind = ap (drop n) is ∙ drop_at (set_octets set) rest n (omega arith);
+      after = ap (drop n) is ∙ drop_at (set_octets set) rest n (omega arith);
     }
 
 -- a Set that isn't of template records
-set_leaves : (domain : ℕ) (before : AllTemplates) (set : Division) (records : List RawRecord) (after : AllTemplates)
+pub set_leaves : (domain : ℕ) (before : AllTemplates) (set : Division) (records : List RawRecord) (after : AllTemplates)
     → IsSet domain before set records after → set.id ≢ 2 → set.id ≢ 3 → after ≡ before
 set_leaves domain before set records after is plain options = elim (cases_lt set.id 256) [
   | inl small ↦ (is.other plain options small).2
@@ -143,13 +143,13 @@ set_leaves domain before set records after is plain options = elim (cases_lt set
 
 -- one Set more before others
 pub sets_leave : (octets rest : List ℕ) → IsAfterSet octets rest → SetsLeave rest → SetsLeave octets
-sets_leave octets rest behind leave domain before [] records after are is = are.1
-sets_leave octets rest behind leave domain before (s ∷ ss) records after are is =
+sets_leave octets rest set_after leave domain before [] records after are is = are.1
+sets_leave octets rest set_after leave domain before (s ∷ ss) records after are is =
     let head = head_of s octets (flat_map set_octets ss) (are.3).id (are.3).fits
     (is ∙ flat_map-cons set_octets s ss) in
-    let others : rest ≡ flat_map set_octets ss = behind.after ∙ ap (λ (n : ℕ). drop n octets) head.len ∙ head.behind in
+    let others : rest ≡ flat_map set_octets ss = set_after.after ∙ ap (λ (n : ℕ). drop n octets) head.len ∙ head.after in
     leave domain are.2 ss are.1 after are.4 others
-    ∙ set_leaves domain before s are.0 are.2 are.3 (λ e. behind.plain (head.id ∙ e)) (λ e. behind.options (head.id ∙ e))
+    ∙ set_leaves domain before s are.0 are.2 are.3 (λ e. set_after.plain (head.id ∙ e)) (λ e. set_after.options (head.id ∙ e))
 
 pub no_sets_leave : (octets : List ℕ) → length octets ≡ 0 → SetsLeave octets
 no_sets_leave octets none domain before [] records after are is = are.1

@@ -1,7 +1,7 @@
 -- Answers, taken in turn.
 use Rattle.std.proofs.Common.{◌≡◌, ◌∙◌, ℕ, zero, suc, ◌+◌, ◌<◌, List, [], ◌∷◌, ◌++◌, length, get_or, drop, refl, sym}
 use Rattle.std.proofs.Common.{ap, length-append, subst, arith}
-use Rattle.std.specs.Prelude.{IfNone, IfOk, IfSome, None, OnErr, OnOk, Option, Result, Ok, Err, Some}
+use Rattle.std.specs.Prelude.{IfOk, OnErr, OnOk, Result, Ok, Err}
 use denote.Param.Members.{Shared}
 use Rattle.std.specs.Fork.{GivesJobs}
 use Rattle.std.specs.List.{All, AllByRecursion, AllZip}
@@ -72,13 +72,6 @@ module _ {J X : Type 0} (is : J → X → Type 0) where
   taken answer answers left all (j ∷ first, each, whole) =
       (j, first ++ left, whole, each.0, (first, each.1, refl))
 
-  -- the next one was asked by itself
-  pub asked : (answers : List X) → length answers ≡ 0 → (own : J) (rest : List J) (answer : X) (all : List J)
-      → is own answer → Awaits is answers (own ∷ rest) all → IsNext is answers rest all answer
-  asked [] empty own rest answer all h ([], none, whole) = (own, rest, whole, h, ([], tt, refl))
-  asked [] empty own rest answer all h (j ∷ first, none, whole) = absurd none
-  asked (x ∷ answers) empty own rest answer all h waits = let none : ⊥ = omega (arith, empty) in absurd none
-
   pub none_left : (answers : List X) (left : List J) → length answers ≡ 0 → length left ≡ 0 → (all : List J)
       → Awaits is answers left all → all ≡ []
   none_left [] [] few none all ([], each, whole) = whole
@@ -118,22 +111,3 @@ module _ {J X E : Type 0} (is : J → X → Type 0) (answers later : List X) (le
   next_one (Err e) [] (first, each, whole) next some =
       let no : ⊥ = omega (arith, some, ap length whole, length-append first left) in absurd no
   next_one (Err e) (j ∷ all) waits next some = (j, all, refl, tt, tt)
-
-pub if_some_by : {X : Type 0} (o : Option X) (P Q : X → Type 0) → ((x : X) → P x → Q x) → IfSome o P → IfSome o Q
-if_some_by (Some x) P Q by h = by x h
-if_some_by None P Q by h = tt
-
-pub if_none_by : {X : Type 0} (o : Option X) (P Q : Type 0) → (P → Q) → IfNone o P → IfNone o Q
-if_none_by (Some x) P Q by h = tt
-if_none_by None P Q by h = by h
-
-pub if_none_so : {X : Type 0} (o : Option X) (P : Type 0) → P → IfNone o P
-if_none_so (Some x) P p = tt
-if_none_so None P p = p
-
-pub get_head : {A : Type 0} (xs : List A) (n : ℕ) (x : A) (rest : List A) → drop n xs ≡ x ∷ rest → (d : A)
-    → get_or xs n d ≡ x
-get_head [] zero x rest is d = let no : ⊥ = cc in absurd no
-get_head [] (suc n) x rest is d = let no : ⊥ = cc in absurd no
-get_head (y ∷ ys) zero x rest is d = cc
-get_head (y ∷ ys) (suc n) x rest is d = get_head ys n x rest is d

@@ -7,9 +7,8 @@
 
 mod asking;
 mod in_turn;
-mod lent;
 mod threads;
 
 pub use asking::Asking;
 pub use in_turn::InTurn;
-pub use lent::LentInTurn;
+pub use threads::at_once;

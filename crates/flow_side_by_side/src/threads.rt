@@ -1,6 +1,6 @@
 //! Threads that ask.
 
-ghost use Rattle.std.specs.Prelude.{◌<◌, IfOk};
+ghost use Rattle.std.specs.Prelude.{◌<◌, ◌≤◌, IfOk};
 ghost use Rattle.std.specs.List.{All, AllZip};
 
 use crate::asking::Asking;
@@ -12,8 +12,9 @@ use std::thread::Threads;
 const MOST_AT_ONCE: usize = 64;
 
 /// How many are asked at once: as many as there are processors that the program may use, up to 64.
-pub(crate) fn at_once<R: Threads>(rt: &R) -> usize
-    ensures { 0 < result }
+pub fn at_once<R: Threads>(rt: &R) -> usize
+    ensures some { 0 < result }
+    ensures most { result ≤ 64 }
 {
     match thread::available_parallelism(rt) {
         Ok(count) => count.get().min(MOST_AT_ONCE),

@@ -20,7 +20,7 @@ use Rattle.flow_model.specs.Views.{AreRestated, AreRolled, IsViewOf}
 use Rattle.flow_model.proofs.Accepting.{accepted_first, accepted_rest, behind_own, own_first}
 use Rattle.flow_snapshot.proofs.Adding.{gathered-behind}
 
-file_sums : (width : ℕ) (rs : List Rollup) (ms : List (FinMap key_cmp Sums)) → AreRolled width rs ms
+pub file_sums : (width : ℕ) (rs : List Rollup) (ms : List (FinMap key_cmp Sums)) → AreRolled width rs ms
     → AllZip (IsFileSum width) rs ms
 file_sums width [] [] h = tt
 file_sums width [] (m ∷ ms) h = absurd h
@@ -77,7 +77,8 @@ pub record PartsOf (s : Shelf) (v : View) : Type 0 where
   pub wide_is : summed s.wide wide ≡ wide_table_in v
   pub narrow_is : summed s.width narrow ≡ narrow_table_in v
 
-pub parts_of : (s : Shelf) (v : View) → IsViewOf s v → PartsOf s v
+-- those of rolled files are the view's own
+abbrev pub parts_of : (s : Shelf) (v : View) → IsViewOf s v → PartsOf s v
 parts_of s v is =
     let kept = own_sums s.width v.templates s.sealed s.prefix s.active v.kept is.accepted is.kept is.prefixes in
     let others = kept.sealed ++ kept.last ∷ [] in

@@ -9,7 +9,8 @@ use Rattle.flow_report.specs.Writing.{AppendsFront}
 use Rattle.flow_disk.proofs.Results.{passed_on}
 use Rattle.flow_export.specs.Export.{asked_count, IsBlameless}
 use Rattle.flow_export.proofs.Choosing.{chosen_count, chosen_is, joined_cut, joined_more}
-use Rattle.flow_export.proofs.WholeMessages.{all_written, chosen_whole, first_written, next_within, part_after, whole_more}
+use Rattle.flow_export.proofs.WholeMessages.{all_written, chosen_whole, first_written, next_within, one_cut, part_after}
+use Rattle.flow_export.proofs.WholeMessages.{whole_more}
 use Rattle.flow_export.proofs.Written.{on_err_always}
 use Rattle.flow_export.proofs.exporting.write_some.Goals as goal
 
@@ -60,7 +61,9 @@ returns-in_err-write_whole-clause-part g c =
     (next_within c.args.most c.args.skip from end (length xs) at xs refl c.min-from.ensures
     (ap (λ (k : ℕ). from + k) c.min.ensures) c.loop-message-test.true)
     (first_written chosen at old now c.loop-message-test.true c.loop-message.invariant.whole
-    c.loop-message.invariant.written) c.in_err-write_whole.ensures.part)
+    c.loop-message.invariant.written)
+    (one_cut c.as_slice.result.now now (g.W.Write.contents c.write_whole.new.output) c.in_err-write_whole.ensures.part
+    c.in_err-write_whole.ensures.some))
 
 pub returns-in_err-write_whole-clause-blameless : goal.returns-in_err-write_whole-clause-blameless
 returns-in_err-write_whole-clause-blameless g c = λ all.

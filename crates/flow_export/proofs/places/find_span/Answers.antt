@@ -1,4 +1,4 @@
-use Rattle.std.proofs.Common.{◌≡◌, ◌∙◌, ◌<◌, ◌≤◌, ◌+◌, List, ap, arith, length, refl, subst, sym}
+use Rattle.std.proofs.Common.{◌≡◌, ◌∙◌, ◌<◌, ◌+◌, List, arith, length, refl, subst, sym}
 use Rattle.flow_measure.specs.History.{Accepted}
 use Rattle.flow_snapshot.specs.Found.{kept_by_file}
 use Rattle.flow_snapshot.specs.Parts.{file_of}

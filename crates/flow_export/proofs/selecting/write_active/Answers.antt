@@ -11,7 +11,8 @@ use Rattle.flow_export.proofs.selecting.write_active.Goals as goal
 
 pub returns-in_err-templates-clause-part : goal.returns-in_err-templates-clause-part
 returns-in_err-templates-clause-part g c =
-    on_err_always c.from_residual.result _ (no_part (g.W.Write.contents c.args.output.now))
+    let span = c.args.asked.span in
+    on_err_always c.from_residual.result _ (no_part span.from span.to (g.W.Write.contents c.args.output.now))
 
 pub returns-in_err-templates-clause-some : goal.returns-in_err-templates-clause-some
 returns-in_err-templates-clause-some g c = λ before list restated accepted octets.

@@ -1,4 +1,4 @@
-use Rattle.std.proofs.Common.{◌≡◌, ◌∙◌, ◌<◌, ◌+◌, ◌++◌, List, ℕ, ap, arith, drop, length, refl, subst, sym}
+use Rattle.std.proofs.Common.{◌∙◌, ◌<◌, ◌+◌, ◌++◌, List, ap, arith, drop, length, refl, subst, sym}
 use Rattle.std.specs.Io.KnownBytes.{Appends}
 use Rattle.flow_disk.proofs.Results.{passed_on}
 use Rattle.flow_measure.specs.History.{Accepted}
@@ -7,8 +7,8 @@ use Rattle.flow_snapshot.specs.Found.{kept_by_file}
 use Rattle.flow_snapshot.specs.Parts.{file_of}
 use Rattle.flow_snapshot.proofs.ByFile.{files_count}
 use Rattle.flow_export.specs.declared.starting.TimeSpan.{TimeSpan}
-use Rattle.flow_export.specs.Export.{IsBlameless}
-use Rattle.flow_export.specs.Span.{text_between}
+use Rattle.flow_export.specs.Export.{IsBlameless, Writes, WritesSome}
+use Rattle.flow_export.specs.Span.{text_between, AreSpanMessages}
 use Rattle.flow_export.proofs.ChosenText.{between_cut, between_more, nothing_before}
 use Rattle.flow_export.proofs.SpanWritten.{none_of_some, part_then, some_then}
 use Rattle.flow_export.proofs.ViewFiles.{all_before, count_before, length_before, list_before, next_before, next_left}
@@ -25,7 +25,7 @@ loop-at-init g c =
       skip = omega arith;
       end = omega arith;
       span = refl;
-      whole = none_of_some old;
+      whole = none_of_some asked.span.from asked.span.to old;
       written = λ honest v view. nothing_before asked.span.from asked.span.to asked.skip asked.end old;
     }
 
@@ -50,7 +50,9 @@ loop-at-preserved g c =
       end = next_left s at file within there asked.end left.end c.asked_after-left.result.end
           c.message_count-count.result before.end c.asked_after-left.ensures.end c.message_count-count.ensures;
       span = c.asked_after-left.ensures.span ∙ before.span;
-      whole = some_then old now new before.whole c.in_ok-write_chosen_file.ensures.whole;
+      whole = some_then asked.span.from asked.span.to old now new before.whole
+          (subst (λ (t : TimeSpan). Writes (AreSpanMessages t.from t.to) now new) before.span
+          c.in_ok-write_chosen_file.ensures.whole);
       written = λ honest v view.
           let xs = list_before s v at in
           let ys = own_list s v at file in
@@ -66,10 +68,13 @@ loop-at-preserved g c =
 
 pub returns-in_err-write_chosen_file-clause-part : goal.returns-in_err-write_chosen_file-clause-part
 returns-in_err-write_chosen_file-clause-part g c =
+    let span = c.args.asked.span in
+    let now = g.W.Write.contents c.loop-at.output in
+    let new = g.W.Write.contents c.write_chosen_file.new.output in
     on_err_always c.from_residual.result _
-    (part_then (g.W.Write.contents c.args.output.now) (g.W.Write.contents c.loop-at.output)
-    (g.W.Write.contents c.write_chosen_file.new.output) c.loop-at.invariant.whole
-    c.in_err-write_chosen_file.ensures.part)
+    (part_then span.from span.to (g.W.Write.contents c.args.output.now) now new c.loop-at.invariant.whole
+    (subst (λ (t : TimeSpan). WritesSome (AreSpanMessages t.from t.to) now new) c.loop-at.invariant.span
+    c.in_err-write_chosen_file.ensures.part))
 
 pub returns-in_err-write_chosen_file-clause-some : goal.returns-in_err-write_chosen_file-clause-some
 returns-in_err-write_chosen_file-clause-some g c = λ honest v view.

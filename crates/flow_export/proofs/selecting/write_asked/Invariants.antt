@@ -4,7 +4,7 @@ use Rattle.std.specs.Io.KnownBytes.{Appends}
 use Rattle.flow_measure.specs.View.{View}
 use Rattle.flow_model.specs.Views.{IsViewOf}
 use Rattle.flow_export.specs.Export.{Writes}
-use Rattle.flow_export.specs.Span.{text_between, AreSomeMessages}
+use Rattle.flow_export.specs.Span.{text_between, AreSpanMessages}
 use Rattle.flow_export.proofs.ViewFiles.{count_before, list_before}
 use Rattle.flow_export.proofs.selecting.write_asked.Given as goal
 
@@ -20,7 +20,7 @@ invariant-loop-at g l =
       skip : l.left.skip ≡ asked.skip - count_before s l.at;
       end : l.left.end ≡ asked.end - count_before s l.at;
       span : l.left.span ≡ asked.span;
-      whole : Writes AreSomeMessages old now;
+      whole : Writes (AreSpanMessages asked.span.from asked.span.to) old now;
       written : IsTrue l.fn.snapshot.honest → (v : View) → IsViewOf s v
           → Appends old now (text_between asked.span.from asked.span.to asked.skip asked.end (list_before s v l.at));
     }

@@ -1,10 +1,10 @@
-use Rattle.std.proofs.Common.{◌≡◌, ◌∙◌, ◌+◌, Bool, List, ℕ, arith, drop, length, refl, subst, take}
+use Rattle.std.proofs.Common.{◌≡◌, ◌+◌, Bool, drop, take}
+use Rattle.std.specs.Prelude.{nat_le}
 use Rattle.std.specs.List.{list_any}
 use Rattle.flow_codec.specs.Message.{in_fields}
 use Rattle.flow_codec.specs.Raw.{RawMessage}
 use Rattle.flow_disk.proofs.Results.{passed_on}
 use Rattle.flow_measure.specs.Flows.{flows_of}
-use Rattle.flow_measure.specs.History.{Accepted}
 use Rattle.flow_model.proofs.Accepting.{accepted_first}
 use Rattle.flow_snapshot.proofs.KeptFlows.{next_item}
 use Rattle.flow_export.specs.declared.refusal.ExportRefusal.TheVariants as refusal
@@ -12,7 +12,7 @@ use Rattle.flow_export.specs.Export.{IsBlameless}
 use Rattle.flow_export.specs.Span.{starts_within}
 use Rattle.flow_export.proofs.ChosenText.{accepted_cut, all_so_far, first_octets, next_blameless, none_so_far, one_part}
 use Rattle.flow_export.proofs.ChosenText.{one_written, so_far_part}
-use Rattle.flow_export.proofs.SpanWritten.{none_of_some, part_so_far, part_then, some_then}
+use Rattle.flow_export.proofs.SpanWritten.{chosen_of_span, none_of_some, part_so_far, part_then, some_then}
 use Rattle.flow_export.proofs.Written.{on_err_always}
 use Rattle.flow_export.proofs.selecting.write_chosen.Goals as goal
 
@@ -22,7 +22,7 @@ loop-index-init g c =
     let output = g.W.Write.contents c.args.output.now in
     record {
       written = none_so_far span.from span.to c.args.asked.skip c.args.templates.now output;
-      whole = none_of_some output;
+      whole = none_of_some span.from span.to output;
     }
 
 pub loop-index-preserved : goal.loop-index-preserved
@@ -38,13 +38,18 @@ loop-index-preserved g c =
           c.as_slice-octets.ensures c.args.templates.now c.loop-index.templates c.has_flow.new.templates old now new
           c.loop-index.invariant.written x.0 x.1 c.in_ok-has.has c.is_chosen-chosen.result x.2 c.is_chosen-chosen.ensures
           c.in_ok-write_if.ensures.all;
-      whole = some_then old now new c.loop-index.invariant.whole c.in_ok-write_if.ensures.whole;
+      whole = some_then span.from span.to old now new c.loop-index.invariant.whole
+          (c.in_ok-write_if.ensures.whole span.from span.to
+          (chosen_of_span span.from span.to c.as_slice-octets.result.now c.loop-index.templates c.has_flow.new.templates x.0
+          x.1 (nat_le c.args.asked.skip c.loop-index.index) c.in_ok-has.has c.is_chosen-chosen.result x.2
+          c.is_chosen-chosen.ensures));
     }
 
 pub returns-in_err-has-clause-part : goal.returns-in_err-has-clause-part
 returns-in_err-has-clause-part g c =
+    let span = c.args.asked.span in
     on_err_always c.from_residual.result _
-    (part_so_far (g.W.Write.contents c.args.output.now) (g.W.Write.contents c.loop-index.output)
+    (part_so_far span.from span.to (g.W.Write.contents c.args.output.now) (g.W.Write.contents c.loop-index.output)
     c.loop-index.invariant.whole)
 
 pub returns-in_err-has-clause-some : goal.returns-in_err-has-clause-some
@@ -76,9 +81,15 @@ returns-in_err-has-clause-blameless g c = λ list accepted octets.
 
 pub returns-in_err-write_if-clause-part : goal.returns-in_err-write_if-clause-part
 returns-in_err-write_if-clause-part g c =
+    let span = c.args.asked.span in
+    let x = c.in_ok-has.ensures.walked in
     on_err_always c.from_residual-in_err-write_if.result _
-    (part_then (g.W.Write.contents c.args.output.now) (g.W.Write.contents c.loop-index.output)
-    (g.W.Write.contents c.write_if.new.output) c.loop-index.invariant.whole c.in_err-write_if.ensures.part)
+    (part_then span.from span.to (g.W.Write.contents c.args.output.now) (g.W.Write.contents c.loop-index.output)
+    (g.W.Write.contents c.write_if.new.output) c.loop-index.invariant.whole
+    (c.in_err-write_if.ensures.part span.from span.to
+    (chosen_of_span span.from span.to c.as_slice-octets.result.now c.loop-index.templates c.has_flow.new.templates x.0 x.1
+    (nat_le c.args.asked.skip c.loop-index.index) c.in_ok-has.has c.is_chosen-chosen.result x.2
+    c.is_chosen-chosen.ensures)))
 
 pub returns-in_err-write_if-clause-some : goal.returns-in_err-write_if-clause-some
 returns-in_err-write_if-clause-some g c = λ list accepted octets.

@@ -1,6 +1,6 @@
 use Rattle.std.proofs.Common.{take}
 use Rattle.flow_export.specs.Export.{Writes}
-use Rattle.flow_export.specs.Span.{AreSomeMessages}
+use Rattle.flow_export.specs.Span.{AreSpanMessages}
 use Rattle.flow_export.proofs.ChosenText.{IsWrittenSoFar}
 use Rattle.flow_export.proofs.selecting.write_chosen.Given as goal
 
@@ -12,5 +12,5 @@ invariant-loop-index g l =
     record {
       written : IsWrittenSoFar l.fn.asked.span.from l.fn.asked.span.to l.fn.asked.skip (take l.index l.first)
           l.fn.templates l.templates old now;
-      whole : Writes AreSomeMessages old now;
+      whole : Writes (AreSpanMessages l.fn.asked.span.from l.fn.asked.span.to) old now;
     }

@@ -1,4 +1,4 @@
-use Rattle.std.proofs.Common.{◌≡◌, ◌∙◌, List, ℕ, ap, arith, length, subst, sym}
+use Rattle.std.proofs.Common.{◌≡◌, List, ap, arith, length, subst}
 use Rattle.std.specs.Prelude.{IfErr, OnErr, OnOk}
 use Rattle.std.specs.Io.KnownBytes.{Appends}
 use Rattle.std.proofs.lemmas.List.{length-map}
@@ -16,7 +16,8 @@ use Rattle.flow_export.proofs.SpanWritten.{none_of_some}
 use Rattle.flow_export.proofs.selecting.write_chosen_file.Goals as goal
 
 pub returns-then-count-asked-clause-whole : goal.returns-then-count-asked-clause-whole
-returns-then-count-asked-clause-whole g c = none_of_some (g.W.Write.contents c.args.output.now)
+returns-then-count-asked-clause-whole g c =
+    let span = c.args.asked.span in none_of_some span.from span.to (g.W.Write.contents c.args.output.now)
 
 pub returns-then-count-asked-clause-all : goal.returns-then-count-asked-clause-all
 returns-then-count-asked-clause-all g c = λ honest file there before list restated accepted octets.
@@ -30,7 +31,8 @@ returns-then-count-asked-clause-all g c = λ honest file there before list resta
     (omega (arith, c.if-count-asked.true, c.message_count-count.ensures, same, many, own)))
 
 pub returns-then-asked-eq0-clause-whole : goal.returns-then-asked-eq0-clause-whole
-returns-then-asked-eq0-clause-whole g c = none_of_some (g.W.Write.contents c.args.output.now)
+returns-then-asked-eq0-clause-whole g c =
+    let span = c.args.asked.span in none_of_some span.from span.to (g.W.Write.contents c.args.output.now)
 
 pub returns-then-asked-eq0-clause-all : goal.returns-then-asked-eq0-clause-all
 returns-then-asked-eq0-clause-all g c = λ honest file there before list restated accepted octets.

@@ -1,10 +1,10 @@
-use Rattle.std.proofs.Common.{◌≢◌, inl, ℕ, List}
+use Rattle.std.proofs.Common.{◌≢◌, inl}
 use Rattle.std.proofs.KnownBytes.{Keeps-refl}
 use Rattle.flow_disk.proofs.Results.{on_ok_by, passed_on}
 use Rattle.flow_refusals.specs.declared.read_refusal.ReadRefusal.TheVariants as query
 use Rattle.flow_export.specs.declared.refusal.ExportRefusal.TheVariants as refusal
 use Rattle.flow_export.specs.Export.{IsBlameless, Writes, WritesUpTo}
-use Rattle.flow_export.specs.Span.{IsSomeExport, IsSpanExportOf}
+use Rattle.flow_export.specs.Span.{IsSomeSpanExport, IsSpanExportOf}
 use Rattle.flow_export.proofs.SpanWritten.{part_exported, restated_part, some_exported, span_cut, span_part, span_written}
 use Rattle.flow_export.proofs.Written.{quiet_cause, some_of}
 use Rattle.flow_export.proofs.selecting.write_found.Goals as goal
@@ -12,7 +12,8 @@ use Rattle.flow_export.proofs.selecting.write_found.Goals as goal
 pub returns-in_err-carry-clause-some : goal.returns-in_err-carry-clause-some
 returns-in_err-carry-clause-some g c =
     let output = g.W.Write.contents c.args.output.now in
-    passed_on c.from_residual.result (refusal.Query (c.in_err-carry.field-0).0) (WritesUpTo IsSomeExport output output)
+    passed_on c.from_residual.result (refusal.Query (c.in_err-carry.field-0).0)
+    (WritesUpTo (IsSomeSpanExport c.args.span.from c.args.span.to) output output)
     c.from_residual.ensures.1 (inl (Keeps-refl output))
 
 pub returns-in_err-carry-clause-cut : goal.returns-in_err-carry-clause-cut
@@ -32,9 +33,11 @@ returns-in_err-write_restated-clause-some g c =
     let old = g.W.Write.contents c.args.output.now in
     let new = g.W.Write.contents c.write_restated.new.output in
     let e = (c.in_err-write_restated.field-0).0 in
-    passed_on c.from_residual-in_err-write_restated.result e (WritesUpTo IsSomeExport old new)
+    let span = c.args.span in
+    passed_on c.from_residual-in_err-write_restated.result e (WritesUpTo (IsSomeSpanExport span.from span.to) old new)
     c.from_residual-in_err-write_restated.ensures.1
-    (restated_part c.in_ok-carry.carry old new c.write_restated.ensures.carry e c.in_err-write_restated.ensures.some)
+    (restated_part span.from span.to c.in_ok-carry.carry old new c.write_restated.ensures.carry e
+    c.in_err-write_restated.ensures.some)
 
 pub returns-in_err-write_restated-clause-cut : goal.returns-in_err-write_restated-clause-cut
 returns-in_err-write_restated-clause-cut g c = λ honest v view is.
@@ -65,18 +68,20 @@ returns-clause-written g c =
     let old = g.W.Write.contents c.args.output.now in
     let mid = g.W.Write.contents c.write_restated.new.output in
     let new = g.W.Write.contents c.write_asked.new.output in
-    on_ok_by c.write_asked.result _ (Writes IsSomeExport old new)
-    (some_exported c.in_ok-carry.carry old mid new c.in_ok-write_restated.ensures.all c.write_restated.ensures.carry)
-    c.write_asked.ensures.whole
+    let span = c.args.span in
+    on_ok_by c.write_asked.result _ (Writes (IsSomeSpanExport span.from span.to) old new)
+    (some_exported span.from span.to c.in_ok-carry.carry old mid new c.in_ok-write_restated.ensures.all
+    c.write_restated.ensures.carry) c.write_asked.ensures.whole
 
 pub returns-clause-some : goal.returns-clause-some
 returns-clause-some g c =
     let old = g.W.Write.contents c.args.output.now in
     let mid = g.W.Write.contents c.write_restated.new.output in
     let new = g.W.Write.contents c.write_asked.new.output in
-    some_of c.write_asked.result _ (WritesUpTo IsSomeExport old new)
-    (part_exported c.in_ok-carry.carry old mid new c.in_ok-write_restated.ensures.all c.write_restated.ensures.carry)
-    c.write_asked.ensures.part
+    let span = c.args.span in
+    some_of c.write_asked.result _ (WritesUpTo (IsSomeSpanExport span.from span.to) old new)
+    (part_exported span.from span.to c.in_ok-carry.carry old mid new c.in_ok-write_restated.ensures.all
+    c.write_restated.ensures.carry) c.write_asked.ensures.part
 
 pub returns-clause-exact : goal.returns-clause-exact
 returns-clause-exact g c = λ honest v view is.

@@ -1,4 +1,4 @@
-use Rattle.std.proofs.Common.{◌∙◌, List, ℕ, subst, sym}
+use Rattle.std.proofs.Common.{◌∙◌, subst, sym}
 use Rattle.flow_codec.specs.Templates.{AllTemplates}
 use Rattle.flow_disk.proofs.Results.{passed_on}
 use Rattle.flow_measure.specs.History.{AreAcceptedFrom}
@@ -11,7 +11,8 @@ use Rattle.flow_export.proofs.selecting.write_sealed.Goals as goal
 
 pub returns-in_err-own-clause-part : goal.returns-in_err-own-clause-part
 returns-in_err-own-clause-part g c =
-    on_err_always c.from_residual.result _ (no_part (g.W.Write.contents c.args.output.now))
+    let span = c.args.asked.span in
+    on_err_always c.from_residual.result _ (no_part span.from span.to (g.W.Write.contents c.args.output.now))
 
 pub returns-in_err-own-clause-some : goal.returns-in_err-own-clause-some
 returns-in_err-own-clause-some g c = λ honest before list restated accepted octets.

@@ -1,16 +1,17 @@
-use Rattle.std.proofs.Common.{inl, ℕ, List, subst}
+use Rattle.std.proofs.Common.{inl, subst}
 use Rattle.std.proofs.KnownBytes.{Keeps-refl}
 use Rattle.flow_disk.proofs.Results.{if_err_by, on_ok_by, passed_on}
 use Rattle.flow_export.specs.declared.refusal.ExportRefusal.TheVariants as refusal
 use Rattle.flow_export.specs.Export.{AreTemplates, AreTemplatesAfter, IsBlameless, Writes, WritesOrNot, WritesUpTo}
-use Rattle.flow_export.specs.Span.{IsFound, IsSomeExport, IsSpanExportOf}
+use Rattle.flow_export.specs.Span.{IsFound, IsSomeSpanExport, IsSpanExportOf}
 use Rattle.flow_export.proofs.SpanWritten.{none_cut, none_exported, templates_exported, templates_part}
 use Rattle.flow_export.proofs.selecting.write_span.Goals as goal
 
 pub returns-in_err-found-clause-some : goal.returns-in_err-found-clause-some
 returns-in_err-found-clause-some g c =
     let output = g.W.Write.contents c.args.output.now in
-    passed_on c.from_residual.result (refusal.Query (c.in_err-found.field-0).0) (WritesUpTo IsSomeExport output output)
+    passed_on c.from_residual.result (refusal.Query (c.in_err-found.field-0).0)
+    (WritesUpTo (IsSomeSpanExport c.args.span.from c.args.span.to) output output)
     c.from_residual.ensures.1 (inl (Keeps-refl output))
 
 pub returns-in_err-found-clause-cut : goal.returns-in_err-found-clause-cut
@@ -41,15 +42,18 @@ pub returns-in-None-clause-written : goal.returns-in-None-clause-written
 returns-in-None-clause-written g c =
     let old = g.W.Write.contents c.args.output.now in
     let new = g.W.Write.contents c.write_templates.new.output in
-    on_ok_by c.write_templates.result (Writes AreTemplates old new) (Writes IsSomeExport old new)
-    (templates_exported old new) c.write_templates.ensures.written
+    let span = c.args.span in
+    on_ok_by c.write_templates.result (Writes AreTemplates old new) (Writes (IsSomeSpanExport span.from span.to) old new)
+    (templates_exported span.from span.to old new) c.write_templates.ensures.written
 
 pub returns-in-None-clause-some : goal.returns-in-None-clause-some
 returns-in-None-clause-some g c =
     let old = g.W.Write.contents c.args.output.now in
     let new = g.W.Write.contents c.write_templates.new.output in
-    if_err_by c.write_templates.result (WritesOrNot AreTemplates old new) (WritesUpTo IsSomeExport old new)
-    (templates_part old new) c.write_templates.ensures.some
+    let span = c.args.span in
+    if_err_by c.write_templates.result (WritesOrNot AreTemplates old new)
+    (WritesUpTo (IsSomeSpanExport span.from span.to) old new) (templates_part span.from span.to old new)
+    c.write_templates.ensures.some
 
 pub returns-in-None-clause-exact : goal.returns-in-None-clause-exact
 returns-in-None-clause-exact g c = λ honest v view.

@@ -1,4 +1,4 @@
-use Rattle.std.proofs.Common.{◌∙◌, ap, sym}
+use Rattle.std.proofs.Common.{ap, sym}
 use Rattle.std.specs.List.{list_any}
 use Rattle.flow_export.specs.Span.{meets}
 use Rattle.flow_export.proofs.summed.has_row.Goals as goal

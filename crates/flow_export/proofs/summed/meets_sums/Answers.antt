@@ -1,10 +1,10 @@
 use Rattle.std.proofs.Common.{◌≡◌, ◌∙◌, ◌+◌, ◌<◌, ◌≤◌, ℕ, Bool, arith, length, refl, subst, sym}
 use Rattle.flow_snapshot.specs.Shares.{AllPartsFit}
-use Rattle.flow_snapshot.specs.Totals.{first_file, IsMade, SumsFit}
+use Rattle.flow_snapshot.specs.Totals.{IsMade, SumsFit}
 use Rattle.flow_export.specs.Span.{meets_sums}
 use Rattle.flow_snapshot.proofs.Adding.{made_err}
-use Rattle.flow_snapshot.proofs.ViewParts.{parts_fit}
-use Rattle.flow_export.proofs.SumsMet.{all_not, none_met, one_met, one_not, parts_of}
+use Rattle.flow_snapshot.proofs.ViewParts.{parts_fit, parts_of}
+use Rattle.flow_export.proofs.SumsMet.{all_not, none_met, one_met, one_not}
 use Rattle.flow_export.proofs.summed.meets_sums.Goals as goal
 
 pub loop-worker-init : goal.loop-worker-init

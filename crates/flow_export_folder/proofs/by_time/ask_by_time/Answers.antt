@@ -20,7 +20,7 @@ returns-in_err-directory-clause-refused g c = λ honest reads stands.
 pub returns-in_err-directory-clause-some : goal.returns-in_err-directory-clause-some
 returns-in_err-directory-clause-some g c =
     let output = g.W.Write.contents c.args.output.now in
-    passed_on c.from_residual.result (refusal.Query query.OutOfMemory) (WritesByTime output output)
+    passed_on c.from_residual.result (refusal.Query query.OutOfMemory) (WritesByTime c.args.span output output)
     c.from_residual.ensures.1 (inl (Keeps-refl output))
 
 pub returns-clause-exact : goal.returns-clause-exact

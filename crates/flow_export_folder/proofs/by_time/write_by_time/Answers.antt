@@ -19,8 +19,8 @@ returns-in_err-meets_sums-clause-refused g c = λ honest v is.
 pub returns-in_err-meets_sums-clause-some : goal.returns-in_err-meets_sums-clause-some
 returns-in_err-meets_sums-clause-some g c =
     let output = g.W.Write.contents c.args.output.now in
-    passed_on c.from_residual.result (refusal.Query (c.in_err-meets_sums.field-0).0) (WritesByTime output output)
-    c.from_residual.ensures.1 (inl (Keeps-refl output))
+    passed_on c.from_residual.result (refusal.Query (c.in_err-meets_sums.field-0).0)
+    (WritesByTime c.args.span output output) c.from_residual.ensures.1 (inl (Keeps-refl output))
 
 pub returns-then-branch-clause-refused : goal.returns-then-branch-clause-refused
 returns-then-branch-clause-refused g c = λ honest v is. (
@@ -51,8 +51,8 @@ returns-in_err-write_span-clause-some g c =
     let old = g.W.Write.contents c.args.output.now in
     let new = g.W.Write.contents c.write_span.new.output in
     let e = (c.in_err-write_span.field-0).0 in
-    passed_on c.from_residual-in_err-write_span.result (of_export e) (WritesByTime old new)
-    c.from_residual-in_err-write_span.ensures.1 (ended_by_time old new e c.in_err-write_span.ensures.some)
+    passed_on c.from_residual-in_err-write_span.result (of_export e) (WritesByTime c.args.span old new)
+    c.from_residual-in_err-write_span.ensures.1 (ended_by_time c.args.span old new e c.in_err-write_span.ensures.some)
 
 pub returns-in_err-write_span-clause-asking : goal.returns-in_err-write_span-clause-asking
 returns-in_err-write_span-clause-asking g c =

@@ -3,7 +3,7 @@ use Rattle.flow_manifest.specs.Slots.{reads_of}
 use Rattle.flow_program.specs.Checks.{IsNotChecked}
 use Rattle.flow_commands.specs.ArchiveFiles.{AreFileLines, AreListings}
 use Rattle.flow_program.proofs.Checked.{cause_of_lines, cause_without_room, lines_written, listing_refused}
-use Rattle.flow_program.proofs.checks.check_listing.Goals as goal
+use Rattle.flow_program.proofs.checking.check_listing.Goals as goal
 
 pub returns-in-Err-clause-refused : goal.returns-in-Err-clause-refused
 returns-in-Err-clause-refused g c = λ honest.

@@ -1,6 +1,6 @@
 use Rattle.flow_manifest.specs.Slots.{reads_of}
 use Rattle.flow_program.proofs.Checked.{cause_of_lines, cause_without_room, line_told, line_written}
-use Rattle.flow_program.proofs.checks.check_line.Goals as goal
+use Rattle.flow_program.proofs.checking.check_line.Goals as goal
 
 pub returns-in-Ok-clause-told : goal.returns-in-Ok-clause-told
 returns-in-Ok-clause-told g c = λ honest.

@@ -1,0 +1,84 @@
+#!/usr/bin/env python3
+"""over_kept.py CRATE [FUNCTION..] [FLAG..]: checks these functions of a crate, as walk::scan, or all of it, over the
+libraries of the crates below that `rt ci` proved last on this machine, in whichever checkout: seconds, where `rt check`
+makes libraries of its own first, for a crate of the program some ten minutes. FLAGs are the prover's, as --allow-holes.
+
+It is for whoever writes proofs, and is no proof of a crate: a library that was proved of another text than this
+checkout has is taken too. It prints all but what is proved, and ends with the prover's status. It reads what the kit
+keeps (13f) as it is laid out there."""
+import json
+import os
+import re
+import shutil
+import subprocess
+import sys
+
+sys.path.insert(0, os.path.dirname(os.path.abspath(__file__)))
+import wrong_bodies  # noqa: E402
+
+# Where libraries are put for the prover.
+LIBRARIES = "built/kept"
+
+
+def kit():
+    return os.path.dirname(os.path.dirname(os.path.realpath(shutil.which("rt"))))
+
+
+def newest(crate):
+    """The folder of what `rt ci` kept last of a crate, with the list of what is in it; None where it kept nothing."""
+    store = os.path.join(os.path.dirname(kit()), "rattle-kept")
+    names = [it for it in os.listdir(store) if re.fullmatch("proof-%s-[0-9a-f]{64}" % crate, it)]
+    whole = [it for it in names if os.path.exists(os.path.join(store, it, "made.json"))]
+    return os.path.join(store, max(whole, key=lambda it: os.path.getmtime(os.path.join(store, it)))) if whole else None
+
+
+def put(crate):
+    """Puts a crate's library where the prover reads it: whether there is one."""
+    kept, to = newest(crate), os.path.join(LIBRARIES, crate + ".rlib")
+    if not kept:
+        return False
+    shutil.rmtree(to, ignore_errors=True)
+    with open(os.path.join(kept, "made.json")) as made:
+        files = json.load(made)["files"]
+    for number, (path, _) in enumerate(files):
+        inside = path.removeprefix("rlib/%s.rlib/" % crate)
+        os.makedirs(os.path.dirname(os.path.join(to, inside)), exist_ok=True)
+        shutil.copyfile(os.path.join(kept, str(number)), os.path.join(to, inside))
+    return True
+
+
+def words(crates, crate):
+    """The words for the prover."""
+    uses, below, folder = crates.uses[crate], crates.below(crate), os.path.abspath(LIBRARIES)
+    root = "src/main.rt" if os.path.exists("crates/%s/src/main.rt" % crate) else "src/lib.rt"
+    found = [kit() + "/bin/rattle", "check", "--crate-name", crate, root]
+    for name in ["std", *uses]:
+        place = folder if name in below else kit() + "/rlibs"
+        found += ["--extern", "%s=%s/%s.rlib" % (name, place, name)]
+    found += ["-L", "dependency=%s/rlibs" % kit(), "-L", "dependency=" + folder]
+    found += ["--antt-project", kit() + "/rattle/logic/antt-project.json", "--logic-built", kit() + "/logic_built"]
+    return [*found, "--links", crate + "=", "--jobs", "1"]
+
+
+def main():
+    if len(sys.argv) < 2 or sys.argv[1].startswith("-"):
+        print(__doc__)
+        return 2
+    os.chdir(os.path.join(os.path.dirname(os.path.abspath(__file__)), ".."))
+    crates, crate, rest = wrong_bodies.Crates(), sys.argv[1], sys.argv[2:]
+    lacking = [it for it in crates.below(crate) if not put(it)]
+    if lacking:
+        print("rt ci has kept nothing of: %s" % " ".join(lacking))
+        return 1
+    only = [word for it in rest if not it.startswith("-") for word in ("--only", it)]
+    flags = [it for it in rest if it.startswith("-")]
+    ran = subprocess.run([*words(crates, crate), *only, *flags], cwd="crates/" + crate, stdout=subprocess.PIPE,
+                         stderr=subprocess.STDOUT, text=True)
+    for line in ran.stdout.split("\n"):
+        if not re.match(r"(fn|struct|enum|trait|impl) .*: proved|statements |axioms |logic /", line):
+            print(line)
+    return ran.returncode
+
+
+if __name__ == "__main__":
+    sys.exit(main())
