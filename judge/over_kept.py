@@ -3,15 +3,20 @@
 libraries of the crates below that `rt ci` proved last on this machine, in whichever checkout: seconds, where `rt check`
 makes libraries of its own first, for a crate of the program some ten minutes. FLAGs are the prover's, as --allow-holes.
 
+over_kept.py --edits CRATE [NAME..]: tries wrong bodies of crates/CRATE/edits/ so, or of its gate/, one by one, all of
+edits/ where none is named: prints what the prover says of each, as judge/wrong_bodies.py does, and ends with status 0
+where each is refused, and none only where a proof names what is gone.
+
 It is for whoever writes proofs, and is no proof of a crate: a library that was proved of another text than this
-checkout has is taken too. It prints all but what is proved, and ends with the prover's status. It reads what the kit
-keeps (13f) as it is laid out there."""
+checkout has is taken too. The first form prints all but what is proved, and ends with the prover's status. It reads
+what the kit keeps (13f) as it is laid out there."""
 import json
 import os
 import re
 import shutil
 import subprocess
 import sys
+import tempfile
 
 sys.path.insert(0, os.path.dirname(os.path.abspath(__file__)))
 import wrong_bodies  # noqa: E402
@@ -60,16 +65,42 @@ def words(crates, crate):
     return [*found, "--links", crate + "=", "--jobs", "1"]
 
 
+def edits_tried(crates, crate, names):
+    """Tries wrong bodies of a crate, each alone in a copy of its folder: whether each is refused by a clause."""
+    own = "crates/%s/edits" % crate
+    edits = [it for place in (own, own + "/gate") if os.path.isdir(place) for it in wrong_bodies.edits_in(crate, place)]
+    chosen = [it for it in edits if it.name in names] if names else wrong_bodies.edits_in(crate, own)
+    well = len(chosen) == len(names) or not names
+    for edit in chosen:
+        with tempfile.TemporaryDirectory() as room:
+            folder = os.path.join(room, crate)
+            shutil.copytree("crates/" + crate, folder, ignore=shutil.ignore_patterns("out"))
+            places = edit.functions(folder)
+            said = (wrong_bodies.BAD, "")
+            if edit.apply(folder):
+                only = [wrong_bodies.path_of(folder, *it) for it in sorted(places)]
+                named = [word for it in only for word in ("--only", it)]
+                ran = subprocess.run([*words(crates, crate), *named], cwd=folder, stdout=subprocess.PIPE,
+                                     stderr=subprocess.STDOUT, text=True)
+                said = wrong_bodies.verdict(edit, places, ran.stdout)
+            well = well and said[0] == wrong_bodies.REFUSED and said[1] != wrong_bodies.ONLY_GONE
+            print("%s/%s: %s%s" % (crate, edit.name, said[0], said[1] and " (%s)" % said[1]), flush=True)
+    return 0 if well else 1
+
+
 def main():
-    if len(sys.argv) < 2 or sys.argv[1].startswith("-"):
+    given = sys.argv[2:] if sys.argv[1:2] == ["--edits"] else sys.argv[1:]
+    if not given or given[0].startswith("-"):
         print(__doc__)
         return 2
     os.chdir(os.path.join(os.path.dirname(os.path.abspath(__file__)), ".."))
-    crates, crate, rest = wrong_bodies.Crates(), sys.argv[1], sys.argv[2:]
+    crates, crate, rest = wrong_bodies.Crates(), given[0], given[1:]
     lacking = [it for it in crates.below(crate) if not put(it)]
     if lacking:
         print("rt ci has kept nothing of: %s" % " ".join(lacking))
         return 1
+    if given != sys.argv[1:]:
+        return edits_tried(crates, crate, rest)
     only = [word for it in rest if not it.startswith("-") for word in ("--only", it)]
     flags = [it for it in rest if it.startswith("-")]
     ran = subprocess.run([*words(crates, crate), *only, *flags], cwd="crates/" + crate, stdout=subprocess.PIPE,
