@@ -6,6 +6,10 @@ them (docs/DISK.md). After a command that ended well the next opening writes not
 once its file was changed without it, or where it isn't an empty file; one that can't be taken away refuses the change,
 and one that others couldn't take away isn't made.
 
+And it changes the active file while a `feed` waits for its next batch: another thing under its name, or a right that is
+taken away, refuses the batch, and another file there is the one that is written, though the file stays open from one
+batch to the next: a batch opens no file.
+
 A line is printed for each difference, and one for each case that can't be played here, which begins with `skipped`:
 without strace that may trace none can, and those of another user take root. The last line is `N cases of marks: D
 differ`, and the status is 0 where D is 0, else 1."""
@@ -292,10 +296,110 @@ def not_taken_away(trial):
     yield "feed, once it may", (0, "fed 1 3\n", ""), answer
 
 
+def between_batches(trial, folder, change, within=()):
+    """What a feed answers that takes in three messages, and then, after a change of the active file, two more; and
+    whether what has the file's name then differs from the file before the change, and what was put beside the folder,
+    of those of the two that are files."""
+    active, beside = os.path.join(folder, newest(folder)), trial.path("beside")
+    size, pipes = os.path.getsize(active), {name: subprocess.PIPE for name in ("stdin", "stdout", "stderr")}
+    with subprocess.Popen([*within, trial.program, "feed", folder, "-", "--keep", NOTHING], **pipes) as feeding:
+        feeding.stdin.write(file_of(9, 3, 1))
+        feeding.stdin.flush()
+        for _ in range(questions.SECONDS * 100):
+            if os.path.getsize(active) > size:
+                break
+            time.sleep(0.01)
+        # (the gate is opened, and synced, after the file has its length)
+        time.sleep(0.3)
+        with open(active, "rb") as file:
+            before = file.read()
+        change(active, beside)
+        out, err = feeding.communicate(file_of(9, 2, 2), questions.SECONDS)
+    changed = []
+    for path in (active, beside):
+        if os.path.isfile(path) and not os.path.islink(path):
+            with open(path, "rb") as file:
+                changed.append(file.read() != before)
+    return (feeding.returncode, out.decode(), err.decode()), changed
+
+
+def a_link(active, beside):
+    os.rename(active, beside)
+    os.symlink(beside, active)
+
+
+def a_folder(active, beside):
+    os.rename(active, beside)
+    os.mkdir(active)
+
+
+def a_pipe(active, beside):
+    os.rename(active, beside)
+    os.mkfifo(active)
+
+
+def a_copy(active, beside):
+    os.rename(active, beside)
+    shutil.copy2(beside, active)
+
+
+def no_right(active, _):
+    os.chmod(active, 0o040)
+
+
+def while_a_feed_waits(trial):
+    """Something else has the active file's name after a batch: the next one is refused, and the file that had the name
+    stays as it was. A copy of it is written in its place."""
+    beside = trial.path("beside")
+    for change in (a_link, a_folder, a_pipe):
+        folder = made(trial, "waits")
+        answer, changed = between_batches(trial, folder, change)
+        yield change.__name__ + ": answers", (3, "stopped 1 3 30 Fault\n"), answer[:2]
+        yield change.__name__ + ": the file", [False], changed
+        active = os.path.join(folder, newest(folder))
+        (os.rmdir if change is a_folder else os.remove)(active)
+        os.rename(beside, active)
+        yield change.__name__ + ": check, once it has its name", "ok 903 ", trial.runs("check", folder)[:7]
+    folder = made(trial, "waits")
+    answer, changed = between_batches(trial, folder, a_copy)
+    yield "a copy: answers", (0, "fed 1 5\n", ""), answer
+    yield "a copy: it, and the file", [True, False], changed
+    os.remove(beside)
+
+
+def rights_while_a_feed_waits(trial):
+    """The active file's owner loses the right to write it after a batch: the next one is refused."""
+    before_another(trial)
+    folder = made(trial, "rights")
+    for path in (folder, *(os.path.join(folder, name) for name in os.listdir(folder))):
+        os.chown(path, USER, USER)
+    answer, changed = between_batches(trial, folder, no_right, NOBODY)
+    yield "answers", (3, "stopped 1 3 30 Fault\n"), answer[:2]
+    yield "the file", [False], changed
+
+
+def opened_once(trial):
+    """A feed of ten batches opens its active file as often as a feed of one."""
+    counts = []
+    for messages in (64, 640):
+        folder = trial.path("once")
+        if os.path.exists(folder):
+            shutil.rmtree(folder)
+        os.mkdir(folder)
+        trial.runs("create", folder, "300")
+        name = newest(folder)
+        answer, calls = traced(trial, "feed", folder, trial.kept("many", file_of(9, messages, 1)), "--keep", NOTHING)
+        yield "%d messages" % messages, (0, "fed 1 %d\n" % messages, ""), answer
+        counts.append(sum("openat(" in call and "/%s" % name in call for call in calls))
+    yield "openings", counts[0], counts[1]
+
+
 CASES = (("files of a group", of_a_group), ("a feed that is killed", killed),
          ("files that were changed without their marks", changed_without_it), ("files made again", made_again),
          ("other things of these names", other_things), ("marks that aren't made", not_marked),
-         ("files of another user", of_another), ("marks that can't be taken away", not_taken_away))
+         ("files of another user", of_another), ("marks that can't be taken away", not_taken_away),
+         ("a name that changes between two batches", while_a_feed_waits),
+         ("a right that changes between two batches", rights_while_a_feed_waits), ("files opened once", opened_once))
 
 
 def main(program):

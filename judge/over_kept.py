@@ -7,6 +7,9 @@ over_kept.py --edits CRATE [NAME..]: tries wrong bodies of crates/CRATE/edits/ s
 edits/ where none is named: prints what the prover says of each, as judge/wrong_bodies.py does, and ends with status 0
 where each is refused, and none only where a proof names what is gone.
 
+over_kept.py --times CRATE: checks all of it so, and prints how many processor seconds its functions took, the longest
+first, each counted from the end of the one before it to its own; those of the first are what loading took.
+
 It is for whoever writes proofs, and is no proof of a crate: a library that was proved of another text than this
 checkout has is taken too. The first form prints all but what is proved, and ends with the prover's status. It reads
 what the kit keeps (13f) as it is laid out there."""
@@ -88,8 +91,33 @@ def edits_tried(crates, crate, names):
     return 0 if well else 1
 
 
+def spent(process):
+    """The processor seconds of a process so far."""
+    with open("/proc/%d/stat" % process) as stat:
+        fields = stat.read().rpartition(")")[2].split()
+    return (int(fields[11]) + int(fields[12])) / os.sysconf("SC_CLK_TCK")
+
+
+def timed(crates, crate):
+    """Checks a crate, and prints what each function took. A line comes as each proof ends."""
+    took, before = [], 0.0
+    with subprocess.Popen([*words(crates, crate), "--progress"], cwd="crates/" + crate, stdout=subprocess.PIPE,
+                          stderr=subprocess.STDOUT, text=True) as ran:
+        for line in ran.stdout:
+            ended = re.match(r"checked (\S+), \d+ of \d+", line)
+            if ended:
+                now = spent(ran.pid)
+                took.append((now - before, ended[1]))
+                before = now
+    for seconds, name in sorted(took, reverse=True):
+        print("%7.1f %s" % (seconds, name))
+    print("%7.1f in all, of %d functions" % (before, len(took)))
+    return ran.returncode
+
+
 def main():
-    given = sys.argv[2:] if sys.argv[1:2] == ["--edits"] else sys.argv[1:]
+    form = sys.argv[1] if sys.argv[1:2] in (["--edits"], ["--times"]) else ""
+    given = sys.argv[2:] if form else sys.argv[1:]
     if not given or given[0].startswith("-"):
         print(__doc__)
         return 2
@@ -99,8 +127,10 @@ def main():
     if lacking:
         print("rt ci has kept nothing of: %s" % " ".join(lacking))
         return 1
-    if given != sys.argv[1:]:
+    if form == "--edits":
         return edits_tried(crates, crate, rest)
+    if form == "--times":
+        return timed(crates, crate)
     only = [word for it in rest if not it.startswith("-") for word in ("--only", it)]
     flags = [it for it in rest if it.startswith("-")]
     ran = subprocess.run([*words(crates, crate), *only, *flags], cwd="crates/" + crate, stdout=subprocess.PIPE,

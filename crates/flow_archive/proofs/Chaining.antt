@@ -20,6 +20,7 @@ use Rattle.flow_rolled.specs.Rollup.{IsRollup}
 use Rattle.flow_segment.specs.Batch.{AreTaken}
 use Rattle.flow_segment.specs.Carry.{Carry, carry_from, no_carry, octets_of, prefix_of, restated, IsCarry}
 use Rattle.flow_segment.specs.Carry.{IsReadBack}
+use Rattle.flow_segment.specs.Prefix.{AreRead}
 use Rattle.flow_segment.proofs.Batches.{carried_then, templates_carried}
 use Rattle.flow_segment.proofs.Carrying.{is_read_back}
 use Rattle.flow_model.specs.State.{Part, State, appended, end_of, after_seal}
@@ -71,18 +72,22 @@ cut_each : (before : AllTemplates) (xs : List Accepted) → AreAcceptedFrom befo
 cut_each before [] h = tt
 cut_each before (x ∷ xs) h = (message_cut x.octets before x.message x.after h.0.0, cut_each x.after xs h.1)
 
+-- the prefix of a carry, as it is read
+pub called_read : (c : Carry) → IsCarry c → AreRead (prefix_of c) [] (restated c) []
+called_read c h = let back = is_read_back c h in record {
+  divided = record {
+    whole = sym (append-nil (joined (octets_of (restated c))) ∙ ap joined back.octets);
+    each = cut_each [] (restated c) back.accepted;
+  };
+  accepted = back.accepted;
+}
+
 -- a segment without messages, with the prefix of a carry, passes that carry on
 pub segment_called : (c : Carry) → IsCarry c → IsSegment (record { front = prefix_of c; messages = [] }) c
 segment_called c h = record {
   prefix = restated c;
   messages = [];
-  front = record {
-    divided = record {
-      whole = sym (append-nil (joined (octets_of (restated c))) ∙ ap joined back.octets);
-      each = cut_each [] (restated c) back.accepted;
-    };
-    accepted = back.accepted;
-  };
+  front = called_read c h;
   restated = back.none;
   octets = refl;
   accepted = tt;

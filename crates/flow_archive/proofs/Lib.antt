@@ -35,3 +35,4 @@ pub mod Inside
 pub mod Marked
 pub mod Shelves
 pub mod Spanned
+pub mod Noting

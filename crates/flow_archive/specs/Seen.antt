@@ -1,5 +1,5 @@
 -- An archive as its callers see it, and what one call makes of it.
-use Rattle.std.specs.Prelude.{◌≡◌, ◌≢◌, ◌⊎◌, ℕ, Bool, true, false, IsTrue, List, Result, OnOk, IfErr}
+use Rattle.std.specs.Prelude.{◌≡◌, ◌≢◌, ◌⊎◌, ℕ, Bool, true, false, IsTrue, List, Result, OnOk, IfErr, Option, Some, IfSome}
 use Rattle.std.specs.Prelude.{IsErrOf}
 use Rattle.std.specs.List.{AllByRecursion}
 use Rattle.flow_disk.specs.declared.disk.Disk.{Ghosts}
@@ -9,7 +9,9 @@ use Rattle.flow_manifest.specs.declared.manifest.Entry.{Entry}
 use Rattle.flow_manifest.specs.declared.manifest.Manifest.{Manifest}
 use Rattle.flow_manifest.specs.declared.slots.Slots.{Slots}
 use Rattle.flow_manifest.specs.Following.{front_of}
+use Rattle.flow_measure.specs.declared.span.PartSpan.{PartSpan}
 use Rattle.flow_segment.specs.Carry.{Carry}
+use Rattle.flow_segment.specs.Spans.{AreNotedSoFar}
 use Rattle.flow_model.specs.Shelf.{Shelf}
 use Rattle.flow_model.specs.State.{State, at_rest, reopened}
 use Rattle.flow_model.specs.Chain.{HandsOn, IsSegment}
@@ -59,6 +61,11 @@ pub record IsArchive {D : Type 0} (honest : D → Bool) (marks : D → ℕ → M
   pub files_are : AreHeldAs (honest disk) (front_of s.manifest) files
   pub stand : IsTrue (honest disk) → FrozenStand octets_in (front_of s.manifest) s.parts files
   pub still_open : closed ≡ false → IsOpen honest marks held disk slots active end total carry s
+
+-- While it is open, the span that is kept is that of the starts of the active segment's flows.
+abbrev pub IsNotedWhileOpen : Bool → Option PartSpan → List ℕ → List (List ℕ) → Carry → Type 0
+IsNotedWhileOpen closed span prefix messages carry =
+    closed ≡ false → IfSome span (λ s. AreNotedSoFar prefix messages carry.templates (Some s))
 
 -- ---- a directory
 

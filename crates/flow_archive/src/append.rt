@@ -10,7 +10,7 @@ ghost use Rattle.flow_archive.specs.Answers.{AnswersAppend, IsNotAdmitted};
 ghost use Rattle.flow_archive.specs.Seen.{IsStep};
 ghost use Rattle.flow_gate.specs.Gate.{octet_sum};
 ghost use Rattle.flow_codec.specs.declared.error.MessageError.{MessageError};
-ghost use Rattle.flow_segment.specs.Batch.{AreTaken, IsFirstFault};
+ghost use Rattle.flow_segment.specs.Batch.{AreTaken, AreTakenNoting, IsFirstFault};
 ghost use Rattle.flow_segment.specs.Carry.{Carry};
 ghost use Rattle.flow_archive.specs.declared.refusal.ArchiveError.TheVariants.{Message, OutOfMemory};
 
@@ -21,6 +21,7 @@ use flow_codec::MessageError;
 use flow_disk::Disk;
 use flow_gate::add_batch;
 use flow_manifest::MOST_MESSAGES;
+use flow_measure::PartSpan;
 use flow_segment::Carry;
 use std::alloc::{AllocError, Global};
 
@@ -56,7 +57,14 @@ impl<D: Disk> Archive<D> {
         };
         let room = u64::from(self.active.prefix) + u64::from(self.slots.current.limit) - self.end;
         let positions = MOST_MESSAGES - self.total;
-        let batch = admitted(alloc, &mut self.carry, messages, room, positions)?;
+        let batch = admitted(
+            alloc,
+            &mut self.carry,
+            &mut self.span,
+            messages,
+            room,
+            positions,
+        )?;
         match add_batch(&mut self.disk, self.active.file, self.end, messages) {
             Ok(()) => {
                 put_all(&mut self.messages, batch.copies);
@@ -80,20 +88,26 @@ fn carried(alloc: Global, carry: &Carry, messages: &[&[u8]]) -> Result<Carry, Ar
         × (e ≡ Message fault))) }
 {
     let mut new = carry.try_copy()?;
-    new.take_all(alloc, messages)?;
+    new.take_all(alloc, messages, &mut None)?;
     Ok(new)
 }
 
-/// Takes in the messages of a batch, all of them or none; else answers the first fault of the first of them that isn't
-/// accepted, or 11.
-fn take_in(carry: &mut Carry, alloc: Global, messages: &[&[u8]]) -> Result<(), ArchiveError>
-    ensures taken { OnOk result (AreTaken (slices messages.now) carry.old carry.new) }
+/// Takes in the messages of a batch, all of them or none, and notes when their flows start, where a span is given; else
+/// answers the first fault of the first of them that isn't accepted, or 11.
+fn take_in(
+    carry: &mut Carry,
+    span: &mut Option<PartSpan>,
+    alloc: Global,
+    messages: &[&[u8]],
+) -> Result<(), ArchiveError>
+    ensures taken { OnOk result (AreTakenNoting (slices messages.now) carry.old carry.new span.old span.new) }
     ensures kept { OnErr result (carry.new ≡ carry.old) }
+    ensures unnoted { OnErr result (span.new ≡ span.old) }
     ensures refused { IfErr result (λ e. (e ≡ OutOfMemory)
         ⊎ ((fault : MessageError) × IsFirstFault (slices messages.now) carry.old.templates fault
         × (e ≡ Message fault))) }
 {
-    carry.take_all(alloc, messages)?;
+    carry.take_all(alloc, messages, span)?;
     Ok(())
 }
 
@@ -120,21 +134,24 @@ struct Batch {
     count: u64,
 }
 
-/// Takes in a batch after a carry, with room for so many octets and numbers for so many messages; else the first of the
-/// refusals 1 to 10, 40, 25 that holds, or 11, and the carry is as it was.
+/// Takes in a batch after a carry, with room for so many octets and numbers for so many messages, and notes when its
+/// flows start, where a span is given; else the first of the refusals 1 to 10, 40, 25 that holds, or 11, and the carry
+/// and the span are as they were.
 fn admitted(
     alloc: Global,
     carry: &mut Carry,
+    span: &mut Option<PartSpan>,
     messages: &[&[u8]],
     room: u64,
     positions: u64,
 ) -> Result<Batch, ArchiveError>
-    ensures taken { OnOk result (AreTaken (slices messages.now) carry.old carry.new) }
+    ensures taken { OnOk result (AreTakenNoting (slices messages.now) carry.old carry.new span.old span.new) }
     ensures copies { IfOk result (λ batch. batch.copies.items ≡ slices messages.now) }
     ensures count { IfOk result (λ batch. batch.count ≡ octet_sum (slices messages.now)) }
     ensures room { IfOk result (λ batch. batch.count ≤ room) }
     ensures positions { OnOk result (length messages.now ≤ positions) }
     ensures kept { OnErr result (carry.new ≡ carry.old) }
+    ensures unnoted { OnErr result (span.new ≡ span.old) }
     ensures refused { IfErr result (IsNotAdmitted (slices messages.now) carry.old room positions) }
 {
     let Some(count) = count_within(messages, room) else {
@@ -144,7 +161,7 @@ fn admitted(
         return Err(judged(alloc, carry, messages, ArchiveError::NumbersSpent));
     }
     let copies = copies_of(alloc, messages, count)?;
-    take_in(carry, alloc, messages)?;
+    take_in(carry, span, alloc, messages)?;
     Ok(Batch { copies, count })
 }
 

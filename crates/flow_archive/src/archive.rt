@@ -19,6 +19,7 @@ use bytes::Bytes;
 use flow_codec::Losses;
 use flow_disk::Disk;
 use flow_manifest::{Entry, Kind, Manifest, Slots, count_of};
+use flow_measure::PartSpan;
 use flow_segment::Carry;
 use std::marker::Model;
 
@@ -35,6 +36,8 @@ pub struct Archive<D: Disk> {
     pub(crate) files: Vec<FrozenFile<D::Sealed>>,
     pub(crate) prefix: Bytes,
     pub(crate) messages: Vec<Bytes>,
+    /// When the flows of the active segment's messages start, where that was noted since the segment began.
+    pub(crate) span: Option<PartSpan>,
     pub(crate) next: u64,
     pub(crate) job: Option<RunningJob<D::Sealed>>,
     pub(crate) waiting: Vec<FrozenFile<D::Sealed>>,
@@ -43,7 +46,7 @@ pub struct Archive<D: Disk> {
 }
 
 impl<D: Disk> Model for Archive<D> {
-    ghost use Rattle.flow_archive.specs.Seen.{Seen, IsArchive, state_in};
+    ghost use Rattle.flow_archive.specs.Seen.{Seen, IsArchive, IsNotedWhileOpen, state_in};
     ghost use Rattle.flow_archive.specs.UnderWay.{under_way_in, HasOwnFiles, IsUnderWay};
 
     ghost Value = { Seen D };
@@ -60,7 +63,8 @@ impl<D: Disk> Model for Archive<D> {
         a.prefix a.messages.items) a.closed
         × IsUnderWay D.honest D.marks D.held a.disk (state_in (under_way_in a.next a.job a.waiting.items) a.shared
         a.slots.current a.files.items a.prefix a.messages.items) (under_way_in a.next a.job a.waiting.items) a.closed
-        × HasOwnFiles a.shared a.files.items (under_way_in a.next a.job a.waiting.items) };
+        × HasOwnFiles a.shared a.files.items (under_way_in a.next a.job a.waiting.items)
+        × IsNotedWhileOpen a.closed a.span a.prefix a.messages.items a.carry };
 }
 
 impl<D: Disk> Archive<D> {

@@ -107,6 +107,7 @@ impl<D: Disk> Archive<D> {
                 files: Vec::new(alloc),
                 prefix: Bytes::new(),
                 messages: Vec::new(alloc),
+                span: None,
                 next: FIRST.file + 1,
                 job: None,
                 waiting: Vec::new(alloc),

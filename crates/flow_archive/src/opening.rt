@@ -169,6 +169,7 @@ pub(crate) fn resumed<D: Disk>(
         files: kept.files,
         prefix: kept.prefix,
         messages: kept.messages,
+        span: None,
         next,
         job: None,
         waiting: Vec::new(alloc),

@@ -1,7 +1,7 @@
 //! The seal of the active segment.
 
 ghost use Rattle.std.specs.Prelude.{◌≡◌, ◌≤◌, ◌+◌, ◌<◌, ◌≢◌, true, false, IsTrue, IfOk, length, OnOk, IfErr, ℕ};
-ghost use Rattle.std.specs.Prelude.{IfSome};
+ghost use Rattle.std.specs.Prelude.{IfSome, Some};
 ghost use Rattle.flow_archive.specs.Frozen.{frozen_as, HasSpan};
 ghost use Rattle.flow_disk.specs.Disk.{AllImages};
 ghost use Rattle.flow_disk.specs.Cause.{HasCause, FailsOnlyByFault};
@@ -12,6 +12,8 @@ ghost use Rattle.flow_model.specs.Standing.{IsKnown, IsSealedAt, StandsForEither
 ghost use Rattle.flow_archive.specs.Answers.{AnswersSeal, IsSealed, IsNotSealed, MayBeSealed};
 ghost use Rattle.flow_archive.specs.Seen.{IsStep};
 ghost use Rattle.flow_segment.specs.Carry.{prefix_of, IsCarry};
+ghost use Rattle.flow_segment.specs.Spans.{AreNotedSoFar, IsOwnSpan};
+ghost use Rattle.flow_codec.specs.Templates.{AllTemplates};
 ghost use Rattle.flow_disk.specs.Calls.{LeavesOnly};
 ghost use Rattle.flow_manifest.specs.Limits.{too_many_messages};
 ghost use Rattle.flow_manifest.specs.Slots.{file_of, other, reads_of, swapped, AreSlots};
@@ -57,7 +59,12 @@ impl<D: Disk> Archive<D> {
         let Ok(()) = self.files.reserve(1) else {
             return Err(ArchiveError::OutOfMemory);
         };
-        let span = span_in_memory(alloc, self.prefix.as_slice(), self.messages.as_slice());
+        let span = own_span(
+            alloc,
+            self.span,
+            self.prefix.as_slice(),
+            self.messages.as_slice(),
+        );
         let file = self.next;
         let slot = self.slots.current_slot.other();
         match seal_segment(
@@ -90,6 +97,7 @@ impl<D: Disk> Archive<D> {
                 self.end = next.prefix.len() as u64;
                 self.prefix = next.prefix;
                 self.messages = Vec::new(alloc);
+                self.span = Some(PartSpan::none());
                 self.slots = Slots {
                     current: next.manifest,
                     current_slot: slot,
@@ -102,6 +110,22 @@ impl<D: Disk> Archive<D> {
                 Err(ArchiveError::Fault)
             }
         }
+    }
+}
+
+/// When the flows of the active segment start, where that was noted or memory suffices to walk its messages.
+fn own_span(
+    alloc: Global,
+    noted: Option<PartSpan>,
+    prefix: &[u8],
+    messages: &[Bytes],
+) -> Option<PartSpan>
+    requires { IfSome noted (λ s. (now : AllTemplates) × AreNotedSoFar prefix.now messages.now now (Some s)) }
+    ensures { IfSome result (IsOwnSpan prefix.now messages.now) }
+{
+    match noted {
+        Some(span) => Some(span),
+        None => span_in_memory(alloc, prefix, messages),
     }
 }
 

@@ -3,15 +3,13 @@ use Rattle.std.proofs.Common.{◌≡◌, ℕ, ◌+◌, ◌<◌, Bool, true, fals
 use Rattle.std.proofs.Common.{◌≤◌, Option, Some, None, Result, refl, sym, ◌∙◌, ap, ap₂, subst, append-nil, append_assoc}
 use Rattle.std.proofs.Common.{zero-add, arith, length-append, length-drop, take-append-drop}
 use Rattle.std.proofs.lemmas.List.{length-map, length-take-le, map_more, take_all, take-map}
-use Rattle.std.specs.Prelude.{All, Vec}
-use Rattle.std.specs.declared.alloc.Global.{Global}
+use Rattle.std.specs.Prelude.{All}
 use Rattle.std.specs.Io.KnownBytes.{Consumes, prepend_known}
 use Rattle.std.proofs.lemmas.List.Elements.{All-append, All-cons, All-head, All-nil, All-tail}
 use Rattle.flow_codec.specs.Cutting.{IsCutOff}
 use Rattle.flow_codec.specs.Message.{joined}
 use Rattle.flow_codec.specs.Stream.{ReaderState, Progress, progress, IsMessageNext}
 use Rattle.flow_codec.proofs.Streaming.{message_next}
-use Rattle.flow_gate.specs.Scan.{texts}
 use Rattle.flow_gate.specs.Steps.{slices}
 use Rattle.flow_archive.specs.declared.refusal.ArchiveError.{ArchiveError}
 use Rattle.flow_feed.specs.declared.batch.Fed.{Fed}
@@ -31,29 +29,22 @@ slices_more messages i none lt =
     ∙ ap (λ (l : List (List ℕ)). l ++ (get_or messages i none).now ∷ []) (sym (take-map octets i messages))
 
 -- how many messages there are
-pub texts_long : (messages : List (Vec ℕ Global)) → length (texts messages) ≡ length messages
-texts_long messages = length-map messages (λ (message : Vec ℕ Global). message.items)
-
-pub few_texts : (messages : List (Vec ℕ Global)) → length messages ≤ 64 → length (texts messages) ≤ 64
-few_texts messages few = let long = texts_long messages in omega (arith, long, few)
-
 pub slices_long : (messages : List (Bor (List ℕ))) → length (slices messages) ≡ length messages
 slices_long messages = length-map messages (λ (message : Bor (List ℕ)). message.now)
 
 -- messages that are given as one batch, which may be none
 module _ {S : Type 0} (appends : S → S → List (List ℕ) → Result ℕ ArchiveError → Type 0) (old new : S) where
-  pub gives_none : (messages : List (Vec ℕ Global)) → length messages ≡ 0
-      → HasTaken appends (AreGivenInTurn (batch_of (texts messages))) old old (take 0 (texts messages)) None
+  pub gives_none : (messages : List (List ℕ)) → length messages ≡ 0
+      → HasTaken appends (AreGivenInTurn (batch_of messages)) old old (take 0 messages) None
   gives_none [] none = turns_none appends old
   gives_none (m ∷ ms) none = absurd (omega (arith, none))
 
-  pub gives_some : (messages : List (Vec ℕ Global)) (octets : List (List ℕ)) (n : ℕ) (stop : Option ArchiveError)
-      → 1 ≤ length messages → octets ≡ texts messages
+  pub gives_some : (messages octets : List (List ℕ)) (n : ℕ) (stop : Option ArchiveError)
+      → 1 ≤ length messages → octets ≡ messages
       → HasTaken appends (IsGivenTogether octets) old new (take n octets) stop
-      → HasTaken appends (AreGivenInTurn (batch_of (texts messages))) old new (take n (texts messages)) stop
+      → HasTaken appends (AreGivenInTurn (batch_of messages)) old new (take n messages) stop
   gives_some messages octets n stop some are p =
-      turns_one appends old new (texts messages) (take n (texts messages)) stop
-      (let long = texts_long messages in omega (arith, long, some))
+      turns_one appends old new messages (take n messages) stop some
       (subst (λ (l : List (List ℕ)). HasTaken appends (IsGivenTogether l) old new (take n l) stop) are p)
 
 All-left : (xs ys : List (List ℕ)) → All IsCutOff (xs ++ ys) → All IsCutOff xs

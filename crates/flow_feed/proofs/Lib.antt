@@ -4,3 +4,4 @@ mod Batches
 mod Sharing
 mod EachGiven
 mod Wholes
+mod Cuts

@@ -72,6 +72,12 @@ read_held old mid new messages held message so_far step is are =
     subst (λ (l : List (List ℕ)). IsReading old l new)
     (sym (are ∙ ap (λ (m : List ℕ). messages ++ m ∷ []) is)) (read_more old mid new messages so_far step)
 
+-- how many are held with it
+pub counted_one : (messages held : List (List ℕ)) (message : List ℕ) (n : ℕ) → held ≡ messages ++ message ∷ []
+    → length messages ≡ n → length held ≡ n + 1
+counted_one messages held message n are counted =
+    ap length are ∙ length-append messages (message ∷ []) ∙ ap (λ (k : ℕ). k + 1) counted
+
 pub read_all : (old new : Progress) (messages : List (List ℕ)) → IsReading old messages new
     → AreRead old messages false None new
 read_all old new messages so_far = record {

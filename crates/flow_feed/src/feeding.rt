@@ -66,7 +66,7 @@ pub fn feed<A: Appender, R: Read>(appender: &mut A, alloc: Global, input: &mut R
         // All messages that were read before are taken in.
         let before = reader.count();
         let batch = read_batch(alloc, &mut reader, input);
-        let Ok(taken) = give(appender, alloc, batch.messages.as_slice()) else {
+        let Ok(taken) = give(appender, alloc, &batch.messages) else {
             return Fed {
                 messages: before,
                 stop: Some(FeedStop::OutOfMemory),

@@ -1,14 +1,13 @@
 //! Messages, given to an appender.
 
 ghost use Rattle.std.specs.Prelude.{◌≡◌, ◌≤◌, ◌<◌, length, take, IfErr, IfNone, IfOk, IfSome};
-ghost use Rattle.flow_gate.specs.Scan.{texts};
 ghost use Rattle.flow_gate.specs.Steps.{slices};
 ghost use Rattle.flow_feed.specs.Feed.{batch_of};
 ghost use Rattle.flow_feed.specs.Given.{AreGivenInTurn, AreGivenSingly, HasTaken, IsGivenTogether};
 ghost use Rattle.flow_feed.specs.Given.{is_of_messages as of_messages};
 
 use crate::appender::Appender;
-use crate::reading::slices_of;
+use crate::held::HeldMessages;
 use flow_archive::ArchiveError;
 use std::alloc::{AllocError, Global};
 
@@ -84,22 +83,22 @@ pub(crate) fn take_batch<A: Appender>(appender: &mut A, alloc: Global, messages:
 pub(crate) fn give<A: Appender>(
     appender: &mut A,
     alloc: Global,
-    messages: &[Vec<u8>],
+    messages: &HeldMessages,
 ) -> Result<Taken, AllocError>
     requires { length messages.now ≤ 64 }
     ensures refused { IfErr result (λ _. appender.new ≡ appender.old) }
     ensures most { IfOk result (λ t. t.count ≤ length messages.now) }
-    ensures taken { IfOk result (λ t. HasTaken A.appends (AreGivenInTurn (batch_of (texts messages.now))) appender.old
-        appender.new (take t.count (texts messages.now)) t.stop) }
+    ensures taken { IfOk result (λ t. HasTaken A.appends (AreGivenInTurn (batch_of messages.now)) appender.old
+        appender.new (take t.count messages.now) t.stop) }
     ensures fewer { IfOk result (λ t. IfSome t.stop (λ _. t.count < length messages.now)) }
     ensures all { IfOk result (λ t. IfNone t.stop (t.count ≡ length messages.now)) }
 {
-    if messages.is_empty() {
+    if messages.len() == 0 {
         return Ok(Taken {
             count: 0,
             stop: None,
         });
     }
-    let slices = slices_of(alloc, messages)?;
+    let slices = messages.slices(alloc)?;
     Ok(take_batch(appender, alloc, slices.as_slice()))
 }

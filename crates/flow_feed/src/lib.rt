@@ -18,6 +18,7 @@ mod counter;
 mod datagrams;
 mod feeding;
 mod giving;
+mod held;
 mod reading;
 mod refused;
 mod until;

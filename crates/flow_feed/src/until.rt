@@ -1,7 +1,6 @@
 //! An input into an archive, up to where feeding is asked to end.
 
 ghost use Rattle.std.specs.Prelude.{◌≡◌, ◌≤◌, ◌<◌, false, true, length};
-ghost use Rattle.flow_gate.specs.Scan.{texts};
 ghost use Rattle.flow_feed.specs.Feed.{ArePassed, AreRead};
 ghost use Rattle.flow_feed.specs.Shared.{IsGivenShared, IsInSteps};
 ghost use Rattle.flow_feed.specs.Until.{IsFedUntil};
@@ -11,7 +10,8 @@ use crate::appender::{Appender, SharedAppender};
 use crate::batch::{Fed, FeedStop};
 use crate::counter::Counter;
 use crate::giving::give;
-use crate::reading::{Batch, MOST_TOGETHER, hold, last_batch, next_batch};
+use crate::held::HeldMessages;
+use crate::reading::{Batch, MOST_TOGETHER, last_batch, next_batch};
 use crate::watch::FeedWatch;
 use crate::whole::WholeReader;
 use flow_disk::Disk;
@@ -28,19 +28,19 @@ fn read_whole<R: Read, F: FeedWatch>(
     input: &mut R,
     watch: &mut F,
 ) -> Batch
-    ensures read { AreRead (reached reader.old (R.remaining input.old)) (texts result.messages.items) result.is_last
+    ensures read { AreRead (reached reader.old (R.remaining input.old)) result.messages result.is_last
         result.stop (reached reader.new (R.remaining input.new)) }
-    ensures few { length result.messages.items ≤ 64 }
-    ensures some { result.is_last ≡ false → 0 < length result.messages.items }
+    ensures few { length result.messages ≤ 64 }
+    ensures some { result.is_last ≡ false → 0 < length result.messages }
 {
-    let mut messages = Vec::new(alloc);
+    let mut messages = HeldMessages::new(alloc);
     for _ in 0..MOST_TOGETHER {
         let size = match reader.find(input, watch) {
             Ok(Some(size)) => size,
             Ok(None) => return last_batch(messages, None),
             Err(stop) => return last_batch(messages, Some(stop)),
         };
-        match hold(alloc, &mut messages, reader.front(size)) {
+        match messages.push(reader.front(size)) {
             Ok(()) => {}
             Err(AllocError) => return last_batch(messages, Some(FeedStop::OutOfMemory)),
         }
@@ -115,7 +115,7 @@ pub fn feed_until<A: Appender, R: Read, F: FeedWatch>(
             };
         }
         let batch = read_whole(alloc, &mut reader, input, watch);
-        let Ok(taken) = give(appender, alloc, batch.messages.as_slice()) else {
+        let Ok(taken) = give(appender, alloc, &batch.messages) else {
             return Fed {
                 messages: before,
                 stop: Some(FeedStop::OutOfMemory),

@@ -17,13 +17,22 @@ use std::sync::Arc;
 
 /// A folder of the system, locked as long as a handle of it is open, its files that are open, and those that are marked
 /// by a name. What the last look at a name found is kept, so that a file that is opened then is known to be that one.
+///
+/// The handle of the file that was closed last is kept too, since a segment is closed after each sync, and opened again
+/// for the next write. It is used once more where the file is opened for the same as before, and a look at its name
+/// since it was closed (`looked_since`) found this very file, of the same mode and owners: to open the name would give
+/// no other file, and wouldn't be refused. It is closed before another file is opened, made or removed, and where
+/// another one is closed. One on which a call failed, or that was to change the mode, isn't kept: so after a sync that
+/// failed the file is opened by its name.
 #[derive(Drop)]
 pub struct SystemDirectory<'a, R: Files> {
     rt: &'a R,
     first_fault: Option<&'a FirstFault>,
     place: Arc<Place<R::File>>,
     open: BTreeMap<u64, Opened<R::File>>,
+    kept: Option<(u64, Opened<R::File>)>,
     looked: Option<(u64, Found)>,
+    looked_since: bool,
     marks: Marks,
 }
 
@@ -45,7 +54,9 @@ where
             first_fault,
             place: Arc::new(rt.alloc(), place)?,
             open: BTreeMap::new(rt.alloc()),
+            kept: None,
             looked: None,
+            looked_since: false,
             marks,
         })
     }
@@ -77,15 +88,28 @@ where
         })
     }
 
-    /// A file that is open.
-    fn opened(&self, file: u64) -> Result<&Opened<R::File>, SystemError> {
-        match self.open.get(&file) {
-            Some(opened) => Ok(opened),
-            None => Err(ErrorKind::NotFound.into()),
+    /// Opens a file by its name.
+    fn open_by_name(&mut self, file: u64, write: bool) -> Result<Opened<R::File>, SystemError> {
+        let path = self.path_of(file)?;
+        let named = self.looked_at(file, path.as_str())?;
+        let _ = self.open.remove(&file);
+        Ok(Opened::open(self.rt, path.as_str(), named, write)?)
+    }
+
+    /// The file that was closed last, opened again, where it is this one, and a look at its name since then found it as
+    /// it was. Else its handle is closed.
+    fn open_again(&mut self, file: u64, write: bool) -> Option<Opened<R::File>> {
+        let (closed, opened) = self.kept.take()?;
+        match self.looked {
+            Some((looked, found)) if self.looked_since && looked == file && closed == file => {
+                opened.again(found, write)
+            }
+            _ => None,
         }
     }
 
-    fn opened_mut(&mut self, file: u64) -> Result<&mut Opened<R::File>, SystemError> {
+    /// A file that is open.
+    fn opened(&mut self, file: u64) -> Result<&mut Opened<R::File>, SystemError> {
         match self.open.get_mut(&file) {
             Some(opened) => Ok(opened),
             None => Err(ErrorKind::NotFound.into()),
@@ -112,7 +136,7 @@ where
     /// Takes the permission to write an open file from everyone. Where that isn't to be, or this user may not do it, the
     /// file is marked by a name.
     fn take_permission(&mut self, file: u64) -> Result<(), SystemError> {
-        match self.opened_mut(file)?.take_permission() {
+        match self.opened(file)?.take_permission() {
             Err(e) if e.kind() == ErrorKind::PermissionDenied => self.mark(file),
             taken => Ok(taken?),
         }
@@ -121,7 +145,7 @@ where
     /// Takes the mark of an open file away, and gives its owner the permission to write it, where nobody has it.
     fn give_permission(&mut self, file: u64) -> Result<(), SystemError> {
         self.unmark(file)?;
-        self.opened_mut(file)?.give_permission()?;
+        self.opened(file)?.give_permission()?;
         Ok(())
     }
 
@@ -129,6 +153,7 @@ where
     fn take_name(&mut self, file: u64) -> Result<bool, SystemError> {
         let path = self.path_of(file)?;
         let _ = self.open.remove(&file);
+        self.kept = None;
         self.looked = None;
         self.unmark(file)?;
         match fs::remove_file(self.rt, path.as_str()) {
@@ -139,14 +164,14 @@ where
     }
 
     /// Writes octets at a place of an open file.
-    fn put(&self, file: u64, at: u64, octets: &[u8]) -> Result<(), SystemError> {
-        self.opened(file)?.file.write_all_at(octets, at)?;
+    fn put(&mut self, file: u64, at: u64, octets: &[u8]) -> Result<(), SystemError> {
+        self.opened(file)?.write(at, octets)?;
         Ok(())
     }
 
     /// Cuts an open file.
-    fn set_length(&self, file: u64, count: u64) -> Result<(), SystemError> {
-        self.opened(file)?.file.set_len(count)?;
+    fn set_length(&mut self, file: u64, count: u64) -> Result<(), SystemError> {
+        self.opened(file)?.set_length(count)?;
         Ok(())
     }
 }
@@ -207,6 +232,7 @@ where
             return Ok(None);
         };
         self.looked = Some((file, found));
+        self.looked_since = true;
         Ok(Some(self.status_of(file, found)?))
     }
 
@@ -215,12 +241,13 @@ where
     }
 
     fn open(&mut self, file: u64, access: Access) -> Result<Status, SystemError> {
-        let path = self.path_of(file)?;
-        let named = self.looked_at(file, path.as_str())?;
-        let _ = self.open.remove(&file);
-        let opened = Opened::open(self.rt, path.as_str(), named, access == Access::Write)?;
+        let write = access == Access::Write;
+        let opened = match self.open_again(file, write) {
+            Some(opened) => opened,
+            None => self.open_by_name(file, write)?,
+        };
         let status = self.status_of(file, opened.found)?;
-        if access == Access::Write && !status.read_only {
+        if write && !status.read_only {
             self.unmark(file)?;
         }
         self.open.insert(file, opened)?;
@@ -228,10 +255,17 @@ where
     }
 
     fn close(&mut self, file: u64) {
-        let _ = self.open.remove(&file);
+        if let Some(opened) = self.open.remove(&file) {
+            self.kept = None;
+            self.looked_since = false;
+            if opened.sound {
+                self.kept = Some((file, opened));
+            }
+        }
     }
 
     fn create(&mut self, file: u64) -> Result<(), SystemError> {
+        self.kept = None;
         self.unmark(file)?;
         let path = self.path_of(file)?;
         let made = Opened::create(self.rt, path.as_str())?;
@@ -269,11 +303,11 @@ where
     }
 
     fn length(&mut self, file: u64) -> Result<u64, SystemError> {
-        Ok(self.opened(file)?.file.metadata()?.len())
+        Ok(self.opened(file)?.length()?)
     }
 
     fn read(&mut self, file: u64, at: u64, octets: &mut [u8]) -> Result<(), SystemError> {
-        self.opened(file)?.file.read_exact_at(octets, at)?;
+        self.opened(file)?.read(at, octets)?;
         Ok(())
     }
 
@@ -294,7 +328,7 @@ where
     }
 
     fn sync(&mut self, file: u64) -> Result<(), SystemError> {
-        self.opened(file)?.file.sync_all()?;
+        self.opened(file)?.sync()?;
         Ok(())
     }
 

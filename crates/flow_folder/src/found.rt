@@ -24,9 +24,13 @@ const NEW: u32 = 0o640;
 pub(crate) struct Found {
     dev: u64,
     ino: u64,
+    mode: u32,
+    uid: u32,
+    gid: u32,
     pub(crate) length: u64,
     pub(crate) read_only: bool,
     pub(crate) changed: Changed,
+    status_changed: Changed,
 }
 
 impl Found {
@@ -35,9 +39,13 @@ impl Found {
         Found {
             dev: metadata.dev(),
             ino: metadata.ino(),
+            mode: metadata.mode(),
+            uid: metadata.uid(),
+            gid: metadata.gid(),
             length: metadata.len(),
             read_only: metadata.mode() & WRITE == 0,
             changed: changed(metadata),
+            status_changed: (metadata.ctime(), metadata.ctime_nsec()),
         }
     }
 
@@ -45,15 +53,27 @@ impl Found {
     fn is_same(self, other: Found) -> bool {
         self.dev == other.dev && self.ino == other.ino
     }
+
+    /// Whether this is the file of an earlier look, and who may open it can't have changed since: it has the same mode
+    /// and owners, and what was changed last, if anything was, are its octets. (A write gives a file one time for both.
+    /// Access lists and the flags of chattr are in no mode; what changes these gives a file the other time alone.)
+    fn is_as_it_was(self, earlier: Found) -> bool {
+        let owned = self.uid == earlier.uid && self.gid == earlier.gid;
+        let unchanged = self.status_changed == earlier.status_changed;
+        let written = self.status_changed == self.changed;
+        self.is_same(earlier) && self.mode == earlier.mode && owned && (unchanged || written)
+    }
 }
 
-/// A file that is open, to be changed or to be read alone, and its mode.
+/// A file that is open, to be changed or to be read alone, what it was found as when it was opened, its mode, and
+/// whether its handle is sound: each call on it was good, and none was to change the mode.
 #[derive(Drop)]
 pub(crate) struct Opened<F> {
     pub(crate) file: F,
     pub(crate) found: Found,
     mode: u32,
     write: bool,
+    pub(crate) sound: bool,
 }
 
 impl<F: FileExt + OpenFile + Drop> Opened<F> {
@@ -77,7 +97,20 @@ impl<F: FileExt + OpenFile + Drop> Opened<F> {
             found,
             mode,
             write,
+            sound: true,
         })
+    }
+
+    /// The same file by the same handle, opened once more after it was closed, where it is to be opened for the same as
+    /// before, and a look at its name since has found this very file, as it was. It has to be sound.
+    pub(crate) fn again(self, named: Found, write: bool) -> Option<Self> {
+        if self.write != write || !named.is_as_it_was(self.found) {
+            return None;
+        }
+        let mut opened = self;
+        opened.found = named;
+        opened.mode = named.mode;
+        Some(opened)
     }
 
     /// Opens the file of this name to be read; there may be none.
@@ -107,12 +140,52 @@ impl<F: FileExt + OpenFile + Drop> Opened<F> {
             found,
             mode,
             write: true,
+            sound: true,
         })
+    }
+
+    /// What a call on it answered.
+    fn answered<T>(&mut self, answer: io::Result<T>) -> io::Result<T> {
+        if answer.is_err() {
+            self.sound = false;
+        }
+        answer
+    }
+
+    /// How many octets it has.
+    pub(crate) fn length(&mut self) -> io::Result<u64> {
+        let metadata = self.file.metadata();
+        Ok(self.answered(metadata)?.len())
+    }
+
+    /// Reads octets from a place on.
+    pub(crate) fn read(&mut self, at: u64, octets: &mut [u8]) -> io::Result<()> {
+        let read = self.file.read_exact_at(octets, at);
+        self.answered(read)
+    }
+
+    /// Writes octets at a place.
+    pub(crate) fn write(&mut self, at: u64, octets: &[u8]) -> io::Result<()> {
+        let written = self.file.write_all_at(octets, at);
+        self.answered(written)
+    }
+
+    /// Cuts it to so many octets.
+    pub(crate) fn set_length(&mut self, count: u64) -> io::Result<()> {
+        let cut = self.file.set_len(count);
+        self.answered(cut)
+    }
+
+    /// Syncs it.
+    pub(crate) fn sync(&mut self) -> io::Result<()> {
+        let synced = self.file.sync_all();
+        self.answered(synced)
     }
 
     /// Takes from everyone the permission to write it. It isn't taken from a file that is open to be changed where others
     /// than its owner may write it: they couldn't give it back, and couldn't change it again.
     pub(crate) fn take_permission(&mut self) -> io::Result<()> {
+        self.sound = false;
         if self.write && self.mode & OTHERS_WRITE != 0 {
             return Err(ErrorKind::PermissionDenied.into());
         }
@@ -121,6 +194,7 @@ impl<F: FileExt + OpenFile + Drop> Opened<F> {
 
     /// Gives its owner the permission to write it, where nobody has it.
     pub(crate) fn give_permission(&mut self) -> io::Result<()> {
+        self.sound = false;
         if self.mode & WRITE != 0 {
             return Ok(());
         }

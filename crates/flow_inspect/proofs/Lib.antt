@@ -1,5 +1,4 @@
 pub mod EndsLoop
 pub mod Following
 pub mod Alone
-pub mod Placing
 pub mod Taking

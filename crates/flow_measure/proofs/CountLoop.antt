@@ -186,7 +186,7 @@ flow_of_counts header vs =
     ) refl
 
 -- what the starts alone decide
-pub by_starts : (own : Option ℕ → Option ℕ → Bool) (vs : List (Role × List ℕ))
+pub by_starts : {X : Type 0} (own : Option ℕ → Option ℕ → X) (vs : List (Role × List ℕ))
     → own (counts_with no_counts vs).milliseconds (counts_with no_counts vs).seconds
     ≡ own (number_in Milliseconds vs) (number_in Seconds vs)
 by_starts own vs = rw (milliseconds_after no_counts vs, seconds_after no_counts vs) refl

@@ -9,6 +9,7 @@ pub mod Keys
 pub mod Merging
 pub mod Noting
 pub mod NumberPlaces
+pub mod OwnStarts
 pub mod Places
 pub mod Putting
 pub mod SinkSteps

@@ -162,7 +162,7 @@ module _ (fs : List (ElementId × ℕ)) (octets : List ℕ) (xs : List Field) (h
       at_places ∙ ap (λ (ys : List Field). flow_from header (values_of ys)) (fields_are fs octets xs h)
 
   -- what the starts alone decide
-  pub by_starts_at_places : (own : Option ℕ → Option ℕ → Bool)
+  pub by_starts_at_places : {X : Type 0} (own : Option ℕ → Option ℕ → X)
       → own (number_at octets (place_of Milliseconds fs)) (number_at octets (place_of Seconds fs))
       ≡ own (number_in Milliseconds (values_of (fields_in fs octets))) (number_in Seconds (values_of (fields_in fs octets)))
   unfolding AreSame

@@ -18,9 +18,13 @@ abbrev pub own_start : Option ℕ → Option ℕ → Option ℕ
 own_start None seconds = seconds
 own_start (Some n) seconds = if nat_le (n / 1000) 4294967295 then Some (n / 1000) else seconds
 
--- the values that count in a record have none
+-- that of the values that count in a record
+abbrev pub own_start_in : List (Role × List ℕ) → Option ℕ
+own_start_in values = own_start (number_in Milliseconds values) (number_in Seconds values)
+
+-- they have none
 abbrev pub has_no_start : List (Role × List ℕ) → Bool
-has_no_start values = is_none (own_start (number_in Milliseconds values) (number_in Seconds values))
+has_no_start values = is_none (own_start_in values)
 
 -- a flow that starts at the Export Time of its message
 abbrev pub is_placed : RawRecord → Bool

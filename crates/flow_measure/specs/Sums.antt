@@ -40,6 +40,10 @@ plus a b = record { flows = a.flows + b.flows; octets = a.octets + b.octets; pac
 abbrev pub Fits : Sums → Type 0
 Fits s = (s.flows < 2 ^ 64) × (s.octets < 2 ^ 128) × (s.packets < 2 ^ 128)
 
+-- each sum is in the lower half of its type, so that it has room for a flow
+abbrev pub HasRoom : Sums → Type 0
+HasRoom s = (s.flows < 2 ^ 63) × (s.octets < 2 ^ 127) × (s.packets < 2 ^ 127)
+
 -- all sums under a key
 abbrev pub under : Key → List (Key × Sums) → List Sums
 under key es = map (λ e. e.1) (filter (λ e. is_key key e.0) es)

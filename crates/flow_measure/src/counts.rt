@@ -9,7 +9,7 @@ ghost use Rattle.flow_codec.specs.Raw.{IsWholeRecord};
 ghost use Rattle.flow_elements.specs.Values.{number_of};
 ghost use Rattle.flow_measure.specs.Counting.{no_counts, with_value, counts_with, flow_by, step_values, step_rest};
 ghost use Rattle.flow_measure.specs.Counting.{IsStep, IsPlace, IsWide, ArePlaces, number_at, counts_at};
-ghost use Rattle.flow_measure.specs.Caveats.{has_no_start, own_start};
+ghost use Rattle.flow_measure.specs.Caveats.{has_no_start, own_start, own_start_in};
 ghost use Rattle.flow_measure.specs.Flows.{start_of, flow_from};
 
 use crate::flow::Flow;
@@ -94,29 +94,24 @@ impl Counts {
     }
 }
 
-/// Milliseconds in seconds where these fit, else seconds, else the message's Export Time.
-fn start_of(time: u32, milliseconds: Option<u64>, seconds: Option<u32>) -> u32
-    ensures { result ≡ start_of time milliseconds seconds }
+/// The start of a record's own: milliseconds in seconds where these fit, else seconds.
+fn own_start(milliseconds: Option<u64>, seconds: Option<u32>) -> Option<u32>
+    ensures { result ≡ own_start milliseconds seconds }
 {
     if let Some(n) = milliseconds {
         let start = n / 1000;
         if start <= 4294967295 {
-            return start as u32;
+            return Some(start as u32);
         }
     }
-    seconds.unwrap_or(time)
+    seconds
 }
 
-/// Whether there is neither a start in milliseconds that fit in 32 bits of seconds, nor one in seconds.
-fn has_none(milliseconds: Option<u64>, seconds: Option<u32>) -> bool
-    ensures { result ≡ is_none (own_start milliseconds seconds) }
+/// The start of a record's own, else the message's Export Time.
+fn start_of(time: u32, milliseconds: Option<u64>, seconds: Option<u32>) -> u32
+    ensures { result ≡ start_of time milliseconds seconds }
 {
-    if let Some(n) = milliseconds {
-        if n / 1000 <= 4294967295 {
-            return false;
-        }
-    }
-    seconds.is_none()
+    own_start(milliseconds, seconds).unwrap_or(time)
 }
 
 /// The numbers that count under these steps.
@@ -134,18 +129,20 @@ fn counts_by(steps: &[FieldStep], octets: &[u8]) -> Counts
 }
 
 /// The number at a place of a record.
-fn number_at(octets: &[u8], place: Option<Place>) -> Option<u64>
-    requires { (role : Role) × IsPlace role octets.now place }
-    ensures { result ≡ number_at octets.now place }
+#[inline(always)]
+fn number_at(octets: &[u8], place: &Option<Place>) -> Option<u64>
+    requires { (role : Role) × IsPlace role octets.now place.now }
+    ensures { result ≡ number_at octets.now place.now }
 {
-    let place = place?;
+    let Some(place) = place else {
+        return None;
+    };
     let at = place.at as usize;
-    let value = &octets[at..at + place.len as usize];
     // The length that nearly all exporters use is looked for first.
-    if value.len() == 8 {
-        return Some(number_of(value));
+    if place.len == 8 {
+        return Some(number_of(&octets[at..at + 8]));
     }
-    Some(reduced_number_of(value))
+    Some(reduced_number_of(&octets[at..at + place.len as usize]))
 }
 
 /// A number in at most 8 octets, the highest first, as in reduced-size encoding (RFC 7011, section 6.2).
@@ -192,32 +189,20 @@ fn milliseconds_at(octets: &[u8], place: Option<Place>) -> Option<u64>
     Some(number_of(&octets[at..at + 8]))
 }
 
-/// The numbers at these places of a record.
+/// The start of its own of a record whose numbers are at these places.
 #[inline(always)]
-fn counts_at(octets: &[u8], places: &Places) -> Counts
+fn own_start_at(octets: &[u8], places: &Places) -> Option<u32>
     requires { ArePlaces octets.now places.now }
-    ensures { result ≡ counts_at octets.now places.now }
+    ensures { result ≡ own_start (counts_at octets.now places.now).milliseconds
+        (counts_at octets.now places.now).seconds }
 {
-    Counts {
-        octets: number_at(octets, places.octets),
-        packets: number_at(octets, places.packets),
-        protocol: protocol_at(octets, places.protocol),
-        seconds: seconds_at(octets, places.seconds),
-        milliseconds: milliseconds_at(octets, places.milliseconds),
+    if let Some(n) = milliseconds_at(octets, places.milliseconds) {
+        let start = n / 1000;
+        if start <= 4294967295 {
+            return Some(start as u32);
+        }
     }
-}
-
-/// The flow of a whole record of a Template. Where each field is of fixed length, its numbers are read at their places.
-#[inline(always)]
-pub fn flow_of(header: &Header, definition: &Definition, octets: &[u8]) -> Flow
-    requires { IsWholeRecord definition.now octets.now }
-    ensures { result ≡ flow_from header.now (values_of (fields_in definition.now.fields octets.now)) }
-{
-    let counts = match &definition.plan().way {
-        Way::ByPlaces(places) => counts_at(octets, places),
-        Way::BySteps(steps) => counts_by(steps.as_slice(), octets),
-    };
-    counts.flow(header)
+    seconds_at(octets, places.seconds)
 }
 
 /// When the flow of a record starts whose numbers are at these places.
@@ -226,12 +211,69 @@ fn start_at(header: &Header, octets: &[u8], places: &Places) -> u32
     requires { ArePlaces octets.now places.now }
     ensures { result ≡ (flow_by header.now (counts_at octets.now places.now)).start }
 {
-    let milliseconds = milliseconds_at(octets, places.milliseconds);
-    start_of(
-        header.time,
-        milliseconds,
-        seconds_at(octets, places.seconds),
-    )
+    own_start_at(octets, places).unwrap_or(header.time)
+}
+
+/// The flow of a record whose numbers are at these places.
+#[inline(always)]
+fn flow_at(header: &Header, octets: &[u8], places: &Places) -> Flow
+    requires { ArePlaces octets.now places.now }
+    ensures { result ≡ flow_by header.now (counts_at octets.now places.now) }
+{
+    Flow {
+        domain: header.domain,
+        start: start_at(header, octets, places),
+        protocol: protocol_at(octets, places.protocol),
+        octets: number_at(octets, &places.octets).unwrap_or(0),
+        packets: number_at(octets, &places.packets).unwrap_or(0),
+    }
+}
+
+/// The flow of a record by these steps. It is a function of its own so that their numbers take no memory where the
+/// places are known.
+#[inline(always)]
+fn flow_by(header: &Header, steps: &[FieldStep], octets: &[u8]) -> Flow
+    requires { AllByRecursion IsStep steps.now }
+    ensures { result ≡ flow_by header.now (counts_with no_counts (values_by steps.now octets.now)) }
+{
+    counts_by(steps, octets).flow(header)
+}
+
+/// The flow of a whole record of a Template. Where each field is of fixed length, its numbers are read at their places.
+#[inline(always)]
+pub fn flow_of(header: &Header, definition: &Definition, octets: &[u8]) -> Flow
+    requires { IsWholeRecord definition.now octets.now }
+    ensures { result ≡ flow_from header.now (values_of (fields_in definition.now.fields octets.now)) }
+{
+    match &definition.plan().way {
+        Way::ByPlaces(places) => flow_at(header, octets, places),
+        Way::BySteps(steps) => flow_by(header, steps.as_slice(), octets),
+    }
+}
+
+/// The start of its own of a record that is read by these steps.
+#[inline(never)]
+fn own_start_by(steps: &[FieldStep], octets: &[u8]) -> Option<u32>
+    requires { AllByRecursion IsStep steps.now }
+    ensures { result ≡ own_start (counts_with no_counts (values_by steps.now octets.now)).milliseconds
+        (counts_with no_counts (values_by steps.now octets.now)).seconds }
+{
+    let counts = counts_by(steps, octets);
+    own_start(counts.milliseconds, counts.seconds)
+}
+
+/// The start, in seconds since 1970-01-01 00:00 UTC, that a whole record of a Template has of its own: milliseconds
+/// where they fit in 32 bits of seconds, else seconds; none where its flow starts at the Export Time of its message.
+/// Where each field is of fixed length, nothing else of it is read.
+#[inline(always)]
+pub fn own_start_of(definition: &Definition, octets: &[u8]) -> Option<u32>
+    requires { IsWholeRecord definition.now octets.now }
+    ensures { result ≡ own_start_in (values_of (fields_in definition.now.fields octets.now)) }
+{
+    match &definition.plan().way {
+        Way::ByPlaces(places) => own_start_at(octets, places),
+        Way::BySteps(steps) => own_start_by(steps.as_slice(), octets),
+    }
 }
 
 /// When the flow of a whole record of a Template starts. Where each field is of fixed length, nothing else of it is
@@ -241,21 +283,7 @@ pub fn start_of_flow(header: &Header, definition: &Definition, octets: &[u8]) ->
     requires { IsWholeRecord definition.now octets.now }
     ensures { result ≡ (flow_from header.now (values_of (fields_in definition.now.fields octets.now))).start }
 {
-    match &definition.plan().way {
-        Way::ByPlaces(places) => start_at(header, octets, places),
-        Way::BySteps(steps) => counts_by(steps.as_slice(), octets).flow(header).start,
-    }
-}
-
-/// Whether the record whose numbers are at these places has no start.
-#[inline(always)]
-fn has_none_at(octets: &[u8], places: &Places) -> bool
-    requires { ArePlaces octets.now places.now }
-    ensures { result ≡ is_none (own_start (counts_at octets.now places.now).milliseconds
-        (counts_at octets.now places.now).seconds) }
-{
-    let milliseconds = milliseconds_at(octets, places.milliseconds);
-    has_none(milliseconds, seconds_at(octets, places.seconds))
+    own_start_of(definition, octets).unwrap_or(header.time)
 }
 
 /// Whether a whole record of a Template has no start that counts, so that its flow starts at the Export Time of its
@@ -265,11 +293,5 @@ pub fn has_no_start(definition: &Definition, octets: &[u8]) -> bool
     requires { IsWholeRecord definition.now octets.now }
     ensures { result ≡ has_no_start (values_of (fields_in definition.now.fields octets.now)) }
 {
-    match &definition.plan().way {
-        Way::ByPlaces(places) => has_none_at(octets, places),
-        Way::BySteps(steps) => {
-            let counts = counts_by(steps.as_slice(), octets);
-            has_none(counts.milliseconds, counts.seconds)
-        }
-    }
+    own_start_of(definition, octets).is_none()
 }

@@ -1,14 +1,15 @@
 //! Sums by key, in the order in which their keys came, and the place of each key.
 
 ghost use Rattle.std.specs.Prelude.{◌<◌, ◌≡◌, ◌++◌, ◌∷◌, [], List, None, Some, slice_get, IfOk, OnOk, OnErr};
-ghost use Rattle.std.specs.Prelude.{ℕ, MatchResult, true};
+ghost use Rattle.std.specs.Prelude.{ℕ, ◌^◌, MatchResult, IfSome, true};
 ghost use Rattle.std.specs.FinMap.{entries, get, insert};
 ghost use Rattle.flow_measure.specs.Entries.{place_of, map_of, added_to, table_at, Adds, AreOnce};
 ghost use Rattle.flow_measure.specs.Entries.{with_sums_at, without_last, undone, all_undone, is_noted};
-ghost use Rattle.flow_measure.specs.Sums.{Fits, AllFit, IsRefused, Becomes, merged, with_sums};
+ghost use Rattle.flow_measure.specs.Sums.{counted, Fits, HasRoom, AllFit, IsRefused, Becomes, merged, with_sums};
 ghost use Rattle.flow_measure.specs.declared.entries.Change.TheVariants as Change;
 
 use crate::error::SumError;
+use crate::flow::Flow;
 use crate::rows::{Key, Sums};
 use crate::walk::InOrder;
 use std::alloc::{AllocError, Global};
@@ -81,14 +82,23 @@ impl Entries {
         self.items.get(place).copied()
     }
 
+    /// Whether the key at a place is this one.
+    #[inline(always)]
+    fn is_at(&self, place: usize, key: &Key) -> bool
+        ensures { result ≡ true → place_of key.now self.now ≡ Some place }
+    {
+        match self.get(place) {
+            Some((here, _)) => here == *key,
+            None => false,
+        }
+    }
+
     /// The place of a key, looked for first at `near`.
     fn find(&self, near: usize, key: Key) -> Option<usize>
         ensures { result ≡ place_of key self.now }
     {
-        if let Some((here, _)) = self.get(near) {
-            if here == key {
-                return Some(near);
-            }
+        if self.is_at(near, &key) {
+            return Some(near);
         }
         self.search(Key { ..key })
     }
@@ -130,19 +140,79 @@ impl Entries {
         Ok(())
     }
 
-    /// Adds sums under a key. A new key is put from copies, so that all else stays in registers.
-    #[inline(always)]
-    pub(crate) fn put(&mut self, key: Key, sums: Sums) -> Result<(), SumError>
+    /// Adds sums under a key, which is searched for; its place is then at this index of `recent`.
+    #[inline(never)]
+    fn put_elsewhere(&mut self, slot: usize, key: Key, sums: Sums) -> Result<(), SumError>
+        requires { slot < 1024 }
         ensures { Adds result key sums (map_of self.old) (map_of self.new) }
     {
-        let slot = recent_slot(&key);
-        if let Some(place) = self.find(self.recent[slot], key) {
+        if let Some(place) = self.search(Key { ..key }) {
             self.recent[slot] = place;
             return self.increase(place, key, sums);
         }
         self.recent[slot] = self.items.len();
-        self.push(Key { ..key }, Sums { ..sums })?;
+        self.push(key, sums)?;
         Ok(())
+    }
+
+    /// Adds sums under a key.
+    pub(crate) fn put(&mut self, key: Key, sums: Sums) -> Result<(), SumError>
+        ensures { Adds result key sums (map_of self.old) (map_of self.new) }
+    {
+        let slot = recent_slot(&key);
+        let near = self.recent[slot];
+        if self.is_at(near, &key) {
+            return self.increase(near, key, sums);
+        }
+        self.put_elsewhere(slot, key, sums)
+    }
+
+    /// Whether this key is at a place, with sums that have room for a flow.
+    #[inline(always)]
+    fn takes(&self, place: usize, key: &Key) -> bool
+        ensures { result ≡ true → (total : Sums) × (slice_get self.now place ≡ Some (key.now, total)) × HasRoom total }
+    {
+        match self.get(place) {
+            Some((here, total)) => here == *key && total.has_room(),
+            None => false,
+        }
+    }
+
+    /// Adds a flow to the sums of its key, which is at this place, and whose sums have room for it.
+    #[inline(always)]
+    fn count(&mut self, place: usize, key: &Key, flow: &Flow)
+        requires { (total : Sums) × (slice_get self.old place ≡ Some (key.now, total)) × HasRoom total }
+        ensures fits { Fits (added_to (get (map_of self.old) key.now) (counted flow.now)) }
+        ensures adds { map_of self.new ≡ insert (map_of self.old) key.now
+            (added_to (get (map_of self.old) key.now) (counted flow.now)) }
+    {
+        self.items[place].1.count(flow);
+    }
+
+    /// Adds a flow under its key, wherever that is. It is a function of its own so that what it takes by memory is
+    /// written there alone.
+    #[inline(always)]
+    fn add_elsewhere(&mut self, slot: usize, key: Key, flow: &Flow) -> Result<(), SumError>
+        requires { slot < 1024 }
+        ensures { Adds result key (counted flow.now) (map_of self.old) (map_of self.new) }
+    {
+        self.put_elsewhere(slot, key, flow.sums())
+    }
+
+    /// Adds a flow under its key: at once where that key is the one looked for first, and its sums have room.
+    #[inline(always)]
+    pub(crate) fn add(&mut self, key: Key, flow: &Flow) -> Result<(), SumError>
+        ensures adds { Adds result key (counted flow.now) (map_of self.old) (map_of self.new) }
+        // The key's numbers fit their types.
+        ensures typed { (key.domain < 2 ^ 32) × IfSome key.protocol (λ p. p < 2 ^ 8) }
+    {
+        let slot = recent_slot(&key);
+        let near = self.recent[slot];
+        if self.takes(near, &key) {
+            self.count(near, &key, flow);
+            return Ok(());
+        }
+        self.add_elsewhere(slot, Key { ..key }, flow)
     }
 
     /// Puts sums at a place, under the key there. At a place without a key it does nothing.

@@ -1,7 +1,9 @@
 //! Flows, and the intervals that they fall in.
 
 ghost use Rattle.std.specs.Prelude.{◌≡◌, ◌<◌};
-ghost use Rattle.flow_measure.specs.Sums.{interval_of};
+ghost use Rattle.flow_measure.specs.Sums.{counted, interval_of};
+
+use crate::rows::Sums;
 
 /// What one data record counts.
 #[derive(Clone, Copy, Debug, PartialEq, Eq)]
@@ -16,6 +18,20 @@ pub struct Flow {
     pub octets: u64,
     /// Packets of the flow in the record's time.
     pub packets: u64,
+}
+
+impl Flow {
+    /// What it adds to the sums of its key.
+    #[inline(always)]
+    pub(crate) fn sums(&self) -> Sums
+        ensures { result ≡ counted self.now }
+    {
+        Sums {
+            flows: 1,
+            octets: u128::from(self.octets),
+            packets: u128::from(self.packets),
+        }
+    }
 }
 
 /// The start of the interval that holds a moment, both in seconds: the greatest multiple of the width up to it

@@ -22,7 +22,7 @@ mod trial;
 mod walk;
 
 pub use adder::Adder;
-pub use counts::{flow_of, has_no_start, start_of_flow};
+pub use counts::{flow_of, has_no_start, own_start_of, start_of_flow};
 pub use error::SumError;
 pub use fields::flows_of_message;
 pub use flow::{Flow, interval_of};

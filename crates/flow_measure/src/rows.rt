@@ -4,7 +4,8 @@ ghost use Rattle.std.specs.Prelude.{◌≡◌, ◌<◌, ◌≤◌, ◌%◌, true
 ghost use Rattle.std.specs.FinMap as finite;
 ghost use Rattle.std.specs.List.{AllByRecursion};
 ghost use Rattle.std.specs.Option.{SomeIff};
-ghost use Rattle.flow_measure.specs.Sums.{key_of, plus, Fits, empty_table, with_flow, with_sums, with_entries, merged};
+ghost use Rattle.flow_measure.specs.Sums.{key_of, counted, plus, Fits, HasRoom, empty_table, with_flow, with_sums};
+ghost use Rattle.flow_measure.specs.Sums.{with_entries, merged};
 ghost use Rattle.flow_measure.specs.Sums.{widened, rows_between, AreSound, AreSums, AllFit, Becomes, IsRefused};
 ghost use Rattle.flow_measure.specs.Entries.{map_of, table_at};
 ghost use Rattle.flow_measure.specs.declared.flow.Flow.{Flow};
@@ -45,6 +46,26 @@ impl Sums {
             octets: self.octets.checked_add(other.octets)?,
             packets: self.packets.checked_add(other.packets)?,
         })
+    }
+
+    /// Whether each of the sums is in the lower half of its type, so that a flow can be added with no more asked.
+    #[inline(always)]
+    pub(crate) fn has_room(&self) -> bool
+        ensures { result ≡ true → HasRoom self.now }
+    {
+        self.flows < 1 << 63 && self.octets < 1 << 127 && self.packets < 1 << 127
+    }
+
+    /// Adds a flow.
+    #[inline(always)]
+    pub(crate) fn count(&mut self, flow: &Flow)
+        requires { HasRoom self.old }
+        ensures sum { self.new ≡ plus self.old (counted flow.now) }
+        ensures fit { Fits self.new }
+    {
+        self.flows += 1;
+        self.octets += u128::from(flow.octets);
+        self.packets += u128::from(flow.packets);
     }
 }
 
@@ -147,12 +168,7 @@ impl Rows {
             domain: flow.domain,
             protocol: flow.protocol,
         };
-        let sums = Sums {
-            flows: 1,
-            octets: u128::from(flow.octets),
-            packets: u128::from(flow.packets),
-        };
-        self.put(key, sums)
+        self.entries.add(key, flow)
     }
 
     /// Adds sums of keys, each under the key of the interval that holds its start. After an `Err` some may have been

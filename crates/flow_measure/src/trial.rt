@@ -77,12 +77,7 @@ impl Trial {
             domain: flow.domain,
             protocol: flow.protocol,
         };
-        let sums = Sums {
-            flows: 1,
-            octets: u128::from(flow.octets),
-            packets: u128::from(flow.packets),
-        };
-        self.put(key, sums)
+        self.put(key, flow.sums())
     }
 
     /// The rows with all that was added.

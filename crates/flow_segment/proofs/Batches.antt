@@ -183,7 +183,7 @@ kept_on undo octets old mid new was (inr leaves) taken =
     (ap (λ (c : Carry). c.templates) taken.3 ∙ leaves mid.templates (taken.0).message (taken.0).after taken.2) ∙ was
 
 -- of a refused message nothing is put back
-pub kept_by : {X E : Type 0} (r : Result X E) (undo : Undo) (old mid new : Carry) → IfErr r (λ _. new ≡ mid)
+pub kept_by : {X E : Type 0} (r : Result X E) (undo : Undo) (old mid new : Carry) → OnErr r (new ≡ mid)
     → restored mid.templates undo ≡ old → OnErr r (restored new.templates undo ≡ old)
 kept_by (Ok x) undo old mid new same was = tt
 kept_by (Err e) undo old mid new same was = ap (λ (c : Carry). restored c.templates undo) same ∙ was

@@ -12,5 +12,6 @@ pub mod FewMessages
 pub mod FlowsFit
 pub mod Batches
 pub mod NotingStarts
-mod NotingCaveats
+pub mod NotingCaveats
+pub mod Noted
 pub mod Sure

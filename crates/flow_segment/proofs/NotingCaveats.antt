@@ -1,7 +1,8 @@
 -- Flows that are summed otherwise than their exporter may mean, with those of one record more.
-use Rattle.std.proofs.Common.{◌≡◌, ◌∙◌, ℕ, ◌+◌, ◌-◌, ◌^◌, Bool, List, [], ◌∷◌, ◌++◌, Option, Some, None, sym, ap, arith}
+use Rattle.std.proofs.Common.{◌≡◌, ◌∙◌, ℕ, ◌+◌, ◌-◌, ◌^◌, Bool, List, [], ◌∷◌, ◌++◌, sym, ap, arith}
 use Rattle.std.proofs.Common.{refl}
-use Rattle.std.specs.Prelude.{true, false, cond, min, count_by, option_map}
+use Rattle.std.specs.Prelude.{true, false, cond, min, count_by, is_some, not, Option, Some, None}
+use Rattle.std.specs.Option.{is_none}
 use Rattle.std.proofs.lemmas.List.Sums.{fold-append}
 use Rattle.flow_codec.specs.declared.losses.CaveatCounts.{CaveatCounts}
 use Rattle.flow_codec.specs.declared.message.Header.{Header}
@@ -11,9 +12,8 @@ use Rattle.flow_codec.specs.Layout.{Layout}
 use Rattle.flow_codec.specs.Losses.{both_caveats, no_caveats}
 use Rattle.flow_codec.specs.Plan.{values_of}
 use Rattle.flow_codec.specs.Raw.{Placed, raw}
-use Rattle.flow_measure.specs.declared.span.PartSpan.{PartSpan}
 use Rattle.flow_measure.specs.Caveats.{has_no_start, is_placed, with_caveats}
-use Rattle.flow_segment.specs.Spans.{caveats_of, AreCaveatsNoted}
+use Rattle.flow_segment.specs.Spans.{caveats_where}
 
 -- a count that stops at a limit, with one record more
 counted_more : (p : Placed → Bool) (taken : List Placed) (x : Placed) (first : ℕ) (b : Bool) → p x ≡ b
@@ -50,37 +50,32 @@ module _ (start : CaveatCounts) (taken : List Placed) (header : Header) (id : �
         (not_counted (λ y. is_sampled y.1) taken x start.sampled (rw kind refl))
 
     -- one of a Template
-    more : layout.options ≡ false
-        → both_caveats (with_caveats start taken) (caveats_of layout octets) ≡ with_caveats start (taken ++ x ∷ [])
-    more kind = sym (alike _ _ _ _ _ _
-        (counted_more (λ y. is_placed y.1) taken x start.placed
-        (has_no_start (values_of (fields_in layout.fields octets))) (rw kind refl))
+    more : layout.options ≡ false → (placed : Bool)
+        → placed ≡ has_no_start (values_of (fields_in layout.fields octets))
+        → both_caveats (with_caveats start taken) (caveats_where placed layout) ≡ with_caveats start (taken ++ x ∷ [])
+    more kind placed own = sym (alike _ _ _ _ _ _
+        (counted_more (λ y. is_placed y.1) taken x start.placed placed (rw kind (sym own)))
         (counted_more (λ y. is_uncounted y.1) taken x start.uncounted (are_uncounted (elements_of layout.fields))
         (rw kind refl))
         (counted_more (λ y. is_sampled y.1) taken x start.sampled (elements_of layout.fields).rate (rw kind refl)))
 
-    pub option_more : layout.options ≡ true → (span : Option PartSpan) (old : CaveatCounts)
-        → AreCaveatsNoted span start taken old → AreCaveatsNoted span start (taken ++ x ∷ []) old
-    option_more kind None old h = h ∙ same kind
-    option_more kind (Some s) old h = h
+    pub option_more : layout.options ≡ true → (old : CaveatCounts) → old ≡ with_caveats start taken
+        → old ≡ with_caveats start (taken ++ x ∷ [])
+    option_more kind old h = h ∙ same kind
 
-    -- where starts are noted
-    pub start_more : (span now : Option PartSpan) (f : PartSpan → PartSpan) (s : PartSpan) (old : CaveatCounts)
-        → now ≡ option_map f span → now ≡ Some s → AreCaveatsNoted span start taken old
-        → AreCaveatsNoted span start (taken ++ x ∷ []) old
-    start_more None now f s old is was h = let wrong = sym was ∙ is in absurd cc
-    start_more (Some p) now f s old is was h = h
-
-    -- where they aren't
-    pub flow_more : layout.options ≡ false → (span now : Option PartSpan) (f : PartSpan → PartSpan) (old new : CaveatCounts)
-        → now ≡ option_map f span → now ≡ None → new ≡ both_caveats old (caveats_of layout octets)
-        → AreCaveatsNoted span start taken old → AreCaveatsNoted span start (taken ++ x ∷ []) new
-    flow_more kind None now f old new is was added h =
-        added ∙ ap (λ (c : CaveatCounts). both_caveats c (caveats_of layout octets)) h ∙ more kind
-    flow_more kind (Some p) now f old new is was added h = let wrong = sym was ∙ is in absurd cc
+    pub flow_more : layout.options ≡ false → (placed : Bool)
+        → placed ≡ has_no_start (values_of (fields_in layout.fields octets)) → (old new : CaveatCounts)
+        → new ≡ both_caveats old (caveats_where placed layout) → old ≡ with_caveats start taken
+        → new ≡ with_caveats start (taken ++ x ∷ [])
+    flow_more kind placed own old new added h =
+        added ∙ ap (λ (c : CaveatCounts). both_caveats c (caveats_where placed layout)) h ∙ more kind placed own
 
 -- before any record
-pub none_noted : (span : Option PartSpan) (old : CaveatCounts) → old ≡ no_caveats
-    → AreCaveatsNoted span no_caveats [] old
-none_noted None old is = is ∙ alike _ _ _ _ _ _ (omega arith) (omega arith) (omega arith)
-none_noted (Some s) old is = is
+pub none_noted : (old : CaveatCounts) → old ≡ no_caveats → old ≡ with_caveats no_caveats []
+none_noted old is = is ∙ alike _ _ _ _ _ _ (omega arith) (omega arith) (omega arith)
+
+pub none_of : (o : Option ℕ) (none : Bool) → is_some o ≡ not none → none ≡ is_none o
+none_of None true is = refl
+none_of None false is = absurd cc
+none_of (Some n) true is = absurd cc
+none_of (Some n) false is = refl

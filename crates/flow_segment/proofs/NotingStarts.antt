@@ -35,17 +35,6 @@ module _ (start_records : ℕ) (start_span : Option PartSpan) (taken : List Plac
   abbrev all : List Flow
   all = flows_of_records (taken ++ x ∷ [])
 
-  -- nothing is noted
-  pub unnoted_more : (span : Option PartSpan) → span ≡ None → HasNoted start_records start_span taken old span
-      → HasNoted start_records start_span (taken ++ x ∷ []) count span
-  unnoted_more span none h =
-      (one_more start_records count old taken x is h.0, by start_span (sym h.1 ∙ none))
-    where
-      by : (s : Option PartSpan) → option_map (λ p. with_starts p (starts_of (flows_of_records taken))) s ≡ None
-          → span ≡ option_map (λ p. with_starts p (starts_of all)) s
-      by None k = none
-      by (Some p) k = absurd cc
-
   -- a record without a flow
   pub same_more : (span : Option PartSpan) → all ≡ flows_of_records taken
       → HasNoted start_records start_span taken old span
@@ -56,19 +45,21 @@ module _ (start_records : ℕ) (start_span : Option PartSpan) (taken : List Plac
   )
 
   -- a flow
-  pub start_more : (f : Flow) (old_span span : Option PartSpan) (s : PartSpan) → all ≡ flows_of_records taken ++ f ∷ []
-      → old_span ≡ Some s → span ≡ Some (with_start f.start s)
-      → HasNoted start_records start_span taken old old_span
+  pub start_more : (f : Flow) (old_span span : Option PartSpan) → all ≡ flows_of_records taken ++ f ∷ []
+      → span ≡ option_map (λ s. with_start f.start s) old_span → HasNoted start_records start_span taken old old_span
       → HasNoted start_records start_span (taken ++ x ∷ []) count span
-  start_more f old_span span s more was now h =
-      (one_more start_records count old taken x is h.0, by start_span (sym was ∙ h.1))
+  start_more f old_span span more now h = (
+    one_more start_records count old taken x is h.0,
+    now ∙ ap (option_map (λ s. with_start f.start s)) h.1 ∙ by start_span,
+  )
     where
-      by : (o : Option PartSpan) → Some s ≡ option_map (λ p. with_starts p (starts_of (flows_of_records taken))) o
-          → span ≡ option_map (λ p. with_starts p (starts_of all)) o
-      by None k = absurd cc
-      by (Some p) k =
-          now ∙ ap (option_map (with_start f.start)) k
-          ∙ ap Some (sym (flows_then p (flows_of_records taken) (f ∷ []))
+      by : (o : Option PartSpan)
+          → option_map (λ s. with_start f.start s)
+          (option_map (λ p. with_starts p (starts_of (flows_of_records taken))) o)
+          ≡ option_map (λ p. with_starts p (starts_of all)) o
+      by None = refl
+      by (Some p) =
+          ap Some (sym (flows_then p (flows_of_records taken) (f ∷ []))
           ∙ ap (λ (fs : List Flow). with_starts p (starts_of fs)) (sym more))
 
 same_option : (o : Option PartSpan) → o ≡ option_map (λ p. with_starts p (starts_of (flows_of_records []))) o
@@ -100,3 +91,17 @@ all_then ms x None = refl
 all_then ms x (Some s) =
     ap Some (sym (flows_then s (flows_in ms) (flows_of (in_fields x.message)))
     ∙ ap (λ (fs : List Flow). with_starts s (starts_of fs)) (sym (flows_more ms x)))
+
+-- those of several messages after others
+pub all_after : (xs ys : List Accepted) (start : Option PartSpan)
+    → all_noted ys (all_noted xs start) ≡ all_noted (xs ++ ys) start
+all_after xs ys None = refl
+all_after xs ys (Some s) =
+    ap Some (sym (flows_then s (flows_in xs) (flows_in ys))
+    ∙ ap (λ (fs : List Flow). with_starts s (starts_of fs))
+    (sym (flat_map-append (λ (a : Accepted). flows_of (in_fields a.message)) xs ys)))
+
+-- those of no message
+pub none_after : (start : Option PartSpan) → start ≡ all_noted [] start
+none_after None = refl
+none_after (Some s) = refl

@@ -60,6 +60,19 @@ pub joined_octets : (xs : List (List ℕ)) (x : List ℕ) → IsOctets (joined x
 joined_octets xs x h k =
     by_index (joined (xs ++ x ∷ [])) (joined_bytes xs x (of_index (joined xs) h) (of_index x k))
 
+all_joined_bytes : (xs ys : List (List ℕ)) → AreBytes (joined xs) → AreBytes (joined ys)
+    → AreBytes (joined (xs ++ ys))
+all_joined_bytes [] ys h k = k
+all_joined_bytes (x ∷ xs) ys h k =
+    let parts = parted x (joined xs) h in
+    bytes_then x (joined (xs ++ ys)) parts.0 (all_joined_bytes xs ys parts.1 k)
+
+-- those of several messages more
+pub all_joined_octets : (xs ys : List (List ℕ)) → IsOctets (joined xs) → IsOctets (joined ys)
+    → IsOctets (joined (xs ++ ys))
+all_joined_octets xs ys h k =
+    by_index (joined (xs ++ ys)) (all_joined_bytes xs ys (of_index (joined xs) h) (of_index (joined ys) k))
+
 pub no_octets : IsOctets (joined [])
 no_octets = by_index [] tt
 

@@ -3,18 +3,15 @@ use Rattle.std.specs.Prelude.{◌≡◌, ℕ, ◌+◌, ◌%◌, ◌^◌, Bool, t
 use Rattle.flow_codec.specs.declared.losses.CaveatCounts.{CaveatCounts}
 use Rattle.flow_codec.specs.Caveats.{are_uncounted, elements_of}
 use Rattle.flow_codec.specs.Fault.{IsOctets}
-use Rattle.flow_codec.specs.Fields.{fields_in}
 use Rattle.flow_codec.specs.Layout.{Layout}
 use Rattle.flow_codec.specs.Message.{in_fields, joined}
-use Rattle.flow_codec.specs.Plan.{values_of}
 use Rattle.flow_codec.specs.Raw.{Placed, RawMessage}
 use Rattle.flow_codec.specs.Replaced.{one_if}
 use Rattle.flow_codec.specs.Templates.{AllTemplates}
 use Rattle.flow_measure.specs.declared.span.PartSpan.{PartSpan}
-use Rattle.flow_measure.specs.Caveats.{has_no_start, with_caveats}
 use Rattle.flow_measure.specs.Flows.{flows_of, flows_of_records}
-use Rattle.flow_measure.specs.History.{Accepted, AreAcceptedFrom, flows_in}
-use Rattle.flow_measure.specs.Span.{is_outside, span_of, starts_of, with_starts}
+use Rattle.flow_measure.specs.History.{Accepted, AreAcceptedFrom, flows_in, templates_from}
+use Rattle.flow_measure.specs.Span.{is_outside, no_span, span_of, starts_of, with_starts}
 use Rattle.flow_segment.specs.Carry.{octets_of}
 use Rattle.flow_segment.specs.PartFlows.{ArePartMessages}
 use Rattle.flow_segment.specs.Prefix.{IsRestated}
@@ -35,18 +32,21 @@ HasNoted start_records start_span taken records span =
     (records % 2 ^ 32 ≡ (start_records + length taken) % 2 ^ 32)
     × (span ≡ option_map (λ s. with_starts s (starts_of (flows_of_records taken))) start_span)
 
--- of the flow of a record of a Template: whether it is summed otherwise
-abbrev pub caveats_of : Layout → List ℕ → CaveatCounts
-caveats_of layout octets = record {
-  placed = one_if (has_no_start (values_of (fields_in layout.fields octets)));
+-- of the flow of a record of a Template, which may have no start of its own: whether it is summed otherwise
+abbrev pub caveats_where : Bool → Layout → CaveatCounts
+caveats_where placed layout = record {
+  placed = one_if placed;
   uncounted = one_if (are_uncounted (elements_of layout.fields));
   sampled = one_if (elements_of layout.fields).rate;
 }
 
--- Flows that are summed otherwise than their exporter may mean were counted, where starts aren't noted.
-abbrev pub AreCaveatsNoted : Option PartSpan → CaveatCounts → List Placed → CaveatCounts → Type 0
-AreCaveatsNoted None start taken now = now ≡ with_caveats start taken
-AreCaveatsNoted (Some span) start taken now = now ≡ start
+-- Messages were read after the templates that a prefix restates, up to these templates, and the starts of their flows
+-- noted, where starts are noted.
+abbrev pub AreNotedSoFar : List ℕ → List (List ℕ) → AllTemplates → Option PartSpan → Type 0
+AreNotedSoFar prefix messages now span =
+    IsOctets (joined messages) × (before : AllTemplates) × (list : List Accepted) × IsRestated prefix before
+    × AreAcceptedFrom before list × (octets_of list ≡ messages) × (now ≡ templates_from before list)
+    × (span ≡ all_noted list (Some no_span))
 
 -- ---- a segment
 

@@ -6,11 +6,12 @@ ghost use Rattle.flow_codec.specs.Fault.{IsFault};
 ghost use Rattle.flow_codec.specs.Losses.{no_caveats};
 ghost use Rattle.flow_codec.specs.Message.{IsAccepted};
 ghost use Rattle.flow_codec.specs.Raw.{under};
+ghost use Rattle.flow_measure.specs.Caveats.{with_caveats};
 ghost use Rattle.flow_measure.specs.History.{Accepted};
 ghost use Rattle.flow_segment.specs.Batch.{restored};
 ghost use Rattle.flow_segment.specs.Carry.{no_carry, prefix_of, AreNext, IsCarry, IsCounted, IsTaken};
 ghost use Rattle.flow_segment.specs.Carry.{IsTakenAs, TakesOnly};
-ghost use Rattle.flow_segment.specs.Spans.{noted, AreCaveatsNoted};
+ghost use Rattle.flow_segment.specs.Spans.{noted};
 
 use crate::batch::Undo;
 use crate::sinks::Noting;
@@ -175,8 +176,8 @@ impl Carry {
     }
 }
 
-/// Takes a message's templates in, counts its data records modulo 2^32, and notes when its flows start, where a span is
-/// given; else it counts those that are summed otherwise than their exporter may mean.
+/// Takes a message's templates in, counts its data records modulo 2^32, and those whose flows are summed otherwise than
+/// their exporter may mean, and notes when its flows start, where a span is given.
 fn counted(
     templates: &mut Templates,
     alloc: Global,
@@ -192,7 +193,7 @@ fn counted(
         → span.new ≡ noted a.message span.old) }
     ensures unnoted { OnErr result (span.new ≡ span.old) }
     ensures caveats { IfOk result (λ x. (a : Accepted) → IsAccepted octets.now templates.old a.message a.after
-        → AreCaveatsNoted span.old no_caveats (under a.message.header a.message.records) x.2) }
+        → x.2 ≡ with_caveats no_caveats (under a.message.header a.message.records)) }
 {
     let mut noting = Noting {
         records: 0,

@@ -1,12 +1,12 @@
 //! What takes the flows of a part's data records.
 
-ghost use Rattle.std.specs.Prelude.{◌≡◌, nat_le, nat_lt, ◌&&◌};
-ghost use Rattle.flow_codec.specs.Raw.{IsWholeRecord};
+ghost use Rattle.std.specs.Prelude.{◌≡◌, nat_le, nat_lt, option_map, ◌&&◌};
 ghost use Rattle.flow_codec.specs.Replaced.{one_if};
-ghost use Rattle.flow_segment.specs.Spans.{caveats_of};
+ghost use Rattle.flow_measure.specs.Span.{with_start};
+ghost use Rattle.flow_segment.specs.Spans.{caveats_where};
 
 use flow_codec::{CaveatCounts, Definition, Header, RecordSink};
-use flow_measure::{Adder, Flow, PartSpan, SumError, flow_of, has_no_start, start_of_flow};
+use flow_measure::{Adder, Flow, PartSpan, SumError, flow_of, own_start_of};
 use std::alloc::AllocError;
 use std::convert::Infallible;
 
@@ -110,15 +110,15 @@ impl RecordSink for Chosen {
     }
 }
 
-/// Counts data records, and notes when the flows among them start, where it is given a span; else it counts those that
-/// are summed otherwise than their exporter may mean.
+/// Counts data records, and those whose flows are summed otherwise than their exporter may mean, and notes when the
+/// flows start, where it is given a span.
 #[derive(Drop)]
 pub struct Noting {
     /// How many records were taken, modulo 2^32.
     pub records: u32,
     /// When their flows start, with those of before; none where starts aren't noted.
     pub span: Option<PartSpan>,
-    /// Flows that are summed otherwise, where starts aren't noted.
+    /// Flows that are summed otherwise.
     pub caveats: CaveatCounts,
 }
 
@@ -129,27 +129,34 @@ fn one_if(test: bool) -> u64
     if test { 1 } else { 0 }
 }
 
-/// What is counted of the flow of a whole record of a Template.
-fn caveats_of(definition: &Definition, octets: &[u8]) -> CaveatCounts
-    requires { IsWholeRecord definition.now octets.now }
-    ensures { result ≡ caveats_of definition.now octets.now }
+/// What is counted of the flow of a record of a Template, which may have no start of its own.
+fn caveats_of(definition: &Definition, placed: bool) -> CaveatCounts
+    ensures { result ≡ caveats_where placed definition.now }
 {
     CaveatCounts {
-        placed: one_if(has_no_start(definition, octets)),
+        placed: one_if(placed),
         uncounted: one_if(definition.is_uncounted()),
         sampled: one_if(definition.is_sampled()),
     }
 }
 
+/// With one start more, where starts are noted.
+fn with_start(span: Option<PartSpan>, start: u32) -> Option<PartSpan>
+    ensures { result ≡ option_map (λ s. with_start start s) span }
+{
+    Some(span?.with(start))
+}
+
 impl RecordSink for Noting {
-    ghost use Rattle.flow_segment.specs.Spans.{HasNoted, AreCaveatsNoted};
+    ghost use Rattle.flow_measure.specs.Caveats.{with_caveats};
+    ghost use Rattle.flow_segment.specs.Spans.{HasNoted};
 
     type Error = Infallible;
 
     type Kept = ();
 
     ghost holds = { λ start taken now. HasNoted start.records start.span taken now.records now.span
-        × AreCaveatsNoted start.span start.caveats taken now.caveats };
+        × (now.caveats ≡ with_caveats start.caveats taken) };
 
     ghost refuses = { λ _ _ _ _. ⊥ };
 
@@ -166,13 +173,9 @@ impl RecordSink for Noting {
         if definition.options() {
             return Ok(());
         }
-        match self.span {
-            Some(span) => {
-                let start = start_of_flow(header, definition, octets);
-                self.span = Some(span.with(start));
-            }
-            None => self.caveats = self.caveats.and(caveats_of(definition, octets)),
-        }
+        let own = own_start_of(definition, octets);
+        self.caveats = self.caveats.and(caveats_of(definition, own.is_none()));
+        self.span = with_start(self.span, own.unwrap_or(header.time));
         Ok(())
     }
 }

@@ -12,27 +12,16 @@ use Rattle.flow_measure.specs.Span.{no_span}
 use Rattle.flow_model.proofs.Accepting.{accepted_then, templates_then}
 use Rattle.flow_segment.specs.Carry.{octets_of}
 use Rattle.flow_segment.specs.Prefix.{IsRestated}
-use Rattle.flow_segment.specs.Spans.{all_noted, noted, IsOwnSpan}
+use Rattle.flow_segment.specs.Spans.{noted, AreNotedSoFar, IsOwnSpan}
 use Rattle.flow_segment.proofs.NotingStarts.{all_then}
 use Rattle.flow_segment.proofs.Sure.{joined_octets, no_octets}
 
--- These messages were read after the templates that a prefix restates, and the starts of their flows noted.
-abbrev pub NotedSoFar : List ℕ → List (List ℕ) → AllTemplates → Option PartSpan → Type 0
-NotedSoFar prefix messages now span =
-    IsOctets (joined messages) × (before : AllTemplates) × (list : List Accepted) × IsRestated prefix before
-    × AreAcceptedFrom before list × (octets_of list ≡ messages) × (now ≡ templates_from before list)
-    × (span ≡ all_noted list (Some no_span))
-
-pub none_so_far : (prefix : List ℕ) (now : AllTemplates) → IsRestated prefix now
-    → NotedSoFar prefix [] now (Some no_span)
-none_so_far prefix now restated = (no_octets, now, [], restated, tt, refl, refl, refl)
-
 pub one_more : (prefix : List ℕ) (list : List (List ℕ)) (i : ℕ) (item here : List ℕ) (now after : AllTemplates)
     (span new : Option PartSpan) → i < length list → item ≡ get_or list i item → here ≡ item
-    → NotedSoFar prefix (take i list) now span
+    → AreNotedSoFar prefix (take i list) now span
     → IsOctets here × (a : Accepted) × (a.octets ≡ here) × IsAccepted here now a.message a.after × (after ≡ a.after)
     × (new ≡ noted a.message span)
-    → NotedSoFar prefix (take (i + 1) list) after new
+    → AreNotedSoFar prefix (take (i + 1) list) after new
 one_more prefix list i item here now after span new within is same
     (fit, before, own, restated, accepted, octets, moved, has) (bytes, a, own_octets, one, there, noting) =
     let x : Accepted = record { octets = here; message = a.message; after = a.after } in
@@ -51,7 +40,7 @@ one_more prefix list i item here now after span new within is same
     )
 
 pub all_so_far : (prefix : List ℕ) (messages : List (List ℕ)) (now : AllTemplates) (span : Option PartSpan)
-    → IsOctets prefix → NotedSoFar prefix messages now span → IfSome span (IsOwnSpan prefix messages)
+    → IsOctets prefix → AreNotedSoFar prefix messages now span → IfSome span (IsOwnSpan prefix messages)
 all_so_far prefix messages now None front h = tt
 all_so_far prefix messages now (Some s) front (fit, before, own, restated, accepted, octets, moved, has) =
     (front, fit, before, own, restated, accepted, octets, ap (λ (o : Option PartSpan). unwrap_or o s) has)

@@ -60,7 +60,7 @@ invariant_of-result g c =
     found.slots found.active_entry found.end found.total found.carry f (T f p ms w) false
     × IsUnderWay D.honest D.marks D.held c.args.disk (T f p ms w) (under_way_in found.slots.current.next None w) false
     × HasOwnFiles false f (under_way_in found.slots.current.next None w) in
-    subst (λ (l : List Frozen). P l c.in-Ok.kept.prefix c.in-Ok.kept.messages.items c.new.result.items) (sym files)
+    let whole = subst (λ (l : List Frozen). P l c.in-Ok.kept.prefix c.in-Ok.kept.messages.items c.new.result.items) (sym files)
     (subst (λ (l : List ℕ). P (all_frozen S.honest S.octets (front_of found.slots.current) found.parts.items) l
     c.in-Ok.kept.messages.items c.new.result.items) (sym c.in-Ok.ensures.prefix)
     (subst (λ (l : List (List ℕ)). P (all_frozen S.honest S.octets (front_of found.slots.current) found.parts.items)
@@ -72,7 +72,8 @@ invariant_of-result g c =
           found.spans.items c.requires.1,
       nothing_under_way D.honest D.marks D.held c.args.disk _ found.slots.current.next false,
       own_found S.honest S.octets (front_of found.slots.current) found.parts.items false found.slots.current.next,
-    ))))
+    )))) in
+    (whole.0, whole.1, whole.2, λ _. tt)
 
 pub returns-clause-read : goal.returns-clause-read
 returns-clause-read g c reads is h =

@@ -1,13 +1,10 @@
-use Rattle.std.proofs.Common.{◌≡◌, ◌<◌, ◌∙◌, ℕ, Bool, List, Option, Some, None, length, take, sym, subst}
-use Rattle.std.specs.Prelude.{Vec}
-use Rattle.std.specs.declared.alloc.Global.{Global}
+use Rattle.std.proofs.Common.{Bool, Option, take, subst}
 use Rattle.flow_codec.specs.Stream.{progress}
-use Rattle.flow_gate.specs.Scan.{texts}
 use Rattle.flow_archive.specs.declared.refusal.ArchiveError.{ArchiveError}
 use Rattle.flow_feed.specs.Feed.{batch_of, AreRead}
 use Rattle.flow_feed.specs.Given.{AreGivenInTurn, HasTaken}
-use Rattle.flow_feed.proofs.Batches.{ends_early, few_texts, ends_last, ends_refused, fed_nothing, fed_passed, feeds_on, opened, started}
-use Rattle.flow_feed.proofs.Batches.{texts_long}
+use Rattle.flow_feed.proofs.Batches.{ends_early, ends_last, ends_refused, fed_nothing, fed_passed, feeds_on, opened}
+use Rattle.flow_feed.proofs.Batches.{started}
 use Rattle.flow_feed.proofs.feeding.feed.Goals as goal
 
 pub returns-in_default-clause-fed : goal.returns-in_default-clause-fed
@@ -44,21 +41,18 @@ returns-in-Some-stop-clause-fed g c =
     let mid = c.batches.appender in
     let new = c.give.new.appender in
     let batch = c.read_batch-batch.result in
-    let slice = c.as_slice.result.now in
     let n = c.in-Ok-give.taken.count in
-    let told = subst (λ (o : Option ArchiveError). HasTaken appends (AreGivenInTurn (batch_of (texts slice))) mid new (take n (texts slice)) o) c.in-Some-stop.is
-    c.in-Ok-give.ensures.taken in
-    let fewer = subst (λ (k : ℕ). n < k) (sym (texts_long slice)) (rw c.in-Some-stop.is at c.in-Ok-give.ensures.fewer) in
+    let told = subst (λ (o : Option ArchiveError). HasTaken appends (AreGivenInTurn (batch_of batch.messages)) mid new
+    (take n batch.messages) o) c.in-Some-stop.is c.in-Ok-give.ensures.taken in
+    let fewer = rw c.in-Some-stop.is at c.in-Ok-give.ensures.fewer in
     rw c.count-before.ensures.value
     (ends_refused appends c.args.first c.args.appender.now mid new (known c.args.input.now)
     (progress c.batches.reader (known c.batches.input))
     (progress c.read_batch-batch.new.reader (known c.read_batch-batch.new.input)) c.batches.reader.count
-    c.batches.invariant (texts batch.messages.items) n (few_texts batch.messages.items c.read_batch-batch.ensures.few)
+    c.batches.invariant batch.messages n c.read_batch-batch.ensures.few
     batch.is_last batch.stop c.in-Some-stop.error
     c.read_batch-batch.ensures.read
-    (subst (λ (ms : List (Vec ℕ Global)). n < length (texts ms)) c.as_slice.ensures.value fewer)
-    (subst (λ (ms : List (Vec ℕ Global)). HasTaken appends (AreGivenInTurn (batch_of (texts ms))) mid new (take n (texts ms)) (Some c.in-Some-stop.error))
-    c.as_slice.ensures.value told))
+    fewer told)
 
 pub returns-then-batch-clause-fed : goal.returns-then-batch-clause-fed
 returns-then-batch-clause-fed g c =
@@ -67,20 +61,16 @@ returns-then-batch-clause-fed g c =
     let mid = c.batches.appender in
     let new = c.give.new.appender in
     let batch = c.read_batch-batch.result in
-    let items = texts batch.messages.items in
-    let slice = c.as_slice.result.now in
+    let items = batch.messages in
     let n = c.in-Ok-give.taken.count in
     let before = progress c.batches.reader (known c.batches.input) in
     let after = progress c.read_batch-batch.new.reader (known c.read_batch-batch.new.input) in
-    let told = subst (λ (o : Option ArchiveError). HasTaken appends (AreGivenInTurn (batch_of (texts slice))) mid new (take n (texts slice)) o)
-    c.in_default-stop.is c.in-Ok-give.ensures.taken in
+    let told = subst (λ (o : Option ArchiveError). HasTaken appends (AreGivenInTurn (batch_of items)) mid new
+    (take n items) o) c.in_default-stop.is c.in-Ok-give.ensures.taken in
     rw c.count-before.ensures.value
     (ends_last appends c.args.first c.args.appender.now mid new (known c.args.input.now) before after c.batches.reader.count
-    c.batches.invariant items n (few_texts batch.messages.items c.read_batch-batch.ensures.few)
-    (subst (λ (ms : List (Vec ℕ Global)). n ≡ length (texts ms)) c.as_slice.ensures.value
-    (rw c.in_default-stop.is at c.in-Ok-give.ensures.all ∙ sym (texts_long slice)))
-    (subst (λ (ms : List (Vec ℕ Global)). HasTaken appends (AreGivenInTurn (batch_of (texts ms))) mid new (take n (texts ms)) None) c.as_slice.ensures.value
-    told) batch.stop
+    c.batches.invariant items n c.read_batch-batch.ensures.few
+    (rw c.in_default-stop.is at c.in-Ok-give.ensures.all) told batch.stop
     (subst (λ (l : Bool). AreRead before items l batch.stop after) c.if-batch.true c.read_batch-batch.ensures.read))
 
 pub batches-preserved : goal.batches-preserved
@@ -90,17 +80,13 @@ batches-preserved g c =
     let mid = c.batches.appender in
     let new = c.give.new.appender in
     let batch = c.read_batch-batch.result in
-    let items = texts batch.messages.items in
-    let slice = c.as_slice.result.now in
+    let items = batch.messages in
     let n = c.in-Ok-give.taken.count in
     let before = progress c.batches.reader (known c.batches.input) in
     let after = progress c.read_batch-batch.new.reader (known c.read_batch-batch.new.input) in
-    let told = subst (λ (o : Option ArchiveError). HasTaken appends (AreGivenInTurn (batch_of (texts slice))) mid new (take n (texts slice)) o)
-    c.in_default-stop.is c.in-Ok-give.ensures.taken in
+    let told = subst (λ (o : Option ArchiveError). HasTaken appends (AreGivenInTurn (batch_of items)) mid new
+    (take n items) o) c.in_default-stop.is c.in-Ok-give.ensures.taken in
     feeds_on appends c.args.first c.args.appender.now mid new (known c.args.input.now) before after c.batches.reader.count
-    c.batches.invariant items n (few_texts batch.messages.items c.read_batch-batch.ensures.few)
-    (subst (λ (ms : List (Vec ℕ Global)). n ≡ length (texts ms)) c.as_slice.ensures.value
-    (rw c.in_default-stop.is at c.in-Ok-give.ensures.all ∙ sym (texts_long slice)))
-    (subst (λ (ms : List (Vec ℕ Global)). HasTaken appends (AreGivenInTurn (batch_of (texts ms))) mid new (take n (texts ms)) None) c.as_slice.ensures.value
-    told) batch.stop
+    c.batches.invariant items n c.read_batch-batch.ensures.few
+    (rw c.in_default-stop.is at c.in-Ok-give.ensures.all) told batch.stop
     (subst (λ (l : Bool). AreRead before items l batch.stop after) c.if-batch.false c.read_batch-batch.ensures.read)

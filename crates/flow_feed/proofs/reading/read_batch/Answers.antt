@@ -1,7 +1,5 @@
-use Rattle.std.proofs.Common.{ℕ, ◌+◌, ◌∙◌, ap}
 use Rattle.flow_codec.specs.Stream.{progress}
-use Rattle.flow_gate.specs.Scan.{texts}
-use Rattle.flow_feed.proofs.Readings.{read_all, read_held, read_stop}
+use Rattle.flow_feed.proofs.Readings.{counted_one, read_all, read_held, read_stop}
 use Rattle.flow_feed.proofs.reading.read_batch.Goals as goal
 
 pub returns-in-Err-clause-read : goal.returns-in-Err-clause-read
@@ -9,7 +7,7 @@ returns-in-Err-clause-read g c =
     let known = g.R.Read.remaining in
     rw c.last_batch-in-Err.ensures
     (read_stop (progress c.args.reader.now (known c.args.input.now)) (progress c.loop.reader (known c.loop.input))
-    (progress c.advance.new.self (known c.advance.new.input)) (texts c.loop.messages.items) c.in-Err.error
+    (progress c.advance.new.self (known c.advance.new.input)) c.loop.messages c.in-Err.error
     c.loop.invariant.0 c.in-Err.ensures.step)
 
 pub returns-then-not-has_read_next-clause-read : goal.returns-then-not-has_read_next-clause-read
@@ -17,11 +15,11 @@ returns-then-not-has_read_next-clause-read g c =
     let known = g.R.Read.remaining in
     let old = progress c.args.reader.now (known c.args.input.now) in
     let new = progress c.advance.new.self (known c.advance.new.input) in
-    let held = texts c.hold.new.messages.items in
+    let held = c.push.new.self in
     let step = rw c.in-Ok-true.field-0-test at c.in-Ok-true.ensures.step in
     rw c.next_batch.ensures
     (read_all old new held
-    (read_held old (progress c.loop.reader (known c.loop.input)) new (texts c.loop.messages.items) held
+    (read_held old (progress c.loop.reader (known c.loop.input)) new c.loop.messages held
     c.message.result.now c.loop.invariant.0 step c.message.ensures.value c.in-Ok.ensures.held))
 
 pub loop-preserved : goal.loop-preserved
@@ -30,8 +28,9 @@ loop-preserved g c =
     let old = progress c.args.reader.now (known c.args.input.now) in
     let new = progress c.advance.new.self (known c.advance.new.input) in
     let step = rw c.in-Ok-true.field-0-test at c.in-Ok-true.ensures.step in (
-      read_held old (progress c.loop.reader (known c.loop.input)) new (texts c.loop.messages.items)
-          (texts c.hold.new.messages.items) c.message.result.now c.loop.invariant.0 step c.message.ensures.value
+      read_held old (progress c.loop.reader (known c.loop.input)) new c.loop.messages
+          c.push.new.self c.message.result.now c.loop.invariant.0 step c.message.ensures.value
           c.in-Ok.ensures.held,
-      c.in-Ok.ensures.count ∙ ap (λ (n : ℕ). n + 1) c.loop.invariant.1,
+      counted_one c.loop.messages c.push.new.self c.message.result.now c.loop.counter c.in-Ok.ensures.held
+          c.loop.invariant.1,
     )

@@ -1,13 +1,9 @@
-use Rattle.std.proofs.Common.{◌≡◌, ◌<◌, ◌∙◌, inl, inr, ℕ, Bool, List, Option, Some, None, arith, length, take, sym, subst}
-use Rattle.std.specs.Prelude.{Vec}
-use Rattle.std.specs.declared.alloc.Global.{Global}
-use Rattle.flow_gate.specs.Scan.{texts}
+use Rattle.std.proofs.Common.{inl, inr, Bool, Option, arith, take, subst}
 use Rattle.flow_archive.specs.declared.refusal.ArchiveError.{ArchiveError}
 use Rattle.flow_feed.specs.Feed.{batch_of, AreRead}
 use Rattle.flow_feed.specs.Given.{AreGivenInTurn, HasTaken}
 use Rattle.flow_feed.specs.Whole.{reached}
-use Rattle.flow_feed.proofs.Batches.{ends_early, few_texts, ends_last, ends_refused, fed_nothing, fed_passed, feeds_on, started}
-use Rattle.flow_feed.proofs.Batches.{texts_long}
+use Rattle.flow_feed.proofs.Batches.{ends_early, ends_last, ends_refused, fed_nothing, fed_passed, feeds_on, started}
 use Rattle.flow_feed.proofs.Wholes.{ends_asked, none_held, whole_opened}
 use Rattle.flow_feed.proofs.until.feed_until.Goals as goal
 
@@ -57,21 +53,17 @@ returns-in-Some-stop g c =
     let mid = c.batches.appender in
     let new = c.give.new.appender in
     let batch = c.read_whole-batch.result in
-    let slice = c.as_slice.result.now in
     let n = c.in-Ok-give.taken.count in
-    let told = subst (λ (o : Option ArchiveError). HasTaken appends (AreGivenInTurn (batch_of (texts slice))) mid new
-    (take n (texts slice)) o) c.in-Some-stop.is c.in-Ok-give.ensures.taken in
-    let fewer = subst (λ (k : ℕ). n < k) (sym (texts_long slice))
-    (rw c.in-Some-stop.is at c.in-Ok-give.ensures.fewer) in
+    let told = subst (λ (o : Option ArchiveError). HasTaken appends (AreGivenInTurn (batch_of batch.messages)) mid new
+    (take n batch.messages) o) c.in-Some-stop.is c.in-Ok-give.ensures.taken in
+    let fewer = rw c.in-Some-stop.is at c.in-Ok-give.ensures.fewer in
     rw c.count-before.ensures.value
     (inl (ends_refused appends c.args.first c.args.appender.now mid new (known c.args.input.now)
     (reached c.batches.reader (known c.batches.input))
     (reached c.read_whole-batch.new.reader (known c.read_whole-batch.new.input)) c.batches.reader.count
-    c.batches.invariant (texts batch.messages.items) n (few_texts batch.messages.items c.read_whole-batch.ensures.few)
+    c.batches.invariant batch.messages n c.read_whole-batch.ensures.few
     batch.is_last batch.stop c.in-Some-stop.error c.read_whole-batch.ensures.read
-    (subst (λ (ms : List (Vec ℕ Global)). n < length (texts ms)) c.as_slice.ensures.value fewer)
-    (subst (λ (ms : List (Vec ℕ Global)). HasTaken appends (AreGivenInTurn (batch_of (texts ms))) mid new
-    (take n (texts ms)) (Some c.in-Some-stop.error)) c.as_slice.ensures.value told)))
+    fewer told))
 
 pub returns-then-batch : goal.returns-then-batch
 returns-then-batch g c =
@@ -80,21 +72,17 @@ returns-then-batch g c =
     let mid = c.batches.appender in
     let new = c.give.new.appender in
     let batch = c.read_whole-batch.result in
-    let items = texts batch.messages.items in
-    let slice = c.as_slice.result.now in
+    let items = batch.messages in
     let n = c.in-Ok-give.taken.count in
     let before = reached c.batches.reader (known c.batches.input) in
     let after = reached c.read_whole-batch.new.reader (known c.read_whole-batch.new.input) in
-    let told = subst (λ (o : Option ArchiveError). HasTaken appends (AreGivenInTurn (batch_of (texts slice))) mid new
-    (take n (texts slice)) o) c.in_default-stop.is c.in-Ok-give.ensures.taken in
+    let told = subst (λ (o : Option ArchiveError). HasTaken appends (AreGivenInTurn (batch_of items)) mid new
+    (take n items) o) c.in_default-stop.is c.in-Ok-give.ensures.taken in
     rw c.count-before.ensures.value
     (inl (ends_last appends c.args.first c.args.appender.now mid new (known c.args.input.now) before after
     c.batches.reader.count c.batches.invariant items n
-    (few_texts batch.messages.items c.read_whole-batch.ensures.few)
-    (subst (λ (ms : List (Vec ℕ Global)). n ≡ length (texts ms)) c.as_slice.ensures.value
-    (rw c.in_default-stop.is at c.in-Ok-give.ensures.all ∙ sym (texts_long slice)))
-    (subst (λ (ms : List (Vec ℕ Global)). HasTaken appends (AreGivenInTurn (batch_of (texts ms))) mid new
-    (take n (texts ms)) None) c.as_slice.ensures.value told) batch.stop
+    c.read_whole-batch.ensures.few
+    (rw c.in_default-stop.is at c.in-Ok-give.ensures.all) told batch.stop
     (subst (λ (l : Bool). AreRead before items l batch.stop after) c.if-batch.true c.read_whole-batch.ensures.read)))
 
 pub batches-smaller : goal.batches-smaller
@@ -103,10 +91,9 @@ batches-smaller g c =
     let batch = c.read_whole-batch.result in
     let more = c.read_whole-batch.ensures.read.more c.if-batch.false in
     let some = c.read_whole-batch.ensures.some c.if-batch.false in
-    let long = texts_long batch.messages.items in
     let room = c.read_whole-batch.new.reader.counted in
     let count = more.3 in
-    omega (arith, some, long, room, count)
+    omega (arith, some, room, count)
 
 pub batches-preserved : goal.batches-preserved
 batches-preserved g c =
@@ -115,18 +102,14 @@ batches-preserved g c =
     let mid = c.batches.appender in
     let new = c.give.new.appender in
     let batch = c.read_whole-batch.result in
-    let items = texts batch.messages.items in
-    let slice = c.as_slice.result.now in
+    let items = batch.messages in
     let n = c.in-Ok-give.taken.count in
     let before = reached c.batches.reader (known c.batches.input) in
     let after = reached c.read_whole-batch.new.reader (known c.read_whole-batch.new.input) in
-    let told = subst (λ (o : Option ArchiveError). HasTaken appends (AreGivenInTurn (batch_of (texts slice))) mid new
-    (take n (texts slice)) o) c.in_default-stop.is c.in-Ok-give.ensures.taken in
+    let told = subst (λ (o : Option ArchiveError). HasTaken appends (AreGivenInTurn (batch_of items)) mid new
+    (take n items) o) c.in_default-stop.is c.in-Ok-give.ensures.taken in
     feeds_on appends c.args.first c.args.appender.now mid new (known c.args.input.now) before after
     c.batches.reader.count c.batches.invariant items n
-    (few_texts batch.messages.items c.read_whole-batch.ensures.few)
-    (subst (λ (ms : List (Vec ℕ Global)). n ≡ length (texts ms)) c.as_slice.ensures.value
-    (rw c.in_default-stop.is at c.in-Ok-give.ensures.all ∙ sym (texts_long slice)))
-    (subst (λ (ms : List (Vec ℕ Global)). HasTaken appends (AreGivenInTurn (batch_of (texts ms))) mid new
-    (take n (texts ms)) None) c.as_slice.ensures.value told) batch.stop
+    c.read_whole-batch.ensures.few
+    (rw c.in_default-stop.is at c.in-Ok-give.ensures.all) told batch.stop
     (subst (λ (l : Bool). AreRead before items l batch.stop after) c.if-batch.false c.read_whole-batch.ensures.read)

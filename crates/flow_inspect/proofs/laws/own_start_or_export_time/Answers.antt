@@ -1,4 +1,4 @@
-use Rattle.flow_inspect.proofs.Placing.{start_is}
+use Rattle.flow_measure.proofs.OwnStarts.{start_is}
 use Rattle.flow_inspect.proofs.laws.own_start_or_export_time.Goals as goal
 
 pub returns : goal.returns

@@ -1,8 +1,8 @@
-use Rattle.std.proofs.Common.{[], subst}
+use Rattle.std.proofs.Common.{◌≡◌, [], subst}
 use Rattle.flow_codec.specs.declared.message.Header.{Header}
 use Rattle.flow_codec.specs.Losses.{no_caveats}
 use Rattle.flow_codec.specs.Raw.{under}
-use Rattle.flow_segment.specs.Spans.{AreCaveatsNoted}
+use Rattle.flow_measure.specs.Caveats.{with_caveats}
 use Rattle.flow_segment.proofs.Carrying as lemmas
 use Rattle.flow_segment.proofs.NotingCaveats as caveats
 use Rattle.flow_segment.proofs.NotingStarts.{message_noted, none_noted}
@@ -15,7 +15,7 @@ returns-in-Ok-clause-found c =
       w.1,
       λ sequence. lemmas.counted sequence c.walk_sets.new.sink.records c.in-Ok.walked.header w.0
           (w.2 (record { records = 0; span = c.args.span.now; caveats = no_caveats }) []
-          (none_noted 0 c.args.span.now, caveats.none_noted c.args.span.now c.none.result c.none.ensures)).0.0,
+          (none_noted 0 c.args.span.now, caveats.none_noted c.none.result c.none.ensures)).0.0,
     )
 
 pub returns-in-Ok-clause-noted : goal.returns-in-Ok-clause-noted
@@ -23,15 +23,14 @@ returns-in-Ok-clause-noted c = λ a is.
     let w = c.in-Ok.ensures.only a.message a.after is in
     message_noted a.message c.in-Ok.walked.header 0 c.walk_sets.new.sink.records c.args.span.now c.walk_sets.new.sink.span
     w.0 (w.2 (record { records = 0; span = c.args.span.now; caveats = no_caveats }) []
-    (none_noted 0 c.args.span.now, caveats.none_noted c.args.span.now c.none.result c.none.ensures)).0
+    (none_noted 0 c.args.span.now, caveats.none_noted c.none.result c.none.ensures)).0
 
 pub returns-in-Ok-clause-caveats : goal.returns-in-Ok-clause-caveats
 returns-in-Ok-clause-caveats c = λ a is.
     let w = c.in-Ok.ensures.only a.message a.after is in
-    subst (λ (h : Header). AreCaveatsNoted c.args.span.now no_caveats (under h a.message.records)
-    c.walk_sets.new.sink.caveats) w.0
+    subst (λ (h : Header). c.walk_sets.new.sink.caveats ≡ with_caveats no_caveats (under h a.message.records)) w.0
     (w.2 (record { records = 0; span = c.args.span.now; caveats = no_caveats }) []
-    (none_noted 0 c.args.span.now, caveats.none_noted c.args.span.now c.none.result c.none.ensures)).1
+    (none_noted 0 c.args.span.now, caveats.none_noted c.none.result c.none.ensures)).1
 
 pub returns-in-Err-Message-clause-fault : goal.returns-in-Err-Message-clause-fault
 returns-in-Err-Message-clause-fault c =

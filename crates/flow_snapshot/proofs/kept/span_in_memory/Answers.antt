@@ -1,6 +1,8 @@
 use Rattle.std.proofs.Common.{arith, subst, Some}
 use Rattle.std.proofs.lemmas.List.{take_all}
-use Rattle.flow_snapshot.proofs.NotedSpans.{all_so_far, none_so_far, one_more, NotedSoFar}
+use Rattle.flow_segment.specs.Spans.{AreNotedSoFar}
+use Rattle.flow_segment.proofs.Noted.{none_so_far}
+use Rattle.flow_snapshot.proofs.NotedSpans.{all_so_far, one_more}
 use Rattle.flow_snapshot.proofs.kept.span_in_memory.Goals as goal
 
 pub loop-message-init : goal.loop-message-init
@@ -18,5 +20,5 @@ returns c =
     let all = take_all c.loop-message.message-index c.args.messages.now c.loop-message-test.false in
     all_so_far c.args.prefix.now c.args.messages.now c.loop-message.templates (Some c.loop-message.span)
     (λ i. omega (arith, c.type_inv.prefix i))
-    (subst (λ l. NotedSoFar c.args.prefix.now l c.loop-message.templates (Some c.loop-message.span)) all
+    (subst (λ l. AreNotedSoFar c.args.prefix.now l c.loop-message.templates (Some c.loop-message.span)) all
     c.loop-message.invariant)

@@ -12,6 +12,8 @@ use Rattle.flow_manifest.proofs.ValidEntries.{are_entries}
 use Rattle.flow_model.specs.State.{State, appended}
 use Rattle.flow_model.specs.Chain.{HandsOn}
 use Rattle.flow_recover.specs.Kept.{IsCounted}
+use Rattle.flow_segment.specs.Batch.{AreTaken}
+use Rattle.flow_segment.proofs.Noted.{are_taken}
 use Rattle.flow_archive.specs.Answers.{AnswersAppend, MayAppend}
 use Rattle.flow_archive.specs.Seen.{StandsBeforeOrAfter}
 use Rattle.flow_archive.specs.declared.refusal.ArchiveError.TheVariants as refusal
@@ -19,6 +21,7 @@ use Rattle.flow_archive.specs.UnderWay.{IsUnnamed}
 use Rattle.flow_archive.proofs.Answering.{err_is, not_admitted, not_fault}
 use Rattle.flow_archive.proofs.Chaining.{hands_more, segment_more}
 use Rattle.flow_archive.proofs.Directing.{failed_archive}
+use Rattle.flow_archive.proofs.Noting.{noted_on}
 use Rattle.flow_archive.proofs.Ready.{counted_more, ready_more, some_octets}
 use Rattle.flow_archive.proofs.Stand.{stands_for, adding, added, frozen_too}
 use Rattle.flow_archive.proofs.Stepping.{refused, refused_by, acknowledged, failed}
@@ -40,6 +43,10 @@ module _ (g : Over) (c : After-add_batch g) where
   abbrev more : List (List ℕ)
   more = slices c.args.messages.now
 
+  taken : AreTaken more c.self.inside.carry c.admitted.new.carry
+  taken = are_taken more c.self.inside.carry c.admitted.new.carry c.self.inside.span c.admitted.new.span
+      c.in_ok-batch.ensures.taken
+
   file_is : (active_of c.self.inside.slots.current).file ≡ c.self.inside.active.file
   file_is = ap (λ (x : Entry). x.file) (sym ((c.self.invariant.0).counted).active_entry_is)
 
@@ -51,18 +58,18 @@ module _ (g : Over) (c : After-add_batch g) where
   counted = counted_more was _ _ _ more (c.self.invariant.0).counted
       (omega (arith, c.in_ok-batch.ensures.room, c.in_ok-batch.ensures.count, start))
       (omega (arith, c.in_ok-batch.ensures.positions, slices_long c.args.messages.now))
-      (some_octets _ (all_whole more _ _ c.in_ok-batch.ensures.taken) (omega (arith, slices_long c.args.messages.now)))
+      (some_octets _ (all_whole more _ _ taken) (omega (arith, slices_long c.args.messages.now)))
 
   may : MayAppend was more
   may = record {
-    accepted = (_, _, ((c.self.invariant.0).still_open c.if-self.false).segment, c.in_ok-batch.ensures.taken);
+    accepted = (_, _, ((c.self.invariant.0).still_open c.if-self.false).segment, taken);
     room = omega (arith, c.in_ok-batch.ensures.room, c.in_ok-batch.ensures.count, start);
     positions = omega (arith, c.in_ok-batch.ensures.positions, slices_long c.args.messages.now);
   }
 
   hands_on : IsTrue (g.D.Disk.honest c.self.inside.disk) → HandsOn (appended was more) c.admitted.new.carry
   hands_on h = hands_more was more _ _ (((c.self.invariant.0).still_open c.if-self.false).hands_on h)
-      c.in_ok-batch.ensures.taken
+      taken
 
   leaves : IsTrue (g.D.Disk.honest c.self.inside.disk) → LeavesOnly g.D.Disk c.self.inside.disk c.add_batch.new.disk
       (StandsBeforeOrAfter was (λ x. x ≡ appended was more))
@@ -105,7 +112,9 @@ returns-in_err-batch-clause-cause g c =
 
 pub add_batch-requires-clause-messages : goal.add_batch-requires-clause-messages
 add_batch-requires-clause-messages g c =
-    all_whole (slices c.args.messages.now) c.self.inside.carry c.admitted.new.carry c.in_ok-batch.ensures.taken
+    let more = slices c.args.messages.now in
+    all_whole more c.self.inside.carry c.admitted.new.carry (are_taken more c.self.inside.carry c.admitted.new.carry
+    c.self.inside.span c.admitted.new.span c.in_ok-batch.ensures.taken)
 
 pub add_batch-requires-clause-gated : goal.add_batch-requires-clause-gated
 add_batch-requires-clause-gated g c h image is =
@@ -137,6 +146,7 @@ invariant_of-self-in-Err-add_batch g c =
       goes_on (state_of c.self.inside) _ _ _ _ _ _ _ _ true same (λ is. absurd (cc)) (λ is. absurd (cc))
           (λ is. absurd (cc)) (work_of c.self.inside) c.self.invariant.1,
       c.self.invariant.2,
+      λ is. absurd (cc),
     )
 
 pub put_all-requires : goal.put_all-requires
@@ -173,7 +183,7 @@ invariant_of-self-in-Ok-add_batch g c =
                 (c.in-Ok-add_batch.ensures.after (honest h)) (added _ _ _ _ _ is (sym old.end_is)
                 (counted g at).within (c.admitted.new.carry, hands_on g at (honest h)));
           };
-          segment = segment_more (was g at).active (more g at) _ _ still.segment c.in_ok-batch.ensures.taken;
+          segment = segment_more (was g at).active (more g at) _ _ still.segment (taken g at);
           hands_on = λ h. hands_on g at (honest h);
           frozen = frozen_too _ _ _ old.valid
               (λ n _ _ not_active. call.other_marks n (λ same. not_active (same ∙ sym is))) still.frozen;
@@ -182,6 +192,8 @@ invariant_of-self-in-Ok-add_batch g c =
       goes_on (was g at) _ _ _ _ _ _ _ _ _ call.honest (λ is. is) (λ _ n is. call.other_marks n (apart n is))
           (λ _ h n is. call.other_files h n (apart n is)) (work_of a) c.self.invariant.1,
       c.self.invariant.2,
+      λ _. noted_on a.prefix a.messages.items (more g at) a.carry c.admitted.new.carry a.span c.admitted.new.span
+          (c.self.invariant.3 c.if-self.false) c.in_ok-batch.ensures.taken,
     ))
 
 pub returns-in-Ok-add_batch-clause-answers : goal.returns-in-Ok-add_batch-clause-answers
@@ -198,3 +210,10 @@ returns-in-Ok-add_batch-clause-step g c =
     (λ h. rw (c.put_all.ensures, c.reserve.ensures.items, c.in_ok-batch.ensures.copies) refl) c.if-self.false
     c.if-self.false (λ h image left. stands_for _ _ image (((invariant_of-self-in-Ok-add_batch g c).0.still_open
     c.if-self.false).kept.known h image (g.met.D.Disk.only_now c.add_batch.new.disk image h left))))
+
+pub invariant_of-self : goal.invariant_of-self
+invariant_of-self g c = rw c.reserve.ensures.items c.self.invariant
+
+pub invariant_of-self-in_err-batch : goal.invariant_of-self-in_err-batch
+invariant_of-self-in_err-batch g c =
+    rw (c.reserve.ensures.items, c.in_err-batch.ensures.kept, c.in_err-batch.ensures.unnoted) c.self.invariant

@@ -80,7 +80,7 @@ invariant_of-self g c =
     ∙ ap (count_of (source_of c.args.kind)) c.as_slice.ensures in
     let some : 1 ≤ c.args.count = omega (arith, c.if-count-eq0.false) in
     let r = fresh c.args.kind c.args.count (width_made c.args.kind m) in
-    subst (λ (x : RunningJob). IsArchive D.honest D.marks D.held d inside.slots inside.active inside.end inside.total
+    let whole = subst (λ (x : RunningJob). IsArchive D.honest D.marks D.held d inside.slots inside.active inside.end inside.total
     inside.carry inside.files.items (with_rolling inside (Some x)) inside.closed
     × IsUnderWay D.honest D.marks D.held d (with_rolling inside (Some x)) (W x) inside.closed
     × HasOwnFiles inside.shared inside.files.items (W x))
@@ -92,7 +92,8 @@ invariant_of-self g c =
           (omega (arith, c.if-there-count.false, there))) c.self.invariant.1,
       own_numbers inside.shared inside.files.items work inside.next (Some r)
           (sym (ap job_numbers (no_job inside.job (sym c.is_some.ensures ∙ c.if-is_some.false)))) c.self.invariant.2,
-    )
+    ) in
+    (whole.0, whole.1, whole.2, c.self.invariant.3)
 
 pub returns-clause-answers : goal.returns-clause-answers
 returns-clause-answers g c =

@@ -33,7 +33,7 @@ invariant_of-result g c =
       nothing_under_way D.honest D.marks D.held d1 (S slots [] [] [] []) 4 false,
       own_nothing false 4,
     ) in
-    subst (λ (x : Slots). P x c.new.result c.new-in-Ok.result.items c.new-in-Ok-2.result
+    let whole = subst (λ (x : Slots). P x c.new.result c.new-in-Ok.result.items c.new-in-Ok-2.result
     c.new-in-Ok-3.result.items c.new-in-Ok-4.result.items) (sym c.in-Ok.ensures.slots)
     (subst (λ (x : Carry). P slots x c.new-in-Ok.result.items c.new-in-Ok-2.result c.new-in-Ok-3.result.items
     c.new-in-Ok-4.result.items) (sym c.new.ensures)
@@ -43,7 +43,8 @@ invariant_of-result g c =
     (sym c.new-in-Ok-2.ensures)
     (subst (λ (l : List (List ℕ)). P slots (no_carry 0) [] [] l c.new-in-Ok-4.result.items)
     (sym c.new-in-Ok-3.ensures.items)
-    (subst (λ (l : List Frozen). P slots (no_carry 0) [] [] [] l) (sym c.new-in-Ok-4.ensures.items) made)))))
+    (subst (λ (l : List Frozen). P slots (no_carry 0) [] [] [] l) (sym c.new-in-Ok-4.ensures.items) made))))) in
+    (whole.0, whole.1, whole.2, λ _. tt)
 
 pub returns-in-Ok-clause-stands : goal.returns-in-Ok-clause-stands
 returns-in-Ok-clause-stands g c h image is =

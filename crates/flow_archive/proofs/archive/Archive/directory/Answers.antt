@@ -26,7 +26,7 @@ invariant_of-self g c =
     let new = c.shared_files.new.files.items in
     let old = inside.files.items in
     let s : State = state_in work inside.shared m old inside.prefix inside.messages.items in
-    subst (λ (x : State). IsArchive D.honest D.marks D.held inside.disk inside.slots inside.active inside.end inside.total
+    let whole = subst (λ (x : State). IsArchive D.honest D.marks D.held inside.disk inside.slots inside.active inside.end inside.total
     inside.carry new x inside.closed × IsUnderWay D.honest D.marks D.held inside.disk x work inside.closed
     × HasOwnFiles true new work)
     (sym (same_state work true m new old inside.prefix inside.messages.items c.shared_files.ensures.same)) (
@@ -37,7 +37,8 @@ invariant_of-self g c =
       goes_on s s.active true D.honest D.marks D.held inside.disk inside.disk inside.closed inside.closed refl (λ is. is)
           (λ _ n is. refl) (λ _ h n is. refl) work (c.self.invariant.1),
       own_shared inside.shared new old work c.self.invariant.2,
-    )
+    ) in
+    (whole.0, whole.1, whole.2, c.self.invariant.3)
 
 pub invariant_of-self-2 : goal.invariant_of-self-2
 invariant_of-self-2 g c =
@@ -48,7 +49,7 @@ invariant_of-self-2 g c =
     let new = c.shared_files.new.files.items in
     let old = inside.files.items in
     let s : State = state_in work inside.shared m old inside.prefix inside.messages.items in
-    subst (λ (x : State). IsArchive D.honest D.marks D.held inside.disk inside.slots inside.active inside.end inside.total
+    let whole = subst (λ (x : State). IsArchive D.honest D.marks D.held inside.disk inside.slots inside.active inside.end inside.total
     inside.carry new x inside.closed × IsUnderWay D.honest D.marks D.held inside.disk x work inside.closed
     × HasOwnFiles true new work)
     (sym (same_state work true m new old inside.prefix inside.messages.items c.shared_files.ensures.same)) (
@@ -59,7 +60,8 @@ invariant_of-self-2 g c =
       goes_on s s.active true D.honest D.marks D.held inside.disk inside.disk inside.closed inside.closed refl (λ is. is)
           (λ _ n is. refl) (λ _ h n is. refl) work (c.self.invariant.1),
       own_shared inside.shared new old work c.self.invariant.2,
-    )
+    ) in
+    (whole.0, whole.1, whole.2, c.self.invariant.3)
 
 pub returns-in_err-files-clause-state : goal.returns-in_err-files-clause-state
 returns-in_err-files-clause-state g c =

@@ -42,12 +42,13 @@ invariant_of-self g c =
     let n = S.number c.in-Ok.file in
     let was = subst (Holds D.honest D.marks D.held inside.slots inside.active inside.end inside.total inside.carry
     inside.files.items inside.prefix inside.messages.items inside.next inside.job inside.shared d inside.closed)
-    c.take_oldest-oldest.ensures.items c.self.invariant in
-    removed D.honest D.marks D.held inside.slots inside.active inside.end inside.total inside.carry inside.files.items
+    c.take_oldest-oldest.ensures.items (c.self.invariant.0, c.self.invariant.1, c.self.invariant.2) in
+    let whole = removed D.honest D.marks D.held inside.slots inside.active inside.end inside.total inside.carry inside.files.items
     inside.prefix inside.messages.items inside.next inside.job inside.shared d c.retire.new.self inside.closed
     c.take_oldest-oldest.result c.take_oldest-oldest.new.files.items n was (sym c.in-Ok.ensures.done)
     c.retire.ensures.honest c.retire.ensures.marks.others (λ h. (c.retire.ensures.held h).others)
-    (λ h. g.met.D.Disk.reads_image d n h)
+    (λ h. g.met.D.Disk.reads_image d n h) in
+    (whole.0, whole.1, whole.2, c.self.invariant.3)
 
 pub invariant_of-self-in-Err-retire : goal.invariant_of-self-in-Err-retire
 invariant_of-self-in-Err-retire g c =
@@ -59,13 +60,14 @@ invariant_of-self-in-Err-retire g c =
     let rest = c.take_oldest-oldest.new.files.items in
     let was = subst (Holds D.honest D.marks D.held inside.slots inside.active inside.end inside.total inside.carry
     inside.files.items inside.prefix inside.messages.items inside.next inside.job inside.shared d inside.closed)
-    c.take_oldest-oldest.ensures.items c.self.invariant in
-    closed_now D.honest D.marks D.held inside.slots inside.active inside.end inside.total inside.carry inside.files.items
+    c.take_oldest-oldest.ensures.items (c.self.invariant.0, c.self.invariant.1, c.self.invariant.2) in
+    let whole = closed_now D.honest D.marks D.held inside.slots inside.active inside.end inside.total inside.carry inside.files.items
     inside.prefix inside.messages.items inside.next inside.job inside.shared c.retire.new.self inside.closed rest
     (removed D.honest D.marks D.held inside.slots inside.active inside.end inside.total inside.carry inside.files.items
     inside.prefix inside.messages.items inside.next inside.job inside.shared d c.retire.new.self inside.closed
     c.take_oldest-oldest.result rest n was (sym c.in-Ok.ensures.done) c.retire.ensures.honest
-    c.retire.ensures.marks.others (λ h. (c.retire.ensures.held h).others) (λ h. g.met.D.Disk.reads_image d n h))
+    c.retire.ensures.marks.others (λ h. (c.retire.ensures.held h).others) (λ h. g.met.D.Disk.reads_image d n h)) in
+    (whole.0, whole.1, whole.2, λ is. absurd (cc))
 
 pub returns-in-Ok-retire-clause-answers : goal.returns-in-Ok-retire-clause-answers
 returns-in-Ok-retire-clause-answers g c =
@@ -186,3 +188,11 @@ returns-in-Err-clause-step g c =
     (ap (λ (l : List Frozen). record { disk = inside.disk; state = S l; closed = inside.closed }) back) (λ is. cc)
     (λ h image left. g.met.D.Disk.only_now inside.disk image h left)
     (λ h still image is. stands_for inside.slots _ image (((c.self.invariant.0).still_open still).kept.known h image is)))
+
+pub invariant_of-self-in-Err : goal.invariant_of-self-in-Err
+invariant_of-self-in-Err g c =
+    let rest = c.take_oldest-oldest.new.files.items in
+    let back : c.put_back.new.files.items ≡ c.self.inside.waiting.items =
+    c.put_back.ensures ∙ ap (λ (x : Frozen). x ∷ rest) c.in-Err.ensures.refused.0
+    ∙ sym c.take_oldest-oldest.ensures.items in
+    rw back c.self.invariant

@@ -1,4 +1,4 @@
-use Rattle.std.proofs.Common.{◌≡◌, inr, Bool, IsTrue, refl, sym, ◌∙◌, ap, Option, Some, None}
+use Rattle.std.proofs.Common.{true, ◌≡◌, inr, Bool, IsTrue, refl, sym, ◌∙◌, ap, Option, Some, None}
 use Rattle.flow_disk.specs.declared.disk.Disk.{Ghosts}
 use Rattle.flow_disk.specs.Disk.{Marks}
 use Rattle.flow_disk.specs.Calls.{LeavesOnly}
@@ -39,7 +39,10 @@ module _ (g : Over) (c : In-Some g) where
   job_was = sym c.take.ensures.value ∙ c.in-Some.is
 
   was : HasIn g.D.Disk c.self.inside c.self.inside.disk c.self.inside.closed (Some c.in-Some.job)
-  was = rw job_was at c.self.invariant
+  was =
+      let held : HasIn g.D.Disk c.self.inside c.self.inside.disk c.self.inside.closed c.self.inside.job =
+      (c.self.invariant.0, c.self.invariant.1, c.self.invariant.2) in
+      rw job_was at held
 
 -- ---- where it has made a file
 module _ (g : Over) (c : After-retire g)
@@ -82,10 +85,11 @@ invariant_of-self-in_default-into_file g c =
     let D = g.D.Disk in
     let S = g.D.Sealed.SealedFile in
     let a = c.self.inside in
-    rw c.take.ensures.after (given_up D.honest D.marks D.held a.slots a.active a.end a.total a.carry a.files.items
+    let whole : HasIn g.D.Disk a a.disk a.closed c.take.new.self = rw c.take.ensures.after (given_up D.honest D.marks D.held a.slots a.active a.end a.total a.carry a.files.items
     a.prefix a.messages.items a.next a.shared a.waiting.items a.disk a.closed c.in-Some.job
     (was g (goal.at.invariant_of-self-in_default-into_file g c).In-Some)
-    (sym c.into_file.ensures ∙ ap (frozen_staged_in S.number S.size S.honest S.octets) c.in_default-into_file.is))
+    (sym c.into_file.ensures ∙ ap (frozen_staged_in S.number S.size S.honest S.octets) c.in_default-into_file.is)) in
+    (whole.0, whole.1, whole.2, c.self.invariant.3)
 
 pub returns-in_default-into_file-clause-step : goal.returns-in_default-into_file-clause-step
 returns-in_default-into_file-clause-step g c =
@@ -100,16 +104,20 @@ returns-in_default-into_file-clause-step g c =
 pub invariant_of-self-in-Ok : goal.invariant_of-self-in-Ok
 invariant_of-self-in-Ok g c =
     let at = goal.at.invariant_of-self-in-Ok g c in
-    rw c.take.ensures.after (without g at.After-retire (was g at.In-Some))
+    let whole : HasIn g.D.Disk c.self.inside c.retire.new.self c.self.inside.closed c.take.new.self =
+    rw c.take.ensures.after (without g at.After-retire (was g at.In-Some)) in
+    (whole.0, whole.1, whole.2, c.self.invariant.3)
 
 pub invariant_of-self-in-Err : goal.invariant_of-self-in-Err
 invariant_of-self-in-Err g c =
     let at = goal.at.invariant_of-self-in-Err g c in
     let D = g.D.Disk in
     let a = c.self.inside in
+    let whole : HasIn g.D.Disk a c.retire.new.self true c.take.new.self =
     rw c.take.ensures.after (closed_now D.honest D.marks D.held a.slots a.active a.end a.total a.carry a.files.items
     a.prefix a.messages.items a.next None a.shared c.retire.new.self a.closed a.waiting.items
-    (without g at.After-retire (was g at.In-Some)))
+    (without g at.After-retire (was g at.In-Some))) in
+    (whole.0, whole.1, whole.2, λ is. absurd (cc))
 
 pub returns-in-Ok-clause-step : goal.returns-in-Ok-clause-step
 returns-in-Ok-clause-step g c =
@@ -167,3 +175,7 @@ returns-in-Ok-clause-removed g c =
     rw (← c.self.view_is) (staged_gone (g.D.Disk.marks c.retire.new.self) (state_of c.self.inside) c.in-Some.job _
     (ap job_in job_was) (made g at.After-retire (was g at.In-Some))
     (ap (λ (k : Marks). k.listed) c.in-Ok.ensures.marks.done))
+
+pub invariant_of-self : goal.invariant_of-self
+invariant_of-self g c =
+    rw (c.take.ensures.after ∙ sym (sym c.take.ensures.value ∙ c.in_default.is)) c.self.invariant

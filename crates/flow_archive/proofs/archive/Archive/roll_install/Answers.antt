@@ -221,6 +221,7 @@ invariant_of-self-in-Err-install g c =
       goes_on s s.active a.shared D.honest D.marks D.held a.disk d1 a.closed true c.install.ensures.honest
           (λ is. absurd (cc)) (λ is. absurd (cc)) (λ is. absurd (cc)) (work_of a) (c.self.invariant.1),
       c.self.invariant.2,
+      λ is. absurd (cc),
     )
 
 pub returns-in-Err-clause-answers : goal.returns-in-Err-clause-answers
@@ -300,6 +301,7 @@ invariant_of-self-in-Ok-install g c =
       own_installed m was.counted.valid is.r.kind is.r.sources few (D.honest d) a.files.items was.files_are (D.marks d)
           (state_of a) a.closed a.shared is.r is.f part a.next a.waiting.items refl is.staged_is
           (as_made g at part file).1 (c.self.invariant.1).waiting own,
+      c.self.invariant.3,
     ))))))))
 
 pub returns-in-Ok-install-clause-answers : goal.returns-in-Ok-install-clause-answers

@@ -187,6 +187,7 @@ invariant_of-self-2 g c =
       own_numbers inside.shared inside.files.items (work_of inside) inside.next (Some new)
           (ap (λ (f : Option FrozenStaged). number_in (staged_in f)) (none ∙ sym was)
           ∙ ap (λ (o : Option RunningJob). job_numbers (job_in o)) (sym c.in-Some.is)) c.self.invariant.2,
+      c.self.invariant.3,
     )
 
 pub returns-clause-answers : goal.returns-clause-answers
@@ -208,3 +209,6 @@ returns-clause-step g c =
     c.if-self.false (told.0, told.1, told.2.1) refl (λ h image left. g.met.D.Disk.only_now inside.disk image h left)
     (λ h image is. stands_for inside.slots _ image
     ((c.self.invariant.0.still_open c.if-self.false).kept.known h image is)))
+
+pub invariant_of-self-then-job : goal.invariant_of-self-then-job
+invariant_of-self-then-job g c = rw c.in-Some.is at c.self.invariant

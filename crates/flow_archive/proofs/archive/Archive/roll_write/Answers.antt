@@ -187,6 +187,7 @@ invariant_of-self g c =
           (c.in-Ok.ensures.after h) image is)) (rolled g at) inv.1,
       own_written x r f inside.waiting.items inside.files.items (D.marks d) inside.closed inside.shared
           (none_made r inside.job made.1 (none g at)) told_of.0 (inv.1).waiting inv.2,
+      inv.3,
     )
 
 pub returns-in-Ok-clause-answers : goal.returns-in-Ok-clause-answers
@@ -216,6 +217,7 @@ invariant_of-self-in-Err g c =
       goes_on s s.active a.shared D.honest D.marks D.held a.disk d1 a.closed true c.stage.ensures.honest
           (λ is. absurd (cc)) (λ is. absurd (cc)) (λ is. absurd (cc)) (work_of a) (c.self.invariant.1),
       c.self.invariant.2,
+      λ is. absurd (cc),
     )
 
 pub returns-clause-answers : goal.returns-clause-answers

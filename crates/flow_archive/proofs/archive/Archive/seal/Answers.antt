@@ -23,6 +23,7 @@ use Rattle.flow_archive.proofs.Answering.{err_is, not_followed}
 use Rattle.flow_archive.proofs.Chaining.{hands_next, prefix_fits}
 use Rattle.flow_archive.proofs.Directing.{failed_archive}
 use Rattle.flow_archive.proofs.AfterSeal.{is_sealed, sealed_archive, sealed_work, same_state}
+use Rattle.flow_archive.proofs.Noting.{none_noted, some_noted}
 use Rattle.flow_archive.proofs.Sharing.{own_push}
 use Rattle.flow_archive.proofs.Spanned.{sealed_there}
 use Rattle.flow_archive.proofs.Stand.{slot_below, stands_for}
@@ -233,6 +234,7 @@ invariant_of-self-in-Ok-seal_segment g c =
           c.seal_segment.ensures.other_files h n not.0 not.1 not.2)
           (generations g moved) c.self.invariant.1,
       own_push a.shared a.files.items (work_of a) (part g end) refl c.self.invariant.2,
+      λ _. none_noted a.carry c.none.result c.in_ok-next.ensures.carry c.none.ensures,
     ))
 
 pub returns-in-Ok-seal_segment-clause-answers : goal.returns-in-Ok-seal_segment-clause-answers
@@ -298,6 +300,7 @@ invariant_of-self-in-Err-seal_segment g c =
           a.disk c.seal_segment.new.disk a.closed true same (λ is. absurd (cc)) (λ is. absurd (cc)) (λ is. absurd (cc))
           (work_of a) c.self.invariant.1,
       c.self.invariant.2,
+      λ is. absurd (cc),
     )
 
 pub returns-in-Err-clause-cause : goal.returns-in-Err-clause-cause
@@ -318,10 +321,16 @@ sealed_file-requires-clause-span g c =
     let counted = (c.self.invariant.0).counted in
     let S = g.D.Sealed.SealedFile in
     let part = c.in-Ok-seal_segment.part in
-    let own = rw (c.as_slice.ensures, c.as_slice-2.ensures.value) at c.span_in_memory-span.ensures in
+    let own = rw (c.as_slice.ensures, c.as_slice-2.ensures.value) at c.own_span-span.ensures in
     rw (counted.active_entry_is, counted.end_is, c.len-count.ensures, many a)
     (sealed_there (S.honest part) (S.octets part)
     (sealed_entry (active_of a.slots.current) (end_of (state_of a)) (length a.messages.items)) (state_of a).active
-    a.slots.current.width c.span_in_memory-span.result refl
+    a.slots.current.width c.own_span-span.result refl
     (λ h. c.in-Ok-seal_segment.ensures.part (subst IsTrue (c.in-Ok-seal_segment.ensures.sealed).2 h) (state_of a)
     (move g moved (subst IsTrue (c.in-Ok-seal_segment.ensures.sealed).2 h))) own)
+
+pub own_span-span-requires : goal.own_span-span-requires
+own_span-span-requires g c =
+    let a = c.self.inside in
+    rw (c.as_slice.ensures, c.as_slice-2.ensures.value)
+    (some_noted a.prefix a.messages.items a.carry.templates a.span (c.self.invariant.3 c.if-self.false))

@@ -40,7 +40,7 @@ invariant_of-self g c =
     let new = c.named.new.files.items in
     let old = inside.files.items in
     let s : State = state_in work inside.shared m old inside.prefix inside.messages.items in
-    subst (λ (x : State). IsArchive D.honest D.marks D.held inside.disk inside.slots inside.active inside.end inside.total
+    let whole = subst (λ (x : State). IsArchive D.honest D.marks D.held inside.disk inside.slots inside.active inside.end inside.total
     inside.carry new x inside.closed × IsUnderWay D.honest D.marks D.held inside.disk x work inside.closed
     × HasOwnFiles true new work)
     (sym (same_state work true m new old inside.prefix inside.messages.items c.named.ensures.same)) (
@@ -51,7 +51,8 @@ invariant_of-self g c =
       goes_on s s.active true D.honest D.marks D.held inside.disk inside.disk inside.closed inside.closed refl (λ is. is)
           (λ _ n is. refl) (λ _ h n is. refl) work (c.self.invariant.1),
       own_shared inside.shared new old work c.self.invariant.2,
-    )
+    ) in
+    (whole.0, whole.1, whole.2, c.self.invariant.3)
 
 pub returns-clause-state : goal.returns-clause-state
 returns-clause-state g c =
